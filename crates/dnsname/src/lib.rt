@@ -1,0 +1,17 @@
+//! Domain names: their octets, their text, and reading them from messages (RFC 1035, 2.3, 3.1, 4.1.4 and 5.1).
+#![tactic(auto)]
+
+pub mod laws;
+mod message;
+pub mod name;
+mod part;
+mod plain;
+mod print;
+mod text;
+
+pub use name::{Name, NameFault, TextFault};
+pub use plain::plain_name_end;
+pub use push_base::NoMemory;
+
+#[cfg(test)]
+mod tests;

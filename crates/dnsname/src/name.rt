@@ -1,0 +1,290 @@
+//! Domain names, and why one could not be read.
+
+ghost use Rattle.std.specs.Prelude.{◌≡◌, ◌++◌, ◌↔◌, ◌<◌, ◌≤◌, take, ℕ, List, length, map, string_bytes, IsNone, IfSome, IsTrue, IfOk, IfErr, OnOk, OnErr, MatchResult, Err};
+ghost use Rattle.std.specs.Char.{to_ascii_lowercase};
+ghost use Rattle.dnsname.specs.declared.name.NameFault.{NameFault};
+ghost use Rattle.dnsname.specs.declared.name.NameFault.TheVariants as names;
+ghost use Rattle.dnsname.specs.declared.name.TextFault.TheVariants as texts;
+ghost use Rattle.dnsname.specs.Names.{Labels, IsName, IsSame, EndsIn, octets, lower, same_name, ends_in, swapped_suffix};
+ghost use Rattle.dnsname.specs.Spelling.{SpellsNameAt, SpellsNameIn, FaultAt, FaultIn, SpellsPlainNameAt, PlainFaultAt};
+ghost use Rattle.dnsname.specs.Reading.{IsMemoryOr, Gives, name_at, name_up_to, plain_name_at};
+ghost use Rattle.dnsname.specs.Text.{SpellsText, GivesName, name_text, name_of_text};
+
+use crate::NoMemory;
+use crate::message::name_octets;
+use crate::part::MAX_NAME;
+use crate::plain::plain_end;
+use crate::print::octets_text;
+use crate::text::text_octets;
+pub use push_base::Octets;
+use std::alloc::{AllocError, AllocFailed, Global};
+use std::marker::Model;
+
+/// The first fault in reading order, with its place: a count of octets from the start of the message.
+#[derive(Clone, Copy, Debug, PartialEq, Eq)]
+pub enum NameFault {
+    /// The message ends there, inside the name.
+    Short(usize),
+    /// A length octet with the top bits 01 or 10.
+    LongLabel(usize),
+    /// A pointer that does not point back before its piece of the name.
+    Pointer(usize),
+    /// A label that would make the name pass 255 octets.
+    TooLong(usize),
+    /// Memory ran out.
+    NoMemory,
+}
+
+impl From<AllocError> for NameFault {
+    ghost from_gives = { λ _ e. e ≡ names.NoMemory };
+
+    fn from(_e: AllocError) -> NameFault {
+        NameFault::NoMemory
+    }
+}
+
+impl<T: Drop> From<AllocFailed<T>> for NameFault {
+    ghost from_gives = { λ _ e. e ≡ names.NoMemory };
+
+    fn from(_e: AllocFailed<T>) -> NameFault {
+        NameFault::NoMemory
+    }
+}
+
+/// Why a text is not read as a name.
+#[derive(Clone, Copy, Debug, PartialEq, Eq)]
+pub enum TextFault {
+    /// It is no name's text.
+    Form,
+    /// Memory ran out.
+    NoMemory,
+}
+
+impl From<AllocError> for TextFault {
+    ghost from_gives = { λ _ e. e ≡ texts.NoMemory };
+
+    fn from(_e: AllocError) -> TextFault {
+        TextFault::NoMemory
+    }
+}
+
+impl<T: Drop> From<AllocFailed<T>> for TextFault {
+    ghost from_gives = { λ _ e. e ≡ texts.NoMemory };
+
+    fn from(_e: AllocFailed<T>) -> TextFault {
+        TextFault::NoMemory
+    }
+}
+
+/// A domain name, as the list of its labels.
+#[derive(Debug, Drop)]
+pub struct Name {
+    octets: Vec<u8>,
+}
+
+impl Model for Name {
+    ghost use Rattle.dnsname.specs.Names.{Labels, SpellsName};
+    ghost use Rattle.dnsname.specs.Octets.{labels_of};
+
+    ghost Value = { Labels };
+
+    ghost view = { λ n. labels_of n.octets.items };
+
+    ghost invariant = { λ n. SpellsName n.octets.items (labels_of n.octets.items) };
+}
+
+/// The name without pointers at a place, and the place after it.
+fn plain_name(alloc: Global, octets: &[u8], at: usize) -> Result<(Name, usize), NameFault>
+    ensures name { IfOk result (λ read. SpellsPlainNameAt octets.now at read.0 read.1) }
+    ensures fault { IfErr result (IsMemoryOr (PlainFaultAt octets.now at)) }
+{
+    let after = plain_end(octets, at)?;
+    let octets = Vec::from_slice(alloc, &octets[at..after])?;
+    Ok((Name { octets }, after))
+}
+
+/// The octets with ASCII letters in lower case.
+fn in_lower_case(alloc: Global, octets: &[u8]) -> Result<Vec<u8>, NoMemory>
+    ensures { IfOk result (λ low. low.items ≡ map to_ascii_lowercase octets.now) }
+{
+    octets
+        .iter()
+        .map(|octet| octet.to_ascii_lowercase())
+        .collect(alloc)
+}
+
+/// The octets of one part and then those of the other.
+fn joined(alloc: Global, front: &[u8], back: &[u8]) -> Result<Vec<u8>, NoMemory>
+    ensures { IfOk result (λ octets. octets.items ≡ front.now ++ back.now) }
+{
+    let mut octets = Vec::from_slice(alloc, front)?;
+    octets.extend_from_slice(back)?;
+    Ok(octets)
+}
+
+/// The name with pointers at a place, its first piece in these octets, and the place after it.
+fn pointed_name(
+    alloc: Global,
+    first: &[u8],
+    message: &[u8],
+    at: usize,
+) -> Result<(Name, usize), NameFault>
+    ensures name { IfOk result (λ read. SpellsNameIn first.now message.now at read.0 read.1) }
+    ensures fault { IfErr result (IsMemoryOr (FaultIn first.now message.now at)) }
+{
+    let (octets, after) = name_octets(alloc, first, message, at)?;
+    Ok((Name { octets }, after))
+}
+
+/// The name that a text is.
+fn text_name(alloc: Global, text: &str) -> Result<Name, TextFault>
+    ensures name { IfOk result (SpellsText text.now) }
+    ensures form { result ≡ Err TextFault.Form → (name : Labels) → ¬ SpellsText text.now name }
+    ensures only { (name : Labels) → SpellsText text.now name
+        → MatchResult result (λ read. read ≡ name) (λ e. e ≡ TextFault.NoMemory) }
+{
+    let octets = text_octets(alloc, text.as_bytes())?;
+    Ok(Name { octets })
+}
+
+impl Name {
+    /// Reads the name at a place of a message, and the place after it.
+    pub fn read(alloc: Global, message: &[u8], at: usize) -> Result<(Name, usize), NameFault>
+        // What is read stands there, and a fault is the first that is met.
+        ensures name { IfOk result (λ read. SpellsNameAt message.now at read.0 read.1) }
+        ensures fault { IfErr result (IsMemoryOr (FaultAt message.now at)) }
+        // What stands there is read, and a fault that is met is given, unless memory runs out.
+        ensures only_name { (name : Labels) (after : ℕ) →
+            SpellsNameAt message.now at name after → Gives result (Ok (name, after)) }
+        ensures only_fault { (fault : NameFault) →
+            FaultAt message.now at fault → Gives result (Err fault) }
+        // The same as a function of the message.
+        ensures exact { Gives result (name_at message.now at) }
+    {
+        pointed_name(alloc, message, message, at)
+    }
+
+    /// Reads the name at a place of a message, where the octets before its first pointer reach no
+    /// further than `end`, as those of a name in rdata.
+    pub fn read_up_to(
+        alloc: Global,
+        message: &[u8],
+        end: usize,
+        at: usize,
+    ) -> Result<(Name, usize), NameFault>
+        requires { end ≤ length message.now }
+        ensures name { IfOk result (λ read. SpellsNameIn (take end message.now) message.now at read.0 read.1) }
+        ensures fault { IfErr result (IsMemoryOr (FaultIn (take end message.now) message.now at)) }
+        // The same as a function of the message.
+        ensures exact { Gives result (name_up_to end message.now at) }
+    {
+        let (first, _) = message.split_at(end);
+        pointed_name(alloc, first, message, at)
+    }
+
+    /// Reads the name at a place, and the place after it. Each pointer is a fault.
+    pub fn read_plain(alloc: Global, octets: &[u8], at: usize) -> Result<(Name, usize), NameFault>
+        // What is read stands there, and a fault is the first that is met.
+        ensures name { IfOk result (λ read. SpellsPlainNameAt octets.now at read.0 read.1) }
+        ensures fault { IfErr result (IsMemoryOr (PlainFaultAt octets.now at)) }
+        // What stands there is read, and a fault that is met is given, unless memory runs out.
+        ensures only_name { (name : Labels) (after : ℕ) →
+            SpellsPlainNameAt octets.now at name after → Gives result (Ok (name, after)) }
+        ensures only_fault { (fault : NameFault) →
+            PlainFaultAt octets.now at fault → Gives result (Err fault) }
+        // The same as a function of the octets.
+        ensures exact { Gives result (plain_name_at octets.now at) }
+    {
+        plain_name(alloc, octets, at)
+    }
+
+    /// Reads the name that a text is: its labels, each with a dot after it, or a dot alone.
+    pub fn from_text(alloc: Global, text: &str) -> Result<Name, TextFault>
+        ensures name { IfOk result (SpellsText text.now) }
+        ensures form { result ≡ Err TextFault.Form → (name : Labels) → ¬ SpellsText text.now name }
+        ensures only { (name : Labels) → SpellsText text.now name
+            → MatchResult result (λ read. read ≡ name) (λ e. e ≡ TextFault.NoMemory) }
+        // The same as a function of the text.
+        ensures exact { GivesName result (name_of_text text.now) }
+    {
+        text_name(alloc, text)
+    }
+
+    /// The name's octets, as they stand in a message.
+    pub fn octets(&self) -> &[u8]
+        ensures octets { result.now ≡ octets self.now }
+        ensures name { IsName self.now }
+    {
+        &self.octets
+    }
+
+    /// Appends the name's octets.
+    pub fn write_to(&self, out: &mut Vec<u8>) -> Result<(), NoMemory>
+        ensures ok { OnOk result (out.new.items ≡ out.old.items ++ octets self.now) }
+        ensures err { OnErr result (out.new.items ≡ out.old.items) }
+    {
+        out.extend_from_slice(&self.octets)
+    }
+
+    /// Whether the names are one, but for upper and lower case.
+    pub fn same(&self, other: &Name) -> bool
+        ensures same { IsTrue result ↔ IsSame self.now other.now }
+        // The same as a test of the names.
+        ensures exact { result ≡ same_name self.now other.now }
+    {
+        self.octets.eq_ignore_ascii_case(&other.octets)
+    }
+
+    /// Whether the last labels of the name are those of the suffix, but for upper and lower case.
+    pub fn ends_in(&self, suffix: &Name) -> bool
+        ensures ends { IsTrue result ↔ EndsIn self.now suffix.now }
+        // The same as a test of the names.
+        ensures exact { result ≡ ends_in self.now suffix.now }
+    {
+        let mut rest = self.octets.as_slice();
+        'labels: while rest.len() > suffix.octets.len() {
+            let length = rest[0] as usize;
+            (_, rest) = rest.split_at(length + 1);
+        }
+        rest.eq_ignore_ascii_case(&suffix.octets)
+    }
+
+    /// The name's text: its labels, each with a dot after it, or a dot alone.
+    pub fn text(&self) -> Result<String, NoMemory>
+        ensures { IfOk result (λ text. string_bytes text ≡ name_text self.now) }
+    {
+        octets_text(*self.octets.allocator(), &self.octets)
+    }
+
+    /// The same name.
+    pub fn copy(&self) -> Result<Name, NoMemory>
+        ensures { IfOk result (λ copy. copy ≡ self.now) }
+    {
+        let octets = self.octets.clone()?;
+        Ok(Name { octets })
+    }
+
+    /// The name in lower case.
+    pub fn lower(&self) -> Result<Name, NoMemory>
+        ensures { IfOk result (λ low. low ≡ lower self.now) }
+    {
+        let octets = in_lower_case(*self.octets.allocator(), &self.octets)?;
+        Ok(Name { octets })
+    }
+
+    /// The name with its last labels, which are `old` but for case, replaced by `new`. Nothing
+    /// where that would pass 255 octets.
+    pub fn swap_suffix(&self, old: &Name, new: &Name) -> Result<Option<Name>, NoMemory>
+        requires { EndsIn self.now old.now }
+        ensures none { IfOk result (λ swap. IsNone swap ↔ (255 < length (octets (swapped_suffix self.now old.now new.now)))) }
+        ensures name { IfOk result (λ swap. IfSome swap (λ name. name ≡ swapped_suffix self.now old.now new.now)) }
+    {
+        let front = self.octets.len() - old.octets.len();
+        if front + new.octets.len() > MAX_NAME {
+            return Ok(None);
+        }
+        let (kept, _) = self.octets.split_at(front);
+        let octets = joined(*self.octets.allocator(), kept, &new.octets)?;
+        Ok(Some(Name { octets }))
+    }
+}
