@@ -1,0 +1,6 @@
+pub mod Rows
+pub mod Sections
+pub mod Strings
+pub mod Fields
+pub mod Entries
+pub mod Messages

@@ -1,0 +1,43 @@
+//! Messages of the DNS (RFC 1035, 4).
+#![tactic(auto)]
+
+mod field;
+mod header;
+mod hearing;
+pub mod laws;
+pub mod message;
+mod record;
+mod section;
+#[cfg(test)]
+mod tests;
+mod update;
+
+ghost use Rattle.std.specs.Prelude.{◌≡◌, [], ◌∷◌, true, false, codes, Some, None, Ok, Err};
+ghost use Rattle.push_base.specs.Hexadecimal.{hex};
+ghost use Rattle.dnsname.specs.Text.{name};
+ghost use Rattle.dnsname.specs.declared.name.NameFault.TheVariants as names;
+ghost use Rattle.dnswire.specs.Reading.{update_of, hearing_of};
+ghost use Rattle.rrset.specs.Header.{answer_octets};
+
+pub use header::write_answer;
+pub use hearing::read_hearing;
+pub use message::{HearFault, Update, WireFault};
+pub use update::read_update;
+
+pub fn worked_rows()
+    ensures add { update_of (hex (codes "000128000001000000010000076578616d706c6503636f6d00000600010161c00c000100010000003c0004c0000201")) ≡ Ok (record {
+      id = 1;
+      zones = (record { name = name (codes "example.com."); kind = 6; class = 1 }) ∷ [];
+      prereqs = [];
+      changes = (record { owner = name (codes "a.example.com."); class = 1; kind = 1; ttl = 60; rdata = 192 ∷ 0 ∷ 2 ∷ 1 ∷ [] }) ∷ [];
+    }) }
+    ensures cut_off { update_of (hex (codes "000128000001000000010000076578616d706c6503636f6d00000600010161c00c000100010000003c0004c00002")) ≡ Err (WireFault.Short 46) }
+    ensures one_more { update_of (hex (codes "000128000001000000010000076578616d706c6503636f6d00000600010161c00c000100010000003c0004c000020100")) ≡ Err (WireFault.Trailing 47) }
+    ensures pointer { hearing_of (hex (codes "000084000000000100000000c00c")) ≡ Err (HearFault.Wire (WireFault.Name (names.Pointer 12))) }
+    ensures reserved { hearing_of (hex (codes "00008400000000010000000041")) ≡ Err (HearFault.Wire (WireFault.Name (names.LongLabel 12))) }
+    ensures cut_ttl { hearing_of (hex (codes "00008400000000010000000000000100010000")) ≡ Err (HearFault.Wire (WireFault.Short 19)) }
+    ensures short { hearing_of (hex (codes "00")) ≡ Err HearFault.Short }
+    ensures query { hearing_of (hex (codes "000000000000000000000000")) ≡ Err HearFault.Query }
+    ensures coded { hearing_of (hex (codes "000084030000000000000000")) ≡ Err HearFault.Coded }
+    ensures answer { answer_octets 1 0xa800 ≡ hex (codes "0001a8000000000000000000") }
+{}

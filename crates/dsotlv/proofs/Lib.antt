@@ -1,0 +1,14 @@
+pub mod Walks
+pub mod Sizes
+pub mod Numbers
+pub mod Results
+pub mod TlvLaws
+pub mod DsoLaws
+pub mod Fields
+pub mod QuestionLaws
+pub mod NoticeLaws
+pub mod ReconfirmLaws
+pub mod PushWalks
+pub mod PushRecords
+pub mod PushLaws
+pub mod FrameLaws

@@ -1,0 +1,31 @@
+-- Answers to requests, and the TLVs that they carry (RFC 8490, 5.4.1, 7.1 and 7.2; RFC 8765, 6.2.2).
+--     answer_to id rcode      a header alone
+--     keepalive_octets, retry_delay_octets      the TLV of two timers; of a Retry Delay
+--     grant_to, refusal_to      an answer with the two timers; one with a Retry Delay
+use Rattle.std.specs.Prelude.{ℕ, true, List, ◌++◌}
+use Rattle.std.specs.Int.{w32, to_be_bytes}
+use Rattle.rrset.specs.Rcodes.{noerror}
+use Rattle.rrset.specs.Header.{answer_octets}
+use Rattle.dsotlv.specs.TlvKinds.{keepalive_tlv, retry_delay_tlv}
+use Rattle.dsotlv.specs.Messages.{tlv_octets, dso_flags}
+
+abbrev pub answer_to : ℕ → ℕ → List ℕ
+answer_to id rcode = answer_octets id (dso_flags true rcode)
+
+-- inactivity timeout and keepalive interval (RFC 8490, 7.1)
+abbrev pub keepalive_octets : ℕ → ℕ → List ℕ
+keepalive_octets inactivity keepalive = tlv_octets (record { kind = keepalive_tlv; octets = to_be_bytes w32 inactivity ++ to_be_bytes w32 keepalive })
+
+-- RFC 8490, 7.2.1
+abbrev pub retry_delay_octets : ℕ → List ℕ
+retry_delay_octets delay = tlv_octets (record { kind = retry_delay_tlv; octets = to_be_bytes w32 delay })
+
+-- five minutes for what is refused; the number is this project's own (RFC 8490, 7.2.2; RFC 8765, 6.2.2)
+abbrev pub refusal_delay : ℕ
+refusal_delay = 300000
+
+abbrev pub grant_to : ℕ → ℕ → ℕ → List ℕ
+grant_to id inactivity keepalive = answer_to id noerror ++ keepalive_octets inactivity keepalive
+
+abbrev pub refusal_to : ℕ → ℕ → List ℕ
+refusal_to id rcode = answer_to id rcode ++ retry_delay_octets refusal_delay

@@ -1,0 +1,102 @@
+-- DSO messages and frames (RFC 8490, 5.4; RFC 7766, 8).
+--     head_of, dso_of      what a reaction needs to know of a message; the whole message, or the first fault
+--     dso_octets, frame      the octets of a message; a message behind its length
+--     messages_in      the whole messages of a stream, and what is left
+--     primary_data      the data of a message's primary TLV
+use Rattle.std.specs.Prelude.{ℕ, zero, suc, ◌+◌, Bool, true, false, cond, List, [], ◌∷◌, ◌++◌, length, drop, Option, Some, None, Result, Ok, Err, nat_lt, ◌==◌, slice_range, flat_map, is_ok, if◌then◌else◌}
+use Rattle.std.specs.Int.{w16, to_be_bytes}
+use Rattle.std.specs.List.{list_all}
+use Rattle.push_base.specs.Cases.{◌>>=◌}
+use Rattle.rrset.specs.Header.{two_octets, id_of, flags_of, is_response, opcode_of, rcode_of, answer_octets}
+use Rattle.dsotlv.specs.declared.message.Tlv.{Tlv}
+use Rattle.dsotlv.specs.declared.message.DsoMessage.{DsoMessage}
+use Rattle.dsotlv.specs.declared.message.DsoHead.{DsoHead}
+use Rattle.dsotlv.specs.declared.message.DsoFault.{DsoFault}
+use Rattle.dsotlv.specs.declared.message.DsoFault.TheVariants.{Short, Opcode, Counts, Tlv as TlvAt}
+
+-- kind, length and data (RFC 8490, 5.4.4)
+abbrev pub tlv_octets : Tlv → List ℕ
+tlv_octets tlv = to_be_bytes w16 tlv.kind ++ to_be_bytes w16 (length tlv.octets) ++ tlv.octets
+
+-- Whole TLVs from a place to the end, at most so many; the fault is at the first that isn't whole.
+abbrev pub tlvs_from : ℕ → List ℕ → ℕ → Result (List Tlv) DsoFault
+tlvs_from zero message at = if at == length message then Ok [] else Err (TlvAt at)
+tlvs_from (suc more) message at =
+    elim (at == length message) [
+      | true ↦ Ok []
+      | false ↦ elim (nat_lt (length message) (at + 4)) [
+        | true ↦ Err (TlvAt at)
+        | false ↦ elim (nat_lt (length message) (at + 4 + two_octets message (at + 2))) [
+          | true ↦ Err (TlvAt at)
+          | false ↦ tlvs_from more message (at + 4 + two_octets message (at + 2))
+              >>= λ others. Ok ((record { kind = two_octets message at; octets = slice_range message (at + 4) (at + 4 + two_octets message (at + 2)) }) ∷ others)
+        ]
+      ]
+    ]
+
+abbrev pub tlvs_of : List ℕ → Result (List Tlv) DsoFault
+tlvs_of message = tlvs_from (length message) message 12
+
+abbrev pub dso_opcode : ℕ
+dso_opcode = 6
+
+abbrev pub has_zero_counts : List ℕ → Bool
+has_zero_counts message = list_all (λ o. o == 0) (slice_range message 4 12)
+
+-- header with OPCODE 6 and zero counts, then whole TLVs; the Z bits may have any value
+abbrev pub dso_of : List ℕ → Result DsoMessage DsoFault
+dso_of message =
+    if nat_lt (length message) 12 then Err Short
+    else if opcode_of (flags_of message) == dso_opcode then (if has_zero_counts message then (tlvs_of message >>= λ tlvs.
+    Ok (record { id = id_of message; response = is_response (flags_of message); rcode = rcode_of (flags_of message); tlvs = tlvs })) else Err Counts)
+    else Err Opcode
+
+abbrev pub primary_of : List Tlv → Option (ℕ × ℕ)
+primary_of [] = None
+primary_of (tlv ∷ tlvs) = Some (tlv.kind, length tlv.octets)
+
+-- the primary TLV stands first (RFC 8490, 5.4.2)
+abbrev pub head_of : List ℕ → Option DsoHead
+head_of message =
+    if nat_lt (length message) 12 then None
+    else Some (record {
+      id = id_of message;
+      flags = flags_of message;
+      zero_counts = has_zero_counts message;
+      tlvs_good = is_ok (tlvs_of message);
+      primary = elim (tlvs_of message) [ Err fault ↦ None | Ok tlvs ↦ primary_of tlvs ];
+    })
+
+-- flags with OPCODE 6 and the Z bits 0
+abbrev pub dso_flags : Bool → ℕ → ℕ
+dso_flags response rcode = cond response 0xb000 0x3000 + rcode
+
+abbrev pub dso_octets : DsoMessage → List ℕ
+dso_octets message = answer_octets message.id (dso_flags message.response message.rcode) ++ flat_map tlv_octets message.tlvs
+
+-- two octets of length, and the message (RFC 7766, 8)
+abbrev pub frame : List ℕ → List ℕ
+frame message = to_be_bytes w16 (length message) ++ message
+
+-- the first whole message of a stream and what follows it
+abbrev pub first_message : List ℕ → Option (List ℕ × List ℕ)
+first_message stream = let n = two_octets stream 0 in if nat_lt (length stream) (2 + n) then None else Some (slice_range stream 2 (2 + n), drop (2 + n) stream)
+
+-- The whole messages of a stream, at most so many, and what is left.
+abbrev pub messages_from : ℕ → List ℕ → List (List ℕ) × List ℕ
+messages_from zero stream = ([], stream)
+messages_from (suc more) stream = elim (first_message stream) [
+  | None ↦ ([], stream)
+  | Some found ↦ (let others = messages_from more found.1 in (found.0 ∷ others.0, others.1))
+]
+
+abbrev pub messages_in : List ℕ → List (List ℕ) × List ℕ
+messages_in stream = messages_from (length stream) stream
+
+-- the data of the primary TLV
+abbrev pub data_of_first : List Tlv → List ℕ
+data_of_first [] = []
+data_of_first (tlv ∷ tlvs) = tlv.octets
+
+abbrev pub primary_data : List ℕ → List ℕ
+primary_data message = elim (tlvs_of message) [ Err fault ↦ [] | Ok tlvs ↦ data_of_first tlvs ]

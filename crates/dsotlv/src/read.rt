@@ -1,0 +1,72 @@
+//! Reading DSO messages (RFC 8490, 5.4).
+
+ghost use Rattle.std.specs.Prelude.{◌≡◌, ◌+◌, ◌≤◌, length, slice_range, IfOk};
+ghost use Rattle.rrset.specs.Header.{two_octets};
+ghost use Rattle.dsotlv.specs.Giving.{GivesDso};
+ghost use Rattle.dsotlv.specs.Messages.{tlvs_of, dso_of};
+
+use crate::NoMemory;
+use crate::header::{HEADER, has_zero_counts, tlv_end};
+use crate::message::{DsoFault, DsoMessage, Tlv, Tlvs};
+use crate::number::number_at;
+use dnsname::name::Octets;
+use std::alloc::Global;
+
+/// OPCODE of DSO (RFC 8490, 5.4).
+const DSO_OPCODE: u16 = 6;
+
+/// The bit QR of the flags (RFC 1035, 4.1.1).
+const RESPONSE: u16 = 0x8000;
+
+/// The TLV that stands from a place to another.
+fn tlv_between(alloc: Global, message: &[u8], at: usize, end: usize) -> Result<Tlv, NoMemory>
+    requires head { at + 4 ≤ end }
+    requires fits { end ≤ length message.now }
+    ensures { IfOk result (λ tlv. tlv ≡ record { kind = two_octets message.now at; octets = slice_range message.now (at + 4) end }) }
+{
+    Ok(Tlv {
+        kind: number_at(message, at),
+        octets: Octets::from_slice(alloc, &message[at + 4..end])?,
+    })
+}
+
+/// The TLVs behind the header.
+fn tlvs_of(alloc: Global, message: &[u8]) -> Result<Tlvs, DsoFault>
+    requires { 12 ≤ length message.now }
+    ensures { GivesDso result (tlvs_of message.now) }
+{
+    let mut tlvs = Tlvs::new(alloc);
+    let mut place = HEADER;
+    'tlvs: while place < message.len() {
+        let Some(end) = tlv_end(message, place) else {
+            return Err(DsoFault::Tlv(place));
+        };
+        tlvs.push(tlv_between(alloc, message, place, end)?)?;
+        place = end;
+    }
+    Ok(tlvs)
+}
+
+/// Reads a DSO message: a header with OPCODE 6 and counts of 0, then whole TLVs, to the last octet. A fault is the
+/// first in this order; that of a TLV has the place where the TLV begins.
+pub fn read_dso(alloc: Global, message: &[u8]) -> Result<DsoMessage, DsoFault>
+    ensures exact { GivesDso result (dso_of message.now) }
+{
+    if message.len() < HEADER {
+        return Err(DsoFault::Short);
+    }
+    let flags = number_at(message, 2);
+    if flags / 2048 % 16 != DSO_OPCODE {
+        return Err(DsoFault::Opcode);
+    }
+    if !has_zero_counts(message) {
+        return Err(DsoFault::Counts);
+    }
+    let tlvs = tlvs_of(alloc, message)?;
+    Ok(DsoMessage {
+        id: number_at(message, 0),
+        response: flags >= RESPONSE,
+        rcode: (flags % 16) as u8,
+        tlvs,
+    })
+}

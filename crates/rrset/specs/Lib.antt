@@ -1,0 +1,9 @@
+pub mod Header
+pub mod Kinds
+pub mod Rdata
+pub mod Parts
+pub mod ReadParts
+pub mod Records
+pub mod RecordSet
+pub mod Rcodes
+pub mod Spelling

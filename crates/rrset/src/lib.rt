@@ -1,0 +1,40 @@
+//! Resource records (RFC 1035, 3.2), their keys, questions and sets.
+#![tactic(auto)]
+
+pub mod kinds;
+mod lists;
+mod lowering;
+mod matching;
+mod reading;
+pub mod record;
+mod shape;
+#[cfg(test)]
+mod tests;
+
+ghost use Rattle.std.specs.Prelude.{◌≡◌, [], ◌∷◌, true, false, codes, Some, None, Ok, Err, length};
+ghost use Rattle.push_base.specs.Hexadecimal.{hex};
+ghost use Rattle.dnsname.specs.Text.{name};
+ghost use Rattle.rrset.specs.Rdata.{shape_fits, lowered_rdata, rdata_at};
+ghost use Rattle.rrset.specs.Records.{key_of, shown_of, rr_size, matches, same_key};
+ghost use Rattle.rrset.specs.RecordSet.{RecordSet, put, shown_at, at_name, size_at, matching, set_of, changes};
+
+pub use matching::{matches, rr_size};
+pub use reading::{RdataFault, read_rdata};
+pub use record::{
+    Changed, HeardRr, HeardRrs, Hearing, Key, NoMemory, Question, Questions, Rr, Rrs, Shown,
+};
+pub use shape::shape_fits;
+
+pub fn worked_rows()
+    ensures address { shape_fits 1 (hex (codes "c0000201")) ≡ true }
+    ensures no_address { shape_fits 1 (hex (codes "c00002")) ≡ false }
+    ensures no_text { shape_fits 16 [] ≡ true }
+    ensures text { shape_fits 16 (hex (codes "0161026162")) ≡ true }
+    ensures cut_text { shape_fits 16 (hex (codes "01610261")) ≡ false }
+    ensures lowered { lowered_rdata 15 (hex (codes "000a014100")) ≡ hex (codes "000a016100") }
+    ensures kept { lowered_rdata 15 (hex (codes "000a0141")) ≡ hex (codes "000a0141") }
+    ensures expanded { rdata_at 12 (hex (codes "0361626300c000")) 5 7 ≡ Ok (hex (codes "0361626300")) }
+    ensures too_long { rdata_at 1 (hex (codes "0102030405")) 0 5 ≡ Err 4 }
+    ensures too_short { rdata_at 1 (hex (codes "010203")) 0 3 ≡ Err 3 }
+    ensures one_key { let first = set_of ((record { owner = name (codes "A.com."); class = 1; kind = 1; ttl = 60; rdata = 1 ∷ 2 ∷ 3 ∷ 4 ∷ [] }) ∷ (record { owner = name (codes "a.com."); class = 1; kind = 1; ttl = 61; rdata = 1 ∷ 2 ∷ 3 ∷ 4 ∷ [] }) ∷ []) in length first ≡ 1 }
+{}

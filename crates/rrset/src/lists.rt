@@ -1,0 +1,144 @@
+//! Lists of records and questions.
+
+ghost use Rattle.std.specs.Prelude.{◌≡◌, [], ◌∷◌, ◌++◌, length, OnOk, OnErr};
+
+use crate::record::{HeardRr, HeardRrs, NoMemory, Question, Questions, Rr, Rrs};
+use std::alloc::Global;
+
+impl Rrs {
+    /// No records.
+    pub fn new(alloc: Global) -> Self
+        ensures { result ≡ [] }
+    {
+        Rrs {
+            items: Vec::new(alloc),
+        }
+    }
+
+    /// These records.
+    pub fn from_vec(items: Vec<Rr>) -> Self
+        ensures { result ≡ items.items }
+    {
+        Rrs { items }
+    }
+
+    pub fn into_vec(self) -> Vec<Rr>
+        ensures { result.items ≡ self }
+    {
+        let Rrs { items } = self;
+        items
+    }
+
+    /// Appends one. A list that can't grow stays as it was.
+    pub fn push(&mut self, item: Rr) -> Result<(), NoMemory>
+        ensures ok { OnOk result (self.new ≡ self.old ++ item ∷ []) }
+        ensures err { OnErr result (self.new ≡ self.old) }
+    {
+        self.items.push(item)?;
+        Ok(())
+    }
+
+    pub fn as_slice(&self) -> &[Rr]
+        ensures { result.now ≡ self.now }
+    {
+        &self.items
+    }
+
+    pub fn len(&self) -> usize
+        ensures { result ≡ length self.now }
+    {
+        self.items.len()
+    }
+}
+
+impl Questions {
+    /// No questions.
+    pub fn new(alloc: Global) -> Self
+        ensures { result ≡ [] }
+    {
+        Questions {
+            items: Vec::new(alloc),
+        }
+    }
+
+    /// These questions.
+    pub fn from_vec(items: Vec<Question>) -> Self
+        ensures { result ≡ items.items }
+    {
+        Questions { items }
+    }
+
+    pub fn into_vec(self) -> Vec<Question>
+        ensures { result.items ≡ self }
+    {
+        let Questions { items } = self;
+        items
+    }
+
+    /// Appends one. A list that can't grow stays as it was.
+    pub fn push(&mut self, item: Question) -> Result<(), NoMemory>
+        ensures ok { OnOk result (self.new ≡ self.old ++ item ∷ []) }
+        ensures err { OnErr result (self.new ≡ self.old) }
+    {
+        self.items.push(item)?;
+        Ok(())
+    }
+
+    pub fn as_slice(&self) -> &[Question]
+        ensures { result.now ≡ self.now }
+    {
+        &self.items
+    }
+
+    pub fn len(&self) -> usize
+        ensures { result ≡ length self.now }
+    {
+        self.items.len()
+    }
+}
+
+impl HeardRrs {
+    /// No records.
+    pub fn new(alloc: Global) -> Self
+        ensures { result ≡ [] }
+    {
+        HeardRrs {
+            items: Vec::new(alloc),
+        }
+    }
+
+    /// These records.
+    pub fn from_vec(items: Vec<HeardRr>) -> Self
+        ensures { result ≡ items.items }
+    {
+        HeardRrs { items }
+    }
+
+    pub fn into_vec(self) -> Vec<HeardRr>
+        ensures { result.items ≡ self }
+    {
+        let HeardRrs { items } = self;
+        items
+    }
+
+    /// Appends one. A list that can't grow stays as it was.
+    pub fn push(&mut self, item: HeardRr) -> Result<(), NoMemory>
+        ensures ok { OnOk result (self.new ≡ self.old ++ item ∷ []) }
+        ensures err { OnErr result (self.new ≡ self.old) }
+    {
+        self.items.push(item)?;
+        Ok(())
+    }
+
+    pub fn as_slice(&self) -> &[HeardRr]
+        ensures { result.now ≡ self.now }
+    {
+        &self.items
+    }
+
+    pub fn len(&self) -> usize
+        ensures { result ≡ length self.now }
+    {
+        self.items.len()
+    }
+}
