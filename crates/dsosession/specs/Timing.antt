@@ -1,0 +1,53 @@
+-- The timers of both ends; all numbers are milliseconds (after RFC 8490, 6).
+--     server_start, server_spoke, server_ends      from the connection on; after a message; why the session ends
+--     client_start, client_spoke, client_due      the same of the client; what is due
+use Rattle.std.specs.Prelude.{ℕ, ◌+◌, ◌*◌, Bool, not, ◌&&◌, max, Option, Some, None, nat_le, ◌==◌, if◌then◌else◌}
+use Rattle.dsosession.specs.declared.session.Timers.{Timers}
+use Rattle.dsosession.specs.declared.session.EndReason.{EndReason}
+use Rattle.dsosession.specs.declared.session.EndReason.TheVariants.{Silent, Idle}
+use Rattle.dsosession.specs.declared.session.Due.{Due}
+use Rattle.dsosession.specs.declared.session.Due.TheVariants as dues
+
+-- the timers that hold, when a message last passed, and when one that is no Keepalive did
+pub record Clocks : Type 0 where
+  pub timers : Timers
+  pub last_message : ℕ
+  pub last_other : ℕ
+
+abbrev pub default_timers : Timers
+default_timers = record { inactivity = 15000; keepalive = 15000 }
+
+abbrev pub server_start : ℕ → Clocks
+server_start now = record { timers = default_timers; last_message = now; last_other = now }
+
+abbrev pub client_start : ℕ → Clocks
+client_start now = record { timers = default_timers; last_message = now; last_other = now }
+
+-- a message was reacted to or written (RFC 8490, 6.3)
+abbrev pub server_spoke : Bool → ℕ → Clocks → Clocks
+server_spoke is_keepalive now clocks = record clocks { last_message = now; last_other = if is_keepalive then clocks.last_other else now }
+
+abbrev pub client_spoke : Bool → ℕ → Clocks → Clocks
+client_spoke is_keepalive now clocks = server_spoke is_keepalive now clocks
+
+-- so long has passed; 0xFFFFFFFF is infinite
+abbrev pub infinite : ℕ
+infinite = 0xffffffff
+
+abbrev pub has_passed : ℕ → ℕ → ℕ → Bool
+has_passed span since now = nat_le (since + span) now
+
+-- silent where no message came or went for twice the interval; idle where a session without a subscription had no
+-- message but Keepalives for twice the timeout, at least five seconds (RFC 8490, 6.4.1 and 6.5.1)
+abbrev pub server_ends : Clocks → ℕ → ℕ → Option EndReason
+server_ends clocks now subscriptions =
+    if not (clocks.timers.keepalive == infinite) && has_passed (2 * clocks.timers.keepalive) clocks.last_message now then Some Silent
+    else if subscriptions == 0 && not (clocks.timers.inactivity == infinite) && has_passed (max (2 * clocks.timers.inactivity) 5000) clocks.last_other now then Some Idle
+    else None
+
+-- a client that asks for nothing closes; one that has been silent sends a Keepalive (RFC 8490, 6.4 and 6.5)
+abbrev pub client_due : Clocks → ℕ → Bool → Bool → Due
+client_due clocks now active keepalive_out =
+    if not active && not (clocks.timers.inactivity == infinite) && has_passed clocks.timers.inactivity clocks.last_other now then dues.Idle
+    else if not keepalive_out && not (clocks.timers.keepalive == infinite) && has_passed clocks.timers.keepalive clocks.last_message now then dues.Keepalive
+    else dues.Nothing

@@ -1,0 +1,137 @@
+-- The state of all homes, what an entry makes of it, and the records that it shows.
+--     verdict state message      what an update gets: the update that is entered, or an RCODE
+--     accepts state entry, after state entry      whether the entry is made; the state after it
+--     state_at, records_at      the state and the records after the first entries of a history
+use Rattle.std.specs.Prelude.{ℕ, ◌+◌, Bool, false, not, ◌&&◌, ◌||◌, cond, List, [], ◌∷◌, ◌++◌, map, length, take, fold, find, position, sum_by, Option, Some, None, Result, Ok, Err, is_ok, nat_lt, nat_le, ◌==◌, slice_get, option_map, option_and_then, if◌then◌else◌}
+use Rattle.push_base.specs.Cases.{◌>>=◌, fault_as, is_empty, changed_at}
+use Rattle.dnsname.specs.Names.{Labels, same_name, home}
+use Rattle.rrset.specs.Kinds.{in_class, soa_kind}
+use Rattle.rrset.specs.Rcodes.{formerr, notauth}
+use Rattle.rrset.specs.Header.{flags_of, is_response, opcode_of, update_opcode}
+use Rattle.rrset.specs.Records.{key_of, rr_size}
+use Rattle.rrset.specs.RecordSet.{RecordSet, union}
+use Rattle.rrset.specs.declared.record.Rr.{Rr}
+use Rattle.rrset.specs.declared.record.Key.{Key}
+use Rattle.rrset.specs.declared.record.Question.{Question}
+use Rattle.rrset.specs.declared.record.Hearing.{Hearing}
+use Rattle.dnswire.specs.declared.message.Update.{Update}
+use Rattle.dnswire.specs.Reading.{update_of}
+use Rattle.zoneupdate.specs.Zones.{ZoneState}
+use Rattle.zoneupdate.specs.Updates.{judged}
+use Rattle.linkmap.specs.Translation.{heard_as}
+use Rattle.linkcache.specs.Rows.{LinkRows, heard, at_moment, reconfirmed, has_key, shown_rows, usable_of}
+use Rattle.history.specs.declared.entry.Entry.{Entry}
+use Rattle.history.specs.declared.entry.Entry.TheVariants as entries
+use Rattle.history.specs.declared.entry.Home.{Home}
+use Rattle.history.specs.declared.entry.Home.TheVariants as homes
+
+pub record LinkState : Type 0 where
+  pub domain : Labels
+  pub rows : LinkRows
+
+-- zones and links, each in the order in which they were added, and the moment
+pub record State : Type 0 where
+  pub zones : List ZoneState
+  pub links : List LinkState
+  pub now : ℕ
+
+abbrev pub home_names : State → List Labels
+home_names state = map (λ z. z.apex) state.zones ++ map (λ l. l.domain) state.links
+
+-- the zone of an apex
+abbrev pub zone_of : State → Labels → Option ZoneState
+zone_of state apex = find (λ z. same_name z.apex apex) state.zones
+
+abbrev pub with_rows : State → Labels → RecordSet → State
+with_rows state apex rows = record state { zones = map (λ z. cond (same_name z.apex apex) (record z { rows = rows }) z) state.zones }
+
+-- the home of a name: a zone or a link, counted from 0 among its kind
+abbrev pub home_of : State → Labels → Option Home
+home_of state name = elim (home (home_names state) name) [
+  | None ↦ None
+  | Some h ↦ elim (position (λ z. same_name z.apex h) state.zones) [
+    | Some i ↦ Some (homes.Zone i)
+    | None ↦ option_map (λ i. homes.Link i) (position (λ l. same_name l.domain h) state.links)
+  ]
+]
+
+-- the one entry of the zone section (RFC 2136, 3.1.1)
+abbrev pub zone_asked : List Question → Result Labels ℕ
+zone_asked (q ∷ []) = if q.kind == soa_kind then (if q.class == in_class then Ok q.name else Err notauth) else Err formerr
+zone_asked _ = Err formerr
+
+abbrev pub zone_for : State → List Question → Result ZoneState ℕ
+zone_for state zones = zone_asked zones >>= λ apex. elim (zone_of state apex) [ None ↦ Err notauth | Some zone ↦ Ok zone ]
+
+-- the state after an update, or the RCODE that refuses it
+abbrev pub updated : State → Update → Result State ℕ
+updated state update = do
+  zone ← zone_for state update.zones
+  rows ← judged (home_names state) zone update
+  Ok (with_rows state zone.apex rows)
+
+-- a message that is no update is a format error (RFC 2136, 2.2)
+abbrev pub update_in : List ℕ → Result Update ℕ
+update_in message =
+    if nat_lt (length message) 12 || nat_lt 65535 (length message) || is_response (flags_of message) || not (opcode_of (flags_of message) == update_opcode) then Err formerr
+    else fault_as (λ _. formerr) (update_of message)
+
+abbrev pub verdict : State → List ℕ → Result Update ℕ
+verdict state message = update_in message >>= λ update. updated state update >>= λ _. Ok update
+
+abbrev pub link_heard : ℕ → Hearing → LinkState → LinkState
+link_heard now hearing link = record link { rows = heard link.domain link.rows now hearing.rrs }
+
+abbrev pub link_at_moment : ℕ → LinkState → LinkState
+link_at_moment t link = record link { rows = at_moment link.rows t }
+
+abbrev pub after : State → Entry → State
+after state (entries.Update update) = elim (updated state update) [ Err code ↦ state | Ok later ↦ later ]
+after state (entries.Heard link hearing) = record state { links = changed_at link (link_heard state.now hearing) state.links }
+after state (entries.Moment t) = if nat_lt state.now t then record state { now = t; links = map (link_at_moment t) state.links } else state
+after state (entries.Reconfirm link key) = record state { links = changed_at link (λ l. record l { rows = reconfirmed l.rows key state.now }) state.links }
+
+abbrev pub link_meets : (LinkState → Bool) → State → ℕ → Bool
+link_meets test state link = elim (slice_get state.links link) [ None ↦ false | Some l ↦ test l ]
+
+-- which events are entered (this project's own)
+abbrev pub accepts : State → Entry → Bool
+accepts state (entries.Update update) = is_ok (updated state update)
+accepts state (entries.Heard link hearing) = link_meets (λ l. not (is_empty (usable_of l.domain hearing.rrs))) state link
+accepts state (entries.Moment t) = nat_lt state.now t
+accepts state (entries.Reconfirm link key) = link_meets (λ l. has_key key l.rows) state link
+
+abbrev pub records : State → RecordSet
+records state = fold union [] (map (λ z. z.rows) state.zones ++ map (λ l. shown_rows l.domain l.rows) state.links)
+
+-- the fold of the first entries over the start
+abbrev pub state_at : State → List Entry → ℕ → State
+state_at start history point = fold after start (take point history)
+
+abbrev pub records_at : State → List Entry → ℕ → RecordSet
+records_at start history point = records (state_at start history point)
+
+-- the link and the key that a row would have of which a record is the shown form; whether there is such a row isn't tested
+abbrev pub key_heard : State → Rr → Option Home → Option (ℕ × Key)
+key_heard state rr (Some (homes.Link i)) = option_and_then (λ l. option_map (λ r. (i, key_of r)) (heard_as l.domain rr)) (slice_get state.links i)
+key_heard state rr _ = None
+
+abbrev pub reconfirm_key : State → Rr → Option (ℕ × Key)
+reconfirm_key state rr = key_heard state rr (home_of state rr.owner)
+
+-- the journal's size of an entry
+abbrev pub entry_size : Entry → ℕ
+entry_size (entries.Update update) = 32 + sum_by rr_size update.prereqs + sum_by rr_size update.changes
+entry_size (entries.Heard link hearing) = 32 + sum_by (λ h. rr_size h.rr) hearing.rrs
+entry_size (entries.Moment t) = 32
+entry_size (entries.Reconfirm link key) = 32
+
+abbrev pub max_journal_entries : ℕ
+max_journal_entries = 65536
+
+abbrev pub max_journal_octets : ℕ
+max_journal_octets = 67108864
+
+-- entries and one more of a size are within the two numbers (this project's own)
+abbrev pub journal_has_room : List Entry → ℕ → Bool
+journal_has_room entries size = nat_lt (length entries) max_journal_entries && nat_le (sum_by entry_size entries + size) max_journal_octets

@@ -1,0 +1,32 @@
+//! Homes, the journal and the states that it tells. The code is a stand-in: only the definitions count here.
+#![tactic(auto)]
+
+pub mod entry;
+
+ghost use Rattle.std.specs.Prelude.{◌≡◌, [], ◌∷◌, true, false, codes, Some, None, Err, option_map};
+ghost use Rattle.std.specs.Result.{result_ok};
+ghost use Rattle.push_base.specs.Hexadecimal.{hex};
+ghost use Rattle.dnsname.specs.Text.{name};
+ghost use Rattle.history.specs.Homes.{fault_of_last};
+ghost use Rattle.history.specs.States.{verdict, accepts, reconfirm_key};
+ghost use Rattle.history.specs.Worked.{start, heard_host, added_address, sizes_after};
+
+use crate::entry::HomeFault;
+
+pub fn worked_rows()
+    ensures nested_zone { fault_of_last ((name (codes "com."), false) ∷ (name (codes "example.com."), false) ∷ []) ≡ None }
+    ensures same_zone { fault_of_last ((name (codes "com."), false) ∷ (name (codes "example.com."), false) ∷ (name (codes "Example.com."), false) ∷ []) ≡ Some (HomeFault.Clash 1) }
+    ensures link_under_link { fault_of_last ((name (codes "a.com."), true) ∷ (name (codes "b.a.com."), true) ∷ []) ≡ Some (HomeFault.Clash 0) }
+    ensures local_link { fault_of_last ((name (codes "x.local."), true) ∷ []) ≡ Some HomeFault.Local }
+    ensures accepted { option_map (λ update. entry.Update update) (result_ok (verdict start (hex (codes "000128000001000000010000076578616d706c6503636f6d00000600010161c00c000100010000003c0004c0000201")))) ≡ Some added_address }
+    ensures other_zone { verdict start (hex (codes "000128000001000000000000056f746865720000060001")) ≡ Err 9 }
+    ensures no_update { verdict start (hex (codes "000100000001000000000000056f746865720000060001")) ≡ Err 1 }
+    ensures shown_by_link { reconfirm_key start (record { owner = name (codes "h.lan.example.com."); class = 1; kind = 1; ttl = 0; rdata = hex (codes "c0000201") })
+        ≡ Some (0, record { owner = name (codes "h.local."); class = 1; kind = 1; rdata = hex (codes "c0000201") }) }
+    ensures shown_by_zone { reconfirm_key start (record { owner = name (codes "h.example.com."); class = 1; kind = 1; ttl = 0; rdata = hex (codes "c0000201") }) ≡ None }
+    ensures sizes { sizes_after (added_address ∷ heard_host 1 ∷ []) ≡ 2 ∷ 3 ∷ 4 ∷ [] }
+    ensures heard { accepts start (heard_host 1) ≡ true }
+    ensures not_later { accepts start (entry.Moment 0) ≡ false }
+{}
+
+ghost use Rattle.history.specs.declared.entry.Entry.TheVariants as entry;

@@ -1,0 +1,88 @@
+-- The rows of a link and what changes them (RFC 6762, 10).
+--     heard domain rows now hearing      the rows after a hearing, in two passes
+--     at_moment rows now      the rows that have not ended
+--     reconfirmed rows key now      a row that ends soon unless it is heard again
+--     shown_rows domain rows      the records that the link shows
+use Rattle.std.specs.Prelude.{ℕ, ◌+◌, ◌*◌, Bool, ◌&&◌, ◌||◌, cond, List, [], map, length, filter, fold, sum_by, min, Some, None, nat_lt, nat_le, ◌==◌, if◌then◌else◌}
+use Rattle.std.specs.List.{list_any}
+use Rattle.std.specs.FinMap.{put as map_put}
+use Rattle.push_base.specs.Limits.{max_octets_at_name}
+use Rattle.dnsname.specs.Names.{Labels, same_name}
+use Rattle.rrset.specs.Records.{key_of, shown_of, rr_of, key_cmp, same_key, rr_size, counted_ttl}
+use Rattle.rrset.specs.RecordSet.{RecordSet, is_of_rrset, put_rr}
+use Rattle.rrset.specs.declared.record.Rr.{Rr}
+use Rattle.rrset.specs.declared.record.Key.{Key}
+use Rattle.rrset.specs.declared.record.Shown.{Shown}
+use Rattle.rrset.specs.declared.record.HeardRr.{HeardRr}
+use Rattle.linkmap.specs.Translation.{local, is_usable, shown_as, renamed_rr}
+
+-- a record that was heard: what is shown of it, when it was heard, and when it ends; names are those of the link
+pub record HeardRow : Type 0 where
+  pub shown : Shown
+  pub heard : ℕ
+  pub ends : ℕ
+
+abbrev pub ttl_of : HeardRr → ℕ
+ttl_of h = counted_ttl h.rr.ttl
+
+-- the rows of a link: from each key what was heard, in key order, each key once
+abbrev pub LinkRows : Type 0
+LinkRows = List (Key × HeardRow)
+
+abbrev pub rr_of_row : Key × HeardRow → Rr
+rr_of_row row = rr_of row.0 row.1.shown
+
+abbrev pub ending_by : ℕ → Key × HeardRow → Key × HeardRow
+ending_by moment row = (row.0, record row.1 { ends = min row.1.ends moment })
+
+abbrev pub has_key : Key → LinkRows → Bool
+has_key key rows = list_any (λ row. same_key key row.0) rows
+
+-- the octets of the rows of an owner under the domain, those counted too that aren't shown
+abbrev pub size_under : Labels → Labels → LinkRows → ℕ
+size_under domain owner rows = sum_by (λ row. rr_size (renamed_rr local domain (rr_of_row row))) (filter (λ row. same_name owner row.0.owner) rows)
+
+abbrev pub max_rows : ℕ
+max_rows = 16384
+
+-- a link has at most 16,384 rows, and an owner at most 60,000 octets (this project's own)
+abbrev pub row_has_room : Labels → LinkRows → Rr → Bool
+row_has_room domain rows rr = nat_lt (length rows) max_rows && nat_le (size_under domain rr.owner rows + rr_size (renamed_rr local domain rr)) max_octets_at_name
+
+abbrev pub heard_at : ℕ → HeardRr → HeardRow
+heard_at now h = record { shown = record (shown_of h.rr) { ttl = ttl_of h }; heard = now; ends = now + 1000 * ttl_of h }
+
+-- the first pass: a record is put with its TTL; a TTL of 0 lets the row go after a second (RFC 6762, 10 and 10.1)
+abbrev pub put_heard : Labels → ℕ → LinkRows → HeardRr → LinkRows
+put_heard domain now rows h =
+    if ttl_of h == 0 then map (λ row. cond (same_key (key_of h.rr) row.0) (ending_by (now + 1000) row) row) rows
+    else if has_key (key_of h.rr) rows || row_has_room domain rows h.rr then map_put key_cmp (key_of h.rr) (heard_at now h) rows
+    else rows
+
+abbrev pub is_of_set : Rr → Key × HeardRow → Bool
+is_of_set rr row = is_of_rrset rr.owner rr.class rr.kind row.0
+
+-- the second pass: what was heard more than a second ago goes after a second (RFC 6762, 10.2)
+abbrev pub flushed_by : ℕ → LinkRows → HeardRr → LinkRows
+flushed_by now rows h = map (λ row. cond (is_of_set h.rr row && nat_lt (row.1.heard + 1000) now) (ending_by (now + 1000) row) row) rows
+
+abbrev pub usable_of : Labels → List HeardRr → List HeardRr
+usable_of domain hearing = filter (λ h. is_usable domain h.rr) hearing
+
+abbrev pub heard : Labels → LinkRows → ℕ → List HeardRr → LinkRows
+heard domain rows now hearing =
+    let usable = usable_of domain hearing in
+    fold (flushed_by now) (fold (put_heard domain now) rows usable) (filter (λ h. h.flush) usable)
+
+abbrev pub at_moment : LinkRows → ℕ → LinkRows
+at_moment rows now = filter (λ row. nat_lt now row.1.ends) rows
+
+-- RFC 6762, 10.4
+abbrev pub reconfirmed : LinkRows → Key → ℕ → LinkRows
+reconfirmed rows key now = map (λ row. cond (same_key key row.0) (ending_by (now + 10000) row) row) rows
+
+abbrev pub put_shown : Labels → RecordSet → Key × HeardRow → RecordSet
+put_shown domain set row = elim (shown_as domain (rr_of_row row)) [ None ↦ set | Some rr ↦ put_rr set rr ]
+
+abbrev pub shown_rows : Labels → LinkRows → RecordSet
+shown_rows domain rows = fold (put_shown domain) [] rows

@@ -1,0 +1,3 @@
+pub mod Queues
+pub mod Subscribing
+pub mod OtherSessions
