@@ -1,0 +1,290 @@
+-- Of which lines something is said: the kinds of lines, one by one.
+use Rattle.std.proofs.Common.{◌≡◌, ℕ, ◌⊎◌, Bool, true, false, cond, Option, Some, None, List, [], ◌∷◌, refl, sym, ◌∙◌, ap, subst, inl, inr, ⊎_elim}
+use Rattle.std.specs.Prelude.{option_map, codes}
+use Rattle.std.specs.Str.{is_utf8, IsUtf8}
+use Rattle.std.proofs.lemmas.Str.{IsUtf8-from_is_utf8}
+use Rattle.std.proofs.lemmas.Bool.{cases_Bool}
+use Rattle.std.proofs.lemmas.Slice.Eq.{bytes_eq-Decides}
+use Rattle.push_base.specs.Cases.{chosen}
+use Rattle.push_base.specs.Optional.{◌>>=◌}
+use Rattle.rrset.specs.declared.record.Question.{Question}
+use Rattle.dnsname.specs.Names.{Labels}
+use Rattle.dnsname.specs.Text.{name_of_text}
+use Rattle.replay.specs.Lines.{Word, ScriptLine, silent, timers, zone, link, client, lone, at_moment, update, hear, ask, drop_question, reconfirm, open_connection, cut, say, up, emit, down, settle, send, feed, stop, point, show, number32, number, max_octets_passed, word, octets_written, is, question, alone, of_word, of_octets, of_word_and_octets, of_word_and_number, of_word_and_question, timers_line, zone_line, link_line, at_line, reconfirm_line, stop_line, show_line, by_first_word, of_words, line_of}
+use Rattle.push_base.specs.Limits.{max_moment}
+use Rattle.dnspush.specs.BuiltLines.{kept, understood, begins_silent, words_in, kind_of}
+use Rattle.dnspush.specs.declared.line.Kind.{Kind}
+use Rattle.dnspush.specs.declared.line.Kind.TheVariants as kinds
+
+-- ---- f says nothing of a kind of line
+
+bind_none : {A X : Type 0} (f : ScriptLine → Option X) (o : Option A) (g : A → Option ScriptLine) → ((a : A) → (g a >>= f) ≡ None) → ((o >>= g) >>= f) ≡ None
+bind_none f None g h = refl
+bind_none f (Some a) g h = h a
+
+map_none : {A X : Type 0} (f : ScriptLine → Option X) (o : Option A) (g : A → ScriptLine) → ((a : A) → f (g a) ≡ None) → (option_map g o >>= f) ≡ None
+map_none f None g h = refl
+map_none f (Some a) g h = h a
+
+if_none : {X : Type 0} (f : ScriptLine → Option X) (b : Bool) (x y : Option ScriptLine) → (x >>= f) ≡ None → (y >>= f) ≡ None → (cond b x y >>= f) ≡ None
+if_none f true x y h k = h
+if_none f false x y h k = k
+
+pub alone_none : {X : Type 0} (f : ScriptLine → Option X) (line : ScriptLine) → f line ≡ None → (ws : List Word) → (alone line ws >>= f) ≡ None
+alone_none f line h [] = h
+alone_none f line h (w ∷ ws) = refl
+
+pub word_none : {X : Type 0} (f : ScriptLine → Option X) (line : Word → ScriptLine) → ((w : Word) → f (line w) ≡ None) → (ws : List Word) → (of_word line ws >>= f) ≡ None
+word_none f line h [] = refl
+word_none f line h (w ∷ []) = map_none f (word w) line h
+word_none f line h (w ∷ v ∷ ws) = refl
+
+pub octets_none : {X : Type 0} (f : ScriptLine → Option X) (line : List ℕ → ScriptLine) → ((o : List ℕ) → f (line o) ≡ None) → (ws : List Word) → (of_octets line ws >>= f) ≡ None
+octets_none f line h [] = refl
+octets_none f line h (w ∷ []) = map_none f (octets_written w) line h
+octets_none f line h (w ∷ v ∷ ws) = refl
+
+pub word_octets_none : {X : Type 0} (f : ScriptLine → Option X) (line : Word → List ℕ → ScriptLine) → ((w : Word) (o : List ℕ) → f (line w o) ≡ None) → (ws : List Word) → (of_word_and_octets line ws >>= f) ≡ None
+word_octets_none f line h [] = refl
+word_octets_none f line h (w ∷ []) = refl
+word_octets_none f line h (w ∷ o ∷ []) = bind_none f (word w) _ (λ p. bind_none f (octets_written o) _ (λ r. h p r))
+word_octets_none f line h (w ∷ o ∷ v ∷ ws) = refl
+
+pub word_number_none : {X : Type 0} (f : ScriptLine → Option X) (line : Word → ℕ → ScriptLine) → ((w : Word) (n : ℕ) → f (line w n) ≡ None) → (ws : List Word) → (of_word_and_number line ws >>= f) ≡ None
+word_number_none f line h [] = refl
+word_number_none f line h (w ∷ []) = refl
+word_number_none f line h (w ∷ o ∷ []) = bind_none f (word w) _ (λ p. bind_none f (number max_octets_passed o) _ (λ r. h p r))
+word_number_none f line h (w ∷ o ∷ v ∷ ws) = refl
+
+pub word_question_none : {X : Type 0} (f : ScriptLine → Option X) (line : Word → Question → ScriptLine) → ((w : Word) (q : Question) → f (line w q) ≡ None) → (ws : List Word) → (of_word_and_question line ws >>= f) ≡ None
+word_question_none f line h [] = refl
+word_question_none f line h (w ∷ []) = refl
+word_question_none f line h (w ∷ n ∷ []) = refl
+word_question_none f line h (w ∷ n ∷ k ∷ []) = refl
+word_question_none f line h (w ∷ n ∷ k ∷ c ∷ []) = bind_none f (word w) _ (λ p. bind_none f (question n k c) _ (λ q. h p q))
+word_question_none f line h (w ∷ n ∷ k ∷ c ∷ v ∷ ws) = refl
+
+pub timers_none : {X : Type 0} (f : ScriptLine → Option X) → ((i k : ℕ) → f (timers i k) ≡ None) → (ws : List Word) → (timers_line ws >>= f) ≡ None
+timers_none f h [] = refl
+timers_none f h (i ∷ []) = refl
+timers_none f h (i ∷ k ∷ []) = bind_none f (number32 i) _ (λ m. bind_none f (number32 k) _ (λ n. if_none f _ (Some (timers m n)) None (h m n) refl))
+timers_none f h (i ∷ k ∷ v ∷ ws) = refl
+
+pub zone_none : {X : Type 0} (f : ScriptLine → Option X) → ((n : _) (s : ℕ) (b : Bool) → f (zone n s b) ≡ None) → (ws : List Word) → (zone_line ws >>= f) ≡ None
+zone_none f h [] = refl
+zone_none f h (n ∷ []) = refl
+zone_none f h (n ∷ s ∷ []) = refl
+zone_none f h (n ∷ s ∷ m ∷ []) = bind_none f (name_of_text n) _ (λ apex. bind_none f (number32 s) _ (λ serial.
+    if_none f (is m (codes "open")) (Some (zone apex serial true)) (cond (is m (codes "shut")) (Some (zone apex serial false)) None) (h apex serial true)
+    (if_none f (is m (codes "shut")) (Some (zone apex serial false)) None (h apex serial false) refl)))
+zone_none f h (n ∷ s ∷ m ∷ v ∷ ws) = refl
+
+pub link_none : {X : Type 0} (f : ScriptLine → Option X) → ((w : Word) (n : _) → f (link w n) ≡ None) → (ws : List Word) → (link_line ws >>= f) ≡ None
+link_none f h [] = refl
+link_none f h (w ∷ []) = refl
+link_none f h (w ∷ n ∷ []) = bind_none f (word w) _ (λ l. bind_none f (name_of_text n) _ (λ domain. h l domain))
+link_none f h (w ∷ n ∷ v ∷ ws) = refl
+
+pub at_none : {X : Type 0} (f : ScriptLine → Option X) → ((t : ℕ) → f (at_moment t) ≡ None) → (ws : List Word) → (at_line ws >>= f) ≡ None
+at_none f h [] = refl
+at_none f h (t ∷ []) = map_none f (number max_moment t) at_moment h
+at_none f h (t ∷ v ∷ ws) = refl
+
+pub reconfirm_none : {X : Type 0} (f : ScriptLine → Option X) → ((w : Word) (rr : _) → f (reconfirm w rr) ≡ None) → (ws : List Word) → (reconfirm_line ws >>= f) ≡ None
+reconfirm_none f h [] = refl
+reconfirm_none f h (w ∷ []) = refl
+reconfirm_none f h (w ∷ n ∷ []) = refl
+reconfirm_none f h (w ∷ n ∷ k ∷ []) = refl
+reconfirm_none f h (w ∷ n ∷ k ∷ c ∷ []) = refl
+reconfirm_none f h (w ∷ n ∷ k ∷ c ∷ o ∷ []) = bind_none f (word w) _ (λ p. bind_none f (question n k c) _ (λ q. bind_none f (octets_written o) _ (λ rdata. h p _)))
+reconfirm_none f h (w ∷ n ∷ k ∷ c ∷ o ∷ v ∷ ws) = refl
+
+pub stop_none : {X : Type 0} (f : ScriptLine → Option X) → ((w : Word) (r d : ℕ) → f (stop w r d) ≡ None) → (ws : List Word) → (stop_line ws >>= f) ≡ None
+stop_none f h [] = refl
+stop_none f h (w ∷ []) = refl
+stop_none f h (w ∷ r ∷ []) = refl
+stop_none f h (w ∷ r ∷ d ∷ []) = bind_none f (word w) _ (λ p. bind_none f (number 15 r) _ (λ rcode. bind_none f (number32 d) _ (λ delay. h p rcode delay)))
+stop_none f h (w ∷ r ∷ d ∷ v ∷ ws) = refl
+
+pub show_none : {X : Type 0} (f : ScriptLine → Option X) → ((w : Word) (q : Question) (n : List ℕ) → f (show w q n) ≡ None) → (ws : List Word) → (show_line ws >>= f) ≡ None
+show_none f h [] = refl
+show_none f h (w ∷ []) = refl
+show_none f h (w ∷ n ∷ []) = refl
+show_none f h (w ∷ n ∷ k ∷ []) = refl
+show_none f h (w ∷ n ∷ k ∷ c ∷ []) = bind_none f (word w) _ (λ p. bind_none f (question n k c) _ (λ q. h p q n))
+show_none f h (w ∷ n ∷ k ∷ c ∷ v ∷ ws) = refl
+
+-- ---- all kinds together
+
+abbrev pub SaysNothing : {X : Type 0} → (ScriptLine → Option X) → List (Bool × Option ScriptLine) → Type 0
+SaysNothing f [] = Unit {0}
+SaysNothing f (c ∷ cases) = ((c.0 ≡ false) ⊎ ((c.1 >>= f) ≡ None)) × SaysNothing f cases
+
+pub chosen_none : {X : Type 0} (f : ScriptLine → Option X) (cases : List (Bool × Option ScriptLine)) → SaysNothing f cases → (chosen cases None >>= f) ≡ None
+chosen_none f [] h = refl
+chosen_none f (c ∷ cases) h = ⊎_elim
+    (λ (off : c.0 ≡ false). ap (λ (b : Bool). cond b c.1 (chosen cases None) >>= f) off ∙ chosen_none f cases h.1)
+    (λ (nothing : (c.1 >>= f) ≡ None). if_none f c.0 c.1 (chosen cases None) nothing (chosen_none f cases h.1))
+    h.0
+
+abbrev pub lines_by : Word → List Word → List (Bool × Option ScriptLine)
+lines_by w rest =
+    (is w (codes "timers"), timers_line rest)
+    ∷ (is w (codes "zone"), zone_line rest)
+    ∷ (is w (codes "link"), link_line rest)
+    ∷ (is w (codes "client"), of_word client rest)
+    ∷ (is w (codes "lone"), of_word lone rest)
+    ∷ (is w (codes "at"), at_line rest)
+    ∷ (is w (codes "update"), of_octets update rest)
+    ∷ (is w (codes "hear"), of_word_and_octets hear rest)
+    ∷ (is w (codes "ask"), of_word_and_question ask rest)
+    ∷ (is w (codes "drop"), of_word_and_question drop_question rest)
+    ∷ (is w (codes "reconfirm"), reconfirm_line rest)
+    ∷ (is w (codes "open"), of_word open_connection rest)
+    ∷ (is w (codes "cut"), of_word cut rest)
+    ∷ (is w (codes "say"), of_word_and_number say rest)
+    ∷ (is w (codes "up"), of_word_and_number up rest)
+    ∷ (is w (codes "emit"), of_word_and_number emit rest)
+    ∷ (is w (codes "down"), of_word_and_number down rest)
+    ∷ (is w (codes "settle"), of_word settle rest)
+    ∷ (is w (codes "send"), of_word_and_octets send rest)
+    ∷ (is w (codes "feed"), of_word_and_octets feed rest)
+    ∷ (is w (codes "stop"), stop_line rest)
+    ∷ (is w (codes "point"), alone point rest)
+    ∷ (is w (codes "show"), show_line rest)
+    ∷ []
+
+other_kept : (w : Word) (ws : List Word) → is w (codes "zone") ≡ false → is w (codes "send") ≡ false → understood (by_first_word w ws) ≡ None
+other_kept w ws no_zone no_send = chosen_none kept (lines_by w ws) (
+  inr (timers_none kept (λ i k. refl) ws),
+  (
+    inl no_zone,
+    (
+      inr (link_none kept (λ v n. refl) ws),
+      (
+        inr (word_none kept client (λ v. refl) ws),
+        (
+          inr (word_none kept lone (λ v. refl) ws),
+          (
+            inr (at_none kept (λ t. refl) ws),
+            (
+              inr (octets_none kept update (λ o. refl) ws),
+              (
+                inr (word_octets_none kept hear (λ v o. refl) ws),
+                (
+                  inr (word_question_none kept ask (λ v q. refl) ws),
+                  (
+                    inr (word_question_none kept drop_question (λ v q. refl) ws),
+                    (
+                      inr (reconfirm_none kept (λ v rr. refl) ws),
+                      (
+                        inr (word_none kept open_connection (λ v. refl) ws),
+                        (
+                          inr (word_none kept cut (λ v. refl) ws),
+                          (
+                            inr (word_number_none kept say (λ v n. refl) ws),
+                            (
+                              inr (word_number_none kept up (λ v n. refl) ws),
+                              (
+                                inr (word_number_none kept emit (λ v n. refl) ws),
+                                (
+                                  inr (word_number_none kept down (λ v n. refl) ws),
+                                  (
+                                    inr (word_none kept settle (λ v. refl) ws),
+                                    (
+                                      inl no_send,
+                                      (
+                                        inr (word_octets_none kept feed (λ v o. refl) ws),
+                                        (
+                                          inr (stop_none kept (λ v r d. refl) ws),
+                                          (
+                                            inr (alone_none kept point refl ws),
+                                            (inr (show_none kept (λ v q n. refl) ws), tt),
+                                          ),
+                                        ),
+                                      ),
+                                    ),
+                                  ),
+                                ),
+                              ),
+                            ),
+                          ),
+                        ),
+                      ),
+                    ),
+                  ),
+                ),
+              ),
+            ),
+          ),
+        ),
+      ),
+    ),
+  ),
+)
+
+-- ---- the two kinds that are built
+
+bind_kept : {A : Type 0} (o : Option A) (g : A → Option ScriptLine) → ((a : A) → understood (g a) ≡ g a) → understood (o >>= g) ≡ (o >>= g)
+bind_kept None g h = refl
+bind_kept (Some a) g h = h a
+
+zone_mode_kept : (n : Labels) (s : ℕ) (a b : Bool) → understood (cond a (Some (zone n s true)) (cond b (Some (zone n s false)) None)) ≡ cond a (Some (zone n s true)) (cond b (Some (zone n s false)) None)
+zone_mode_kept n s true b = refl
+zone_mode_kept n s false true = refl
+zone_mode_kept n s false false = refl
+
+zone_kept : (ws : List Word) → understood (zone_line ws) ≡ zone_line ws
+zone_kept [] = refl
+zone_kept (n ∷ []) = refl
+zone_kept (n ∷ s ∷ []) = refl
+zone_kept (n ∷ s ∷ m ∷ []) = bind_kept (name_of_text n) _ (λ apex. bind_kept (number32 s) _ (λ serial. zone_mode_kept apex serial (is m (codes "open")) (is m (codes "shut"))))
+zone_kept (n ∷ s ∷ m ∷ v ∷ ws) = refl
+
+send_kept : (ws : List Word) → understood (of_word_and_octets send ws) ≡ of_word_and_octets send ws
+send_kept [] = refl
+send_kept (w ∷ []) = refl
+send_kept (w ∷ o ∷ []) = bind_kept (word w) _ (λ p. bind_kept (octets_written o) _ (λ r. refl))
+send_kept (w ∷ o ∷ v ∷ ws) = refl
+
+-- what is behind the first word, by the kind
+abbrev pub said_by : Kind → List Word → Option ScriptLine
+said_by kinds.Zone ws = zone_line ws
+said_by kinds.Send ws = of_word_and_octets send ws
+said_by kinds.Other ws = None
+
+pub is_that : (w v : Word) → is w v ≡ true → w ≡ v
+is_that w v h = (bytes_eq-Decides w v).0 h
+
+first_word_kept : (w : Word) (ws : List Word) → understood (by_first_word w ws) ≡ said_by (kind_of w) ws
+first_word_kept w ws = elim (cases_Bool (is w (codes "zone"))) [
+  | inl is_zone ↦ subst (λ (v : Word). understood (by_first_word v ws) ≡ said_by (kind_of v) ws) (sym (is_that w (codes "zone") is_zone)) (zone_kept ws)
+  | inr no_zone ↦ elim (cases_Bool (is w (codes "send"))) [
+    | inl is_send ↦ subst (λ (v : Word). understood (by_first_word v ws) ≡ said_by (kind_of v) ws) (sym (is_that w (codes "send") is_send)) (send_kept ws)
+    | inr no_send ↦
+        other_kept w ws no_zone no_send
+        ∙ sym (ap (λ (b : Bool). said_by (cond b kinds.Zone (cond (is w (codes "send")) kinds.Send kinds.Other)) ws) no_zone ∙ ap (λ (b : Bool). said_by (cond b kinds.Send kinds.Other) ws) no_send)
+  ]
+]
+
+-- ---- a line
+
+of_words_kept : (text w : List ℕ) (ws : List Word) → words_in text ≡ w ∷ ws → understood (of_words (words_in text)) ≡ said_by (kind_of w) ws
+of_words_kept text w ws e = ap (λ (vs : List Word). understood (of_words vs)) e ∙ first_word_kept w ws
+
+-- what a line says, if it is built, by its first word and those behind it
+pub line_kept : (text w : List ℕ) (ws : List Word) → begins_silent text ≡ false → words_in text ≡ w ∷ ws → understood (line_of text) ≡ said_by (kind_of w) ws
+line_kept [] w ws speaks e = absurd cc
+line_kept (c ∷ cs) w ws speaks e =
+    ap (λ (b : Bool). understood (cond b (cond (is_utf8 cs) (Some silent) None) (of_words (words_in (c ∷ cs))))) speaks
+    ∙ of_words_kept (c ∷ cs) w ws e
+
+-- a line that begins with #
+pub comment_kept : (cs : List ℕ) → is_utf8 cs ≡ true → Some silent ≡ understood (line_of (35 ∷ cs))
+comment_kept cs h = sym (ap (λ (b : Bool). understood (cond b (Some silent) None)) h)
+
+pub comment_outside : (cs : List ℕ) → (IsUtf8 cs → ⊥) → None ≡ understood (line_of (35 ∷ cs))
+comment_outside cs never = elim (cases_Bool (is_utf8 cs)) [
+  | inl is ↦ absurd (never (IsUtf8-from_is_utf8 cs is))
+  | inr other ↦ sym (ap (λ (b : Bool). understood (cond b (Some silent) None)) other)
+]

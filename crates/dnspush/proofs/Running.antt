@@ -1,0 +1,86 @@
+-- What a run answers, by what is told of its source.
+use Rattle.std.proofs.Common.{◌≡◌, inl, inr, ℕ, Option, Some, None, Err, List, [], ◌∷◌, ◌++◌, length, refl, sym, ◌∙◌, ap, subst, arith, length-append}
+use Rattle.std.proofs.lemmas.List.{append_cancel_left}
+use Rattle.push_base.specs.Causes.{Rose}
+use Rattle.dnspush.specs.declared.status.Status.{Status}
+use Rattle.dnspush.specs.declared.status.Status.TheVariants.{Usage}
+use Rattle.dnspush.specs.Status.{code_of}
+use Rattle.dnspush.specs.Given.{Gave}
+use Rattle.dnspush.specs.declared.outside.OpenFault.{OpenFault}
+use Rattle.dnspush.specs.declared.outside.OpenFault.TheVariants.{Failed}
+use Rattle.dnspush.specs.Opening.{CountsFailure}
+use Rattle.dnspush.specs.Outside.{Used, AddsUse, IsFresh, RaisedBy, MayHaveGiven}
+use Rattle.dnspush.specs.Reply.{Answers, Took, In_full}
+use Rattle.dnspush.specs.Script.{front_read, reply_to_script}
+use Rattle.dnspush.specs.Words.{Request, Replay_input, Replay_path, reply_to, MayBeOctets, SourceRose, usage}
+use Rattle.dnspush.proofs.Telling.{Said, Replied, answered, answers_with_cause}
+
+-- what a script of these octets is answered
+abbrev pub RepliedTo : Type 0 → Option (List ℕ) → Option (List ℕ) → Status → List ℕ → Type 0
+RepliedTo cause taken taken_now result octets = Took taken taken_now (Answers cause (reply_to_script (front_read octets)) (code_of result))
+
+-- where one more was added at its end, a list isn't what it was, and the added one is known
+one_added : (before now : List Used) (u : Used) (octets : List ℕ) → now ≡ before ++ u ∷ [] → MayHaveGiven (Some before) (Some now) octets → u.gave ++ u.left ≡ octets
+one_added before now u octets is (inl same) = absurd (omega (arith, ap length (sym same ∙ is), length-append before (u ∷ [])))
+one_added before now u octets is (inr other) =
+    let one : u ∷ [] ≡ other.0 ∷ [] = append_cancel_left before _ _ (sym is ∙ other.1) in
+    let u_is : u ≡ other.0 = cc one in
+    ap (λ (v : Used). v.gave ++ v.left) u_is ∙ other.2
+
+-- a new source had what it gave and has left
+all_had : (left given : Option (List ℕ)) (gave rest : List ℕ) → IsFresh given → Gave left (Some rest) given (Some gave) → left ≡ Some (gave ++ rest)
+all_had left None gave rest fresh h = cc h.2
+all_had left (Some start) gave rest fresh h =
+    let is : gave ≡ start ++ h.0 = cc h.2 in
+    h.1 ∙ ap (λ l. Some (l ++ rest)) (sym (is ∙ ap (λ l. l ++ h.0) fresh))
+
+-- a source that was opened, used and taken back
+pub replied_back : (cause wider : Type 0) (left left_now given given_now taken taken_now : Option (List ℕ)) (before now : Option (List Used)) (result : Status)
+    → (cause → wider) → IsFresh given → Gave left left_now given given_now → Replied cause left taken taken_now result → AddsUse before now given_now left_now
+    → (octets : List ℕ) → MayHaveGiven before now octets → RepliedTo wider taken taken_now result octets
+replied_back cause wider left left_now given given_now taken taken_now None now result brings fresh moved replied adds octets may = absurd may
+replied_back cause wider left left_now given given_now taken taken_now (Some before) None result brings fresh moved replied adds octets may = absurd may
+replied_back cause wider left left_now given None taken taken_now (Some before) (Some now) result brings fresh moved replied adds octets may = absurd adds
+replied_back cause wider left None given (Some gave) taken taken_now (Some before) (Some now) result brings fresh moved replied adds octets may = absurd adds
+replied_back cause wider left (Some rest) given (Some gave) taken taken_now (Some before) (Some now) result brings fresh moved replied adds octets may =
+    let all = all_had left given gave rest fresh moved in
+    let had : gave ++ rest ≡ octets = one_added before now (record { gave = gave; left = rest }) octets adds may in
+    let told = subst (RepliedTo cause taken taken_now result) had (subst (λ l. Replied cause l taken taken_now result) all replied) in
+    (told.0, told.1, answers_with_cause cause wider _ _ _ brings told.2)
+
+-- a fault of a source that was taken back
+pub brought : (fault_before fault_now before opened now : ℕ) → fault_before ≡ 0 → opened ≡ before → RaisedBy fault_now opened now → Rose fault_before fault_now → Rose before now
+brought fault_before fault_now before opened now none same raised rose = subst (λ n. Rose n now) same (raised.rose (omega (arith, none, rose)))
+
+-- a count of an `open` that failed
+pub failed_open : (A : Type 0) (before now : ℕ) (fault : OpenFault) → fault ≡ Failed → CountsFailure {A = A} before now (Err fault) → Rose before now
+failed_open A before now fault is counts = (subst (λ f. CountsFailure {A = A} before now (Err f)) is counts).1
+
+-- ---- what each request is answered, by its number
+
+answers_by : (cause : Option Request → Type 0) (request asked : Option Request) (octets : List ℕ) (taken taken_now : Option (List ℕ)) (result : Status) (code : ℕ)
+    → asked ≡ request → code ≡ code_of result → Took taken taken_now (Answers (cause asked) (reply_to asked octets) (code_of result))
+    → Took taken taken_now (Answers (cause request) (reply_to request octets) code)
+answers_by cause request asked octets taken taken_now result code is code_is h =
+    subst (λ r. Took taken taken_now (Answers (cause r) (reply_to r octets) code)) is
+    (subst (λ n. Took taken taken_now (Answers (cause asked) (reply_to asked octets) n)) (sym code_is) h)
+
+pub usage_answered : (input_rose outside_rose : Type 0) (request : Option Request) (octets : List ℕ) (taken taken_now : Option (List ℕ)) (result : Status) (code : ℕ)
+    → None ≡ request → code ≡ code_of result → Said taken taken_now Usage usage result → Took taken taken_now (Answers (SourceRose request input_rose outside_rose) (reply_to request octets) code)
+usage_answered input_rose outside_rose request octets taken taken_now result code is code_is said =
+    answers_by (λ r. SourceRose r input_rose outside_rose) request None octets taken taken_now result code is code_is
+    (answered ⊥ (reply_to None octets) taken taken_now Usage result usage (In_full refl refl) said)
+
+pub input_answered : (input_rose outside_rose : Type 0) (request : Option Request) (input taken taken_now : Option (List ℕ)) (before now : Option (List Used)) (octets : List ℕ) (result : Status) (code : ℕ)
+    → Some Replay_input ≡ request → code ≡ code_of result → Replied input_rose input taken taken_now result → MayBeOctets request input before now octets
+    → Took taken taken_now (Answers (SourceRose request input_rose outside_rose) (reply_to request octets) code)
+input_answered input_rose outside_rose request input taken taken_now before now octets result code is code_is replied may =
+    let told : input ≡ Some octets = subst (λ r. MayBeOctets r input before now octets) (sym is) may in
+    answers_by (λ r. SourceRose r input_rose outside_rose) request (Some Replay_input) octets taken taken_now result code is code_is (subst (λ i. Replied input_rose i taken taken_now result) told replied)
+
+pub path_answered : (input_rose outside_rose : Type 0) (request : Option Request) (path : List ℕ) (input taken taken_now : Option (List ℕ)) (before now : Option (List Used)) (octets : List ℕ) (result : Status) (code : ℕ)
+    → Some (Replay_path path) ≡ request → code ≡ code_of result → (MayHaveGiven before now octets → RepliedTo outside_rose taken taken_now result octets) → MayBeOctets request input before now octets
+    → Took taken taken_now (Answers (SourceRose request input_rose outside_rose) (reply_to request octets) code)
+path_answered input_rose outside_rose request path input taken taken_now before now octets result code is code_is replied may =
+    let told : MayHaveGiven before now octets = subst (λ r. MayBeOctets r input before now octets) (sym is) may in
+    answers_by (λ r. SourceRose r input_rose outside_rose) request (Some (Replay_path path)) octets taken taken_now result code is code_is (replied told)

@@ -1,0 +1,76 @@
+-- The lines that are built, as the program holds them.
+--     has_form word      whether a word has the form of a number
+--     writable_of word      what the last word of a zone line says
+--     said line      what a line that was read says
+--     IsSound line      what else is known of a line that was read
+--     understood line      a zone line, a send line, or one that says nothing
+--     begins_silent text      whether a text is empty or begins with #
+use Rattle.std.specs.Prelude.{◌≡◌, ◌≤◌, length, ℕ, Bool, true, false, not, ◌&&◌, ◌||◌, nat_le, List, [], ◌∷◌, Option, Some, None, ◌==◌, codes, string_bytes, if◌then◌else◌}
+use Rattle.std.specs.List.{list_all, slice_split}
+use Rattle.push_base.specs.Optional.{◌>>=◌}
+use Rattle.replay.specs.Lines.{Word, ScriptLine, silent, zone, send, word, is_digit, begins_with_zero, is}
+use Rattle.dnspush.specs.declared.line.Zone.{Zone}
+use Rattle.dnspush.specs.declared.line.Sent.{Sent}
+use Rattle.dnspush.specs.declared.line.Line.{Line}
+use Rattle.dnspush.specs.declared.line.Line.TheVariants as lines
+use Rattle.dnspush.specs.declared.line.Kind.{Kind}
+use Rattle.dnspush.specs.declared.line.Kind.TheVariants as kinds
+
+-- digits, at least one, and no leading zeros
+abbrev pub has_form : Word → Bool
+has_form [] = false
+has_form (c ∷ cs) = list_all is_digit (c ∷ cs) && not (begins_with_zero (c ∷ cs))
+
+-- whether a zone may be written
+abbrev pub writable_of : Word → Option Bool
+writable_of w = if is w (codes "open") then Some true else if is w (codes "shut") then Some false else None
+
+-- what a zone line says, and what a send line says
+abbrev pub zone_said : Zone → ScriptLine
+zone_said z = zone z.apex z.serial z.writable
+
+abbrev pub send_said : Sent → ScriptLine
+send_said s = send (string_bytes s.word) s.octets
+
+-- what a line that was read says
+abbrev pub said : Line → ScriptLine
+said lines.Silent = silent
+said (lines.Zone z) = zone_said z
+said (lines.Send s) = send_said s
+
+-- the lines that are built say this alone
+abbrev pub kept : ScriptLine → Option ScriptLine
+kept silent = Some silent
+kept (zone apex serial writable) = Some (zone apex serial writable)
+kept (send w octets) = Some (send w octets)
+kept _ = None
+
+abbrev pub understood : Option ScriptLine → Option ScriptLine
+understood line = line >>= kept
+
+-- whether a text is that of no line that speaks: it is empty or begins with #
+abbrev pub begins_silent : List ℕ → Bool
+begins_silent [] = true
+begins_silent (c ∷ cs) = c == 35
+
+-- what stands in a word: digits and lower-case letters
+abbrev pub is_word_octet : ℕ → Bool
+is_word_octet c = is_digit c || (nat_le 97 c && nat_le c 122)
+
+-- the words of a line, with one space between two of them
+abbrev pub words_in : List ℕ → List Word
+words_in text = slice_split (λ d. d == 32) text
+
+-- the kind of a line by its first word
+abbrev pub kind_of : Word → Kind
+kind_of w = if is w (codes "zone") then kinds.Zone else if is w (codes "send") then kinds.Send else kinds.Other
+
+-- the octets of a send line are no more than a frame's
+abbrev pub IsShort : Sent → Type 0
+IsShort sent = length sent.octets ≤ 65537
+
+-- the word of a send line is a word, and its octets are no more than a frame's
+abbrev pub IsSound : Line → Type 0
+IsSound lines.Silent = Unit {0}
+IsSound (lines.Zone z) = Unit {0}
+IsSound (lines.Send s) = (word (string_bytes s.word) ≡ Some (string_bytes s.word)) × IsShort s

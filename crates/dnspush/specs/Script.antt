@@ -1,0 +1,75 @@
+-- Which scripts are built, and what a script is answered.
+--     is_built known sent line      the lines that are built so far
+--     first_later octets      the number of the first line that isn't built
+--     reply_to_script octets      the status and the text for the octets that were read
+use Rattle.std.specs.Prelude.{ℕ, ◌+◌, ◌==◌, ◌&&◌, not, Bool, true, false, Some, None, List, [], ◌∷◌, ◌++◌, length, nat_lt, take, drop, codes}
+use Rattle.std.specs.declared.option.Option.{Option}
+use Rattle.std.specs.Fmt.{decimal}
+use Rattle.push_base.specs.Cases.{is_empty}
+use Rattle.rrset.specs.Header.{is_response, opcode_of}
+use Rattle.dsotlv.specs.Messages.{dso_opcode, head_of, first_message}
+use Rattle.dsotlv.specs.TlvKinds.{subscribe_tlv}
+use Rattle.dsotlv.specs.declared.message.DsoHead.{DsoHead}
+use Rattle.replay.specs.Lines.{Word, ScriptLine, silent, zone, send}
+use Rattle.replay.specs.Scripts.{Known, nothing_known, fits, is_among, client_words, lines_read, max_script}
+use Rattle.replay.specs.Text.{text_of}
+use Rattle.dnspush.specs.Reply.{Reply, line}
+
+-- of the octets of a source, those that are read: all, or one more than a script may have
+unfoldable pub front_read : List ℕ → List ℕ
+front_read octets = take (max_script + 1) octets
+
+-- those that are left
+unfoldable pub left_behind : List ℕ → List ℕ
+left_behind octets = drop (max_script + 1) octets
+
+-- a SUBSCRIBE: an ID, QR 0, OPCODE 6, zero counts, and whole TLVs, the first of them SUBSCRIBE (RFC 8490, 5.4; RFC 8765, 6.2.1)
+abbrev pub is_subscribe_head : DsoHead → Bool
+is_subscribe_head head = not (head.id == 0) && not (is_response head.flags) && opcode_of head.flags == dso_opcode && head.zero_counts
+    && (elim head.primary [ None ↦ false | Some primary ↦ primary.0 == subscribe_tlv ])
+
+abbrev pub is_subscribe : List ℕ → Bool
+is_subscribe message = elim (head_of message) [ None ↦ false | Some head ↦ is_subscribe_head head ]
+
+-- the octets are one whole frame and nothing else, and its message is a SUBSCRIBE
+abbrev pub is_one_subscribe : List ℕ → Bool
+is_one_subscribe octets = elim (first_message octets) [ None ↦ false | Some found ↦ is_empty found.1 && is_subscribe found.0 ]
+
+-- so many SUBSCRIBEs are built in one script
+abbrev pub max_sends : ℕ
+max_sends = 64
+
+-- the lines that are built so far: lines that say nothing, a first zone, and then SUBSCRIBEs, each of another peer
+abbrev pub is_built : Known → List Word → ScriptLine → Bool
+is_built known sent silent = true
+is_built known sent (zone apex serial mode) = is_empty known.homes
+is_built known sent (send w octets) = not (is_among sent w) && nat_lt (length sent) max_sends && is_one_subscribe octets
+is_built known sent _ = false
+
+-- the peers' words with that of a line
+abbrev pub and_sent : List Word → ScriptLine → List Word
+and_sent sent (send w octets) = sent ++ w ∷ []
+and_sent sent _ = sent
+
+-- the number of the first line that isn't built or may not stand there, from a number on
+abbrev pub first_unbuilt : List Word → Known → List Word → ℕ → List (Option ScriptLine) → Option ℕ
+first_unbuilt all known sent n [] = None
+first_unbuilt all known sent n (None ∷ lines) = Some n
+first_unbuilt all known sent n (Some line ∷ lines) = elim (is_built known sent line) [
+  | false ↦ Some n
+  | true ↦ elim (fits all known line) [ None ↦ Some n | Some known_then ↦ first_unbuilt all known_then (and_sent sent line) (n + 1) lines ]
+]
+
+unfoldable pub first_later : List ℕ → Option ℕ
+first_later octets = let lines = lines_read octets in first_unbuilt (client_words lines) nothing_known [] 1 lines
+
+abbrev pub later : ℕ → List ℕ
+later number = line (codes "later " ++ decimal number)
+
+abbrev pub reply_at : Option ℕ → List ℕ → Reply
+reply_at None octets = record { status = (text_of octets).0; text = (text_of octets).1 }
+reply_at (Some number) octets = record { status = 8; text = later number }
+
+-- the text of the script, or the first line that isn't built
+unfoldable pub reply_to_script : List ℕ → Reply
+reply_to_script octets = reply_at (first_later octets) octets

@@ -1,0 +1,45 @@
+//! Replays scripts of DNS Push sessions.
+#![tactic(auto)]
+
+mod adapters;
+mod examples;
+mod line;
+mod line_words;
+mod mem_outside;
+mod outside;
+mod program;
+mod reaction;
+mod read;
+mod replaying;
+mod reply;
+mod script;
+mod status;
+mod subscribe;
+#[cfg(test)]
+mod tests;
+mod words;
+mod write;
+mod zone;
+
+use adapters::{Origin, Reading, System, Writing};
+use std::env;
+use std::process::ExitCode;
+
+fn main(rt: HostRuntime) -> ExitCode {
+    let alloc = rt.alloc();
+    let words = given_words(&rt);
+    let mut input = Reading::new(Origin::Input(rt.stdin()));
+    let mut out = Writing::new(rt.stdout());
+    let mut system = System::new(rt);
+    ExitCode::from(program::run(alloc, &words, &mut input, &mut out, &mut system))
+}
+
+// The words after the program's name, or none where they can't be read.
+fn given_words(rt: &HostRuntime) -> Vec<String> {
+    let alloc = rt.alloc();
+    let Ok(mut args) = env::args(rt) else {
+        return Vec::new(alloc);
+    };
+    let _ = args.next();
+    args.collect(alloc).unwrap_or_else(|_| Vec::new(alloc))
+}

@@ -1,0 +1,43 @@
+ghost use Rattle.std.specs.Prelude.{◌≡◌, ℕ, List, Option, IfOk};
+ghost use Rattle.dnspush.specs.Outside.{Used, AddsUse, IsFresh, RaisedBy};
+
+use push_base::{Sink, Source};
+
+/// Why an object wasn't made.
+#[derive(Clone, Copy, Debug, PartialEq, Eq)]
+pub enum OpenFault {
+    Failed,
+    NoMemory,
+}
+
+/// All that a run reaches: it makes objects, and takes them back.
+pub trait Outside {
+    type In: Source;
+
+    type Out: Sink;
+
+    ghost use Rattle.dnspush.specs.Opening.{CountsFailure, TellsWords};
+
+    /// The words that were handed to `open`, where they are told.
+    ghost opened: { Self → Option (List (List ℕ)) };
+
+    /// The sources that were taken back, where they are told.
+    ghost used: { Self → Option (List Used) };
+
+    /// How often `open` failed, or a source that had failed was taken back.
+    ghost reads: { Self → ℕ };
+
+    /// The source at a path.
+    fn open(&mut self, path: &str) -> Result<Self::In, OpenFault>
+        ensures faults { IfOk result (λ source. Self.In.faults source ≡ 0) }
+        ensures fresh { IfOk result (λ source. IsFresh (Self.In.given source)) }
+        ensures reads { CountsFailure (reads self.old) (reads self.new) result }
+        ensures opened { TellsWords (opened self.old) (opened self.new) result path.now }
+        ensures used { used self.new ≡ used self.old };
+
+    /// Takes back a source that `open` made.
+    fn back_in(&mut self, source: Self::In)
+        ensures reads { RaisedBy (Self.In.faults source) (reads self.old) (reads self.new) }
+        ensures used { AddsUse (used self.old) (used self.new) (Self.In.given source) (Self.In.left source) }
+        ensures opened { opened self.new ≡ opened self.old };
+}

@@ -1,0 +1,44 @@
+ghost use Rattle.std.specs.Prelude.{◌≡◌, ◌≢◌, ◌≤◌, IfSome};
+ghost use Rattle.push_base.specs.Causes.{Rose};
+ghost use Rattle.dnspush.specs.Given.{Gave};
+ghost use Rattle.dnspush.specs.Reply.{Answers, Took};
+ghost use Rattle.dnspush.specs.Reading.{HasRead, LeftBehind};
+ghost use Rattle.dnspush.specs.Script.{front_read, reply_to_script};
+ghost use Rattle.dnspush.specs.Status.{code_of};
+
+use crate::read::{ReadError, read_script};
+use crate::reply::reply_to;
+use crate::status::Status;
+use crate::write::tell;
+use push_base::{NoMemory, Sink, Source};
+use std::alloc::Global;
+
+pub const READ_FAULT: &[u8] = b"read fault\n";
+
+pub const NO_MEMORY: &[u8] = b"no memory\n";
+
+/// Reads a script and writes what it is answered.
+pub fn replay<S: Source, K: Sink>(alloc: Global, source: &mut S, sink: &mut K) -> Status
+    ensures replied { IfSome (S.left source.old) (λ octets. Took (K.taken sink.old) (K.taken sink.new)
+        (Answers (Rose (S.faults source.old) (S.faults source.new)) (reply_to_script (front_read octets)) (code_of result))) }
+    // Once it was read, only what is behind a script too long is left.
+    ensures rest { HasRead (code_of result) → LeftBehind (S.left source.old) (S.left source.new) }
+
+    // Which faults had a cause.
+    ensures read_fault { result ≡ Status.ReadFault → Rose (S.faults source.old) (S.faults source.new) }
+    ensures write_fault { result ≡ Status.WriteFault → Rose (K.faults sink.old) (K.faults sink.new) }
+    ensures read_later { S.faults source.old ≤ S.faults source.new }
+    ensures write_later { K.faults sink.old ≤ K.faults sink.new }
+    ensures gave { Gave (S.left source.old) (S.left source.new) (S.given source.old) (S.given source.new) }
+    ensures not_usage { result ≢ Status.Usage }
+{
+    let script = match read_script(alloc, source) {
+        Ok(script) => script,
+        Err(ReadError::Failed) => return tell(sink, Status::ReadFault, READ_FAULT),
+        Err(ReadError::NoMemory) => return tell(sink, Status::NoMemory, NO_MEMORY),
+    };
+    match reply_to(alloc, &script) {
+        Ok(reply) => tell(sink, reply.status(), reply.text.as_bytes()),
+        Err(NoMemory) => tell(sink, Status::NoMemory, NO_MEMORY),
+    }
+}

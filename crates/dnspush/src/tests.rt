@@ -1,0 +1,203 @@
+ghost use Rattle.std.specs.Prelude.{◌<◌, length, All, IfOk};
+
+use crate::mem_outside::MemOutside;
+use crate::program::{USAGE, run};
+use push_base::{MemSink, MemSource, Octets};
+use std::alloc::{AllocError, Global};
+use std::test::Fail;
+
+// What a run answered and wrote.
+#[derive(Drop)]
+struct Ran {
+    status: u8,
+    wrote: Vec<u8>,
+    outside: MemOutside,
+}
+
+// The pieces that aren't empty, as items of a source.
+fn items(alloc: Global, pieces: &[&[u8]]) -> Result<Vec<Octets>, AllocError>
+    ensures { IfOk result (λ items. All (λ item. 0 < length item) items.items) }
+{
+    let mut items = Vec::new(alloc);
+    'pieces: for piece in pieces {
+        if piece.len() > 0 {
+            items.push(Octets::from_slice(alloc, piece)?)?;
+        }
+    }
+    Ok(items)
+}
+
+// Runs these words over an input that comes in these pieces, with these files at hand.
+fn run_over(
+    alloc: Global,
+    texts: &[&str],
+    pieces: &[&[u8]],
+    fails: Vec<u64>,
+    limits: Vec<usize>,
+    mut outside: MemOutside,
+) -> Result<Ran, AllocError> {
+    let mut words = Vec::new(alloc);
+    for text in texts {
+        words.push(String::from_str(alloc, text)?)?;
+    }
+    let mut input = MemSource::new(items(alloc, pieces)?, fails);
+    let mut out = MemSink::new(alloc, limits, Vec::new(alloc), 1024)?;
+    let status = run(alloc, &words, &mut input, &mut out, &mut outside);
+    Ok(Ran {
+        status,
+        wrote: out.taken().to_vec(alloc)?,
+        outside,
+    })
+}
+
+// Replays a script that comes in these pieces.
+fn replay_pieces(
+    alloc: Global,
+    pieces: &[&[u8]],
+    fails: Vec<u64>,
+    limits: Vec<usize>,
+) -> Result<Ran, AllocError> {
+    let outside = MemOutside::new(alloc, Vec::new(alloc));
+    run_over(alloc, &["replay", "-"], pieces, fails, limits, outside)
+}
+
+// The scripts that are built, and the first lines that aren't, each with its status and its text.
+#[test]
+fn scripts(rt: HostRuntime) -> Result<(), Fail> {
+    let alloc = rt.alloc();
+    let cases: [(&[u8], u8, &[u8]); 15] = [
+        (b"", 0, b""),
+        (b"zone example.com. 1 open", 0, b""),
+        (
+            b"zone example.com. 1 open\nsend p 002100013000000000000000000000400011076578616d706c6503636f6d0000060001\n",
+            0,
+            b"bytes p 000c0001b0000000000000000000006300003000000000000000000000410053076578616d706c6503636f6d000006000100000e10003c026e73076578616d706c6503636f6d000a686f73746d6173746572076578616d706c6503636f6d000000000100000e1000000258000151800000003c\n",
+        ),
+        (
+            b"zone example.com. 1 open\nsend p 001b0003300000000000000000000040000b056f746865720000010001",
+            0,
+            b"bytes p 00140003b009000000000000000000020004000493e0\n",
+        ),
+        (
+            b"zone example.com. 1 shut\nsend p 001600083000000000000000000000400006c00c00010001\n",
+            0,
+            b"bytes p 00140008b001000000000000000000020004000493e0\n",
+        ),
+        (
+            b"send p 001b0003300000000000000000000040000b056f746865720000010001\n",
+            0,
+            b"bytes p 00140003b009000000000000000000020004000493e0\n",
+        ),
+        (b"\n# a\n\n#", 0, b""),
+        (
+            b"# two peers\nzone example.com. 1 open\n\nsend p 001b0003300000000000000000000040000b056f746865720000010001\n# b\nsend q 001b0004300000000000000000000040000b056f746865720000010001\n",
+            0,
+            b"bytes p 00140003b009000000000000000000020004000493e0\nbytes q 00140004b009000000000000000000020004000493e0\n",
+        ),
+        (
+            b"send p 001b0003300000000000000000000040000b056f746865720000010001\nsend p 001b0003300000000000000000000040000b056f746865720000010001\n",
+            8,
+            b"later 2\n",
+        ),
+        (b"#\xff\n", 8, b"later 1\n"),
+        (b"# \xc3\xa4\n x\n", 8, b"later 2\n"),
+        (b"zone example.com. 1 open\nemit c 5\n", 8, b"later 2\n"),
+        (
+            b"zone example.com. 1 open\nzone com. 1 open\n",
+            8,
+            b"later 2\n",
+        ),
+        (b"zone example.com. 1 open\nsend p 001\n", 8, b"later 2\n"),
+        (
+            b"zone example.com. 1 open\nsend p 0010000100000000000000000000\n",
+            8,
+            b"later 2\n",
+        ),
+    ];
+    for (script, status, text) in cases {
+        let ran = replay_pieces(alloc, &[script], Vec::new(alloc), Vec::new(alloc))?;
+        assert_eq!(rt; ran.status, status, "at {script:?}");
+        assert_eq!(rt; ran.wrote.as_slice(), text, "at {script:?}");
+    }
+    Ok(())
+}
+
+#[test]
+fn a_read_that_fails(rt: HostRuntime) -> Result<(), Fail> {
+    let alloc = rt.alloc();
+    let pieces: [&[u8]; 2] = [b"zone example.com. ", b"1 open\n"];
+    let ran = replay_pieces(alloc, &pieces, vec![in alloc; 2]?, Vec::new(alloc))?;
+    assert_eq!(rt; ran.status, 3);
+    assert_eq!(rt; ran.wrote.as_slice(), b"read fault\n".as_slice());
+    Ok(())
+}
+
+#[test]
+fn a_sink_that_takes_nothing(rt: HostRuntime) -> Result<(), Fail> {
+    let alloc = rt.alloc();
+    let ran = replay_pieces(alloc, &[b"x"], Vec::new(alloc), vec![in alloc; 3, 0]?)?;
+    assert_eq!(rt; ran.status, 5);
+    assert_eq!(rt; ran.wrote.as_slice(), b"lat".as_slice());
+    Ok(())
+}
+
+#[test]
+fn wrong_words(rt: HostRuntime) -> Result<(), Fail> {
+    let alloc = rt.alloc();
+    let cases: [&[&str]; 8] = [
+        &[],
+        &["replay"],
+        &["replay", ""],
+        &["replay", "-x"],
+        &["replay", "-", "-"],
+        &["Replay", "-"],
+        &["serve", "path"],
+        &["check", "-"],
+    ];
+    for words in cases {
+        let outside = MemOutside::new(alloc, Vec::new(alloc));
+        let ran = run_over(
+            alloc,
+            words,
+            &[b"x"],
+            Vec::new(alloc),
+            Vec::new(alloc),
+            outside,
+        )?;
+        assert_eq!(rt; ran.status, 1);
+        assert_eq!(rt; ran.wrote.as_slice(), USAGE);
+    }
+    Ok(())
+}
+
+// The script at a path, and a path where there is none.
+#[test]
+fn a_script_at_a_path(rt: HostRuntime) -> Result<(), Fail> {
+    let alloc = rt.alloc();
+    let file = MemSource::new(items(alloc, &[b"#\n", b"x"])?, Vec::new(alloc));
+    let outside = MemOutside::new(alloc, vec![in alloc; file]?);
+    let words = ["replay", "a/path"];
+    let ran = run_over(
+        alloc,
+        &words,
+        &[],
+        Vec::new(alloc),
+        Vec::new(alloc),
+        outside,
+    )?;
+    assert_eq!(rt; ran.status, 8);
+    assert_eq!(rt; ran.wrote.as_slice(), b"later 2\n".as_slice());
+    let ran = run_over(
+        alloc,
+        &words,
+        &[],
+        Vec::new(alloc),
+        Vec::new(alloc),
+        ran.outside,
+    )?;
+    assert_eq!(rt; ran.status, 3);
+    assert_eq!(rt; ran.wrote.as_slice(), b"read fault\n".as_slice());
+    assert_eq!(rt; ran.outside.reads(), 1);
+    assert_eq!(rt; ran.outside.opened().len(), 2);
+    Ok(())
+}
