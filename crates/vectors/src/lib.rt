@@ -1,0 +1,42 @@
+//! Octets of messages, each with what it says or with the place of its fault, as tests of the crates below.
+#![tactic(auto)]
+
+#[cfg(test)]
+mod hearings;
+#[cfg(test)]
+mod names;
+#[cfg(test)]
+mod notices;
+#[cfg(test)]
+mod rdata;
+#[cfg(test)]
+mod session_messages;
+#[cfg(test)]
+mod shown;
+#[cfg(test)]
+mod updates;
+
+ghost use Rattle.std.specs.Prelude.{◌≡◌, IfOk, not, ◌==◌, filter};
+
+use push_base::{HexFault, NoMemory, Octets, hex_octets};
+use std::alloc::Global;
+
+/// The octets of a text that are no spaces.
+fn without_spaces(alloc: Global, text: &[u8]) -> Result<Vec<u8>, NoMemory>
+    ensures { IfOk result (λ digits. digits.items ≡ filter (λ c. not (c == 32)) text.now) }
+{
+    text.iter().copied().filter(|c| *c != b' ').collect(alloc)
+}
+
+/// The octets that a hexadecimal text stands for, two digits for each. Spaces are for the reader: the place of
+/// a fault counts the other characters alone.
+pub(crate) fn spaced_octets(alloc: Global, text: &str) -> Result<Octets, HexFault> {
+    let Ok(digits) = without_spaces(alloc, text.as_bytes()) else {
+        return Err(HexFault::NoMemory);
+    };
+    match str::from_utf8(&digits) {
+        Ok(digits) => hex_octets(alloc, digits),
+        // Never: a text is a text without its spaces, too.
+        Err(_) => Err(HexFault::Digit(0)),
+    }
+}

@@ -1,0 +1,275 @@
+//! Names in messages and names without pointers (RFC 1035, 2.3.4, 3.1 and 4.1.4).
+
+use crate::spaced_octets;
+use dnsname::{Name, NameFault, NoMemory};
+use std::alloc::Global;
+use std::test::Fail;
+
+/// The names of RFC 1035, 4.1.4: F.ISI.ARPA at 20, FOO.F.ISI.ARPA at 40, ARPA at 64, and the root at 92.
+const MESSAGE: &str = "0000000000000000000000000000000000000000 \
+     0146 03495349 0441525041 00 0000000000000000 03464f4f c014 000000000000000000000000000000000000 c01a \
+     0000000000000000000000000000000000000000000000000000 00";
+
+/// A name of 255 octets at 1, and one of 256 at 0. The pointers at 256, 258 and 260 lead to the first, to
+/// the second and to the pointer at 256.
+pub(crate) const LONGEST: &str = "02 0161 \
+     3f626262626262626262626262626262626262626262626262626262626262626262626262626262626262626262626262626262626262626262626262626262 \
+     3f636363636363636363636363636363636363636363636363636363636363636363636363636363636363636363636363636363636363636363636363636363 \
+     3f646464646464646464646464646464646464646464646464646464646464646464646464646464646464646464646464646464646464646464646464646464 \
+     3b6565656565656565656565656565656565656565656565656565656565656565656565656565656565656565656565656565656565656565656565 \
+     00 c001 c000 c100";
+
+const LONGEST_NAME: &str = "a.\
+     bbbbbbbbbbbbbbbbbbbbbbbbbbbbbbbbbbbbbbbbbbbbbbbbbbbbbbbbbbbbbbb.\
+     ccccccccccccccccccccccccccccccccccccccccccccccccccccccccccccccc.\
+     ddddddddddddddddddddddddddddddddddddddddddddddddddddddddddddddd.\
+     eeeeeeeeeeeeeeeeeeeeeeeeeeeeeeeeeeeeeeeeeeeeeeeeeeeeeeeeeee.";
+
+/// What a case shows, the message, the place, and what `read` and `read_plain` give: the name's text and
+/// the place after it, or the fault and its place.
+type Case = (
+    &'static str,
+    &'static str,
+    usize,
+    (&'static str, usize),
+    (&'static str, usize),
+);
+
+const CASES: [Case; 30] = [
+    (
+        "a name as it stands",
+        MESSAGE,
+        20,
+        ("F.ISI.ARPA.", 32),
+        ("F.ISI.ARPA.", 32),
+    ),
+    (
+        "a label and a pointer",
+        MESSAGE,
+        40,
+        ("FOO.F.ISI.ARPA.", 46),
+        ("Pointer", 44),
+    ),
+    (
+        "a pointer alone",
+        MESSAGE,
+        64,
+        ("ARPA.", 66),
+        ("Pointer", 64),
+    ),
+    ("the root", MESSAGE, 92, (".", 93), (".", 93)),
+    ("no octet", MESSAGE, 93, ("Short", 93), ("Short", 93)),
+    (
+        "a place behind the end",
+        MESSAGE,
+        200,
+        ("Short", 93),
+        ("Short", 93),
+    ),
+    (
+        "a name without its end",
+        "0161",
+        0,
+        ("Short", 2),
+        ("Short", 2),
+    ),
+    (
+        "a label that is cut off",
+        "036162",
+        0,
+        ("Short", 3),
+        ("Short", 3),
+    ),
+    (
+        "a pointer without its second octet",
+        "00 c0",
+        1,
+        ("Short", 2),
+        ("Pointer", 1),
+    ),
+    (
+        "a length with the top bits 01",
+        "40",
+        0,
+        ("LongLabel", 0),
+        ("LongLabel", 0),
+    ),
+    (
+        "the greatest length with the top bits 01, behind a label",
+        "0161 7f",
+        0,
+        ("LongLabel", 2),
+        ("LongLabel", 2),
+    ),
+    (
+        "a length with the top bits 10",
+        "80",
+        0,
+        ("LongLabel", 0),
+        ("LongLabel", 0),
+    ),
+    (
+        "the greatest length with the top bits 10, behind a label",
+        "0161 bf",
+        0,
+        ("LongLabel", 2),
+        ("LongLabel", 2),
+    ),
+    (
+        "a length of 64 with octets behind it",
+        "0161 406262626262626262626262626262626262626262626262626262626262626262626262626262626262626262626262626262626262626262626262626262626200",
+        0,
+        ("LongLabel", 2),
+        ("LongLabel", 2),
+    ),
+    (
+        "a pointer to itself",
+        "000000000000000000000000 c00c",
+        12,
+        ("Pointer", 12),
+        ("Pointer", 12),
+    ),
+    (
+        "a pointer to where its piece of the name began",
+        "0161 c000",
+        0,
+        ("Pointer", 2),
+        ("Pointer", 2),
+    ),
+    (
+        "a pointer to a later label of its piece",
+        "0161 0162 c002",
+        0,
+        ("Pointer", 4),
+        ("Pointer", 4),
+    ),
+    (
+        "a pointer forward",
+        "c002 00",
+        0,
+        ("Pointer", 0),
+        ("Pointer", 0),
+    ),
+    (
+        "a pointer to the octet before its piece",
+        "00 0161 c000",
+        1,
+        ("a.", 5),
+        ("Pointer", 3),
+    ),
+    (
+        "two pointers to each other",
+        "c002 c000",
+        2,
+        ("Pointer", 0),
+        ("Pointer", 2),
+    ),
+    (
+        "a pointer that leads back into a later piece",
+        "0161 c004 0162 c000",
+        4,
+        ("Pointer", 2),
+        ("Pointer", 6),
+    ),
+    (
+        "pointers to pointers",
+        "00 c000 c001 c003",
+        5,
+        (".", 7),
+        ("Pointer", 5),
+    ),
+    (
+        "a pointer to a label that reaches over the pointer",
+        "0361 c000 00",
+        2,
+        ("a\\192\\000.", 4),
+        ("Pointer", 2),
+    ),
+    (
+        "a pointer to a length with the top bits 01",
+        "40 c000",
+        1,
+        ("LongLabel", 0),
+        ("Pointer", 1),
+    ),
+    (
+        "a pointer to a label that is cut off",
+        "05 c000",
+        1,
+        ("Short", 3),
+        ("Pointer", 1),
+    ),
+    (
+        "a name of 255 octets",
+        LONGEST,
+        1,
+        (LONGEST_NAME, 256),
+        (LONGEST_NAME, 256),
+    ),
+    (
+        "a name of 256 octets",
+        LONGEST,
+        0,
+        ("TooLong", 195),
+        ("TooLong", 195),
+    ),
+    (
+        "a pointer to a name of 255 octets",
+        LONGEST,
+        256,
+        (LONGEST_NAME, 258),
+        ("Pointer", 256),
+    ),
+    (
+        "a pointer to a name of 256 octets",
+        LONGEST,
+        258,
+        ("TooLong", 195),
+        ("Pointer", 258),
+    ),
+    (
+        "a pointer past the first 256 octets",
+        LONGEST,
+        260,
+        (LONGEST_NAME, 262),
+        ("Pointer", 260),
+    ),
+];
+
+/// A fault's word and its place.
+fn word_and_place(fault: NameFault) -> (&'static str, usize) {
+    match fault {
+        NameFault::Short(place) => ("Short", place),
+        NameFault::LongLabel(place) => ("LongLabel", place),
+        NameFault::Pointer(place) => ("Pointer", place),
+        NameFault::TooLong(place) => ("TooLong", place),
+        NameFault::NoMemory => ("NoMemory", 0),
+    }
+}
+
+/// The name's text and the place after it, or the fault and its place.
+fn outcome(
+    alloc: Global,
+    read: Result<(Name, usize), NameFault>,
+) -> Result<(String, usize), NoMemory> {
+    match read {
+        Ok((name, after)) => Ok((name.text()?, after)),
+        Err(fault) => {
+            let (word, place) = word_and_place(fault);
+            Ok((word.to_string(alloc)?, place))
+        }
+    }
+}
+
+#[test]
+fn names_are_read(rt: HostRuntime) -> Result<(), Fail> {
+    let alloc = rt.alloc();
+    'cases: for (shows, message, at, read, plain) in CASES {
+        let octets = spaced_octets(alloc, message)?;
+        let (text, place) = outcome(alloc, Name::read(alloc, octets.as_slice(), at))?;
+        assert_eq!(rt; (text.as_str(), place), read, "{shows}");
+        let (text, place) = outcome(alloc, Name::read_plain(alloc, octets.as_slice(), at))?;
+        assert_eq!(rt; (text.as_str(), place), plain, "plain: {shows}");
+    }
+    Ok(())
+}
