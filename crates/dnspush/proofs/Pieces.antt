@@ -1,6 +1,7 @@
 -- What was read and written piece by piece.
-use Rattle.std.proofs.Common.{◌≡◌, refl, [], ℕ, ◌+◌, ◌-◌, ◌≤◌, Option, Some, None, IfSome, List, ◌++◌, length, take, drop, sym, ◌∙◌, ap, append_assoc}
+use Rattle.std.proofs.Common.{◌≡◌, refl, [], ℕ, ◌+◌, ◌-◌, ◌≤◌, Option, Some, None, IfSome, List, ◌++◌, length, take, drop, sym, ◌∙◌, ap, arith, append_assoc}
 use Rattle.std.specs.Io.KnownBytes.{append_known, prepend_known, IsAtEnd}
+use Rattle.dnspush.specs.Given.{LostAtMost}
 use Rattle.std.proofs.Math.ListN.{drop_of_length-le}
 use Rattle.std.proofs.Math.Seq.{take-add, drop-append_seam}
 use Rattle.std.proofs.lemmas.List.{append-nil, take_all, take_at, take_rest}
@@ -57,6 +58,15 @@ rest_most (Some x) None octets most read is = cc read
 rest_most (Some x) (Some y) octets most read is =
     let whole : x ≡ octets ++ y = cc read in
     ap Some (sym (ap (λ n. drop n x) (sym is) ∙ ap (drop (length octets)) whole ∙ drop-append_seam octets y))
+
+-- no more than these are gone
+pub lost_most : (a b : Option (List ℕ)) (octets : List ℕ) (most : ℕ) → a ≡ prepend_known octets b → length octets ≤ most → LostAtMost most a b
+lost_most None b octets most read le = tt
+lost_most (Some x) b octets most read le = (length octets, le, rest_most (Some x) b octets (length octets) read refl)
+
+pub lost_none : (a : Option (List ℕ)) (most : ℕ) → LostAtMost most a a
+lost_none None most = tt
+lost_none (Some x) most = (0, omega (arith), refl)
 
 -- a read that gave nothing
 pub read_nothing : (a b c : Option (List ℕ)) (octets buf : List ℕ) (n : ℕ) → a ≡ prepend_known octets b → b ≡ prepend_known (take n buf) c → n ≡ 0 → a ≡ prepend_known octets c

@@ -1,5 +1,7 @@
-ghost use Rattle.std.specs.Prelude.{◌≡◌, ◌≢◌, ◌⊎◌, ℕ, List, IsNone};
+ghost use Rattle.std.specs.Prelude.{◌≡◌, ◌≢◌, ◌+◌, ◌⊎◌, ℕ, List, IsNone};
 ghost use Rattle.push_base.specs.Causes.{Rose};
+ghost use Rattle.replay.specs.Scripts.{max_script};
+ghost use Rattle.dnspush.specs.Given.{LostAtMost};
 ghost use Rattle.dnspush.specs.Outside.{Adds, MayHaveGiven};
 ghost use Rattle.dnspush.specs.Reply.{Answers, IsFrontOf, Took};
 ghost use Rattle.dnspush.specs.Reading.{HasRead, UsesWhole};
@@ -53,6 +55,7 @@ pub fn run<O: Outside>(
 
     // A script is read to its end, or to the octet with which it is too long.
     ensures rest { LeavesRest (request_in words.now) result (O.In.left input.old) (O.In.left input.new) (O.used outside.old) (O.used outside.new) }
+    ensures most { LostAtMost (max_script + 1) (O.In.left input.old) (O.In.left input.new) }
 
     // What is handed to the outside, and that the input isn't read unasked.
     ensures opened { OpensPath (request_in words.now) (O.opened outside.old) (O.opened outside.new) result }

@@ -1,6 +1,6 @@
 ghost use Rattle.std.specs.Prelude.{◌≡◌, ◌+◌, ◌≤◌, length, Some, OnOk, IfOk, IsErrOf, IfSome};
 ghost use Rattle.push_base.specs.Causes.{Rose};
-ghost use Rattle.dnspush.specs.Given.{Gave};
+ghost use Rattle.dnspush.specs.Given.{Gave, LostAtMost};
 ghost use Rattle.replay.specs.Scripts.{max_script};
 ghost use Rattle.dnspush.specs.Script.{front_read, left_behind};
 ghost use Rattle.dnspush.specs.declared.read.ReadError.TheVariants.{Failed as ReadFailed, NoMemory as OutOfMemory};
@@ -43,6 +43,7 @@ pub fn read_script<S: Source>(alloc: Global, source: &mut S) -> Result<Vec<u8>, 
     ensures bound { IfOk result (λ script. length script.items ≤ max_script + 1) }
     ensures failed { IsErrOf result ReadError.Failed → Rose (S.faults source.old) (S.faults source.new) }
     ensures later { S.faults source.old ≤ S.faults source.new }
+    ensures most { LostAtMost (max_script + 1) (S.left source.old) (S.left source.new) }
     ensures gave { Gave (S.left source.old) (S.left source.new) (S.given source.old) (S.given source.new) }
 {
     let mut script = Vec::new(alloc);

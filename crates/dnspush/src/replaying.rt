@@ -1,6 +1,7 @@
-ghost use Rattle.std.specs.Prelude.{◌≡◌, ◌≢◌, ◌≤◌, IfSome};
+ghost use Rattle.std.specs.Prelude.{◌≡◌, ◌≢◌, ◌+◌, ◌≤◌, IfSome};
+ghost use Rattle.replay.specs.Scripts.{max_script};
 ghost use Rattle.push_base.specs.Causes.{Rose};
-ghost use Rattle.dnspush.specs.Given.{Gave};
+ghost use Rattle.dnspush.specs.Given.{Gave, LostAtMost};
 ghost use Rattle.dnspush.specs.Reply.{Answers, Took};
 ghost use Rattle.dnspush.specs.Reading.{HasRead, LeftBehind};
 ghost use Rattle.dnspush.specs.Script.{front_read, reply_to_script};
@@ -23,6 +24,7 @@ pub fn replay<S: Source, K: Sink>(alloc: Global, source: &mut S, sink: &mut K) -
         (Answers (Rose (S.faults source.old) (S.faults source.new)) (reply_to_script (front_read octets)) (code_of result))) }
     // Once it was read, only what is behind a script too long is left.
     ensures rest { HasRead (code_of result) → LeftBehind (S.left source.old) (S.left source.new) }
+    ensures most { LostAtMost (max_script + 1) (S.left source.old) (S.left source.new) }
 
     // Which faults had a cause.
     ensures read_fault { result ≡ Status.ReadFault → Rose (S.faults source.old) (S.faults source.new) }

@@ -10,12 +10,10 @@ ghost use Rattle.dnspush.specs.Script.{max_sends};
 ghost use Rattle.dnspush.specs.BuiltScript.{ReadsAs, known_of, peers_of, stands, and_zone, and_sends, has_peer, names_client};
 
 use crate::line::{Line, Sent, Zone, read_line};
+use crate::read::MOST_OCTETS;
 use crate::subscribe::is_one_subscribe;
 use push_base::NoMemory;
 use std::alloc::Global;
-
-/// The most octets that a script has.
-const MOST_OCTETS: usize = 16_777_216;
 
 /// The most octets that a zone's apex has.
 const LONGEST_APEX: usize = 200;

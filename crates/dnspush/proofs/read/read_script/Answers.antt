@@ -1,6 +1,7 @@
-use Rattle.std.proofs.Common.{◌≡◌, ◌++◌, Some, IfSome, sym, subst, take, drop, length, arith}
+use Rattle.std.proofs.Common.{◌≡◌, ◌≤◌, ◌++◌, Some, IfSome, sym, subst, ◌∙◌, ap, take, drop, length, length-append, length-take, arith}
+use Rattle.std.specs.Io.KnownBytes.{prepend_known}
 use Rattle.dnspush.specs.Script.{front_read, left_behind}
-use Rattle.dnspush.proofs.Pieces.{read_all, read_most, rest_all, rest_most, read_nothing, read_more, gave_more}
+use Rattle.dnspush.proofs.Pieces.{read_all, read_most, rest_all, rest_most, lost_most, read_nothing, read_more, gave_more}
 use Rattle.dnspush.proofs.read.read_script.Goals as goal
 use Rattle.dnspush.proofs.read.read_script.Goals.{else-loop-buf-test, then-loop-buf-test+in_ok-count+then-count-eq0}
 
@@ -36,3 +37,26 @@ returns-in_err-extend_from_slice-clause-gave g c =
       read_more _ _ _ c.loop-buf.script.items more c.loop-buf.invariant.read c.in_ok-count.ensures.left.0,
       gave_more _ _ _ c.loop-buf.script.items more c.loop-buf.invariant.gave c.in_ok-count.ensures.given,
     )
+
+pub returns-in_err-count-clause-most : goal.returns-in_err-count-clause-most
+returns-in_err-count-clause-most g c =
+    let octets = c.loop-buf.script.items in
+    lost_most _ _ octets 16777217 (c.loop-buf.invariant.read ∙ ap (prepend_known octets) (sym c.in_err-count.ensures.left)) c.loop-buf.invariant.bound
+
+pub returns-in_err-extend_from_slice-clause-most :
+    goal.returns-in_err-extend_from_slice-clause-most
+returns-in_err-extend_from_slice-clause-most g c =
+    let more = take c.in_ok-count.count c.read.new.buf in
+    let few : length (c.loop-buf.script.items ++ more) ≤ 16777217 = omega (
+      arith,
+      length-append c.loop-buf.script.items more,
+      c.in_ok-count.ensures.bound.0,
+      c.in_ok-count.ensures.bound.1,
+      c.read.auto.buf,
+      length-take c.min-most.result c.loop-buf.buf,
+      c.min-most.ensures,
+      c.len-in-loop-buf.ensures,
+      c.loop-buf.script.ok.0,
+      c.loop-buf.invariant.bound,
+    ) in
+    lost_most _ _ (c.loop-buf.script.items ++ more) 16777217 (read_more _ _ _ c.loop-buf.script.items more c.loop-buf.invariant.read c.in_ok-count.ensures.left.0) few
