@@ -65,7 +65,7 @@ part_found message place size n p stands e = by_tests (eqb n 0) (ltb n 64) (ltb 
     by_tests false false long cut true r s l c w e = absurd (no_part _ p e)
     by_tests false false long cut false r s l c w e = subst (PartAt message place size) (same_part part.Pointer p e) (n, stands, ltb_false _ _ w)
 
-here_found : (message : List ℕ) (place size : ℕ) (p : Part) → part_here message place size ≡ done p → PartAt message place size p
+pub here_found : (message : List ℕ) (place size : ℕ) (p : Part) → part_here message place size ≡ done p → PartAt message place size p
 here_found message place size p e = by_octet (slice_get message place) refl e
   where
     by_octet : (o : Option ℕ) → slice_get message place ≡ o → part_of message place size o ≡ done p → PartAt message place size p

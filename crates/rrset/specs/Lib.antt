@@ -7,3 +7,4 @@ pub mod Records
 pub mod RecordSet
 pub mod Rcodes
 pub mod Spelling
+pub mod Tables

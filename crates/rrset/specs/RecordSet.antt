@@ -5,7 +5,8 @@
 --     at_name, size_at      the records of a name, and their size
 --     matching      the part that a question asks for
 --     changes      what is shown otherwise in one set than in another
-use Rattle.std.specs.Prelude.{ℕ, Bool, not, ◌&&◌, List, [], map, Option, fold, filter, sum_by, ◌==◌}
+--     with_changes      a set with such changes made to it
+use Rattle.std.specs.Prelude.{ℕ, Bool, not, ◌&&◌, List, [], map, Option, Some, None, fold, filter, sum_by, ◌==◌}
 use Rattle.std.specs.Option.{option_eq}
 use Rattle.std.specs.Cmp.Lexicographic.{pointwise}
 use Rattle.std.specs.List.{list_all}
@@ -87,3 +88,11 @@ shown_the_same a b = option_eq same_shown a b
 abbrev pub changes : RecordSet → RecordSet → List Changed
 changes old new = map (λ e. record { key = e.0; before = shown_at e.0 old; after = shown_at e.0 new })
     (only (λ key. not (shown_the_same (shown_at key old) (shown_at key new))) (union old new))
+
+-- a set with one key shown as it is after a change
+abbrev pub with_changed : RecordSet → Changed → RecordSet
+with_changed set c = elim c.after [ None ↦ without (same_key c.key) set | Some shown ↦ put c.key shown set ]
+
+-- a set with changes made to it, one after the other
+abbrev pub with_changes : List Changed → RecordSet → RecordSet
+with_changes cs set = fold with_changed set cs

@@ -1,13 +1,16 @@
 //! Resource records (RFC 1035, 3.2), their keys, questions and sets.
 #![tactic(auto)]
 
+mod comparing;
 pub mod kinds;
 mod lists;
 mod lowering;
 mod matching;
+mod order;
 mod reading;
 pub mod record;
 mod shape;
+mod table;
 #[cfg(test)]
 mod tests;
 
@@ -18,12 +21,14 @@ ghost use Rattle.rrset.specs.Rdata.{shape_fits, lowered_rdata, rdata_at};
 ghost use Rattle.rrset.specs.Records.{key_of, shown_of, rr_size, matches, same_key};
 ghost use Rattle.rrset.specs.RecordSet.{RecordSet, put, shown_at, at_name, size_at, matching, set_of, changes};
 
-pub use matching::{matches, rr_size};
+pub use comparing::{changes, put_all, same_key, same_keys, same_rows};
+pub use matching::{matches, rr_size, same_question};
 pub use reading::{RdataFault, read_rdata};
 pub use record::{
     Changed, HeardRr, HeardRrs, Hearing, Key, NoMemory, Question, Questions, Rr, Rrs, Shown,
 };
 pub use shape::shape_fits;
+pub use table::Table;
 
 pub fn worked_rows()
     ensures address { shape_fits 1 (hex (codes "c0000201")) ≡ true }
