@@ -1,0 +1,26 @@
+//! What a session asks: questions with their IDs (RFC 8765, 6.2 and 6.4).
+#![tactic(auto)]
+
+mod searching;
+mod subscriptions;
+#[cfg(test)]
+mod tests;
+
+ghost use Rattle.std.specs.Prelude.{◌≡◌, [], ◌∷◌, true, false, codes, None, Some};
+ghost use Rattle.push_base.specs.Limits.{max_questions};
+ghost use Rattle.dnsname.specs.Text.{name};
+ghost use Rattle.subscr.specs.Asked.{id_of, question_of, watches, without};
+
+pub use push_base::NoMemory;
+pub use subscriptions::{MAX_QUESTIONS, Subscriptions};
+
+/// Examples of what is asked.
+pub fn worked_rows()
+    ensures limit { MAX_QUESTIONS ≡ max_questions }
+    ensures letter_case { id_of (record { name = name (codes "A."); kind = 1; class = 1 }) ((7, record { name = name (codes "a."); kind = 1; class = 1 }) ∷ []) ≡ Some 7 }
+    ensures other_kind { id_of (record { name = name (codes "a."); kind = 28; class = 1 }) ((7, record { name = name (codes "a."); kind = 1; class = 1 }) ∷ []) ≡ None }
+    ensures gone { without 7 ((7, record { name = name (codes "a."); kind = 1; class = 1 }) ∷ []) ≡ [] }
+    ensures no_id { question_of 8 ((7, record { name = name (codes "a."); kind = 1; class = 1 }) ∷ []) ≡ None }
+    ensures watched { watches (name (codes "B.a.")) ((7, record { name = name (codes "a."); kind = 1; class = 1 }) ∷ (5, record { name = name (codes "b.A."); kind = 255; class = 1 }) ∷ []) ≡ true }
+    ensures unwatched { watches (name (codes "b.a.")) ((7, record { name = name (codes "a."); kind = 1; class = 1 }) ∷ []) ≡ false }
+{}
