@@ -1,5 +1,20 @@
-//! Zones and their updates (RFC 2136). The code is a stand-in: only the definitions count here.
+//! Zones and their updates (RFC 2136).
 #![tactic(auto)]
+
+mod agreeing;
+mod applying;
+mod changing;
+mod checking;
+mod kinds;
+mod plan;
+mod planning;
+mod prerequisites;
+mod prescan;
+mod records;
+mod refusing;
+mod serial;
+mod sets;
+mod zone;
 
 ghost use Rattle.std.specs.Prelude.{◌≡◌, [], ◌∷◌, ℕ, List, true, false, codes, map, Some, None, Ok, Err, option_map, option_and_then};
 ghost use Rattle.push_base.specs.Hexadecimal.{hex};
@@ -7,6 +22,9 @@ ghost use Rattle.dnsname.specs.Text.{name};
 ghost use Rattle.rrset.specs.RecordSet.{RecordSet};
 ghost use Rattle.zoneupdate.specs.Zones.{new_zone, serial_of_zone, serial_is_greater, is_zone};
 ghost use Rattle.zoneupdate.specs.Worked.{judged_rr, kinds_after, prerequisite_row, change_row, is_zone_after, added_twice};
+
+pub use plan::{Under, Verdict, ZoneFault, ZonePlan};
+pub use zone::Zone;
 
 pub fn worked_rows()
     ensures zone { is_zone (new_zone (name (codes "example.com.")) 1 true) ≡ true }

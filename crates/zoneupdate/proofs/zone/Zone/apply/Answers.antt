@@ -1,0 +1,20 @@
+use Rattle.std.proofs.Common.{ap}
+use Rattle.zoneupdate.specs.Zones.{ZoneState}
+use Rattle.zoneupdate.specs.Keeping.{ZoneKept}
+use Rattle.zoneupdate.proofs.Plans.{planned-lower, applied, applied-kept}
+use Rattle.zoneupdate.proofs.zone.Zone.apply.Goals as goal
+
+pub make_changes-requires-clause-lower : goal.make_changes-requires-clause-lower
+make_changes-requires-clause-lower c =
+    let inside : ZoneState = record { apex = c.self.inside.apex; writable = c.self.inside.writable; rows = c.self.inside.rows.rows } in
+    planned-lower c.args.self.now.state inside c.args.plan c.plan.inside.changed.items (ap (λ (z : ZoneKept). z.state) c.self.view_is) c.plan.view_is c.self.invariant c.requires.planned
+
+pub invariant_of-self : goal.invariant_of-self
+invariant_of-self c =
+    let inside : ZoneState = record { apex = c.self.inside.apex; writable = c.self.inside.writable; rows = c.self.inside.rows.rows } in
+    applied-kept c.args.self.now.state inside c.args.plan c.plan.inside.changed.items c.make_changes.new.rows.rows (ap (λ (z : ZoneKept). z.state) c.self.view_is) c.plan.view_is c.self.invariant c.requires.planned c.make_changes.ensures
+
+pub returns : goal.returns
+returns c rows leads =
+    let inside : ZoneState = record { apex = c.self.inside.apex; writable = c.self.inside.writable; rows = c.self.inside.rows.rows } in
+    applied c.args.self.now.state inside c.args.plan c.plan.inside.changed.items c.make_changes.new.rows.rows rows (ap (λ (z : ZoneKept). z.state) c.self.view_is) c.plan.view_is c.self.invariant leads c.make_changes.ensures

@@ -1,0 +1,90 @@
+//! Whether the sets that prerequisites of class IN name are the zone's (RFC 2136, 3.2.3).
+
+ghost use Rattle.std.specs.Prelude.{◌≡◌, ◌∷◌, [], map, filter, IfOk, MatchOption};
+ghost use Rattle.std.specs.List.{list_all};
+ghost use Rattle.rrset.specs.RecordSet.{only, set_of, same_keys};
+ghost use Rattle.zoneupdate.specs.Zones.{set_at};
+ghost use Rattle.zoneupdate.specs.Checking.{is_in, is_of_kind, has_same_set};
+ghost use Rattle.zoneupdate.specs.Updates.{sets_agree, with_counted_ttl};
+
+use crate::changing::shown_of;
+use crate::kinds::CLASS_IN;
+use rrset::{Key, NoMemory, Rr, Rrs, Shown, Table, same_key};
+use std::alloc::Global;
+
+/// Whether a key has class IN and a kind.
+pub(crate) fn is_of_kind(kind: u16, key: &Key) -> bool
+    ensures { result ≡ is_of_kind kind key.now }
+{
+    (CLASS_IN == key.class) & (kind == key.kind)
+}
+
+/// The first record of class IN and a kind, and the records after it.
+fn next_of_kind(kind: u16, entries: &[(Key, Shown)]) -> Option<(&(Key, Shown), &[(Key, Shown)])>
+    ensures { MatchOption result (only (is_of_kind kind) entries.now ≡ []) (λ found. only (is_of_kind kind) entries.now ≡ found.0.now ∷ only (is_of_kind kind) found.1.now) }
+{
+    let mut rest = entries;
+    'entries: while let Some((entry, after)) = rest.split_first() {
+        if is_of_kind(kind, &entry.0) {
+            return Some((entry, after));
+        }
+        rest = after;
+    }
+    None
+}
+
+/// Whether the records of class IN and a kind have the same keys in two lists.
+fn have_same_kind(kind: u16, first: &[(Key, Shown)], second: &[(Key, Shown)]) -> bool
+    ensures { result ≡ same_keys (only (is_of_kind kind) first.now) (only (is_of_kind kind) second.now) }
+{
+    let mut others = second;
+    'entries: for (key, _) in first {
+        if is_of_kind(kind, key) {
+            match next_of_kind(kind, others) {
+                Some((other, rest)) if same_key(key, &other.0) => others = rest,
+                _ => return false,
+            }
+        }
+    }
+    next_of_kind(kind, others).is_none()
+}
+
+/// Whether the set of a record's owner and kind has the same keys in two tables.
+fn have_same_set(wanted: &Table, rows: &Table, rr: &Rr) -> bool
+    ensures { result ≡ same_keys (set_at rr.now.owner rr.now.kind wanted.now.rows) (set_at rr.now.owner rr.now.kind rows.now.rows) }
+{
+    have_same_kind(rr.kind, wanted.at(&rr.owner), rows.at(&rr.owner))
+}
+
+/// Whether each set of class IN that prerequisites name has the same keys in two tables.
+fn all_have_same_set(wanted: &Table, rows: &Table, prereqs: &Rrs) -> bool
+    ensures { result ≡ list_all (has_same_set wanted.now.rows rows.now.rows) prereqs.now }
+{
+    'prereqs: for rr in prereqs.as_slice() {
+        if rr.class == CLASS_IN && !have_same_set(wanted, rows, rr) {
+            return false;
+        }
+    }
+    true
+}
+
+/// The records that prerequisites of class IN ask for.
+fn wanted(alloc: Global, prereqs: &Rrs) -> Result<Table, NoMemory>
+    ensures { IfOk result (λ table. table.rows ≡ set_of (filter is_in (map with_counted_ttl prereqs.now))) }
+{
+    let mut table = Table::new(alloc);
+    'prereqs: for rr in prereqs.as_slice() {
+        if rr.class == CLASS_IN {
+            table.put(rr.key()?, shown_of(rr)?)?;
+        }
+    }
+    Ok(table)
+}
+
+/// Whether each set that prerequisites of class IN name is the zone's.
+pub(crate) fn sets_agree(alloc: Global, prereqs: &Rrs, rows: &Table) -> Result<bool, NoMemory>
+    ensures { IfOk result (λ agree. agree ≡ sets_agree (map with_counted_ttl prereqs.now) rows.now.rows) }
+{
+    let wanted = wanted(alloc, prereqs)?;
+    Ok(all_have_same_set(&wanted, rows, prereqs))
+}

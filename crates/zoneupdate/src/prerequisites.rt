@@ -1,0 +1,84 @@
+//! The prerequisites of an update (RFC 2136, 3.2).
+
+ghost use Rattle.std.specs.Prelude.{◌≡◌, List, Bool, not, map};
+ghost use Rattle.std.specs.List.{list_any};
+ghost use Rattle.push_base.specs.Cases.{first_refused, is_empty};
+ghost use Rattle.dnsname.specs.Names.{Labels};
+ghost use Rattle.rrset.specs.RecordSet.{at_name};
+ghost use Rattle.zoneupdate.specs.Zones.{set_at};
+ghost use Rattle.zoneupdate.specs.Checking.{is_of_kind};
+ghost use Rattle.zoneupdate.specs.Updates.{prerequisite_refusal, with_counted_ttl};
+ghost use Rattle.zoneupdate.specs.Keeping.{IsUnder};
+
+use crate::agreeing::is_of_kind;
+use crate::changing::counted_ttl;
+use crate::kinds::{ANY, CLASS_IN, CLASS_NONE};
+use crate::plan::Under;
+use crate::refusing::{
+    FORMERR, NOTZONE, NXDOMAIN, NXRRSET, YXDOMAIN, YXRRSET, first_refusal, is_empty, is_inside,
+};
+use dnsname::Name;
+use rrset::{Key, Rr, Rrs, Shown, Table};
+
+/// Whether some of the records of a name have a kind.
+fn has_kind(named: &[(Key, Shown)], kind: u16) -> bool
+    ensures { result ≡ list_any (λ e. is_of_kind kind e.0) named.now }
+{
+    named.iter().any(|(key, _)| is_of_kind(kind, key))
+}
+
+/// Whether the zone has records of a name and kind.
+fn has_set(rows: &Table, owner: &Name, kind: u16) -> bool
+    ensures { result ≡ not (is_empty (set_at owner.now kind rows.now.rows)) }
+{
+    has_kind(rows.at(owner), kind)
+}
+
+/// Whether a table has records of a name.
+pub(crate) fn has_name(rows: &Table, owner: &Name) -> bool
+    ensures { result ≡ not (is_empty (at_name owner.now rows.now.rows)) }
+{
+    !rows.at(owner).is_empty()
+}
+
+/// The RCODE that a prerequisite is refused with.
+fn refusal(rows: &Table, apex: &Name, under: &Under, rr: &Rr) -> Option<u8>
+    ensures { (homes : List Labels) (writable : Bool) → IsUnder homes apex.now under.now → result ≡ prerequisite_refusal homes (record { apex = apex.now; writable = writable; rows = rows.now.rows }) (with_counted_ttl rr.now) }
+{
+    let inside = is_inside(apex, under, &rr.owner);
+    let has_data = !is_empty(rr.rdata.as_slice());
+    let named = has_name(rows, &rr.owner);
+    let set = has_set(rows, &rr.owner, rr.kind);
+    let is_in = rr.class == CLASS_IN;
+    let is_any = rr.class == ANY;
+    let is_none = rr.class == CLASS_NONE;
+    let all_kinds = rr.kind == ANY;
+    first_refusal(&[
+        (counted_ttl(rr.ttl) != 0, FORMERR),
+        (!inside, NOTZONE),
+        ((is_any | is_none) & has_data, FORMERR),
+        (is_any & all_kinds & !named, NXDOMAIN),
+        (is_any & !all_kinds & !set, NXRRSET),
+        (is_none & all_kinds & named, YXDOMAIN),
+        (is_none & !all_kinds & set, YXRRSET),
+        (!(is_in | is_any | is_none), FORMERR),
+    ])
+}
+
+/// The RCODE of the first prerequisite that doesn't hold, where those of class IN are not compared with the zone's
+/// sets (RFC 2136, 3.2.1, 3.2.2 and 3.2.4).
+pub(crate) fn prerequisites_refusal(
+    rows: &Table,
+    apex: &Name,
+    under: &Under,
+    prereqs: &Rrs,
+) -> Option<u8>
+    ensures { (homes : List Labels) (writable : Bool) → IsUnder homes apex.now under.now → result ≡ first_refused (prerequisite_refusal homes (record { apex = apex.now; writable = writable; rows = rows.now.rows })) (map with_counted_ttl prereqs.now) }
+{
+    'prereqs: for rr in prereqs.as_slice() {
+        if let Some(code) = refusal(rows, apex, under, rr) {
+            return Some(code);
+        }
+    }
+    None
+}

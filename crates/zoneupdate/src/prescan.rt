@@ -1,0 +1,62 @@
+//! Which changes may be made (RFC 2136, 3.4.1).
+
+ghost use Rattle.std.specs.Prelude.{◌≡◌, List, Bool, map};
+ghost use Rattle.push_base.specs.Cases.{first_refused};
+ghost use Rattle.dnsname.specs.Names.{Labels};
+ghost use Rattle.rrset.specs.Kinds.{is_meta};
+ghost use Rattle.rrset.specs.RecordSet.{RecordSet};
+ghost use Rattle.zoneupdate.specs.Updates.{change_refusal, with_counted_ttl};
+ghost use Rattle.zoneupdate.specs.Keeping.{IsUnder};
+
+use crate::changing::counted_ttl;
+use crate::kinds::{ANY, CLASS_IN, CLASS_NONE};
+use crate::plan::Under;
+use crate::refusing::{FORMERR, NOTZONE, first_refusal, is_empty, is_inside};
+use dnsname::Name;
+use rrset::{Rr, Rrs};
+
+/// The kind of no record, but of what a message says of its sender (RFC 6891).
+const OPT: u16 = 41;
+
+/// The first of the kinds that stand for questions alone (RFC 6895, 3.1).
+const FIRST_META: u16 = 249;
+
+/// Whether no zone holds records of a kind.
+fn is_meta(kind: u16) -> bool
+    ensures { result ≡ is_meta kind }
+{
+    (kind == 0) | (kind == OPT) | ((FIRST_META <= kind) & (kind <= ANY))
+}
+
+/// The RCODE that a change is refused with.
+fn refusal(apex: &Name, under: &Under, rr: &Rr) -> Option<u8>
+    ensures { (homes : List Labels) (writable : Bool) (rows : RecordSet) → IsUnder homes apex.now under.now → result ≡ change_refusal homes (record { apex = apex.now; writable = writable; rows = rows }) (with_counted_ttl rr.now) }
+{
+    let inside = is_inside(apex, under, &rr.owner);
+    let has_ttl = counted_ttl(rr.ttl) != 0;
+    let has_data = !is_empty(rr.rdata.as_slice());
+    let meta = is_meta(rr.kind);
+    let is_in = rr.class == CLASS_IN;
+    let is_any = rr.class == ANY;
+    let is_none = rr.class == CLASS_NONE;
+    let all_kinds = rr.kind == ANY;
+    first_refusal(&[
+        (!inside, NOTZONE),
+        (is_in & meta, FORMERR),
+        (is_any & (has_ttl | has_data | (meta & !all_kinds)), FORMERR),
+        (is_none & (has_ttl | meta), FORMERR),
+        (!(is_in | is_any | is_none), FORMERR),
+    ])
+}
+
+/// The RCODE of the first change that may not be made.
+pub(crate) fn changes_refusal(apex: &Name, under: &Under, changes: &Rrs) -> Option<u8>
+    ensures { (homes : List Labels) (writable : Bool) (rows : RecordSet) → IsUnder homes apex.now under.now → result ≡ first_refused (change_refusal homes (record { apex = apex.now; writable = writable; rows = rows })) (map with_counted_ttl changes.now) }
+{
+    'changes: for rr in changes.as_slice() {
+        if let Some(code) = refusal(apex, under, rr) {
+            return Some(code);
+        }
+    }
+    None
+}

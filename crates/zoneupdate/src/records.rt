@@ -1,0 +1,107 @@
+//! The records that a zone begins with.
+
+ghost use Rattle.std.specs.Prelude.{◌≡◌, ◌<◌, ◌≤◌, ◌+◌, ◌++◌, [], ◌∷◌, length, IfOk, OnOk};
+ghost use Rattle.std.specs.Int.{w32, to_be_bytes};
+ghost use Rattle.dnsname.specs.Names.{octets};
+ghost use Rattle.rrset.specs.RecordSet.{put_rr, set_of};
+ghost use Rattle.zoneupdate.specs.Zones.{first_ns, first_soa};
+
+use crate::kinds::{CLASS_IN, NS, SOA};
+use dnsname::Name;
+use dnsname::name::Octets;
+use rrset::{NoMemory, Rr, Shown, Table};
+use std::alloc::Global;
+
+const TTL: u32 = 3600;
+
+const REFRESH: u32 = 3600;
+
+const RETRY: u32 = 600;
+
+const EXPIRE: u32 = 86_400;
+
+const MINIMUM: u32 = 60;
+
+/// The octets of the name of one label under another name.
+fn octets_under(alloc: Global, label: &[u8], name: &Name) -> Result<Vec<u8>, NoMemory>
+    requires { length label.now < 64 }
+    ensures name { IfOk result (λ octets'. octets'.items ≡ octets (label.now ∷ name.now)) }
+    ensures size { IfOk result (λ octets'. length octets'.items ≤ length label.now + 256) }
+{
+    let mut octets = Vec::new(alloc);
+    octets.push(label.len() as u8)?;
+    octets.extend_from_slice(label)?;
+    octets.extend_from_slice(name.octets())?;
+    Ok(octets)
+}
+
+/// The NS, which names `ns.` before the apex (RFC 1035, 3.3.11).
+pub(crate) fn first_ns(alloc: Global, apex: &Name) -> Result<Rr, NoMemory>
+    ensures record { IfOk result (λ rr. rr ≡ first_ns apex.now) }
+    ensures size { IfOk result (λ rr. length rr.rdata ≤ 258) }
+{
+    let rdata = octets_under(alloc, b"ns", apex)?;
+    Ok(Rr {
+        owner: apex.copy()?,
+        class: CLASS_IN,
+        kind: NS,
+        ttl: TTL,
+        rdata: Octets::from_vec(rdata),
+    })
+}
+
+/// The SOA, with its serial and this project's own times (RFC 1035, 3.3.13).
+pub(crate) fn first_soa(alloc: Global, apex: &Name, serial: u32) -> Result<Rr, NoMemory>
+    ensures record { IfOk result (λ rr. rr ≡ first_soa apex.now serial) }
+    ensures size { IfOk result (λ rr. length rr.rdata ≤ 544) }
+{
+    let mut rdata = octets_under(alloc, b"ns", apex)?;
+    let rname = octets_under(alloc, b"hostmaster", apex)?;
+    rdata.extend_from_slice(&rname)?;
+    rdata.extend_from_slice(&soa_numbers(alloc, serial)?)?;
+    Ok(Rr {
+        owner: apex.copy()?,
+        class: CLASS_IN,
+        kind: SOA,
+        ttl: TTL,
+        rdata: Octets::from_vec(rdata),
+    })
+}
+
+/// The serial and the four times of the SOA, each in four octets.
+fn soa_numbers(alloc: Global, serial: u32) -> Result<Vec<u8>, NoMemory>
+    ensures { IfOk result (λ octets. octets.items ≡ to_be_bytes w32 serial ++ to_be_bytes w32 3600 ++ to_be_bytes w32 600 ++ to_be_bytes w32 86400 ++ to_be_bytes w32 60) }
+{
+    let mut octets = Vec::new(alloc);
+    octets.extend_from_slice(&serial.to_be_bytes())?;
+    octets.extend_from_slice(&REFRESH.to_be_bytes())?;
+    octets.extend_from_slice(&RETRY.to_be_bytes())?;
+    octets.extend_from_slice(&EXPIRE.to_be_bytes())?;
+    octets.extend_from_slice(&MINIMUM.to_be_bytes())?;
+    Ok(octets)
+}
+
+/// Puts a record into a table.
+pub(crate) fn put_record(table: &mut Table, rr: Rr) -> Result<(), NoMemory>
+    ensures { OnOk result (table.new.rows ≡ put_rr table.old.rows rr) }
+{
+    let key = rr.key()?;
+    let Rr {
+        owner,
+        ttl,
+        rdata,
+        ..
+    } = rr;
+    table.put(key, Shown { owner, ttl, rdata })?;
+    Ok(())
+}
+
+/// The records that a zone begins with.
+pub(crate) fn first_records(alloc: Global, apex: &Name, serial: u32) -> Result<Table, NoMemory>
+    ensures { IfOk result (λ table. table.rows ≡ set_of (first_soa apex.now serial ∷ first_ns apex.now ∷ [])) }
+{
+    let mut table = Table::new(alloc);
+    put_record(&mut table, first_soa(alloc, apex, serial)?)?;
+    put_record(&mut table, first_ns(alloc, apex)?)?;
+    Ok(table)
+}

@@ -1,0 +1,85 @@
+//! The records of one owner and kind, among the records of a name.
+
+ghost use Rattle.std.specs.Prelude.{◌≡◌, ◌==◌, not, Some, None, MatchOption, IfOk, length};
+ghost use Rattle.std.specs.List.{list_any};
+ghost use Rattle.rrset.specs.RecordSet.{only, without, is_of_rrset};
+ghost use Rattle.zoneupdate.specs.Zones.{first_shown};
+
+use crate::kinds::CLASS_IN;
+use dnsname::Name;
+use rrset::{Key, NoMemory, Shown, Table};
+use std::alloc::Global;
+
+/// Whether a key is of an owner and a kind.
+pub(crate) fn is_of_rrset(owner: &Name, kind: u16, key: &Key) -> bool
+    ensures { result ≡ is_of_rrset owner.now 1 kind key.now }
+{
+    owner.same(&key.owner) && key.class == CLASS_IN && kind == key.kind
+}
+
+/// Takes out the records of an owner and a kind.
+pub(crate) fn take_set(work: &mut Table, owner: &Name, kind: u16)
+    ensures { work.new.rows ≡ without (is_of_rrset owner.now 1 kind) work.old.rows }
+{
+    work.retain(|key| !is_of_rrset(owner, kind, key));
+}
+
+/// Whether some record is of another kind.
+pub(crate) fn any_other_kind(entries: &[(Key, Shown)], kind: u16) -> bool
+    ensures { result ≡ list_any (λ e. not (e.0.kind == kind)) entries.now }
+{
+    entries.iter().any(|entry| entry.0.kind != kind)
+}
+
+/// Whether some record is of an owner and a kind.
+pub(crate) fn any_of_rrset(entries: &[(Key, Shown)], owner: &Name, kind: u16) -> bool
+    ensures { result ≡ list_any (λ e. is_of_rrset owner.now 1 kind e.0) entries.now }
+{
+    entries
+        .iter()
+        .any(|entry| is_of_rrset(owner, kind, &entry.0))
+}
+
+/// The first record of an owner and a kind.
+pub(crate) fn first_of_rrset<'a>(
+    entries: &'a [(Key, Shown)],
+    owner: &Name,
+    kind: u16,
+) -> Option<&'a Shown>
+    ensures { MatchOption result (first_shown (only (is_of_rrset owner.now 1 kind) entries.now) ≡ None) (λ shown. first_shown (only (is_of_rrset owner.now 1 kind) entries.now) ≡ Some shown.now) }
+{
+    'entries: for entry in entries {
+        if is_of_rrset(owner, kind, &entry.0) {
+            return Some(&entry.1);
+        }
+    }
+    None
+}
+
+/// How many records an owner and kind have.
+pub(crate) fn count_of_rrset(entries: &[(Key, Shown)], owner: &Name, kind: u16) -> usize
+    ensures { result ≡ length (only (is_of_rrset owner.now 1 kind) entries.now) }
+{
+    entries
+        .iter()
+        .filter(|entry| is_of_rrset(owner, kind, &entry.0))
+        .count()
+}
+
+/// The records of an owner and kind.
+pub(crate) fn copied_rrset(
+    alloc: Global,
+    entries: &[(Key, Shown)],
+    owner: &Name,
+    kind: u16,
+) -> Result<Vec<(Key, Shown)>, NoMemory>
+    ensures { IfOk result (λ set. set.items ≡ only (is_of_rrset owner.now 1 kind) entries.now) }
+{
+    let mut set = Vec::new(alloc);
+    'entries: for entry in entries {
+        if is_of_rrset(owner, kind, &entry.0) {
+            set.push((entry.0.copy()?, entry.1.copy()?))?;
+        }
+    }
+    Ok(set)
+}

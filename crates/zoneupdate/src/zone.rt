@@ -1,0 +1,130 @@
+//! Zones (RFC 1034, 4.2), and their updates (RFC 2136).
+
+ghost use Rattle.std.specs.Prelude.{◌≡◌, ◌≤◌, ◌<◌, List, Some, Ok, length, IfOk, OnOk, IsErrOf};
+ghost use Rattle.push_base.specs.Limits.{max_home_octets};
+ghost use Rattle.dnsname.specs.Names.{Labels, octets};
+ghost use Rattle.rrset.specs.RecordSet.{RecordSet};
+ghost use Rattle.zoneupdate.specs.Zones.{new_zone, serial_of_zone};
+ghost use Rattle.zoneupdate.specs.Updates.{judged};
+ghost use Rattle.zoneupdate.specs.Keeping.{IsKept, IsUnder, Judges, HasRoom, Leads, IsPlanOf};
+
+use crate::applying::make_changes;
+use crate::checking::{planned, refused_first};
+use crate::plan::{Under, Verdict, ZoneFault, ZonePlan};
+use crate::records::first_records;
+use crate::refusing::REFUSED;
+use crate::serial::serial_at;
+use dnsname::Name;
+use dnswire::Update;
+use rrset::{NoMemory, Table};
+use std::alloc::Global;
+use std::marker::Model;
+
+/// The most octets of a zone's name.
+const MOST_HOME_OCTETS: usize = 200;
+
+/// A zone: its apex, whether it takes updates, and its records.
+#[derive(Debug, Drop)]
+pub struct Zone {
+    apex: Name,
+    writable: bool,
+    rows: Table,
+}
+
+impl Model for Zone {
+    ghost use Rattle.zoneupdate.specs.Keeping.{ZoneKept, IsKept};
+
+    ghost Value = { ZoneKept };
+
+    ghost view = { λ z. record { state = record { apex = z.apex; writable = z.writable; rows = z.rows.rows }; spare = z.rows.spare } };
+
+    ghost invariant = { λ z. IsKept (record { apex = z.apex; writable = z.writable; rows = z.rows.rows }) };
+}
+
+impl Zone {
+    /// A zone with its SOA and NS. Its name has at most 200 octets.
+    pub fn new(alloc: Global, apex: Name, serial: u32, writable: bool) -> Result<Zone, ZoneFault>
+        ensures made { IfOk result (λ zone. zone.state ≡ new_zone apex serial writable) }
+        ensures short { OnOk result (length (octets apex) ≤ max_home_octets) }
+        ensures long { IsErrOf result ZoneFault.TooLong → max_home_octets < length (octets apex) }
+    {
+        if apex.octets().len() > MOST_HOME_OCTETS {
+            return Err(ZoneFault::TooLong);
+        }
+        let rows = first_records(alloc, &apex, serial)?;
+        Ok(Zone {
+            apex,
+            writable,
+            rows,
+        })
+    }
+
+    /// What an update gets that names this zone: prerequisites, permission, prescan and limits, in this order, answer
+    /// by the first that fails (RFC 2136, 3.2 to 3.4). The records stay, and room is made for the plan.
+    pub fn check(
+        &mut self,
+        alloc: Global,
+        update: &Update,
+        under: &Under,
+    ) -> Result<Verdict, NoMemory>
+        ensures verdict { IfOk result (λ verdict. (homes : List Labels) → IsUnder homes self.old.state.apex under.now → Judges self.old.state verdict (judged homes self.old.state update.now)) }
+        ensures state { self.new.state ≡ self.old.state }
+        ensures room { IfOk result (λ verdict. HasRoom self.new.spare verdict) }
+    {
+        let (rows, apex) = (&self.rows, &self.apex);
+        if let Some(code) = refused_first(alloc, rows, apex, self.writable, update, under)? {
+            return Ok(Verdict::Refuse(code));
+        }
+        let Some(plan) = planned(alloc, rows, apex, &update.changes)? else {
+            return Ok(Verdict::Refuse(REFUSED));
+        };
+        self.rows.reserve(plan.changed.len())?;
+        Ok(Verdict::Accept(plan))
+    }
+
+    /// Makes the changes of a plan, which `check` made of these records. It takes no memory.
+    pub fn apply(&mut self, plan: ZonePlan)
+        requires planned { IsPlanOf self.old.state plan }
+        requires room { length plan ≤ self.old.spare }
+        ensures { (rows : RecordSet) → Leads self.old.state plan rows → self.new.state ≡ record self.old.state { rows = rows } }
+    {
+        let ZonePlan { changed } = plan;
+        make_changes(&mut self.rows, changed);
+    }
+
+    /// The zone's records.
+    pub fn rows(&self) -> &Table
+        ensures rows { result.now.rows ≡ self.now.state.rows }
+        ensures kept { IsKept self.now.state }
+    {
+        &self.rows
+    }
+
+    /// The serial of its SOA (RFC 1035, 3.3.13).
+    pub fn serial(&self) -> u32
+        ensures { serial_of_zone self.now.state ≡ Some result }
+    {
+        match serial_at(&self.rows, &self.apex) {
+            Some(serial) => serial,
+            None => unreachable!(),
+        }
+    }
+
+    /// Its name.
+    pub fn apex(&self) -> &Name
+        ensures { result.now ≡ self.now.state.apex }
+    {
+        &self.apex
+    }
+
+    /// The same zone.
+    pub fn copy(&self) -> Result<Zone, NoMemory>
+        ensures { IfOk result (λ zone. zone.state ≡ self.now.state) }
+    {
+        Ok(Zone {
+            apex: self.apex.copy()?,
+            writable: self.writable,
+            rows: self.rows.copy()?,
+        })
+    }
+}
