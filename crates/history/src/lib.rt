@@ -1,7 +1,15 @@
-//! Homes, the journal and the states that it tells. The code is a stand-in: only the definitions count here.
+//! Homes, the journal and the states that it tells.
 #![tactic(auto)]
 
 pub mod entry;
+mod homes;
+mod plan;
+mod planning;
+mod points;
+mod replaying;
+#[cfg(test)]
+mod tests;
+mod updating;
 
 ghost use Rattle.std.specs.Prelude.{◌≡◌, [], ◌∷◌, true, false, codes, Some, None, Err, option_map};
 ghost use Rattle.std.specs.Result.{result_ok};
@@ -12,6 +20,9 @@ ghost use Rattle.history.specs.States.{verdict, accepts, reconfirm_key};
 ghost use Rattle.history.specs.Worked.{start, heard_host, added_address, sizes_after};
 
 use crate::entry::HomeFault;
+pub use homes::Homes;
+pub use plan::{ChangedKeys, PastFault, Planned};
+pub use points::Points;
 
 pub fn worked_rows()
     ensures nested_zone { fault_of_last ((name (codes "com."), false) ∷ (name (codes "example.com."), false) ∷ []) ≡ None }

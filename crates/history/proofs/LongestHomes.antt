@@ -1,0 +1,139 @@
+-- The longest home of a name, as it is found by going through the homes.
+--     LongestSoFar homes name best most      the longest of the homes that the name ends in, and how many octets it has
+use Rattle.std.proofs.Common.{◌≡◌, ℕ, zero, suc, ◌+◌, ◌<◌, ◌≤◌, Bool, true, false, cond, ltb, List, [], ◌∷◌, ◌++◌, length, filter, Option, Some, None, refl, sym, ap, subst, ◌∙◌, arith, ltb-true, ltb-false}
+use Rattle.std.specs.Prelude.{slice_get}
+use Rattle.history.specs.Standing.{IsHomeAt}
+use Rattle.std.proofs.lemmas.List.{length-append}
+use Rattle.std.proofs.lemmas.List.Elements.{filter-append}
+use Rattle.dnsname.specs.Names.{Labels, labels_octets, octets, ends_in, longest}
+use Rattle.dnsname.proofs.Decisions.{ends_in-Decides}
+use Rattle.dnsname.proofs.Endings.{octets-append, length-same}
+use Rattle.zoneupdate.proofs.Suffixes.{ends_in-longer, same_length}
+use Rattle.zoneupdate.proofs.Homes.{OfSome, longest-all, longer_of, longest-cons}
+use Rattle.zoneupdate.proofs.SomeAndAll.{all_itself}
+
+-- ---- the longest of one name more
+
+abbrev pub longer : Option Labels → Labels → Labels
+longer None x = x
+longer (Some y) x = cond (ltb (length y) (length x)) x y
+
+pub longest-last : (xs : List Labels) (x : Labels) → longest (xs ++ x ∷ []) ≡ Some (longer (longest xs) x)
+longest-last [] x = refl
+longest-last (a ∷ xs) x =
+    longest-cons a (xs ++ x ∷ []) ∙ ap (λ o. Some (longer_of a o)) (longest-last xs x)
+    ∙ ap Some (by (longest xs))
+    ∙ ap (λ o. Some (longer o x)) (sym (longest-cons a xs))
+  where
+    three : (y : Labels) (b c d : Bool) → ltb (length y) (length x) ≡ b → ltb (length a) (length x) ≡ c → ltb (length a) (length y) ≡ d
+        → cond (ltb (length a) (length (cond b x y))) (cond b x y) a ≡ cond (ltb (length (cond d y a)) (length x)) x (cond d y a)
+    three y true true true e f g = ap (λ t. cond t x a) f ∙ sym (ap (λ t. cond t x y) e)
+    three y true true false e f g = ap (λ t. cond t x a) f ∙ sym (ap (λ t. cond t x a) f)
+    three y true false true e f g = let p = ltb-true (length y) (length x) e in let q = ltb-false (length a) (length x) f in let r = ltb-true (length a) (length y) g in absurd (omega arith)
+    three y true false false e f g = ap (λ t. cond t x a) f ∙ sym (ap (λ t. cond t x a) f)
+    three y false true true e f g = ap (λ t. cond t y a) g ∙ sym (ap (λ t. cond t x y) e)
+    three y false true false e f g = let p = ltb-false (length y) (length x) e in let q = ltb-true (length a) (length x) f in let r = ltb-false (length a) (length y) g in absurd (omega arith)
+    three y false false true e f g = ap (λ t. cond t y a) g ∙ sym (ap (λ t. cond t x y) e)
+    three y false false false e f g = ap (λ t. cond t y a) g ∙ sym (ap (λ t. cond t x a) f)
+
+    by : (o : Option Labels) → longer_of a (Some (longer o x)) ≡ longer (Some (longer_of a o)) x
+    by None = refl
+    by (Some y) = three y (ltb (length y) (length x)) (ltb (length a) (length x)) (ltb (length a) (length y)) refl refl refl
+
+-- ---- more labels are more octets
+
+some_octets : (front : Labels) → 0 < length front → 0 < length (labels_octets front)
+some_octets [] h = absurd (omega arith)
+some_octets (l ∷ ls) h = omega arith
+
+-- where a name ends in another, it has the labels in front of it more
+suffix_octets : (x y : Labels) → ends_in x y ≡ true → (front : Labels) × (length x ≡ length front + length y) × (length (octets x) ≡ length (labels_octets front) + length (octets y))
+suffix_octets x y e =
+    let (front, last, parts, same) = (ends_in-Decides x y).0 e in
+    let long : length x ≡ length front + length last = ap (λ (n : Labels). length n) parts ∙ length-append front last in
+    let as_many : length last ≡ length y = same_length last y same in
+    let size : length (octets x) ≡ length (labels_octets front) + length (octets last) = ap (λ (n : Labels). length (octets n)) parts ∙ ap length (octets-append front last) ∙ length-append (labels_octets front) (octets last) in
+    let same_size = length-same last y same in
+    (front, omega arith, omega arith)
+
+-- a longer suffix has more octets
+pub more_octets : (name x y : Labels) → ends_in name x ≡ true → ends_in name y ≡ true → length y < length x → length (octets y) < length (octets x)
+more_octets name x y e f more =
+    let (front, long, size) = suffix_octets x y (ends_in-longer name x y e f (omega arith)) in
+    let some = some_octets front (omega arith) in
+    omega arith
+
+pub as_many_octets : (name x y : Labels) → ends_in name x ≡ true → ends_in name y ≡ true → length x ≤ length y → length (octets x) ≤ length (octets y)
+as_many_octets name x y e f few =
+    let (front, long, size) = suffix_octets y x (ends_in-longer name y x f e few) in
+    omega arith
+
+-- ---- the homes so far
+
+abbrev pub candidates : Labels → List Labels → List Labels
+candidates name homes = filter (λ h. ends_in name h) homes
+
+abbrev pub LongestSoFar : List Labels → Labels → Option ℕ → ℕ → Type 0
+LongestSoFar homes name None most = (longest (candidates name homes) ≡ None) × (most ≡ 0)
+LongestSoFar homes name (Some i) most = (h : Labels) × (slice_get homes i ≡ Some h) × (longest (candidates name homes) ≡ Some h) × (most ≡ length (octets h))
+
+pub slice_get-more : {X : Type 0} (xs : List X) (i : ℕ) (x y : X) → slice_get xs i ≡ Some x → slice_get (xs ++ y ∷ []) i ≡ Some x
+slice_get-more [] i x y e = cc
+slice_get-more (z ∷ xs) zero x y e = e
+slice_get-more (z ∷ xs) (suc i) x y e = slice_get-more xs i x y e
+
+slice_get-last : {X : Type 0} (xs : List X) (y : X) → slice_get (xs ++ y ∷ []) (length xs) ≡ Some y
+slice_get-last [] y = refl
+slice_get-last (x ∷ xs) y = slice_get-last xs y
+
+candidates-last : (name : Labels) (homes : List Labels) (x : Labels) (b : Bool) → ends_in name x ≡ b → candidates name (homes ++ x ∷ []) ≡ candidates name homes ++ cond b (x ∷ []) []
+candidates-last name homes x b e = filter-append (λ (h : Labels). ends_in name h) homes (x ∷ []) ∙ ap (λ t. candidates name homes ++ cond t (x ∷ []) []) e
+
+append-nil : (xs : List Labels) → xs ++ [] ≡ xs
+append-nil [] = refl
+append-nil (x ∷ xs) = ap (λ l. x ∷ l) (append-nil xs)
+
+-- the name doesn't end in the next
+pub so_far-other : (homes : List Labels) (name x : Labels) (best : Option ℕ) (most : ℕ) → ends_in name x ≡ false → LongestSoFar homes name best most → LongestSoFar (homes ++ x ∷ []) name best most
+so_far-other homes name x None most e (none, zero_is) = (ap longest (candidates-last name homes x false e ∙ append-nil (candidates name homes)) ∙ none, zero_is)
+so_far-other homes name x (Some i) most e (h, at, is, size) = (h, slice_get-more homes i h x at, ap longest (candidates-last name homes x false e ∙ append-nil (candidates name homes)) ∙ is, size)
+
+ends : (homes : List Labels) (name h : Labels) → longest (candidates name homes) ≡ Some h → ends_in name h ≡ true
+ends homes name h is = subst (OfSome (λ x. ends_in name x ≡ true)) is (longest-all (λ x. ends_in name x) (candidates name homes) (all_itself (λ x. ends_in name x) homes))
+
+longest-next : (homes : List Labels) (name x : Labels) (o : Option Labels) → ends_in name x ≡ true → longest (candidates name homes) ≡ o → longest (candidates name (homes ++ x ∷ [])) ≡ Some (longer o x)
+longest-next homes name x o e is = ap longest (candidates-last name homes x true e) ∙ longest-last (candidates name homes) x ∙ ap (λ o. Some (longer o x)) is
+
+-- the next is longer
+pub so_far-longer : (homes : List Labels) (name x : Labels) (best : Option ℕ) (most i size : ℕ) → ends_in name x ≡ true → most < size → size ≡ length (octets x) → i ≡ length homes → LongestSoFar homes name best most
+    → LongestSoFar (homes ++ x ∷ []) name (Some i) size
+so_far-longer homes name x None most i size e more is place (none, zero_is) = (x, ap (slice_get (homes ++ x ∷ [])) place ∙ slice_get-last homes x, longest-next homes name x None e none, is)
+so_far-longer homes name x (Some j) most i size e more is place (h, at, found, most_is) =
+    (x, ap (slice_get (homes ++ x ∷ [])) place ∙ slice_get-last homes x, longest-next homes name x (Some h) e found ∙ ap Some (by (ltb (length h) (length x)) refl), is)
+  where
+    by : (b : Bool) → ltb (length h) (length x) ≡ b → cond b x h ≡ x
+    by true c = refl
+    by false c =
+        let few = ltb-false (length h) (length x) c in
+        let fewer = as_many_octets name x h e (ends homes name h found) (omega arith) in
+        absurd (omega arith)
+
+-- the next is no longer
+pub so_far-kept : (homes : List Labels) (name x : Labels) (best : Option ℕ) (most size : ℕ) → ends_in name x ≡ true → size ≤ most → size ≡ length (octets x) → LongestSoFar homes name best most
+    → LongestSoFar (homes ++ x ∷ []) name best most
+so_far-kept homes name x None most size e few is (none, zero_is) =
+    let some : length (octets x) ≡ length (labels_octets x) + 1 = length-append (labels_octets x) (0 ∷ []) in
+    absurd (omega arith)
+so_far-kept homes name x (Some j) most size e few is (h, at, found, most_is) =
+    (h, slice_get-more homes j h x at, longest-next homes name x (Some h) e found ∙ ap Some (by (ltb (length h) (length x)) refl), most_is)
+  where
+    by : (b : Bool) → ltb (length h) (length x) ≡ b → cond b x h ≡ h
+    by true c =
+        let more = ltb-true (length h) (length x) c in
+        let octets_more = more_octets name x h e (ends homes name h found) more in
+        absurd (omega arith)
+    by false c = refl
+
+pub so_far-end : (homes : List Labels) (name : Labels) (best : Option ℕ) (most : ℕ) → LongestSoFar homes name best most → IsHomeAt homes name best
+so_far-end homes name None most (none, zero_is) = none
+so_far-end homes name (Some i) most (h, at, is, size) = (h, at, is)

@@ -1,0 +1,109 @@
+//! What an entry will change.
+
+ghost use Rattle.std.specs.Prelude.{◌≡◌, [], IfOk};
+ghost use Rattle.history.specs.declared.plan.PastFault.TheVariants as faults;
+
+use rrset::{Changed, NoMemory, Shown};
+use std::alloc::{AllocError, AllocFailed, Global};
+use std::marker::Model;
+
+/// Keys that will be shown otherwise, each with what is shown of it before and after, in key order.
+#[derive(Debug, Drop)]
+pub struct ChangedKeys {
+    pub(crate) items: Vec<Changed>,
+}
+
+impl Model for ChangedKeys {
+    ghost use Rattle.std.specs.Prelude.{List};
+    ghost use Rattle.rrset.specs.declared.record.Changed.{Changed};
+
+    ghost Value = { List Changed };
+
+    ghost view = { λ c. c.items.items };
+}
+
+/// The same, to the letter, or nothing.
+fn copy_shown(shown: &Option<Shown>) -> Result<Option<Shown>, NoMemory>
+    ensures { IfOk result (λ copy. copy ≡ shown.now) }
+{
+    match shown {
+        Some(shown) => Ok(Some(shown.copy()?)),
+        None => Ok(None),
+    }
+}
+
+/// The same changed keys.
+fn copy_changed(alloc: Global, changed: &[Changed]) -> Result<Vec<Changed>, NoMemory>
+    ensures { IfOk result (λ copy. copy.items ≡ changed.now) }
+{
+    let mut copy = Vec::new(alloc);
+    'changed: for change in changed {
+        copy.push(Changed {
+            key: change.key.copy()?,
+            before: copy_shown(&change.before)?,
+            after: copy_shown(&change.after)?,
+        })?;
+    }
+    Ok(copy)
+}
+
+impl ChangedKeys {
+    /// No keys.
+    pub(crate) fn new(alloc: Global) -> Self
+        ensures { result ≡ [] }
+    {
+        ChangedKeys {
+            items: Vec::new(alloc),
+        }
+    }
+
+    /// The same keys.
+    pub(crate) fn from_slice(alloc: Global, changed: &[Changed]) -> Result<Self, NoMemory>
+        ensures { IfOk result (λ keys. keys ≡ changed.now) }
+    {
+        let items = copy_changed(alloc, changed)?;
+        Ok(ChangedKeys { items })
+    }
+
+    pub fn as_slice(&self) -> &[Changed]
+        ensures { result.now ≡ self.now }
+    {
+        &self.items
+    }
+}
+
+/// What becomes of an entry.
+#[derive(Debug, Drop)]
+pub enum Planned {
+    /// An update is refused with an RCODE (RFC 2136, 2.2).
+    Refuse(u8),
+    /// Another entry isn't accepted.
+    Idle,
+    /// It is accepted, and these keys will be shown otherwise.
+    Accept(ChangedKeys),
+}
+
+/// Why an entry is not appended.
+#[derive(Clone, Copy, Debug, PartialEq, Eq)]
+pub enum PastFault {
+    /// There are 65,536 entries, or their sizes with its own would pass 67,108,864 octets.
+    Full,
+    /// Memory ran out.
+    NoMemory,
+}
+
+impl From<AllocError> for PastFault {
+    ghost from_gives = { λ _ e. e ≡ faults.NoMemory };
+
+    fn from(_e: AllocError) -> PastFault {
+        PastFault::NoMemory
+    }
+}
+
+impl<T: Drop> From<AllocFailed<T>> for PastFault {
+    ghost from_gives = { λ _ e. e ≡ faults.NoMemory };
+
+    fn from(_e: AllocFailed<T>) -> PastFault {
+        PastFault::NoMemory
+    }
+}
