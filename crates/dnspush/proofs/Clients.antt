@@ -14,7 +14,7 @@ use Rattle.dnsname.proofs.Decisions.{and_true}
 use Rattle.replay.specs.Lines.{Word, ScriptLine, silent, client, lone, update, hear, ask, drop_question, open_connection, cut, say, up, emit, down, settle, send, feed, point, word, is, of_word, by_first_word, of_words, line_of}
 use Rattle.replay.specs.Scripts.{onto_line, lines_in, client_word, client_words, is_among, last_is_outside}
 use Rattle.dnspush.specs.BuiltLines.{is_word_octet, words_in}
-use Rattle.dnspush.specs.BuiltScript.{names_client, lines_left}
+use Rattle.dnspush.specs.LineByLine.{names_client, lines_left}
 use Rattle.dnspush.proofs.LineKinds.{chosen_none, lines_by, timers_none, zone_none, link_none, word_none, at_none, octets_none, word_octets_none, word_question_none, reconfirm_none, word_number_none, stop_none, alone_none, show_none, is_that}
 
 -- ---- the client that a line names

@@ -1,8 +1,6 @@
--- A hub without history whose newest session stands last, behind others of lower numbers: what is done in it leaves the others.
+-- A hub and its newest session, which stands last behind others of lower numbers: what is done in it leaves the others.
 use Rattle.std.proofs.Common.{◌≡◌, ℕ, ◌+◌, ◌<◌, false, cond, ◌==◌, List, [], ◌∷◌, ◌++◌, map, Some, None, option_map, find, ◌∙◌, ap, eq-eqb, ne_eqb, refl, arith}
 use Rattle.std.specs.List.{AllByRecursion}
-use Rattle.dsosession.specs.declared.session.Timers.{Timers}
-use Rattle.history.specs.States.{State}
 use Rattle.pushserver.specs.Sessions.{Session}
 use Rattle.pushserver.specs.Hubs.{Hub, session_of, in_session}
 
@@ -34,13 +32,17 @@ pub changed-last : (n : ℕ) (f : Session → Session) (earlier : Sessions) (s :
 changed-last n f [] s h = ap (λ b. (n, cond b (f s) s) ∷ []) (eq-eqb n n refl)
 changed-last n f (e ∷ es) s h = λ i. (e.0, cond (not_last e.0 n h.0 i) (f e.1) e.1) ∷ changed-last n f es s h.1 i
 
-module _ (state : State) (timers : Timers) (n : ℕ) (earlier : Sessions) where
-  abbrev pub hub_at : Session → Hub
-  hub_at s = record { start = state; timers = timers; history = []; sessions = earlier ++ (n, s) ∷ []; made = n + 1 }
+-- the numbers of a hub's sessions are below that of the next
+abbrev pub IsBehind : Hub → Type 0
+IsBehind hub = AreBelow hub.made hub.sessions
 
-  module _ (below : AreBelow n earlier) where
-    pub session_of-last : (s : Session) → session_of (hub_at s) n ≡ Some s
-    session_of-last s = ap (λ o. option_map (λ e. e.1) o) (find-last n earlier s below)
+-- the hub with one session more
+abbrev pub hub_at : Hub → Session → Hub
+hub_at hub s = record hub { sessions = hub.sessions ++ (hub.made, s) ∷ []; made = hub.made + 1 }
 
-    pub in_session-last : (f : Session → Session) (s : Session) → in_session n f (hub_at s) ≡ hub_at (f s)
-    in_session-last f s = ap (λ sessions. record { start = state; timers = timers; history = []; sessions = sessions; made = n + 1 }) (changed-last n f earlier s below)
+module _ (hub : Hub) (below : IsBehind hub) where
+  pub session_of-last : (s : Session) → session_of (hub_at hub s) hub.made ≡ Some s
+  session_of-last s = ap (λ o. option_map (λ e. e.1) o) (find-last hub.made hub.sessions s below)
+
+  pub in_session-last : (f : Session → Session) (s : Session) → in_session hub.made f (hub_at hub s) ≡ hub_at hub (f s)
+  in_session-last f s = ap (λ sessions. record hub { sessions = sessions; made = hub.made + 1 }) (changed-last hub.made f hub.sessions s below)

@@ -12,7 +12,7 @@ use Rattle.dnsname.specs.Names.{Labels}
 use Rattle.dnsname.specs.Text.{name_of_text}
 use Rattle.replay.specs.Lines.{Word, ScriptLine, silent, timers, zone, link, client, lone, at_moment, update, hear, ask, drop_question, reconfirm, open_connection, cut, say, up, emit, down, settle, send, feed, stop, point, show, number32, number, max_octets_passed, word, octets_written, is, question, alone, of_word, of_octets, of_word_and_octets, of_word_and_number, of_word_and_question, timers_line, zone_line, link_line, at_line, reconfirm_line, stop_line, show_line, by_first_word, of_words, line_of}
 use Rattle.push_base.specs.Limits.{max_moment}
-use Rattle.dnspush.specs.BuiltLines.{kept, understood, begins_silent, words_in, kind_of}
+use Rattle.dnspush.specs.BuiltLines.{kept, understood, begins_silent, words_in, kind_of, said_behind}
 use Rattle.dnspush.specs.declared.line.Kind.{Kind}
 use Rattle.dnspush.specs.declared.line.Kind.TheVariants as kinds
 
@@ -154,8 +154,8 @@ lines_by w rest =
     ∷ (is w (codes "show"), show_line rest)
     ∷ []
 
-other_kept : (w : Word) (ws : List Word) → is w (codes "zone") ≡ false → is w (codes "send") ≡ false → understood (by_first_word w ws) ≡ None
-other_kept w ws no_zone no_send = chosen_none kept (lines_by w ws) (
+other_kept : (w : Word) (ws : List Word) → is w (codes "zone") ≡ false → is w (codes "update") ≡ false → is w (codes "send") ≡ false → is w (codes "point") ≡ false → understood (by_first_word w ws) ≡ None
+other_kept w ws no_zone no_update no_send no_point = chosen_none kept (lines_by w ws) (
   inr (timers_none kept (λ i k. refl) ws),
   (
     inl no_zone,
@@ -168,7 +168,7 @@ other_kept w ws no_zone no_send = chosen_none kept (lines_by w ws) (
           (
             inr (at_none kept (λ t. refl) ws),
             (
-              inr (octets_none kept update (λ o. refl) ws),
+              inl no_update,
               (
                 inr (word_octets_none kept hear (λ v o. refl) ws),
                 (
@@ -198,7 +198,7 @@ other_kept w ws no_zone no_send = chosen_none kept (lines_by w ws) (
                                         (
                                           inr (stop_none kept (λ v r d. refl) ws),
                                           (
-                                            inr (alone_none kept point refl ws),
+                                            inl no_point,
                                             (inr (show_none kept (λ v q n. refl) ws), tt),
                                           ),
                                         ),
@@ -223,11 +223,15 @@ other_kept w ws no_zone no_send = chosen_none kept (lines_by w ws) (
   ),
 )
 
--- ---- the two kinds that are built
+-- ---- the kinds that are built
 
 bind_kept : {A : Type 0} (o : Option A) (g : A → Option ScriptLine) → ((a : A) → understood (g a) ≡ g a) → understood (o >>= g) ≡ (o >>= g)
 bind_kept None g h = refl
 bind_kept (Some a) g h = h a
+
+map_kept : {A : Type 0} (o : Option A) (g : A → ScriptLine) → ((a : A) → kept (g a) ≡ Some (g a)) → understood (option_map g o) ≡ option_map g o
+map_kept None g h = refl
+map_kept (Some a) g h = h a
 
 zone_mode_kept : (n : Labels) (s : ℕ) (a b : Bool) → understood (cond a (Some (zone n s true)) (cond b (Some (zone n s false)) None)) ≡ cond a (Some (zone n s true)) (cond b (Some (zone n s false)) None)
 zone_mode_kept n s true b = refl
@@ -247,33 +251,55 @@ send_kept (w ∷ []) = refl
 send_kept (w ∷ o ∷ []) = bind_kept (word w) _ (λ p. bind_kept (octets_written o) _ (λ r. refl))
 send_kept (w ∷ o ∷ v ∷ ws) = refl
 
--- what is behind the first word, by the kind
-abbrev pub said_by : Kind → List Word → Option ScriptLine
-said_by kinds.Zone ws = zone_line ws
-said_by kinds.Send ws = of_word_and_octets send ws
-said_by kinds.Other ws = None
+update_kept : (ws : List Word) → understood (of_octets update ws) ≡ of_octets update ws
+update_kept [] = refl
+update_kept (o ∷ []) = map_kept (octets_written o) (λ r. update r) (λ r. refl)
+update_kept (o ∷ v ∷ ws) = refl
+
+point_kept : (ws : List Word) → understood (alone point ws) ≡ alone point ws
+point_kept [] = refl
+point_kept (w ∷ ws) = refl
 
 pub is_that : (w v : Word) → is w v ≡ true → w ≡ v
 is_that w v h = (bytes_eq-Decides w v).0 h
 
-first_word_kept : (w : Word) (ws : List Word) → understood (by_first_word w ws) ≡ said_by (kind_of w) ws
+abbrev kind_by : Bool → Bool → Bool → Bool → Kind
+kind_by a b c d = cond a kinds.Zone (cond b kinds.Update (cond c kinds.Send (cond d kinds.Point kinds.Other)))
+
+other_kind : (a b c d : Bool) → a ≡ false → b ≡ false → c ≡ false → d ≡ false → kind_by a b c d ≡ kinds.Other
+other_kind a b c d no_a no_b no_c no_d =
+    ap (λ (x : Bool). kind_by x b c d) no_a
+    ∙ ap (λ (x : Bool). kind_by false x c d) no_b
+    ∙ ap (λ (x : Bool). kind_by false false x d) no_c
+    ∙ ap (λ (x : Bool). kind_by false false false x) no_d
+
+abbrev IsKept : List Word → Word → Type 0
+IsKept ws w = understood (by_first_word w ws) ≡ said_behind (kind_of w) ws
+
+first_word_kept : (w : Word) (ws : List Word) → IsKept ws w
 first_word_kept w ws = elim (cases_Bool (is w (codes "zone"))) [
-  | inl is_zone ↦ subst (λ (v : Word). understood (by_first_word v ws) ≡ said_by (kind_of v) ws) (sym (is_that w (codes "zone") is_zone)) (zone_kept ws)
-  | inr no_zone ↦ elim (cases_Bool (is w (codes "send"))) [
-    | inl is_send ↦ subst (λ (v : Word). understood (by_first_word v ws) ≡ said_by (kind_of v) ws) (sym (is_that w (codes "send") is_send)) (send_kept ws)
-    | inr no_send ↦
-        other_kept w ws no_zone no_send
-        ∙ sym (ap (λ (b : Bool). said_by (cond b kinds.Zone (cond (is w (codes "send")) kinds.Send kinds.Other)) ws) no_zone ∙ ap (λ (b : Bool). said_by (cond b kinds.Send kinds.Other) ws) no_send)
+  | inl is_zone ↦ subst (IsKept ws) (sym (is_that w (codes "zone") is_zone)) (zone_kept ws)
+  | inr no_zone ↦ elim (cases_Bool (is w (codes "update"))) [
+    | inl is_update ↦ subst (IsKept ws) (sym (is_that w (codes "update") is_update)) (update_kept ws)
+    | inr no_update ↦ elim (cases_Bool (is w (codes "send"))) [
+      | inl is_send ↦ subst (IsKept ws) (sym (is_that w (codes "send") is_send)) (send_kept ws)
+      | inr no_send ↦ elim (cases_Bool (is w (codes "point"))) [
+        | inl is_point ↦ subst (IsKept ws) (sym (is_that w (codes "point") is_point)) (point_kept ws)
+        | inr no_point ↦
+            other_kept w ws no_zone no_update no_send no_point
+            ∙ sym (ap (λ (k : Kind). said_behind k ws) (other_kind (is w (codes "zone")) (is w (codes "update")) (is w (codes "send")) (is w (codes "point")) no_zone no_update no_send no_point))
+      ]
+    ]
   ]
 ]
 
 -- ---- a line
 
-of_words_kept : (text w : List ℕ) (ws : List Word) → words_in text ≡ w ∷ ws → understood (of_words (words_in text)) ≡ said_by (kind_of w) ws
+of_words_kept : (text w : List ℕ) (ws : List Word) → words_in text ≡ w ∷ ws → understood (of_words (words_in text)) ≡ said_behind (kind_of w) ws
 of_words_kept text w ws e = ap (λ (vs : List Word). understood (of_words vs)) e ∙ first_word_kept w ws
 
 -- what a line says, if it is built, by its first word and those behind it
-pub line_kept : (text w : List ℕ) (ws : List Word) → begins_silent text ≡ false → words_in text ≡ w ∷ ws → understood (line_of text) ≡ said_by (kind_of w) ws
+pub line_kept : (text w : List ℕ) (ws : List Word) → begins_silent text ≡ false → words_in text ≡ w ∷ ws → understood (line_of text) ≡ said_behind (kind_of w) ws
 line_kept [] w ws speaks e = absurd cc
 line_kept (c ∷ cs) w ws speaks e =
     ap (λ (b : Bool). understood (cond b (cond (is_utf8 cs) (Some silent) None) (of_words (words_in (c ∷ cs))))) speaks

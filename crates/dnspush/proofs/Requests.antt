@@ -14,7 +14,8 @@ use Rattle.dsotlv.specs.declared.message.DsoFault.{DsoFault}
 use Rattle.dsotlv.specs.declared.message.DsoFault.TheVariants.{Short, Opcode, Counts, Tlv as TlvAt, NoMemory}
 use Rattle.rrset.specs.Rcodes.{formerr}
 use Rattle.dsotlv.specs.Messages.{primary_data, data_of_first}
-use Rattle.dnspush.specs.FirstPath.{FirstZone, reply_octets, refused_with, answer_with}
+use Rattle.history.specs.States.{State}
+use Rattle.dnspush.specs.SubscribeReply.{reply_octets, refused_with, answer_with}
 use Rattle.dsotlv.specs.Giving.{GivesDso}
 use Rattle.dnspush.specs.Script.{is_subscribe, is_subscribe_head}
 
@@ -89,11 +90,11 @@ by_tlvs : (message : List ℕ) (tlvs : List Tlv) → tlvs_of message ≡ Ok tlvs
 by_tlvs message tlvs h = ap (λ (r : Result (List Tlv) DsoFault). elim r [ Err fault ↦ [] | Ok tlvs ↦ data_of_first tlvs ]) h
 
 -- what is replied to a request that was read, whose first TLV has these data
-pub reply_by : (zone : Option FirstZone) (message : List ℕ) (request : DsoMessage) (primary : List ℕ) (question : Option Question) → dso_of message ≡ Ok request → primary ≡ data_of_first request.tlvs → question ≡ question_of primary
-    → reply_octets zone message ≡ (elim question [ None ↦ refused_with request.id formerr | Some q ↦ answer_with zone request.id q ])
-reply_by zone message request primary question read is asked =
+pub reply_by : (state : State) (message : List ℕ) (request : DsoMessage) (primary : List ℕ) (question : Option Question) → dso_of message ≡ Ok request → primary ≡ data_of_first request.tlvs → question ≡ question_of primary
+    → reply_octets state message ≡ (elim question [ None ↦ refused_with request.id formerr | Some q ↦ answer_with state request.id q ])
+reply_by state message request primary question read is asked =
     let parts = request_parts message request read in
     let data_is : primary ≡ primary_data message = is ∙ sym (by_tlvs message request.tlvs parts.0) in
     let q_is : question_of (primary_data message) ≡ question = sym (asked ∙ ap question_of data_is) in
-    ap (λ (o : Option Question). elim o [ None ↦ refused_with (id_of message) formerr | Some q ↦ answer_with zone (id_of message) q ]) q_is
-    ∙ ap (λ (i : ℕ). elim question [ None ↦ refused_with i formerr | Some q ↦ answer_with zone i q ]) parts.1
+    ap (λ (o : Option Question). elim o [ None ↦ refused_with (id_of message) formerr | Some q ↦ answer_with state (id_of message) q ]) q_is
+    ∙ ap (λ (i : ℕ). elim question [ None ↦ refused_with i formerr | Some q ↦ answer_with state i q ]) parts.1

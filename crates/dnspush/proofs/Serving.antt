@@ -1,51 +1,47 @@
--- A SUBSCRIBE that a zone serves is answered.
-use Rattle.std.proofs.Common.{◌≡◌, ℕ, Bool, true, cond, List, [], ◌∷◌, ◌++◌, map, Option, Some, None, refl, sym, ◌∙◌, ap, subst, append_assoc}
-use Rattle.std.proofs.lemmas.List.{map-append}
+-- A SUBSCRIBE that a state serves is answered.
+--     served_is, served_answered      the reply of the script, and what was written
+use Rattle.std.proofs.Common.{◌≡◌, ℕ, Bool, true, cond, List, [], ◌∷◌, ◌++◌, Option, Some, None, ◌∙◌, ap, subst}
 use Rattle.rrset.specs.Header.{id_of}
 use Rattle.rrset.specs.Rcodes.{noerror, formerr, notauth}
 use Rattle.rrset.specs.declared.record.Question.{Question}
 use Rattle.dsotlv.specs.Messages.{frame, primary_data}
 use Rattle.dsotlv.specs.Notices.{question_of}
 use Rattle.pushserver.specs.Giving.{dso_answer}
+use Rattle.history.specs.States.{State}
 use Rattle.replay.specs.Text.{ended_lines}
-use Rattle.dnspush.specs.FirstPath.{is_served, notices_for, push_frame, accepted_with, refused_with, answer_to, reply_octets}
-use Rattle.dnspush.specs.FirstScripts.{ScriptZone, bytes_line}
-use Rattle.dnspush.specs.ManySends.{OneSend, reply_line, replies_text}
+use Rattle.dnspush.specs.EventText.{start_of, said_by, message_in, bytes_line}
+use Rattle.dnspush.specs.SubscribeReply.{is_served, notices_for, push_frame, accepted_with, refused_with, answer_with, reply_octets}
 use Rattle.dnspush.specs.Reply.{Answers, Took}
 use Rattle.dnspush.specs.Script.{front_read, reply_at, reply_to_script}
-use Rattle.dnspush.specs.Serving.{Asked, zone_asked, peers_of, AsksZone, AsksServed, served_reply}
+use Rattle.dnspush.specs.Serving.{Asked, lines_of, entries_then, state_then, AsksZone, AsksServed, served_reply}
 use Rattle.dnspush.specs.Words.{Request, Replay_input, Replay_path, reply_to}
-use Rattle.dnspush.proofs.ManyPeers.{commented_text}
-use Rattle.dnspush.proofs.ManyReplies.{told}
+use Rattle.dnspush.proofs.SaidBy.{peer_said}
+use Rattle.dnspush.proofs.ScriptText.{read_text}
 
--- the text of replies is that of the first and that of the rest
-lines_joined : (xs ys : List (List ℕ)) → ended_lines (xs ++ ys) ≡ ended_lines xs ++ ended_lines ys
-lines_joined [] ys = refl
-lines_joined (x ∷ xs) ys = ap (λ (rest : List ℕ). (x ++ 10 ∷ []) ++ rest) (lines_joined xs ys) ∙ sym (append_assoc (x ++ 10 ∷ []) (ended_lines xs) (ended_lines ys))
+abbrev message_of : Option (List ℕ × List ℕ) → List ℕ
+message_of None = []
+message_of (Some found) = found.0
 
-replies_joined : (z : ScriptZone) (before : List OneSend) (s : OneSend) (behind : List OneSend)
-    → replies_text z (before ++ s ∷ behind) ≡ replies_text z before ++ (ended_lines (reply_line z s ∷ []) ++ replies_text z behind)
-replies_joined z before s behind =
-    ap ended_lines (map-append (reply_line z) before (s ∷ behind))
-    ∙ lines_joined (map (reply_line z) before) (reply_line z s ∷ map (reply_line z) behind)
-    ∙ ap (λ (rest : List ℕ). replies_text z before ++ rest) (lines_joined (reply_line z s ∷ []) (map (reply_line z) behind))
+-- what is replied to a message whose question the state serves
+accepted : (state : State) (message : List ℕ) (question : Question) → question_of (primary_data message) ≡ Some question → is_served state question ≡ true
+    → reply_octets state message ≡ frame (dso_answer message noerror) ++ push_frame (notices_for state question)
+accepted state message question asks served =
+    ap (λ (o : Option Question). elim o as (λ _. List ℕ) [ None ↦ refused_with (id_of message) formerr | Some q ↦ answer_with state (id_of message) q ]) asks
+    ∙ ap (λ (b : Bool). cond b (accepted_with state (id_of message) question) (refused_with (id_of message) notauth)) served
 
--- what is replied to a message whose question the zone serves
-accepted : (asked : Asked) → question_of (primary_data asked.peer.message) ≡ Some asked.question → is_served asked.question asked.zone ≡ true
-    → reply_octets (Some asked.zone) asked.peer.message ≡ frame (dso_answer asked.peer.message noerror) ++ push_frame (notices_for asked.question asked.zone)
-accepted asked question served =
-    ap (λ (o : Option Question). elim o [ None ↦ refused_with (id_of asked.peer.message) formerr | Some q ↦ answer_to (Some asked.zone) asked.peer.message q ]) question
-    ∙ ap (λ (b : Bool). cond b (accepted_with asked.zone (id_of asked.peer.message) asked.question) (refused_with (id_of asked.peer.message) notauth)) served
-
-served_is : (script : List ℕ) (asked : Asked) → AsksZone script asked → reply_to_script script ≡ served_reply asked
+pub served_is : (script : List ℕ) (asked : Asked) → AsksZone script asked → reply_to_script script ≡ served_reply asked
 unfolding reply_to_script
 served_is script asked asks =
-    let z = zone_asked asked in
-    let text = commented_text asks.lines z (peers_of asked) asks.speak asks.apex asks.peers asks.new asks.few in
+    let start = start_of asked.zones in
+    let text = read_text script asks.lines asked.zones (lines_of asked) asks.read asks.speak asks.are_zones asks.are_events in
+    let message : message_in asked.octets ≡ asked.message = ap message_of asks.found in
     ap (λ (f : Option ℕ). reply_at f script) asks.built
-    ∙ ap (λ (p : ℕ × List ℕ). record { status = p.0; text = p.1 }) (ap told asks.read)
-    ∙ ap (λ (t : List ℕ). record { status = 0; text = t }) (text ∙ replies_joined z asked.before asked.peer asked.behind)
-    ∙ ap (λ (o : List ℕ). record { status = 0; text = replies_text z asked.before ++ (ended_lines (bytes_line asked.peer.word o ∷ []) ++ replies_text z asked.behind) }) (accepted asked asks.question asks.served)
+    ∙ ap (λ (p : ℕ × List ℕ). record { status = p.0; text = p.1 }) text
+    ∙ ap (λ (t : List ℕ). record { status = 0; text = t }) (peer_said start [] asked.before asked.behind asked.word asked.octets)
+    ∙ ap (λ (o : List ℕ). record {
+      status = 0;
+      text = ended_lines (said_by start [] asked.before) ++ (ended_lines (bytes_line asked.word o ∷ []) ++ ended_lines (said_by start (entries_then asked) asked.behind));
+    }) (ap (reply_octets (state_then asked)) message ∙ accepted (state_then asked) asked.message asked.question asks.asks asks.served)
 
 -- so that is what was written
 pub served_answered : (cause : Type 0) (request : Option Request) (octets : List ℕ) (asked : Asked) (taken taken_now : Option (List ℕ)) (code : ℕ) → AsksServed request (front_read octets) asked

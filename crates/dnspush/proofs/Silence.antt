@@ -1,10 +1,11 @@
 -- Lines that are empty or begin with # change nothing.
+--     silence_text      the law
 use Rattle.std.proofs.Common.{◌≡◌, ℕ, Bool, true, false, not, cond, List, [], ◌∷◌, ◌++◌, fold, ◌∙◌, ap, refl}
 use Rattle.replay.specs.Lines.{ScriptLine, silent}
 use Rattle.replay.specs.World.{Head, World, with_head_line, empty_head, world_of}
 use Rattle.replay.specs.Telling.{by_history}
-use Rattle.replay.specs.Text.{Printed, line_does, printed_by, ended_lines}
-use Rattle.dnspush.specs.ManySends.{is_silent, speaking, SilenceText}
+use Rattle.replay.specs.Text.{Printed, line_does, printed_by, ended_lines, text_of_script}
+use Rattle.dnspush.specs.EventText.{is_silent, speaking}
 
 pub head-silent : (head : Head) (line : ScriptLine) → is_silent line ≡ true → with_head_line head line ≡ head
 head-silent head silent e = refl
@@ -45,7 +46,7 @@ pub prints-speaking : (lines : List ScriptLine) (world : World) → prints lines
 prints-speaking [] world = refl
 prints-speaking (l ∷ ls) world = prints-by world l ls (speaking ls) (prints-speaking ls) (is_silent l) refl
 
-pub silence_text : SilenceText
+pub silence_text : (lines : List ScriptLine) → text_of_script lines ≡ text_of_script (speaking lines)
 silence_text lines =
     ap (λ h. ended_lines (prints lines (world_of h))) (heads-speaking lines empty_head)
     ∙ ap ended_lines (prints-speaking lines (world_of (heads empty_head (speaking lines))))

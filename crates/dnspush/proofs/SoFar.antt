@@ -1,21 +1,21 @@
 -- A script that is read line by line.
-use Rattle.std.proofs.Common.{◌≡◌, ℕ, ◌+◌, ◌≤◌, Bool, true, false, cond, ◌&&◌, Option, Some, None, Result, Ok, Err, List, [], ◌∷◌, ◌++◌, length, nat_lt, refl, sym, ◌∙◌, ap, subst, inl, inr, arith, append_assoc}
+use Rattle.std.proofs.Common.{◌≡◌, ℕ, ◌+◌, ◌≤◌, Bool, true, false, cond, ◌&&◌, Option, Some, None, Result, Ok, Err, List, [], ◌∷◌, ◌++◌, length, nat_lt, refl, sym, ◌∙◌, ap, inl, inr, arith, append_assoc}
 use Rattle.std.specs.Prelude.{is_some}
 use Rattle.std.proofs.lemmas.Bool.{cases_Bool}
 use Rattle.std.proofs.lemmas.List.{append-nil}
 use Rattle.push_base.specs.Cases.{is_empty}
-use Rattle.replay.specs.Lines.{Word, ScriptLine, silent, zone, send, line_of}
+use Rattle.history.specs.Keeping.{HomesKept}
+use Rattle.replay.specs.Lines.{Word, ScriptLine, silent, zone, update, send, point, line_of}
 use Rattle.replay.specs.Scripts.{Known, nothing_known, fits, client_words, lines_in, lines_read, lines_from, with_line, max_script}
-use Rattle.dnspush.specs.declared.line.Zone.{Zone}
-use Rattle.dnspush.specs.declared.line.Sent.{Sent}
+use Rattle.dnspush.specs.declared.line.Event.{Event}
 use Rattle.dnspush.specs.declared.line.Line.{Line}
 use Rattle.dnspush.specs.declared.script.Script.{Script}
 use Rattle.dnspush.specs.BuiltLines.{said, kept, understood, IsSound}
-use Rattle.dnspush.specs.ManySends.{speaking}
-use Rattle.dnspush.specs.BuiltScript.{lines_of, peers_of, AreBuilt, IsBuilt, known_of, stands, and_zone, and_sends, lines_left}
+use Rattle.dnspush.specs.BuiltScript.{IsBuilt}
+use Rattle.dnspush.specs.LineByLine.{known_of, peers_of, stands, GrowsBy, lines_left}
 use Rattle.dnspush.specs.Script.{is_built, first_unbuilt, first_later, and_sent}
 use Rattle.dnspush.proofs.Clients.{left_more, left_none, outside_last}
-use Rattle.dnspush.proofs.Sends.{none_built, adds}
+use Rattle.dnspush.proofs.MoreLines.{AreLines, no_lines, adds}
 
 -- lines before those that are left
 abbrev pub onto : List ScriptLine → Result (List ScriptLine) ℕ → Result (List ScriptLine) ℕ
@@ -35,13 +35,17 @@ onto_line front line (Err n) = refl
 unbuilt_kind : (known : Known) (sent : List Word) (line : ScriptLine) → kept line ≡ None → is_built known sent line ≡ false
 unbuilt_kind known sent silent h = absurd cc
 unbuilt_kind known sent (zone apex serial mode) h = absurd cc
+unbuilt_kind known sent (update o) h = absurd cc
 unbuilt_kind known sent (send w octets) h = absurd cc
+unbuilt_kind known sent point h = absurd cc
 unbuilt_kind known sent _ h = refl
 
 kept_same : (line other : ScriptLine) → kept line ≡ Some other → line ≡ other
 kept_same silent other h = cc
 kept_same (zone apex serial mode) other h = cc
+kept_same (update o) other h = cc
 kept_same (send w octets) other h = cc
+kept_same point other h = cc
 kept_same _ other h = absurd cc
 
 understood_same : (o : Option ScriptLine) (line : ScriptLine) → understood o ≡ Some line → o ≡ Some line
@@ -106,43 +110,42 @@ abbrev pub too_long_of : List ℕ → Bool
 too_long_of octets = nat_lt max_script (length octets)
 
 -- what is left, by the lines before it
-abbrev unbuilt_left : List ℕ → Option Zone → List Sent → ℕ → List (Option ScriptLine) → Option ℕ
-unbuilt_left octets first sends number left = first_unbuilt (clients_of octets) (known_of first sends) (peers_of sends) (number + 1) left
+abbrev unbuilt_left : List ℕ → HomesKept → List Event → ℕ → List (Option ScriptLine) → Option ℕ
+unbuilt_left octets homes events number left = first_unbuilt (clients_of octets) (known_of homes events) (peers_of events) (number + 1) left
 
-abbrev lines_after : List ℕ → Option Zone → List Sent → ℕ → List (Option ScriptLine) → Result (List ScriptLine) ℕ
-lines_after octets first sends number left = lines_from (clients_of octets) (known_of first sends) (number + 1) left
+abbrev lines_after : List ℕ → HomesKept → List Event → ℕ → List (Option ScriptLine) → Result (List ScriptLine) ℕ
+lines_after octets homes events number left = lines_from (clients_of octets) (known_of homes events) (number + 1) left
 
-pub record SoFar (octets : List ℕ) (first : Option Zone) (sends : List Sent) (number : ℕ) (rest : List ℕ) : Type 0 where
-  pub unbuilt : first_unbuilt (clients_of octets) nothing_known [] 1 (lines_read octets) ≡ first_unbuilt (clients_of octets) (known_of first sends) (peers_of sends) (number + 1) (lines_left (too_long_of octets) rest)
+pub record SoFar (octets : List ℕ) (homes : HomesKept) (events : List Event) (number : ℕ) (rest : List ℕ) : Type 0 where
+  pub unbuilt : first_unbuilt (clients_of octets) nothing_known [] 1 (lines_read octets) ≡ first_unbuilt (clients_of octets) (known_of homes events) (peers_of events) (number + 1) (lines_left (too_long_of octets) rest)
   -- the lines so far
   pub front : List ScriptLine
-  pub lines : lines_from (clients_of octets) nothing_known 1 (lines_read octets) ≡ onto front (lines_from (clients_of octets) (known_of first sends) (number + 1) (lines_left (too_long_of octets) rest))
-  pub speak : speaking front ≡ lines_of first sends
-  pub built : AreBuilt sends
+  pub lines : lines_from (clients_of octets) nothing_known 1 (lines_read octets) ≡ onto front (lines_from (clients_of octets) (known_of homes events) (number + 1) (lines_left (too_long_of octets) rest))
+  pub are : AreLines front homes events
   pub counted : number + length rest ≤ length octets
 
-pub begins : (octets : List ℕ) → SoFar octets None [] 0 octets
-begins octets = record { unbuilt = refl; front = []; lines = onto_none _; speak = refl; built = none_built; counted = omega arith }
+pub begins : (octets : List ℕ) → SoFar octets [] [] 0 octets
+begins octets = record { unbuilt = refl; front = []; lines = onto_none _; are = no_lines; counted = omega arith }
 
 -- the line that is outside
-pub outside : (octets : List ℕ) (first : Option Zone) (sends : List Sent) (number : ℕ) (rest text after : List ℕ) → SoFar octets first sends number rest → lines_in rest ≡ text ∷ lines_in after → (too_long_of octets && is_empty after) ≡ true
+pub outside : (octets : List ℕ) (homes : HomesKept) (events : List Event) (number : ℕ) (rest text after : List ℕ) → SoFar octets homes events number rest → lines_in rest ≡ text ∷ lines_in after → (too_long_of octets && is_empty after) ≡ true
     → first_later octets ≡ Some (number + 1)
 unfolding first_later
-outside octets first sends number rest text after so e last =
-    so.unbuilt ∙ ap (unbuilt_left octets first sends number) (outside_last (too_long_of octets) rest text after e last)
+outside octets homes events number rest text after so e last =
+    so.unbuilt ∙ ap (unbuilt_left octets homes events number) (outside_last (too_long_of octets) rest text after e last)
 
 here : (octets : List ℕ) (rest text after : List ℕ) → lines_in rest ≡ text ∷ lines_in after → (too_long_of octets && is_empty after) ≡ false → lines_left (too_long_of octets) rest ≡ line_of text ∷ lines_left (too_long_of octets) after
 here octets rest text after e inside =
     left_more (too_long_of octets) rest text after e ∙ ap (λ (b : Bool). cond b None (line_of text) ∷ lines_left (too_long_of octets) after) inside
 
 -- a line that isn't understood
-pub unread : (octets : List ℕ) (first : Option Zone) (sends : List Sent) (number : ℕ) (rest text after : List ℕ) → SoFar octets first sends number rest → lines_in rest ≡ text ∷ lines_in after → (too_long_of octets && is_empty after) ≡ false
+pub unread : (octets : List ℕ) (homes : HomesKept) (events : List Event) (number : ℕ) (rest text after : List ℕ) → SoFar octets homes events number rest → lines_in rest ≡ text ∷ lines_in after → (too_long_of octets && is_empty after) ≡ false
     → None ≡ understood (line_of text) → first_later octets ≡ Some (number + 1)
 unfolding first_later
-unread octets first sends number rest text after so e inside none =
+unread octets homes events number rest text after so e inside none =
     so.unbuilt
-    ∙ ap (unbuilt_left octets first sends number) (here octets rest text after e inside)
-    ∙ not_understood (clients_of octets) (known_of first sends) (peers_of sends) (number + 1) (line_of text) (lines_left (too_long_of octets) after) (sym none)
+    ∙ ap (unbuilt_left octets homes events number) (here octets rest text after e inside)
+    ∙ not_understood (clients_of octets) (known_of homes events) (peers_of events) (number + 1) (line_of text) (lines_left (too_long_of octets) after) (sym none)
 
 here_is : (octets : List ℕ) (rest text after : List ℕ) (line : Line) → lines_in rest ≡ text ∷ lines_in after → (too_long_of octets && is_empty after) ≡ false → Some (said line) ≡ understood (line_of text)
     → lines_left (too_long_of octets) rest ≡ Some (said line) ∷ lines_left (too_long_of octets) after
@@ -150,58 +153,55 @@ here_is octets rest text after line e inside read =
     here octets rest text after e inside ∙ ap (λ (o : Option ScriptLine). o ∷ lines_left (too_long_of octets) after) (understood_same (line_of text) (said line) (sym read))
 
 -- a line that may not stand there
-pub unfit : (octets : List ℕ) (first : Option Zone) (sends : List Sent) (number : ℕ) (rest text after : List ℕ) (line : Line) → SoFar octets first sends number rest → lines_in rest ≡ text ∷ lines_in after → (too_long_of octets && is_empty after) ≡ false
-    → Some (said line) ≡ understood (line_of text) → stands (clients_of octets) (known_of first sends) (peers_of sends) (said line) ≡ false → first_later octets ≡ Some (number + 1)
+pub unfit : (octets : List ℕ) (homes : HomesKept) (events : List Event) (number : ℕ) (rest text after : List ℕ) (line : Line) → SoFar octets homes events number rest → lines_in rest ≡ text ∷ lines_in after → (too_long_of octets && is_empty after) ≡ false
+    → Some (said line) ≡ understood (line_of text) → stands (clients_of octets) (known_of homes events) (peers_of events) (said line) ≡ false → first_later octets ≡ Some (number + 1)
 unfolding first_later
-unfit octets first sends number rest text after line so e inside read refused =
+unfit octets homes events number rest text after line so e inside read refused =
     so.unbuilt
-    ∙ ap (unbuilt_left octets first sends number) (here_is octets rest text after line e inside read)
-    ∙ cannot_stand (clients_of octets) (known_of first sends) (peers_of sends) (number + 1) (said line) (lines_left (too_long_of octets) after) refused
+    ∙ ap (unbuilt_left octets homes events number) (here_is octets rest text after line e inside read)
+    ∙ cannot_stand (clients_of octets) (known_of homes events) (peers_of events) (number + 1) (said line) (lines_left (too_long_of octets) after) refused
 
 -- a line that may stand there
-pub more : (octets : List ℕ) (first : Option Zone) (sends : List Sent) (number : ℕ) (rest text after : List ℕ) (line : Line) → SoFar octets first sends number rest → lines_in rest ≡ text ∷ lines_in after → (too_long_of octets && is_empty after) ≡ false
-    → Some (said line) ≡ understood (line_of text) → IsSound line → stands (clients_of octets) (known_of first sends) (peers_of sends) (said line) ≡ true → number + 1 + length after ≤ length octets
-    → SoFar octets (and_zone first line) (and_sends sends line) (number + 1) after
-more octets first sends number rest text after line so e inside read sound may counted =
+pub more : (octets : List ℕ) (homes homes_then : HomesKept) (events events_then : List Event) (number : ℕ) (rest text after : List ℕ) (line : Line) → SoFar octets homes events number rest → lines_in rest ≡ text ∷ lines_in after → (too_long_of octets && is_empty after) ≡ false
+    → Some (said line) ≡ understood (line_of text) → IsSound line → stands (clients_of octets) (known_of homes events) (peers_of events) (said line) ≡ true → GrowsBy homes events line homes_then events_then → number + 1 + length after ≤ length octets
+    → SoFar octets homes_then events_then (number + 1) after
+more octets homes homes_then events events_then number rest text after line so e inside read sound may grows counted =
     let all = clients_of octets in
     let left = lines_left (too_long_of octets) after in
-    let known = known_of first sends in
-    let then = known_of (and_zone first line) (and_sends sends line) in
-    let add = adds all first sends line may in
+    let known = known_of homes events in
+    let then = known_of homes_then events_then in
+    let add = adds all homes homes_then events events_then line sound may grows in
     let is = here_is octets rest text after line e inside read in
     record {
       unbuilt =
           so.unbuilt
-          ∙ ap (unbuilt_left octets first sends number) is
-          ∙ goes_on all known then (peers_of sends) (peers_of (and_sends sends line)) (number + 1) (said line) left add.built add.fit add.peers;
+          ∙ ap (unbuilt_left octets homes events number) is
+          ∙ goes_on all known then (peers_of events) (peers_of events_then) (number + 1) (said line) left add.built add.fit add.peers;
       front = so.front ++ said line ∷ [];
       lines =
           so.lines
-          ∙ ap (λ (ls : List (Option ScriptLine)). onto so.front (lines_after octets first sends number ls)) is
+          ∙ ap (λ (ls : List (Option ScriptLine)). onto so.front (lines_after octets homes events number ls)) is
           ∙ ap (onto so.front) (lines_go_on all known then (number + 1) (said line) left add.fit)
           ∙ onto_line so.front (said line) (lines_from all then (number + 1 + 1) left);
-      speak = add.speak so.front so.speak;
-      built = add.sends_built sound so.built;
+      are = add.lines so.front so.are;
       counted = counted;
     }
 
--- the same, of a zone and sends that are those
-pub moved : (octets : List ℕ) (first then : Option Zone) (sends sends_then : List Sent) (number : ℕ) (rest : List ℕ) → then ≡ first → sends_then ≡ sends → SoFar octets first sends number rest → SoFar octets then sends_then number rest
-moved octets first then sends sends_then number rest e f so =
-    subst (λ (zone_now : Option Zone). SoFar octets zone_now sends_then number rest) (sym e) (subst (λ (sends_now : List Sent). SoFar octets first sends_now number rest) (sym f) so)
-
 -- the end of the script
-pub ends : (octets : List ℕ) (script : Script) (number : ℕ) (rest : List ℕ) → SoFar octets script.zone script.sends.items number rest → length rest ≡ 0 → IsBuilt octets script
+pub ends : (octets : List ℕ) (script : Script) (number : ℕ) (rest : List ℕ) → SoFar octets script.homes script.events.items number rest → length rest ≡ 0 → IsBuilt octets script
 unfolding first_later
 ends octets script number rest so none =
     let is = left_none (too_long_of octets) rest none in
     record {
-      all = so.unbuilt ∙ ap (unbuilt_left octets script.zone script.sends.items number) is;
+      all = so.unbuilt ∙ ap (unbuilt_left octets script.homes script.events.items number) is;
       lines = so.front;
       read =
           so.lines
-          ∙ ap (λ (ls : List (Option ScriptLine)). onto so.front (lines_after octets script.zone script.sends.items number ls)) is
+          ∙ ap (λ (ls : List (Option ScriptLine)). onto so.front (lines_after octets script.homes script.events.items number ls)) is
           ∙ ap (λ (ls : List ScriptLine). Ok ls) (append-nil so.front);
-      speak = so.speak;
-      sends = so.built;
+      zones = so.are.zones;
+      speak = so.are.speak;
+      start = so.are.are_homes.start;
+      are_zones = so.are.are_homes.are_zones;
+      are_events = so.are.are_events;
     }

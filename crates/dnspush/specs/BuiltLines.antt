@@ -3,14 +3,17 @@
 --     writable_of word      what the last word of a zone line says
 --     said line      what a line that was read says
 --     IsSound line      what else is known of a line that was read
---     understood line      a zone line, a send line, or one that says nothing
+--     understood line      a line that is built
 --     begins_silent text      whether a text is empty or begins with #
+--     said_behind kind words      what a line of a kind says, by the words behind its first
 use Rattle.std.specs.Prelude.{◌≡◌, ◌≤◌, length, ℕ, Bool, true, false, not, ◌&&◌, ◌||◌, nat_le, List, [], ◌∷◌, Option, Some, None, ◌==◌, codes, string_bytes, if◌then◌else◌}
 use Rattle.std.specs.List.{list_all, slice_split}
 use Rattle.push_base.specs.Optional.{◌>>=◌}
-use Rattle.replay.specs.Lines.{Word, ScriptLine, silent, zone, send, word, is_digit, begins_with_zero, is}
-use Rattle.dnspush.specs.declared.line.Zone.{Zone}
+use Rattle.replay.specs.Lines.{Word, ScriptLine, silent, zone, update, send, point, word, is_digit, begins_with_zero, is, alone, of_octets, of_word_and_octets, zone_line}
+use Rattle.dnspush.specs.declared.line.ZoneLine.{ZoneLine}
 use Rattle.dnspush.specs.declared.line.Sent.{Sent}
+use Rattle.dnspush.specs.declared.line.Event.{Event}
+use Rattle.dnspush.specs.declared.line.Event.TheVariants as events
 use Rattle.dnspush.specs.declared.line.Line.{Line}
 use Rattle.dnspush.specs.declared.line.Line.TheVariants as lines
 use Rattle.dnspush.specs.declared.line.Kind.{Kind}
@@ -25,24 +28,29 @@ has_form (c ∷ cs) = list_all is_digit (c ∷ cs) && not (begins_with_zero (c �
 abbrev pub writable_of : Word → Option Bool
 writable_of w = if is w (codes "open") then Some true else if is w (codes "shut") then Some false else None
 
--- what a zone line says, and what a send line says
-abbrev pub zone_said : Zone → ScriptLine
+-- what a zone line says
+abbrev pub zone_said : ZoneLine → ScriptLine
 zone_said z = zone z.apex z.serial z.writable
 
-abbrev pub send_said : Sent → ScriptLine
-send_said s = send (string_bytes s.word) s.octets
+-- what an event line says
+abbrev pub event_said : Event → ScriptLine
+event_said (events.Update octets) = update octets
+event_said (events.Send s) = send (string_bytes s.word) s.octets
+event_said events.Point = point
 
 -- what a line that was read says
 abbrev pub said : Line → ScriptLine
 said lines.Silent = silent
 said (lines.Zone z) = zone_said z
-said (lines.Send s) = send_said s
+said (lines.Event e) = event_said e
 
 -- the lines that are built say this alone
 abbrev pub kept : ScriptLine → Option ScriptLine
 kept silent = Some silent
 kept (zone apex serial writable) = Some (zone apex serial writable)
+kept (update octets) = Some (update octets)
 kept (send w octets) = Some (send w octets)
+kept point = Some point
 kept _ = None
 
 abbrev pub understood : Option ScriptLine → Option ScriptLine
@@ -63,14 +71,25 @@ words_in text = slice_split (λ d. d == 32) text
 
 -- the kind of a line by its first word
 abbrev pub kind_of : Word → Kind
-kind_of w = if is w (codes "zone") then kinds.Zone else if is w (codes "send") then kinds.Send else kinds.Other
+kind_of w = if is w (codes "zone") then kinds.Zone else if is w (codes "update") then kinds.Update else if is w (codes "send") then kinds.Send else if is w (codes "point") then kinds.Point else kinds.Other
+
+-- what a line of a kind says, by the words behind its first
+abbrev pub said_behind : Kind → List Word → Option ScriptLine
+said_behind kinds.Zone ws = zone_line ws
+said_behind kinds.Update ws = of_octets update ws
+said_behind kinds.Send ws = of_word_and_octets send ws
+said_behind kinds.Point ws = alone point ws
+said_behind kinds.Other ws = None
 
 -- the octets of a send line are no more than a frame's
 abbrev pub IsShort : Sent → Type 0
 IsShort sent = length sent.octets ≤ 65537
 
 -- the word of a send line is a word, and its octets are no more than a frame's
+abbrev pub IsSoundEvent : Event → Type 0
+IsSoundEvent (events.Send s) = (word (string_bytes s.word) ≡ Some (string_bytes s.word)) × IsShort s
+IsSoundEvent _ = Unit {0}
+
 abbrev pub IsSound : Line → Type 0
-IsSound lines.Silent = Unit {0}
-IsSound (lines.Zone z) = Unit {0}
-IsSound (lines.Send s) = (word (string_bytes s.word) ≡ Some (string_bytes s.word)) × IsShort s
+IsSound (lines.Event e) = IsSoundEvent e
+IsSound _ = Unit {0}

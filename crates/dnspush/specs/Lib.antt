@@ -10,14 +10,12 @@ pub mod MemOutside
 pub mod MemOutsideInside
 pub mod Command
 pub mod Told
-pub mod FirstPath
-pub mod FirstScripts
-pub mod ManySends
 pub mod BuiltLines
 pub mod BuiltScript
-pub mod Reacting
-pub mod PeerReplies
+pub mod LineByLine
 pub mod Serving
 pub mod Configurations
 pub mod Said
 pub mod Worked
+pub mod SubscribeReply
+pub mod EventText

@@ -10,7 +10,7 @@ use Rattle.rrset.specs.Header.{is_response, opcode_of}
 use Rattle.dsotlv.specs.Messages.{dso_opcode, head_of, first_message}
 use Rattle.dsotlv.specs.TlvKinds.{subscribe_tlv}
 use Rattle.dsotlv.specs.declared.message.DsoHead.{DsoHead}
-use Rattle.replay.specs.Lines.{Word, ScriptLine, silent, zone, send}
+use Rattle.replay.specs.Lines.{Word, ScriptLine, silent, zone, update, send, point}
 use Rattle.replay.specs.Scripts.{Known, nothing_known, fits, is_among, client_words, lines_read, max_script}
 use Rattle.replay.specs.Text.{text_of}
 use Rattle.dnspush.specs.Reply.{Reply, line}
@@ -39,10 +39,12 @@ is_one_subscribe octets = elim (first_message octets) [ None ↦ false | Some fo
 abbrev pub max_sends : ℕ
 max_sends = 64
 
--- the lines that are built so far: lines that say nothing, a first zone, and then SUBSCRIBEs, each of another peer
+-- the lines that are built so far: lines that say nothing, zones, updates, points, and SUBSCRIBEs, each of another peer
 abbrev pub is_built : Known → List Word → ScriptLine → Bool
 is_built known sent silent = true
-is_built known sent (zone apex serial mode) = is_empty known.homes
+is_built known sent (zone apex serial mode) = true
+is_built known sent (update message) = true
+is_built known sent point = true
 is_built known sent (send w octets) = not (is_among sent w) && nat_lt (length sent) max_sends && is_one_subscribe octets
 is_built known sent _ = false
 

@@ -1,8 +1,8 @@
 //! The lines of a script that are built.
 
-ghost use Rattle.std.specs.Prelude.{◌≡◌, false, ◌∷◌, [], IfOk, IfSome, IfNone, None, position, ◌==◌, ◌<◌, option_map, length};
-ghost use Rattle.replay.specs.Lines.{send, zone_line, of_word_and_octets, line_of};
-ghost use Rattle.dnspush.specs.BuiltLines.{said, IsSound, words_in, understood, begins_silent, kind_of};
+ghost use Rattle.std.specs.Prelude.{◌≡◌, ◌≤◌, false, ◌∷◌, [], IfOk, IfSome, IfNone, None, position, ◌==◌, ◌<◌, option_map, length};
+ghost use Rattle.replay.specs.Lines.{send, update, zone_line, of_octets, of_word_and_octets, line_of};
+ghost use Rattle.dnspush.specs.BuiltLines.{said, IsSound, words_in, understood, begins_silent, kind_of, said_behind};
 
 use crate::line_words::{
     name_of_word, number_of_word, octets_of_word, plain_word, writable_of_word,
@@ -11,9 +11,9 @@ use dnsname::name::{Name, Octets};
 use push_base::NoMemory;
 use std::alloc::Global;
 
-/// A zone: its apex, its serial, and whether it may be written.
+/// A zone line: the apex, the serial, and whether the zone may be written.
 #[derive(Debug, Drop)]
-pub struct Zone {
+pub struct ZoneLine {
     pub apex: Name,
     pub serial: u32,
     pub writable: bool,
@@ -26,23 +26,33 @@ pub struct Sent {
     pub octets: Octets,
 }
 
-/// A line of a script that is built: one that says nothing, a zone, or what a peer sends.
+/// What happens: an update message comes, a peer sends octets, or the newest point is asked for.
+#[derive(Debug, Drop)]
+pub enum Event {
+    Update(Octets),
+    Send(Sent),
+    Point,
+}
+
+/// A line of a script that is built: one that says nothing, a zone, or an event.
 #[derive(Debug, Drop)]
 pub enum Line {
     Silent,
-    Zone(Zone),
-    Send(Sent),
+    Zone(ZoneLine),
+    Event(Event),
 }
 
 // The kinds of lines that say something and are built.
 #[derive(Clone, Copy)]
 enum Kind {
     Zone,
+    Update,
     Send,
+    Point,
     Other,
 }
 
-/// What a line says, if it is a zone line, a send line, or one that says nothing.
+/// What a line says, if it is built.
 pub(crate) fn read_line(alloc: Global, line: &[u8]) -> Result<Option<Line>, NoMemory>
     ensures exact { IfOk result (λ found. option_map (λ l. said l) found ≡ understood (line_of line.now)) }
     ensures sound { IfOk result (λ found. IfSome found IsSound) }
@@ -71,13 +81,9 @@ fn speaking_line(alloc: Global, line: &[u8]) -> Result<Option<Line>, NoMemory>
     ensures exact { IfOk result (λ found. option_map (λ l. said l) found ≡ understood (line_of line.now)) }
     ensures sound { IfOk result (λ found. IfSome found IsSound) }
 {
-    let Some((word, rest)) = split_word(line) else {
-        return Ok(None);
-    };
-    match kind_of(word) {
-        Kind::Zone => zone_line(alloc, rest),
-        Kind::Send => send_line(alloc, rest),
-        Kind::Other => Ok(None),
+    match split_word(line) {
+        Some((word, rest)) => longer_line(alloc, kind_of(word), rest),
+        None => Ok(single_word(kind_of(line))),
     }
 }
 
@@ -85,10 +91,40 @@ fn speaking_line(alloc: Global, line: &[u8]) -> Result<Option<Line>, NoMemory>
 fn kind_of(word: &[u8]) -> Kind
     ensures { result ≡ kind_of word.now }
 {
-    match word {
-        b"zone" => Kind::Zone,
-        b"send" => Kind::Send,
-        _ => Kind::Other,
+    if word == b"zone".as_slice() {
+        Kind::Zone
+    } else if word == b"update".as_slice() {
+        Kind::Update
+    } else if word == b"send".as_slice() {
+        Kind::Send
+    } else if word == b"point".as_slice() {
+        Kind::Point
+    } else {
+        Kind::Other
+    }
+}
+
+// What a line of this kind says with nothing behind its first word.
+fn single_word(kind: Kind) -> Option<Line>
+    ensures exact { option_map (λ l. said l) result ≡ said_behind kind [] }
+    ensures sound { IfSome result IsSound }
+{
+    match kind {
+        Kind::Point => Some(Line::Event(Event::Point)),
+        Kind::Zone | Kind::Update | Kind::Send | Kind::Other => None,
+    }
+}
+
+// What a line of this kind says with that text behind its first word.
+fn longer_line(alloc: Global, kind: Kind, text: &[u8]) -> Result<Option<Line>, NoMemory>
+    ensures exact { IfOk result (λ found. option_map (λ l. said l) found ≡ said_behind kind (words_in text.now)) }
+    ensures sound { IfOk result (λ found. IfSome found IsSound) }
+{
+    match kind {
+        Kind::Zone => zone_line(alloc, text),
+        Kind::Update => update_line(alloc, text),
+        Kind::Send => send_line(alloc, text),
+        Kind::Point | Kind::Other => Ok(None),
     }
 }
 
@@ -109,11 +145,25 @@ fn zone_line(alloc: Global, text: &[u8]) -> Result<Option<Line>, NoMemory>
     let Some(writable) = writable_of_word(mode) else {
         return Ok(None);
     };
-    Ok(Some(Line::Zone(Zone {
+    Ok(Some(Line::Zone(ZoneLine {
         apex,
         serial,
         writable,
     })))
+}
+
+// What follows the first word of an update line: the octets of the message.
+fn update_line(alloc: Global, text: &[u8]) -> Result<Option<Line>, NoMemory>
+    ensures exact { IfOk result (λ found. option_map (λ l. said l) found ≡ of_octets update (words_in text.now)) }
+    ensures sound { IfOk result (λ found. IfSome found IsSound) }
+{
+    if space_in(text).is_some() {
+        return Ok(None);
+    }
+    let Some(octets) = octets_of_word(alloc, text)? else {
+        return Ok(None);
+    };
+    Ok(Some(Line::Event(Event::Update(octets))))
 }
 
 // What follows the first word of a send line: the peer's word, and the octets.
@@ -130,7 +180,7 @@ fn send_line(alloc: Global, text: &[u8]) -> Result<Option<Line>, NoMemory>
     let Some(octets) = octets_of_word(alloc, octets)? else {
         return Ok(None);
     };
-    Ok(Some(Line::Send(Sent { word, octets })))
+    Ok(Some(Line::Event(Event::Send(Sent { word, octets }))))
 }
 
 // The words of a text that has three.

@@ -3,10 +3,12 @@
 
 mod adapters;
 mod examples;
+mod header;
 mod line;
 mod line_words;
 mod mem_outside;
 mod outside;
+mod peers;
 mod program;
 mod reaction;
 mod read;
@@ -17,9 +19,10 @@ mod status;
 mod subscribe;
 #[cfg(test)]
 mod tests;
+mod text_lines;
+mod updating;
 mod words;
 mod write;
-mod zone;
 
 use adapters::{Origin, Reading, System, Writing};
 use std::env;

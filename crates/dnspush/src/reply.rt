@@ -1,19 +1,25 @@
 //! What a script is answered.
 
-ghost use Rattle.std.specs.Prelude.{◌≡◌, ◌∷◌, ◌++◌, [], Some, codes, OnOk, IfOk, IsTrue, string_bytes};
+ghost use Rattle.std.specs.Prelude.{◌≡◌, ◌∷◌, ◌++◌, [], Some, codes, decimal, OnOk, IfOk, IsTrue, string_bytes};
 ghost use Rattle.std.specs.List.{AllByRecursion};
 ghost use Rattle.dsotlv.specs.Messages.{first_message};
-ghost use Rattle.dnspush.specs.BuiltScript.{SendsSubscribe};
-ghost use Rattle.dnspush.specs.FirstScripts.{IsNamed};
-ghost use Rattle.dnspush.specs.PeerReplies.{zone_of, reply_text, replies_to};
+ghost use Rattle.history.specs.Keeping.{state_of, state_now};
+ghost use Rattle.history.specs.Plans.{IsStart};
+ghost use Rattle.replay.specs.Text.{ended_lines};
+ghost use Rattle.dnspush.specs.BuiltLines.{event_said};
+ghost use Rattle.dnspush.specs.BuiltScript.{events_said};
+ghost use Rattle.dnspush.specs.EventText.{IsEvent, said_by, entries_after, bytes_line, message_in};
 ghost use Rattle.dnspush.specs.Script.{is_one_subscribe, later, reply_to_script};
+ghost use Rattle.dnspush.specs.SubscribeReply.{reply_octets};
 ghost use Rattle.dnspush.specs.Told.{reply_of};
 
-use crate::line::{Sent, Zone};
+use crate::line::{Event, Sent};
 use crate::reaction::react;
 use crate::script::{ReadScript, Script, read_script_lines};
 use crate::status::Status;
 use crate::subscribe::one_message;
+use crate::updating::update;
+use history::Points;
 use push_base::{NoMemory, hex_text};
 use std::alloc::Global;
 
@@ -50,8 +56,7 @@ pub fn reply_to(alloc: Global, octets: &[u8]) -> Result<Reply, NoMemory>
 {
     match read_script_lines(alloc, octets)? {
         ReadScript::Built(script) => {
-            tells_name(&script.zone);
-            let text = script_text(alloc, &script)?;
+            let text = script_text(alloc, script)?;
             Ok(Reply {
                 outcome: Outcome::Done,
                 text,
@@ -73,25 +78,56 @@ fn later_text(alloc: Global, number: usize) -> Result<String, NoMemory>
     format!(in alloc; "later {number}\n")
 }
 
-// The text of a script whose lines are built: a line for each peer.
-fn script_text(alloc: Global, script: &Script) -> Result<String, NoMemory>
-    requires { AllByRecursion SendsSubscribe script.now.sends.items }
-    ensures { IfOk result (λ text. string_bytes text ≡ replies_to script.now) }
+// The text of a script whose lines are built: a line for each event.
+fn script_text(alloc: Global, script: Script) -> Result<String, NoMemory>
+    requires start { IsStart (state_of script.homes) }
+    requires events { AllByRecursion IsEvent (events_said script.events.items) }
+    ensures { IfOk result (λ text. string_bytes text ≡ ended_lines (said_by (state_of script.homes) [] (events_said script.events.items))) }
 {
+    let Script { homes, events } = script;
+    let mut points = Points::new(homes)?;
     let mut text = String::new(alloc);
-    'sends: for sent in &script.sends {
-        let line = reply_line(alloc, &script.zone, sent)?;
+    'events: for event in &events {
+        let line = event_line(alloc, &mut points, event)?;
         text.push_str(line.as_str())?;
     }
     Ok(text)
 }
 
-// The line of the octets that come back to a peer.
-fn reply_line(alloc: Global, zone: &Option<Zone>, sent: &Sent) -> Result<String, NoMemory>
-    requires { SendsSubscribe sent.now }
-    ensures { IfOk result (λ text. string_bytes text ≡ reply_text zone.now sent.now) }
+// The line of an event, with its end.
+fn event_line(alloc: Global, points: &mut Points, event: &Event) -> Result<String, NoMemory>
+    requires { IsEvent (event_said event.now) }
+    ensures line { IfOk result (λ text. string_bytes text ≡ ended_lines (said_by points.old.past.start points.old.past.history (event_said event.now ∷ []))) }
+    ensures past { OnOk result (points.new.past ≡ record points.old.past { history = entries_after points.old.past.start points.old.past.history (event_said event.now ∷ []) }) }
 {
-    let octets = react(alloc, zone, message_of(sent.octets.as_slice()))?;
+    match event {
+        Event::Update(message) => {
+            let code = update(alloc, points, message.as_slice())?;
+            update_text(alloc, code)
+        }
+        Event::Send(sent) => reply_text(alloc, points, sent),
+        Event::Point => point_text(alloc, points.point(), points.now()),
+    }
+}
+
+fn update_text(alloc: Global, code: u8) -> Result<String, NoMemory>
+    ensures { IfOk result (λ text. string_bytes text ≡ codes "update " ++ (decimal code ++ 10 ∷ [])) }
+{
+    format!(in alloc; "update {code}\n")
+}
+
+fn point_text(alloc: Global, point: u64, moment: u64) -> Result<String, NoMemory>
+    ensures { IfOk result (λ text. string_bytes text ≡ codes "point " ++ (decimal point ++ 32 ∷ (decimal moment ++ 10 ∷ []))) }
+{
+    format!(in alloc; "point {point} {moment}\n")
+}
+
+// The line of the octets that come back to a peer.
+fn reply_text(alloc: Global, points: &Points, sent: &Sent) -> Result<String, NoMemory>
+    requires { IsTrue (is_one_subscribe sent.now.octets) }
+    ensures { IfOk result (λ text. string_bytes text ≡ ended_lines (bytes_line (string_bytes sent.now.word) (reply_octets (state_now points.now.past) (message_in sent.now.octets)) ∷ [])) }
+{
+    let octets = react(alloc, points, message_of(sent.octets.as_slice()))?;
     let digits = hex_text(alloc, &octets)?;
     bytes_text(alloc, sent.word.as_str(), digits.as_str())
 }
@@ -110,14 +146,5 @@ fn message_of(octets: &[u8]) -> &[u8]
     match one_message(octets) {
         Some(message) => message,
         None => unreachable!(),
-    }
-}
-
-// Says that the apex is a name, as each `Name` is.
-fn tells_name(zone: &Option<Zone>)
-    ensures { IsNamed (zone_of zone.now) }
-{
-    if let Some(zone) = zone {
-        let _octets = zone.apex.octets();
     }
 }

@@ -1,11 +1,11 @@
 //! Frames with a SUBSCRIBE (RFC 8765, 6.2).
 
-ghost use Rattle.std.specs.Prelude.{◌≡◌, ◌≤◌, ◌==◌, [], false, Some, None, length, IfSome, IfNone};
-ghost use Rattle.rrset.specs.Header.{two_octets, is_response, opcode_of};
+ghost use Rattle.std.specs.Prelude.{◌≡◌, ◌==◌, [], false, Some, None, IfSome, IfNone};
 ghost use Rattle.dsotlv.specs.Messages.{first_message};
 ghost use Rattle.dnspush.specs.Script.{is_subscribe_head, is_subscribe, is_one_subscribe};
 ghost use Rattle.dsotlv.specs.TlvKinds.{subscribe_tlv};
 
+use crate::header::{is_response, number_at, opcode_of};
 use dsotlv::head;
 use dsotlv::message::DsoHead;
 
@@ -36,20 +36,12 @@ pub(crate) fn one_message(octets: &[u8]) -> Option<&[u8]>
     if octets.len() < LENGTH {
         return None;
     }
-    let size = usize::from(number_in(octets));
+    let size = usize::from(number_at(octets, 0));
     let (_, message) = octets.split_at(LENGTH);
     if message.len() != size {
         return None;
     }
     Some(message)
-}
-
-// The number of the first two octets.
-fn number_in(octets: &[u8]) -> u16
-    requires { 2 ≤ length octets.now }
-    ensures { result ≡ two_octets octets.now 0 }
-{
-    u16::from_be_bytes([octets[0], octets[1]])
 }
 
 // Whether a message is a SUBSCRIBE with an ID (RFC 8490, 5.4; RFC 8765, 6.2).
@@ -80,18 +72,4 @@ fn begins_with_subscribe(head: &DsoHead) -> bool
         Some((kind, _)) => kind == SUBSCRIBE,
         None => false,
     }
-}
-
-// QR of a message's flags (RFC 1035, 4.1.1).
-fn is_response(flags: u16) -> bool
-    ensures { result ≡ is_response flags }
-{
-    flags >= 0x8000
-}
-
-// OPCODE of a message's flags (RFC 1035, 4.1.1).
-fn opcode_of(flags: u16) -> u16
-    ensures { result ≡ opcode_of flags }
-{
-    flags / 2048 % 16
 }

@@ -3,7 +3,7 @@ use Rattle.dnspush.proofs.SoFar.{SoFar}
 use Rattle.dnspush.proofs.script.read_script_lines.Given as goal
 
 abbrev pub invariant-lines : goal.invariant-lines
-invariant-lines l = SoFar l.fn.octets l.script.zone l.script.sends.items l.number l.rest
+invariant-lines l = SoFar l.fn.octets l.script.homes l.script.events.items l.number l.rest
 
 abbrev pub decreases-lines : goal.decreases-lines
 decreases-lines l = length l.rest
