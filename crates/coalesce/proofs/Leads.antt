@@ -135,7 +135,7 @@ takes_all : (name : Labels) (old new : RecordSet) → list_all (is_of name) old 
 takes_all name [] new h = λ k there. cc
 takes_all name (e ∷ es) new h = takes_its_own name e.0.owner (e ∷ es) (and_parts _ _ (and_parts (is_of name e) (list_all (is_of name) es) h).0).0 h
 
-is_empty-nothing : {X : Type 0} (xs : List X) → is_empty xs ≡ true → xs ≡ []
+pub is_empty-nothing : {X : Type 0} (xs : List X) → is_empty xs ≡ true → xs ≡ []
 is_empty-nothing [] e = refl
 is_empty-nothing (x ∷ xs) e = cc
 

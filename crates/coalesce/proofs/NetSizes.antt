@@ -27,7 +27,7 @@ use Rattle.coalesce.proofs.Sides.{Sent, sent, Side, side}
 
 -- ---- notices
 
-length-push_record : (owner : Labels) (kind class ttl : ℕ) (rdata : List ℕ) → length (push_record owner kind class ttl rdata) ≡ length (octets owner) + 10 + length rdata
+pub length-push_record : (owner : Labels) (kind class ttl : ℕ) (rdata : List ℕ) → length (push_record owner kind class ttl rdata) ≡ length (octets owner) + 10 + length rdata
 length-push_record owner kind class ttl rdata = length-record (record { owner = owner; class = class; kind = kind; ttl = ttl; rdata = rdata })
 
 -- a notice takes some octets

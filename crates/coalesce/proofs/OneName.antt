@@ -30,7 +30,7 @@ owner_same name [] (e ∷ es) h g differ = first_same name e es g
 owner_same name [] [] h g differ = absurd (true≢false differ)
 
 -- a record of the name that shows its key
-abbrev is_own : Labels → Key × Shown → Bool
+abbrev pub is_own : Labels → Key × Shown → Bool
 is_own name e = shows_its_key e && is_of name e
 
 all_own : (name : Labels) (set : RecordSet) → list_all shows_its_key set ≡ true → list_all (is_of name) set ≡ true → list_all (is_own name) set ≡ true
@@ -46,7 +46,7 @@ shown_name name e h =
     let parts = and_parts (shows_its_key e) (is_of name e) h in
     sym (same_name-lower name e.1.owner) ∙ ap (λ k. same_name name k.owner) (same_key-same (key_of (rr_of e.0 e.1)) e.0 parts.0) ∙ (and_parts _ _ parts.1).0
 
-additions_speak : (name : Labels) (set : RecordSet) → list_all (is_own name) set ≡ true → list_all (speaks_of name) (additions set) ≡ true
+pub additions_speak : (name : Labels) (set : RecordSet) → list_all (is_own name) set ≡ true → list_all (speaks_of name) (additions set) ≡ true
 additions_speak name [] own = refl
 additions_speak name (e ∷ es) own = let parts = and_parts (is_own name e) (list_all (is_own name) es) own in and_from _ _ (shown_name name e parts.0) (additions_speak name es parts.1)
 

@@ -78,7 +78,7 @@ side-of name set is = all_weaker (is_sent_so name) (is_of name) (sent-of name) s
 pub side-only : (name : Labels) (p : Key → Bool) (set : RecordSet) → Side name set → Side name (only p set)
 side-only name p set is = record { order = in_order-only p set is.order; own = own-only p set is.own; sent = all-filter (is_sent_so name) (λ e. p e.0) set is.sent }
 
-is_side-from : (name : Labels) (set : RecordSet) → Side name set → is_side name set ≡ true
+pub is_side-from : (name : Labels) (set : RecordSet) → Side name set → is_side name set ≡ true
 is_side-from name set is = and_from _ _ (and_from _ _ (truth _ is.order) is.own) is.sent
 
 pub parts_stay_sides : PartsStaySides

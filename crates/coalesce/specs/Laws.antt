@@ -1,6 +1,7 @@
 -- What nets promise: a subscriber that applies the net to the old set of any of its questions has the new one.
 --     is_side name set      a set as nets are made of: of one name, of class IN, as records are sent
 --     NetLeadsToNew, NetLeadsEachQuestion      the promise; and for the net of what several questions ask for
+--     NothingToTell      where a net is empty
 --     NetFitsOneMessage, NetIsReadBack      the message of one net
 --     IsPacked names      what a message takes of a queue
 --     OneOfSeveral, PackedLeads      several names in one message don't meet; what the message does to a question's set
@@ -12,7 +13,7 @@ use Rattle.dnsname.specs.Names.{Labels, is_name, same_name}
 use Rattle.rrset.specs.Kinds.{in_class, any_kind}
 use Rattle.rrset.specs.Rdata.{shape_fits}
 use Rattle.rrset.specs.Records.{matches}
-use Rattle.rrset.specs.RecordSet.{RecordSet, is_record_set, only, matching, size_of}
+use Rattle.rrset.specs.RecordSet.{RecordSet, is_record_set, only, matching, same_rows, size_of}
 use Rattle.rrset.specs.declared.record.Key.{Key}
 use Rattle.rrset.specs.declared.record.Shown.{Shown}
 use Rattle.rrset.specs.declared.record.Question.{Question}
@@ -53,6 +54,10 @@ NetLeadsEachQuestion = (name : Labels) (old new : RecordSet) (questions : List Q
 abbrev pub PartsStaySides : Type 0
 PartsStaySides = (name : Labels) (test : Key → Bool) (set : RecordSet) → IsTrue (is_side name set)
     → (IsTrue (is_side name (only test set))) × (IsTrue (can_be_sent set) → IsTrue (can_be_sent (only test set)))
+
+-- nothing is told exactly where both sets show the same
+abbrev pub NothingToTell : Type 0
+NothingToTell = (name : Labels) (old new : RecordSet) → IsTrue (is_side name old) → IsTrue (is_side name new) → is_empty (net old new) ≡ same_rows old new
 
 -- one name's net, alone in a PUSH
 abbrev pub NetFitsOneMessage : Type 0

@@ -28,7 +28,7 @@ pub fn same_key(first: &Key, second: &Key) -> bool
 }
 
 /// Whether the same is shown, to the letter.
-fn same_shown(first: &Shown, second: &Shown) -> bool
+pub fn same_shown(first: &Shown, second: &Shown) -> bool
     ensures { result ≡ same_shown first.now second.now }
 {
     same_octets(first.owner.octets(), second.owner.octets())

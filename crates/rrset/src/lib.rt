@@ -21,8 +21,9 @@ ghost use Rattle.rrset.specs.Rdata.{shape_fits, lowered_rdata, rdata_at};
 ghost use Rattle.rrset.specs.Records.{key_of, shown_of, rr_size, matches, same_key};
 ghost use Rattle.rrset.specs.RecordSet.{RecordSet, put, shown_at, at_name, size_at, matching, set_of, changes};
 
-pub use comparing::{changes, put_all, same_key, same_keys, same_rows};
+pub use comparing::{changes, put_all, same_key, same_keys, same_rows, same_shown};
 pub use matching::{matches, rr_size, same_question};
+pub use order::compare_keys;
 pub use reading::{RdataFault, read_rdata};
 pub use record::{
     Changed, HeardRr, HeardRrs, Hearing, Key, NoMemory, Question, Questions, Rr, Rrs, Shown,

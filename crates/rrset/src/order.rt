@@ -10,7 +10,7 @@ use dnsname::Name;
 use std::cmp::Ordering;
 
 /// The order of keys: by owner, kind, rdata and class.
-pub(crate) fn compare_keys(first: &Key, second: &Key) -> Ordering
+pub fn compare_keys(first: &Key, second: &Key) -> Ordering
     ensures { result ≡ key_cmp first.now second.now }
 {
     let owners = first.owner.octets().cmp(second.owner.octets());

@@ -1,0 +1,24 @@
+use Rattle.std.proofs.Common.{◌++◌, ap}
+use Rattle.std.specs.Prelude.{flat_map}
+use Rattle.dsotlv.specs.Notices.{notice_octets}
+use Rattle.coalesce.specs.Net.{additions}
+use Rattle.coalesce.specs.Sides.{frame_octets}
+use Rattle.coalesce.specs.Steps.{added}
+use Rattle.coalesce.proofs.OneSide.{first_short, rest_side}
+use Rattle.coalesce.proofs.Turns.{append_more, append_room}
+use Rattle.coalesce.proofs.adding.append_all.Goals as goal
+
+pub append_addition-requires-clause-rdata : goal.append_addition-requires-clause-rdata
+append_addition-requires-clause-rdata c = first_short c.records.rest c.in-Some.field-0.now c.next.new.self c.records.invariant.0 c.in-Some.ensures.rest
+
+pub append_addition-requires-clause-room : goal.append_addition-requires-clause-room
+append_addition-requires-clause-room c =
+    append_room c.records.out c.args.out.now (added c.in-Some.field-0.now) (additions c.next.new.self) (additions c.records.rest) (additions c.args.new.now) frame_octets
+    (ap additions c.in-Some.ensures.rest) c.requires.room c.records.invariant.1
+
+pub records-preserved : goal.records-preserved
+records-preserved c = (
+  rest_side c.records.rest c.in-Some.field-0.now c.next.new.self c.records.invariant.0 c.in-Some.ensures.rest,
+  append_more c.records.out c.append_addition.new.out (added c.in-Some.field-0.now) (additions c.next.new.self) (additions c.records.rest) (c.args.out.now ++ flat_map notice_octets (additions c.args.new.now))
+      c.append_addition.ensures (ap additions c.in-Some.ensures.rest) c.records.invariant.1,
+)

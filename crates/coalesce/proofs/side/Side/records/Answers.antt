@@ -1,0 +1,7 @@
+use Rattle.std.proofs.Common.{subst}
+use Rattle.coalesce.specs.Sides.{IsOneSide, is_asked}
+use Rattle.coalesce.proofs.OneSide.{only_one_side}
+use Rattle.coalesce.proofs.side.Side.records.Goals as goal
+
+pub returns-clause-side : goal.returns-clause-side
+returns-clause-side c = subst IsOneSide c.self.view_is (only_one_side (is_asked c.self.inside.asking) c.self.inside.rows.now c.self.invariant)
