@@ -25,14 +25,14 @@ abbrev zeros : List ℕ
 zeros = 0 ∷ 0 ∷ 0 ∷ 0 ∷ 0 ∷ 0 ∷ 0 ∷ 0 ∷ []
 
 -- what a message says with these flags
-abbrev said : ℕ → ℕ → List Tlv → DsoMessage
+abbrev pub said : ℕ → ℕ → List Tlv → DsoMessage
 said id flags tlvs = record { id = id; response = is_response flags; rcode = rcode_of flags; tlvs = tlvs }
 
 -- reading, by its tests
-abbrev by_tests : Bool → Bool → Bool → Result (List Tlv) DsoFault → ℕ → ℕ → Result DsoMessage DsoFault
+abbrev pub by_tests : Bool → Bool → Bool → Result (List Tlv) DsoFault → ℕ → ℕ → Result DsoMessage DsoFault
 by_tests short dso counts tlvs id flags = cond short (Err Short) (cond dso (cond counts (tlvs >>= λ tlvs. Ok (said id flags tlvs)) (Err Counts)) (Err Opcode))
 
-same_tests : (text : List ℕ) → dso_of text ≡ by_tests (ltb (length text) 12) (eqb (opcode_of (flags_of text)) dso_opcode) (has_zero_counts text) (tlvs_of text) (id_of text) (flags_of text)
+pub same_tests : (text : List ℕ) → dso_of text ≡ by_tests (ltb (length text) 12) (eqb (opcode_of (flags_of text)) dso_opcode) (has_zero_counts text) (tlvs_of text) (id_of text) (flags_of text)
 same_tests text = refl
 
 -- ---- what is spelled is read

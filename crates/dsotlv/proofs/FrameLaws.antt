@@ -15,7 +15,7 @@ use Rattle.dsotlv.specs.Laws.{AreOctets}
 use Rattle.dsotlv.proofs.Results.{found, same_found}
 use Rattle.dsotlv.proofs.Numbers.{drop_next, range_at, length-range, two_read, two_there, two_below}
 
-abbrev Split : Type 0
+abbrev pub Split : Type 0
 Split = List (List ℕ) × List ℕ
 
 ltb_false : (a b : ℕ) → ltb a b ≡ false → b ≤ a
@@ -37,7 +37,7 @@ frame_read message rest stream small e =
     ∙ ap (λ (t : Bool). cond {A = Option (List ℕ × List ℕ)} t None (Some (slice_range stream 2 (2 + length message), drop (2 + length message) stream))) (le-ltb (length stream) (2 + length message) fits)
     ∙ λ i. Some (taken i, left i)
 
-no_frame : (rest : List ℕ) → length rest < 2 + two_octets rest 0 → first_message rest ≡ None
+pub no_frame : (rest : List ℕ) → length rest < 2 + two_octets rest 0 → first_message rest ≡ None
 no_frame rest partial = ap (λ (t : Bool). cond {A = Option (List ℕ × List ℕ)} t None (Some (slice_range rest 2 (2 + two_octets rest 0), drop (2 + two_octets rest 0) rest))) (lt-ltb (length rest) (2 + two_octets rest 0) partial)
 
 -- a message that is found, and what is left behind it
@@ -62,7 +62,7 @@ frame_found stream message rest below e = by_test (ltb (length stream) (2 + two_
         let pair : List ℕ × List ℕ = (taken, drop (2 + n) stream) in
         subst (λ (x : List ℕ × List ℕ). FrameStands stream x.0 x.1) (same_found pair (message, rest) e) is
 
-no_frame_found : (stream : List ℕ) → first_message stream ≡ None → length stream < 2 + two_octets stream 0
+pub no_frame_found : (stream : List ℕ) → first_message stream ≡ None → length stream < 2 + two_octets stream 0
 no_frame_found stream e = by_test (ltb (length stream) (2 + two_octets stream 0)) refl e
   where
     by_test : (cut : Bool) → ltb (length stream) (2 + two_octets stream 0) ≡ cut
@@ -73,11 +73,11 @@ no_frame_found stream e = by_test (ltb (length stream) (2 + two_octets stream 0)
 -- ---- all messages
 
 -- what is split, by the first message
-abbrev on_first : ℕ → List ℕ → Option (List ℕ × List ℕ) → Split
+abbrev pub on_first : ℕ → List ℕ → Option (List ℕ × List ℕ) → Split
 on_first more stream None = ([], stream)
 on_first more stream (Some found) = (let others = messages_from more found.1 in (found.0 ∷ others.0, others.1))
 
-same_step : (more : ℕ) (stream : List ℕ) (first : Option (List ℕ × List ℕ)) → first_message stream ≡ first → messages_from (suc more) stream ≡ on_first more stream first
+pub same_step : (more : ℕ) (stream : List ℕ) (first : Option (List ℕ × List ℕ)) → first_message stream ≡ first → messages_from (suc more) stream ≡ on_first more stream first
 same_step more stream first e = ap (λ (o : Option (List ℕ × List ℕ)). elim o as (λ _. Split) [ None ↦ ([], stream) | Some found ↦ (let others = messages_from more found.1 in (found.0 ∷ others.0, others.1)) ]) e ∙ by_first first
   where
     by_first : (first : Option (List ℕ × List ℕ)) → elim first as (λ _. Split) [ None ↦ ([], stream) | Some found ↦ (let others = messages_from more found.1 in (found.0 ∷ others.0, others.1)) ] ≡ on_first more stream first

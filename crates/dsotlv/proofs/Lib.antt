@@ -12,3 +12,5 @@ pub mod PushWalks
 pub mod PushRecords
 pub mod PushLaws
 pub mod FrameLaws
+pub mod StreamLaws
+pub mod FaultLaws

@@ -54,7 +54,7 @@ tlvs_there (suc more) text at (tlv ∷ tlvs) sized within enough e =
 
 -- ---- what is read stands there
 
-tlv_found : (text : List ℕ) (at end : ℕ) → AreOctets text → IsWhole text at end → (drop at text ≡ tlv_octets (tlv_at text at end) ++ drop end text) × HasSize (tlv_at text at end)
+pub tlv_found : (text : List ℕ) (at end : ℕ) → AreOctets text → IsWhole text at end → (drop at text ≡ tlv_octets (tlv_at text at end) ++ drop end text) × HasSize (tlv_at text at end)
 tlv_found text at end below whole =
     let tlv = tlv_at text at end in
     let low : at + 4 ≤ end = omega (arith, whole.end_is) in

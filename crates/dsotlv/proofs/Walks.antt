@@ -63,7 +63,7 @@ tlvs-more more message place end whole =
     (with_others (tlv_at message place (place + 4 + two_octets message (place + 2))) (tlvs_from more message (place + 4 + two_octets message (place + 2)))))))
 
 -- what is missing of a TLV that isn't whole
-none-end : (message : List ℕ) (place : ℕ) → tlv_end message place ≡ None → (ltb (length message) (place + 4) ≡ true) ⊎ ((ltb (length message) (place + 4) ≡ false) × (ltb (length message) (place + 4 + two_octets message (place + 2)) ≡ true))
+pub none-end : (message : List ℕ) (place : ℕ) → tlv_end message place ≡ None → (ltb (length message) (place + 4) ≡ true) ⊎ ((ltb (length message) (place + 4) ≡ false) × (ltb (length message) (place + 4 + two_octets message (place + 2)) ≡ true))
 none-end message place e = by_tests (ltb (length message) (place + 4)) (ltb (length message) (place + 4 + two_octets message (place + 2))) e
   where
     by_tests : (no_head cut : Bool) → cond {A = Option ℕ} no_head None (cond cut None (Some (place + 4 + two_octets message (place + 2)))) ≡ None → (no_head ≡ true) ⊎ ((no_head ≡ false) × (cut ≡ true))

@@ -5,3 +5,4 @@ pub mod Notices
 pub mod Spelling
 pub mod Giving
 pub mod Laws
+pub mod Faults

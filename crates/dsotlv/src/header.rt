@@ -1,7 +1,7 @@
 //! What a reaction needs to know of a DSO message (RFC 8490, 5.4).
 
 ghost use Rattle.std.specs.Prelude.{◌≡◌, ◌≤◌, length, is_ok, None, Ok, Err};
-ghost use Rattle.dsotlv.specs.Messages.{has_zero_counts, tlvs_of, primary_of, head_of};
+ghost use Rattle.dsotlv.specs.Messages.{has_zero_counts, tlvs_of, primary_of, primary_data, head_of};
 ghost use Rattle.dsotlv.specs.Giving.{tlv_end};
 
 use crate::message::DsoHead;
@@ -62,6 +62,20 @@ fn primary(message: &[u8], tlvs_good: bool) -> Option<(u16, u16)>
         return None;
     }
     Some((number_at(message, HEADER), number_at(message, HEADER + 2)))
+}
+
+/// The data of the first TLV (RFC 8490, 5.4.2), or nothing where no TLV or a broken one follows the header.
+pub fn primary_data(message: &[u8]) -> &[u8]
+    requires { 12 ≤ length message.now }
+    ensures { result.now ≡ primary_data message.now }
+{
+    if !tlvs_are_whole(message) {
+        return &[];
+    }
+    match tlv_end(message, HEADER) {
+        Some(end) => &message[HEADER + TLV_HEAD..end],
+        None => &[],
+    }
 }
 
 /// The head of a DSO message: the ID and flags of its header, whether its counts are 0 and its TLVs whole, and

@@ -1,6 +1,7 @@
 //! DSO messages and notices: reading and writing them (RFC 8490, 5.4; RFC 8765, 6).
 #![tactic(auto)]
 
+mod framer;
 mod header;
 pub mod laws;
 pub mod message;
@@ -21,7 +22,8 @@ ghost use Rattle.dsotlv.specs.Messages.{head_of, dso_of, frame, messages_in, dso
 ghost use Rattle.dsotlv.specs.Notices.{notices_of, question_of, reconfirm_of, notice_octets, applied_all};
 ghost use Rattle.rrset.specs.RecordSet.{set_of};
 
-pub use header::head;
+pub use framer::Framer;
+pub use header::{head, primary_data};
 pub use message::{
     DsoFault, DsoHead, DsoMessage, Notice, Notices, PushFault, Tlv, Tlvs, WriteDsoFault,
 };

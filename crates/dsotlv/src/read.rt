@@ -1,9 +1,9 @@
 //! Reading DSO messages (RFC 8490, 5.4).
 
-ghost use Rattle.std.specs.Prelude.{◌≡◌, ◌+◌, ◌≤◌, length, slice_range, IfOk};
-ghost use Rattle.rrset.specs.Header.{two_octets};
+ghost use Rattle.std.specs.Prelude.{◌≡◌, ◌≢◌, ◌+◌, ◌<◌, ◌≤◌, length, slice_range, Err, IfOk, IsFalse};
+ghost use Rattle.rrset.specs.Header.{two_octets, flags_of, opcode_of};
 ghost use Rattle.dsotlv.specs.Giving.{GivesDso};
-ghost use Rattle.dsotlv.specs.Messages.{tlvs_of, dso_of};
+ghost use Rattle.dsotlv.specs.Messages.{tlvs_of, dso_opcode, has_zero_counts, dso_of};
 
 use crate::NoMemory;
 use crate::header::{HEADER, has_zero_counts, tlv_end};
@@ -48,9 +48,13 @@ fn tlvs_of(alloc: Global, message: &[u8]) -> Result<Tlvs, DsoFault>
 }
 
 /// Reads a DSO message: a header with OPCODE 6 and counts of 0, then whole TLVs, to the last octet. A fault is the
-/// first in this order; that of a TLV has the place where the TLV begins.
+/// first in this order; that of a TLV has the place where the TLV begins. For the header no memory is taken, so that
+/// its faults come always.
 pub fn read_dso(alloc: Global, message: &[u8]) -> Result<DsoMessage, DsoFault>
     ensures exact { GivesDso result (dso_of message.now) }
+    ensures short { length message.now < 12 → result ≡ Err DsoFault.Short }
+    ensures opcode { 12 ≤ length message.now → opcode_of (flags_of message.now) ≢ dso_opcode → result ≡ Err DsoFault.Opcode }
+    ensures counts { 12 ≤ length message.now → opcode_of (flags_of message.now) ≡ dso_opcode → IsFalse (has_zero_counts message.now) → result ≡ Err DsoFault.Counts }
 {
     if message.len() < HEADER {
         return Err(DsoFault::Short);

@@ -1,0 +1,110 @@
+//! Octets of a connection until they are whole messages (RFC 7766, 8).
+
+ghost use Rattle.std.specs.Prelude.{◌≡◌, ◌-◌, ◌<◌, ◌≤◌, ◌++◌, [], length, min, take, drop, slice_range, option_map, Some, None, IfOk, IfSome, IsSome, MatchOption};
+ghost use Rattle.push_base.specs.Limits.{max_input};
+ghost use Rattle.dsotlv.specs.Messages.{first_message};
+
+use crate::NoMemory;
+use crate::number::number_at;
+use std::alloc::Global;
+use std::marker::Model;
+
+/// The octets that one end keeps unread: a whole frame, and 4,096 more.
+const MAX_INPUT: usize = 69_633;
+
+/// The octets of a message's length (RFC 7766, 8).
+const LENGTH: usize = 2;
+
+/// Octets of a connection until they are whole messages (RFC 7766, 8): at most 69,633, which is a whole frame and
+/// 4,096 more. Its memory is taken once, with `new`.
+#[derive(Debug, Drop)]
+pub struct Framer {
+    octets: Vec<u8>,
+}
+
+impl Model for Framer {
+    ghost use Rattle.std.specs.Prelude.{ℕ, List, ◌≤◌};
+    ghost use Rattle.std.specs.Vec.{vec_len, vec_capacity};
+    ghost use Rattle.push_base.specs.Limits.{max_input};
+
+    ghost Value = { List ℕ };
+
+    ghost view = { λ f. f.octets.items };
+
+    ghost invariant = { λ f. (vec_len f.octets ≤ max_input) × (max_input ≤ vec_capacity f.octets) };
+}
+
+/// The place after the first message, where it is whole.
+fn first_end(octets: &[u8]) -> Option<usize>
+    ensures found { IfSome result (λ end. first_message octets.now ≡ Some (slice_range octets.now 2 end, drop end octets.now)) }
+    ensures head { IfSome result (λ end. 2 ≤ end) }
+    ensures within { IfSome result (λ end. end ≤ length octets.now) }
+    ensures most { IfSome result (λ end. end ≤ 65537) }
+    ensures none { result ≡ None → first_message octets.now ≡ None }
+    ensures room { result ≡ None → length octets.now ≤ 65536 }
+{
+    if octets.len() < LENGTH {
+        return None;
+    }
+    let size = usize::from(number_at(octets, 0));
+    if octets.len() - LENGTH < size {
+        return None;
+    }
+    Some(LENGTH + size)
+}
+
+impl Framer {
+    /// No octets yet.
+    pub fn new(alloc: Global) -> Result<Self, NoMemory>
+        ensures { IfOk result (λ framer. framer ≡ []) }
+    {
+        let octets = Vec::with_capacity(alloc, MAX_INPUT)?;
+        Ok(Framer { octets })
+    }
+
+    /// Takes the longest front of a piece for which there is room, and gives its octets' number.
+    pub fn push(&mut self, piece: &[u8]) -> usize
+        ensures count { result ≡ min (length piece.now) (max_input - length self.old) }
+        ensures taken { self.new ≡ self.old ++ take (max_input - length self.old) piece.now }
+    {
+        let room = MAX_INPUT - self.octets.len();
+        let (front, _) = piece.split_at(piece.len().min(room));
+        if self.octets.extend_from_slice(front).is_err() {
+            unreachable!();
+        }
+        front.len()
+    }
+
+    /// The first message, where it is whole. It has at most 65,535 octets. Where none is whole, there is room for
+    /// 4,097 octets and more.
+    pub fn next(&self) -> Option<&[u8]>
+        ensures first { MatchOption result (first_message self.now ≡ None) (λ message. option_map (λ f. f.0) (first_message self.now) ≡ Some message.now) }
+        ensures most { IfSome result (λ message. length message.now ≤ 65535) }
+        ensures room { result ≡ None → length self.now ≤ 65536 }
+    {
+        let end = first_end(&self.octets)?;
+        Some(&self.octets[LENGTH..end])
+    }
+
+    /// Takes the first message out, with its length. What follows it stays.
+    pub fn drop_first(&mut self)
+        requires { IsSome (first_message self.old) }
+        ensures left { option_map (λ f. f.1) (first_message self.old) ≡ Some self.new }
+        ensures shorter { length self.new < length self.old }
+    {
+        match first_end(&self.octets) {
+            Some(end) => {
+                self.octets.drain(..end);
+            }
+            None => unreachable!(),
+        }
+    }
+
+    /// The octets that are there.
+    pub fn octets(&self) -> &[u8]
+        ensures octets { result.now ≡ self.now }
+        ensures most { length self.now ≤ max_input }
+    {
+        &self.octets
+    }
+}
