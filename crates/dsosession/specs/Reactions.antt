@@ -37,15 +37,20 @@ primary_reaction head kind size = chosen (
     ∷ (kind == reconfirm_tlv, if head.id == 0 then Reconfirm else Abort (ends.Misuse kind))
     ∷ []) (answer_or_end head dsotypeni (ends.Unknown kind))
 
+-- by the rest of its form, of a message with OPCODE 6 and zero counts that is no response
+abbrev pub dso_reaction : DsoHead → Bool → Reaction
+dso_reaction head established = chosen (
+    (not (head.tlvs_good && is_some head.primary), answer_or_end head formerr ends.Tlvs)
+    ∷ (head.id == 0 && not established, Abort ends.Early)
+    ∷ []) (elim head.primary [ None ↦ answer_or_end head formerr ends.Tlvs | Some primary ↦ primary_reaction head primary.0 primary.1 ])
+
 abbrev pub server_reaction : DsoHead → Bool → Reaction
 server_reaction head established = chosen (
     (is_response head.flags, Abort ends.Answer)
     ∷ (opcode_of head.flags == update_opcode, Update)
     ∷ (not (opcode_of head.flags == dso_opcode), NotImplemented)
     ∷ (not head.zero_counts, answer_or_end head formerr ends.Counts)
-    ∷ (not (head.tlvs_good && is_some head.primary), answer_or_end head formerr ends.Tlvs)
-    ∷ (head.id == 0 && not established, Abort ends.Early)
-    ∷ []) (elim head.primary [ None ↦ answer_or_end head formerr ends.Tlvs | Some primary ↦ primary_reaction head primary.0 primary.1 ])
+    ∷ []) (dso_reaction head established)
 
 abbrev pub close : CloseReason → ClientReaction
 close reason = clients.Close reason

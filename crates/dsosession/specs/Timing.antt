@@ -1,5 +1,6 @@
 -- The timers of both ends; all numbers are milliseconds (after RFC 8490, 6).
 --     server_start, server_spoke, server_ends      from the connection on; after a message; why the session ends
+--     is_silent, is_idle, reason_of      the two reasons, and which one counts
 --     client_start, client_spoke, client_due      the same of the client; what is due
 use Rattle.std.specs.Prelude.{ℕ, ◌+◌, ◌*◌, Bool, not, ◌&&◌, max, Option, Some, None, nat_le, ◌==◌, if◌then◌else◌}
 use Rattle.dsosession.specs.declared.session.Timers.{Timers}
@@ -37,13 +38,22 @@ infinite = 0xffffffff
 abbrev pub has_passed : ℕ → ℕ → ℕ → Bool
 has_passed span since now = nat_le (since + span) now
 
--- silent where no message came or went for twice the interval; idle where a session without a subscription had no
--- message but Keepalives for twice the timeout, at least five seconds (RFC 8490, 6.4.1 and 6.5.1)
+-- silent where no message came or went for twice the interval (RFC 8490, 6.5.1)
+abbrev pub is_silent : Clocks → ℕ → Bool
+is_silent clocks now = not (clocks.timers.keepalive == infinite) && has_passed (2 * clocks.timers.keepalive) clocks.last_message now
+
+-- idle where a session without a subscription had no message but Keepalives for twice the timeout, at least five
+-- seconds (RFC 8490, 6.4.1)
+abbrev pub is_idle : Clocks → ℕ → ℕ → Bool
+is_idle clocks now subscriptions =
+    subscriptions == 0 && not (clocks.timers.inactivity == infinite) && has_passed (max (2 * clocks.timers.inactivity) 5000) clocks.last_other now
+
+-- silence comes first
+abbrev pub reason_of : Bool → Bool → Option EndReason
+reason_of silent idle = if silent then Some Silent else if idle then Some Idle else None
+
 abbrev pub server_ends : Clocks → ℕ → ℕ → Option EndReason
-server_ends clocks now subscriptions =
-    if not (clocks.timers.keepalive == infinite) && has_passed (2 * clocks.timers.keepalive) clocks.last_message now then Some Silent
-    else if subscriptions == 0 && not (clocks.timers.inactivity == infinite) && has_passed (max (2 * clocks.timers.inactivity) 5000) clocks.last_other now then Some Idle
-    else None
+server_ends clocks now subscriptions = reason_of (is_silent clocks now) (is_idle clocks now subscriptions)
 
 -- a client that asks for nothing closes; one that has been silent sends a Keepalive (RFC 8490, 6.4 and 6.5)
 abbrev pub client_due : Clocks → ℕ → Bool → Bool → Due

@@ -1,0 +1,90 @@
+//! When a session of the server ends where no message passes (RFC 8490, 6).
+
+ghost use Rattle.std.specs.Prelude.{◌≡◌, ◌≤◌, IfSome, ◌+◌, ◌*◌, ◌||◌, ◌&&◌, ◌==◌, ℕ, max, not};
+ghost use Rattle.push_base.specs.Limits.{max_number};
+ghost use Rattle.dsosession.specs.Timing.{infinite, has_passed, is_silent, is_idle, reason_of, default_timers};
+ghost use Rattle.dsosession.specs.ServerStates.{has_come};
+
+use crate::session::{EndReason, Timers};
+
+/// A timer of so many milliseconds never ends (RFC 8490, 6.4.2 and 6.5.2).
+const INFINITE: u32 = 0xffff_ffff;
+
+/// The least span of milliseconds after which a session is idle (RFC 8490, 6.4.1).
+const LEAST_IDLE: u64 = 5_000;
+
+/// The timers until a Keepalive says otherwise, in milliseconds (RFC 8490, 6.2).
+pub(crate) fn default_timers() -> Timers
+    ensures { result ≡ default_timers }
+{
+    Timers {
+        inactivity: 15_000,
+        keepalive: 15_000,
+    }
+}
+
+/// The moment at which a span has passed since another one; none where the timer is infinite, or the moment lies
+/// beyond all moments.
+fn end_of(timer: u32, span: u64, since: u64) -> Option<u64>
+    ensures { (now : ℕ) → now ≤ max_number → has_come result now ≡ (not (timer == infinite) && has_passed span since now) }
+{
+    if timer == INFINITE {
+        return None;
+    }
+    since.checked_add(span)
+}
+
+/// The moment from which a session is silent (RFC 8490, 6.5.1).
+pub(crate) fn silent_from(timers: Timers, last_message: u64) -> Option<u64>
+    ensures { (last_other now : ℕ) → now ≤ max_number → has_come result now ≡ is_silent (record { timers = timers; last_message = last_message; last_other = last_other }) now }
+{
+    end_of(
+        timers.keepalive,
+        2 * u64::from(timers.keepalive),
+        last_message,
+    )
+}
+
+/// The moment from which a session with so many subscriptions is idle (RFC 8490, 6.4.1).
+pub(crate) fn idle_from(timers: Timers, last_other: u64, subscriptions: usize) -> Option<u64>
+    ensures { (last_message now : ℕ) → now ≤ max_number → has_come result now ≡ is_idle (record { timers = timers; last_message = last_message; last_other = last_other }) now subscriptions }
+{
+    if subscriptions != 0 {
+        return None;
+    }
+    let span = (2 * u64::from(timers.inactivity)).max(LEAST_IDLE);
+    end_of(timers.inactivity, span, last_other)
+}
+
+/// Why a session ends that is silent or idle or both; none where it is neither.
+pub(crate) fn reason_of(silent: bool, idle: bool) -> Option<EndReason>
+    ensures { result ≡ reason_of silent idle }
+{
+    if silent {
+        Some(EndReason::Silent)
+    } else if idle {
+        Some(EndReason::Idle)
+    } else {
+        None
+    }
+}
+
+/// Whether a moment has come.
+pub(crate) fn has_come(moment: Option<u64>, now: u64) -> bool
+    ensures { result ≡ has_come moment now }
+{
+    moment.is_some_and(|moment| moment <= now)
+}
+
+/// The earlier of two moments.
+pub(crate) fn earlier(one: Option<u64>, other: Option<u64>) -> Option<u64>
+    ensures comes { (now : ℕ) → has_come result now ≡ (has_come one now || has_come other now) }
+    ensures told { IfSome result (λ moment. moment ≤ max_number) }
+{
+    match (one, other) {
+        (Some(one), Some(other)) => Some(one.min(other)),
+        (Some(one), None) => Some(one),
+        (None, Some(other)) => Some(other),
+        (None, None) => None,
+    }
+}
