@@ -1,7 +1,8 @@
 //! The homes of names (RFC 1034, 4.2).
 
-ghost use Rattle.std.specs.Prelude.{◌≡◌, ◌≤◌, ℕ, [], ◌∷◌, ◌++◌, false, map, fold, position, Some, None, MatchOption, OnOk, OnErr, IfOk, slice_get};
-ghost use Rattle.dnsname.specs.Names.{same_name};
+ghost use Rattle.std.specs.Prelude.{◌≡◌, ◌≤◌, ℕ, [], ◌∷◌, ◌++◌, false, map, fold, position, Some, None, MatchOption, OnOk, OnErr, IfOk, IsTrue, slice_get};
+ghost use Rattle.std.specs.List.{AllByRecursion};
+ghost use Rattle.dnsname.specs.Names.{is_name, same_name};
 ghost use Rattle.push_base.specs.Limits.{max_octets_at_name};
 ghost use Rattle.rrset.specs.RecordSet.{at_name, size_of, union};
 ghost use Rattle.rrset.specs.Tables.{HaveLowerOwners};
@@ -90,6 +91,15 @@ fn put_all(all: &mut Table, rows: &[(Key, Shown)]) -> Result<(), NoMemory>
     Ok(())
 }
 
+/// Tells that the names of zones are names (RFC 1035, 3.1).
+fn tell_names(zones: &[Zone])
+    ensures { AllByRecursion (λ z. IsTrue (is_name z.state.apex)) zones.now }
+{
+    'zones: for zone in zones {
+        let _ = zone.apex().octets();
+    }
+}
+
 /// The records of all of some zones.
 fn united(alloc: Global, zones: &[Zone]) -> Result<Table, NoMemory>
     ensures { IfOk result (λ all. all.rows ≡ fold union [] (map (λ z. z.state.rows) zones.now)) }
@@ -122,6 +132,11 @@ impl Homes {
         }
     }
 
+    /// The allocator of the homes.
+    pub fn allocator(&self) -> Global {
+        *self.zones.allocator()
+    }
+
     /// Adds a zone behind the others. `Many`: there are 16. `Long`: its name has more than 200 octets. `Clash(i)`: home
     /// i, counted from 0, has the same name.
     pub fn add_zone(&mut self, zone: Zone) -> Result<(), HomeFault>
@@ -140,6 +155,13 @@ impl Homes {
         }
         self.zones.push(zone)?;
         Ok(())
+    }
+
+    /// Tells that the names of the zones are names (RFC 1035, 3.1).
+    pub fn tell_names(&self)
+        ensures { AllByRecursion (λ z. IsTrue (is_name z.state.apex)) self.now }
+    {
+        tell_names(&self.zones)
     }
 
     /// The home of a name: the one with the longest name that it ends in.
@@ -192,6 +214,13 @@ impl Homes {
             return &[];
         };
         zone_at(&self.zones, index, name)
+    }
+
+    /// All records in a table of their own.
+    pub(crate) fn table(&self, alloc: Global) -> Result<Table, NoMemory>
+        ensures { IfOk result (λ table. (t : ℕ) → table.rows ≡ records (at_moment self.now t)) }
+    {
+        united(alloc, &self.zones)
     }
 
     /// All records, in key order.

@@ -9,6 +9,7 @@ mod points;
 mod replaying;
 #[cfg(test)]
 mod tests;
+mod totals;
 mod updating;
 
 ghost use Rattle.std.specs.Prelude.{◌≡◌, [], ◌∷◌, true, false, codes, Some, None, Err, option_map};

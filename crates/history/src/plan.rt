@@ -70,6 +70,14 @@ impl ChangedKeys {
     {
         &self.items
     }
+
+    /// The keys themselves.
+    pub fn into_vec(self) -> Vec<Changed>
+        ensures { result.items ≡ self }
+    {
+        let ChangedKeys { items } = self;
+        items
+    }
 }
 
 /// What becomes of an entry.

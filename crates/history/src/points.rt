@@ -6,15 +6,18 @@ ghost use Rattle.rrset.specs.Records.{rr_of};
 ghost use Rattle.rrset.specs.RecordSet.{at_name, size_of, matching};
 ghost use Rattle.history.specs.States.{records_at, entry_size, journal_has_room};
 ghost use Rattle.history.specs.Plans.{IsStart, planned};
+ghost use Rattle.history.specs.Totals.{totals};
+ghost use Rattle.history.specs.Standing.{AreAtHome};
 ghost use Rattle.history.specs.Keeping.{state_of, state_now, records_now, held_for, told_plan, IsHeld};
 
-use crate::entry::Entry;
+use crate::entry::{Entry, Totals};
 use crate::homes::Homes;
 use crate::plan::{PastFault, Planned};
 use crate::planning::{HeldPlan, make, moment_after, plan_of};
 use crate::replaying::{matching_rrs, replayed};
+use crate::totals::totals;
 use dnsname::Name;
-use rrset::{Key, NoMemory, Question, Rrs, Shown};
+use rrset::{Key, NoMemory, Question, Rrs, Shown, Table};
 use std::alloc::Global;
 use std::marker::Model;
 
@@ -58,7 +61,8 @@ impl Points {
     /// The history of homes in which nothing has changed yet.
     pub fn new(homes: Homes) -> Result<Points, NoMemory>
         requires { IsStart (state_of homes) }
-        ensures { IfOk result (λ points. points ≡ record { past = record { start = state_of homes; history = [] }; held = None }) }
+        ensures points { IfOk result (λ points. points ≡ record { past = record { start = state_of homes; history = [] }; held = None }) }
+        ensures home { AreAtHome (state_of homes) }
     {
         let alloc = *homes.zones.allocator();
         let past = Past {
@@ -96,6 +100,13 @@ impl Points {
         self.past.entries.len() as u64
     }
 
+    /// How many entries of each group there are.
+    pub fn counts(&self) -> Totals
+        ensures { result ≡ totals self.now.past.history }
+    {
+        totals(&self.past.entries)
+    }
+
     /// The number of the start state.
     pub fn start(&self) -> u64
         ensures { result ≡ 0 }
@@ -110,6 +121,13 @@ impl Points {
         self.homes.all(alloc)
     }
 
+    /// The records at the newest point, in a table of their own.
+    pub fn table(&self, alloc: Global) -> Result<Table, NoMemory>
+        ensures { IfOk result (λ table. table.rows ≡ records_now self.now.past) }
+    {
+        self.homes.table(alloc)
+    }
+
     /// The records of a name at the newest point, in key order. They have at most 60,000 octets.
     pub fn at(&self, name: &Name) -> &[(Key, Shown)]
         ensures records { result.now ≡ at_name name.now (records_now self.now.past) }
@@ -119,11 +137,13 @@ impl Points {
     }
 
     /// What becomes of an entry: the RCODE that refuses an update, or exactly the keys that will be shown otherwise. An
-    /// accepted plan is held, with the room that it needs, until the entry was appended or something else is planned.
+    /// accepted plan is held, with the room that it needs, until the entry was appended or the next call of `plan`, also
+    /// where memory runs out in that.
     pub fn plan(&mut self, alloc: Global, entry: &Entry) -> Result<Planned, NoMemory>
         ensures planned { IfOk result (λ answer. answer ≡ told_plan (planned (state_now self.old.past) entry.now)) }
         ensures past { self.new.past ≡ self.old.past }
         ensures held { OnOk result (self.new.held ≡ held_for (state_now self.old.past) entry.now) }
+        ensures none { OnErr result (self.new.held ≡ None) }
     {
         self.held = None;
         let (planned, held) = plan_of(alloc, &mut self.homes, self.moment, entry)?;

@@ -36,8 +36,8 @@ fn make_change(rows: &mut Table, change: Changed)
     }
 }
 
-/// Makes the changes of a plan, where there is room for all of its keys.
-pub(crate) fn make_changes(rows: &mut Table, changed: Vec<Changed>)
+/// Makes the changes of a plan, where there is room for all of its keys. It takes no memory.
+pub fn make_changes(rows: &mut Table, changed: Vec<Changed>)
     requires lower { AllByRecursion (λ c. HasLowerOwner c.key) changed.items }
     requires room { length changed.items ≤ rows.old.spare }
     ensures { rows.new.rows ≡ with_changes changed.items rows.old.rows }

@@ -13,14 +13,14 @@ use dnsname::Name;
 use dnsname::name::Octets;
 use rrset::{Key, NoMemory, Rr, Rrs, Shown, Table};
 
-/// The TTLs that count (RFC 2181, 8).
-const MOST_TTL: u32 = 1 << 31;
+/// The first TTL with its top bit set (RFC 2181, 8).
+const FIRST_TOP_BIT: u32 = 1 << 31;
 
 /// A TTL with its top bit set counts as 0 (RFC 2181, 8).
 pub(crate) fn counted_ttl(ttl: u32) -> u32
     ensures { result ≡ counted_ttl ttl }
 {
-    if ttl < MOST_TTL { ttl } else { 0 }
+    if ttl < FIRST_TOP_BIT { ttl } else { 0 }
 }
 
 /// What is shown of a record that is added.

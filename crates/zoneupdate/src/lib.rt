@@ -23,6 +23,7 @@ ghost use Rattle.rrset.specs.RecordSet.{RecordSet};
 ghost use Rattle.zoneupdate.specs.Zones.{new_zone, serial_of_zone, serial_is_greater, is_zone};
 ghost use Rattle.zoneupdate.specs.Worked.{judged_rr, kinds_after, prerequisite_row, change_row, is_zone_after, added_twice};
 
+pub use applying::make_changes;
 pub use plan::{Under, Verdict, ZoneFault, ZonePlan};
 pub use zone::Zone;
 

@@ -18,7 +18,7 @@ use rrset::{Rr, Rrs};
 /// The kind of no record, but of what a message says of its sender (RFC 6891).
 const OPT: u16 = 41;
 
-/// The first of the kinds that stand for questions alone (RFC 6895, 3.1).
+/// The first of the kinds that stand in messages alone: meta kinds, and those of questions (RFC 6895, 3.1).
 const FIRST_META: u16 = 249;
 
 /// Whether no zone holds records of a kind.

@@ -60,7 +60,8 @@ impl Zone {
     }
 
     /// What an update gets that names this zone: prerequisites, permission, prescan and limits, in this order, answer
-    /// by the first that fails (RFC 2136, 3.2 to 3.4). The records stay, and room is made for the plan.
+    /// by the first that fails (RFC 2136, 3.2 to 3.4). The records stay, and room is made for the plan beside that of
+    /// earlier ones.
     pub fn check(
         &mut self,
         alloc: Global,
@@ -70,6 +71,7 @@ impl Zone {
         ensures verdict { IfOk result (λ verdict. (homes : List Labels) → IsUnder homes self.old.state.apex under.now → Judges self.old.state verdict (judged homes self.old.state update.now)) }
         ensures state { self.new.state ≡ self.old.state }
         ensures room { IfOk result (λ verdict. HasRoom self.new.spare verdict) }
+        ensures kept { self.old.spare ≤ self.new.spare }
     {
         let (rows, apex) = (&self.rows, &self.apex);
         if let Some(code) = refused_first(alloc, rows, apex, self.writable, update, under)? {
