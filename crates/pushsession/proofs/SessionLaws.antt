@@ -1,0 +1,85 @@
+-- The laws of sessions.
+use Rattle.std.proofs.Common.{◌≡◌, ◌∙◌, ℕ, zero, suc, ◌-◌, ◌<◌, Bool, true, false, cond, List, [], ◌∷◌, ◌++◌, map, length, take, Option, Some, is_some, refl, sym, ap, arith, append_assoc}
+use Rattle.std.specs.Prelude.{◌||◌, ◌==◌, nat_lt, fold, find, option_map}
+use Rattle.std.specs.List.{AllByRecursion, list_any}
+use Rattle.std.proofs.lemmas.Bool.{lt-ltb, le-ltb}
+use Rattle.std.proofs.lemmas.List.{append-nil, length-append, length-take}
+use Rattle.std.proofs.lemmas.List.Elements.{filter-append}
+use Rattle.push_base.specs.Limits.{max_input}
+use Rattle.dnsname.specs.Names.{Labels}
+use Rattle.rrset.specs.RecordSet.{RecordSet}
+use Rattle.coalesce.specs.Waiting.{WaitingName, with_copy, waits, before_point}
+use Rattle.pushsession.specs.Kept.{Filled, filled_of, is_open, noted_name, touched}
+use Rattle.pushsession.specs.Laws.{NotesGoBack, PiecesAreOne, EachQuestionHasItsEnd}
+
+-- ---- names that were noted
+
+copy_goes : (name : Labels) (sent : RecordSet) (point : ℕ) (queue : List WaitingName) → before_point point (with_copy name sent point queue) ≡ before_point point queue
+copy_goes name sent point queue = by (waits name queue)
+  where
+    new : WaitingName
+    new = record { name = name; point = point; old = sent }
+
+    by : (b : Bool) → before_point point (cond b queue (queue ++ new ∷ [])) ≡ before_point point queue
+    by true = refl
+    by false =
+        filter-append (λ (w : WaitingName). nat_lt w.point point) queue (new ∷ [])
+        ∙ ap (λ (b : Bool). before_point point queue ++ cond b (new ∷ []) []) (le-ltb point point (omega arith))
+        ∙ append-nil (before_point point queue)
+
+names_go : (rows : RecordSet) (point : ℕ) (names : List Labels) (queue : List WaitingName) → before_point point (fold (noted_name rows point) queue names) ≡ before_point point queue
+names_go rows point [] queue = refl
+names_go rows point (name ∷ names) queue = names_go rows point names (noted_name rows point queue name) ∙ copy_goes name _ point queue
+
+older_stay : (point : ℕ) (queue : List WaitingName) → AllByRecursion (λ w. w.point < point) queue → before_point point queue ≡ queue
+older_stay point [] older = refl
+older_stay point (w ∷ ws) older =
+    ap (λ (b : Bool). cond b (w ∷ before_point point ws) (before_point point ws)) (lt-ltb w.point point older.0) ∙ ap (λ (l : List WaitingName). w ∷ l) (older_stay point ws older.1)
+
+pub notes_go_back : NotesGoBack
+notes_go_back changed rows point session older =
+    ap (λ (q : List WaitingName). record session { queue = q }) (names_go rows point (touched session.asked changed) session.queue ∙ older_stay point session.queue older)
+
+-- ---- pieces
+
+take_two : (n : ℕ) (first second : List ℕ) → take n first ++ take (n - length first) second ≡ take n (first ++ second)
+take_two zero first second = let none : zero - length first ≡ zero = omega arith in ap (λ (k : ℕ). take k second) none
+take_two (suc n) [] second = let all : suc n - zero ≡ suc n = omega arith in ap (λ (k : ℕ). take k second) all
+take_two (suc n) (x ∷ first) second =
+    let less : suc n - suc (length first) ≡ n - length first = omega arith in
+    ap (λ (l : List ℕ). x ∷ l) (ap (λ (k : ℕ). take n first ++ take k second) less ∙ take_two n first second)
+
+pieces_fit : (n : ℕ) (input first second : List ℕ)
+    → (input ++ take (n - length input) first) ++ take (n - length (input ++ take (n - length input) first)) second ≡ input ++ take (n - length input) (first ++ second)
+pieces_fit n input first second =
+    let room = n - length input in
+    let left : n - length (input ++ take room first) ≡ room - length first = omega (arith, length-append input (take room first), length-take room first) in
+    ap (λ (k : ℕ). (input ++ take room first) ++ take k second) left
+    ∙ append_assoc input (take room first) (take (room - length first) second)
+    ∙ ap (λ (l : List ℕ). input ++ l) (take_two room first second)
+
+pieces_in : (open' : Bool) (input first second : List ℕ)
+    → (input ++ take (cond open' (max_input - length input) 0) first) ++ take (cond open' (max_input - length (input ++ take (cond open' (max_input - length input) 0) first)) 0) second
+    ≡ input ++ take (cond open' (max_input - length input) 0) (first ++ second)
+pieces_in true input first second = pieces_fit max_input input first second
+pieces_in false input first second = append-nil (input ++ [])
+
+pub pieces_are_one : PiecesAreOne
+pieces_are_one first second session = ap (λ (i : List ℕ). record session { input = i }) (pieces_in (is_open session.standing) session.input first second)
+
+-- ---- ends
+
+any_id : {X : Type 0} (id : ℕ) (xs : List (ℕ × X)) → list_any (λ e. e.0 == id) xs ≡ list_any (λ n. n == id) (map (λ e. e.0) xs)
+any_id id [] = refl
+any_id id (x ∷ xs) = ap (λ (b : Bool). (x.0 == id) || b) (any_id id xs)
+
+found_or : (b : Bool) (x : ℕ × ℕ) (rest : Option (ℕ × ℕ)) (any : Bool) → is_some (option_map (λ e. e.1) rest) ≡ any → is_some (option_map (λ (e : ℕ × ℕ). e.1) (cond b (Some x) rest)) ≡ (b || any)
+found_or true x rest any e = refl
+found_or false x rest any e = e
+
+found_any : (id : ℕ) (filled : Filled) → is_some (filled_of id filled) ≡ list_any (λ e. e.0 == id) filled
+found_any id [] = refl
+found_any id (x ∷ xs) = found_or (x.0 == id) x (find (λ e. e.0 == id) xs) (list_any (λ e. e.0 == id) xs) (found_any id xs)
+
+pub each_question_has_its_end : EachQuestionHasItsEnd
+each_question_has_its_end id asked filled ends = found_any id filled ∙ any_id id filled ∙ ap (list_any (λ n. n == id)) ends ∙ sym (any_id id asked)

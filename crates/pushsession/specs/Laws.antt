@@ -1,0 +1,22 @@
+-- What holds of sessions.
+--     NotesGoBack      an entry that wasn't made leaves no trace
+--     PiecesAreOne      octets come in by pieces as they would by one
+--     EachQuestionHasItsEnd      of each ID the end of its first answer is known
+use Rattle.std.specs.Prelude.{◌≡◌, ℕ, ◌<◌, List, ◌++◌, is_some}
+use Rattle.std.specs.List.{AllByRecursion}
+use Rattle.rrset.specs.RecordSet.{RecordSet}
+use Rattle.rrset.specs.declared.record.Changed.{Changed}
+use Rattle.subscr.specs.Asked.{Asked, has}
+use Rattle.pushsession.specs.Kept.{KeptSession, Filled, HasEnds, filled_of, noted, taken_back, takes}
+
+-- the names that are noted at a point go when it is taken back, where all others wait since before it
+abbrev pub NotesGoBack : Type 0
+NotesGoBack = (changed : List Changed) (rows : RecordSet) (point : ℕ) (session : KeptSession) → AllByRecursion (λ w. w.point < point) session.queue
+    → taken_back point (noted changed rows point session) ≡ session
+
+-- two pieces are taken as one (RFC 7766, 8)
+abbrev pub PiecesAreOne : Type 0
+PiecesAreOne = (first second : List ℕ) (session : KeptSession) → takes second (takes first session) ≡ takes (first ++ second) session
+
+abbrev pub EachQuestionHasItsEnd : Type 0
+EachQuestionHasItsEnd = (id : ℕ) (asked : Asked) (filled : Filled) → HasEnds asked filled → is_some (filled_of id filled) ≡ has id asked

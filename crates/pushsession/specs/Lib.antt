@@ -1,0 +1,5 @@
+pub mod Kept
+pub mod Laws
+pub mod Reacting
+pub mod Saying
+pub mod Worked

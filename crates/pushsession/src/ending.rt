@@ -1,0 +1,80 @@
+//! How a session comes to its end (RFC 8490, 6.4 to 6.6).
+
+ghost use Rattle.std.specs.Prelude.{◌≡◌, [], Some, None};
+ghost use Rattle.dsosession.specs.Timing.{has_passed};
+ghost use Rattle.pushsession.specs.Kept.{asked_to_stop, cleared, due, ended_with, timed};
+
+use crate::session::PushSession;
+use crate::standing::Standing;
+use coalesce::Queue;
+use dsosession::session::EndReason;
+use subscr::Subscriptions;
+
+/// How long a client has after a Retry Delay to close the connection, in milliseconds (RFC 8490, 6.6.1).
+const STOP_TIME: u64 = 5_000;
+
+/// Whether so long has passed since a moment.
+fn has_passed(span: u64, since: u64, now: u64) -> bool
+    ensures { result ≡ has_passed span since now }
+{
+    since <= now && span <= now - since
+}
+
+impl PushSession {
+    /// Lets go of all questions and of all names that wait.
+    pub(crate) fn clear(&mut self, standing: Standing)
+        ensures { self.new ≡ cleared standing self.old }
+    {
+        let alloc = *self.filled.allocator();
+        self.subscriptions = Subscriptions::new(alloc);
+        self.filled = Vec::new(alloc);
+        self.queue = Queue::new(alloc);
+        self.standing = standing;
+    }
+
+    /// Asks for a stop with an RCODE and a Retry Delay in milliseconds, in place of one asked for before (RFC 8490,
+    /// 6.6.1). A session that has stopped or ended stays as it is.
+    pub fn stop(&mut self, rcode: u8, delay: u32)
+        ensures { self.new ≡ asked_to_stop rcode delay self.old }
+    {
+        if self.standing.is_open() {
+            self.standing = Standing::AskedToStop(rcode, delay);
+        }
+    }
+
+    /// Ends it: it asks for nothing more, and no name waits. Octets that were written stay until they are handed on.
+    pub fn end(&mut self, reason: EndReason)
+        ensures { self.new ≡ ended_with reason self.old }
+    {
+        self.clear(Standing::Ended(reason));
+    }
+
+    /// Why it ends at a moment, if it does.
+    fn due(&self, now: u64) -> Option<EndReason>
+        ensures { result ≡ due now self.now }
+    {
+        match self.standing {
+            Standing::Ended(_) => None,
+            Standing::Stopped(since) => {
+                if has_passed(STOP_TIME, since, now) {
+                    Some(EndReason::Stopped)
+                } else {
+                    None
+                }
+            }
+            Standing::Live | Standing::AskedToStop(_, _) => {
+                self.state.moment(now, self.subscriptions.len())
+            }
+        }
+    }
+
+    /// It is a moment: a stopped session ends after 5,000 milliseconds (RFC 8490, 6.6.1), and one that goes on by its
+    /// timers (RFC 8490, 6.4 and 6.5).
+    pub fn moment(&mut self, now: u64)
+        ensures { self.new ≡ timed now self.old }
+    {
+        if let Some(reason) = self.due(now) {
+            self.end(reason);
+        }
+    }
+}

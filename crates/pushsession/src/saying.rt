@@ -1,0 +1,58 @@
+//! What a session writes, and how that counts (RFC 8490, 6; RFC 8765, 6.3).
+
+ghost use Rattle.std.specs.Prelude.{◌≡◌, ◌+◌, ◌<◌, ◌≤◌, ◌^◌, ◌++◌, [], length};
+ghost use Rattle.coalesce.specs.Sides.{frame_octets};
+ghost use Rattle.coalesce.specs.Waiting.{CanBePacked};
+ghost use Rattle.pushsession.specs.Saying.{packed, says, stopped};
+
+use crate::octets::{append_message, header, retry_delay};
+use crate::session::PushSession;
+use crate::standing::Standing;
+use rrset::Table;
+
+/// The octets of a message's length (RFC 7766, 8).
+const LENGTH: usize = 2;
+
+/// Flags with OPCODE 6, of a request (RFC 8490, 5.4).
+const REQUEST: u16 = 0x3000;
+
+impl PushSession {
+    /// Appends a message to the output: a header, and what stands behind it.
+    pub(crate) fn say(&mut self, keepalive: bool, now: u64, header: &[u8], body: &[u8])
+        requires size { length header.now + length body.now < 2 ^ 16 }
+        requires room { length self.old.output + 2 + length header.now + length body.now ≤ frame_octets }
+        ensures { self.new ≡ says keepalive now (header.now ++ body.now) self.old }
+    {
+        append_message(&mut self.output, header, body);
+        let size = LENGTH + header.len() + body.len();
+        self.written = self.written.saturating_add(size as u64);
+        self.state.wrote(keepalive, now);
+    }
+
+    /// Writes the Retry Delay, an RCODE and milliseconds, and lets go of all questions and names that wait (RFC 8490,
+    /// 6.6.1).
+    pub fn write_stop(&mut self, rcode: u8, delay: u32, now: u64)
+        requires { self.old.output ≡ [] }
+        ensures { self.new ≡ stopped rcode delay now self.old }
+    {
+        let header = header(0, REQUEST + u16::from(rcode));
+        self.say(false, now, &header, &retry_delay(delay));
+        self.clear(Standing::Stopped(now));
+    }
+
+    /// Writes one PUSH of the names that fit, as the questions ask for their records (RFC 8765, 6.3). The names in
+    /// front of the first that doesn't fit wait no more, also those with nothing to tell.
+    pub fn pack(&mut self, index: &Table, now: u64)
+        requires output { self.old.output ≡ [] }
+        requires sides { CanBePacked index.now.rows self.old.queue }
+        ensures { self.new ≡ packed index.now.rows now self.old }
+    {
+        let size = self
+            .queue
+            .pack(&self.subscriptions, index, &mut self.output);
+        if size > 0 {
+            self.written = self.written.saturating_add(size as u64);
+            self.state.wrote(false, now);
+        }
+    }
+}

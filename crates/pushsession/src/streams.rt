@@ -1,0 +1,41 @@
+//! Octets that come in and octets that are handed on.
+
+ghost use Rattle.std.specs.Prelude.{◌≡◌, ◌++◌, drop, length, min, take};
+ghost use Rattle.pushsession.specs.Kept.{copied, room_of, takes};
+
+use crate::session::PushSession;
+
+/// Copies the front of the octets that fits, and gives its length.
+fn copy_front(octets: &[u8], buf: &mut [u8]) -> usize
+    ensures count { result ≡ min (length buf.old) (length octets.now) }
+    ensures octets { buf.new ≡ take (length buf.old) octets.now ++ drop (length octets.now) buf.old }
+{
+    let count = buf.len().min(octets.len());
+    buf[..count].copy_from_slice(&octets[..count]);
+    count
+}
+
+impl PushSession {
+    /// Takes the longest front of a piece of the input for which there is room, and gives its length (RFC 7766, 8). A
+    /// session that has stopped or ended takes nothing.
+    pub fn take(&mut self, piece: &[u8]) -> usize
+        ensures count { result ≡ min (length piece.now) (room_of self.old) }
+        ensures taken { self.new ≡ takes piece.now self.old }
+    {
+        if !self.standing.is_open() {
+            return 0;
+        }
+        self.input.push(piece)
+    }
+
+    /// Copies the longest front of the output that fits, takes it out, and gives its length.
+    pub fn copy(&mut self, buf: &mut [u8]) -> usize
+        ensures count { result ≡ min (length buf.old) (length self.old.output) }
+        ensures octets { buf.new ≡ take (length buf.old) self.old.output ++ drop (length self.old.output) buf.old }
+        ensures rest { self.new ≡ copied (length buf.old) self.old }
+    {
+        let count = copy_front(self.output.octets(), buf);
+        self.output.drop_front(count);
+        count
+    }
+}
