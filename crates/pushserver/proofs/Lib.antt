@@ -1,3 +1,16 @@
 pub mod Queues
 pub mod Subscribing
 pub mod OtherSessions
+pub mod SeatLists
+pub mod Noting
+pub mod EntrySteps
+pub mod GaveSteps
+pub mod Soundness
+pub mod Observed
+pub mod JudgedSteps
+pub mod HubSteps
+pub mod session_steps
+pub mod told_rows
+pub mod hub_steps
+pub mod promises
+pub mod Wanting

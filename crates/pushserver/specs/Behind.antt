@@ -6,7 +6,8 @@ use Rattle.dsosession.specs.declared.session.EndReason.TheVariants.{Behind}
 use Rattle.history.specs.States.{entry_size, journal_has_room}
 use Rattle.history.specs.declared.entry.Entry.{Entry}
 use Rattle.pushserver.specs.Sessions.{Session, Queue, ended_with}
-use Rattle.pushserver.specs.Hubs.{Hub, each_session, entered, is_open}
+use Rattle.pushserver.specs.Hubs.{Hub, each_session, entered}
+use Rattle.pushsession.specs.Kept.{is_open}
 
 -- the least point of a queue
 abbrev pub least_point : Queue → Option ℕ

@@ -2,19 +2,19 @@
 --     give hub number room      the octets copied, what was done, and the hub after it
 --     reacted message number hub      the hub after a session has reacted to a message
 --     first_answer, packs      what follows a NOERROR answer to SUBSCRIBE; what a session's queue packs
-use Rattle.std.specs.Prelude.{ℕ, ◌+◌, Bool, true, false, not, ◌&&◌, ◌||◌, List, [], ◌∷◌, ◌++◌, map, length, take, drop, filter, Some, None, is_some, nat_le, bit_and, ◌==◌, min, if◌then◌else◌}
+use Rattle.std.specs.Prelude.{ℕ, ◌+◌, Bool, true, false, not, ◌&&◌, ◌||◌, List, [], ◌∷◌, ◌++◌, map, length, take, drop, filter, Some, None, is_some, nat_le, ◌==◌, min, if◌then◌else◌}
 use Rattle.std.specs.Int.{w16, from_be_bytes}
 use Rattle.std.specs.List.{list_any}
 use Rattle.push_base.specs.Cases.{is_empty}
 use Rattle.push_base.specs.Limits.{max_questions}
 use Rattle.dnsname.specs.Names.{Labels, lower, same_name}
 use Rattle.rrset.specs.Kinds.{in_class, any_class}
-use Rattle.rrset.specs.Rcodes.{noerror, formerr, notimp, refused, notauth}
-use Rattle.rrset.specs.Header.{id_of, flags_of, answer_octets}
+use Rattle.rrset.specs.Rcodes.{noerror, formerr, refused, notauth}
+use Rattle.rrset.specs.Header.{id_of, answer_octets}
 use Rattle.rrset.specs.RecordSet.{RecordSet, only, at_name, matching, same_rows}
 use Rattle.rrset.specs.Records.{matches}
 use Rattle.rrset.specs.declared.record.Question.{Question}
-use Rattle.dsotlv.specs.Messages.{frame, first_message, head_of, dso_flags, primary_data}
+use Rattle.dsotlv.specs.Messages.{frame, first_message, head_of, primary_data}
 use Rattle.dsotlv.specs.Answers.{answer_to, retry_delay_octets, grant_to, refusal_to}
 use Rattle.dsotlv.specs.Notices.{question_of, reconfirm_of}
 use Rattle.dsotlv.specs.declared.message.Notice.{Notice}
@@ -31,7 +31,10 @@ use Rattle.history.specs.States.{home_of, reconfirm_key, accepts}
 use Rattle.history.specs.declared.entry.Entry.TheVariants as entries
 use Rattle.pushserver.specs.declared.given.Given.{Given}
 use Rattle.pushserver.specs.declared.given.Given.TheVariants.{Bytes, Worked, Nothing, Ending, End}
-use Rattle.pushserver.specs.Sessions.{Session, Subscription, Note, Queue, Standing, live, asked_to_stop, stopped, ended, note_of, wanted, asks_for, subscription_of, subscription_for, leaves_queue, ended_with, written, says}
+use Rattle.pushsession.specs.declared.standing.Standing.{Standing}
+use Rattle.pushsession.specs.declared.standing.Standing.TheVariants.{Live, AskedToStop, Stopped, Ended}
+use Rattle.pushsession.specs.Saying.{not_implemented, stop_message}
+use Rattle.pushserver.specs.Sessions.{Session, Subscription, Note, Queue, note_of, wanted, asks_for, subscription_of, subscription_for, leaves_queue, ended_with, written, says}
 use Rattle.pushserver.specs.Hubs.{Hub, newest, state_now, now, records_now, sent, session_of, in_session, entered, can_enter, update}
 
 -- the answer to a message: a header alone, or with a Retry Delay, or with both numbers of the server
@@ -46,10 +49,6 @@ delayed_answer message rcode = refusal_to (id_of message) rcode
 
 abbrev pub grant_answer : Hub → List ℕ → List ℕ
 grant_answer hub message = grant_to (id_of message) hub.timers.inactivity hub.timers.keepalive
-
--- OPCODE and RD stay, and the RCODE is NOTIMP (RFC 1035, 4.1.1)
-abbrev pub not_implemented : List ℕ → List ℕ
-not_implemented message = answer_octets (id_of message) (0x8000 + bit_and (flags_of message) 0x7900 + notimp)
 
 -- an answer whose note gives the points after it
 abbrev pub answers : ℕ → Bool → List ℕ → Hub → Hub
@@ -170,13 +169,9 @@ packs hub session =
     let pack = packed (nets hub session) in
     says_notices (newest hub) (now hub) pack.0 (record session { queue = stays_queued pack.1 session.queue })
 
--- QR 0, OPCODE DSO, the RCODE, and a Retry Delay (RFC 8490, 6.6.1 and 7.2.1)
-abbrev pub stop_message : ℕ → ℕ → List ℕ
-stop_message rcode delay = answer_octets 0 (dso_flags false rcode) ++ retry_delay delay
-
 abbrev pub stops : Hub → ℕ → ℕ → Session → Session
 stops hub rcode delay session =
-    record (says false (now hub) (stop_message rcode delay) (note_of (newest hub) session) session) { subscriptions = []; queue = []; standing = stopped (now hub) }
+    record (says false (now hub) (stop_message rcode delay) (note_of (newest hub) session) session) { subscriptions = []; queue = []; standing = Stopped (now hub) }
 
 -- what one call of give did
 pub record Giving : Type 0 where
@@ -200,7 +195,7 @@ abbrev pub copies_or : Given → ℕ → ℕ → Session → Hub → Giving
 copies_or given number room session hub = if is_empty session.output then did given hub else copies number room session hub
 
 abbrev pub given_after : Standing → Given
-given_after (ended reason) = End reason
+given_after (Ended reason) = End reason
 given_after _ = Worked
 
 abbrev pub after_reaction : ℕ → ℕ → Hub → Giving
@@ -220,12 +215,12 @@ works number room session hub = elim (first_message session.input) [
 ]
 
 abbrev pub by_standing : Standing → ℕ → ℕ → Session → Hub → Giving
-by_standing (ended reason) number room session hub = did (End reason) hub
-by_standing (asked_to_stop rcode delay) number room session hub =
+by_standing (Ended reason) number room session hub = did (End reason) hub
+by_standing (AskedToStop rcode delay) number room session hub =
     if session.established then after_reaction number room (in_session number (stops hub rcode delay) hub)
     else did (End ends.Stopped) (ends_as number ends.Stopped hub)
-by_standing (stopped since) number room session hub = did Ending hub
-by_standing live number room session hub = works number room session hub
+by_standing (Stopped since) number room session hub = did Ending hub
+by_standing Live number room session hub = works number room session hub
 
 abbrev pub give : Hub → ℕ → ℕ → Giving
 give hub number room = elim (session_of hub number) [

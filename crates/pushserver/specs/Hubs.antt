@@ -23,7 +23,10 @@ use Rattle.pushserver.specs.declared.given.Why.{Why}
 use Rattle.pushserver.specs.declared.given.Why.TheVariants as whys
 use Rattle.pushserver.specs.declared.given.Heard.{Heard}
 use Rattle.pushserver.specs.declared.given.Heard.TheVariants.{Entered, Ignored}
-use Rattle.pushserver.specs.Sessions.{Session, Standing, live, asked_to_stop, stopped, ended, new_session, note_of, told, wanted, queued, ended_with}
+use Rattle.pushsession.specs.declared.standing.Standing.{Standing}
+use Rattle.pushsession.specs.declared.standing.Standing.TheVariants.{AskedToStop, Stopped, Ended}
+use Rattle.pushsession.specs.Kept.{is_open}
+use Rattle.pushserver.specs.Sessions.{Session, new_session, note_of, told, wanted, queued, ended_with}
 
 pub record Hub : Type 0 where
   pub start : State
@@ -104,8 +107,8 @@ hear hub link datagram = elim (hearing_of datagram) [
 
 -- a stopped session ends after 5,000 milliseconds (RFC 8490, 6.6.1), and a live one by its timers (RFC 8490, 6.4 and 6.5)
 abbrev pub timed_as : Standing → ℕ → Session → Session
-timed_as (ended reason) t session = session
-timed_as (stopped since) t session = if has_passed 5000 since t then ended_with ends.Stopped session else session
+timed_as (Ended reason) t session = session
+timed_as (Stopped since) t session = if has_passed 5000 since t then ended_with ends.Stopped session else session
 timed_as _ t session = elim (server_ends session.clocks t (length session.subscriptions)) [ None ↦ session | Some reason ↦ ended_with reason session ]
 
 abbrev pub timed : ℕ → Session → Session
@@ -126,12 +129,6 @@ connect hub = if nat_lt (length hub.sessions) max_sessions && nat_lt hub.made ma
     then (Some hub.made, record hub { sessions = hub.sessions ++ (hub.made, new_session (now hub)) ∷ []; made = hub.made + 1 })
     else (None, hub)
 
-abbrev pub is_open : Standing → Bool
-is_open live = true
-is_open (asked_to_stop rcode delay) = true
-is_open (stopped since) = false
-is_open (ended reason) = false
-
 -- how many octets of a piece go into a session's input
 abbrev pub room_of : Session → ℕ
 room_of session = cond (is_open session.standing) (max_input - length session.input) 0
@@ -147,7 +144,7 @@ take_octets hub number piece = in_session number (takes piece) hub
 
 -- a stop is asked for in place of an earlier one; an ended or stopped session is left as it is
 abbrev pub asked : ℕ → ℕ → Session → Session
-asked rcode delay session = cond (is_open session.standing) (record session { standing = asked_to_stop rcode delay }) session
+asked rcode delay session = cond (is_open session.standing) (record session { standing = AskedToStop rcode delay }) session
 
 abbrev pub stop : Hub → ℕ → ℕ → ℕ → Hub
 stop hub number rcode delay = in_session number (asked rcode delay) hub

@@ -1,13 +1,15 @@
 -- What the calls of the server promise beyond their answers.
 --     NothingWhereAllIsTold      when `give` has nothing to say
+--     NothingMeansAllIsShown      what was shown by then
 --     GiveChangesOneSession, OtherCallsKeepOutputs      what a call leaves as it was
 --     SubscribeIsAnswered      what a SUBSCRIBE gets that none of the tests refuses
-use Rattle.std.specs.Prelude.{◌≡◌, ℕ, ◌<◌, ◌||◌, ◌==◌, List, [], ◌∷◌, ◌++◌, length, Some, None, IsTrue, IsSome, option_map}
+--     MayWantMemory hub number      where memory may be wanted
+use Rattle.std.specs.Prelude.{◌≡◌, ◌⊎◌, ℕ, ◌<◌, ◌||◌, ◌==◌, List, [], ◌∷◌, ◌++◌, length, Some, None, IsTrue, IsSome, option_map}
 use Rattle.std.specs.List.{AllByRecursion}
 use Rattle.push_base.specs.Limits.{max_questions}
 use Rattle.rrset.specs.Header.{id_of}
 use Rattle.rrset.specs.Kinds.{in_class, any_class}
-use Rattle.rrset.specs.RecordSet.{at_name}
+use Rattle.rrset.specs.RecordSet.{at_name, matching}
 use Rattle.rrset.specs.declared.record.Question.{Question}
 use Rattle.rrset.specs.Rcodes.{noerror}
 use Rattle.dsotlv.specs.Messages.{first_message, frame, head_of, primary_data}
@@ -16,36 +18,55 @@ use Rattle.dsotlv.specs.declared.message.DsoHead.{DsoHead}
 use Rattle.dsotlv.specs.declared.message.Notice.{Notice}
 use Rattle.coalesce.specs.Net.{push_message}
 use Rattle.dsosession.specs.Reactions.{server_reaction}
-use Rattle.dsosession.specs.declared.session.Reaction.TheVariants.{Subscribe}
+use Rattle.dsosession.specs.declared.session.Reaction.{Reaction}
+use Rattle.dsosession.specs.declared.session.Reaction.TheVariants.{Subscribe, Reconfirm, Update}
 use Rattle.history.specs.States.{home_of}
+use Rattle.history.specs.declared.entry.Entry.{Entry}
 use Rattle.pushserver.specs.declared.given.Given.TheVariants.{Nothing}
-use Rattle.pushserver.specs.Sessions.{Session, Queue, live, wanted, subscription_of, subscription_for}
-use Rattle.pushserver.specs.Hubs.{Hub, state_now, records_now, sent, session_of, update, hear, moment, connect, take_octets, stop, end_session}
+use Rattle.pushsession.specs.declared.standing.Standing.TheVariants.{Live}
+use Rattle.pushserver.specs.Sessions.{Session, wanted, subscription_of, subscription_for}
+use Rattle.pushserver.specs.Hubs.{Hub, state_now, records_now, sent, session_of, entered, update, hear, moment, connect, take_octets, stop, end_session}
 use Rattle.pushserver.specs.Giving.{give, reacted, first_answer, dso_answer}
 use Rattle.pushserver.specs.Rule.{KeptHub, StandsFor}
+use Rattle.pushserver.specs.Telling.{TellsHistory, set_after}
 
 -- a live session without output, without a whole message that waits, and with all records of its names sent
 abbrev pub IsAllTold : Hub → Session → Type 0
-IsAllTold hub session = (session.standing ≡ live) × (session.output ≡ []) × (first_message session.input ≡ None)
+IsAllTold hub session = (session.standing ≡ Live) × (session.output ≡ []) × (first_message session.input ≡ None)
     × AllByRecursion (λ s. sent hub session s.question.name ≡ wanted session.subscriptions (at_name s.question.name (records_now hub))) session.subscriptions
 
 abbrev pub NothingWhereAllIsTold : Type 0
 NothingWhereAllIsTold = (kept : KeptHub) (hub : Hub) (number room : ℕ) (session : Session) → StandsFor kept hub → session_of hub number ≡ Some session
     → (IsAllTold hub session → (give hub number room).given ≡ Nothing) × ((give hub number room).given ≡ Nothing → IsAllTold hub session)
 
--- another session is still there, and as it was but for the names that an entry queues
+-- where nothing is said to a session that was told what the history says, its messages lead each question to what it matches now
+abbrev pub NothingMeansAllIsShown : Type 0
+NothingMeansAllIsShown = (kept : KeptHub) (hub : Hub) (number room : ℕ) (session : Session) → StandsFor kept hub → session_of hub number ≡ Some session → TellsHistory hub session
+    → (give hub number room).given ≡ Nothing → AllByRecursion (λ s. set_after session.made s ≡ matching s.question (records_now hub)) session.subscriptions
+
+-- a later hub has the same history, and the same session of this number
+pub record LeavesSession (hub later : Hub) (number : ℕ) : Type 0 where
+  pub start : later.start ≡ hub.start
+  pub timers : later.timers ≡ hub.timers
+  pub history : later.history ≡ hub.history
+  pub made : later.made ≡ hub.made
+  pub session : session_of later number ≡ session_of hub number
+
+-- another session is as it was, or, where an entry is made, as that entry leaves it: at most one is made
 abbrev pub GiveChangesOneSession : Type 0
-GiveChangesOneSession = (hub : Hub) (number other room : ℕ) (before : Session) → (other ≡ number → ⊥) → session_of hub other ≡ Some before
-    → (queue : Queue) × (session_of (give hub number room).hub other ≡ Some (record before { queue = queue }))
+GiveChangesOneSession = (hub : Hub) (number other room : ℕ) → (other ≡ number → ⊥)
+    → LeavesSession hub (give hub number room).hub other ⊎ ((entry : Entry) × LeavesSession (entered entry hub) (give hub number room).hub other)
 
--- each session that lives on has the output that it had
-abbrev pub KeepsOutputs : Hub → Hub → Type 0
-KeepsOutputs hub later = (number : ℕ) (before after : Session) → session_of hub number ≡ Some before → session_of later number ≡ Some after → after.output ≡ before.output
+-- a session lives on, with the output that it had
+abbrev pub KeepsOutput : Hub → Hub → ℕ → Type 0
+KeepsOutput hub later number = (before : Session) → session_of hub number ≡ Some before → option_map (λ s. s.output) (session_of later number) ≡ Some before.output
 
+-- of the calls beside `give`, none changes an output, and `end_session` alone takes a session away
 abbrev pub OtherCallsKeepOutputs : Type 0
-OtherCallsKeepOutputs = (hub : Hub) (number : ℕ) (octets : List ℕ) (n m : ℕ)
-    → KeepsOutputs hub (update hub octets).1 × KeepsOutputs hub (hear hub n octets).1 × KeepsOutputs hub (moment hub n).1
-    × KeepsOutputs hub (connect hub).1 × KeepsOutputs hub (take_octets hub number octets) × KeepsOutputs hub (stop hub number n m) × KeepsOutputs hub (end_session hub number)
+OtherCallsKeepOutputs = (hub : Hub) (number other : ℕ) (octets : List ℕ) (n m : ℕ)
+    → KeepsOutput hub (update hub octets).1 number × KeepsOutput hub (hear hub n octets).1 number × KeepsOutput hub (moment hub n).1 number
+    × KeepsOutput hub (connect hub).1 number × KeepsOutput hub (take_octets hub other octets) number × KeepsOutput hub (stop hub other n m) number
+    × ((number ≡ other → ⊥) → KeepsOutput hub (end_session hub other) number)
 
 -- a SUBSCRIBE that none of the tests refuses: its question is read, ID and question are new, the class is IN or ANY, the name has a home, and there is room (RFC 8765, 6.2)
 pub record IsAcceptable (hub : Hub) (session : Session) (message : List ℕ) (question : Question) : Type 0 where
@@ -69,3 +90,22 @@ abbrev pub SubscribeIsAnswered : Type 0
 SubscribeIsAnswered = (hub : Hub) (number : ℕ) (session : Session) (message : List ℕ) (question : Question) → session_of hub number ≡ Some session → IsAcceptable hub session message question
     → option_map (λ s. s.output) (session_of (reacted message number hub) number)
     ≡ Some (session.output ++ (frame (dso_answer message noerror) ++ push_frame (first_answer hub session question)))
+
+-- the reaction to a SUBSCRIBE, a RECONFIRM or an update: a question, a record or an update is read for it
+abbrev pub ReadsData : Reaction → Type 0
+ReadsData Subscribe = Unit {0}
+ReadsData Reconfirm = Unit {0}
+ReadsData Update = Unit {0}
+ReadsData _ = ⊥
+
+-- memory may be wanted only where such a message is reacted to: the session goes on, without output, and the message waits whole (RFC 8765, 6.2 and 6.5; RFC 2136, 3)
+pub record MayWantMemory (hub : Hub) (number : ℕ) : Type 0 where
+  pub session : Session
+  pub found : List ℕ × List ℕ
+  pub head : DsoHead
+  pub there : session_of hub number ≡ Some session
+  pub live : session.standing ≡ Live
+  pub silent : session.output ≡ []
+  pub waits : first_message session.input ≡ Some found
+  pub whole : head_of found.0 ≡ Some head
+  pub reads : ReadsData (server_reaction head session.established)

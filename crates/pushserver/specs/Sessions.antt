@@ -14,6 +14,8 @@ use Rattle.rrset.specs.declared.record.Changed.{Changed}
 use Rattle.dsotlv.specs.Messages.{frame}
 use Rattle.dsosession.specs.Timing.{Clocks, server_start, server_spoke}
 use Rattle.dsosession.specs.declared.session.EndReason.{EndReason}
+use Rattle.pushsession.specs.declared.standing.Standing.{Standing}
+use Rattle.pushsession.specs.declared.standing.Standing.TheVariants.{Live, Ended}
 
 -- a subscription (RFC 8765, 6.2); filled counts the octets of the whole output up to the end of its first answer
 pub record Subscription : Type 0 where
@@ -48,13 +50,6 @@ made_octets m = frame m.message
 abbrev pub octets_made : List Made → ℕ
 octets_made made = sum_by (λ m. length (made_octets m)) made
 
--- whether a session goes on: it does, a stop was asked for, its Retry Delay was written at a moment, or it has ended
-pub data Standing : Type 0 where
-  live : Standing
-  asked_to_stop : ℕ → ℕ → Standing
-  stopped : ℕ → Standing
-  ended : EndReason → Standing
-
 pub record Session : Type 0 where
   pub subscriptions : List Subscription
   pub queue : Queue
@@ -66,7 +61,7 @@ pub record Session : Type 0 where
   pub made : List Made
 
 abbrev pub new_session : ℕ → Session
-new_session now = record { subscriptions = []; queue = []; clocks = server_start now; established = false; standing = live; input = []; output = []; made = [] }
+new_session now = record { subscriptions = []; queue = []; clocks = server_start now; established = false; standing = Live; input = []; output = []; made = [] }
 
 abbrev pub note_of : ℕ → Session → Note
 note_of newest session = record { queue = session.queue; newest = newest }
@@ -100,7 +95,7 @@ leaves_queue name queue = filter (λ e. not (same_name name e.0)) queue
 
 -- an ended session has no subscriptions and no queue
 abbrev pub ended_with : EndReason → Session → Session
-ended_with reason session = record session { subscriptions = []; queue = []; standing = ended reason }
+ended_with reason session = record session { subscriptions = []; queue = []; standing = Ended reason }
 
 -- the number of the octets of all messages made
 abbrev pub written : Session → ℕ

@@ -6,7 +6,8 @@ use Rattle.dnsname.specs.Text.{name}
 use Rattle.dsotlv.specs.Messages.{frame, tlv_octets}
 use Rattle.dsotlv.specs.TlvKinds.{push_tlv}
 use Rattle.dsosession.specs.Timing.{default_timers}
-use Rattle.pushserver.specs.Sessions.{Session, Made, stopped, Subscription, new_session, made_octets}
+use Rattle.pushsession.specs.declared.standing.Standing.TheVariants.{Stopped}
+use Rattle.pushserver.specs.Sessions.{Session, Made, Subscription, new_session, made_octets}
 use Rattle.pushclient.specs.Clients.{Wish, RequestState, unanswered, answered, new_client, new_connection, subscribe_message, unsubscribe_message}
 use Rattle.pushclient.specs.Steps.{keepalive_message}
 use Rattle.replay.specs.World.{new_seat}
@@ -50,7 +51,7 @@ pub early : holds_between false begun [] [] (unsubscribe_message 5 ∷ []) ≡ f
 early = refl
 
 -- a stopped session answers what nobody waits for
-pub stray : holds_between true (record established { standing = stopped 0 }) [] (accepted ∷ []) [] ≡ false
+pub stray : holds_between true (record established { standing = Stopped 0 }) [] (accepted ∷ []) [] ≡ false
 stray = refl
 
 -- a PUSH without data comes down

@@ -16,9 +16,9 @@ use Rattle.dsotlv.specs.Notices.{notices_of, notice_octets}
 use Rattle.dsotlv.specs.declared.message.Notice.{Notice}
 use Rattle.coalesce.specs.Net.{push_message}
 use Rattle.dsosession.specs.declared.session.Timers.{Timers}
-use Rattle.pushserver.specs.Giving.{stop_message}
+use Rattle.pushsession.specs.Saying.{stop_message}
 use Rattle.pushserver.specs.Sessions.{Session, Subscription, Made, made_octets}
-use Rattle.pushserver.specs.Hubs.{is_open}
+use Rattle.pushsession.specs.Kept.{is_open}
 use Rattle.pushserver.specs.Telling.{notices_since, is_answer_to}
 use Rattle.pushclient.specs.Clients.{Client, Connection, Wish, RequestState, unanswered, answered, subscribe_message, unsubscribe_message, reconfirm_message}
 use Rattle.pushclient.specs.Steps.{keepalive_message}

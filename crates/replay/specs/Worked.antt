@@ -14,7 +14,8 @@ use Rattle.dsotlv.specs.TlvKinds.{keepalive_tlv, subscribe_tlv, unsubscribe_tlv,
 use Rattle.dsotlv.specs.Messages.{messages_in, head_of, primary_data}
 use Rattle.dsotlv.specs.Notices.{question_of, reconfirm_of, notice_octets, notices_of}
 use Rattle.pushserver.specs.Sessions.{Session, Made, Note, told, note_of, made_octets, octets_made, written}
-use Rattle.pushserver.specs.Hubs.{is_open, Hub, newest, sent, session_of}
+use Rattle.pushsession.specs.Kept.{is_open}
+use Rattle.pushserver.specs.Hubs.{Hub, newest, sent, session_of}
 use Rattle.pushserver.specs.declared.given.Given.TheVariants.{Nothing}
 use Rattle.pushserver.specs.Giving.{give}
 use Rattle.pushserver.specs.Telling.{set_after, records_noted, notices_since, is_answer_to}

@@ -1,0 +1,10 @@
+pub mod Lists
+pub mod Standing
+pub mod Saying
+pub mod Reactions
+pub mod Names
+pub mod Nets
+pub mod Packing
+pub mod FirstAnswers
+pub mod Accepting
+pub mod Parts

@@ -1,0 +1,81 @@
+-- Lists that are taken from, left, and seen through a function.
+use Rattle.std.proofs.Common.{◌≡◌, ℕ, zero, suc, Bool, true, false, cond, ◌||◌, List, [], ◌∷◌, ◌++◌, map, take, drop, Some, is_some, refl, sym, ◌∙◌, ap, subst}
+use Rattle.std.specs.Prelude.{find, filter, option_map}
+use Rattle.std.specs.List.{list_all, list_any, AllByRecursion}
+use Rattle.std.proofs.lemmas.Bool.{and_from, and_parts}
+
+pub all-take : {X : Type 0} (p : X → Bool) (n : ℕ) (xs : List X) → list_all p xs ≡ true → list_all p (take n xs) ≡ true
+all-take p zero xs h = refl
+all-take p (suc n) [] h = refl
+all-take p (suc n) (x ∷ xs) h = let both = and_parts (p x) (list_all p xs) h in and_from _ _ both.0 (all-take p n xs both.1)
+
+pub all-drop : {X : Type 0} (p : X → Bool) (n : ℕ) (xs : List X) → list_all p xs ≡ true → list_all p (drop n xs) ≡ true
+all-drop p zero xs h = h
+all-drop p (suc n) [] h = refl
+all-drop p (suc n) (x ∷ xs) h = all-drop p n xs (and_parts (p x) (list_all p xs) h).1
+
+-- ---- seen through a function
+
+pub filter-map : {X Y : Type 0} (f : X → Y) (p : Y → Bool) (xs : List X) → filter p (map f xs) ≡ map f (filter (λ x. p (f x)) xs)
+filter-map f p [] = refl
+filter-map f p (x ∷ xs) = by (p (f x)) (filter-map f p xs)
+  where
+    by : (b : Bool) → filter p (map f xs) ≡ map f (filter (λ x. p (f x)) xs) → cond b (f x ∷ filter p (map f xs)) (filter p (map f xs)) ≡ map f (cond b (x ∷ filter (λ x. p (f x)) xs) (filter (λ x. p (f x)) xs))
+    by true h = ap (λ ys. f x ∷ ys) h
+    by false h = h
+
+pub find-map : {X Y : Type 0} (f : X → Y) (p : Y → Bool) (xs : List X) → find p (map f xs) ≡ option_map f (find (λ x. p (f x)) xs)
+find-map f p [] = refl
+find-map f p (x ∷ xs) = by (p (f x)) (find-map f p xs)
+  where
+    by : (b : Bool) → find p (map f xs) ≡ option_map f (find (λ x. p (f x)) xs) → cond b (Some (f x)) (find p (map f xs)) ≡ option_map f (cond b (Some x) (find (λ x. p (f x)) xs))
+    by true h = refl
+    by false h = h
+
+pub each-push : {X : Type 0} (P : X → Type 0) (xs : List X) (x : X) → AllByRecursion P xs → P x → AllByRecursion P (xs ++ x ∷ [])
+each-push P [] x all last = (last, tt)
+each-push P (y ∷ ys) x all last = (all.0, each-push P ys x all.1 last)
+
+-- ---- each of several
+
+pub each-both : {X : Type 0} (P Q R : X → Type 0) → ((x : X) → P x → Q x → R x) → (xs : List X) → AllByRecursion P xs → AllByRecursion Q xs → AllByRecursion R xs
+each-both P Q R both [] ps qs = tt
+each-both P Q R both (x ∷ xs) ps qs = (both x ps.0 qs.0, each-both P Q R both xs ps.1 qs.1)
+
+pub each-map : {X Y : Type 0} (f : X → Y) (P : Y → Type 0) (xs : List X) → AllByRecursion P (map f xs) → AllByRecursion (λ x. P (f x)) xs
+each-map f P [] all = tt
+each-map f P (x ∷ xs) all = (all.0, each-map f P xs all.1)
+
+pub each-drop : {X : Type 0} (P : X → Type 0) (n : ℕ) (xs : List X) → AllByRecursion P xs → AllByRecursion P (drop n xs)
+each-drop P zero xs all = all
+each-drop P (suc n) [] all = tt
+each-drop P (suc n) (x ∷ xs) all = each-drop P n xs all.1
+
+pub filter-alike : {X : Type 0} (p q : X → Bool) → ((x : X) → p x ≡ q x) → (xs : List X) → filter p xs ≡ filter q xs
+filter-alike p q alike [] = refl
+filter-alike p q alike (x ∷ xs) = ap (λ b. cond b (x ∷ filter p xs) (filter p xs)) (alike x) ∙ ap (λ ys. cond (q x) (x ∷ ys) ys) (filter-alike p q alike xs)
+
+pub find-alike : {X : Type 0} (p q : X → Bool) → ((x : X) → p x ≡ q x) → (xs : List X) → find p xs ≡ find q xs
+find-alike p q alike [] = refl
+find-alike p q alike (x ∷ xs) = ap (λ b. cond b (Some x) (find p xs)) (alike x) ∙ ap (λ o. cond (q x) (Some x) o) (find-alike p q alike xs)
+
+pub filter-each : {X : Type 0} (p : X → Bool) (xs : List X) → AllByRecursion (λ x. p x ≡ true) xs → filter p xs ≡ xs
+filter-each p [] all = refl
+filter-each p (x ∷ xs) all = ap (λ b. cond b (x ∷ filter p xs) (filter p xs)) all.0 ∙ ap (λ ys. x ∷ ys) (filter-each p xs all.1)
+
+pub some-find : {X : Type 0} (p : X → Bool) (xs : List X) → is_some (find p xs) ≡ list_any p xs
+some-find p [] = refl
+some-find p (x ∷ xs) = by (p x) (some-find p xs)
+  where
+    by : (b : Bool) → is_some (find p xs) ≡ list_any p xs → is_some (cond b (Some x) (find p xs)) ≡ (b || list_any p xs)
+    by true h = refl
+    by false h = h
+
+-- what is found is one of them, and passes
+pub found-each : {X : Type 0} (P : X → Type 0) (p : X → Bool) (xs : List X) (x : X) → AllByRecursion P xs → find p xs ≡ Some x → P x × (p x ≡ true)
+found-each P p [] x all is = absurd cc
+found-each P p (y ∷ ys) x all is = by (p y) refl is (found-each P p ys x all.1)
+  where
+    by : (b : Bool) → p y ≡ b → cond b (Some y) (find p ys) ≡ Some x → (find p ys ≡ Some x → P x × (p x ≡ true)) → P x × (p x ≡ true)
+    by true passes e rest = let same : y ≡ x = cc in (subst P same all.0, ap p (sym same) ∙ passes)
+    by false fails e rest = rest e

@@ -1,0 +1,58 @@
+-- The history of a hub stays tellable: of a new hub, after an update that is entered, and after a moment.
+--     entered_tells, update_tells, moment_tells, new_tells
+--     new_stands      what is kept of a new hub stands for it
+use Rattle.std.proofs.Common.{◌≡◌, ℕ, List, [], sym, ap, subst, refl, arith}
+use Rattle.std.specs.Prelude.{nat_lt, Ok, IsTrue}
+use Rattle.std.specs.List.{list_all, AllByRecursion, IsDistinct}
+use Rattle.dnsname.specs.Names.{is_name}
+use Rattle.dsosession.specs.declared.session.Timers.{Timers}
+use Rattle.dnswire.specs.declared.message.Update.{Update}
+use Rattle.history.specs.Plans.{IsStart}
+use Rattle.history.specs.Standing.{AreAtHome}
+use Rattle.history.specs.States.{State, after, records, state_at, verdict}
+use Rattle.history.specs.declared.entry.Entry.{Entry}
+use Rattle.history.specs.declared.entry.Entry.TheVariants as entries
+use Rattle.pushserver.specs.Hubs.{Hub, new_hub, newest, state_now, entered}
+use Rattle.pushserver.specs.Rows.{IsTellable}
+use Rattle.pushserver.specs.Rule.{KeptHub, StandsFor}
+use Rattle.pushserver.proofs.told_rows.HubTells.{StatesTell}
+use Rattle.pushserver.proofs.told_rows.Histories.{states-more}
+use Rattle.pushserver.proofs.told_rows.Updated.{update-tellable, moment-tellable, start-tellable}
+
+-- ---- an entry
+
+pub entered_tells : (hub : Hub) (entry : Entry) → StatesTell hub → IsTellable (after (state_now hub) entry) → StatesTell (entered entry hub)
+entered_tells hub entry states new = states-more hub.start hub.history entry states new
+
+pub update_tells : (hub : Hub) (message : List ℕ) (update : Update) → StatesTell hub → IsTrue (list_all (λ o. nat_lt o 256) message) → verdict (state_now hub) message ≡ Ok update → StatesTell (entered (entries.Update update) hub)
+update_tells hub message update states octets e = entered_tells hub (entries.Update update) states (update-tellable (state_now hub) message update (states (newest hub) (omega arith)) octets e)
+
+pub moment_tells : (hub : Hub) (t : ℕ) → StatesTell hub → StatesTell (entered (entries.Moment t) hub)
+moment_tells hub t states = entered_tells hub (entries.Moment t) states (moment-tellable (state_now hub) t (states (newest hub) (omega arith)))
+
+-- ---- a new hub
+
+pub new_tells : (start : State) (timers : Timers) → IsTellable start → StatesTell (new_hub start timers)
+new_tells start timers is point within =
+    let first : point ≡ 0 = omega (arith, within) in
+    subst IsTellable (sym (ap (λ (n : ℕ). state_at start [] n) first)) is
+
+-- what is kept of a new hub
+abbrev pub new_kept : State → Timers → KeptHub
+new_kept start timers = record { past = record { start = start; history = [] }; timers = timers; index = records start; sessions = []; made = 0 }
+
+pub new_stands : (start : State) (timers : Timers) → IsStart start → AreAtHome start → AllByRecursion (λ z. IsTrue (is_name z.apex)) start.zones → StandsFor (new_kept start timers) (new_hub start timers)
+unfolding IsDistinct
+new_stands start timers begins home names = record {
+  timers = refl;
+  made = refl;
+  begins = begins;
+  links = home.links;
+  start = refl;
+  history = refl;
+  index = refl;
+  states = new_tells start timers (start-tellable start begins home names);
+  sessions = tt;
+  numbers = tt;
+  seats = omega arith;
+}

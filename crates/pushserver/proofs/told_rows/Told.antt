@@ -1,0 +1,116 @@
+-- What tellable zones hold is told: at each name, the records of its home zone.
+--     RowsTell rows, ZonesTell zones      rows of a zone, and of all zones, that can be told
+--     tellable-told      what tellable zones show together is told
+use Rattle.std.proofs.Common.{◌≡◌, ℕ, zero, suc, ◌^◌, ◌≤◌, Bool, true, false, cond, not, ◌&&◌, ltb, leb, List, [], ◌∷◌, length, filter, Option, Some, None, ◌==◌, refl, sym, subst, le-leb}
+use Rattle.std.specs.Prelude.{slice_get, IsTrue}
+use Rattle.std.specs.List.{list_all, AllByRecursion}
+use Rattle.push_base.specs.Limits.{max_octets_at_name}
+use Rattle.dnsname.specs.Names.{Labels, is_name, same_name}
+use Rattle.rrset.specs.Kinds.{in_class, any_kind}
+use Rattle.rrset.specs.Rdata.{shape_fits}
+use Rattle.rrset.specs.RecordSet.{RecordSet, is_record_set, at_name, size_of}
+use Rattle.rrset.specs.declared.record.Key.{Key}
+use Rattle.rrset.specs.declared.record.Shown.{Shown}
+use Rattle.dsotlv.specs.Notices.{last_ttl}
+use Rattle.coalesce.specs.Laws.{is_sent_so, is_side, can_be_sent}
+use Rattle.zoneupdate.specs.Zones.{ZoneState}
+use Rattle.zoneupdate.proofs.Filters.{and-left, and-right, and-both}
+use Rattle.zoneupdate.proofs.RecordSets.{set-only}
+use Rattle.history.specs.States.{State, home_names, home_of, records}
+use Rattle.history.specs.Standing.{IsAtHome}
+use Rattle.history.specs.declared.entry.Home.{Home}
+use Rattle.history.specs.declared.entry.Home.TheVariants as homes
+use Rattle.history.proofs.ShownAtHome.{rows_at, at_name-zones}
+use Rattle.pushserver.specs.Rows.{AreTold, is_tellable, IsTellable}
+use Rattle.pushserver.proofs.told_rows.Fitting.{HaveRoom}
+
+-- ---- one zone
+
+-- the rows of a zone can be told
+pub record RowsTell (rows : RecordSet) : Type 0 where
+  pub set : is_record_set rows ≡ true
+  pub tellable : list_all is_tellable rows ≡ true
+  pub room : HaveRoom rows
+
+sent-from : (name : Labels) (e : Key × Shown) → same_name name e.0.owner ≡ true → is_tellable e ≡ true → is_sent_so name e ≡ true
+sent-from name e at h =
+    let owner = is_name e.1.owner in
+    let class = e.0.class == in_class in
+    let width = ltb e.0.kind (2 ^ 16) in
+    let kind = not (e.0.kind == any_kind) in
+    let shape = shape_fits e.0.kind e.1.rdata in
+    let short = ltb (length e.1.rdata) (2 ^ 16) in
+    let ttl = leb e.1.ttl last_ttl in
+    let six = and-left (owner && class && width && kind && shape && short) ttl h in
+    let five = and-left (owner && class && width && kind && shape) short six in
+    let four = and-left (owner && class && width && kind) shape five in
+    let three = and-left (owner && class && width) kind four in
+    let two = and-left (owner && class) width three in
+    and-both _ _ (and-both _ _ (and-both _ _ (and-both _ _ (and-both _ _ (and-both _ _ at (and-left owner class two)) (and-right owner class two)) (and-right (owner && class) width three)) (and-right (owner && class && width) kind four))
+    (and-right (owner && class && width && kind) shape five)) (and-right (owner && class && width && kind && shape) short six)
+
+ttl-from : (e : Key × Shown) → is_tellable e ≡ true → leb e.1.ttl last_ttl ≡ true
+ttl-from e h = and-right (is_name e.1.owner && e.0.class == in_class && ltb e.0.kind (2 ^ 16) && not (e.0.kind == any_kind) && shape_fits e.0.kind e.1.rdata && ltb (length e.1.rdata) (2 ^ 16)) (leb e.1.ttl last_ttl) h
+
+-- what follows of the elements that pass a test holds of those that are picked out by it
+all-picked : {X : Type 0} (f p g : X → Bool) → ((x : X) → p x ≡ true → f x ≡ true → g x ≡ true) → (xs : List X) → list_all f xs ≡ true → list_all g (filter p xs) ≡ true
+all-picked f p g follows [] h = refl
+all-picked {X} f p g follows (x ∷ xs) h = by (p x) refl (all-picked f p g follows xs (and-right (f x) (list_all f xs) h))
+  where
+    by : (b : Bool) → p x ≡ b → list_all g (filter p xs) ≡ true → list_all g (cond b (x ∷ filter p xs) (filter p xs)) ≡ true
+    by true is rest = and-both (g x) (list_all g (filter p xs)) (follows x is (and-left (f x) (list_all f xs) h)) rest
+    by false is rest = rest
+
+abbrev IsTold : Labels → RecordSet → Type 0
+IsTold name rows = IsTrue (is_side name rows) × IsTrue (can_be_sent rows)
+
+rows-told : (name : Labels) (rows : RecordSet) → RowsTell rows → IsTold name (at_name name rows)
+rows-told name rows tell = (
+  and-both (is_record_set (at_name name rows)) (list_all (is_sent_so name) (at_name name rows)) (set-only (λ key. same_name name key.owner) rows tell.set)
+      (all-picked is_tellable (λ e. same_name name e.0.owner) (is_sent_so name) (sent-from name) rows tell.tellable),
+  and-both (list_all (λ e. leb e.1.ttl last_ttl) (at_name name rows)) (leb (size_of (at_name name rows)) max_octets_at_name)
+      (all-picked is_tellable (λ e. same_name name e.0.owner) (λ e. leb e.1.ttl last_ttl) (λ e _. ttl-from e) rows tell.tellable)
+      (le-leb _ _ (tell.room name)),
+)
+
+none-told : (name : Labels) → IsTold name (at_name name [])
+none-told name = (refl, refl)
+
+-- ---- all zones
+
+abbrev pub ZonesTell : List ZoneState → Type 0
+ZonesTell zones = AllByRecursion (λ z. RowsTell z.rows) zones
+
+zones-tell : (homes : List Labels) (zones : List ZoneState) → AllByRecursion (IsAtHome homes) zones → AllByRecursion (λ z. IsTrue (list_all is_tellable z.rows)) zones
+    → AllByRecursion (λ z. (name : Labels) → size_of (at_name name z.rows) ≤ max_octets_at_name) zones → ZonesTell zones
+zones-tell homes [] home rows sizes = tt
+zones-tell homes (z ∷ zones) home rows sizes = (record { set = home.0.set; tellable = rows.0; room = sizes.0 }, zones-tell homes zones home.1 rows.1 sizes.1)
+
+pub told-zones : (state : State) → IsTellable state → ZonesTell state.zones
+told-zones state is = zones-tell (home_names state) state.zones is.home.zones is.rows is.sizes
+
+pub tell-rows : (zones : List ZoneState) → ZonesTell zones → AllByRecursion (λ z. IsTrue (list_all is_tellable z.rows)) zones
+tell-rows [] tell = tt
+tell-rows (z ∷ zones) tell = (tell.0.tellable, tell-rows zones tell.1)
+
+pub tell-sizes : (zones : List ZoneState) → ZonesTell zones → AllByRecursion (λ z. (name : Labels) → size_of (at_name name z.rows) ≤ max_octets_at_name) zones
+tell-sizes [] tell = tt
+tell-sizes (z ∷ zones) tell = (tell.0.room, tell-sizes zones tell.1)
+
+tell-at : (zones : List ZoneState) → ZonesTell zones → (i : ℕ) (z : ZoneState) → slice_get zones i ≡ Some z → RowsTell z.rows
+tell-at [] tell zero z e = absurd cc
+tell-at [] tell (suc i) z e = absurd cc
+tell-at (y ∷ zones) tell zero z e = let same : y ≡ z = cc in subst (λ (y : ZoneState). RowsTell y.rows) same tell.0
+tell-at (y ∷ zones) tell (suc i) z e = tell-at zones tell.1 i z e
+
+at-home-told : (name : Labels) (zones : List ZoneState) → ZonesTell zones → (o : Option Home) → IsTold name (at_name name (rows_at zones o))
+at-home-told name zones tell None = none-told name
+at-home-told name zones tell (Some (homes.Link i)) = none-told name
+at-home-told name zones tell (Some (homes.Zone i)) = by (slice_get zones i) refl
+  where
+    by : (o : Option ZoneState) → slice_get zones i ≡ o → IsTold name (at_name name (elim o as (λ _. RecordSet) [ None ↦ [] | Some z ↦ z.rows ]))
+    by None is = none-told name
+    by (Some z) is = rows-told name z.rows (tell-at zones tell i z is)
+
+pub tellable-told : (state : State) → IsTellable state → AreTold (records state)
+tellable-told state is name = subst (IsTold name) (sym (at_name-zones state is.home name)) (at-home-told name state.zones (told-zones state is) (home_of state name))

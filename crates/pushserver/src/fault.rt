@@ -1,0 +1,49 @@
+//! Why a call of the hub doesn't do its work.
+
+ghost use Rattle.std.specs.Prelude.{◌≡◌};
+ghost use Rattle.pushserver.specs.declared.fault.HubFault.TheVariants as faults;
+ghost use Rattle.pushserver.specs.declared.fault.ConnectFault.TheVariants as connects;
+
+use std::alloc::{AllocError, AllocFailed};
+
+/// Why the hub enters nothing.
+#[derive(Clone, Copy, Debug, PartialEq, Eq)]
+pub enum HubFault {
+    /// Memory ran out.
+    NoMemory,
+    /// The journal is full: it has 65,536 entries, or one more would pass 67,108,864 octets.
+    Full,
+}
+
+impl From<AllocError> for HubFault {
+    ghost from_gives = { λ _ e. e ≡ faults.NoMemory };
+
+    fn from(_e: AllocError) -> HubFault {
+        HubFault::NoMemory
+    }
+}
+
+/// Why no session is connected.
+#[derive(Clone, Copy, Debug, PartialEq, Eq)]
+pub enum ConnectFault {
+    /// There are 64 sessions, or all numbers were given out.
+    NoSeat,
+    /// Memory ran out.
+    NoMemory,
+}
+
+impl From<AllocError> for ConnectFault {
+    ghost from_gives = { λ _ e. e ≡ connects.NoMemory };
+
+    fn from(_e: AllocError) -> ConnectFault {
+        ConnectFault::NoMemory
+    }
+}
+
+impl<T: Drop> From<AllocFailed<T>> for ConnectFault {
+    ghost from_gives = { λ _ e. e ≡ connects.NoMemory };
+
+    fn from(_e: AllocFailed<T>) -> ConnectFault {
+        ConnectFault::NoMemory
+    }
+}

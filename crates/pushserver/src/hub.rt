@@ -1,0 +1,118 @@
+//! The server's core: one history, and the sessions that are told of it.
+
+ghost use Rattle.std.specs.Prelude.{◌≡◌, ◌++◌, None, Some, drop, false, length, true, IfOk, IsErrOf, OnErr, OnOk};
+ghost use Rattle.history.specs.Keeping.{state_of};
+ghost use Rattle.history.specs.Plans.{IsStart};
+ghost use Rattle.pushserver.specs.Hubs.{Hub as Plain, connect, end_session, moment, new_hub, stop, take_octets, taken_by, update};
+ghost use Rattle.pushserver.specs.Giving.{give};
+ghost use Rattle.pushserver.specs.Laws.{MayWantMemory};
+ghost use Rattle.pushserver.specs.Rule.{StandsFor};
+
+use crate::fault::{ConnectFault, HubFault};
+use crate::given::Given;
+use crate::keeping::Keeping;
+use crate::numbered;
+use dsosession::session::Timers;
+use history::Homes;
+use pushsession::NoMemory;
+use std::marker::Model;
+
+/// One history of all homes, and the sessions, each told of what it asks for (RFC 8765). It stands for a plain hub, which
+/// keeps nothing that the history tells. All moments are milliseconds of one clock.
+#[derive(Debug, Drop)]
+pub struct Hub {
+    pub(crate) keeping: Keeping,
+}
+
+impl Model for Hub {
+    ghost use Rattle.pushserver.specs.Parts.{IsHub, kept_of};
+    ghost use Rattle.pushserver.specs.Rule.{KeptHub};
+
+    ghost Value = { KeptHub };
+
+    ghost view = { λ h. kept_of h.keeping };
+
+    ghost invariant = { λ h. IsHub (kept_of h.keeping) };
+}
+
+impl Hub {
+    /// A hub of homes in which nothing has changed yet, which grants these timers to sessions that ask for a Keepalive
+    /// (RFC 8490, 7.1).
+    pub fn new(homes: Homes, timers: Timers) -> Result<Hub, NoMemory>
+        requires { IsStart (state_of homes) }
+        ensures { IfOk result (λ hub. StandsFor hub (new_hub (state_of homes) timers)) }
+    {
+        let keeping = Keeping::new(homes, timers)?;
+        Ok(Hub { keeping })
+    }
+
+    /// Judges an update message, and enters it where it is accepted (RFC 2136, 3). Gives its RCODE: FORMERR for what is
+    /// no update, SERVFAIL where the journal has no room. It is never `Full`.
+    pub fn update(&mut self, message: &[u8]) -> Result<u8, HubFault>
+        ensures ok { IfOk result (λ code. (hub : Plain) → StandsFor self.old hub → (code ≡ (update hub message.now).0) × StandsFor self.new (update hub message.now).1) }
+        ensures never { IsErrOf result HubFault.Full → ⊥ }
+        ensures err { OnErr result ((hub : Plain) → StandsFor self.old hub → StandsFor self.new hub) }
+    {
+        Ok(self.keeping.update(message)?)
+    }
+
+    /// It is a moment: where it is a later one, it is entered, and sessions end by their timers (RFC 8490, 6.4 to 6.6).
+    /// `Full`: the journal has no room for it.
+    pub fn moment(&mut self, at: u64) -> Result<(), HubFault>
+        ensures ok { OnOk result ((hub : Plain) → StandsFor self.old hub → ((moment hub at).0 ≡ false) × StandsFor self.new (moment hub at).1) }
+        ensures full { IsErrOf result HubFault.Full → (hub : Plain) → StandsFor self.old hub → ((moment hub at).0 ≡ true) × StandsFor self.new (moment hub at).1 }
+        ensures err { OnErr result ((hub : Plain) → StandsFor self.old hub → StandsFor self.new hub) }
+    {
+        if self.keeping.moment(at)? {
+            return Err(HubFault::Full);
+        }
+        Ok(())
+    }
+
+    /// A new session. Gives its number; no two sessions have one number. `NoSeat`: there are 64 sessions, or all numbers
+    /// were given out.
+    pub fn connect(&mut self) -> Result<u64, ConnectFault>
+        ensures ok { IfOk result (λ number. (hub : Plain) → StandsFor self.old hub → ((connect hub).0 ≡ Some number) × StandsFor self.new (connect hub).1) }
+        ensures no_seat { IsErrOf result ConnectFault.NoSeat → (hub : Plain) → StandsFor self.old hub → ((connect hub).0 ≡ None) × StandsFor self.new (connect hub).1 }
+        ensures err { OnErr result ((hub : Plain) → StandsFor self.old hub → StandsFor self.new hub) }
+    {
+        match self.keeping.connect()? {
+            Some(number) => Ok(number),
+            None => Err(ConnectFault::NoSeat),
+        }
+    }
+
+    /// A session takes octets that its client sent, as far as there is room. Gives how many.
+    pub fn take(&mut self, session: u64, piece: &[u8]) -> usize
+        ensures count { (hub : Plain) → StandsFor self.old hub → result ≡ taken_by hub session piece.now }
+        ensures hub { (hub : Plain) → StandsFor self.old hub → StandsFor self.new (take_octets hub session piece.now) }
+    {
+        numbered::take(&mut self.keeping.sessions, session, piece)
+    }
+
+    /// One piece of work for a session, in its order: octets of its output that wait, its stop, the reaction to one whole
+    /// message, or a PUSH of what has changed. Octets are written to the front of `buf`. It is never `Full`.
+    /// Want of memory comes only where a SUBSCRIBE, a RECONFIRM or an update is reacted to.
+    pub fn give(&mut self, session: u64, buf: &mut [u8]) -> Result<Given, HubFault>
+        ensures ok { IfOk result (λ given. (hub : Plain) → StandsFor self.old hub → (given ≡ (give hub session (length buf.old)).given) × (buf.new ≡ (give hub session (length buf.old)).octets ++ drop (length (give hub session (length buf.old)).octets) buf.old) × StandsFor self.new (give hub session (length buf.old)).hub) }
+        ensures never { IsErrOf result HubFault.Full → ⊥ }
+        ensures err { OnErr result ((hub : Plain) → StandsFor self.old hub → StandsFor self.new hub) }
+        ensures memory { OnErr result ((hub : Plain) → StandsFor self.old hub → MayWantMemory hub session) }
+    {
+        Ok(self.keeping.give(session, buf)?)
+    }
+
+    /// A session's connection is gone: the session goes with its number.
+    pub fn end(&mut self, session: u64)
+        ensures { (hub : Plain) → StandsFor self.old hub → StandsFor self.new (end_session hub session) }
+    {
+        self.keeping.end(session);
+    }
+
+    /// Asks for the stop of a session with an RCODE and a Retry Delay in milliseconds (RFC 8490, 6.6.1).
+    pub fn stop(&mut self, session: u64, rcode: u8, delay: u32)
+        ensures { (hub : Plain) → StandsFor self.old hub → StandsFor self.new (stop hub session rcode delay) }
+    {
+        numbered::stop(&mut self.keeping.sessions, session, rcode, delay);
+    }
+}

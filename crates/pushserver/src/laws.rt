@@ -1,0 +1,27 @@
+//! Laws that the hub's contracts stand on.
+
+ghost use Rattle.pushserver.specs.Simulation.{UpdatesStand, MomentsStand, ConnectsStand, TakesStand, StopsStand, EndsStand, GivesStand, HubsTell};
+ghost use Rattle.pushserver.specs.Laws.{NothingWhereAllIsTold, NothingMeansAllIsShown, GiveChangesOneSession, OtherCallsKeepOutputs, SubscribeIsAnswered};
+
+/// What each call does to the hub as it is kept is what it does to the plain hub that it stands for, and what is told of
+/// records can be told.
+pub fn kept_hubs_stand()
+    ensures updates { UpdatesStand }
+    ensures moments { MomentsStand }
+    ensures connects { ConnectsStand }
+    ensures takes { TakesStand }
+    ensures stops { StopsStand }
+    ensures ends { EndsStand }
+    ensures gives { GivesStand }
+    ensures tells { HubsTell }
+{}
+
+/// When `give` has nothing to say, what the calls leave as it was, and what a SUBSCRIBE gets that none of the tests refuses
+/// (RFC 8765, 6.2 and 6.3).
+pub fn calls_keep_promises()
+    ensures nothing { NothingWhereAllIsTold }
+    ensures shown { NothingMeansAllIsShown }
+    ensures one { GiveChangesOneSession }
+    ensures outputs { OtherCallsKeepOutputs }
+    ensures answered { SubscribeIsAnswered }
+{}

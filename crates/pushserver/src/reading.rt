@@ -1,0 +1,69 @@
+//! The update that a message is (RFC 2136, 2).
+
+ghost use Rattle.std.specs.Prelude.{◌≡◌, ◌+◌, ◌≤◌, ◌||◌, ◌==◌, not, nat_lt, length, IfOk, ok_or};
+ghost use Rattle.rrset.specs.Rcodes.{formerr};
+ghost use Rattle.rrset.specs.Header.{flags_of, is_response, opcode_of, two_octets, update_opcode};
+ghost use Rattle.history.specs.States.{update_in};
+
+use dnswire::{Update, WireFault, read_update};
+use pushsession::NoMemory;
+use std::alloc::Global;
+
+/// Octets of a message's header (RFC 1035, 4.1.1).
+const HEADER: usize = 12;
+
+/// The most octets of a message (RFC 1035, 4.2.2).
+const MAX_MESSAGE: usize = 65_535;
+
+/// OPCODE of an update (RFC 2136, 1.3).
+const UPDATE_OPCODE: u16 = 5;
+
+/// The number of the two octets at a place.
+fn number_at(octets: &[u8], at: usize) -> u16
+    requires { at + 2 ≤ length octets.now }
+    ensures { result ≡ two_octets octets.now at }
+{
+    u16::from_be_bytes([octets[at], octets[at + 1]])
+}
+
+/// QR of a message's flags.
+fn is_response(flags: u16) -> bool
+    ensures { result ≡ is_response flags }
+{
+    flags >= 0x8000
+}
+
+/// OPCODE of a message's flags.
+fn opcode_of(flags: u16) -> u16
+    ensures { result ≡ opcode_of flags }
+{
+    flags / 2048 % 16
+}
+
+/// Whether a message has the length of one, and the header of an update (RFC 2136, 2.2).
+fn has_update_header(message: &[u8]) -> bool
+    ensures { result ≡ not (nat_lt (length message.now) 12 || nat_lt 65535 (length message.now) || is_response (flags_of message.now) || not (opcode_of (flags_of message.now) == update_opcode)) }
+{
+    if message.len() < HEADER || message.len() > MAX_MESSAGE {
+        return false;
+    }
+    let flags = number_at(message, 2);
+    !is_response(flags) && opcode_of(flags) == UPDATE_OPCODE
+}
+
+/// The update that a message is, if it is one.
+pub(crate) fn read_message(alloc: Global, message: &[u8]) -> Result<Option<Update>, NoMemory>
+    ensures { IfOk result (λ found. update_in message.now ≡ ok_or found formerr) }
+{
+    if !has_update_header(message) {
+        return Ok(None);
+    }
+    match read_update(alloc, message) {
+        Ok(update) => Ok(Some(update)),
+        Err(WireFault::NoMemory) => Err(NoMemory),
+        Err(WireFault::Short(_)) => Ok(None),
+        Err(WireFault::Trailing(_)) => Ok(None),
+        Err(WireFault::Name(_)) => Ok(None),
+        Err(WireFault::Rdata(_)) => Ok(None),
+    }
+}
