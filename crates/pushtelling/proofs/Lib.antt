@@ -1,0 +1,17 @@
+pub mod Messages
+pub mod Notes
+pub mod Parts
+pub mod Tells
+pub mod Quiet
+pub mod Hubs
+pub mod Reading
+pub mod Leading
+pub mod Pushing
+pub mod Accepting
+pub mod Codes
+pub mod Data
+pub mod Give
+pub mod Calls
+pub mod Following
+pub mod FollowingGiving
+pub mod Joining

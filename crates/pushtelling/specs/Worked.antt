@@ -1,0 +1,49 @@
+-- Words for worked rows: a start with one zone, runs of calls, and what their session was told.
+use Rattle.std.specs.Prelude.{ℕ, true, List, [], ◌∷◌, ◌++◌, map, length, Option, Some, None, codes}
+use Rattle.std.specs.Int.{w32, to_be_bytes}
+use Rattle.push_base.specs.Hexadecimal.{hex}
+use Rattle.dnsname.specs.Text.{name}
+use Rattle.rrset.specs.Header.{answer_octets}
+use Rattle.dsotlv.specs.Messages.{frame, tlv_octets}
+use Rattle.dsotlv.specs.TlvKinds.{keepalive_tlv}
+use Rattle.dsosession.specs.Timing.{default_timers}
+use Rattle.zoneupdate.specs.Zones.{new_zone}
+use Rattle.history.specs.States.{State}
+use Rattle.pushserver.specs.Sessions.{Session}
+use Rattle.pushserver.specs.Hubs.{new_hub, session_of}
+use Rattle.pushserver.specs.Telling.{notices_in, set_after}
+use Rattle.pushserver.specs.Worked.{named, subscribe}
+use Rattle.pushtelling.specs.Laws.{HubCall, connects, takes, gives, updates, after_calls}
+
+abbrev pub one_zone : State
+one_zone = record { zones = new_zone (name (codes "example.com.")) 1 true ∷ []; links = []; now = 0 }
+
+-- an address for `a.example.com.`
+abbrev pub adds_address : HubCall
+adds_address = updates (hex (codes "000128000001000000010000076578616d706c6503636f6d00000600010161c00c000100010000003c0004c0000201"))
+
+abbrev pub asks_address : HubCall
+asks_address = takes 0 (frame (subscribe 1 (named (codes "a.example.com.")) 1))
+
+-- a Keepalive with this ID
+abbrev pub keeps_alive : ℕ → HubCall
+keeps_alive id = takes 0 (frame (answer_octets id 0x3000 ++ tlv_octets (record { kind = keepalive_tlv; octets = to_be_bytes w32 15000 ++ to_be_bytes w32 15000 })))
+
+abbrev pub works : HubCall
+works = gives 0 65536
+
+-- of each message its octets, the newest point of its note, and how many notices it has
+abbrev pub messages_of : Session → List (ℕ × ℕ × ℕ)
+messages_of session = map (λ m. (length m.message, m.note.newest, length (notices_in m.message))) session.made
+
+-- how many records each subscription has been told
+abbrev pub held_of : Session → List ℕ
+held_of session = map (λ s. length (set_after session.made s)) session.subscriptions
+
+abbrev pub told_in : Option Session → List (ℕ × ℕ × ℕ) × List ℕ
+told_in None = ([], [])
+told_in (Some session) = (messages_of session, held_of session)
+
+-- what the first session was told in these calls
+abbrev pub told_by : List HubCall → List (ℕ × ℕ × ℕ) × List ℕ
+told_by calls = told_in (session_of (after_calls (connects ∷ calls) (new_hub one_zone default_timers)) 0)
