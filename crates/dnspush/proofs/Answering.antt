@@ -13,7 +13,8 @@ use Rattle.coalesce.specs.Net.{additions}
 use Rattle.dsosession.specs.Timing.{Clocks, server_start, server_spoke}
 use Rattle.dsosession.specs.Reactions.{is_keepalive}
 use Rattle.history.specs.States.{State}
-use Rattle.pushserver.specs.Sessions.{Session, Subscription, Made, live, new_session, note_of, wanted}
+use Rattle.pushsession.specs.declared.standing.Standing.TheVariants.{Live}
+use Rattle.pushserver.specs.Sessions.{Session, Subscription, Made, new_session, note_of, wanted}
 use Rattle.pushserver.specs.Hubs.{Hub, newest, state_now, now, records_now}
 use Rattle.pushserver.specs.Giving.{dso_answer, first_answer, first_answer_size, says_first_answer, subscribed, wanted_with}
 use Rattle.dnspush.specs.SubscribeReply.{notices_for, refused_with, answer_with}
@@ -22,7 +23,7 @@ use Rattle.dnspush.proofs.LastSession.{hub_at}
 -- a live session that waits for nothing
 abbrev pub said : List Subscription → Clocks → Bool → List Made → List ℕ → Session
 said subscriptions clocks established made output =
-    record { subscriptions = subscriptions; queue = []; clocks = clocks; established = established; standing = live; input = []; output = output; made = made }
+    record { subscriptions = subscriptions; queue = []; clocks = clocks; established = established; standing = Live; input = []; output = output; made = made }
 
 -- the session with this to write
 abbrev pub saying : Session → List ℕ → Session

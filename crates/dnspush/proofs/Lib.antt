@@ -2,7 +2,7 @@ pub mod Pieces
 pub mod Telling
 pub mod Running
 pub mod Endings
-pub mod Clients
+pub mod ClientLines
 pub mod Joined
 pub mod Lines
 pub mod LineKinds
@@ -18,9 +18,6 @@ pub mod LastGiving
 pub mod OnePeer
 pub mod NewWords
 pub mod Silence
-pub mod Requests
-pub mod Additions
-pub mod EventTurns
 pub mod EventLines
 pub mod Replying
 pub mod Entering
@@ -30,6 +27,12 @@ pub mod ReplySizes
 pub mod ScriptText
 pub mod SaidBy
 pub mod Serving
-pub mod MoreEvents
-pub mod MoreZones
+pub mod Happening
 pub mod MoreLines
+pub mod Walks
+pub mod Emitting
+pub mod Doing
+pub mod Taking
+pub mod Rounds
+pub mod ScriptTurns
+pub mod Naming

@@ -1,5 +1,5 @@
 -- Of which lines something is said: the kinds of lines, one by one.
-use Rattle.std.proofs.Common.{◌≡◌, ℕ, ◌⊎◌, Bool, true, false, cond, Option, Some, None, List, [], ◌∷◌, refl, sym, ◌∙◌, ap, subst, inl, inr, ⊎_elim}
+use Rattle.std.proofs.Common.{◌≡◌, ℕ, ◌⊎◌, Bool, true, false, cond, nat_le, Option, Some, None, List, [], ◌∷◌, refl, sym, ◌∙◌, ap, subst, inl, inr, ⊎_elim}
 use Rattle.std.specs.Prelude.{option_map, codes}
 use Rattle.std.specs.Str.{is_utf8, IsUtf8}
 use Rattle.std.proofs.lemmas.Str.{IsUtf8-from_is_utf8}
@@ -154,11 +154,22 @@ lines_by w rest =
     ∷ (is w (codes "show"), show_line rest)
     ∷ []
 
-other_kept : (w : Word) (ws : List Word) → is w (codes "zone") ≡ false → is w (codes "update") ≡ false → is w (codes "send") ≡ false → is w (codes "point") ≡ false → understood (by_first_word w ws) ≡ None
-other_kept w ws no_zone no_update no_send no_point = chosen_none kept (lines_by w ws) (
-  inr (timers_none kept (λ i k. refl) ws),
+-- a word that begins no line that is built
+record IsOther (w : Word) : Type 0 where
+  no_timers : is w (codes "timers") ≡ false
+  no_zone : is w (codes "zone") ≡ false
+  no_at : is w (codes "at") ≡ false
+  no_update : is w (codes "update") ≡ false
+  no_cut : is w (codes "cut") ≡ false
+  no_send : is w (codes "send") ≡ false
+  no_stop : is w (codes "stop") ≡ false
+  no_point : is w (codes "point") ≡ false
+
+other_kept : (w : Word) (ws : List Word) → IsOther w → understood (by_first_word w ws) ≡ None
+other_kept w ws o = chosen_none kept (lines_by w ws) (
+  inl o.no_timers,
   (
-    inl no_zone,
+    inl o.no_zone,
     (
       inr (link_none kept (λ v n. refl) ws),
       (
@@ -166,9 +177,9 @@ other_kept w ws no_zone no_update no_send no_point = chosen_none kept (lines_by 
         (
           inr (word_none kept lone (λ v. refl) ws),
           (
-            inr (at_none kept (λ t. refl) ws),
+            inl o.no_at,
             (
-              inl no_update,
+              inl o.no_update,
               (
                 inr (word_octets_none kept hear (λ v o. refl) ws),
                 (
@@ -180,7 +191,7 @@ other_kept w ws no_zone no_update no_send no_point = chosen_none kept (lines_by 
                       (
                         inr (word_none kept open_connection (λ v. refl) ws),
                         (
-                          inr (word_none kept cut (λ v. refl) ws),
+                          inl o.no_cut,
                           (
                             inr (word_number_none kept say (λ v n. refl) ws),
                             (
@@ -192,13 +203,13 @@ other_kept w ws no_zone no_update no_send no_point = chosen_none kept (lines_by 
                                   (
                                     inr (word_none kept settle (λ v. refl) ws),
                                     (
-                                      inl no_send,
+                                      inl o.no_send,
                                       (
                                         inr (word_octets_none kept feed (λ v o. refl) ws),
                                         (
-                                          inr (stop_none kept (λ v r d. refl) ws),
+                                          inl o.no_stop,
                                           (
-                                            inl no_point,
+                                            inl o.no_point,
                                             (inr (show_none kept (λ v q n. refl) ws), tt),
                                           ),
                                         ),
@@ -245,6 +256,33 @@ zone_kept (n ∷ s ∷ []) = refl
 zone_kept (n ∷ s ∷ m ∷ []) = bind_kept (name_of_text n) _ (λ apex. bind_kept (number32 s) _ (λ serial. zone_mode_kept apex serial (is m (codes "open")) (is m (codes "shut"))))
 zone_kept (n ∷ s ∷ m ∷ v ∷ ws) = refl
 
+timers_kept_by : (i k : ℕ) (b : Bool) → understood (cond b (Some (timers i k)) None) ≡ cond b (Some (timers i k)) None
+timers_kept_by i k true = refl
+timers_kept_by i k false = refl
+
+timers_kept : (ws : List Word) → understood (timers_line ws) ≡ timers_line ws
+timers_kept [] = refl
+timers_kept (i ∷ []) = refl
+timers_kept (i ∷ k ∷ []) = bind_kept (number32 i) _ (λ m. bind_kept (number32 k) _ (λ n. timers_kept_by m n (nat_le 10000 n)))
+timers_kept (i ∷ k ∷ v ∷ ws) = refl
+
+at_kept : (ws : List Word) → understood (at_line ws) ≡ at_line ws
+at_kept [] = refl
+at_kept (t ∷ []) = map_kept (number max_moment t) (λ n. at_moment n) (λ n. refl)
+at_kept (t ∷ v ∷ ws) = refl
+
+cut_kept : (ws : List Word) → understood (of_word cut ws) ≡ of_word cut ws
+cut_kept [] = refl
+cut_kept (w ∷ []) = map_kept (word w) (λ p. cut p) (λ p. refl)
+cut_kept (w ∷ v ∷ ws) = refl
+
+stop_kept : (ws : List Word) → understood (stop_line ws) ≡ stop_line ws
+stop_kept [] = refl
+stop_kept (w ∷ []) = refl
+stop_kept (w ∷ r ∷ []) = refl
+stop_kept (w ∷ r ∷ d ∷ []) = bind_kept (word w) _ (λ p. bind_kept (number 15 r) _ (λ rcode. bind_kept (number32 d) _ (λ delay. refl)))
+stop_kept (w ∷ r ∷ d ∷ v ∷ ws) = refl
+
 send_kept : (ws : List Word) → understood (of_word_and_octets send ws) ≡ of_word_and_octets send ws
 send_kept [] = refl
 send_kept (w ∷ []) = refl
@@ -263,35 +301,42 @@ point_kept (w ∷ ws) = refl
 pub is_that : (w v : Word) → is w v ≡ true → w ≡ v
 is_that w v h = (bytes_eq-Decides w v).0 h
 
-abbrev kind_by : Bool → Bool → Bool → Bool → Kind
-kind_by a b c d = cond a kinds.Zone (cond b kinds.Update (cond c kinds.Send (cond d kinds.Point kinds.Other)))
+abbrev kind_by : Bool → Bool → Bool → Bool → Bool → Bool → Bool → Bool → Kind
+kind_by a b c d e f g h = cond a kinds.Timers (cond b kinds.Zone (cond c kinds.At (cond d kinds.Update (cond e kinds.Cut (cond f kinds.Send (cond g kinds.Stop (cond h kinds.Point kinds.Other)))))))
 
-other_kind : (a b c d : Bool) → a ≡ false → b ≡ false → c ≡ false → d ≡ false → kind_by a b c d ≡ kinds.Other
-other_kind a b c d no_a no_b no_c no_d =
-    ap (λ (x : Bool). kind_by x b c d) no_a
-    ∙ ap (λ (x : Bool). kind_by false x c d) no_b
-    ∙ ap (λ (x : Bool). kind_by false false x d) no_c
-    ∙ ap (λ (x : Bool). kind_by false false false x) no_d
+other_kind : (w : Word) → IsOther w → kind_of w ≡ kinds.Other
+other_kind w o =
+    ap (λ (x : Bool). kind_by x (is w (codes "zone")) (is w (codes "at")) (is w (codes "update")) (is w (codes "cut")) (is w (codes "send")) (is w (codes "stop")) (is w (codes "point"))) o.no_timers
+    ∙ ap (λ (x : Bool). kind_by false x (is w (codes "at")) (is w (codes "update")) (is w (codes "cut")) (is w (codes "send")) (is w (codes "stop")) (is w (codes "point"))) o.no_zone
+    ∙ ap (λ (x : Bool). kind_by false false x (is w (codes "update")) (is w (codes "cut")) (is w (codes "send")) (is w (codes "stop")) (is w (codes "point"))) o.no_at
+    ∙ ap (λ (x : Bool). kind_by false false false x (is w (codes "cut")) (is w (codes "send")) (is w (codes "stop")) (is w (codes "point"))) o.no_update
+    ∙ ap (λ (x : Bool). kind_by false false false false x (is w (codes "send")) (is w (codes "stop")) (is w (codes "point"))) o.no_cut
+    ∙ ap (λ (x : Bool). kind_by false false false false false x (is w (codes "stop")) (is w (codes "point"))) o.no_send
+    ∙ ap (λ (x : Bool). kind_by false false false false false false x (is w (codes "point"))) o.no_stop
+    ∙ ap (λ (x : Bool). kind_by false false false false false false false x) o.no_point
 
 abbrev IsKept : List Word → Word → Type 0
 IsKept ws w = understood (by_first_word w ws) ≡ said_behind (kind_of w) ws
 
-first_word_kept : (w : Word) (ws : List Word) → IsKept ws w
-first_word_kept w ws = elim (cases_Bool (is w (codes "zone"))) [
-  | inl is_zone ↦ subst (IsKept ws) (sym (is_that w (codes "zone") is_zone)) (zone_kept ws)
-  | inr no_zone ↦ elim (cases_Bool (is w (codes "update"))) [
-    | inl is_update ↦ subst (IsKept ws) (sym (is_that w (codes "update") is_update)) (update_kept ws)
-    | inr no_update ↦ elim (cases_Bool (is w (codes "send"))) [
-      | inl is_send ↦ subst (IsKept ws) (sym (is_that w (codes "send") is_send)) (send_kept ws)
-      | inr no_send ↦ elim (cases_Bool (is w (codes "point"))) [
-        | inl is_point ↦ subst (IsKept ws) (sym (is_that w (codes "point") is_point)) (point_kept ws)
-        | inr no_point ↦
-            other_kept w ws no_zone no_update no_send no_point
-            ∙ sym (ap (λ (k : Kind). said_behind k ws) (other_kind (is w (codes "zone")) (is w (codes "update")) (is w (codes "send")) (is w (codes "point")) no_zone no_update no_send no_point))
-      ]
-    ]
-  ]
+-- by one word after another
+by_word : (v w : Word) (ws : List Word) → IsKept ws v → (is w v ≡ false → IsKept ws w) → IsKept ws w
+by_word v w ws this others = elim (cases_Bool (is w v)) [
+  | inl same ↦ subst (IsKept ws) (sym (is_that w v same)) this
+  | inr differs ↦ others differs
 ]
+
+first_word_kept : (w : Word) (ws : List Word) → IsKept ws w
+first_word_kept w ws =
+    by_word (codes "timers") w ws (timers_kept ws) (λ no_timers.
+    by_word (codes "zone") w ws (zone_kept ws) (λ no_zone.
+    by_word (codes "at") w ws (at_kept ws) (λ no_at.
+    by_word (codes "update") w ws (update_kept ws) (λ no_update.
+    by_word (codes "cut") w ws (cut_kept ws) (λ no_cut.
+    by_word (codes "send") w ws (send_kept ws) (λ no_send.
+    by_word (codes "stop") w ws (stop_kept ws) (λ no_stop.
+    by_word (codes "point") w ws (point_kept ws) (λ no_point.
+    let o : IsOther w = record { no_timers = no_timers; no_zone = no_zone; no_at = no_at; no_update = no_update; no_cut = no_cut; no_send = no_send; no_stop = no_stop; no_point = no_point } in
+    other_kept w ws o ∙ sym (ap (λ (k : Kind). said_behind k ws) (other_kind w o))))))))))
 
 -- ---- a line
 

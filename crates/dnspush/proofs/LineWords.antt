@@ -1,5 +1,5 @@
 -- Words are ASCII text, and what a number says.
-use Rattle.std.proofs.Common.{◌≡◌, ℕ, ◌+◌, ◌-◌, ◌*◌, ◌/◌, ◌%◌, ◌<◌, ◌^◌, Bool, true, cond, leb, ◌&&◌, not, ◌⊎◌, Option, Some, None, Result, Ok, Err, List, [], ◌∷◌, length, refl, sym, ap, subst, ◌∙◌, arith, rules, inl, inr}
+use Rattle.std.proofs.Common.{◌≡◌, ℕ, ◌+◌, ◌-◌, ◌*◌, ◌/◌, ◌%◌, ◌<◌, ◌≤◌, ◌^◌, Bool, true, false, cond, leb, ◌&&◌, not, ◌⊎◌, Option, Some, None, Result, Ok, Err, List, [], ◌∷◌, length, refl, sym, ap, subst, ◌∙◌, arith, rules, inl, inr}
 use Rattle.std.specs.Prelude.{fold}
 use Rattle.std.specs.List.{list_all, AllByRecursion}
 use Rattle.std.specs.Result.{result_ok, OkIff}
@@ -12,6 +12,7 @@ use Rattle.std.proofs.lemmas.Str.Ascii.{IsAscii-nil, IsAscii-cons}
 use Rattle.std.proofs.lemmas.Str.Parse.{IsDigitsTest, FoldsDigits, IsNumeralModel, numerals_by_fold, parse_digits}
 use Rattle.std.proofs.lemmas.Bool.{cases_Bool, leb-true, le-leb}
 use Rattle.std.proofs.lemmas.Bool.Decides.{nat_tests}
+use Rattle.std.proofs.lemmas.Option.{cond_some}
 use Rattle.push_base.specs.Hexadecimal.{SpellsOctets, hex_text, hex_octets, first_other, octets_of_digits, octets_or_fault}
 use Rattle.push_base.proofs.HexLaws.{digits_all}
 use Rattle.dnsname.specs.Names.{Labels}
@@ -20,7 +21,8 @@ use Rattle.dnsname.proofs.Decisions.{and_true}
 use Rattle.dnsname.proofs.TextUnique.{Shape, shape}
 use Rattle.dnsname.proofs.TextUnique as unique
 use Rattle.dnsname.proofs.TextFunctions.{name_found}
-use Rattle.replay.specs.Lines.{number, max_u32, is_digit, begins_with_zero}
+use Rattle.replay.specs.Lines.{number, is_digit, begins_with_zero}
+use Rattle.push_base.specs.Limits.{max_number}
 use Rattle.dnspush.specs.BuiltLines.{has_form, is_word_octet}
 
 -- ---- a name's text is ASCII
@@ -124,22 +126,77 @@ folds = record { empty = λ n. refl; more = λ n c cs h. ap (λ k. fold digit_on
 own : IsNumeralModel (λ ds. list_all is_digit ds ≡ true) (fold digit_on 0)
 own = numerals_by_fold _ tells (fold digit_on) folds
 
-value_read : {E : Type 0} (size value : ℕ) → 0 < size → (r : Result ℕ E) → OkIff r ((0 < size) × (value < 2 ^ 32)) value → result_ok r ≡ cond {A = Option ℕ} (leb value max_u32) (Some value) None
+value_read : {E : Type 0} (size value : ℕ) → 0 < size → (r : Result ℕ E) → OkIff r ((0 < size) × (value < 2 ^ 64)) value → result_ok r ≡ cond {A = Option ℕ} (leb value max_number) (Some value) None
 value_read size value some (Ok x) h =
-    let test : leb value max_u32 ≡ true = le-leb value max_u32 (omega (arith, h.0.1)) in
+    let test : leb value max_number ≡ true = le-leb value max_number (omega (arith, h.0.1)) in
     ap Some h.1 ∙ sym (ap (λ (b : Bool). cond {A = Option ℕ} b (Some value) None) test)
-value_read size value some (Err e) h = elim (cases_Bool (leb value max_u32)) [
-  | inl small ↦ absurd (h (some, omega (arith, leb-true value max_u32 small)))
+value_read size value some (Err e) h = elim (cases_Bool (leb value max_number)) [
+  | inl small ↦ absurd (h (some, omega (arith, leb-true value max_number small)))
   | inr large ↦ sym (ap (λ (b : Bool). cond {A = Option ℕ} b (Some value) None) large)
 ]
 
 -- what is parsed of a word with the form of a number
-pub number_read : {E : Type 0} (text : List ℕ) (r : Result ℕ E) → has_form text ≡ true → ParsesUnsigned 32 10 text r → result_ok r ≡ number max_u32 text
+pub number_read : {E : Type 0} (text : List ℕ) (r : Result ℕ E) → has_form text ≡ true → ParsesUnsigned 64 10 text r → result_ok r ≡ number max_number text
 number_read [] r form h = absurd cc
 number_read (c ∷ cs) r form h =
     let value = fold digit_on 0 (c ∷ cs) in
-    let read = value_read (length (c ∷ cs)) value (omega arith) r (parse_digits own 32 (c ∷ cs) r h (form_digits (c ∷ cs) form)) in
-    read ∙ sym (ap (λ (b : Bool). cond {A = Option ℕ} (b && leb value max_u32) (Some value) None) form)
+    let read = value_read (length (c ∷ cs)) value (omega arith) r (parse_digits own 64 (c ∷ cs) r h (form_digits (c ∷ cs) form)) in
+    read ∙ sym (ap (λ (b : Bool). cond {A = Option ℕ} (b && leb value max_number) (Some value) None) form)
+
+-- ---- a number that is no more than a greatest
+
+-- by whether the word has the form of one, and its value
+abbrev by_value : Bool → ℕ → ℕ → Option ℕ
+by_value form value greatest = cond {A = Option ℕ} (form && leb value greatest) (Some value) None
+
+record IsValue (form : Bool) (value n : ℕ) : Type 0 where
+  good : form ≡ true
+  is : value ≡ n
+
+is_value : (form : Bool) (value most n : ℕ) → Some n ≡ by_value form value most → IsValue form value n
+is_value form value most n h =
+    let parts = cond_some (form && leb value most) value n (sym h) in
+    record { good = (and_true form (leb value most) parts.0).0; is = parts.1 }
+
+value_by_test : (form : Bool) (value greatest : ℕ) (test : Bool) → form ≡ true → leb value greatest ≡ test → by_value form value greatest ≡ cond {A = Option ℕ} test (Some value) None
+value_by_test form value greatest test is tests =
+    ap (λ (b : Bool). cond {A = Option ℕ} (b && leb value greatest) (Some value) None) is ∙ ap (λ (b : Bool). cond {A = Option ℕ} b (Some value) None) tests
+
+within : (form : Bool) (value most greatest n : ℕ) → Some n ≡ by_value form value most → n ≤ greatest → Some n ≡ by_value form value greatest
+within form value most greatest n h small =
+    let v = is_value form value most n h in
+    let test : leb value greatest ≡ true = le-leb value greatest (omega (arith, v.is, small)) in
+    sym (value_by_test form value greatest true v.good test ∙ ap Some v.is)
+
+beyond : (form : Bool) (value most greatest n : ℕ) → Some n ≡ by_value form value most → greatest < n → None ≡ by_value form value greatest
+beyond form value most greatest n h large =
+    let v = is_value form value most n h in
+    elim (cases_Bool (leb value greatest)) [
+      | inl small ↦ absurd (omega (arith, leb-true value greatest small, v.is, large))
+      | inr test ↦ sym (value_by_test form value greatest false v.good test)
+    ]
+
+missing : (form : Bool) (value most greatest : ℕ) → None ≡ by_value form value most → greatest ≤ most → None ≡ by_value form value greatest
+missing false value most greatest h below = refl
+missing true value most greatest h below = elim (cases_Bool (leb value greatest)) [
+  | inl small ↦
+      let test : leb value most ≡ true = le-leb value most (omega (arith, leb-true value greatest small, below)) in
+      let there : None ≡ Some value = h ∙ value_by_test true value most true refl test in
+      absurd cc
+  | inr test ↦ sym (value_by_test true value greatest false refl test)
+]
+
+pub number_within : (text : List ℕ) (most greatest n : ℕ) → Some n ≡ number most text → n ≤ greatest → Some n ≡ number greatest text
+number_within [] most greatest n h small = absurd cc
+number_within (c ∷ cs) most greatest n h small = within (has_form (c ∷ cs)) (fold digit_on 0 (c ∷ cs)) most greatest n h small
+
+pub number_beyond : (text : List ℕ) (most greatest n : ℕ) → Some n ≡ number most text → greatest < n → None ≡ number greatest text
+number_beyond [] most greatest n h large = refl
+number_beyond (c ∷ cs) most greatest n h large = beyond (has_form (c ∷ cs)) (fold digit_on 0 (c ∷ cs)) most greatest n h large
+
+pub number_missing : (text : List ℕ) (most greatest : ℕ) → None ≡ number most text → greatest ≤ most → None ≡ number greatest text
+number_missing [] most greatest h below = refl
+number_missing (c ∷ cs) most greatest h below = missing (has_form (c ∷ cs)) (fold digit_on 0 (c ∷ cs)) most greatest h below
 
 -- ---- how many octets a word stands for
 

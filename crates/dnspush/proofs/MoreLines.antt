@@ -1,151 +1,185 @@
--- A further line behind zones and events.
-use Rattle.std.proofs.Common.{◌≡◌, ℕ, Bool, true, false, ◌&&◌, not, ◌==◌, Option, Some, List, [], ◌∷◌, ◌++◌, length, refl, sym, ◌∙◌, ap, subst, arith, append_assoc}
-use Rattle.std.specs.Prelude.{is_some, is_none}
+-- A further line behind others.
+--     AreLines front taken      the lines so far make the head and the events
+--     adds      what a line that may stand there makes of them
+use Rattle.std.proofs.Common.{◌≡◌, ℕ, ◌+◌, Bool, true, false, ◌==◌, Option, Some, None, List, [], ◌∷◌, ◌++◌, length, zero, suc, refl, sym, ◌∙◌, ap, subst, arith, length-append}
+use Rattle.std.specs.Prelude.{is_some, unwrap_or, All}
+use Rattle.std.specs.List.{AllByRecursion}
 use Rattle.std.proofs.lemmas.Bool.Decides.{nat_tests}
-use Rattle.std.proofs.lemmas.List.{append-nil}
-use Rattle.std.proofs.lemmas.List.Elements.{filter-append}
+use Rattle.std.proofs.lemmas.List.{append-nil, map-append}
+use Rattle.std.proofs.lemmas.List.Elements.{All-append}
 use Rattle.dnsname.proofs.Decisions.{and_true}
-use Rattle.history.specs.Homes.{NamedHome, home_fault}
-use Rattle.history.specs.Keeping.{HomesKept, named_homes}
-use Rattle.replay.specs.Lines.{Word, ScriptLine, send}
-use Rattle.replay.specs.Scripts.{Known, fits, allowed, in_events, is_among}
+use Rattle.coalesce.proofs.ReadBack.{each-append}
+use Rattle.dsosession.specs.declared.session.Timers.{Timers}
+use Rattle.dsosession.specs.Timing.{default_timers}
+use Rattle.zoneupdate.specs.Zones.{ZoneState, new_zone}
+use Rattle.history.specs.Homes.{NamedHome}
+use Rattle.history.specs.States.{State}
+use Rattle.history.specs.Plans.{IsStart}
+use Rattle.history.specs.Keeping.{HomesKept, state_of}
+use Rattle.replay.specs.Lines.{Word, ScriptLine}
+use Rattle.replay.specs.Scripts.{Known, fits, allowed, in_events}
+use Rattle.replay.specs.World.{Head, empty_head, with_head_line}
 use Rattle.dnspush.specs.declared.line.ZoneLine.{ZoneLine}
 use Rattle.dnspush.specs.declared.line.Event.{Event}
 use Rattle.dnspush.specs.declared.line.Event.TheVariants as events
 use Rattle.dnspush.specs.declared.line.Line.{Line}
 use Rattle.dnspush.specs.declared.line.Line.TheVariants as lines
-use Rattle.dnspush.specs.BuiltLines.{zone_said, event_said, said, IsSound, IsSoundEvent}
+use Rattle.dnspush.specs.BuiltLines.{timers_said, zone_said, event_said, said, IsEvent, IsSound}
 use Rattle.dnspush.specs.BuiltScript.{events_said}
-use Rattle.dnspush.specs.EventText.{ScriptZone, zone_line, zone_lines, AreEvents, is_silent, speaking}
-use Rattle.dnspush.specs.LineByLine.{known_of, peers_of, stands, may_send, HasZone, GrowsBy}
-use Rattle.dnspush.specs.Script.{is_built, and_sent}
-use Rattle.dnspush.proofs.MoreEvents.{map_more, not_empty, peers_then, events_more, no_events}
-use Rattle.dnspush.proofs.MoreZones.{AreHomes, no_homes, zone_of_line, homes_more}
+use Rattle.dnspush.specs.LineByLine.{Taken, known_of, stands, with_zone, HasZone, GrowsBy}
+use Rattle.dnspush.specs.Script.{is_built}
+use Rattle.dnspush.proofs.Happening.{happening, happening-more, head_behind, head-more}
 
--- the lines so far are those of these zones and events
-pub record AreLines (front : List ScriptLine) (homes : HomesKept) (events : List Event) : Type 0 where
-  pub zones : List ScriptZone
-  pub speak : speaking front ≡ zone_lines zones ++ events_said events
-  pub are_homes : AreHomes homes zones
-  pub are_events : AreEvents (events_said events)
+abbrev pub head_of : Option Timers → State → Head
+head_of timers start = record { timers = unwrap_or timers default_timers; start = start; links = [] }
 
-pub no_lines : AreLines [] [] []
-no_lines = record { zones = []; speak = refl; are_homes = no_homes; are_events = no_events }
+abbrev pub head_taken : Taken → Head
+head_taken taken = head_of taken.timers (state_of taken.homes)
 
--- what a line that may stand there makes of zones and events
-pub record Adds (all : List Word) (homes : HomesKept) (events : List Event) (line : Line) (homes_then : HomesKept) (events_then : List Event) : Type 0 where
-  pub built : is_built (known_of homes events) (peers_of events) (said line) ≡ true
-  pub fit : fits all (known_of homes events) (said line) ≡ Some (known_of homes_then events_then)
-  pub peers : and_sent (peers_of events) (said line) ≡ peers_of events_then
-  pub lines : (front : List ScriptLine) → AreLines front homes events → AreLines (front ++ said line ∷ []) homes_then events_then
+-- the lines so far make this head, and those that happen are these events
+pub record AreLines (front : List ScriptLine) (taken : Taken) : Type 0 where
+  pub happen : happening front ≡ events_said taken.events
+  pub head : head_behind empty_head front ≡ head_taken taken
+  pub start : IsStart (state_of taken.homes)
+  pub are_events : AllByRecursion IsEvent (events_said taken.events)
 
-speaking_more : (front : List ScriptLine) (line : ScriptLine) → speaking (front ++ line ∷ []) ≡ speaking front ++ speaking (line ∷ [])
-speaking_more front line = filter-append (λ (l : ScriptLine). not (is_silent l)) front (line ∷ [])
+abbrev pub nothing_taken : Taken
+nothing_taken = record { timers = None; homes = []; events = [] }
+
+no_start : IsStart (state_of [])
+no_start = record { zones = λ k d before. absurd (omega (arith, before)); links = λ k d before. absurd (omega (arith, before)); now = refl }
+
+pub no_lines : AreLines [] nothing_taken
+no_lines = record { happen = refl; head = refl; start = no_start; are_events = tt }
+
+-- what a line that may stand there makes of the head and the events
+pub record Adds (all : List Word) (taken : Taken) (line : Line) (later : Taken) : Type 0 where
+  pub built : is_built (known_of taken) (said line) ≡ true
+  pub fit : fits all (known_of taken) (said line) ≡ Some (known_of later)
+  pub lines : (front : List ScriptLine) → AreLines front taken → AreLines (front ++ said line ∷ []) later
 
 allowed_some : (b : Bool) (known : Known) → is_some (allowed b known) ≡ true → allowed b known ≡ Some known
 allowed_some true known h = refl
 allowed_some false known h = absurd cc
 
-allowed_is : (b : Bool) (known : Known) → b ≡ is_some (allowed b known)
-allowed_is true known = refl
-allowed_is false known = refl
+-- the head behind a further line
+head-then : (front : List ScriptLine) (taken : Taken) (line : ScriptLine) → AreLines front taken → head_behind empty_head (front ++ line ∷ []) ≡ with_head_line (head_taken taken) line
+head-then front taken line are = head-more empty_head front line ∙ ap (λ (h : Head). with_head_line h line) are.head
 
--- what a peer sends may stand there
-pub send_stands : (all : List Word) (known : Known) (words : List Word) (w : Word) (octets : List ℕ) → may_send all words w octets ≡ stands all known words (send w octets)
-send_stands all known words w octets = ap (λ (b : Bool). is_built known words (send w octets) && b) (allowed_is (not (is_among all w)) (in_events known))
+-- a line that doesn't happen
+happen-head : (front : List ScriptLine) (taken : Taken) (line : ScriptLine) → AreLines front taken → happening (line ∷ []) ≡ [] → happening (front ++ line ∷ []) ≡ events_said taken.events
+happen-head front taken line are quiet = happening-more front line ∙ ap (λ (ls : List ScriptLine). happening front ++ ls) quiet ∙ append-nil (happening front) ∙ are.happen
 
--- ---- a line that says nothing
+-- ---- a line that says nothing, and timers
 
-silent_adds : (all : List Word) (homes : HomesKept) (es : List Event) → Adds all homes es lines.Silent homes es
-silent_adds all homes es = record {
+silent_adds : (all : List Word) (taken : Taken) → Adds all taken lines.Silent taken
+silent_adds all taken = record {
   built = refl;
   fit = refl;
-  peers = refl;
-  lines = λ front are. record { zones = are.zones; speak = speaking_more front _ ∙ append-nil (speaking front) ∙ are.speak; are_homes = are.are_homes; are_events = are.are_events };
+  lines = λ front are. record { happen = happen-head front taken _ are refl; head = head-then front taken _ are; start = are.start; are_events = are.are_events };
+}
+
+abbrev with_timers : Taken → Timers → Taken
+with_timers taken t = record taken { timers = Some t }
+
+timers_adds : (all : List Word) (taken : Taken) (t : Timers) → stands all (known_of taken) (timers_said t) ≡ true → Adds all taken (lines.Timers t) (with_timers taken t)
+timers_adds all taken t h = record {
+  built = refl;
+  fit = allowed_some _ _ h;
+  lines = λ front are. record { happen = happen-head front taken (timers_said t) are refl; head = head-then front taken (timers_said t) are; start = are.start; are_events = are.are_events };
 }
 
 -- ---- a zone
 
-some_events : (e : Event) (es : List Event) → (length (e ∷ es) == 0) ≡ false
-some_events e es = grind (arith, nat_tests)
+abbrev zone_of : ZoneLine → ZoneState
+zone_of z = new_zone z.apex z.serial z.writable
 
--- behind the head of a script no zone line fits
-behind_head : (head test : Bool) (known : Known) → head ≡ false → is_some (allowed (head && test) known) ≡ true → ⊥
-behind_head true test known e h = absurd cc
-behind_head false test known e h = absurd cc
+abbrev IsNew : ZoneState → Type 0
+IsNew z = (serial : ℕ) × (z ≡ new_zone z.apex serial z.writable)
 
-allowed_true : (b : Bool) (known : Known) → is_some (allowed b known) ≡ true → b ≡ true
-allowed_true true known h = refl
-allowed_true false known h = absurd cc
+one_new : (z : ZoneLine) → All IsNew (zone_of z ∷ [])
+one_new z zero d before = (z.serial, refl)
+one_new z (suc k) d before = absurd (omega (arith, before))
 
--- the known things of homes with these names, in the head
-abbrev known_by : List NamedHome → Option Known
-known_by names = Some (record { in_head = true; has_timers = false; homes = names; links = []; clients = [] })
+start_more : (start : State) (z : ZoneLine) → IsStart start → IsStart (with_zone start (zone_of z))
+start_more start z is = record { zones = All-append IsNew start.zones (zone_of z ∷ []) is.zones (one_new z); links = is.links; now = is.now }
 
-zone_speaks : (zones : List ScriptZone) (z : ZoneLine) → (zone_lines zones ++ []) ++ zone_said z ∷ [] ≡ zone_lines (zones ++ zone_of_line z ∷ []) ++ []
-zone_speaks zones z =
-    ap (λ (ls : List ScriptLine). ls ++ zone_said z ∷ []) (append-nil (zone_lines zones))
-    ∙ sym (append-nil (zone_lines (zones ++ zone_of_line z ∷ [])) ∙ map_more zone_line zones (zone_of_line z))
+abbrev with_homes : Taken → HomesKept → Taken
+with_homes taken homes = record taken { homes = homes }
 
-zone_adds : (all : List Word) (homes homes_then : HomesKept) (es : List Event) (z : ZoneLine) → stands all (known_of homes es) (peers_of es) (zone_said z) ≡ true → HasZone homes z homes_then → Adds all homes es (lines.Zone z) homes_then es
-zone_adds all homes homes_then (e ∷ es) z h has = absurd (behind_head (length (e ∷ es) == 0) (is_none (home_fault (named_homes homes) (z.apex, false))) _ (some_events e es) h)
-zone_adds all homes homes_then [] z h has =
-    let free = is_none (home_fault (named_homes homes) (z.apex, false)) in
-    record {
-      built = refl;
-      fit = allowed_some free _ h ∙ ap known_by (sym has.named);
-      peers = refl;
-      lines = λ front are. record {
-        zones = are.zones ++ zone_of_line z ∷ [];
-        speak = speaking_more front (zone_said z) ∙ ap (λ (ls : List ScriptLine). ls ++ zone_said z ∷ []) are.speak ∙ zone_speaks are.zones z;
-        are_homes = homes_more homes homes_then are.zones z are.are_homes has (allowed_true free _ h);
-        are_events = are.are_events;
-      };
-    }
+zone_adds : (all : List Word) (taken : Taken) (homes : HomesKept) (z : ZoneLine) → stands all (known_of taken) (zone_said z) ≡ true → HasZone taken.homes z homes → Adds all taken (lines.Zone z) (with_homes taken homes)
+zone_adds all taken homes z h has = record {
+  built = refl;
+  fit = allowed_some _ _ h ∙ ap (λ (names : List NamedHome). Some (record (known_of taken) { homes = names })) (sym has.named);
+  lines = λ front are. record {
+    happen = happen-head front taken (zone_said z) are refl;
+    head = head-then front taken (zone_said z) are ∙ ap (head_of taken.timers) (sym has.state);
+    start = subst IsStart (sym has.state) (start_more (state_of taken.homes) z are.start);
+    are_events = are.are_events;
+  };
+}
 
 -- ---- an event
 
-known_then : (homes : HomesKept) (es : List Event) (e : Event) → Some (in_events (known_of homes es)) ≡ Some (known_of homes (es ++ e ∷ []))
-known_then homes es e = ap (λ (head : Bool). Some (record (known_of homes es) { in_head = head })) (not_empty es e)
+abbrev with_event : Taken → Event → Taken
+with_event taken e = record taken { events = taken.events ++ e ∷ [] }
 
-event_fits : (all : List Word) (homes : HomesKept) (es : List Event) (e : Event) → is_some (fits all (known_of homes es) (event_said e)) ≡ true → fits all (known_of homes es) (event_said e) ≡ Some (in_events (known_of homes es))
-event_fits all homes es (events.Update o) h = refl
-event_fits all homes es (events.Send s) h = allowed_some _ _ h
-event_fits all homes es events.Point h = refl
+not_empty : {X : Type 0} (xs : List X) (x : X) → false ≡ (length (xs ++ x ∷ []) == 0)
+not_empty xs x = let size : length (xs ++ x ∷ []) ≡ length xs + 1 = length-append xs (x ∷ []) in grind (arith, nat_tests)
 
-event_speaks : (front : List ScriptLine) (e : Event) → speaking (front ++ event_said e ∷ []) ≡ speaking front ++ event_said e ∷ []
-event_speaks front (events.Update o) = speaking_more front _
-event_speaks front (events.Send s) = speaking_more front _
-event_speaks front events.Point = speaking_more front _
+known_then : (taken : Taken) (e : Event) → Some (in_events (known_of taken)) ≡ Some (known_of (with_event taken e))
+known_then taken e = ap (λ (head : Bool). Some (record (known_of taken) { in_head = head })) (not_empty taken.events e)
 
-event_adds : (all : List Word) (homes : HomesKept) (es : List Event) (e : Event) → IsSoundEvent e → stands all (known_of homes es) (peers_of es) (event_said e) ≡ true → Adds all homes es (lines.Event e) homes (es ++ e ∷ [])
-event_adds all homes es e sound h =
-    let known = known_of homes es in
-    let both = and_true (is_built known (peers_of es) (event_said e)) (is_some (fits all known (event_said e))) h in
+event_fits : (all : List Word) (taken : Taken) (e : Event) → is_some (fits all (known_of taken) (event_said e)) ≡ true → fits all (known_of taken) (event_said e) ≡ Some (in_events (known_of taken))
+event_fits all taken (events.Update o) h = refl
+event_fits all taken (events.Send s) h = allowed_some _ _ h
+event_fits all taken events.Point h = refl
+event_fits all taken (events.At t) h = refl
+event_fits all taken (events.Stop s) h = allowed_some _ _ h
+event_fits all taken (events.Cut c) h = allowed_some _ _ h
+
+event_happens : (e : Event) → happening (event_said e ∷ []) ≡ event_said e ∷ []
+event_happens (events.Update o) = refl
+event_happens (events.Send s) = refl
+event_happens events.Point = refl
+event_happens (events.At t) = refl
+event_happens (events.Stop s) = refl
+event_happens (events.Cut c) = refl
+
+event_heads : (head : Head) (e : Event) → with_head_line head (event_said e) ≡ head
+event_heads head (events.Update o) = refl
+event_heads head (events.Send s) = refl
+event_heads head events.Point = refl
+event_heads head (events.At t) = refl
+event_heads head (events.Stop s) = refl
+event_heads head (events.Cut c) = refl
+
+event_adds : (all : List Word) (taken : Taken) (e : Event) → IsEvent (event_said e) → stands all (known_of taken) (event_said e) ≡ true → Adds all taken (lines.Event e) (with_event taken e)
+event_adds all taken e sound h =
+    let both = and_true (is_built (known_of taken) (event_said e)) (is_some (fits all (known_of taken) (event_said e))) h in
+    let more : events_said (taken.events ++ e ∷ []) ≡ events_said taken.events ++ event_said e ∷ [] = map-append event_said taken.events (e ∷ []) in
     record {
       built = both.0;
-      fit = event_fits all homes es e both.1 ∙ known_then homes es e;
-      peers = peers_then es e;
+      fit = event_fits all taken e both.1 ∙ known_then taken e;
       lines = λ front are. record {
-        zones = are.zones;
-        speak =
-            event_speaks front e
-            ∙ ap (λ (ls : List ScriptLine). ls ++ event_said e ∷ []) are.speak
-            ∙ append_assoc (zone_lines are.zones) (events_said es) (event_said e ∷ [])
-            ∙ ap (λ (ls : List ScriptLine). zone_lines are.zones ++ ls) (sym (map_more event_said es e));
-        are_homes = are.are_homes;
-        are_events = events_more known es e both.0 sound are.are_events;
+        happen =
+            happening-more front (event_said e)
+            ∙ ap (λ (ls : List ScriptLine). happening front ++ ls) (event_happens e)
+            ∙ ap (λ (ls : List ScriptLine). ls ++ event_said e ∷ []) are.happen
+            ∙ sym more;
+        head = head-then front taken (event_said e) are ∙ event_heads (head_taken taken) e;
+        start = are.start;
+        are_events = subst (AllByRecursion IsEvent) (sym more) (each-append IsEvent (events_said taken.events) (event_said e ∷ []) are.are_events (sound, tt));
       };
     }
 
 -- ---- a line
 
--- the same, of zones and events that are those
-moved : (all : List Word) (homes homes_same homes_then : HomesKept) (es es_same es_then : List Event) (line : Line) → homes_then ≡ homes_same → es_then ≡ es_same → Adds all homes es line homes_same es_same → Adds all homes es line homes_then es_then
-moved all homes homes_same homes_then es es_same es_then line e f adds =
-    subst (λ (hs : HomesKept). Adds all homes es line hs es_then) (sym e) (subst (λ (xs : List Event). Adds all homes es line homes_same xs) (sym f) adds)
+moved : (all : List Word) (taken same later : Taken) (line : Line) → later ≡ same → Adds all taken line same → Adds all taken line later
+moved all taken same later line e adds = subst (λ (t : Taken). Adds all taken line t) (sym e) adds
 
-pub adds : (all : List Word) (homes homes_then : HomesKept) (es es_then : List Event) (line : Line) → IsSound line → stands all (known_of homes es) (peers_of es) (said line) ≡ true → GrowsBy homes es line homes_then es_then → Adds all homes es line homes_then es_then
-adds all homes homes_then es es_then lines.Silent sound h grows = moved all homes homes homes_then es es es_then lines.Silent grows.0 grows.1 (silent_adds all homes es)
-adds all homes homes_then es es_then (lines.Zone z) sound h grows = moved all homes homes_then homes_then es es es_then (lines.Zone z) refl grows.1 (zone_adds all homes homes_then es z h grows.0)
-adds all homes homes_then es es_then (lines.Event e) sound h grows = moved all homes homes homes_then es (es ++ e ∷ []) es_then (lines.Event e) grows.0 grows.1 (event_adds all homes es e sound h)
+pub adds : (all : List Word) (taken later : Taken) (line : Line) → IsSound line → stands all (known_of taken) (said line) ≡ true → GrowsBy taken line later → Adds all taken line later
+adds all taken later lines.Silent sound h grows = moved all taken taken later lines.Silent grows (silent_adds all taken)
+adds all taken later (lines.Timers t) sound h grows = moved all taken (with_timers taken t) later (lines.Timers t) grows (timers_adds all taken t h)
+adds all taken later (lines.Zone z) sound h grows = moved all taken (with_homes taken later.homes) later (lines.Zone z) grows.1 (zone_adds all taken later.homes z h grows.0)
+adds all taken later (lines.Event e) sound h grows = moved all taken (with_event taken e) later (lines.Event e) grows (event_adds all taken e sound h)

@@ -1,14 +1,13 @@
 -- The words of a line, from its front.
-use Rattle.std.proofs.Common.{◌≡◌, ℕ, suc, ◌+◌, ◌-◌, ◌<◌, ◌==◌, ◌⊎◌, Bool, true, false, cond, Option, Some, None, List, [], ◌∷◌, length, take, drop, refl, sym, subst, ◌∙◌, ap, arith, inl, inr}
+use Rattle.std.proofs.Common.{◌≡◌, ℕ, suc, ◌+◌, ◌-◌, ◌<◌, ◌==◌, ◌⊎◌, Bool, cond, Option, Some, None, List, [], ◌∷◌, length, take, drop, refl, sym, subst, ◌∙◌, ap, arith, inl, inr}
 use Rattle.std.specs.List.{position, position_from, onto_first}
 use Rattle.std.proofs.lemmas.Bool.{cases_Bool}
 use Rattle.std.proofs.lemmas.List.{take_rest}
 use Rattle.std.proofs.lemmas.Iterator.Adapters.{position_from-zero}
-use Rattle.std.specs.Prelude.{is_some, option_map}
-use Rattle.replay.specs.Lines.{Word, update, send, point, alone as no_words, zone_line, of_octets, of_word_and_octets, octets_written}
+use Rattle.replay.specs.Lines.{Word, point, alone as no_words}
 use Rattle.dnspush.specs.declared.line.Kind.{Kind}
 use Rattle.dnspush.specs.declared.line.Kind.TheVariants as kinds
-use Rattle.dnspush.specs.BuiltLines.{words_in, said_behind}
+use Rattle.dnspush.specs.BuiltLines.{words_in, one_in, two_in, three_in, said_behind}
 
 abbrev is_space : ℕ → Bool
 is_space octet = octet == 32
@@ -85,17 +84,15 @@ two_parts f none octets n h =
     let rest = take (length octets - (n + 1)) (drop (n + 1) octets) in
     ap f (word_at octets n h) ∙ at_more f none (take n octets) (words_in rest) (some_words rest)
 
--- a zone line has three words behind its first
-pub zone_of_more : (a b text : List ℕ) (ws : List Word) (n : ℕ) → ws ≡ a ∷ b ∷ words_in text → Some n ≡ position is_space text → zone_line ws ≡ None
-zone_of_more a b text ws n e h = ap zone_line e ∙ two_parts (λ rest. zone_line (a ∷ b ∷ rest)) (λ v w rest. refl) text n h
+-- more words than three, two or one
+pub three_of_more : (a b text : List ℕ) (ws : List Word) (n : ℕ) → ws ≡ a ∷ b ∷ words_in text → Some n ≡ position is_space text → three_in ws ≡ None
+three_of_more a b text ws n e h = ap three_in e ∙ two_parts (λ rest. three_in (a ∷ b ∷ rest)) (λ v w rest. refl) text n h
 
--- a send line has two
-pub send_of_more : (a text : List ℕ) (ws : List Word) (n : ℕ) → ws ≡ a ∷ words_in text → Some n ≡ position is_space text → of_word_and_octets send ws ≡ None
-send_of_more a text ws n e h = ap (of_word_and_octets send) e ∙ two_parts (λ rest. of_word_and_octets send (a ∷ rest)) (λ v w rest. refl) text n h
+pub two_of_more : (a text : List ℕ) (ws : List Word) (n : ℕ) → ws ≡ a ∷ words_in text → Some n ≡ position is_space text → two_in ws ≡ None
+two_of_more a text ws n e h = ap two_in e ∙ two_parts (λ rest. two_in (a ∷ rest)) (λ v w rest. refl) text n h
 
--- an update line has one
-pub update_of_more : (text : List ℕ) (n : ℕ) → Some n ≡ position is_space text → of_octets update (words_in text) ≡ None
-update_of_more text n h = two_parts (of_octets update) (λ v w ws. refl) text n h
+pub one_of_more : (text : List ℕ) (n : ℕ) → Some n ≡ position is_space text → one_in (words_in text) ≡ None
+one_of_more text n h = two_parts one_in (λ v w ws. refl) text n h
 
 -- a point line has none
 no_point : (ws : List Word) → 0 < length ws → no_words point ws ≡ None
@@ -109,16 +106,3 @@ point_of_more text = no_point (words_in text) (some_words text)
 pub nothing_behind : (kind : Kind) (text : List ℕ) → (kind ≡ kinds.Point) ⊎ (kind ≡ kinds.Other) → None ≡ said_behind kind (words_in text)
 nothing_behind kind text (inl is_point) = sym (ap (λ (k : Kind). said_behind k (words_in text)) is_point ∙ point_of_more text)
 nothing_behind kind text (inr other) = sym (ap (λ (k : Kind). said_behind k (words_in text)) other)
-
--- whether there is a space tells whether there is one word
-pub update_of_spaced : (text : List ℕ) (place : Option ℕ) → place ≡ position is_space text → is_some place ≡ true → None ≡ of_octets update (words_in text)
-update_of_spaced text None is there = absurd cc
-update_of_spaced text (Some n) is there = sym (update_of_more text n is)
-
-pub update_of_word : (text octets : List ℕ) (place : Option ℕ) → place ≡ position is_space text → is_some place ≡ false → Some octets ≡ octets_written text → Some (update octets) ≡ of_octets update (words_in text)
-update_of_word text octets (Some n) is none read = absurd cc
-update_of_word text octets None is none read = sym (ap (of_octets update) (word_alone text is) ∙ ap (option_map (λ r. update r)) (sym read))
-
-pub update_of_other : (text : List ℕ) (place : Option ℕ) → place ≡ position is_space text → is_some place ≡ false → None ≡ octets_written text → None ≡ of_octets update (words_in text)
-update_of_other text (Some n) is none read = absurd cc
-update_of_other text None is none read = sym (ap (of_octets update) (word_alone text is) ∙ ap (option_map (λ r. update r)) (sym read))

@@ -19,3 +19,5 @@ pub mod Said
 pub mod Worked
 pub mod SubscribeReply
 pub mod EventText
+pub mod Standing
+pub mod Exchanging

@@ -1,8 +1,8 @@
 -- Which scripts are built, and what a script is answered.
---     is_built known sent line      the lines that are built so far
+--     is_built known line      the lines that are built so far
 --     first_later octets      the number of the first line that isn't built
 --     reply_to_script octets      the status and the text for the octets that were read
-use Rattle.std.specs.Prelude.{ℕ, ◌+◌, ◌==◌, ◌&&◌, not, Bool, true, false, Some, None, List, [], ◌∷◌, ◌++◌, length, nat_lt, take, drop, codes}
+use Rattle.std.specs.Prelude.{ℕ, ◌+◌, ◌==◌, ◌&&◌, not, Bool, true, false, Some, None, List, [], ◌∷◌, ◌++◌, take, drop, codes}
 use Rattle.std.specs.declared.option.Option.{Option}
 use Rattle.std.specs.Fmt.{decimal}
 use Rattle.push_base.specs.Cases.{is_empty}
@@ -10,8 +10,8 @@ use Rattle.rrset.specs.Header.{is_response, opcode_of}
 use Rattle.dsotlv.specs.Messages.{dso_opcode, head_of, first_message}
 use Rattle.dsotlv.specs.TlvKinds.{subscribe_tlv}
 use Rattle.dsotlv.specs.declared.message.DsoHead.{DsoHead}
-use Rattle.replay.specs.Lines.{Word, ScriptLine, silent, zone, update, send, point}
-use Rattle.replay.specs.Scripts.{Known, nothing_known, fits, is_among, client_words, lines_read, max_script}
+use Rattle.replay.specs.Lines.{Word, ScriptLine, silent, timers, zone, at_moment, update, cut, send, stop, point}
+use Rattle.replay.specs.Scripts.{Known, nothing_known, fits, client_words, lines_read, max_script}
 use Rattle.replay.specs.Text.{text_of}
 use Rattle.dnspush.specs.Reply.{Reply, line}
 
@@ -35,35 +35,30 @@ is_subscribe message = elim (head_of message) [ None ↦ false | Some head ↦ i
 abbrev pub is_one_subscribe : List ℕ → Bool
 is_one_subscribe octets = elim (first_message octets) [ None ↦ false | Some found ↦ is_empty found.1 && is_subscribe found.0 ]
 
--- so many SUBSCRIBEs are built in one script
-abbrev pub max_sends : ℕ
-max_sends = 64
-
--- the lines that are built so far: lines that say nothing, zones, updates, points, and SUBSCRIBEs, each of another peer
-abbrev pub is_built : Known → List Word → ScriptLine → Bool
-is_built known sent silent = true
-is_built known sent (zone apex serial mode) = true
-is_built known sent (update message) = true
-is_built known sent point = true
-is_built known sent (send w octets) = not (is_among sent w) && nat_lt (length sent) max_sends && is_one_subscribe octets
-is_built known sent _ = false
-
--- the peers' words with that of a line
-abbrev pub and_sent : List Word → ScriptLine → List Word
-and_sent sent (send w octets) = sent ++ w ∷ []
-and_sent sent _ = sent
+-- the lines that are built so far: lines that say nothing, timers, zones, moments, updates, points, and what peers send, are told to stop, and are cut
+abbrev pub is_built : Known → ScriptLine → Bool
+is_built known silent = true
+is_built known (timers i k) = true
+is_built known (zone apex serial mode) = true
+is_built known (at_moment t) = true
+is_built known (update message) = true
+is_built known (cut w) = true
+is_built known (send w octets) = true
+is_built known (stop w rcode delay) = true
+is_built known point = true
+is_built known _ = false
 
 -- the number of the first line that isn't built or may not stand there, from a number on
-abbrev pub first_unbuilt : List Word → Known → List Word → ℕ → List (Option ScriptLine) → Option ℕ
-first_unbuilt all known sent n [] = None
-first_unbuilt all known sent n (None ∷ lines) = Some n
-first_unbuilt all known sent n (Some line ∷ lines) = elim (is_built known sent line) [
+abbrev pub first_unbuilt : List Word → Known → ℕ → List (Option ScriptLine) → Option ℕ
+first_unbuilt all known n [] = None
+first_unbuilt all known n (None ∷ lines) = Some n
+first_unbuilt all known n (Some line ∷ lines) = elim (is_built known line) [
   | false ↦ Some n
-  | true ↦ elim (fits all known line) [ None ↦ Some n | Some known_then ↦ first_unbuilt all known_then (and_sent sent line) (n + 1) lines ]
+  | true ↦ elim (fits all known line) [ None ↦ Some n | Some known_then ↦ first_unbuilt all known_then (n + 1) lines ]
 ]
 
 unfoldable pub first_later : List ℕ → Option ℕ
-first_later octets = let lines = lines_read octets in first_unbuilt (client_words lines) nothing_known [] 1 lines
+first_later octets = let lines = lines_read octets in first_unbuilt (client_words lines) nothing_known 1 lines
 
 abbrev pub later : ℕ → List ℕ
 later number = line (codes "later " ++ decimal number)

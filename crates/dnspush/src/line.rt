@@ -1,15 +1,20 @@
 //! The lines of a script that are built.
 
 ghost use Rattle.std.specs.Prelude.{◌≡◌, ◌≤◌, false, ◌∷◌, [], IfOk, IfSome, IfNone, None, position, ◌==◌, ◌<◌, option_map, length};
-ghost use Rattle.replay.specs.Lines.{send, update, zone_line, of_octets, of_word_and_octets, line_of};
-ghost use Rattle.dnspush.specs.BuiltLines.{said, IsSound, words_in, understood, begins_silent, kind_of, said_behind};
+ghost use Rattle.replay.specs.Lines.{cut, send, update, timers_line, zone_line, at_line, stop_line, of_word, of_octets, of_word_and_octets, line_of};
+ghost use Rattle.dnspush.specs.BuiltLines.{said, IsSound, words_in, one_in, two_in, three_in, understood, begins_silent, kind_of, said_behind};
 
 use crate::line_words::{
-    name_of_word, number_of_word, octets_of_word, plain_word, writable_of_word,
+    moment_of_word, name_of_word, number_of_word, octets_of_word, plain_word, rcode_of_word,
+    writable_of_word,
 };
 use dnsname::name::{Name, Octets};
+use dsosession::session::Timers;
 use push_base::NoMemory;
 use std::alloc::Global;
+
+/// The shortest interval of Keepalives, in milliseconds (RFC 8490, 6.5.2).
+const SHORTEST_KEEPALIVE: u32 = 10_000;
 
 /// A zone line: the apex, the serial, and whether the zone may be written.
 #[derive(Debug, Drop)]
@@ -26,18 +31,38 @@ pub struct Sent {
     pub octets: Octets,
 }
 
-/// What happens: an update message comes, a peer sends octets, or the newest point is asked for.
+/// The word of a peer whose session is told to end, the RCODE that it is told, and for how long it is to stay away,
+/// in milliseconds (RFC 8490, 6.6.1).
+#[derive(Debug, Drop)]
+pub struct Stopping {
+    pub word: String,
+    pub rcode: u8,
+    pub delay: u32,
+}
+
+/// The word of a peer whose connection is cut.
+#[derive(Debug, Drop)]
+pub struct Cutting {
+    pub word: String,
+}
+
+/// What happens: an update message comes, a peer sends octets, the newest point is asked for, a moment comes (in
+/// milliseconds since the start), a peer's session is told to end, or its connection is cut.
 #[derive(Debug, Drop)]
 pub enum Event {
     Update(Octets),
     Send(Sent),
     Point,
+    At(u64),
+    Stop(Stopping),
+    Cut(Cutting),
 }
 
-/// A line of a script that is built: one that says nothing, a zone, or an event.
+/// A line of a script that is built: one that says nothing, the timers of the server, a zone, or an event.
 #[derive(Debug, Drop)]
 pub enum Line {
     Silent,
+    Timers(Timers),
     Zone(ZoneLine),
     Event(Event),
 }
@@ -45,9 +70,13 @@ pub enum Line {
 // The kinds of lines that say something and are built.
 #[derive(Clone, Copy)]
 enum Kind {
+    Timers,
     Zone,
+    At,
     Update,
+    Cut,
     Send,
+    Stop,
     Point,
     Other,
 }
@@ -91,12 +120,20 @@ fn speaking_line(alloc: Global, line: &[u8]) -> Result<Option<Line>, NoMemory>
 fn kind_of(word: &[u8]) -> Kind
     ensures { result ≡ kind_of word.now }
 {
-    if word == b"zone".as_slice() {
+    if word == b"timers".as_slice() {
+        Kind::Timers
+    } else if word == b"zone".as_slice() {
         Kind::Zone
+    } else if word == b"at".as_slice() {
+        Kind::At
     } else if word == b"update".as_slice() {
         Kind::Update
+    } else if word == b"cut".as_slice() {
+        Kind::Cut
     } else if word == b"send".as_slice() {
         Kind::Send
+    } else if word == b"stop".as_slice() {
+        Kind::Stop
     } else if word == b"point".as_slice() {
         Kind::Point
     } else {
@@ -111,7 +148,8 @@ fn single_word(kind: Kind) -> Option<Line>
 {
     match kind {
         Kind::Point => Some(Line::Event(Event::Point)),
-        Kind::Zone | Kind::Update | Kind::Send | Kind::Other => None,
+        Kind::Timers | Kind::Zone | Kind::At | Kind::Update => None,
+        Kind::Cut | Kind::Send | Kind::Stop | Kind::Other => None,
     }
 }
 
@@ -121,11 +159,33 @@ fn longer_line(alloc: Global, kind: Kind, text: &[u8]) -> Result<Option<Line>, N
     ensures sound { IfOk result (λ found. IfSome found IsSound) }
 {
     match kind {
+        Kind::Timers => Ok(timers_line(text)),
         Kind::Zone => zone_line(alloc, text),
+        Kind::At => Ok(at_line(text)),
         Kind::Update => update_line(alloc, text),
+        Kind::Cut => cut_line(alloc, text),
         Kind::Send => send_line(alloc, text),
+        Kind::Stop => stop_line(alloc, text),
         Kind::Point | Kind::Other => Ok(None),
     }
+}
+
+// What follows the first word of a line of timers: the time without activity after which a session ends, and the
+// interval of Keepalives, in milliseconds (RFC 8490, 6.2), which is 10 seconds or more.
+fn timers_line(text: &[u8]) -> Option<Line>
+    ensures exact { option_map (λ l. said l) result ≡ timers_line (words_in text.now) }
+    ensures sound { IfSome result IsSound }
+{
+    let (inactivity, keepalive) = two_words(text)?;
+    let inactivity = number_of_word(inactivity)?;
+    let keepalive = number_of_word(keepalive)?;
+    if keepalive < SHORTEST_KEEPALIVE {
+        return None;
+    }
+    Some(Line::Timers(Timers {
+        inactivity,
+        keepalive,
+    }))
 }
 
 // What follows the first word of a zone line: the apex, the serial, and `open` or `shut`.
@@ -152,18 +212,41 @@ fn zone_line(alloc: Global, text: &[u8]) -> Result<Option<Line>, NoMemory>
     })))
 }
 
+// What follows the first word of a line with a moment: the moment, in milliseconds.
+fn at_line(text: &[u8]) -> Option<Line>
+    ensures exact { option_map (λ l. said l) result ≡ at_line (words_in text.now) }
+    ensures sound { IfSome result IsSound }
+{
+    let moment = moment_of_word(one_word(text)?)?;
+    Some(Line::Event(Event::At(moment)))
+}
+
 // What follows the first word of an update line: the octets of the message.
 fn update_line(alloc: Global, text: &[u8]) -> Result<Option<Line>, NoMemory>
     ensures exact { IfOk result (λ found. option_map (λ l. said l) found ≡ of_octets update (words_in text.now)) }
     ensures sound { IfOk result (λ found. IfSome found IsSound) }
 {
-    if space_in(text).is_some() {
+    let Some(octets) = one_word(text) else {
         return Ok(None);
-    }
-    let Some(octets) = octets_of_word(alloc, text)? else {
+    };
+    let Some(octets) = octets_of_word(alloc, octets)? else {
         return Ok(None);
     };
     Ok(Some(Line::Event(Event::Update(octets))))
+}
+
+// What follows the first word of a line that cuts a connection: the peer's word.
+fn cut_line(alloc: Global, text: &[u8]) -> Result<Option<Line>, NoMemory>
+    ensures exact { IfOk result (λ found. option_map (λ l. said l) found ≡ of_word cut (words_in text.now)) }
+    ensures sound { IfOk result (λ found. IfSome found IsSound) }
+{
+    let Some(word) = one_word(text) else {
+        return Ok(None);
+    };
+    let Some(word) = plain_word(alloc, word)? else {
+        return Ok(None);
+    };
+    Ok(Some(Line::Event(Event::Cut(Cutting { word }))))
 }
 
 // What follows the first word of a send line: the peer's word, and the octets.
@@ -183,10 +266,30 @@ fn send_line(alloc: Global, text: &[u8]) -> Result<Option<Line>, NoMemory>
     Ok(Some(Line::Event(Event::Send(Sent { word, octets }))))
 }
 
+// What follows the first word of a line that ends a session: the peer's word, the RCODE, and the delay.
+fn stop_line(alloc: Global, text: &[u8]) -> Result<Option<Line>, NoMemory>
+    ensures exact { IfOk result (λ found. option_map (λ l. said l) found ≡ stop_line (words_in text.now)) }
+    ensures sound { IfOk result (λ found. IfSome found IsSound) }
+{
+    let Some((word, rcode, delay)) = three_words(text) else {
+        return Ok(None);
+    };
+    let Some(word) = plain_word(alloc, word)? else {
+        return Ok(None);
+    };
+    let Some(rcode) = rcode_of_word(rcode) else {
+        return Ok(None);
+    };
+    let Some(delay) = number_of_word(delay) else {
+        return Ok(None);
+    };
+    Ok(Some(Line::Event(Event::Stop(Stopping { word, rcode, delay }))))
+}
+
 // The words of a text that has three.
 fn three_words(text: &[u8]) -> Option<(&[u8], &[u8], &[u8])>
     ensures found { IfSome result (λ words. words_in text.now ≡ words.0.now ∷ words.1.now ∷ words.2.now ∷ []) }
-    ensures none { IfNone result (zone_line (words_in text.now) ≡ None) }
+    ensures none { IfNone result (three_in (words_in text.now) ≡ None) }
 {
     let (first, rest) = split_word(text)?;
     let (second, third) = split_word(rest)?;
@@ -199,12 +302,23 @@ fn three_words(text: &[u8]) -> Option<(&[u8], &[u8], &[u8])>
 // The words of a text that has two.
 fn two_words(text: &[u8]) -> Option<(&[u8], &[u8])>
     ensures found { IfSome result (λ words. words_in text.now ≡ words.0.now ∷ words.1.now ∷ []) }
-    ensures none { IfNone result (of_word_and_octets send (words_in text.now) ≡ None) }
+    ensures none { IfNone result (two_in (words_in text.now) ≡ None) }
 {
     let (first, second) = split_word(text)?;
     match space_in(second) {
         Some(_) => None,
         None => Some((first, second)),
+    }
+}
+
+// The word of a text that has one.
+fn one_word(text: &[u8]) -> Option<&[u8]>
+    ensures found { IfSome result (λ word. words_in text.now ≡ word.now ∷ []) }
+    ensures none { IfNone result (one_in (words_in text.now) ≡ None) }
+{
+    match space_in(text) {
+        Some(_) => None,
+        None => Some(text),
     }
 }
 

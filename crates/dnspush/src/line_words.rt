@@ -1,10 +1,11 @@
 //! The words of a script's lines.
 
-ghost use Rattle.std.specs.Prelude.{◌≡◌, ◌≤◌, ◌*◌, Some, length, IfOk, IfSome, option_map, string_bytes};
+ghost use Rattle.std.specs.Prelude.{◌≡◌, ◌≤◌, ◌<◌, ◌*◌, length, IfOk, IfSome, option_map, string_bytes};
 ghost use Rattle.dnsname.specs.Text.{name_of_text};
 ghost use Rattle.std.specs.List.{list_all};
 ghost use Rattle.std.specs.Result.{result_ok};
 ghost use Rattle.push_base.specs.Hexadecimal.{hex_octets};
+ghost use Rattle.push_base.specs.Limits.{max_moment, max_number};
 ghost use Rattle.replay.specs.Lines.{number, max_u32, word, octets_written, is_digit};
 ghost use Rattle.dnspush.specs.BuiltLines.{has_form, writable_of, is_word_octet};
 
@@ -17,6 +18,15 @@ const MOST_DIGITS: usize = 131_074;
 
 /// The most letters and digits that a word has.
 const LONGEST_WORD: usize = 32;
+
+/// The greatest number that four octets hold.
+const MAX_U32: u64 = 4_294_967_295;
+
+/// The greatest RCODE of a message without EDNS (RFC 1035, 4.1.1).
+const MAX_RCODE: u64 = 15;
+
+/// The last moment.
+const MAX_MOMENT: u64 = 4_611_686_018_427_387_903;
 
 /// The name that a word is the text of.
 pub(crate) fn name_of_word(alloc: Global, text: &[u8]) -> Result<Option<Name>, NoMemory>
@@ -61,9 +71,46 @@ fn octets_of_digits(alloc: Global, text: &[u8]) -> Result<Option<Octets>, NoMemo
     }
 }
 
-/// The decimal number that a word is, without leading zeros.
+/// The decimal number below 2^32 that a word is, without leading zeros.
 pub(crate) fn number_of_word(text: &[u8]) -> Option<u32>
     ensures { result ≡ number max_u32 text.now }
+{
+    let number = number_up_to(MAX_U32, text)?;
+    Some(number as u32)
+}
+
+/// The RCODE that a word is, from 0 to 15 (RFC 1035, 4.1.1).
+pub(crate) fn rcode_of_word(text: &[u8]) -> Option<u8>
+    ensures exact { result ≡ number 15 text.now }
+    ensures small { IfSome result (λ rcode. rcode < 16) }
+{
+    let number = number_up_to(MAX_RCODE, text)?;
+    Some(number as u8)
+}
+
+/// The moment that a word is, in milliseconds.
+pub(crate) fn moment_of_word(text: &[u8]) -> Option<u64>
+    ensures exact { result ≡ number max_moment text.now }
+    ensures small { IfSome result (λ moment. moment ≤ max_moment) }
+{
+    number_up_to(MAX_MOMENT, text)
+}
+
+// The decimal number that a word is, without leading zeros, if it is no more than the greatest.
+fn number_up_to(greatest: u64, text: &[u8]) -> Option<u64>
+    ensures exact { result ≡ number greatest text.now }
+    ensures small { IfSome result (λ number. number ≤ greatest) }
+{
+    let number = whole_number(text)?;
+    if number > greatest {
+        return None;
+    }
+    Some(number)
+}
+
+// The decimal number below 2^64 that a word is, without leading zeros.
+fn whole_number(text: &[u8]) -> Option<u64>
+    ensures { result ≡ number max_number text.now }
 {
     if !is_number(text) {
         return None;
@@ -71,7 +118,7 @@ pub(crate) fn number_of_word(text: &[u8]) -> Option<u32>
     let Ok(text) = str::from_utf8(text) else {
         return None;
     };
-    text.parse::<u32>().ok()
+    text.parse::<u64>().ok()
 }
 
 // Whether a word has the form of a number.
@@ -93,8 +140,7 @@ fn are_digits(text: &[u8]) -> bool
 
 /// A word of 1 to 32 lower-case letters and digits.
 pub(crate) fn plain_word(alloc: Global, text: &[u8]) -> Result<Option<String>, NoMemory>
-    ensures exact { IfOk result (λ found. option_map (λ w. string_bytes w) found ≡ word text.now) }
-    ensures word { IfOk result (λ found. IfSome found (λ w. word (string_bytes w) ≡ Some (string_bytes w))) }
+    ensures { IfOk result (λ found. option_map (λ w. string_bytes w) found ≡ word text.now) }
 {
     if text.is_empty() || text.len() > LONGEST_WORD {
         return Ok(None);

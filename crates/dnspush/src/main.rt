@@ -2,25 +2,25 @@
 #![tactic(auto)]
 
 mod adapters;
+mod clients;
+mod event_lines;
 mod examples;
-mod header;
+mod exchanging;
 mod line;
 mod line_words;
 mod mem_outside;
 mod outside;
-mod peers;
 mod program;
-mod reaction;
 mod read;
+mod replayed;
 mod replaying;
 mod reply;
 mod script;
+mod script_text;
 mod status;
-mod subscribe;
 #[cfg(test)]
 mod tests;
 mod text_lines;
-mod updating;
 mod words;
 mod write;
 

@@ -1,25 +1,29 @@
 //! Scripts whose lines are built.
 
-ghost use Rattle.std.specs.Prelude.{List, IfOk};
+ghost use Rattle.std.specs.Prelude.{◌≡◌, ◌==◌, List, length, IfOk, map, string_bytes, unwrap_or};
+ghost use Rattle.dsosession.specs.Timing.{default_timers};
 ghost use Rattle.replay.specs.Lines.{Word};
-ghost use Rattle.replay.specs.Scripts.{lines_read, client_words};
 ghost use Rattle.dnspush.specs.declared.line.Line.TheVariants as lines;
-ghost use Rattle.dnspush.specs.BuiltLines.{IsSound, IsSoundEvent};
 ghost use Rattle.dnspush.specs.BuiltScript.{ReadsAs};
 ghost use Rattle.dnspush.specs.LineByLine.{TakesLine};
 
+use crate::clients::{client_words, is_peers};
 use crate::line::{Event, Line, ZoneLine, read_line};
-use crate::peers::event_stands;
 use crate::text_lines::{is_outside, is_too_long, split_line};
+use dsosession::session::Timers;
 use history::Homes;
 use history::entry::HomeFault;
 use push_base::NoMemory;
 use std::alloc::Global;
 use zoneupdate::{Zone, ZoneFault};
 
-/// A script whose lines are built: its zones, and then what happens.
+/// The inactivity timeout and the keepalive interval in milliseconds where no line says them (RFC 8490, 6.2).
+const DEFAULT_TIMER: u32 = 15_000;
+
+/// A script whose lines are built: the timers of the server, its zones, and then what happens.
 #[derive(Debug, Drop)]
 pub struct Script {
+    pub timers: Timers,
     pub homes: Homes,
     pub events: Vec<Event>,
 }
@@ -31,14 +35,24 @@ pub enum ReadScript {
     Later(usize),
 }
 
+// What was read of a script so far; no timers where no line has said them.
+#[derive(Drop)]
+struct Draft {
+    timers: Option<Timers>,
+    homes: Homes,
+    events: Vec<Event>,
+}
+
 /// Reads a script: all of it where each line is built, and else the number of the first line that isn't built or
-/// may not stand where it does, counted from 1. The zones may then stand side by side, what each peer sends is one
-/// whole frame with a SUBSCRIBE (RFC 8765, 6.2), and there are at most 64 peers.
+/// may not stand where it does, counted from 1. The zones may then stand side by side, and no peer has the word of a
+/// client.
 pub fn read_script_lines(alloc: Global, octets: &[u8]) -> Result<ReadScript, NoMemory>
     ensures { IfOk result (λ read. ReadsAs octets.now read) }
 {
+    let clients = client_words(alloc, octets)?;
     let too_long = is_too_long(octets);
-    let mut script = Script {
+    let mut draft = Draft {
+        timers: None,
         homes: Homes::new(alloc),
         events: Vec::new(alloc),
     };
@@ -53,35 +67,48 @@ pub fn read_script_lines(alloc: Global, octets: &[u8]) -> Result<ReadScript, NoM
         let Some(line) = read_line(alloc, text)? else {
             return Ok(ReadScript::Later(number));
         };
-        if !script.take(alloc, line, octets)? {
+        if !draft.take(alloc, line, &clients)? {
             return Ok(ReadScript::Later(number));
         }
         rest = after;
     }
-    Ok(ReadScript::Built(script))
+    Ok(ReadScript::Built(draft.finish()))
 }
 
-impl Script {
-    // Takes a further line, where it may stand behind those of the script whose octets are these.
-    fn take(&mut self, alloc: Global, line: Line, octets: &[u8]) -> Result<bool, NoMemory>
-        requires { IsSound line }
-        ensures { IfOk result (λ taken. TakesLine (client_words (lines_read octets.now)) self.old line self.new taken) }
+impl Draft {
+    // Takes a further line, where it may stand behind those before it, in a script that has clients of these words.
+    fn take(&mut self, alloc: Global, line: Line, clients: &[String]) -> Result<bool, NoMemory>
+        ensures { IfOk result (λ taken. TakesLine (map (λ w. string_bytes w) clients.now) self.old line self.new taken) }
     {
         match line {
             Line::Silent => Ok(true),
+            Line::Timers(timers) => Ok(self.take_timers(timers)),
             Line::Zone(zone) => self.take_zone(alloc, zone),
-            Line::Event(event) => self.take_event(event, octets),
+            Line::Event(event) => self.take_event(event, clients),
         }
+    }
+
+    // Takes the timers: before all events, and once.
+    fn take_timers(&mut self, timers: Timers) -> bool
+        ensures { (all : List Word) → TakesLine all self.old (lines.Timers timers) self.new result }
+    {
+        if !self.is_in_head() {
+            return false;
+        }
+        if self.timers.is_some() {
+            return false;
+        }
+        self.timers = Some(timers);
+        true
     }
 
     // Takes a further zone: before all events, and where it may stand beside the zones before it.
     fn take_zone(&mut self, alloc: Global, line: ZoneLine) -> Result<bool, NoMemory>
         ensures { (all : List Word) → IfOk result (λ taken. TakesLine all self.old (lines.Zone line) self.new taken) }
     {
-        if !self.events.is_empty() {
+        if !self.is_in_head() {
             return Ok(false);
         }
-        let _octets = line.apex.octets();
         let zone = match Zone::new(alloc, line.apex, line.serial, line.writable) {
             Ok(zone) => zone,
             Err(ZoneFault::TooLong) => return Ok(false),
@@ -95,15 +122,51 @@ impl Script {
         }
     }
 
-    // Takes a further event.
-    fn take_event(&mut self, event: Event, octets: &[u8]) -> Result<bool, NoMemory>
-        requires { IsSoundEvent event }
-        ensures { IfOk result (λ taken. TakesLine (client_words (lines_read octets.now)) self.old (lines.Event event) self.new taken) }
+    // Whether no event came before.
+    fn is_in_head(&self) -> bool
+        ensures { result ≡ (length self.now.events.items == 0) }
     {
-        if !event_stands(&self.events, &event, octets) {
+        self.events.is_empty()
+    }
+
+    // Takes a further event, if its peer's word, where it has one, is no client's.
+    fn take_event(&mut self, event: Event, clients: &[String]) -> Result<bool, NoMemory>
+        ensures { IfOk result (λ taken. TakesLine (map (λ w. string_bytes w) clients.now) self.old (lines.Event event) self.new taken) }
+    {
+        if !is_peers(clients, &event) {
             return Ok(false);
         }
         self.events.push(event)?;
         Ok(true)
+    }
+
+    // The script whose lines were all taken.
+    fn finish(self) -> Script
+        ensures timers { result.timers ≡ unwrap_or self.timers default_timers }
+        ensures homes { result.homes ≡ self.homes }
+        ensures events { result.events.items ≡ self.events.items }
+    {
+        let Draft {
+            timers,
+            homes,
+            events,
+        } = self;
+        Script {
+            timers: timers_or_default(timers),
+            homes,
+            events,
+        }
+    }
+}
+
+fn timers_or_default(timers: Option<Timers>) -> Timers
+    ensures { result ≡ unwrap_or timers default_timers }
+{
+    match timers {
+        Some(timers) => timers,
+        None => Timers {
+            inactivity: DEFAULT_TIMER,
+            keepalive: DEFAULT_TIMER,
+        },
     }
 }

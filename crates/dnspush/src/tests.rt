@@ -62,7 +62,7 @@ fn replay_pieces(
 }
 
 // The scripts that are built, and the first lines that aren't, each with its status and its text.
-const CASES: [(&[u8], u8, &[u8]); 21] = [
+const CASES: [(&[u8], u8, &[u8]); 36] = [
     (b"", 0, b""),
     (b"zone example.com. 1 open", 0, b""),
     (
@@ -114,8 +114,28 @@ const CASES: [(&[u8], u8, &[u8]); 21] = [
     ),
     (
         b"send p 001b0003300000000000000000000040000b056f746865720000010001\nsend p 001b0003300000000000000000000040000b056f746865720000010001\n",
-        8,
-        b"later 2\n",
+        0,
+        b"bytes p 00140003b009000000000000000000020004000493e0\nbytes p 00140003b009000000000000000000020004000493e0\n",
+    ),
+    (
+        b"zone example.com. 1 open\nsend p 0010000100000000000000000000\n",
+        0,
+        b"bytes p -\n",
+    ),
+    (
+        b"zone example.com. 1 open\ntimers 4294967295 10000\npoint\n",
+        0,
+        b"point 0 0\n",
+    ),
+    (
+        b"at 5\npoint\nat 3\npoint\nat 4611686018427387903\npoint\n",
+        0,
+        b"point 1 5\npoint 1 5\npoint 2 4611686018427387903\n",
+    ),
+    (
+        b"cut p\nstop p 15 4294967295\nsend p -\nstop p 0 1000\ncut p\n",
+        0,
+        b"cut p\nstop p\nbytes p -\nstop p\ncut p\n",
     ),
     (b"#\xff\n", 8, b"later 1\n"),
     (b"# \xc3\xa4\n x\n", 8, b"later 2\n"),
@@ -127,11 +147,18 @@ const CASES: [(&[u8], u8, &[u8]); 21] = [
     ),
     (b"point\nzone example.com. 1 open\n", 8, b"later 2\n"),
     (b"zone example.com. 1 open\nsend p 001\n", 8, b"later 2\n"),
-    (
-        b"zone example.com. 1 open\nsend p 0010000100000000000000000000\n",
-        8,
-        b"later 2\n",
-    ),
+    (b"timers 0 10000\ntimers 0 10000\n", 8, b"later 2\n"),
+    (b"point\ntimers 0 10000\n", 8, b"later 2\n"),
+    (b"timers 0 9999\n", 8, b"later 1\n"),
+    (b"at 4611686018427387904\n", 8, b"later 1\n"),
+    (b"at 01\n", 8, b"later 1\n"),
+    (b"stop p 16 0\n", 8, b"later 1\n"),
+    (b"stop p 0 4294967296\n", 8, b"later 1\n"),
+    (b"cut p q\n", 8, b"later 1\n"),
+    (b"point\nsend c -\nclient c\n", 8, b"later 2\n"),
+    (b"point\nstop c 0 0\nlone c\n", 8, b"later 2\n"),
+    (b"point\ncut c\nclient d\nclient c\n", 8, b"later 2\n"),
+    (b"point\ncut c\nclient d\n", 8, b"later 3\n"),
 ];
 
 #[test]

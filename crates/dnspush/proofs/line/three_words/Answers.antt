@@ -1,11 +1,11 @@
 use Rattle.std.proofs.Common.{◌∷◌, ap, ◌∙◌}
-use Rattle.dnspush.proofs.Splits.{word_alone, zone_of_more}
+use Rattle.dnspush.proofs.Splits.{word_alone, three_of_more}
 use Rattle.dnspush.proofs.line.three_words.Goals as goal
 
 pub returns-in-Some-clause-none : goal.returns-in-Some-clause-none
 returns-in-Some-clause-none c =
     let first = c.in_ok-first.first.now in
-    zone_of_more first c.in_ok-second.second.now c.in_ok-second.third.now _ c.in-Some.field-0 (c.in_ok-first.ensures.found ∙ ap (λ ws. first ∷ ws) c.in_ok-second.ensures.found) c.in-Some.ensures.place
+    three_of_more first c.in_ok-second.second.now c.in_ok-second.third.now _ c.in-Some.field-0 (c.in_ok-first.ensures.found ∙ ap (λ ws. first ∷ ws) c.in_ok-second.ensures.found) c.in-Some.ensures.place
 
 pub returns-in-None-clause-found : goal.returns-in-None-clause-found
 returns-in-None-clause-found c =

@@ -1,9 +1,9 @@
 use Rattle.std.proofs.Common.{◌∷◌, ap, ◌∙◌}
-use Rattle.dnspush.proofs.Splits.{word_alone, send_of_more}
+use Rattle.dnspush.proofs.Splits.{word_alone, two_of_more}
 use Rattle.dnspush.proofs.line.two_words.Goals as goal
 
 pub returns-in-Some-clause-none : goal.returns-in-Some-clause-none
-returns-in-Some-clause-none c = send_of_more c.in_ok-first.first.now c.in_ok-first.second.now _ c.in-Some.field-0 c.in_ok-first.ensures.found c.in-Some.ensures.place
+returns-in-Some-clause-none c = two_of_more c.in_ok-first.first.now c.in_ok-first.second.now _ c.in-Some.field-0 c.in_ok-first.ensures.found c.in-Some.ensures.place
 
 pub returns-in-None-clause-found : goal.returns-in-None-clause-found
 returns-in-None-clause-found c =

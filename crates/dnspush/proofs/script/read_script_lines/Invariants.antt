@@ -1,9 +1,10 @@
 use Rattle.std.proofs.Common.{length}
+use Rattle.dnspush.specs.LineByLine.{taken_of}
 use Rattle.dnspush.proofs.SoFar.{SoFar}
 use Rattle.dnspush.proofs.script.read_script_lines.Given as goal
 
 abbrev pub invariant-lines : goal.invariant-lines
-invariant-lines l = SoFar l.fn.octets l.script.homes l.script.events.items l.number l.rest
+invariant-lines l = SoFar l.fn.octets (taken_of l.draft) l.number l.rest
 
 abbrev pub decreases-lines : goal.decreases-lines
 decreases-lines l = length l.rest
