@@ -1,10 +1,10 @@
 -- The answer to a SUBSCRIBE on a new session, and behind NOERROR the PUSH of what the question asks for.
-use Rattle.std.proofs.Common.{◌≡◌, ℕ, ◌+◌, ap₂, Bool, true, false, cond, List, [], ◌∷◌, Option, Some, None, ap, refl}
+use Rattle.std.proofs.Common.{◌≡◌, ℕ, ◌+◌, ap₂, Bool, true, false, cond, List, [], ◌∷◌, ap, refl}
 use Rattle.rrset.specs.Kinds.{in_class}
 use Rattle.rrset.specs.Header.{id_of}
 use Rattle.rrset.specs.RecordSet.{RecordSet, at_name, matching, same_rows}
 use Rattle.rrset.specs.declared.record.Question.{Question}
-use Rattle.rrset.specs.Rcodes.{noerror, formerr}
+use Rattle.rrset.specs.Rcodes.{noerror}
 use Rattle.dsotlv.specs.declared.message.Notice.{Notice}
 use Rattle.dsotlv.specs.declared.message.Notice.TheVariants.{RemoveClass}
 use Rattle.dsotlv.specs.declared.message.DsoHead.{DsoHead}
@@ -12,12 +12,11 @@ use Rattle.dnsname.specs.Names.{lower}
 use Rattle.coalesce.specs.Net.{additions}
 use Rattle.dsosession.specs.Timing.{Clocks, server_start, server_spoke}
 use Rattle.dsosession.specs.Reactions.{is_keepalive}
-use Rattle.history.specs.States.{State}
+use Rattle.history.specs.States.{State, records}
 use Rattle.pushsession.specs.declared.standing.Standing.TheVariants.{Live}
 use Rattle.pushserver.specs.Sessions.{Session, Subscription, Made, new_session, note_of, wanted}
 use Rattle.pushserver.specs.Hubs.{Hub, newest, state_now, now, records_now}
 use Rattle.pushserver.specs.Giving.{dso_answer, first_answer, first_answer_size, says_first_answer, subscribed, wanted_with}
-use Rattle.dnspush.specs.SubscribeReply.{notices_for, refused_with, answer_with}
 use Rattle.dnspush.proofs.LastSession.{hub_at}
 
 -- a live session that waits for nothing
@@ -33,10 +32,9 @@ saying s output = said s.subscriptions s.clocks s.established s.made output
 abbrev pub begun : Clocks → Session
 begun clocks = said [] clocks false [] []
 
--- the reply, by the question
-abbrev pub replied : State → List ℕ → Option Question → List ℕ
-replied state message None = refused_with (id_of message) formerr
-replied state message (Some question) = answer_with state (id_of message) question
+-- the additions of the records that the question asks for
+abbrev pub notices_for : State → Question → List Notice
+notices_for state question = additions (matching question (at_name question.name (records state)))
 
 -- without subscriptions nothing is wanted
 pub wanted-none : (set : RecordSet) → wanted [] set ≡ []

@@ -18,7 +18,7 @@ use Rattle.dnspush.specs.declared.line.Kind.TheVariants as kinds
 
 -- ---- f says nothing of a kind of line
 
-bind_none : {A X : Type 0} (f : ScriptLine → Option X) (o : Option A) (g : A → Option ScriptLine) → ((a : A) → (g a >>= f) ≡ None) → ((o >>= g) >>= f) ≡ None
+pub bind_none : {A X : Type 0} (f : ScriptLine → Option X) (o : Option A) (g : A → Option ScriptLine) → ((a : A) → (g a >>= f) ≡ None) → ((o >>= g) >>= f) ≡ None
 bind_none f None g h = refl
 bind_none f (Some a) g h = h a
 
@@ -26,7 +26,7 @@ map_none : {A X : Type 0} (f : ScriptLine → Option X) (o : Option A) (g : A �
 map_none f None g h = refl
 map_none f (Some a) g h = h a
 
-if_none : {X : Type 0} (f : ScriptLine → Option X) (b : Bool) (x y : Option ScriptLine) → (x >>= f) ≡ None → (y >>= f) ≡ None → (cond b x y >>= f) ≡ None
+pub if_none : {X : Type 0} (f : ScriptLine → Option X) (b : Bool) (x y : Option ScriptLine) → (x >>= f) ≡ None → (y >>= f) ≡ None → (cond b x y >>= f) ≡ None
 if_none f true x y h k = h
 if_none f false x y h k = k
 

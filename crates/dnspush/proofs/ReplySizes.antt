@@ -1,24 +1,26 @@
 -- The reply to a SUBSCRIBE has far fewer octets than a script's turns.
---     reply-size      at most 1,000,000 octets, in a state that is within the bounds
-use Rattle.std.proofs.Common.{◌≡◌, ℕ, ◌+◌, ◌≤◌, Bool, true, false, cond, List, [], ◌∷◌, ◌++◌, length, flat_map, Option, Some, None, sym, subst, arith, length-append, le_trans}
+--     accepted-size      at most 1,000,000 octets, in a state that is within the bounds
+use Rattle.std.proofs.Common.{◌≡◌, ℕ, ◌+◌, ◌≤◌, false, List, [], ◌∷◌, ◌++◌, length, flat_map, sym, subst, arith, length-append, le_trans}
 use Rattle.dnsname.specs.Names.{Labels, octets}
-use Rattle.rrset.specs.Header.{id_of, answer_octets}
+use Rattle.rrset.specs.Header.{answer_octets}
 use Rattle.rrset.specs.Records.{matches, rr_of, rr_size}
 use Rattle.rrset.specs.RecordSet.{RecordSet, at_name, matching, size_of}
-use Rattle.rrset.specs.Rcodes.{noerror, formerr, notauth}
+use Rattle.rrset.specs.Rcodes.{noerror}
 use Rattle.rrset.specs.declared.record.Key.{Key}
 use Rattle.rrset.specs.declared.record.Shown.{Shown}
 use Rattle.rrset.specs.declared.record.Question.{Question}
 use Rattle.rrset.proofs.Sizes.{size_of-cons, size_of-only}
-use Rattle.dsotlv.specs.Messages.{frame, tlv_octets, dso_flags, primary_data}
+use Rattle.dsotlv.specs.Messages.{frame, tlv_octets, dso_flags}
 use Rattle.dsotlv.specs.TlvKinds.{push_tlv}
-use Rattle.dsotlv.specs.Notices.{question_of, push_record, notice_octets}
+use Rattle.dsotlv.specs.Notices.{push_record, notice_octets}
 use Rattle.dsotlv.specs.declared.message.Notice.{Notice}
 use Rattle.dsotlv.specs.declared.message.Notice.TheVariants.{Add}
 use Rattle.coalesce.specs.Net.{additions}
 use Rattle.history.specs.States.{State, records}
-use Rattle.dnspush.specs.SubscribeReply.{is_served, notices_for, push_frame, refused_with, accepted_with, reply_octets}
-use Rattle.dnspush.proofs.Answering.{replied}
+use Rattle.pushserver.specs.Giving.{dso_answer}
+use Rattle.pushserver.specs.Laws.{push_frame}
+use Rattle.dnspush.proofs.Answering.{notices_for}
+use Rattle.dnspush.proofs.LastAnswering.{with_push}
 use Rattle.dnspush.proofs.ZoneSizes.{IsBounded, records-size}
 
 push_record-size : (owner : Labels) (kind class ttl : ℕ) (rdata : List ℕ) → length (push_record owner kind class ttl rdata) ≡ length (octets owner) + 10 + length rdata
@@ -51,24 +53,10 @@ notices-size state question b =
     push-size (notices_for state question) 960000
     (subst (λ n. n ≤ 960000) (sym (additions-size (matching question there))) (le_trans (size_of-only (matches question) there) (records-size state question.name b)))
 
-accepted-size : (state : State) (id : ℕ) (question : Question) → IsBounded state → length (accepted_with state id question) ≤ 1000000
-accepted-size state id question b =
-    subst (λ n. n ≤ 1000000) (sym (length-append (frame (answer_octets id (dso_flags true noerror))) (push_frame (notices_for state question))))
+pub accepted-size : (state : State) (message : List ℕ) (question : Question) → IsBounded state → length (with_push message (notices_for state question)) ≤ 1000000
+accepted-size state message question b =
+    subst (λ n. n ≤ 1000000) (sym (length-append (frame (dso_answer message noerror)) (push_frame (notices_for state question))))
     (sum (length (push_frame (notices_for state question))) (notices-size state question b))
   where
     sum : (n : ℕ) → n ≤ 18 + 960000 → 14 + n ≤ 1000000
     sum n h = omega arith
-
-refused-size : (id rcode : ℕ) → length (refused_with id rcode) ≤ 1000000
-refused-size id rcode = omega arith
-
-replied-size : (state : State) (message : List ℕ) (o : Option Question) → IsBounded state → length (replied state message o) ≤ 1000000
-replied-size state message None b = refused-size (id_of message) formerr
-replied-size state message (Some question) b = by (is_served state question)
-  where
-    by : (c : Bool) → length (cond c (accepted_with state (id_of message) question) (refused_with (id_of message) notauth)) ≤ 1000000
-    by true = accepted-size state (id_of message) question b
-    by false = refused-size (id_of message) notauth
-
-pub reply-size : (state : State) (message : List ℕ) → IsBounded state → length (reply_octets state message) ≤ 1000000
-reply-size state message b = replied-size state message (question_of (primary_data message)) b

@@ -16,11 +16,10 @@ use Rattle.dnswire.specs.declared.message.Update.{Update}
 use Rattle.zoneupdate.specs.Zones.{ZoneState}
 use Rattle.zoneupdate.specs.Updates.{judged, accepted_or, is_within_limits, with_counted_ttl, rows_after, prerequisite_refusal, change_refusal, sets_agree}
 use Rattle.linkcache.specs.Rows.{reconfirmed, shown_rows}
-use Rattle.history.specs.States.{State, LinkState, home_names, with_rows, zone_for, updated, after, records, link_heard, link_at_moment}
+use Rattle.history.specs.States.{State, LinkState, home_names, with_rows, zone_for, updated, after, state_at, records, link_heard, link_at_moment}
 use Rattle.history.specs.declared.entry.Entry.{Entry}
 use Rattle.history.specs.declared.entry.Entry.TheVariants as entries
 use Rattle.pushserver.proofs.Queues.{same_name-octets}
-use Rattle.dnspush.specs.EventText.{state_after}
 
 -- ---- one zone
 
@@ -156,7 +155,7 @@ bounded-all state [] b = b
 bounded-all state (e ∷ es) b = bounded-all (after state e) es (bounded-after state e b)
 
 -- and so each state behind a history
-pub bounded-state : (start : State) (history : List Entry) → IsBounded start → IsBounded (state_after start history)
+pub bounded-state : (start : State) (history : List Entry) → IsBounded start → IsBounded (state_at start history (length history))
 bounded-state start history b = subst (λ (entries : List Entry). IsBounded (fold after start entries)) (sym (take_all (length history) history (le_refl (length history)))) (bounded-all start history b)
 
 -- ---- the records of a name in all zones

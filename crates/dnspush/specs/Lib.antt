@@ -17,7 +17,5 @@ pub mod Serving
 pub mod Configurations
 pub mod Said
 pub mod Worked
-pub mod SubscribeReply
-pub mod EventText
 pub mod Standing
 pub mod Exchanging

@@ -2,14 +2,9 @@
 --     is_built known line      the lines that are built so far
 --     first_later octets      the number of the first line that isn't built
 --     reply_to_script octets      the status and the text for the octets that were read
-use Rattle.std.specs.Prelude.{ℕ, ◌+◌, ◌==◌, ◌&&◌, not, Bool, true, false, Some, None, List, [], ◌∷◌, ◌++◌, take, drop, codes}
+use Rattle.std.specs.Prelude.{ℕ, ◌+◌, Bool, true, false, Some, None, List, [], ◌∷◌, ◌++◌, take, drop, codes}
 use Rattle.std.specs.declared.option.Option.{Option}
 use Rattle.std.specs.Fmt.{decimal}
-use Rattle.push_base.specs.Cases.{is_empty}
-use Rattle.rrset.specs.Header.{is_response, opcode_of}
-use Rattle.dsotlv.specs.Messages.{dso_opcode, head_of, first_message}
-use Rattle.dsotlv.specs.TlvKinds.{subscribe_tlv}
-use Rattle.dsotlv.specs.declared.message.DsoHead.{DsoHead}
 use Rattle.replay.specs.Lines.{Word, ScriptLine, silent, timers, zone, at_moment, update, cut, send, stop, point}
 use Rattle.replay.specs.Scripts.{Known, nothing_known, fits, client_words, lines_read, max_script}
 use Rattle.replay.specs.Text.{text_of}
@@ -22,18 +17,6 @@ front_read octets = take (max_script + 1) octets
 -- those that are left
 unfoldable pub left_behind : List ℕ → List ℕ
 left_behind octets = drop (max_script + 1) octets
-
--- a SUBSCRIBE: an ID, QR 0, OPCODE 6, zero counts, and whole TLVs, the first of them SUBSCRIBE (RFC 8490, 5.4; RFC 8765, 6.2.1)
-abbrev pub is_subscribe_head : DsoHead → Bool
-is_subscribe_head head = not (head.id == 0) && not (is_response head.flags) && opcode_of head.flags == dso_opcode && head.zero_counts
-    && (elim head.primary [ None ↦ false | Some primary ↦ primary.0 == subscribe_tlv ])
-
-abbrev pub is_subscribe : List ℕ → Bool
-is_subscribe message = elim (head_of message) [ None ↦ false | Some head ↦ is_subscribe_head head ]
-
--- the octets are one whole frame and nothing else, and its message is a SUBSCRIBE
-abbrev pub is_one_subscribe : List ℕ → Bool
-is_one_subscribe octets = elim (first_message octets) [ None ↦ false | Some found ↦ is_empty found.1 && is_subscribe found.0 ]
 
 -- the lines that are built so far: lines that say nothing, timers, zones, moments, updates, points, and what peers send, are told to stop, and are cut
 abbrev pub is_built : Known → ScriptLine → Bool

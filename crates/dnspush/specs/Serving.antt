@@ -1,26 +1,27 @@
--- The promise to who subscribes: a SUBSCRIBE for a name that has a home, and for a class that is served, is answered NOERROR, and the records that it asks for as they are then follow (RFC 8765, 6.2.2 and 6.3).
---     Asked      the zones of a script, a peer's word, what it sends, its question, and the lines before and behind it
---     AsksServed request script asked      the script is built, these are its zones and its lines, and the question is served
+-- The promise to who subscribes: a SUBSCRIBE that a peer sends as its first octets, for a name that has a home and a class that is served, is answered NOERROR, and the records that it asks for as they are then follow (RFC 8765, 6.2.2 and 6.3).
+--     Asked      a peer's word, what it sends, its question, and the lines before and behind it
+--     world_then asked, connected_then asked, session_then asked      the world before that line, the hub with the peer's new session, and this session
+--     AsksServed request script asked      the script is built, these are its lines, and the question is served
 --     served_reply asked      the status and the text
-use Rattle.std.specs.Prelude.{◌≡◌, ℕ, List, [], ◌∷◌, ◌++◌, Option, Some, None, Ok, IsTrue}
+use Rattle.std.specs.Prelude.{◌≡◌, ℕ, List, [], ◌∷◌, ◌++◌, codes, Option, Some, None, Ok, IsSome}
+use Rattle.push_base.specs.Hexadecimal.{hex_text}
 use Rattle.rrset.specs.Rcodes.{noerror}
 use Rattle.rrset.specs.declared.record.Question.{Question}
-use Rattle.dsotlv.specs.Messages.{frame, first_message, primary_data}
-use Rattle.dsotlv.specs.Notices.{question_of}
-use Rattle.history.specs.States.{State}
-use Rattle.history.specs.declared.entry.Entry.{Entry}
-use Rattle.pushserver.specs.Giving.{dso_answer}
+use Rattle.dsotlv.specs.Messages.{frame, first_message}
+use Rattle.pushserver.specs.Sessions.{Session, new_session}
+use Rattle.pushserver.specs.Hubs.{Hub, now, connect}
+use Rattle.pushserver.specs.Giving.{dso_answer, first_answer}
+use Rattle.pushserver.specs.Laws.{IsAcceptable, push_frame}
 use Rattle.replay.specs.Lines.{Word, ScriptLine, send}
 use Rattle.replay.specs.Scripts.{script_of}
-use Rattle.replay.specs.Text.{ended_lines}
-use Rattle.dnspush.specs.SubscribeReply.{is_served, notices_for, push_frame}
-use Rattle.dnspush.specs.EventText.{ScriptZone, zone_lines, start_of, AreZones, AreEvents, state_after, entries_after, said_by, bytes_line, speaking}
+use Rattle.replay.specs.World.{World, start_world, session_number}
+use Rattle.replay.specs.Telling.{spaced, by_history}
+use Rattle.replay.specs.Text.{ended_lines, line_does, printed_by, world_after}
 use Rattle.dnspush.specs.Reply.{Reply}
 use Rattle.dnspush.specs.Script.{first_later}
 use Rattle.dnspush.specs.Words.{Request}
 
 pub record Asked : Type 0 where
-  pub zones : List ScriptZone
   pub before : List ScriptLine
   pub word : Word
   pub octets : List ℕ
@@ -31,34 +32,46 @@ pub record Asked : Type 0 where
 abbrev pub lines_of : Asked → List ScriptLine
 lines_of asked = asked.before ++ send asked.word asked.octets ∷ asked.behind
 
--- the entries before the peer's line, and the state then
-abbrev pub entries_then : Asked → List Entry
-entries_then asked = entries_after (start_of asked.zones) [] asked.before
+-- the world before the peer's line, and the one behind it
+abbrev pub world_start : Asked → World
+world_start asked = start_world (lines_of asked)
 
-abbrev pub state_then : Asked → State
-state_then asked = state_after (start_of asked.zones) (entries_then asked)
+abbrev pub world_then : Asked → World
+world_then asked = world_after asked.before (world_start asked)
 
-pub record AsksZone (script : List ℕ) (asked : Asked) : Type 0 where
+abbrev pub world_behind : Asked → World
+world_behind asked = (line_does by_history (send asked.word asked.octets) (world_then asked)).0
+
+-- the hub with the peer's new session, and this session
+abbrev pub connected_then : Asked → Hub
+connected_then asked = (connect (world_then asked).hub).1
+
+abbrev pub session_then : Asked → Session
+session_then asked = new_session (now (world_then asked).hub)
+
+-- the script is built; the peer has no session yet and gets one; its octets are one whole frame, and a new session accepts the message
+pub record AsksFirst (script : List ℕ) (asked : Asked) : Type 0 where
   pub built : first_later script ≡ None
-  pub lines : List ScriptLine
-  pub read : script_of script ≡ Ok lines
-  pub speak : speaking lines ≡ zone_lines asked.zones ++ lines_of asked
-  pub are_zones : AreZones asked.zones
-  pub are_events : AreEvents (lines_of asked)
+  pub read : script_of script ≡ Ok (lines_of asked)
+  pub new_peer : session_number (world_then asked) asked.word ≡ None
+  pub seat : IsSome (connect (world_then asked).hub).0
   pub found : first_message asked.octets ≡ Some (asked.message, [])
-  pub asks : question_of (primary_data asked.message) ≡ Some asked.question
-  pub served : IsTrue (is_served (state_then asked) asked.question)
+  pub acceptable : IsAcceptable (connected_then asked) (session_then asked) asked.message asked.question
 
 abbrev pub AsksServed : Option Request → List ℕ → Asked → Type 0
 AsksServed None script asked = ⊥
-AsksServed (Some request) script asked = AsksZone script asked
+AsksServed (Some request) script asked = AsksFirst script asked
 
 -- NOERROR, and the records that the question matches then, if there are any
-abbrev pub served_line : Asked → List ℕ
-served_line asked = bytes_line asked.word (frame (dso_answer asked.message noerror) ++ push_frame (notices_for (state_then asked) asked.question))
+abbrev pub served_octets : Asked → List ℕ
+served_octets asked = frame (dso_answer asked.message noerror) ++ push_frame (first_answer (connected_then asked) (session_then asked) asked.question)
 
+abbrev pub served_line : Asked → List ℕ
+served_line asked = spaced (codes "bytes" ∷ asked.word ∷ hex_text (served_octets asked) ∷ [])
+
+-- that line alone stands between what the lines before print and what those behind it do
 abbrev pub served_reply : Asked → Reply
 served_reply asked = record {
   status = 0;
-  text = ended_lines (said_by (start_of asked.zones) [] asked.before) ++ (ended_lines (served_line asked ∷ []) ++ ended_lines (said_by (start_of asked.zones) (entries_then asked) asked.behind));
+  text = ended_lines (printed_by by_history asked.before (world_start asked)) ++ (ended_lines (served_line asked ∷ []) ++ ended_lines (printed_by by_history asked.behind (world_behind asked)));
 }

@@ -36,7 +36,7 @@ pub fn run<O: Outside>(
         (SourceRose (request_in words.now) (Rose (O.In.faults input.old) (O.In.faults input.new)) (Rose (O.reads outside.old) (O.reads outside.new)))
         (reply_to (request_in words.now) octets) result) }
 
-    // A SUBSCRIBE for a name that has a home and a class that is served is answered NOERROR, and the records follow.
+    // In every built script a peer's first SUBSCRIBE that a new session accepts is answered NOERROR, and the records follow.
     ensures served { (octets : List ℕ) (asked : Asked) →
         MayBeOctets (request_in words.now) (O.In.left input.old) (O.used outside.old) (O.used outside.new) octets →
         AsksServed (request_in words.now) (front_read octets) asked →
