@@ -17,7 +17,7 @@ use Rattle.replay.specs.Scripts.{Known, nothing_known, fits, allowed, with_line,
 use Rattle.replay.specs.World.{Head, empty_head, with_head_line, start_world}
 use Rattle.dnspush.specs.Script.{is_built, first_unbuilt, first_later}
 use Rattle.dnspush.proofs.BuiltWorlds.{IsBuiltLine}
-use Rattle.dnspush.proofs.SendSizes.{done, lines_or}
+use Rattle.dnspush.proofs.SentOctets.{done, lines_or}
 use Rattle.dnspush.proofs.StartSizes.{new_zone-small}
 use Rattle.dnspush.proofs.ZoneSizes.{IsSmall, IsBounded}
 

@@ -1,7 +1,7 @@
 -- A SUBSCRIBE that a new session accepts is answered, in every script that is built.
 --     served_is, served_answered      the reply of the script, and what was written
 use Rattle.std.proofs.Common.{◌≡◌, ℕ, List, [], ◌∷◌, ◌++◌, Option, Some, None, ◌∙◌, ap, sym, subst, refl, append_assoc}
-use Rattle.std.specs.List.{AllByRecursion}
+use Rattle.coalesce.proofs.Packing.{each-front}
 use Rattle.pushserver.specs.Hubs.{state_now}
 use Rattle.replay.specs.Lines.{ScriptLine, send}
 use Rattle.replay.specs.World.{World}
@@ -12,8 +12,9 @@ use Rattle.dnspush.specs.Script.{front_read, reply_at, reply_to_script}
 use Rattle.dnspush.specs.Serving.{Asked, lines_of, world_start, world_then, world_behind, served_line, AsksFirst, AsksServed, served_reply}
 use Rattle.dnspush.specs.Words.{Request, Replay_input, Replay_path, reply_to}
 use Rattle.dnspush.proofs.BuiltHeads.{built-script}
-use Rattle.dnspush.proofs.BuiltWorlds.{IsBuiltLine, from-lines}
+use Rattle.dnspush.proofs.BuiltWorlds.{IsBuiltLine}
 use Rattle.dnspush.proofs.NewPeer.{sent-line}
+use Rattle.dnspush.proofs.Numbers.{from-lines}
 use Rattle.dnspush.proofs.Replying.{told}
 use Rattle.dnspush.proofs.SendSizes.{sends-short}
 use Rattle.dnspush.proofs.ZoneSizes.{IsBounded, bounded-state}
@@ -32,16 +33,12 @@ printed_between (l ∷ ls) behind line world =
     ap (λ (rest : List (List ℕ)). one.1 ++ rest) (printed_between ls behind line one.0)
     ∙ sym (append_assoc one.1 (printed_by by_history ls one.0) ((line_does by_history line (world_after ls one.0)).1 ++ printed_by by_history behind (line_does by_history line (world_after ls one.0)).0))
 
-built_front : (before behind : List ScriptLine) → AllByRecursion IsBuiltLine (before ++ behind) → AllByRecursion IsBuiltLine before
-built_front [] behind all = tt
-built_front (l ∷ ls) behind all = (all.0, built_front ls behind all.1)
-
 -- the peer's line prints this alone
 line_printed : (script : List ℕ) (asked : Asked) → AsksFirst script asked → (sends asked.word asked.octets (world_then asked)).1 ≡ served_line asked ∷ []
 line_printed script asked asks =
     let world = world_then asked in
     let all = built-script script (lines_of asked) asks.built asks.read in
-    let from = from-lines (world_start asked).hub.start asked.before (world_start asked) (built_front asked.before (send asked.word asked.octets ∷ asked.behind) all.0) (record { begins = refl; below = tt }) in
+    let from = from-lines (world_start asked).hub.start asked.before (world_start asked) (each-front IsBuiltLine asked.before (send asked.word asked.octets ∷ asked.behind) all.0) (record { begins = refl; below = tt }) in
     let bounded : IsBounded (state_now world.hub) = bounded-state world.hub.start world.hub.history (subst IsBounded (sym from.begins) all.1) in
     sent-line world asked.word asked.octets asked.message asked.question from.below bounded asks.found
     (sends-short script asked.before asked.behind asked.word asked.octets asks.read) asks.new_peer asks.seat asks.acceptable

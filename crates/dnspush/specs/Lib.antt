@@ -14,6 +14,7 @@ pub mod BuiltLines
 pub mod BuiltScript
 pub mod LineByLine
 pub mod Serving
+pub mod Cutting
 pub mod Configurations
 pub mod Said
 pub mod Worked

@@ -1,6 +1,7 @@
 ghost use Rattle.std.specs.Prelude.{◌≡◌, ◌≢◌, ◌+◌, ◌⊎◌, ℕ, List, IsNone};
 ghost use Rattle.push_base.specs.Causes.{Rose};
 ghost use Rattle.replay.specs.Scripts.{max_script};
+ghost use Rattle.dnspush.specs.Cutting.{AnswersEveryCutIn};
 ghost use Rattle.dnspush.specs.Given.{LostAtMost};
 ghost use Rattle.dnspush.specs.Outside.{Adds, MayHaveGiven};
 ghost use Rattle.dnspush.specs.Reply.{Answers, IsFrontOf, Took};
@@ -43,6 +44,9 @@ pub fn run<O: Outside>(
         Took (O.Out.taken out.old) (O.Out.taken out.new) (Answers
         (SourceRose (request_in words.now) (Rose (O.In.faults input.old) (O.In.faults input.new)) (Rose (O.reads outside.old) (O.reads outside.new)))
         (served_reply asked) result) }
+
+    // In every built script, between any two lines: whole messages are answered one after the other, the same for every cut of a session's octets.
+    ensures cuts { (script : List ℕ) → AnswersEveryCutIn script }
 
     // When each status comes.
     ensures statuses { (status : Status) × (result ≡ code_of status) }

@@ -7,7 +7,7 @@
 --     EveryCutGivesOneOutput      a peer is sent the same, however its octets are cut
 --     EndsStandFor kept clients world      the hub and the clients that ran a script
 use Rattle.std.specs.Prelude.{◌≡◌, ℕ, ◌+◌, Bool, true, false, not, List, [], ◌∷◌, ◌++◌, map, length, Option, Some, None, option_map, Ok, IsTrue, IsSome, codes, decimal, if◌then◌else◌}
-use Rattle.std.specs.List.{concat, list_any, AllByRecursion, AllZip}
+use Rattle.std.specs.List.{list_any, AllByRecursion, AllZip}
 use Rattle.std.specs.Str.{bytes_eq}
 use Rattle.rrset.specs.RecordSet.{RecordSet, matching}
 use Rattle.rrset.specs.declared.record.Question.{Question}
@@ -18,8 +18,8 @@ use Rattle.dsosession.specs.declared.session.EndReason.TheVariants as ends
 use Rattle.dsosession.specs.declared.session.CloseReason.{CloseReason}
 use Rattle.dsosession.specs.declared.session.CloseReason.TheVariants as closes
 use Rattle.history.specs.States.{home_of}
-use Rattle.pushserver.specs.Sessions.{Session, Queue, Made, octets_made, subscription_of}
-use Rattle.pushserver.specs.Hubs.{Hub, state_now, records_now, session_of, connect}
+use Rattle.pushserver.specs.Sessions.{Session, Made, octets_made, subscription_of}
+use Rattle.pushserver.specs.Hubs.{Hub, state_now, records_now, session_of}
 use Rattle.pushserver.specs.declared.given.Given.TheVariants.{Nothing}
 use Rattle.pushserver.specs.Giving.{give}
 use Rattle.pushserver.specs.Telling.{TellsHistory}
@@ -28,10 +28,10 @@ use Rattle.pushclient.specs.Clients.{Client, Connection, Wish, answered, wish_fo
 use Rattle.pushclient.specs.Rule.{KeptWish, KeptClient}
 use Rattle.replay.specs.Lines.{Word, ScriptLine, show, settle}
 use Rattle.replay.specs.Scripts.{script_of}
-use Rattle.replay.specs.World.{World, Seat, seat_of, session_number, start_world, filled_of, last_of}
+use Rattle.replay.specs.World.{World, Seat, seat_of, start_world, filled_of, last_of}
 use Rattle.replay.specs.Telling.{by_history, show_at, with_records, is_filling, records_told, record_line, spaced, end_words, close_words}
 use Rattle.replay.specs.Text.{line_does, world_after, text_of_script, text_by_notices}
-use Rattle.replay.specs.Running.{exchanged, enough}
+use Rattle.replay.specs.Cuts.{AnswersEveryCutNow}
 use Rattle.replay.specs.Flight.{subscribed_at_last, InFlight, ends_of, going_up, going_down}
 use Rattle.replay.specs.Settled.{NeverEarlier, settled_from, settles_alone, has_class}
 
@@ -152,23 +152,6 @@ pub record EndsStandFor (kept : KeptHub) (clients : List KeptClient) (world : Wo
   pub hub : StandsFor kept world.hub
   pub seats : AllZip (ClientStandsFor world) clients world.seats
 
--- the octets that a peer's session gives for pieces that come one after the other, and the hub after them
-abbrev pub given_for : ℕ → List (List ℕ) → Hub → List ℕ × Hub
-given_for number [] hub = ([], hub)
-given_for number (piece ∷ pieces) hub = (let x = exchanged enough number piece hub [] in let later = given_for number pieces x.hub in (x.octets ++ later.0, later.1))
-
-abbrev pub queue_of : Hub → ℕ → Option Queue
-queue_of hub number = option_map (λ s. s.queue) (session_of hub number)
-
--- the whole output is one for every cut of the octets, where nothing is queued, nothing is left to say, and no entry is made
-abbrev pub OneOutputForEveryCut : Hub → ℕ → Type 0
-OneOutputForEveryCut hub number = (first second : List (List ℕ)) → queue_of hub number ≡ Some [] → (give hub number 1).given ≡ Nothing → concat first ≡ concat second
-    → (given_for number first hub).1.history ≡ hub.history → (given_for number second hub).1.history ≡ hub.history
-    → (given_for number first hub).0 ≡ (given_for number second hub).0
-
--- of each peer's session between two lines of a script, and of the session of a peer that would come next
+-- between two lines of a script
 abbrev pub EveryCutGivesOneOutput : Type 0
-EveryCutGivesOneOutput = (text : List ℕ) (script before after : List ScriptLine) (w : Word) (number : ℕ) → script_of text ≡ Ok script → script ≡ before ++ after
-    → let world = world_after before (start_world script) in
-    (session_number world w ≡ Some number → OneOutputForEveryCut world.hub number)
-    × ((connect world.hub).0 ≡ Some number → OneOutputForEveryCut (connect world.hub).1 number)
+EveryCutGivesOneOutput = (text : List ℕ) (script before after : List ScriptLine) → script_of text ≡ Ok script → script ≡ before ++ after → AnswersEveryCutNow (world_after before (start_world script)).hub

@@ -2,6 +2,7 @@ use Rattle.std.proofs.Common.{Some, sym, ◌∙◌, ap}
 use Rattle.dnspush.specs.Command.{asked}
 use Rattle.dnspush.proofs.Running.{usage_answered, input_answered, path_answered}
 use Rattle.dnspush.proofs.Serving.{served_answered}
+use Rattle.dnspush.proofs.EveryScriptCut.{answers-every-cut-in}
 use Rattle.dnspush.proofs.program.run.Goals as goal
 
 pub returns-in-None-clause-replied : goal.returns-in-None-clause-replied
@@ -28,3 +29,12 @@ returns-in-Some-ReplayPath-clause-served g c = λ octets asks may h.
     let is = ap (λ x. Some (asked x)) (sym c.in-Some-ReplayPath.field-0-is) ∙ c.in-Some-ReplayPath.ensures in
     served_answered _ _ octets asks _ _ _ h
     (path_answered _ _ _ c.in-Some-ReplayPath.path.now _ _ _ _ _ octets _ _ is c.code-in-Some-ReplayPath.ensures (c.replay_path.ensures.replied octets) may)
+
+pub returns-in-None-clause-cuts : goal.returns-in-None-clause-cuts
+returns-in-None-clause-cuts g c = answers-every-cut-in
+
+pub returns-in-Some-ReplayInput-clause-cuts : goal.returns-in-Some-ReplayInput-clause-cuts
+returns-in-Some-ReplayInput-clause-cuts g c = answers-every-cut-in
+
+pub returns-in-Some-ReplayPath-clause-cuts : goal.returns-in-Some-ReplayPath-clause-cuts
+returns-in-Some-ReplayPath-clause-cuts g c = answers-every-cut-in
