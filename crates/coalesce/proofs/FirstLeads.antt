@@ -23,7 +23,7 @@ use Rattle.rrset.proofs.Sets.{shown_at-only}
 use Rattle.subscr.specs.Asked.{Asked, wants}
 use Rattle.dsotlv.specs.Notices.{removed_by, applied_all, last_ttl}
 use Rattle.dsotlv.specs.declared.message.Notice.TheVariants.{RemoveClass}
-use Rattle.coalesce.specs.Net.{additions, all_anew, push_message}
+use Rattle.coalesce.specs.Net.{additions, all_anew, push_message, max_net_message}
 use Rattle.coalesce.specs.Laws.{can_be_sent, is_side, speaks_of}
 use Rattle.coalesce.specs.Waiting.{WaitingName, differs, is_changed, is_named, old_side, new_side}
 use Rattle.coalesce.specs.FirstAnswers.{wanted_with, told_first}
@@ -208,7 +208,7 @@ first_fits_one_message question asked rows waiting named one can = by (differs a
     there : RecordSet
     there = at_name question.name rows
 
-    by : (b : Bool) → length (push_message (told_first b question asked there)) ≤ 60281
+    by : (b : Bool) → length (push_message (told_first b question asked there)) ≤ max_net_message
     by true =
         let part = wanted_with question asked there in
         let small = part_small one.0 (λ k. matches question k || wants k asked) there one.1 can in

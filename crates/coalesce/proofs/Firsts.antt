@@ -20,14 +20,13 @@ use Rattle.dsotlv.specs.Notices.{notice_octets, push_record, last_ttl, remove_ma
 use Rattle.dsotlv.specs.declared.message.Notice.{Notice}
 use Rattle.dsotlv.specs.declared.message.Notice.TheVariants.{RemoveClass}
 use Rattle.coalesce.specs.Laws.{can_be_sent}
-use Rattle.coalesce.specs.Net.{additions, all_anew, size_of_notices}
+use Rattle.coalesce.specs.Net.{additions, all_anew, size_of_notices, push_frame, max_net_frame, max_net_size}
 use Rattle.coalesce.specs.Sides.{IsOneSide, frame_octets}
 use Rattle.coalesce.specs.Steps.{behind_owner, head_of}
-use Rattle.coalesce.specs.Waiting.{framed}
 use Rattle.coalesce.proofs.NetSizes.{length-push_record, size_of_notices-cons, size_of-additions, size_of-all_anew, net-takes}
 use Rattle.coalesce.proofs.Sides.{parts_stay_sides}
 use Rattle.coalesce.proofs.Forms.{length-head}
-use Rattle.coalesce.proofs.Pushing.{framed_is}
+use Rattle.coalesce.proofs.Pushing.{push_frame-is}
 
 -- a part of records that can be sent
 pub part_can_be_sent : (p : Key → Bool) (rows part : RecordSet) → IsOneSide rows → IsTrue (can_be_sent rows) → part ≡ only p rows → IsTrue (can_be_sent part)
@@ -74,7 +73,7 @@ removal_appended name out now last text named is now-is last-is =
 -- so many octets are those of the notices, which go into one message
 pub record IsCounted (ns : List Notice) (size : ℕ) : Type 0 where
   pub is : size ≡ size_of_notices ns
-  pub most : size ≤ 60265
+  pub most : size ≤ max_net_size
 
 pub records_counted : (records : RecordSet) (all : ℕ) → IsTrue (can_be_sent records) → all ≡ counted (size_of_notices (additions records)) → (all ≡ size_of_notices (additions records)) × (all ≤ 60000)
 records_counted records all can is =
@@ -101,7 +100,7 @@ pub message_fits : (ns : List Notice) (size : ℕ) → IsCounted ns size → 16 
 message_fits ns size is = omega (arith, is.most)
 
 -- behind the head there is room for the notices
-pub notices_room : (ns : List Notice) (out head : List ℕ) (size : ℕ) → IsCounted ns size → 60283 ≤ 65537 - length out → head ≡ out ++ head_of size → length head + size_of_notices ns ≤ frame_octets
+pub notices_room : (ns : List Notice) (out head : List ℕ) (size : ℕ) → IsCounted ns size → max_net_frame ≤ frame_octets - length out → head ≡ out ++ head_of size → length head + size_of_notices ns ≤ frame_octets
 notices_room ns out head size is room head-is =
     let sum = ap (λ (l : List ℕ). length l) head-is ∙ length-append out (head_of size) in
     omega (arith, sum, is.is, is.most, room)
@@ -123,15 +122,15 @@ both_appended n ns head now last now-is last-is =
 pub some_counted : (n : Notice) (ns : List Notice) (size : ℕ) → IsCounted (n ∷ ns) size → size ≢ 0
 some_counted n ns size is none = omega (arith, is.is, none, net-takes n ns)
 
-pub frame_written : (ns : List Notice) (out head last : List ℕ) (size : ℕ) → IsCounted ns size → size ≢ 0 → head ≡ out ++ head_of size → last ≡ head ++ flat_map notice_octets ns → last ≡ out ++ framed ns
+pub frame_written : (ns : List Notice) (out head last : List ℕ) (size : ℕ) → IsCounted ns size → size ≢ 0 → head ≡ out ++ head_of size → last ≡ head ++ flat_map notice_octets ns → last ≡ out ++ push_frame ns
 frame_written ns out head last size is some head-is last-is =
     last-is
     ∙ ap (λ l. l ++ flat_map notice_octets ns) head-is
     ∙ append_assoc out (head_of size) (flat_map notice_octets ns)
-    ∙ ap (λ l. out ++ l) (sym (framed_is ns size is.is some))
+    ∙ ap (λ l. out ++ l) (sym (push_frame-is ns size is.is some))
 
-pub frame_size : (ns : List Notice) (size : ℕ) → IsCounted ns size → size ≢ 0 → 18 + size ≡ length (framed ns)
+pub frame_size : (ns : List Notice) (size : ℕ) → IsCounted ns size → size ≢ 0 → 18 + size ≡ length (push_frame ns)
 frame_size ns size is some =
     ap (λ n. 18 + n) is.is
     ∙ sym (length-head size (flat_map notice_octets ns))
-    ∙ sym (ap (λ (l : List ℕ). length l) (framed_is ns size is.is some))
+    ∙ sym (ap (λ (l : List ℕ). length l) (push_frame-is ns size is.is some))

@@ -23,11 +23,10 @@ use Rattle.rrset.specs.declared.record.Shown.{Shown}
 use Rattle.rrset.proofs.Places.{and_left, and_right}
 use Rattle.rrset.proofs.LowerNames.{lower-twice}
 use Rattle.rrset.proofs.SameRows.{same_key-same}
-use Rattle.dsotlv.specs.Messages.{frame}
 use Rattle.dsotlv.specs.Notices.{notice_octets, last_ttl}
 use Rattle.dsotlv.specs.declared.message.Notice.{Notice}
 use Rattle.coalesce.specs.Laws.{is_sent_so, can_be_sent}
-use Rattle.coalesce.specs.Net.{net, net_frame, push_message, additions, kinds_of, single_changes, all_anew, all_gone, owner_of, size_of_notices, shorter}
+use Rattle.coalesce.specs.Net.{net, net_frame, push_frame, push_message, additions, kinds_of, single_changes, all_anew, all_gone, owner_of, size_of_notices, shorter, max_net_message, max_net_size}
 use Rattle.coalesce.specs.Sides.{IsOneSide, AreOfOneName}
 use Rattle.coalesce.specs.Steps.{removals_behind, additions_to, notices_as, gone_form, head_of}
 use Rattle.coalesce.specs.declared.form.Form.TheVariants.{AllKinds}
@@ -117,7 +116,7 @@ exact_sum anew first a t parts small is = omega arith
 pub record AreCounted (name : Labels) (old new : RecordSet) (single anew : ℕ) : Type 0 where
   pub singly : single ≡ counted (size_of_notices (single_changes name old new))
   pub newly : anew ≡ size_of_notices (all_anew name new)
-  pub small : size_of_notices (all_anew name new) ≤ 60265
+  pub small : size_of_notices (all_anew name new) ≤ max_net_size
 
 pub are_counted : (name : Labels) (old new : RecordSet) (removed changed single all first anew : ℕ) → AreOfOneName old new → IsTrue (can_be_sent new) → name ≡ owner_of (old ++ new)
     → removed ≡ counted (size_of_notices (removals_behind name new None old)) → changed ≡ counted (size_of_notices (additions_to old new)) → single ≡ min (removed + changed) (2 ^ 64 - 1)
@@ -128,7 +127,7 @@ are_counted name old new removed changed single all first anew (owner, one, two)
     let size : size_of new ≤ max_octets_at_name = leb-true (size_of new) max_octets_at_name parts.1 in
     let whole = size_of-all_anew name new in
     let short = (subst IsName (sym named) (owner_has_name owner old new (side owner old one) (side owner new two))).size in
-    let small : size_of_notices (all_anew name new) ≤ 60265 = omega (arith, size, whole, short) in
+    let small : size_of_notices (all_anew name new) ≤ max_net_size = omega (arith, size, whole, short) in
     let split = ap size_of_notices (single_is name old new (owner, one)) ∙ size_of_notices-append (removals_behind name new None old) (additions_to old new) in
     let split' : size_of_notices (all_anew name new) ≡ first + size_of_notices (additions new) = omega (arith, whole, first-is, size_of-additions new) in
     record {
@@ -153,7 +152,7 @@ shorter-second first second h = ap (λ (b : Bool). cond b second first) (lt-ltb 
 below_counted : (anew single s t : ℕ) → single ≡ min s (2 ^ 64 - 1) → anew ≡ t → anew < single → t < s
 below_counted anew single s t singly newly h = omega arith
 
-at_most_counted : (anew single s t : ℕ) → single ≡ min s (2 ^ 64 - 1) → anew ≡ t → t ≤ 60265 → single ≤ anew → (s ≤ t) × (single ≡ s)
+at_most_counted : (anew single s t : ℕ) → single ≡ min s (2 ^ 64 - 1) → anew ≡ t → t ≤ max_net_size → single ≤ anew → (s ≤ t) × (single ≡ s)
 at_most_counted anew single s t singly newly small h = (omega arith, omega arith)
 
 -- the net in a form, and its size
@@ -178,32 +177,25 @@ single_planned name old new single anew named other some counts h =
 
 -- ---- the frame of a net
 
-abbrev framed : List Notice → List ℕ
-framed [] = []
-framed (n ∷ ns) = frame (push_message (n ∷ ns))
+push_frame-none : (ns : List Notice) → size_of_notices ns ≡ 0 → push_frame ns ≡ []
+push_frame-none [] h = refl
+push_frame-none (n ∷ ns) h = absurd (omega (arith, net-takes n ns))
 
-net_frame-framed : (old new : RecordSet) → net_frame old new ≡ framed (net old new)
-net_frame-framed old new = refl
-
-framed-none : (ns : List Notice) → size_of_notices ns ≡ 0 → framed ns ≡ []
-framed-none [] h = refl
-framed-none (n ∷ ns) h = absurd (omega (arith, net-takes n ns))
-
-framed-some : (ns : List Notice) → (size_of_notices ns ≡ 0 → ⊥) → framed ns ≡ head_of (size_of_notices ns) ++ flat_map notice_octets ns
-framed-some [] h = absurd (h refl)
-framed-some (n ∷ ns) h = ap (λ (m : ℕ). to_be_bytes w16 m ++ push_message (n ∷ ns)) (length-push_message (n ∷ ns))
+push_frame-some : (ns : List Notice) → (size_of_notices ns ≡ 0 → ⊥) → push_frame ns ≡ head_of (size_of_notices ns) ++ flat_map notice_octets ns
+push_frame-some [] h = absurd (h refl)
+push_frame-some (n ∷ ns) h = ap (λ (m : ℕ). to_be_bytes w16 m ++ push_message (n ∷ ns)) (length-push_message (n ∷ ns))
 
 pub net_frame-none : (old new : RecordSet) → size_of_notices (net old new) ≡ 0 → net_frame old new ≡ []
-net_frame-none old new h = framed-none (net old new) h
+net_frame-none old new h = push_frame-none (net old new) h
 
 pub net_frame-some : (old new : RecordSet) (size : ℕ) → size ≡ size_of_notices (net old new) → size ≢ 0 → net_frame old new ≡ head_of size ++ flat_map notice_octets (net old new)
-net_frame-some old new size is some = framed-some (net old new) (λ h. some (is ∙ h)) ∙ ap (λ n. head_of n ++ flat_map notice_octets (net old new)) (sym is)
+net_frame-some old new size is some = push_frame-some (net old new) (λ h. some (is ∙ h)) ∙ ap (λ n. head_of n ++ flat_map notice_octets (net old new)) (sym is)
 
 pub length-head : (size : ℕ) (octets : List ℕ) → length (head_of size ++ octets) ≡ 18 + length octets
 length-head size octets = omega arith
 
 -- a name's net has room in a message
-pub net_small : (old new : RecordSet) → AreOfOneName old new → IsTrue (can_be_sent new) → 16 + size_of_notices (net old new) ≤ 60281
+pub net_small : (old new : RecordSet) → AreOfOneName old new → IsTrue (can_be_sent new) → 16 + size_of_notices (net old new) ≤ max_net_message
 net_small old new (name, one, two) can = omega (arith, length-push_message (net old new), net_fits_one_message name old new one two can)
 
 -- ---- single changes are appended in two steps

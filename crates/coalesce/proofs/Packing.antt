@@ -6,7 +6,7 @@ use Rattle.std.proofs.lemmas.Bool.{eqb-false, ne_eqb, leb-true, leb-false, or_pa
 use Rattle.push_base.specs.Cases.{is_empty}
 use Rattle.dnsname.specs.Names.{Labels}
 use Rattle.dsotlv.specs.declared.message.Notice.{Notice}
-use Rattle.coalesce.specs.Net.{size_of_notices, max_message, packed_behind, packed, push_message}
+use Rattle.coalesce.specs.Net.{size_of_notices, max_message, packed_behind, packed, push_message, max_net_message}
 use Rattle.coalesce.specs.Laws.{Nets, all_notices, telling, StopsBefore, PacksTheFront, PacksNothingOfNothing, PackedFitsOneMessage}
 use Rattle.coalesce.proofs.NetSizes.{length-push_message, size_of_notices-append, net-takes}
 
@@ -140,14 +140,14 @@ packs_nothing_of_nothing ((name, n ∷ ns) ∷ rest) = refl
 -- ---- how long it is
 
 abbrev FitsAlone : Labels × List Notice → Type 0
-FitsAlone e = length (push_message e.1) ≤ 60281
+FitsAlone e = length (push_message e.1) ≤ max_net_message
 
 pub each-front : {X : Type 0} (P : X → Type 0) (xs ys : List X) → AllByRecursion P (xs ++ ys) → AllByRecursion P xs
 each-front P [] ys h = tt
 each-front P (x ∷ xs) ys h = (h.0, each-front P xs ys h.1)
 
 -- where one name tells something, all notices are those of its net
-one_tells : (gone : Nets) → length (telling gone) ≤ 1 → AllByRecursion FitsAlone gone → length (push_message (all_notices gone)) ≤ 60281
+one_tells : (gone : Nets) → length (telling gone) ≤ 1 → AllByRecursion FitsAlone gone → length (push_message (all_notices gone)) ≤ max_net_message
 one_tells [] few fit = omega arith
 one_tells ((name, []) ∷ rest) few fit = one_tells rest few fit.1
 one_tells ((name, n ∷ ns) ∷ rest) few fit =
@@ -163,6 +163,6 @@ packed_fits_one_message names fit =
     let p = packs_the_front names in
     by p.gone (packed names).0 p.whole_nets (each-front FitsAlone p.gone p.left (subst (AllByRecursion FitsAlone) p.split fit)) p.size
   where
-    by : (gone : Nets) (message : List Notice) → message ≡ all_notices gone → AllByRecursion FitsAlone gone → (length (telling gone) ≤ 1) ⊎ (length (push_message message) ≤ max_message) → length (push_message message) ≤ 60281
-    by gone message is fit (inl few) = subst (λ ns. length (push_message ns) ≤ 60281) (sym is) (one_tells gone few fit)
+    by : (gone : Nets) (message : List Notice) → message ≡ all_notices gone → AllByRecursion FitsAlone gone → (length (telling gone) ≤ 1) ⊎ (length (push_message message) ≤ max_message) → length (push_message message) ≤ max_net_message
+    by gone message is fit (inl few) = subst (λ ns. length (push_message ns) ≤ max_net_message) (sym is) (one_tells gone few fit)
     by gone message is fit (inr small) = omega (arith, small)

@@ -11,10 +11,10 @@ use Rattle.subscr.specs.Asked.{Asked, wants}
 use Rattle.dsotlv.specs.Notices.{notice_octets}
 use Rattle.dsotlv.specs.declared.message.Notice.{Notice}
 use Rattle.coalesce.specs.Laws.{Nets, all_notices, can_be_sent}
-use Rattle.coalesce.specs.Net.{net, packed, packed_behind, max_message, size_of_notices, push_message}
+use Rattle.coalesce.specs.Net.{net, packed, packed_behind, max_message, size_of_notices, push_message, push_frame, max_net_frame, max_net_size}
 use Rattle.coalesce.specs.Sides.{AreOfOneName, frame_octets}
 use Rattle.coalesce.specs.Steps.{head_of}
-use Rattle.coalesce.specs.Waiting.{WaitingName, old_side, new_side, IsPackable, CanBePacked, asked_net, nets_in, packed_of, framed}
+use Rattle.coalesce.specs.Waiting.{WaitingName, old_side, new_side, IsPackable, CanBePacked, asked_net, nets_in, packed_of}
 use Rattle.coalesce.proofs.NetSizes.{size_of_notices-append, net-takes, length-push_message}
 use Rattle.coalesce.proofs.Sides.{parts_stay_sides}
 use Rattle.coalesce.proofs.Forms.{net_small}
@@ -26,7 +26,7 @@ pub record IsReady (asked : Asked) (rows : RecordSet) (w : WaitingName) (left ri
   pub sides : AreOfOneName left right
   pub sent : IsTrue (can_be_sent right)
   pub same : net left right ≡ asked_net asked rows w
-  pub small : size_of_notices (asked_net asked rows w) ≤ 60265
+  pub small : size_of_notices (asked_net asked rows w) ≤ max_net_size
 
 pub ready : (asked : Asked) (rows : RecordSet) (w : WaitingName) (left right : RecordSet) → IsPackable rows w → left ≡ old_side asked w → right ≡ new_side asked rows w → IsReady asked rows w left right
 ready asked rows w left right ((name, old, new), can) left-is right-is =
@@ -46,7 +46,7 @@ ready asked rows w left right ((name, old, new), can) left-is right-is =
 pub record IsAhead (nets rest : Nets) (size : ℕ) : Type 0 where
   pub left : (packed_behind size rest).1 ≡ (packed nets).1
   pub sum : size + size_of_notices (packed_behind size rest).0 ≡ size_of_notices (packed nets).0
-  pub most : size ≤ 60265
+  pub most : size ≤ max_net_size
 
 pub ahead_begin : (nets : Nets) → IsAhead nets nets 0
 ahead_begin nets = record { left = refl; sum = omega arith; most = omega arith }
@@ -72,7 +72,7 @@ packed_behind-first size name (n ∷ ns) rest b some is = by (size == 0 || nat_l
     by false = refl
 
 -- a net that goes in
-pub ahead_more : (nets rest : Nets) (size : ℕ) (name : Labels) (ns : List Notice) → IsAhead nets ((name, ns) ∷ rest) size → size_of_notices ns ≢ 0 → size_of_notices ns ≤ 60265
+pub ahead_more : (nets rest : Nets) (size : ℕ) (name : Labels) (ns : List Notice) → IsAhead nets ((name, ns) ∷ rest) size → size_of_notices ns ≢ 0 → size_of_notices ns ≤ max_net_size
     → (size == 0 || nat_le (16 + size + size_of_notices ns) max_message) ≡ true → IsAhead nets rest (size + size_of_notices ns)
 ahead_more nets rest size name ns ahead some alone fits =
     let is = packed_behind-first size name ns rest true some fits in
@@ -91,16 +91,16 @@ ahead_more nets rest size name ns ahead some alone fits =
     by true is h = inl (eqb-true size 0 is)
     by false is h = inr (leb-true (16 + size + size_of_notices ns) max_message h)
 
-    small : (a b : ℕ) → b ≤ 60265 → (a ≡ 0) ⊎ (16 + a + b ≤ max_message) → a + b ≤ 60265
+    small : (a b : ℕ) → b ≤ max_net_size → (a ≡ 0) ⊎ (16 + a + b ≤ max_message) → a + b ≤ max_net_size
     small a b h (inl e) = omega arith
     small a b h (inr e) = omega arith
 
 -- the same, of a size that was counted
-pub turn_more : (nets rest : Nets) (size : ℕ) (name : Labels) (ns : List Notice) (more : ℕ) → IsAhead nets ((name, ns) ∷ rest) size → more ≡ size_of_notices ns → 0 < more → more ≤ 60265
+pub turn_more : (nets rest : Nets) (size : ℕ) (name : Labels) (ns : List Notice) (more : ℕ) → IsAhead nets ((name, ns) ∷ rest) size → more ≡ size_of_notices ns → 0 < more → more ≤ max_net_size
     → (size == 0 || nat_le (16 + size + more) max_message) ≡ true → IsAhead nets rest (size + more)
 turn_more nets rest size name ns more ahead is some alone fits =
     subst (IsAhead nets rest) (ap (λ m. size + m) (sym is))
-    (ahead_more nets rest size name ns ahead (λ e. absurd (omega (arith, e, is, some))) (subst (λ m. m ≤ 60265) is alone) (sym (ap (λ m. size == 0 || nat_le (16 + size + m) max_message) is) ∙ fits))
+    (ahead_more nets rest size name ns ahead (λ e. absurd (omega (arith, e, is, some))) (subst (λ m. m ≤ max_net_size) is alone) (sym (ap (λ m. size == 0 || nat_le (16 + size + m) max_message) is) ∙ fits))
 
 pub turn_silent : (nets rest : Nets) (size : ℕ) (name : Labels) (ns : List Notice) (more : ℕ) → IsAhead nets ((name, ns) ∷ rest) size → more ≡ size_of_notices ns → more ≤ 0 → IsAhead nets rest size
 turn_silent nets rest size name ns more ahead is none = ahead_silent nets rest size name ns ahead (omega arith)
@@ -131,25 +131,25 @@ pub gone_can : (rows : RecordSet) (queue : List WaitingName) (count : ℕ) → C
 gone_can rows queue count can = each-front (IsPackable rows) (take count queue) (drop count queue) (subst (CanBePacked rows) (sym (take-append-drop count queue)) can)
 
 -- the frame of the first names
-pub framed_is : (ns : List Notice) (size : ℕ) → size ≡ size_of_notices ns → size ≢ 0 → framed ns ≡ head_of size ++ flat_map notice_octets ns
-framed_is [] size is some = absurd (some is)
-framed_is (n ∷ ns) size is some =
+pub push_frame-is : (ns : List Notice) (size : ℕ) → size ≡ size_of_notices ns → size ≢ 0 → push_frame ns ≡ head_of size ++ flat_map notice_octets ns
+push_frame-is [] size is some = absurd (some is)
+push_frame-is (n ∷ ns) size is some =
     ap (λ (m : ℕ). to_be_bytes w16 m ++ push_message (n ∷ ns)) (length-push_message (n ∷ ns))
     ∙ ap (λ m. head_of m ++ flat_map notice_octets (n ∷ ns)) (sym is)
 
 pub push_written : (asked : Asked) (rows : RecordSet) (queue first : List WaitingName) (count size : ℕ) (out head last : List ℕ) → count ≡ length queue - length (packed_of asked rows queue).1 → first ≡ take count queue
     → size ≡ size_of_notices (packed_of asked rows queue).0 → size ≢ 0 → head ≡ out ++ head_of size → last ≡ head ++ flat_map notice_octets (all_notices (nets_in asked rows first))
-    → last ≡ out ++ framed (packed_of asked rows queue).0
+    → last ≡ out ++ push_frame (packed_of asked rows queue).0
 push_written asked rows queue first count size out head last counted first-is size-is some head-is last-is =
     let told : all_notices (nets_in asked rows first) ≡ (packed_of asked rows queue).0 = ap (λ q. all_notices (nets_in asked rows q)) first-is ∙ gone_is asked rows queue count counted in
     last-is
     ∙ ap (λ l. l ++ flat_map notice_octets (all_notices (nets_in asked rows first))) head-is
     ∙ append_assoc out (head_of size) (flat_map notice_octets (all_notices (nets_in asked rows first)))
     ∙ ap (λ (l : List Notice). out ++ (head_of size ++ flat_map notice_octets l)) told
-    ∙ ap (λ l. out ++ l) (sym (framed_is (packed_of asked rows queue).0 size size-is some))
+    ∙ ap (λ l. out ++ l) (sym (push_frame-is (packed_of asked rows queue).0 size size-is some))
 
 pub push_room : (asked : Asked) (rows : RecordSet) (queue first : List WaitingName) (count size : ℕ) (out head : List ℕ) → count ≡ length queue - length (packed_of asked rows queue).1 → first ≡ take count queue
-    → size ≡ size_of_notices (packed_of asked rows queue).0 → size ≤ 60265 → 60283 ≤ 65537 - length out → head ≡ out ++ head_of size
+    → size ≡ size_of_notices (packed_of asked rows queue).0 → size ≤ max_net_size → max_net_frame ≤ frame_octets - length out → head ≡ out ++ head_of size
     → length head + size_of_notices (all_notices (nets_in asked rows first)) ≤ frame_octets
 push_room asked rows queue first count size out head counted first-is size-is small room head-is =
     let told = ap size_of_notices (ap (λ q. all_notices (nets_in asked rows q)) first-is ∙ gone_is asked rows queue count counted) in

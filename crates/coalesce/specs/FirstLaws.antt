@@ -13,7 +13,7 @@ use Rattle.rrset.specs.RecordSet.{RecordSet, matching, at_name}
 use Rattle.rrset.specs.declared.record.Question.{Question}
 use Rattle.subscr.specs.Asked.{Asked}
 use Rattle.dsotlv.specs.Notices.{applied_all, notice_octets, notices_of}
-use Rattle.coalesce.specs.Net.{push_message}
+use Rattle.coalesce.specs.Net.{push_message, max_net_message}
 use Rattle.coalesce.specs.Laws.{is_side, can_be_sent}
 use Rattle.coalesce.specs.Sides.{IsOneSide}
 use Rattle.coalesce.specs.Waiting.{WaitingName, is_named, differs}
@@ -65,7 +65,7 @@ FirstLeavesOtherNames = (question : Question) (asked : Asked) (rows : RecordSet)
 abbrev pub FirstFitsOneMessage : Type 0
 FirstFitsOneMessage = (question : Question) (asked : Asked) (rows : RecordSet) (waiting : Option WaitingName)
     → IsTrue (is_name question.name) → IsOneSide (at_name question.name rows) → IsTrue (can_be_sent (at_name question.name rows))
-    → length (push_message (first_notices question asked rows waiting)) ≤ 60281
+    → length (push_message (first_notices question asked rows waiting)) ≤ max_net_message
 
 -- what is written for them is read back
 abbrev pub FirstIsReadBack : Type 0

@@ -20,7 +20,7 @@ use Rattle.rrset.specs.declared.record.Question.{Question}
 use Rattle.dsotlv.specs.Notices.{applied_all, last_ttl, notice_octets, notices_of}
 use Rattle.dsotlv.specs.declared.message.Notice.{Notice}
 use Rattle.dsotlv.specs.declared.message.Notice.TheVariants.{Add, RemoveOne, RemoveSet, RemoveClass, RemoveAll, Odd}
-use Rattle.coalesce.specs.Net.{net, push_message, max_message, packed}
+use Rattle.coalesce.specs.Net.{net, push_message, max_message, packed, max_net_message}
 
 -- a record of the name and of class IN, with fields as wide as those of a message, no meta kind 255, and rdata that fits
 abbrev pub is_sent_so : Labels → Key × Shown → Bool
@@ -62,7 +62,7 @@ NothingToTell = (name : Labels) (old new : RecordSet) → IsTrue (is_side name o
 -- one name's net, alone in a PUSH
 abbrev pub NetFitsOneMessage : Type 0
 NetFitsOneMessage = (name : Labels) (old new : RecordSet) → IsTrue (is_side name old) → IsTrue (is_side name new) → IsTrue (can_be_sent new)
-    → length (push_message (net old new)) ≤ 60281
+    → length (push_message (net old new)) ≤ max_net_message
 
 -- what is written for it is read back
 abbrev pub NetIsReadBack : Type 0
@@ -107,7 +107,7 @@ PacksNothingOfNothing = (names : Nets) → is_empty (packed names).0 ≡ list_al
 
 -- where each net alone takes at most 60,281 octets, the message does
 abbrev pub PackedFitsOneMessage : Type 0
-PackedFitsOneMessage = (names : Nets) → AllByRecursion (λ e. length (push_message e.1) ≤ 60281) names → length (push_message (packed names).0) ≤ 60281
+PackedFitsOneMessage = (names : Nets) → AllByRecursion (λ e. length (push_message e.1) ≤ max_net_message) names → length (push_message (packed names).0) ≤ max_net_message
 
 -- ---- several names in one message
 

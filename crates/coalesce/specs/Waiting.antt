@@ -12,9 +12,8 @@ use Rattle.push_base.specs.Cases.{is_empty}
 use Rattle.dnsname.specs.Names.{Labels, same_name}
 use Rattle.rrset.specs.RecordSet.{RecordSet, only, at_name, same_rows}
 use Rattle.subscr.specs.Asked.{Asked, wants}
-use Rattle.dsotlv.specs.Messages.{frame}
 use Rattle.dsotlv.specs.declared.message.Notice.{Notice}
-use Rattle.coalesce.specs.Net.{net, packed, push_message}
+use Rattle.coalesce.specs.Net.{net, packed}
 use Rattle.coalesce.specs.Laws.{Nets, can_be_sent}
 use Rattle.coalesce.specs.Sides.{AreOfOneName}
 
@@ -80,11 +79,6 @@ packed_of asked rows queue = packed (nets_in asked rows queue)
 -- as many of the last names as stay
 abbrev pub left_in : Asked → RecordSet → List WaitingName → List WaitingName
 left_in asked rows queue = drop (length queue - length (packed_of asked rows queue).1) queue
-
--- the frame of a message's notices, and nothing where there are none
-abbrev pub framed : List Notice → List ℕ
-framed [] = []
-framed (n ∷ ns) = frame (push_message (n ∷ ns))
 
 -- the records of a waiting name are such as nets are made of, before and now
 abbrev pub IsPackable : RecordSet → WaitingName → Type 0

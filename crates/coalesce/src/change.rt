@@ -2,8 +2,8 @@
 
 ghost use Rattle.std.specs.Prelude.{◌≡◌, ◌-◌, ◌≤◌, ◌++◌, length, IsTrue};
 ghost use Rattle.coalesce.specs.Laws.{can_be_sent};
-ghost use Rattle.coalesce.specs.Net.{net_frame};
-ghost use Rattle.coalesce.specs.Sides.{AreOfOneName};
+ghost use Rattle.coalesce.specs.Net.{net_frame, max_net_frame};
+ghost use Rattle.coalesce.specs.Sides.{AreOfOneName, frame_octets};
 
 use crate::form::{append_notices, owner, plan_of};
 use crate::frame::Frame;
@@ -16,7 +16,7 @@ use rrset::{Key, Shown};
 pub fn net<'a>(old: &'a [(Key, Shown)], new: &'a [(Key, Shown)], out: &mut Frame) -> usize
     requires sides { AreOfOneName old.now new.now }
     requires sent { IsTrue (can_be_sent new.now) }
-    requires room { 60283 ≤ 65537 - length out.old }
+    requires room { max_net_frame ≤ frame_octets - length out.old }
     ensures written { out.new ≡ out.old ++ net_frame old.now new.now }
     ensures size { result ≡ length (net_frame old.now new.now) }
 {

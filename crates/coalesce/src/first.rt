@@ -8,17 +8,16 @@ ghost use Rattle.dsotlv.specs.Notices.{notice_octets};
 ghost use Rattle.dsotlv.specs.declared.message.Notice.TheVariants.{RemoveClass};
 ghost use Rattle.coalesce.specs.FirstAnswers.{told_first};
 ghost use Rattle.coalesce.specs.Laws.{can_be_sent};
-ghost use Rattle.coalesce.specs.Net.{additions, all_anew};
+ghost use Rattle.coalesce.specs.Net.{additions, all_anew, push_frame, max_net_frame};
 ghost use Rattle.coalesce.specs.Sides.{IsOneSide, frame_octets};
-ghost use Rattle.coalesce.specs.Waiting.{framed};
 
 use crate::adding::{all_size, append_all};
 use crate::frame::Frame;
-use crate::records::{
-    FRAME_HEAD, Fields, IN, REMOVE_MANY, append_fields, append_head, record_size,
-};
+use crate::records::{FRAME_HEAD, Fields, append_fields, append_head, record_size};
 use crate::side::Side;
 use dnsname::Name;
+use dsotlv::ttls::REMOVE_MANY;
+use rrset::classes::IN;
 use rrset::kinds::ANY;
 use rrset::{Key, Question, Shown};
 use subscr::Subscriptions;
@@ -50,9 +49,9 @@ fn append_class_gone(out: &mut Frame, name: &Name)
 /// Appends the PUSH that takes all records of a name away and tells these anew, and gives its octets.
 fn append_anew(out: &mut Frame, name: &Name, records: &Side) -> usize
     requires sent { IsTrue (can_be_sent records.now) }
-    requires room { 60283 ≤ 65537 - length out.old }
-    ensures written { out.new ≡ out.old ++ framed (all_anew (lower name.now) records.now) }
-    ensures size { result ≡ length (framed (all_anew (lower name.now) records.now)) }
+    requires room { max_net_frame ≤ frame_octets - length out.old }
+    ensures written { out.new ≡ out.old ++ push_frame (all_anew (lower name.now) records.now) }
+    ensures size { result ≡ length (push_frame (all_anew (lower name.now) records.now)) }
 {
     let size = (record_size(name, &[]) + all_size(records)) as usize;
     append_head(out, size);
@@ -64,9 +63,9 @@ fn append_anew(out: &mut Frame, name: &Name, records: &Side) -> usize
 /// Appends the PUSH that tells these records, and gives its octets; nothing and 0 where there are none.
 fn append_records(out: &mut Frame, records: &Side) -> usize
     requires sent { IsTrue (can_be_sent records.now) }
-    requires room { 60283 ≤ 65537 - length out.old }
-    ensures written { out.new ≡ out.old ++ framed (additions records.now) }
-    ensures size { result ≡ length (framed (additions records.now)) }
+    requires room { max_net_frame ≤ frame_octets - length out.old }
+    ensures written { out.new ≡ out.old ++ push_frame (additions records.now) }
+    ensures size { result ≡ length (push_frame (additions records.now)) }
 {
     let size = all_size(records) as usize;
     if size == 0 {
@@ -88,9 +87,9 @@ pub(crate) fn append_first<'a>(
 ) -> usize
     requires side { IsOneSide rows.now }
     requires sent { IsTrue (can_be_sent rows.now) }
-    requires room { 60283 ≤ 65537 - length out.old }
-    ensures written { out.new ≡ out.old ++ framed (told_first changed question.now questions.now rows.now) }
-    ensures size { result ≡ length (framed (told_first changed question.now questions.now rows.now)) }
+    requires room { max_net_frame ≤ frame_octets - length out.old }
+    ensures written { out.new ≡ out.old ++ push_frame (told_first changed question.now questions.now rows.now) }
+    ensures size { result ≡ length (push_frame (told_first changed question.now questions.now rows.now)) }
 {
     if changed {
         let wanted = Side::matching_or_asked(rows, question, questions);

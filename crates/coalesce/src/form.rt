@@ -11,10 +11,12 @@ ghost use Rattle.coalesce.specs.Steps.{gone_form, notices_as};
 
 use crate::adding::{all_size, append_all, append_changed, changed_size};
 use crate::frame::Frame;
-use crate::records::{Fields, IN, REMOVE_MANY, append_record, record_size};
+use crate::records::{Fields, append_record, record_size};
 use crate::removing::{append_removals, removals_size};
 use crate::side::{Records, Side};
 use dnsname::Name;
+use dsotlv::ttls::REMOVE_MANY;
+use rrset::classes::IN;
 use rrset::kinds::ANY;
 use rrset::{same_key, same_shown};
 

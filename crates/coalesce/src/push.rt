@@ -3,18 +3,15 @@
 ghost use Rattle.std.specs.Prelude.{◌≡◌, ◌+◌, ◌-◌, ◌≤◌, ◌++◌, ◌||◌, ◌==◌, drop, flat_map, length, nat_le};
 ghost use Rattle.dsotlv.specs.Notices.{notice_octets};
 ghost use Rattle.coalesce.specs.Laws.{all_notices};
-ghost use Rattle.coalesce.specs.Net.{max_message, size_of_notices};
+ghost use Rattle.coalesce.specs.Net.{max_message, size_of_notices, push_frame, max_net_frame, max_net_size};
 ghost use Rattle.coalesce.specs.Sides.{frame_octets};
-ghost use Rattle.coalesce.specs.Waiting.{CanBePacked, framed, nets_in, packed_of};
+ghost use Rattle.coalesce.specs.Waiting.{CanBePacked, nets_in, packed_of};
 
 use crate::frame::Frame;
-use crate::records::{FRAME_HEAD, append_head};
+use crate::records::{FRAME_HEAD, MESSAGE_HEAD, append_head};
 use crate::waiting::Waiting;
 use rrset::Table;
 use subscr::Subscriptions;
-
-/// The octets of a message in front of its records: header, and the TLV's kind and length.
-const MESSAGE_HEAD: u64 = 16;
 
 /// The most octets of a message of several names.
 const MAX_MESSAGE: u64 = 16_382;
@@ -28,8 +25,8 @@ pub(crate) struct Front {
 
 /// Whether a net goes in behind so many octets of records.
 fn fits(size: u64, more: u64) -> bool
-    requires size { size ≤ 60265 }
-    requires more { more ≤ 60265 }
+    requires size { size ≤ max_net_size }
+    requires more { more ≤ max_net_size }
     ensures { result ≡ (size == 0 || nat_le (16 + size + more) max_message) }
 {
     size == 0 || MESSAGE_HEAD + size + more <= MAX_MESSAGE
@@ -40,7 +37,7 @@ pub(crate) fn front_of(names: &[Waiting], questions: &Subscriptions, index: &Tab
     requires { CanBePacked index.now.rows names.now }
     ensures names { result.names ≡ length names.now - length (packed_of questions.now index.now.rows names.now).1 }
     ensures size { result.size ≡ size_of_notices (packed_of questions.now index.now.rows names.now).0 }
-    ensures most { result.size ≤ 60265 }
+    ensures most { result.size ≤ max_net_size }
 {
     let mut size: u64 = 0;
     let mut rest = names;
@@ -87,10 +84,10 @@ pub(crate) fn append_push(
     requires sides { CanBePacked index.now.rows names.now }
     requires names { front.names ≡ length names.now - length (packed_of questions.now index.now.rows names.now).1 }
     requires size { front.size ≡ size_of_notices (packed_of questions.now index.now.rows names.now).0 }
-    requires most { front.size ≤ 60265 }
-    requires room { 60283 ≤ 65537 - length out.old }
-    ensures written { out.new ≡ out.old ++ framed (packed_of questions.now index.now.rows names.now).0 }
-    ensures size { result ≡ length (framed (packed_of questions.now index.now.rows names.now).0) }
+    requires most { front.size ≤ max_net_size }
+    requires room { max_net_frame ≤ frame_octets - length out.old }
+    ensures written { out.new ≡ out.old ++ push_frame (packed_of questions.now index.now.rows names.now).0 }
+    ensures size { result ≡ length (push_frame (packed_of questions.now index.now.rows names.now).0) }
 {
     if front.size == 0 {
         return 0;

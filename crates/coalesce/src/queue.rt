@@ -5,8 +5,9 @@ ghost use Rattle.push_base.specs.Cases.{is_empty};
 ghost use Rattle.rrset.specs.RecordSet.{at_name};
 ghost use Rattle.coalesce.specs.FirstAnswers.{first_notices};
 ghost use Rattle.coalesce.specs.Laws.{can_be_sent};
-ghost use Rattle.coalesce.specs.Sides.{IsOneSide};
-ghost use Rattle.coalesce.specs.Waiting.{CanBePacked, before_point, differs, framed, is_named, left_in, packed_of, since, tells, waits, with_copy, without_name};
+ghost use Rattle.coalesce.specs.Net.{push_frame, max_net_frame};
+ghost use Rattle.coalesce.specs.Sides.{IsOneSide, frame_octets};
+ghost use Rattle.coalesce.specs.Waiting.{CanBePacked, before_point, differs, is_named, left_in, packed_of, since, tells, waits, with_copy, without_name};
 
 use crate::NoMemory;
 use crate::first::append_first;
@@ -127,9 +128,9 @@ impl Queue {
     ) -> usize
         requires side { IsOneSide (at_name question.now.name index.now.rows) }
         requires sent { IsTrue (can_be_sent (at_name question.now.name index.now.rows)) }
-        requires room { 60283 ≤ 65537 - length out.old }
-        ensures written { out.new ≡ out.old ++ framed (first_notices question.now questions.now index.now.rows (find (is_named question.now.name) self.now)) }
-        ensures size { result ≡ length (framed (first_notices question.now questions.now index.now.rows (find (is_named question.now.name) self.now))) }
+        requires room { max_net_frame ≤ frame_octets - length out.old }
+        ensures written { out.new ≡ out.old ++ push_frame (first_notices question.now questions.now index.now.rows (find (is_named question.now.name) self.now)) }
+        ensures size { result ≡ length (push_frame (first_notices question.now questions.now index.now.rows (find (is_named question.now.name) self.now))) }
     {
         let changed = self.differs(&question.name, questions, index);
         append_first(out, index.at(&question.name), question, questions, changed)
@@ -141,9 +142,9 @@ impl Queue {
     /// queue, also those with nothing to tell; the others stay in their order. It takes no memory.
     pub fn pack(&mut self, questions: &Subscriptions, index: &Table, out: &mut Frame) -> usize
         requires sides { CanBePacked index.now.rows self.old }
-        requires room { 60283 ≤ 65537 - length out.old }
-        ensures written { out.new ≡ out.old ++ framed (packed_of questions.now index.now.rows self.old).0 }
-        ensures size { result ≡ length (framed (packed_of questions.now index.now.rows self.old).0) }
+        requires room { max_net_frame ≤ frame_octets - length out.old }
+        ensures written { out.new ≡ out.old ++ push_frame (packed_of questions.now index.now.rows self.old).0 }
+        ensures size { result ≡ length (push_frame (packed_of questions.now index.now.rows self.old).0) }
         ensures left { self.new ≡ left_in questions.now index.now.rows self.old }
     {
         let front = front_of(&self.names, questions, index);

@@ -8,30 +8,15 @@ ghost use Rattle.coalesce.specs.Steps.{behind_owner, head_of};
 
 use crate::frame::Frame;
 use dnsname::Name;
-
-/// The TTL of a record that removes one record.
-pub(crate) const REMOVE_ONE: u32 = 0xffff_ffff;
-
-/// The TTL of a record that removes many.
-pub(crate) const REMOVE_MANY: u32 = 0xffff_fffe;
-
-/// Class IN (RFC 1035, 3.2.4).
-pub(crate) const IN: u16 = 1;
-
-/// The octets of a record's fields between its owner and its rdata (RFC 1035, 3.2.1).
-const FIXED_FIELDS: u64 = 10;
+use dsotlv::flags::REQUEST;
+use dsotlv::kinds::PUSH;
+use rrset::FIXED_FIELDS;
 
 /// The octets of a message in front of its records: header, and the TLV's kind and length.
-const MESSAGE_HEAD: usize = 16;
+pub(crate) const MESSAGE_HEAD: u64 = 16;
 
 /// The octets of a frame in front of its records: length, and the message's head.
 pub(crate) const FRAME_HEAD: usize = 18;
-
-/// Flags with OPCODE 6, of a request (RFC 8490, 5.4).
-const DSO_FLAGS: u16 = 0x3000;
-
-/// The kind of the PUSH TLV (RFC 8765, 8).
-const PUSH_TLV: u16 = 0x41;
 
 /// The fields of a record behind its owner (RFC 1035, 3.2.1).
 #[derive(Clone, Copy, Debug)]
@@ -80,10 +65,10 @@ pub(crate) fn append_head(out: &mut Frame, size: usize)
     requires room { length out.old + 18 ≤ frame_octets }
     ensures { out.new ≡ out.old ++ head_of size }
 {
-    out.append(&((MESSAGE_HEAD + size) as u16).to_be_bytes());
+    out.append(&((MESSAGE_HEAD as usize + size) as u16).to_be_bytes());
     out.append(&0_u16.to_be_bytes());
-    out.append(&DSO_FLAGS.to_be_bytes());
+    out.append(&REQUEST.to_be_bytes());
     out.append(&[0; 8]);
-    out.append(&PUSH_TLV.to_be_bytes());
+    out.append(&PUSH.to_be_bytes());
     out.append(&(size as u16).to_be_bytes());
 }

@@ -8,9 +8,11 @@ ghost use Rattle.coalesce.specs.Sides.{frame_octets};
 ghost use Rattle.coalesce.specs.Steps.{removal_of, removal_notices, removals_behind};
 
 use crate::frame::Frame;
-use crate::records::{Fields, IN, REMOVE_MANY, REMOVE_ONE, append_record, record_size};
+use crate::records::{Fields, append_record, record_size};
 use crate::side::Side;
 use dnsname::Name;
+use dsotlv::ttls::{REMOVE_MANY, REMOVE_ONE};
+use rrset::classes::IN;
 use rrset::{Key, Shown};
 
 /// What is told of a record that was there.

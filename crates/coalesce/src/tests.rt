@@ -10,6 +10,7 @@ ghost use Rattle.coalesce.specs.Waiting.{CanBePacked, IsPackable};
 use super::*;
 use crate::waiting::Waiting;
 use dnsname::Name;
+use dsotlv::ttls::LAST_TTL;
 use push_base::{Octets, hex_octets, hex_text};
 use rrset::{Key, Question, Rr, Shown, Table, compare_keys, kinds, same_key, shape_fits};
 use std::alloc::Global;
@@ -18,9 +19,6 @@ use subscr::{MAX_QUESTIONS, Subscriptions};
 
 /// The most octets of a name's records.
 const MOST: u64 = 60_000;
-
-/// The greatest TTL of a record that is added (RFC 8765, 6.3.1).
-const LAST_TTL: u32 = 0x7fff_ffff;
 
 // ---- records as nets are made of
 

@@ -2,7 +2,7 @@
 
 ghost use Rattle.std.specs.Prelude.{◌≡◌, ◌+◌, ◌≤◌, ◌++◌, find, flat_map, length, IfOk, MatchOption, None, Some};
 ghost use Rattle.dsotlv.specs.Notices.{notice_octets};
-ghost use Rattle.coalesce.specs.Net.{size_of_notices};
+ghost use Rattle.coalesce.specs.Net.{size_of_notices, max_net_size};
 ghost use Rattle.coalesce.specs.Sides.{frame_octets};
 ghost use Rattle.coalesce.specs.Waiting.{IsPackable, asked_net, before_point, is_changed, is_named, waits, without_name};
 
@@ -115,7 +115,7 @@ impl Waiting {
     pub(crate) fn size<'a>(&'a self, questions: &'a Subscriptions, index: &'a Table) -> u64
         requires { IsPackable index.now.rows self.now }
         ensures size { result ≡ size_of_notices (asked_net questions.now index.now.rows self.now) }
-        ensures most { result ≤ 60265 }
+        ensures most { result ≤ max_net_size }
     {
         let old = Side::asked(&self.old, questions);
         let new = Side::asked(index.at(&self.name), questions);

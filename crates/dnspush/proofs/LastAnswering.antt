@@ -7,11 +7,11 @@ use Rattle.rrset.specs.Rcodes.{noerror}
 use Rattle.rrset.specs.declared.record.Question.{Question}
 use Rattle.dsotlv.specs.Messages.{frame}
 use Rattle.dsotlv.specs.declared.message.Notice.{Notice}
+use Rattle.coalesce.specs.Net.{push_frame}
 use Rattle.dsosession.specs.Timing.{Clocks}
 use Rattle.pushserver.specs.Sessions.{Session, new_session}
 use Rattle.pushserver.specs.Hubs.{Hub, state_now, now, in_session}
 use Rattle.pushserver.specs.Giving.{dso_answer, accepts_subscription, reacted}
-use Rattle.pushserver.specs.Laws.{push_frame}
 use Rattle.dnspush.proofs.LastSession.{IsBehind, hub_at, in_session-last}
 use Rattle.dnspush.proofs.Answering.{notices_for, saying, begun, first_answer-additions, filled}
 

@@ -1,6 +1,6 @@
 -- A history that has grown stays so, whatever is called.
 --     stays-longer      the law
-use Rattle.std.proofs.Common.{ℕ, ◌+◌, ◌<◌, [], ◌∷◌, ◌++◌, length, arith, length-append}
+use Rattle.std.proofs.Common.{[], ◌∷◌, ◌++◌, arith, length-append}
 use Rattle.history.specs.declared.entry.Entry.{Entry}
 use Rattle.pushserver.specs.Hubs.{Hub}
 use Rattle.dnspush.proofs.AtRest.{Longer, StaysLonger}

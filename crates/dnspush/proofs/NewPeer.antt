@@ -9,11 +9,12 @@ use Rattle.push_base.specs.Hexadecimal.{hex_text}
 use Rattle.rrset.specs.Rcodes.{noerror}
 use Rattle.rrset.specs.declared.record.Question.{Question}
 use Rattle.dsotlv.specs.Messages.{frame, first_message}
+use Rattle.coalesce.specs.Net.{push_frame}
 use Rattle.dsosession.specs.Timing.{server_start}
 use Rattle.pushserver.specs.Sessions.{new_session}
 use Rattle.pushserver.specs.Hubs.{Hub, state_now, now, in_session, connect, max_sessions}
 use Rattle.pushserver.specs.Giving.{dso_answer, first_answer, accepts_subscription, reacted}
-use Rattle.pushserver.specs.Laws.{IsAcceptable, push_frame}
+use Rattle.pushserver.specs.Laws.{IsAcceptable}
 use Rattle.pushserver.proofs.Subscribing.{spoken, reaction}
 use Rattle.replay.specs.Lines.{Word}
 use Rattle.replay.specs.World.{World, session_number}

@@ -15,10 +15,9 @@ use Rattle.dsotlv.specs.TlvKinds.{push_tlv}
 use Rattle.dsotlv.specs.Notices.{push_record, notice_octets}
 use Rattle.dsotlv.specs.declared.message.Notice.{Notice}
 use Rattle.dsotlv.specs.declared.message.Notice.TheVariants.{Add}
-use Rattle.coalesce.specs.Net.{additions}
+use Rattle.coalesce.specs.Net.{additions, push_frame}
 use Rattle.history.specs.States.{State, records}
 use Rattle.pushserver.specs.Giving.{dso_answer}
-use Rattle.pushserver.specs.Laws.{push_frame}
 use Rattle.dnspush.proofs.Answering.{notices_for}
 use Rattle.dnspush.proofs.LastAnswering.{with_push}
 use Rattle.dnspush.proofs.ZoneSizes.{IsBounded, records-size}

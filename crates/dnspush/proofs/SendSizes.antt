@@ -1,6 +1,6 @@
 -- What a peer sends in a line of a script has at most 65,537 octets.
 --     sends-short      the law, over the lines of a script
-use Rattle.std.proofs.Common.{◌≡◌, ℕ, ◌*◌, ◌≤◌, Bool, true, false, List, [], ◌∷◌, ◌++◌, length, Some, Ok, nat_le, nat_lt, arith}
+use Rattle.std.proofs.Common.{◌≡◌, ℕ, ◌*◌, ◌≤◌, Bool, true, false, List, ◌∷◌, ◌++◌, length, Some, Ok, nat_le, nat_lt, arith}
 use Rattle.std.proofs.lemmas.Bool.Decides.{nat_tests}
 use Rattle.push_base.proofs.HexLaws.{read_is_spelled}
 use Rattle.history.proofs.ShownAtHome.{all-parts}

@@ -2,7 +2,7 @@
 --     sent_by line      the octets that a peer sends in a line, if it is such a line
 --     written-by      the octets that a word stands for are none, or those of its digits
 --     sends-pass      the law: a test that the octets of every word pass
-use Rattle.std.proofs.Common.{◌≡◌, ℕ, ◌+◌, Bool, true, false, cond, ◌||◌, List, [], ◌∷◌, ◌++◌, map, length, Option, Some, None, Result, Ok, Err, nat_lt, refl, ◌∙◌, ap, subst, inr, codes}
+use Rattle.std.proofs.Common.{◌≡◌, ℕ, ◌+◌, Bool, true, false, cond, ◌||◌, List, [], ◌∷◌, map, length, Option, Some, None, Result, Ok, Err, nat_lt, refl, ◌∙◌, ap, subst, inr, codes}
 use Rattle.std.specs.Prelude.{unwrap_or, ◌==◌}
 use Rattle.std.specs.List.{AllByRecursion, slice_split}
 use Rattle.std.specs.Result.{result_ok}

@@ -8,10 +8,11 @@ use Rattle.push_base.specs.Hexadecimal.{hex_text}
 use Rattle.rrset.specs.Rcodes.{noerror}
 use Rattle.rrset.specs.declared.record.Question.{Question}
 use Rattle.dsotlv.specs.Messages.{frame, first_message}
+use Rattle.coalesce.specs.Net.{push_frame}
 use Rattle.pushserver.specs.Sessions.{Session, new_session}
 use Rattle.pushserver.specs.Hubs.{Hub, now, connect}
 use Rattle.pushserver.specs.Giving.{dso_answer, first_answer}
-use Rattle.pushserver.specs.Laws.{IsAcceptable, push_frame}
+use Rattle.pushserver.specs.Laws.{IsAcceptable}
 use Rattle.replay.specs.Lines.{Word, ScriptLine, send}
 use Rattle.replay.specs.Scripts.{script_of}
 use Rattle.replay.specs.World.{World, start_world, session_number}

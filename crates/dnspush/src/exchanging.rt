@@ -4,14 +4,12 @@ ghost use Rattle.std.specs.Prelude.{◌≡◌, ◌==◌, ◌||◌, ◌≤◌, �
 ghost use Rattle.coalesce.specs.Sides.{frame_octets};
 ghost use Rattle.dnspush.specs.Exchanging.{turn_of, written, Gives, Emits, Exchanges};
 
+use coalesce::MAX_FRAME;
 use dsosession::session::EndReason;
 use push_base::NoMemory;
 use pushserver::laws::kept_hubs_stand;
 use pushserver::{Given, Hub, HubFault};
 use std::alloc::Global;
-
-/// The length's two octets and the longest message (RFC 7766, 8): no output of a session is longer.
-const FRAME: usize = 65_537;
 
 /// The octets that came back, and the end of the session, if it was told.
 #[derive(Drop)]
@@ -37,7 +35,8 @@ pub fn exchange(
 ) -> Result<Exchanged, NoMemory>
     ensures { IfOk result (λ x. Exchanges hub.old session octets.now hub.new x.octets.items x.over) }
 {
-    let mut buffer = vec![in alloc; 0; FRAME]?;
+    // No output of a session is longer.
+    let mut buffer = vec![in alloc; 0; MAX_FRAME]?;
     exchange_over(alloc, hub, session, octets, buffer.as_mut_slice())
 }
 

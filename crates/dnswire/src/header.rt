@@ -1,10 +1,7 @@
 //! The header of a message (RFC 1035, 4.1.1).
 
 ghost use Rattle.std.specs.Prelude.{◌≡◌, ◌+◌, ◌≤◌, length};
-ghost use Rattle.rrset.specs.Header.{two_octets, is_response, opcode_of, rcode_of, answer_octets};
-
-/// The octets of a header.
-pub(crate) const HEADER: usize = 12;
+ghost use Rattle.rrset.specs.Header.{two_octets, rcode_of, answer_octets};
 
 /// The places of its numbers. Of an update the counts are ZOCOUNT, PRCOUNT, UPCOUNT and ADCOUNT
 /// (RFC 2136, 2.2).
@@ -26,20 +23,6 @@ pub(crate) fn header_field(message: &[u8], at: usize) -> u16
     ensures { result ≡ two_octets message.now at }
 {
     u16::from_be_bytes([message[at], message[at + 1]])
-}
-
-/// Whether the flags are those of a response.
-pub(crate) fn is_response(flags: u16) -> bool
-    ensures { result ≡ is_response flags }
-{
-    flags >= 0x8000
-}
-
-/// The OPCODE of the flags.
-pub(crate) fn opcode(flags: u16) -> u16
-    ensures { result ≡ opcode_of flags }
-{
-    flags / 2048 % 16
 }
 
 /// The RCODE of the flags.

@@ -4,12 +4,11 @@ ghost use Rattle.std.specs.Prelude.{◌≡◌, ◌≤◌, ◌++◌, map, length,
 ghost use Rattle.dnswire.specs.Reading.{heard_rr, entries_heard, hearing_of};
 ghost use Rattle.dnswire.specs.Gives.{GivesWire, GivesHearing};
 
-use crate::header::{
-    ANCOUNT, ARCOUNT, FLAGS, HEADER, NSCOUNT, header_field, is_response, opcode, rcode,
-};
+use crate::header::{ANCOUNT, ARCOUNT, FLAGS, NSCOUNT, header_field, rcode};
 use crate::message::{HearFault, WireFault};
 use crate::record::Shaped;
 use crate::section::{question_section, record_section};
+use rrset::header::{HEADER, is_response, opcode_of};
 use rrset::{HeardRr, HeardRrs, Hearing, NoMemory, Rr, Rrs};
 use std::alloc::Global;
 
@@ -92,7 +91,7 @@ pub fn read_hearing(alloc: Global, datagram: &[u8]) -> Result<Hearing, HearFault
     if !is_response(flags) {
         return Err(HearFault::Query);
     }
-    if opcode(flags) != 0 || rcode(flags) != 0 {
+    if opcode_of(flags) != 0 || rcode(flags) != 0 {
         return Err(HearFault::Coded);
     }
     match read_entries(alloc, datagram) {

@@ -7,13 +7,9 @@ ghost use Rattle.dnswire.specs.Gives.{GivesWire, shape_test};
 use crate::field::{octets_at, read_name, read_u16, read_u32};
 use crate::message::WireFault;
 use push_base::Octets;
+use rrset::classes::{IN, NONE};
 use rrset::{Question, RdataFault, Rr, read_rdata};
 use std::alloc::Global;
-
-/// The classes IN (RFC 1035, 3.2.4) and NONE (RFC 2136, 1.3).
-const IN: u16 = 1;
-
-const NONE: u16 = 254;
 
 /// Whose records are read: it decides which rdata is read by the shape of its kind.
 #[derive(Clone, Copy)]

@@ -5,9 +5,10 @@ ghost use Rattle.rrset.specs.Header.{two_octets};
 ghost use Rattle.dnswire.specs.Reading.{question_at, record_at, several};
 ghost use Rattle.dnswire.specs.Gives.{GivesWire, shape_test};
 
-use crate::header::{HEADER, QDCOUNT, header_field};
+use crate::header::{QDCOUNT, header_field};
 use crate::message::WireFault;
 use crate::record::{Shaped, read_question, read_record};
+use rrset::header::HEADER;
 use rrset::{Questions, Rrs};
 use std::alloc::Global;
 

@@ -1,55 +1,18 @@
 //! What the server does with a message, by its head (RFC 8490, 5 to 7; RFC 8765, 6).
 
 ghost use Rattle.std.specs.Prelude.{◌≡◌};
-ghost use Rattle.rrset.specs.Header.{is_response, opcode_of};
 ghost use Rattle.dsosession.specs.Reactions.{is_keepalive, answer_or_end, primary_reaction, dso_reaction, server_reaction};
 
 use crate::session::{EndReason, Reaction};
 use dsotlv::DsoHead;
-
-/// The OPCODE of an update (RFC 2136, 1.3).
-const UPDATE_OPCODE: u16 = 5;
-/// The OPCODE of a DSO message (RFC 8490, 5.4).
-const DSO_OPCODE: u16 = 6;
-
-/// The RCODE of what is outside the form (RFC 1035, 4.1.1).
-const FORMERR: u8 = 1;
-/// The RCODE of a primary TLV that is not known (RFC 8490, 10.2).
-const DSOTYPENI: u8 = 11;
-
-/// Kinds of TLVs (RFC 8490, 10.3; RFC 8765, 8).
-const KEEPALIVE: u16 = 1;
-
-const RETRY_DELAY: u16 = 2;
-
-const PADDING: u16 = 3;
-
-const SUBSCRIBE: u16 = 0x40;
-
-const PUSH: u16 = 0x41;
-
-const UNSUBSCRIBE: u16 = 0x42;
-
-const RECONFIRM: u16 = 0x43;
+use dsotlv::kinds::{KEEPALIVE, PADDING, PUSH, RECONFIRM, RETRY_DELAY, SUBSCRIBE, UNSUBSCRIBE};
+use rrset::header::{DSO_OPCODE, UPDATE_OPCODE, is_response, opcode_of};
+use rrset::rcodes::{DSOTYPENI, FORMERR};
 
 /// The octets of a Keepalive's two numbers (RFC 8490, 7.1).
 const KEEPALIVE_SIZE: u16 = 8;
 /// The octets of the ID that an UNSUBSCRIBE names (RFC 8765, 6.4.1).
 const UNSUBSCRIBE_SIZE: u16 = 2;
-
-/// QR of a message's flags (RFC 1035, 4.1.1).
-fn is_response(flags: u16) -> bool
-    ensures { result ≡ is_response flags }
-{
-    flags >= 0x8000
-}
-
-/// OPCODE of a message's flags (RFC 1035, 4.1.1).
-fn opcode_of(flags: u16) -> u16
-    ensures { result ≡ opcode_of flags }
-{
-    flags / 2048 % 16
-}
 
 /// Whether a message is a Keepalive that a client sends (RFC 8490, 7.1).
 pub(crate) fn is_keepalive(head: &DsoHead) -> bool

@@ -13,7 +13,7 @@ use std::marker::Model;
 const MAX_INPUT: usize = 69_633;
 
 /// The octets of a message's length (RFC 7766, 8).
-const LENGTH: usize = 2;
+pub const LENGTH: usize = 2;
 
 /// Octets of a connection until they are whole messages (RFC 7766, 8): at most 69,633, which is a whole frame and
 /// 4,096 more. Its memory is taken once, with `new`.

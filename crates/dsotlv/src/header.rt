@@ -6,9 +6,7 @@ ghost use Rattle.dsotlv.specs.Giving.{tlv_end};
 
 use crate::message::DsoHead;
 use crate::number::number_at;
-
-/// Octets of a message's header (RFC 1035, 4.1.1).
-pub(crate) const HEADER: usize = 12;
+use rrset::header::HEADER;
 
 /// Octets of a TLV's kind and length (RFC 8490, 5.4.4).
 pub(crate) const TLV_HEAD: usize = 4;

@@ -1,8 +1,10 @@
 //! DSO messages and notices: reading and writing them (RFC 8490, 5.4; RFC 8765, 6).
 #![tactic(auto)]
 
+pub mod flags;
 mod framer;
 mod header;
+pub mod kinds;
 pub mod laws;
 pub mod message;
 mod notice;
@@ -13,6 +15,7 @@ mod read;
 mod reconfirm;
 #[cfg(test)]
 mod tests;
+pub mod ttls;
 mod write;
 
 ghost use Rattle.std.specs.Prelude.{◌≡◌, ◌++◌, [], ◌∷◌, ℕ, List, true, false, codes, Some, None, Ok, Err};
@@ -22,7 +25,7 @@ ghost use Rattle.dsotlv.specs.Messages.{head_of, dso_of, frame, messages_in, dso
 ghost use Rattle.dsotlv.specs.Notices.{notices_of, question_of, reconfirm_of, notice_octets, applied_all};
 ghost use Rattle.rrset.specs.RecordSet.{set_of};
 
-pub use framer::Framer;
+pub use framer::{Framer, LENGTH};
 pub use header::{head, primary_data};
 pub use message::{
     DsoFault, DsoHead, DsoMessage, Notice, Notices, PushFault, Tlv, Tlvs, WriteDsoFault,

@@ -6,15 +6,10 @@ ghost use Rattle.dsotlv.specs.Notices.{push_record, notice_octets};
 
 use crate::NoMemory;
 use crate::message::Notice;
+use crate::ttls::{REMOVE_MANY, REMOVE_ONE};
 use dnsname::Name;
-use rrset::kinds::ANY;
+use rrset::{classes, kinds};
 use std::alloc::Global;
-
-/// The TTL of a record that removes one record.
-pub(crate) const REMOVE_ONE: u32 = 0xffff_ffff;
-
-/// The TTL of a record that removes many.
-pub(crate) const REMOVE_MANY: u32 = 0xffff_fffe;
 
 /// The octets of a record of a PUSH.
 fn record_octets(
@@ -56,9 +51,11 @@ fn notice_record(alloc: Global, notice: &Notice) -> Result<Vec<u8>, NoMemory>
             record_octets(alloc, owner, *kind, *class, REMOVE_MANY, &[])
         }
         Notice::RemoveClass(owner, class) => {
-            record_octets(alloc, owner, ANY, *class, REMOVE_MANY, &[])
+            record_octets(alloc, owner, kinds::ANY, *class, REMOVE_MANY, &[])
         }
-        Notice::RemoveAll(owner) => record_octets(alloc, owner, 0, ANY, REMOVE_MANY, &[]),
+        Notice::RemoveAll(owner) => {
+            record_octets(alloc, owner, 0, classes::ANY, REMOVE_MANY, &[])
+        }
         Notice::Odd(owner, ttl) => record_octets(alloc, owner, 0, 0, *ttl, &[]),
     }
 }

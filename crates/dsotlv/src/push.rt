@@ -7,18 +7,14 @@ ghost use Rattle.dsotlv.specs.Notices.{field_at, is_single, refused_where, notic
 
 use crate::NoMemory;
 use crate::message::{Notice, Notices, PushFault};
-use crate::notice::{REMOVE_MANY, REMOVE_ONE};
 use crate::number::long_number_at;
 use crate::question::{plain_name, word_at};
+use crate::ttls::{LAST_TTL, REMOVE_MANY, REMOVE_ONE};
 use dnsname::Name;
 use dnsname::name::Octets;
-use rrset::kinds::ANY;
 use rrset::record::Rr;
-use rrset::shape_fits;
+use rrset::{classes, kinds, shape_fits};
 use std::alloc::Global;
-
-/// The greatest TTL of a record that is added.
-const LAST_TTL: u32 = 0x7fff_ffff;
 
 /// The number of four octets at a place.
 fn long_at(octets: &[u8], at: usize) -> Result<u32, PushFault>
@@ -68,8 +64,8 @@ fn notice_of(rr: Rr) -> Notice
         return Notice::Odd(owner, ttl);
     }
     match (class, kind) {
-        (ANY, _) => Notice::RemoveAll(owner),
-        (_, ANY) => Notice::RemoveClass(owner, class),
+        (classes::ANY, _) => Notice::RemoveAll(owner),
+        (_, kinds::ANY) => Notice::RemoveClass(owner, class),
         _ => Notice::RemoveSet(owner, class, kind),
     }
 }
@@ -85,8 +81,8 @@ fn notice_at(alloc: Global, octets: &[u8], at: usize) -> Result<(Notice, usize),
     let class = word_at(octets, place + 2)?;
     let ttl = long_at(octets, place + 4)?;
     let single = is_single(ttl);
-    refused_where(single && kind == ANY, place)?;
-    refused_where(single && class == ANY, place + 2)?;
+    refused_where(single && kind == kinds::ANY, place)?;
+    refused_where(single && class == classes::ANY, place + 2)?;
     let size = word_at(octets, place + 8)?;
     refused_where(ttl == REMOVE_MANY && size > 0, place + 8)?;
     let end = place + 10 + usize::from(size);

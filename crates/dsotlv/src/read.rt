@@ -6,17 +6,12 @@ ghost use Rattle.dsotlv.specs.Giving.{GivesDso};
 ghost use Rattle.dsotlv.specs.Messages.{tlvs_of, dso_opcode, has_zero_counts, dso_of};
 
 use crate::NoMemory;
-use crate::header::{HEADER, has_zero_counts, tlv_end};
+use crate::header::{has_zero_counts, tlv_end};
 use crate::message::{DsoFault, DsoMessage, Tlv, Tlvs};
 use crate::number::number_at;
 use dnsname::name::Octets;
+use rrset::header::{DSO_OPCODE, HEADER, is_response, opcode_of};
 use std::alloc::Global;
-
-/// OPCODE of DSO (RFC 8490, 5.4).
-const DSO_OPCODE: u16 = 6;
-
-/// The bit QR of the flags (RFC 1035, 4.1.1).
-const RESPONSE: u16 = 0x8000;
 
 /// The TLV that stands from a place to another.
 fn tlv_between(alloc: Global, message: &[u8], at: usize, end: usize) -> Result<Tlv, NoMemory>
@@ -60,7 +55,7 @@ pub fn read_dso(alloc: Global, message: &[u8]) -> Result<DsoMessage, DsoFault>
         return Err(DsoFault::Short);
     }
     let flags = number_at(message, 2);
-    if flags / 2048 % 16 != DSO_OPCODE {
+    if opcode_of(flags) != DSO_OPCODE {
         return Err(DsoFault::Opcode);
     }
     if !has_zero_counts(message) {
@@ -69,7 +64,7 @@ pub fn read_dso(alloc: Global, message: &[u8]) -> Result<DsoMessage, DsoFault>
     let tlvs = tlvs_of(alloc, message)?;
     Ok(DsoMessage {
         id: number_at(message, 0),
-        response: flags >= RESPONSE,
+        response: is_response(flags),
         rcode: (flags % 16) as u8,
         tlvs,
     })

@@ -5,18 +5,11 @@ ghost use Rattle.std.specs.Int.{w16, to_be_bytes};
 ghost use Rattle.dsotlv.specs.Messages.{tlv_octets, dso_octets, frame};
 
 use crate::NoMemory;
-use crate::header::{HEADER, TLV_HEAD};
+use crate::flags::{ANSWER, REQUEST};
+use crate::header::TLV_HEAD;
 use crate::message::{DsoMessage, Tlv, WriteDsoFault};
+use rrset::header::{HEADER, MAX_MESSAGE};
 use std::alloc::Global;
-
-/// The most octets that a frame holds (RFC 7766, 8).
-const MAX_FRAME: usize = 65_535;
-
-/// Flags with OPCODE 6, of a request (RFC 8490, 5.4).
-const REQUEST: u16 = 0x3000;
-
-/// Flags with OPCODE 6, of an answer (RFC 8490, 5.4).
-const ANSWER: u16 = 0xb000;
 
 /// How many octets a message with these TLVs takes, where a frame holds them.
 fn framed_size(tlvs: &[Tlv]) -> Option<usize>
@@ -27,11 +20,11 @@ fn framed_size(tlvs: &[Tlv]) -> Option<usize>
     let mut size = HEADER;
     'tlvs: for tlv in tlvs {
         let octets = tlv.octets.len();
-        if octets > MAX_FRAME - TLV_HEAD {
+        if octets > MAX_MESSAGE - TLV_HEAD {
             return None;
         }
         size += TLV_HEAD + octets;
-        if size > MAX_FRAME {
+        if size > MAX_MESSAGE {
             return None;
         }
     }

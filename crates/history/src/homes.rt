@@ -17,6 +17,7 @@ use crate::entry::{Home, HomeFault};
 use crate::updating::{Checked, apply_zones, check_zones};
 use dnsname::Name;
 use dnswire::Update;
+use push_base::limits::MAX_HOME_OCTETS;
 use rrset::{Key, NoMemory, Shown, Table};
 use std::alloc::Global;
 use std::marker::Model;
@@ -42,9 +43,6 @@ impl Model for Homes {
 
 /// The greatest number of zones.
 const MAX_ZONES: usize = 16;
-
-/// The greatest number of octets of a zone's name.
-const MAX_HOME_OCTETS: usize = 200;
 
 /// The first of some zones that has a name.
 pub(crate) fn position_of(zones: &[Zone], name: &Name) -> Option<usize>

@@ -14,16 +14,11 @@ ghost use Rattle.history.specs.declared.entry.Entry.TheVariants as entries;
 use crate::homes::position_of;
 use dnsname::Name;
 use dnswire::Update;
+use rrset::classes::IN;
+use rrset::rcodes::{FORMERR, NOTAUTH};
 use rrset::{NoMemory, Question, kinds};
 use std::alloc::Global;
 use zoneupdate::{Under, Verdict, Zone, ZonePlan};
-
-/// A format error (RFC 2136, 2.2).
-const FORMERR: u8 = 1;
-/// The server isn't authoritative for the zone (RFC 2136, 2.2).
-const NOTAUTH: u8 = 9;
-/// The class of the internet (RFC 1035, 3.2.4).
-const IN: u16 = 1;
 
 /// What an update of zones gets: the RCODE that refuses it, or the zone that it changes, counted from 0, and the plan.
 #[derive(Debug, Drop)]

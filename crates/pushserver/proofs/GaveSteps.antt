@@ -20,7 +20,8 @@ use Rattle.pushserver.specs.declared.given.Given.{Given}
 use Rattle.pushserver.specs.declared.given.Given.TheVariants.{Bytes, Worked, Nothing, End}
 use Rattle.pushserver.specs.Rows.{AreTold}
 use Rattle.pushserver.specs.Rule.{KeptHub}
-use Rattle.pushserver.specs.KeptHubs.{KeptGiving, did, copies, copies_or, given_after, after_reaction, after_packing, now, in_session, has_home, meets, works, by_standing, give}
+use Rattle.pushserver.specs.Giving.{given_after}
+use Rattle.pushserver.specs.KeptHubs.{KeptGiving, did, copies, copies_or, after_reaction, after_packing, now, in_session, has_home, meets, works, by_standing, give}
 use Rattle.pushserver.specs.Parts.{Numbered, session_in, in_sessions, AreApart, Gave, met, stops, has_home_in}
 use Rattle.pushserver.proofs.SeatLists.{alike, itself}
 use Rattle.pushserver.proofs.hub_steps.Pairs.{numbered-in}

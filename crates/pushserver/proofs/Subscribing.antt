@@ -12,6 +12,7 @@ use Rattle.rrset.specs.declared.record.Question.{Question}
 use Rattle.dsotlv.specs.Messages.{frame}
 use Rattle.dsotlv.specs.declared.message.DsoHead.{DsoHead}
 use Rattle.dsotlv.specs.declared.message.Notice.{Notice}
+use Rattle.coalesce.specs.Net.{push_frame}
 use Rattle.dsosession.specs.Reactions.{server_reaction, is_keepalive}
 use Rattle.dsosession.specs.Timing.{server_spoke}
 use Rattle.dsosession.specs.declared.session.EndReason.TheVariants as ends
@@ -19,7 +20,7 @@ use Rattle.history.specs.States.{home_of}
 use Rattle.pushserver.specs.Sessions.{Session, Subscription, Note, note_of, written, subscription_of, subscription_for}
 use Rattle.pushserver.specs.Hubs.{Hub, newest, state_now, now, session_of, in_session}
 use Rattle.pushserver.specs.Giving.{answers, ends_as, dso_answer, delayed_answer, first_answer, first_answer_size, subscribed, says_first_answer, accepts_subscription, by_reaction, reacted}
-use Rattle.pushserver.specs.Laws.{IsAcceptable, push_frame, SubscribeIsAnswered}
+use Rattle.pushserver.specs.Laws.{IsAcceptable, SubscribeIsAnswered}
 
 -- a session that was changed is found as it is then
 pub session_of-in_session : (number : ℕ) (f : Session → Session) (hub : Hub) → session_of (in_session number f hub) number ≡ option_map f (session_of hub number)

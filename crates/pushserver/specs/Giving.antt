@@ -194,6 +194,7 @@ copies number room session hub = record {
 abbrev pub copies_or : Given → ℕ → ℕ → Session → Hub → Giving
 copies_or given number room session hub = if is_empty session.output then did given hub else copies number room session hub
 
+-- what was done where the output is empty
 abbrev pub given_after : Standing → Given
 given_after (Ended reason) = End reason
 given_after _ = Worked

@@ -26,6 +26,7 @@ use Rattle.pushsession.specs.Reacting.{need_of, message_of, reacted, subscribed,
 use Rattle.pushserver.specs.declared.given.Given.{Given}
 use Rattle.pushserver.specs.declared.given.Given.TheVariants.{Bytes, Worked, Nothing, Ending, End}
 use Rattle.pushserver.specs.Hubs.{max_sessions}
+use Rattle.pushserver.specs.Giving.{given_after}
 use Rattle.pushserver.specs.Rule.{KeptHub}
 
 abbrev pub now : KeptHub → ℕ
@@ -97,10 +98,6 @@ copies number room session hub = record { octets = take room session.output; giv
 
 abbrev pub copies_or : Given → ℕ → ℕ → KeptSession → KeptHub → KeptGiving
 copies_or given number room session hub = if is_empty session.output then did given hub else copies number room session hub
-
-abbrev pub given_after : Standing → Given
-given_after (Ended reason) = End reason
-given_after _ = Worked
 
 abbrev pub after_reaction : ℕ → ℕ → KeptHub → KeptGiving
 after_reaction number room hub = elim (session_of hub number) [ None ↦ did Worked hub | Some session ↦ copies_or (given_after session.standing) number room session hub ]

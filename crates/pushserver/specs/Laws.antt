@@ -4,7 +4,7 @@
 --     GiveChangesOneSession, OtherCallsKeepOutputs      what a call leaves as it was
 --     SubscribeIsAnswered      what a SUBSCRIBE gets that none of the tests refuses
 --     MayWantMemory hub number      where memory may be wanted
-use Rattle.std.specs.Prelude.{◌≡◌, ◌⊎◌, ℕ, ◌<◌, ◌||◌, ◌==◌, List, [], ◌∷◌, ◌++◌, length, Some, None, IsTrue, IsSome, option_map}
+use Rattle.std.specs.Prelude.{◌≡◌, ◌⊎◌, ℕ, ◌<◌, ◌||◌, ◌==◌, List, [], ◌++◌, length, Some, None, IsTrue, IsSome, option_map}
 use Rattle.std.specs.List.{AllByRecursion}
 use Rattle.push_base.specs.Limits.{max_questions}
 use Rattle.rrset.specs.Header.{id_of}
@@ -15,8 +15,7 @@ use Rattle.rrset.specs.Rcodes.{noerror}
 use Rattle.dsotlv.specs.Messages.{first_message, frame, head_of, primary_data}
 use Rattle.dsotlv.specs.Notices.{question_of}
 use Rattle.dsotlv.specs.declared.message.DsoHead.{DsoHead}
-use Rattle.dsotlv.specs.declared.message.Notice.{Notice}
-use Rattle.coalesce.specs.Net.{push_message}
+use Rattle.coalesce.specs.Net.{push_frame}
 use Rattle.dsosession.specs.Reactions.{server_reaction}
 use Rattle.dsosession.specs.declared.session.Reaction.{Reaction}
 use Rattle.dsosession.specs.declared.session.Reaction.TheVariants.{Subscribe, Reconfirm, Update}
@@ -79,11 +78,6 @@ pub record IsAcceptable (hub : Hub) (session : Session) (message : List ℕ) (qu
   pub class : IsTrue (question.class == in_class || question.class == any_class)
   pub home : IsSome (home_of (state_now hub) question.name)
   pub room : length session.subscriptions < max_questions
-
--- the frame of a PUSH, and nothing where there is no notice
-abbrev pub push_frame : List Notice → List ℕ
-push_frame [] = []
-push_frame (n ∷ ns) = frame (push_message (n ∷ ns))
 
 -- it is answered by NOERROR, and then the first answer's PUSH follows (RFC 8765, 6.2.2)
 abbrev pub SubscribeIsAnswered : Type 0

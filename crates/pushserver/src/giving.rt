@@ -11,7 +11,8 @@ ghost use Rattle.rrset.specs.Rcodes.{formerr};
 ghost use Rattle.history.specs.States.{update_in};
 ghost use Rattle.pushserver.specs.Rule.{KeptHub};
 ghost use Rattle.pushserver.specs.Rows.{AreTold};
-ghost use Rattle.pushserver.specs.KeptHubs.{after_packing, after_reaction, give, given_after, in_session, meets, updates, works};
+ghost use Rattle.pushserver.specs.Giving.{given_after};
+ghost use Rattle.pushserver.specs.KeptHubs.{after_packing, after_reaction, give, in_session, meets, updates, works};
 ghost use Rattle.pushserver.specs.Parts.{AreApart, Gave, IsSound, TakesMemory, WantsMemory, has_home_in, in_sessions, is_update, kept_of, met, session_in, stops};
 ghost use Rattle.pushserver.specs.declared.given.Given.TheVariants.{Bytes};
 

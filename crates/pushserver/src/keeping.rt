@@ -19,15 +19,8 @@ use history::entry::Entry;
 use history::{ChangedKeys, Homes, Planned, Points};
 use pushsession::{NoMemory, PushSession};
 use rrset::Table;
+use rrset::rcodes::{FORMERR, NOERROR, SERVFAIL};
 use std::alloc::Global;
-
-const NOERROR: u8 = 0;
-
-/// The RCODE of what is no update (RFC 2136, 2.2).
-const FORMERR: u8 = 1;
-
-/// The RCODE where the journal has no room (RFC 2136, 2.2).
-const SERVFAIL: u8 = 2;
 
 /// The most sessions at a time.
 const MAX_SESSIONS: usize = 64;

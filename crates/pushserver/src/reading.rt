@@ -7,16 +7,8 @@ ghost use Rattle.history.specs.States.{update_in};
 
 use dnswire::{Update, WireFault, read_update};
 use pushsession::NoMemory;
+use rrset::header::{HEADER, MAX_MESSAGE, UPDATE_OPCODE, is_response, opcode_of};
 use std::alloc::Global;
-
-/// Octets of a message's header (RFC 1035, 4.1.1).
-const HEADER: usize = 12;
-
-/// The most octets of a message (RFC 1035, 4.2.2).
-const MAX_MESSAGE: usize = 65_535;
-
-/// OPCODE of an update (RFC 2136, 1.3).
-const UPDATE_OPCODE: u16 = 5;
 
 /// The number of the two octets at a place.
 fn number_at(octets: &[u8], at: usize) -> u16
@@ -24,20 +16,6 @@ fn number_at(octets: &[u8], at: usize) -> u16
     ensures { result ≡ two_octets octets.now at }
 {
     u16::from_be_bytes([octets[at], octets[at + 1]])
-}
-
-/// QR of a message's flags.
-fn is_response(flags: u16) -> bool
-    ensures { result ≡ is_response flags }
-{
-    flags >= 0x8000
-}
-
-/// OPCODE of a message's flags.
-fn opcode_of(flags: u16) -> u16
-    ensures { result ≡ opcode_of flags }
-{
-    flags / 2048 % 16
 }
 
 /// Whether a message has the length of one, and the header of an update (RFC 2136, 2.2).

@@ -17,7 +17,8 @@ use Rattle.dsotlv.specs.Answers.{answer_to, grant_to, refusal_to}
 use Rattle.dsotlv.specs.TlvKinds.{reconfirm_tlv}
 use Rattle.dsotlv.specs.declared.message.DsoHead.{DsoHead}
 use Rattle.subscr.specs.Asked.{has, id_of as id_asked, without}
-use Rattle.coalesce.specs.Waiting.{framed, is_named, without_name}
+use Rattle.coalesce.specs.Waiting.{is_named, without_name}
+use Rattle.coalesce.specs.Net.{push_frame}
 use Rattle.coalesce.specs.Laws.{can_be_sent}
 use Rattle.coalesce.specs.Sides.{IsOneSide}
 use Rattle.coalesce.specs.FirstAnswers.{first_notices}
@@ -113,7 +114,7 @@ accepts id question rows now session =
 abbrev pub held : ℕ → Question → RecordSet → KeptSession → KeptSession
 held id question rows session =
     let answer = frame (answer_to id noerror) in
-    let push = framed (first_notices question session.asked rows (find (is_named question.name) session.queue)) in
+    let push = push_frame (first_notices question session.asked rows (find (is_named question.name) session.queue)) in
     let end = counted (counted (session.written + length answer) + length push) in
     record session {
       asked = session.asked ++ (id, question) ∷ [];

@@ -8,15 +8,8 @@ ghost use Rattle.coalesce.specs.Sides.{frame_octets};
 
 use coalesce::Frame;
 use dsosession::session::Timers;
-
-/// Flags with OPCODE 6, of an answer (RFC 8490, 5.4).
-const ANSWER: u16 = 0xb000;
-
-/// The kind of the Keepalive TLV (RFC 8490, 10.3).
-const KEEPALIVE: u8 = 1;
-
-/// The kind of the Retry Delay TLV (RFC 8490, 10.3).
-const RETRY_DELAY: u8 = 2;
+use dsotlv::flags::ANSWER;
+use dsotlv::kinds::{KEEPALIVE, RETRY_DELAY};
 
 /// A header with zero counts.
 pub(crate) fn header(id: u16, flags: u16) -> [u8; 12]
@@ -41,7 +34,7 @@ pub(crate) fn retry_delay(delay: u32) -> [u8; 8]
     ensures { result ≡ retry_delay_octets delay }
 {
     let [a, b, c, d] = delay.to_be_bytes();
-    [0, RETRY_DELAY, 0, 4, a, b, c, d]
+    [0, RETRY_DELAY as u8, 0, 4, a, b, c, d]
 }
 
 /// The TLV of the inactivity timeout and the keepalive interval.
@@ -50,7 +43,7 @@ pub(crate) fn keepalive(timers: Timers) -> [u8; 12]
 {
     let [a, b, c, d] = timers.inactivity.to_be_bytes();
     let [e, f, g, h] = timers.keepalive.to_be_bytes();
-    [0, KEEPALIVE, 0, 8, a, b, c, d, e, f, g, h]
+    [0, KEEPALIVE as u8, 0, 8, a, b, c, d, e, f, g, h]
 }
 
 /// Appends a message behind its length (RFC 7766, 8): a header, and what stands behind it.

@@ -13,30 +13,18 @@ use crate::octets::{answer, header, keepalive};
 use crate::session::PushSession;
 use crate::taking::Taken;
 use dsosession::session::{EndReason, Reaction, Timers};
+use dsotlv::kinds::RECONFIRM;
 use dsotlv::{primary_data, read_reconfirm};
 use rrset::Rr;
+use rrset::header::{HEADER, RESPONSE};
+use rrset::rcodes::{NOERROR, NOTIMP};
 use std::alloc::Global;
-
-/// Octets of a message's header (RFC 1035, 4.1.1).
-const HEADER: usize = 12;
 
 /// Flags with OPCODE 5, of an answer (RFC 2136, 2.2).
 const UPDATE_ANSWER: u16 = 0xa800;
 
-/// The flag of an answer (RFC 1035, 4.1.1).
-const RESPONSE: u16 = 0x8000;
-
 /// The flags that stay in an answer: OPCODE and RD (RFC 1035, 4.1.1).
 const KEPT_FLAGS: u16 = 0x7900;
-
-/// The RCODE of what is in order (RFC 1035, 4.1.1).
-const NOERROR: u8 = 0;
-
-/// The RCODE of what isn't built (RFC 1035, 4.1.1).
-const NOTIMP: u16 = 4;
-
-/// The kind of the RECONFIRM TLV (RFC 8765, 8).
-const RECONFIRM: u16 = 0x43;
 
 /// The number in the first TLV of a message, where it has the two octets of one (RFC 8765, 6.4.1).
 fn first_number(message: &[u8]) -> Option<u16>
@@ -102,7 +90,7 @@ impl PushSession {
                     None => unreachable!(),
                 },
                 Reaction::NotImplemented => {
-                    let flags = RESPONSE + (head.flags & KEPT_FLAGS) + NOTIMP;
+                    let flags = RESPONSE + (head.flags & KEPT_FLAGS) + u16::from(NOTIMP);
                     let header = header(head.id, flags);
                     self.say(false, now, &header, &[]);
                 }

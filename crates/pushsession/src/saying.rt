@@ -8,13 +8,9 @@ ghost use Rattle.pushsession.specs.Saying.{packed, says, stopped};
 use crate::octets::{append_message, header, retry_delay};
 use crate::session::PushSession;
 use crate::standing::Standing;
+use dsotlv::LENGTH;
+use dsotlv::flags::REQUEST;
 use rrset::Table;
-
-/// The octets of a message's length (RFC 7766, 8).
-const LENGTH: usize = 2;
-
-/// Flags with OPCODE 6, of a request (RFC 8490, 5.4).
-const REQUEST: u16 = 0x3000;
 
 impl PushSession {
     /// Appends a message to the output: a header, and what stands behind it.

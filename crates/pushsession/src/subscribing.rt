@@ -11,8 +11,9 @@ ghost use Rattle.dsotlv.specs.Notices.{question_of};
 ghost use Rattle.subscr.specs.Asked.{has, id_of as id_asked};
 ghost use Rattle.coalesce.specs.FirstAnswers.{first_notices};
 ghost use Rattle.coalesce.specs.Laws.{can_be_sent};
+ghost use Rattle.coalesce.specs.Net.{push_frame};
 ghost use Rattle.coalesce.specs.Sides.{IsOneSide};
-ghost use Rattle.coalesce.specs.Waiting.{framed, is_named};
+ghost use Rattle.coalesce.specs.Waiting.{is_named};
 ghost use Rattle.pushsession.specs.Reacting.{CanBeTold, accepts, held, message_of, need_of, refuses, subscribed, taken_up};
 ghost use Rattle.pushsession.specs.declared.need.Need.TheVariants as needs;
 
@@ -22,24 +23,11 @@ use crate::session::PushSession;
 use coalesce::{Frame, Queue};
 use dsosession::session::EndReason;
 use dsotlv::{primary_data, read_question};
-use rrset::{Question, Table, kinds};
+use rrset::classes::{ANY, IN};
+use rrset::rcodes::{FORMERR, NOERROR, NOTAUTH, REFUSED};
+use rrset::{Question, Table};
 use std::alloc::Global;
 use subscr::{MAX_QUESTIONS, Subscriptions};
-
-/// The class of the records that are served (RFC 1035, 3.2.4).
-const IN: u16 = 1;
-
-/// The RCODE of what is accepted (RFC 8765, 6.2.2).
-const NOERROR: u8 = 0;
-
-/// The RCODE of data that is no question (RFC 8765, 6.2.2).
-const FORMERR: u8 = 1;
-
-/// The RCODE of more questions than a session may ask (RFC 8765, 6.2.2).
-const REFUSED: u8 = 5;
-
-/// The RCODE of a name or a class that isn't served (RFC 8765, 6.2.2).
-const NOTAUTH: u8 = 9;
 
 /// For how long a client that was refused is to wait, in milliseconds; this project's own (RFC 8765, 6.2.2).
 const REFUSAL_DELAY: u32 = 300_000;
@@ -51,7 +39,7 @@ const ANSWER_SIZE: u64 = 14;
 fn is_served(class: u16) -> bool
     ensures { result ≡ (class == in_class || class == any_class) }
 {
-    class == IN || class == kinds::ANY
+    class == IN || class == ANY
 }
 
 /// Appends NOERROR and the PUSH that follows it, if there is one (RFC 8765, 6.2.2), and gives the octets of the PUSH.
@@ -66,8 +54,8 @@ fn append_first_answer(
     requires empty { out.old ≡ [] }
     requires side { IsOneSide (at_name question.now.name index.now.rows) }
     requires sent { IsTrue (can_be_sent (at_name question.now.name index.now.rows)) }
-    ensures written { out.new ≡ out.old ++ frame (answer_to id noerror) ++ framed (first_notices question.now questions.now index.now.rows (find (is_named question.now.name) queue.now)) }
-    ensures size { result ≡ length (framed (first_notices question.now questions.now index.now.rows (find (is_named question.now.name) queue.now))) }
+    ensures written { out.new ≡ out.old ++ frame (answer_to id noerror) ++ push_frame (first_notices question.now questions.now index.now.rows (find (is_named question.now.name) queue.now)) }
+    ensures size { result ≡ length (push_frame (first_notices question.now questions.now index.now.rows (find (is_named question.now.name) queue.now))) }
 {
     append_message(out, &answer(id, NOERROR), &[]);
     queue.first_answer(question, questions, index, out)

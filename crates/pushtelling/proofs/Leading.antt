@@ -20,7 +20,7 @@ use Rattle.dsotlv.specs.declared.message.Notice.{Notice}
 use Rattle.dsotlv.specs.declared.message.Notice.TheVariants.{RemoveClass}
 use Rattle.subscr.specs.Asked.{Asked, wants}
 use Rattle.coalesce.specs.Laws.{is_side, can_be_sent}
-use Rattle.coalesce.specs.Net.{additions, push_message}
+use Rattle.coalesce.specs.Net.{additions, push_message, max_net_message}
 use Rattle.coalesce.specs.Waiting.{WaitingName}
 use Rattle.coalesce.specs.FirstAnswers.{first_notices}
 use Rattle.coalesce.proofs.FirstLeads.{first_fills_the_new, first_leads_the_others, first_leaves_other_names, first_fits_one_message, first_is_read_back}
@@ -171,4 +171,4 @@ module _ (hub : Hub) (session : Session) (question : Question) where
         push_read (n ∷ ns)
         (subst (λ (all : List Notice). notices_of (flat_map notice_octets all) ≡ Ok all) same
         (first_is_read_back question (asked_by session.subscriptions) (records_now hub) waiting is (question.name, now-side) now-sent (subst (λ (all : List Notice). IsTrue (not (is_empty all))) (sym same) refl)))
-        (subst (λ (all : List Notice). length (push_message all) ≤ 60281) same (first_fits_one_message question (asked_by session.subscriptions) (records_now hub) waiting is (question.name, now-side) now-sent))
+        (subst (λ (all : List Notice). length (push_message all) ≤ max_net_message) same (first_fits_one_message question (asked_by session.subscriptions) (records_now hub) waiting is (question.name, now-side) now-sent))

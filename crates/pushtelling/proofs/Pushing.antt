@@ -10,7 +10,7 @@ use Rattle.rrset.specs.declared.record.Question.{Question}
 use Rattle.dsotlv.specs.Messages.{frame}
 use Rattle.dsotlv.specs.Notices.{applied_all, notice_octets, notices_of}
 use Rattle.dsotlv.specs.declared.message.Notice.{Notice}
-use Rattle.coalesce.specs.Net.{net, packed, push_message}
+use Rattle.coalesce.specs.Net.{net, packed, push_message, max_net_message}
 use Rattle.coalesce.specs.Laws.{Nets, is_side, can_be_sent, is_named_in, are_apart, nets_of, HaveSides, IsAlike}
 use Rattle.coalesce.proofs.Sides.{parts_stay_sides}
 use Rattle.coalesce.proofs.NetSizes.{net_fits_one_message}
@@ -118,7 +118,7 @@ module _ (hub : Hub) (session : Session) where
     all_sent [] = tt
     all_sent (n ∷ ns) = (now-sent n, all_sent ns)
 
-    all_fit : (names : List Labels) → AllByRecursion (λ (e : Labels × List Notice). length (push_message e.1) ≤ 60281) (nets_of (sent hub session) wanted_now names)
+    all_fit : (names : List Labels) → AllByRecursion (λ (e : Labels × List Notice). length (push_message e.1) ≤ max_net_message) (nets_of (sent hub session) wanted_now names)
     all_fit [] = tt
     all_fit (n ∷ ns) = (net_fits_one_message n (sent hub session n) (wanted_now n) (sent-side n) (now-side n) (now-sent n), all_fit ns)
 
@@ -152,7 +152,7 @@ module _ (hub : Hub) (session : Session) where
         push_read (n ∷ ns)
         (subst (λ (all : List Notice). notices_of (flat_map notice_octets all) ≡ Ok all) same
         (packed_is_read_back (sent hub session) wanted_now (names_in session.queue) (have_sides (names_in session.queue)) (all_sent (names_in session.queue)) (subst (λ (all : List Notice). IsTrue (not (is_empty all))) (sym same) refl)))
-        (subst (λ (all : List Notice). length (push_message all) ≤ 60281) same (packed_fits_one_message (nets_of (sent hub session) wanted_now (names_in session.queue)) (all_fit (names_in session.queue))))
+        (subst (λ (all : List Notice). length (push_message all) ≤ max_net_message) same (packed_fits_one_message (nets_of (sent hub session) wanted_now (names_in session.queue)) (all_fit (names_in session.queue))))
 
   -- the session without the names that leave
   abbrev pub lighter : Session

@@ -13,7 +13,7 @@ use Rattle.dsotlv.specs.declared.message.Notice.{Notice}
 use Rattle.dsotlv.specs.declared.message.PushFault.{PushFault}
 use Rattle.dsotlv.specs.declared.message.Tlv.{Tlv}
 use Rattle.dsotlv.proofs.TlvLaws.{tlvs_there}
-use Rattle.coalesce.specs.Net.{push_message}
+use Rattle.coalesce.specs.Net.{push_message, max_net_message}
 use Rattle.coalesce.proofs.NetSizes.{length-push_message}
 use Rattle.pushserver.specs.Telling.{notices_in_tlvs}
 use Rattle.pushtelling.proofs.Tells.{IsReadBack}
@@ -22,7 +22,7 @@ use Rattle.pushtelling.proofs.Tells.{IsReadBack}
 abbrev push_of : List Notice → Tlv
 push_of notices = record { kind = push_tlv; octets = flat_map notice_octets notices }
 
-pub push_read : (notices : List Notice) → notices_of (flat_map notice_octets notices) ≡ Ok notices → length (push_message notices) ≤ 60281 → IsReadBack notices
+pub push_read : (notices : List Notice) → notices_of (flat_map notice_octets notices) ≡ Ok notices → length (push_message notices) ≤ max_net_message → IsReadBack notices
 push_read notices read small =
     ap (λ (r : Result (List Tlv) DsoFault). elim r as (λ _. List Notice) [ Err fault ↦ [] | Ok tlvs ↦ notices_in_tlvs tlvs ]) one
     ∙ ap (λ (r : Result (List Notice) PushFault). elim r as (λ _. List Notice) [ Err fault ↦ [] | Ok found ↦ found ]) read

@@ -1,4 +1,4 @@
-//! Kinds (the TYPE of a record) and classes by their numbers (RFC 1035, 3.2.2 to 3.2.5; RFC 2782; RFC 3596).
+//! Kinds (the TYPE of a record), by their numbers (RFC 1035, 3.2.2 and 3.2.3; RFC 2782; RFC 3596).
 
 /// An address (RFC 1035, 3.4.1).
 pub const A: u16 = 1;
@@ -18,5 +18,5 @@ pub const TXT: u16 = 16;
 pub const AAAA: u16 = 28;
 /// The place of a service (RFC 2782).
 pub const SRV: u16 = 33;
-/// Every kind, or every class, in a question.
+/// Every kind, in a question.
 pub const ANY: u16 = 255;

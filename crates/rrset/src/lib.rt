@@ -1,12 +1,15 @@
 //! Resource records (RFC 1035, 3.2), their keys, questions and sets.
 #![tactic(auto)]
 
+pub mod classes;
 mod comparing;
+pub mod header;
 pub mod kinds;
 mod lists;
 mod lowering;
 mod matching;
 mod order;
+pub mod rcodes;
 mod reading;
 pub mod record;
 mod shape;
@@ -22,7 +25,7 @@ ghost use Rattle.rrset.specs.Records.{key_of, shown_of, rr_size, matches, same_k
 ghost use Rattle.rrset.specs.RecordSet.{RecordSet, put, shown_at, at_name, size_at, matching, set_of, changes};
 
 pub use comparing::{changes, put_all, same_key, same_keys, same_rows, same_shown};
-pub use matching::{matches, rr_size, same_question};
+pub use matching::{FIXED_FIELDS, matches, rr_size, same_question};
 pub use order::compare_keys;
 pub use reading::{RdataFault, read_rdata};
 pub use record::{

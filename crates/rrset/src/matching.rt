@@ -4,13 +4,14 @@ ghost use Rattle.std.specs.Prelude.{◌≡◌, ◌+◌, length};
 ghost use Rattle.dnsname.specs.Names.{octets};
 ghost use Rattle.rrset.specs.Records.{matches, rr_size, same_question};
 
+use crate::classes;
 use crate::kinds::ANY;
 use crate::record::{Key, Question, Rr};
 use dnsname::Name;
 use push_base::Octets;
 
 /// The octets of a record's fields between its owner and its rdata (RFC 1035, 3.2.1).
-const FIXED_FIELDS: u64 = 10;
+pub const FIXED_FIELDS: u64 = 10;
 
 /// Whether a question asks for the records of a key: the name is the owner, and kind and class are
 /// equal or asked as ANY (RFC 1035, 3.2.3 and 3.2.5).
@@ -19,7 +20,7 @@ pub fn matches(question: &Question, key: &Key) -> bool
 {
     question.name.same(&key.owner)
         && (question.kind == key.kind || question.kind == ANY)
-        && (question.class == key.class || question.class == ANY)
+        && (question.class == key.class || question.class == classes::ANY)
 }
 
 /// Whether two questions are one: the names but for case, kind and class are equal.

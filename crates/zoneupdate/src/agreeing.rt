@@ -8,7 +8,7 @@ ghost use Rattle.zoneupdate.specs.Checking.{is_in, is_of_kind, has_same_set};
 ghost use Rattle.zoneupdate.specs.Updates.{sets_agree, with_counted_ttl};
 
 use crate::changing::shown_of;
-use crate::kinds::CLASS_IN;
+use rrset::classes::IN;
 use rrset::{Key, NoMemory, Rr, Rrs, Shown, Table, same_key};
 use std::alloc::Global;
 
@@ -16,7 +16,7 @@ use std::alloc::Global;
 pub(crate) fn is_of_kind(kind: u16, key: &Key) -> bool
     ensures { result ≡ is_of_kind kind key.now }
 {
-    (CLASS_IN == key.class) & (kind == key.kind)
+    (IN == key.class) & (kind == key.kind)
 }
 
 /// The first record of class IN and a kind, and the records after it.
@@ -61,7 +61,7 @@ fn all_have_same_set(wanted: &Table, rows: &Table, prereqs: &Rrs) -> bool
     ensures { result ≡ list_all (has_same_set wanted.now.rows rows.now.rows) prereqs.now }
 {
     'prereqs: for rr in prereqs.as_slice() {
-        if rr.class == CLASS_IN && !have_same_set(wanted, rows, rr) {
+        if rr.class == IN && !have_same_set(wanted, rows, rr) {
             return false;
         }
     }
@@ -74,7 +74,7 @@ fn wanted(alloc: Global, prereqs: &Rrs) -> Result<Table, NoMemory>
 {
     let mut table = Table::new(alloc);
     'prereqs: for rr in prereqs.as_slice() {
-        if rr.class == CLASS_IN {
+        if rr.class == IN {
             table.put(rr.key()?, shown_of(rr)?)?;
         }
     }

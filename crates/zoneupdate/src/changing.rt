@@ -6,11 +6,12 @@ ghost use Rattle.rrset.specs.Records.{key_of, shown_of, counted_ttl};
 ghost use Rattle.zoneupdate.specs.Updates.{changed_by, with_counted_ttl, as_class_in};
 ghost use Rattle.zoneupdate.specs.Changing.{has_other_kinds, has_alias, is_newer, newer_than, is_last, replaced, rows_added, rows_taken, rows_dropped, goes};
 
-use crate::kinds::{ANY, CLASS_IN, CNAME, NS, SOA};
 use crate::serial::{serial_is_greater, serial_of};
 use crate::sets::{any_of_rrset, any_other_kind, count_of_rrset, first_of_rrset, take_set};
 use dnsname::Name;
 use dnsname::name::Octets;
+use rrset::classes::{ANY, IN};
+use rrset::kinds::{self, CNAME, NS, SOA};
 use rrset::{Key, NoMemory, Rr, Rrs, Shown, Table};
 
 /// The first TTL with its top bit set (RFC 2181, 8).
@@ -109,7 +110,7 @@ fn add(work: &mut Table, rr: &Rr) -> Result<(), NoMemory>
 fn take(work: &mut Table, apex: &Name, rr: &Rr)
     ensures { work.new.rows ≡ rows_taken apex.now work.old.rows (with_counted_ttl rr.now) }
 {
-    if rr.kind == ANY {
+    if rr.kind == kinds::ANY {
         take_name(work, apex, &rr.owner);
     } else if !(rr.owner.same(apex) && is_kept(rr.kind)) {
         take_set(work, &rr.owner, rr.kind);
@@ -142,7 +143,7 @@ fn key_in_zone(rr: &Rr) -> Result<Key, NoMemory>
     ensures { IfOk result (λ key. key ≡ key_of (as_class_in rr.now)) }
 {
     let mut key = rr.key()?;
-    key.class = CLASS_IN;
+    key.class = IN;
     Ok(key)
 }
 
@@ -184,7 +185,7 @@ fn change(work: &mut Table, apex: &Name, rr: &Rr) -> Result<(), NoMemory>
     ensures { OnOk result (work.new.rows ≡ changed_by apex.now work.old.rows (with_counted_ttl rr.now)) }
 {
     match rr.class {
-        CLASS_IN => add(work, rr),
+        IN => add(work, rr),
         ANY => {
             take(work, apex, rr);
             Ok(())

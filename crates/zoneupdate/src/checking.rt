@@ -13,10 +13,10 @@ use crate::plan::{Under, ZonePlan};
 use crate::planning::{is_within, touched};
 use crate::prerequisites::prerequisites_refusal;
 use crate::prescan::changes_refusal;
-use crate::refusing::{NXRRSET, REFUSED};
 use crate::serial::raise_serial;
 use dnsname::Name;
 use dnswire::Update;
+use rrset::rcodes::{NXRRSET, REFUSED};
 use rrset::{NoMemory, Rrs, Table};
 use std::alloc::Global;
 

@@ -5,7 +5,6 @@ mod agreeing;
 mod applying;
 mod changing;
 mod checking;
-mod kinds;
 mod plan;
 mod planning;
 mod prerequisites;

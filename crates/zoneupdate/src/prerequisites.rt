@@ -12,13 +12,12 @@ ghost use Rattle.zoneupdate.specs.Keeping.{IsUnder};
 
 use crate::agreeing::is_of_kind;
 use crate::changing::counted_ttl;
-use crate::kinds::{ANY, CLASS_IN, CLASS_NONE};
 use crate::plan::Under;
-use crate::refusing::{
-    FORMERR, NOTZONE, NXDOMAIN, NXRRSET, YXDOMAIN, YXRRSET, first_refusal, is_empty, is_inside,
-};
+use crate::refusing::{first_refusal, is_empty, is_inside};
 use dnsname::Name;
-use rrset::{Key, Rr, Rrs, Shown, Table};
+use rrset::classes::{ANY, IN, NONE};
+use rrset::rcodes::{FORMERR, NOTZONE, NXDOMAIN, NXRRSET, YXDOMAIN, YXRRSET};
+use rrset::{Key, Rr, Rrs, Shown, Table, kinds};
 
 /// Whether some of the records of a name have a kind.
 fn has_kind(named: &[(Key, Shown)], kind: u16) -> bool
@@ -49,10 +48,10 @@ fn refusal(rows: &Table, apex: &Name, under: &Under, rr: &Rr) -> Option<u8>
     let has_data = !is_empty(rr.rdata.as_slice());
     let named = has_name(rows, &rr.owner);
     let set = has_set(rows, &rr.owner, rr.kind);
-    let is_in = rr.class == CLASS_IN;
+    let is_in = rr.class == IN;
     let is_any = rr.class == ANY;
-    let is_none = rr.class == CLASS_NONE;
-    let all_kinds = rr.kind == ANY;
+    let is_none = rr.class == NONE;
+    let all_kinds = rr.kind == kinds::ANY;
     first_refusal(&[
         (counted_ttl(rr.ttl) != 0, FORMERR),
         (!inside, NOTZONE),

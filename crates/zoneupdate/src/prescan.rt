@@ -9,11 +9,12 @@ ghost use Rattle.zoneupdate.specs.Updates.{change_refusal, with_counted_ttl};
 ghost use Rattle.zoneupdate.specs.Keeping.{IsUnder};
 
 use crate::changing::counted_ttl;
-use crate::kinds::{ANY, CLASS_IN, CLASS_NONE};
 use crate::plan::Under;
-use crate::refusing::{FORMERR, NOTZONE, first_refusal, is_empty, is_inside};
+use crate::refusing::{first_refusal, is_empty, is_inside};
 use dnsname::Name;
-use rrset::{Rr, Rrs};
+use rrset::classes::{ANY, IN, NONE};
+use rrset::rcodes::{FORMERR, NOTZONE};
+use rrset::{Rr, Rrs, kinds};
 
 /// The kind of no record, but of what a message says of its sender (RFC 6891).
 const OPT: u16 = 41;
@@ -25,7 +26,7 @@ const FIRST_META: u16 = 249;
 fn is_meta(kind: u16) -> bool
     ensures { result ≡ is_meta kind }
 {
-    (kind == 0) | (kind == OPT) | ((FIRST_META <= kind) & (kind <= ANY))
+    (kind == 0) | (kind == OPT) | ((FIRST_META <= kind) & (kind <= kinds::ANY))
 }
 
 /// The RCODE that a change is refused with.
@@ -36,10 +37,10 @@ fn refusal(apex: &Name, under: &Under, rr: &Rr) -> Option<u8>
     let has_ttl = counted_ttl(rr.ttl) != 0;
     let has_data = !is_empty(rr.rdata.as_slice());
     let meta = is_meta(rr.kind);
-    let is_in = rr.class == CLASS_IN;
+    let is_in = rr.class == IN;
     let is_any = rr.class == ANY;
-    let is_none = rr.class == CLASS_NONE;
-    let all_kinds = rr.kind == ANY;
+    let is_none = rr.class == NONE;
+    let all_kinds = rr.kind == kinds::ANY;
     first_refusal(&[
         (!inside, NOTZONE),
         (is_in & meta, FORMERR),

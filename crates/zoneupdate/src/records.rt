@@ -6,9 +6,10 @@ ghost use Rattle.dnsname.specs.Names.{octets};
 ghost use Rattle.rrset.specs.RecordSet.{put_rr, set_of};
 ghost use Rattle.zoneupdate.specs.Zones.{first_ns, first_soa};
 
-use crate::kinds::{CLASS_IN, NS, SOA};
 use dnsname::Name;
 use dnsname::name::Octets;
+use rrset::classes::IN;
+use rrset::kinds::{NS, SOA};
 use rrset::{NoMemory, Rr, Shown, Table};
 use std::alloc::Global;
 
@@ -43,7 +44,7 @@ pub(crate) fn first_ns(alloc: Global, apex: &Name) -> Result<Rr, NoMemory>
     let rdata = octets_under(alloc, b"ns", apex)?;
     Ok(Rr {
         owner: apex.copy()?,
-        class: CLASS_IN,
+        class: IN,
         kind: NS,
         ttl: TTL,
         rdata: Octets::from_vec(rdata),
@@ -61,7 +62,7 @@ pub(crate) fn first_soa(alloc: Global, apex: &Name, serial: u32) -> Result<Rr, N
     rdata.extend_from_slice(&soa_numbers(alloc, serial)?)?;
     Ok(Rr {
         owner: apex.copy()?,
-        class: CLASS_IN,
+        class: IN,
         kind: SOA,
         ttl: TTL,
         rdata: Octets::from_vec(rdata),

@@ -10,21 +10,6 @@ ghost use Rattle.zoneupdate.specs.Keeping.{IsUnder};
 use crate::plan::Under;
 use dnsname::Name;
 
-/// The RCODE of what is outside the form of an update (RFC 2136, 2.2).
-pub(crate) const FORMERR: u8 = 1;
-/// The RCODE of a name that isn't there and should be.
-pub(crate) const NXDOMAIN: u8 = 3;
-/// The RCODE of what is not allowed.
-pub(crate) const REFUSED: u8 = 5;
-/// The RCODE of a name that is there and shouldn't be.
-pub(crate) const YXDOMAIN: u8 = 6;
-/// The RCODE of a set that is there and shouldn't be.
-pub(crate) const YXRRSET: u8 = 7;
-/// The RCODE of a set that isn't there and should be.
-pub(crate) const NXRRSET: u8 = 8;
-/// The RCODE of a name outside the zone.
-pub(crate) const NOTZONE: u8 = 10;
-
 /// The RCODE beside the first test that is true.
 pub(crate) fn first_refusal(tests: &[(bool, u8)]) -> Option<u8>
     ensures { result ≡ first_refusal tests.now }

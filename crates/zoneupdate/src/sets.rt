@@ -5,8 +5,8 @@ ghost use Rattle.std.specs.List.{list_any};
 ghost use Rattle.rrset.specs.RecordSet.{only, without, is_of_rrset};
 ghost use Rattle.zoneupdate.specs.Zones.{first_shown};
 
-use crate::kinds::CLASS_IN;
 use dnsname::Name;
+use rrset::classes::IN;
 use rrset::{Key, NoMemory, Shown, Table};
 use std::alloc::Global;
 
@@ -14,7 +14,7 @@ use std::alloc::Global;
 pub(crate) fn is_of_rrset(owner: &Name, kind: u16, key: &Key) -> bool
     ensures { result ≡ is_of_rrset owner.now 1 kind key.now }
 {
-    owner.same(&key.owner) && key.class == CLASS_IN && kind == key.kind
+    owner.same(&key.owner) && key.class == IN && kind == key.kind
 }
 
 /// Takes out the records of an owner and a kind.

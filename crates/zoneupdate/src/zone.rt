@@ -12,16 +12,14 @@ use crate::applying::make_changes;
 use crate::checking::{planned, refused_first};
 use crate::plan::{Under, Verdict, ZoneFault, ZonePlan};
 use crate::records::first_records;
-use crate::refusing::REFUSED;
 use crate::serial::serial_at;
 use dnsname::Name;
 use dnswire::Update;
+use push_base::limits::MAX_HOME_OCTETS;
+use rrset::rcodes::REFUSED;
 use rrset::{NoMemory, Table};
 use std::alloc::Global;
 use std::marker::Model;
-
-/// The most octets of a zone's name.
-const MOST_HOME_OCTETS: usize = 200;
 
 /// A zone: its apex, whether it takes updates, and its records.
 #[derive(Debug, Drop)]
@@ -48,7 +46,7 @@ impl Zone {
         ensures short { OnOk result (length (octets apex) ≤ max_home_octets) }
         ensures long { IsErrOf result ZoneFault.TooLong → max_home_octets < length (octets apex) }
     {
-        if apex.octets().len() > MOST_HOME_OCTETS {
+        if apex.octets().len() > MAX_HOME_OCTETS {
             return Err(ZoneFault::TooLong);
         }
         let rows = first_records(alloc, &apex, serial)?;

@@ -40,12 +40,6 @@ use Rattle.pushserver.proofs.hub_steps.Updating.{update_met-stands}
 
 -- ---- what is copied
 
-given_after-same : (standing : Standing) → kept.given_after standing ≡ giving.given_after standing
-given_after-same (Ended reason) = refl
-given_after-same Live = refl
-given_after-same (AskedToStop rcode delay) = refl
-given_after-same (Stopped since) = refl
-
 nothing_in : {X : Type 0} (xs : List X) → is_empty xs ≡ true → xs ≡ []
 nothing_in [] e = refl
 nothing_in (x ∷ xs) e = cc
@@ -81,12 +75,12 @@ after_reaction-stands : (hub : Hub) (ks : List (ℕ × KeptSession)) (number roo
 after_reaction-stands hub ks number room h = by (numbered number ks) (numbered number hub.sessions) (both_found hub number ks hub.sessions h.sessions)
   where
     by : (k : Option KeptSession) (p : Option Session) → FoundBoth hub number k p
-        → BothGive (elim k as (λ _. KeptGiving) [ None ↦ kept.did Worked (kept_of hub ks) | Some s ↦ kept.copies_or (kept.given_after s.standing) number room s (kept_of hub ks) ])
+        → BothGive (elim k as (λ _. KeptGiving) [ None ↦ kept.did Worked (kept_of hub ks) | Some s ↦ kept.copies_or (giving.given_after s.standing) number room s (kept_of hub ks) ])
         (elim p as (λ _. Giving) [ None ↦ giving.did Worked hub | Some s ↦ giving.copies_or (giving.given_after s.standing) number room s hub ])
     by None None both = record { octets = refl; given = refl; hub = h }
     by None (Some p) both = absurd both
     by (Some s) None both = absurd both
-    by (Some s) (Some p) both = copies_or-stands hub ks number room s p (kept.given_after s.standing) (giving.given_after p.standing) (ap kept.given_after both.standing ∙ given_after-same p.standing) both h
+    by (Some s) (Some p) both = copies_or-stands hub ks number room s p (giving.given_after s.standing) (giving.given_after p.standing) (ap giving.given_after both.standing) both h
 
 after_packing-stands : (hub : Hub) (ks : List (ℕ × KeptSession)) (number room : ℕ) → Stands hub ks → BothGive (kept.after_packing number room (kept_of hub ks)) (giving.after_packing number room hub)
 after_packing-stands hub ks number room h = by (numbered number ks) (numbered number hub.sessions) (both_found hub number ks hub.sessions h.sessions)

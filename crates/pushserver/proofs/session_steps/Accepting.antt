@@ -19,7 +19,7 @@ use Rattle.dsotlv.specs.declared.message.Notice.{Notice}
 use Rattle.dsosession.specs.declared.session.EndReason.TheVariants as ends
 use Rattle.subscr.specs.Asked.{Asked, has, is_id, is_question, id_of as id_asked}
 use Rattle.coalesce.specs.FirstAnswers.{first_notices}
-use Rattle.coalesce.specs.Net.{push_message}
+use Rattle.coalesce.specs.Net.{push_message, max_net_message}
 use Rattle.coalesce.specs.Waiting.{WaitingName, CanBePacked, is_named, without_name}
 use Rattle.coalesce.proofs.KindsOf.{any-map}
 use Rattle.history.proofs.Together.{same_name-turned}
@@ -135,7 +135,7 @@ module _ (hub : Hub) (question : Question) (message : List ℕ) where
         state = record (said (now hub) (answer_to (id_of message) noerror) notices session).state { established = true };
       }
 
-  both_said : (notices : List Notice) (k : ℕ × KeptSession) (p : ℕ × Session) → p.1.output ≡ [] → length (push_message notices) ≤ 60281
+  both_said : (notices : List Notice) (k : ℕ × KeptSession) (p : ℕ × Session) → p.1.output ≡ [] → length (push_message notices) ≤ max_net_message
       → SessionStandsFor hub (k.0, begun (id_of message) question (min (new_of notices p.1).filled max_number) k.1) (p.0, subscribed (new_of notices p.1) p.1)
       → SessionStandsFor hub (k.0, counted_as notices (min (new_of notices p.1).filled max_number) k.1) (p.0, accepts_plain notices p.1)
   both_said [] k p silent fits b = says-keeps hub false (now hub) (dso_answer message noerror) (note_of (newest hub) (subscribed (new_of [] p.1) p.1)) _ _ (omega (arith, ap length silent)) b
@@ -144,7 +144,7 @@ module _ (hub : Hub) (question : Question) (message : List ℕ) where
       says-keeps hub false (now hub) (push_message (n ∷ ns)) (note_of (newest hub) later) _ _ (omega (arith, ap length silent, fits, length-append p.1.output (frame (dso_answer message noerror))))
       (says-keeps hub false (now hub) (dso_answer message noerror) (note_of (newest hub) p.1) _ _ (omega (arith, ap length silent)) b)
 
-  accepted : (notices : List Notice) (k : ℕ × KeptSession) (p : ℕ × Session) → p.1.output ≡ [] → length (push_message notices) ≤ 60281 → SessionStandsFor hub k p
+  accepted : (notices : List Notice) (k : ℕ × KeptSession) (p : ℕ × Session) → p.1.output ≡ [] → length (push_message notices) ≤ max_net_message → SessionStandsFor hub k p
       → is_some (subscription_of p.1.subscriptions (id_of message)) ≡ false → subscription_for p.1.subscriptions question ≡ None
       → is_told_class question ≡ true → is_some (home_of (state_now hub) question.name) ≡ true → nat_le max_questions (length p.1.subscriptions) ≡ false
       → SessionStandsFor hub (k.0, counted_as notices (said (now hub) (answer_to (id_of message) noerror) notices k.1).written k.1) (p.0, accepts_plain notices p.1)

@@ -19,7 +19,7 @@ use Rattle.rrset.proofs.SameRows.{same_rows-self}
 use Rattle.dsotlv.specs.declared.message.Notice.TheVariants.{RemoveClass}
 use Rattle.dsotlv.specs.Notices.{last_ttl}
 use Rattle.subscr.specs.Asked.{Asked, wants}
-use Rattle.coalesce.specs.Net.{additions, push_message, owner_of}
+use Rattle.coalesce.specs.Net.{additions, push_message, owner_of, max_net_message}
 use Rattle.coalesce.proofs.Filters.{all-filter}
 use Rattle.coalesce.specs.FirstAnswers.{first_notices}
 use Rattle.coalesce.specs.Waiting.{WaitingName, CanBePacked, IsPackable, is_named, is_changed, differs, old_side, new_side}
@@ -147,12 +147,12 @@ module _ (hub : Hub) (k : ℕ × KeptSession) (p : ℕ × Session) (s : SessionS
       let same = length-same w.name question.name ((same_name-Decides w.name question.name).0 copy.1) in
       omega (arith, short, same)
 
-  pub first_fits : length (push_message (first_notices question k.1.asked (records_now hub) (find (is_named question.name) k.1.queue))) ≤ 60281
+  pub first_fits : length (push_message (first_notices question k.1.asked (records_now hub) (find (is_named question.name) k.1.queue))) ≤ max_net_message
   first_fits = by (differs k.1.asked (records_now hub) (find (is_named question.name) k.1.queue)) refl
     where
       by : (b : Bool) → differs k.1.asked (records_now hub) (find (is_named question.name) k.1.queue) ≡ b
           → length (push_message (cond b (RemoveClass (lower question.name) in_class ∷ additions (only (λ key. matches question key || wants key k.1.asked) (at_name question.name (records_now hub))))
-          (additions (matching question (at_name question.name (records_now hub)))))) ≤ 60281
+          (additions (matching question (at_name question.name (records_now hub)))))) ≤ max_net_message
       by true differ =
           let set = only (λ key. matches question key || wants key k.1.asked) (at_name question.name (records_now hub)) in
           let short = short_question (find (is_named question.name) k.1.queue) refl differ in

@@ -9,7 +9,7 @@ use Rattle.rrset.proofs.Distinct.{distinct_filter}
 use Rattle.rrset.proofs.Places.{all_filter}
 use Rattle.dsotlv.specs.declared.message.Notice.{Notice}
 use Rattle.subscr.specs.Asked.{Asked, wants}
-use Rattle.coalesce.specs.Net.{packed, push_message}
+use Rattle.coalesce.specs.Net.{packed, push_message, max_net_message}
 use Rattle.coalesce.specs.Laws.{Nets, IsPacked}
 use Rattle.coalesce.specs.Waiting.{WaitingName, CanBePacked, IsPackable, asked_net, nets_in, packed_of, left_in}
 use Rattle.coalesce.proofs.NetSizes.{net_fits_one_message}
@@ -29,17 +29,17 @@ use Rattle.pushserver.proofs.session_steps.Saying.{says_notices-keeps}
 
 -- ---- the size
 
-one_fits : (asked : Asked) (rows : RecordSet) (w : WaitingName) → IsPackable rows w → length (push_message (asked_net asked rows w)) ≤ 60281
+one_fits : (asked : Asked) (rows : RecordSet) (w : WaitingName) → IsPackable rows w → length (push_message (asked_net asked rows w)) ≤ max_net_message
 one_fits asked rows w ((name, old, new), can) =
     let before = parts_stay_sides name (λ key. wants key asked) w.old old in
     let after = parts_stay_sides name (λ key. wants key asked) (at_name w.name rows) new in
     net_fits_one_message name (only (λ key. wants key asked) w.old) (only (λ key. wants key asked) (at_name w.name rows)) before.0 after.0 (after.1 can)
 
-all_fit : (asked : Asked) (rows : RecordSet) (queue : List WaitingName) → CanBePacked rows queue → AllByRecursion (λ e. length (push_message e.1) ≤ 60281) (nets_in asked rows queue)
+all_fit : (asked : Asked) (rows : RecordSet) (queue : List WaitingName) → CanBePacked rows queue → AllByRecursion (λ e. length (push_message e.1) ≤ max_net_message) (nets_in asked rows queue)
 all_fit asked rows [] can = tt
 all_fit asked rows (w ∷ ws) can = (one_fits asked rows w can.0, all_fit asked rows ws can.1)
 
-pub packed_fits : (asked : Asked) (rows : RecordSet) (queue : List WaitingName) → CanBePacked rows queue → length (push_message (packed_of asked rows queue).0) ≤ 60281
+pub packed_fits : (asked : Asked) (rows : RecordSet) (queue : List WaitingName) → CanBePacked rows queue → length (push_message (packed_of asked rows queue).0) ≤ max_net_message
 packed_fits asked rows queue can = packed_fits_one_message (nets_in asked rows queue) (all_fit asked rows queue can)
 
 -- ---- the names that stay

@@ -4,7 +4,7 @@ use Rattle.push_base.specs.Cases.{is_empty}
 use Rattle.pushsession.specs.Kept.{KeptSession, copied}
 use Rattle.pushserver.specs.declared.given.Given.{Given}
 use Rattle.pushserver.specs.declared.given.Given.TheVariants.{Bytes}
-use Rattle.pushserver.specs.KeptHubs.{given_after}
+use Rattle.pushserver.specs.Giving.{given_after}
 use Rattle.pushserver.proofs.SeatLists.{seat, seat-changed, no_seat, same_seat}
 use Rattle.pushserver.proofs.GaveSteps.{reaction-none, reaction-some}
 use Rattle.pushserver.proofs.giving.after_reaction.Goals as goal
