@@ -28,7 +28,6 @@ use Rattle.dsosession.specs.declared.session.Reaction.{Reaction}
 use Rattle.dsosession.specs.declared.session.Reaction.TheVariants as reactions
 use Rattle.dsosession.specs.declared.session.Reaction.TheVariants.{Answer, Grant, Abort, Subscribe, Unsubscribe, Reconfirm, NotImplemented}
 use Rattle.history.specs.States.{verdict, accepts, home_of, reconfirm_key}
-use Rattle.history.specs.declared.entry.Entry.{Entry}
 use Rattle.history.specs.declared.entry.Entry.TheVariants as entries
 use Rattle.pushsession.specs.Saying.{not_implemented}
 use Rattle.pushsession.specs.declared.standing.Standing.TheVariants.{Live, Ended}

@@ -1,21 +1,23 @@
 -- A session at rest gives the same for its octets, however they are cut: what it answers to the whole messages in them, one after the other.
 --     answers-every-cut      the law, of each session of a hub
-use Rattle.std.proofs.Common.{◌≡◌, ℕ, ◌<◌, ◌==◌, Bool, true, false, cond, List, [], ◌∷◌, ◌++◌, length, find, Option, Some, None, option_map, sym, ◌∙◌, ap, subst, arith}
+use Rattle.std.proofs.Common.{◌≡◌, ℕ, ◌<◌, List, ◌++◌, length, Option, Some, None, option_map, sym, ◌∙◌, ap, subst, arith}
 use Rattle.std.specs.List.{concat, All, AllByRecursion}
 use Rattle.dsosession.specs.declared.session.EndReason.{EndReason}
 use Rattle.dsotlv.specs.Laws.{AreOctets}
 use Rattle.dsotlv.specs.Messages.{messages_in}
-use Rattle.dsotlv.proofs.Results.{same_found}
 use Rattle.history.specs.declared.entry.Entry.{Entry}
+use Rattle.pushsession.specs.declared.standing.Standing.{Standing}
+use Rattle.pushsession.specs.declared.standing.Standing.TheVariants.{Live, Ended}
 use Rattle.pushserver.specs.Sessions.{Session}
 use Rattle.pushserver.specs.Hubs.{Hub, state_now}
-use Rattle.replay.specs.Cuts.{given_for, answers_to, IsAtRest, ArePassable, AnswersInTurn, OneOutputForEveryCut, AnswersEveryCut}
+use Rattle.replay.specs.Cuts.{given_for, answers_to, IsAtRest, ArePassable, with_input, standing_of, GivesAsAnswered, AnswersInTurn, OneOutputForEveryCut, AnswersEveryCut}
 use Rattle.dnspush.proofs.ZoneSizes.{IsBounded}
 use Rattle.dnspush.proofs.AtRest.{core_of, Ran, ran, Longer, EmitsAsRan, TurnsAsTold, WritesFew, StaysLonger}
+use Rattle.dnspush.proofs.InputOctets.{found_octets}
 use Rattle.dnspush.proofs.RestingStreams.{octets-both}
-use Rattle.dnspush.proofs.RestingHubs.{rest-input, rest-at}
+use Rattle.dnspush.proofs.RestingHubs.{rest-at}
 use Rattle.dnspush.proofs.RestingPieces.{OctetsAndHub, GivenBy, GivenAs, given-for}
-use Rattle.dnspush.proofs.RestingAnswers.{AnsweredAs, answers-as-ran}
+use Rattle.dnspush.proofs.RestingAnswers.{answers-as-ran}
 
 -- ---- where the history stayed
 
@@ -26,27 +28,34 @@ given-octets hub number rest g r (Some reason) given = given.octets
 not_longer : (hub later : Hub) → later.history ≡ hub.history → Longer hub later → ⊥
 not_longer hub later same longer = omega (arith, ap (λ (entries : List Entry). length entries) same, longer)
 
--- what was given is what is answered
-same_octets : (hub : Hub) (number : ℕ) (rest : List ℕ) (g a : OctetsAndHub) (o : Option Ran) → g.1.history ≡ hub.history → GivenAs hub number rest g o → AnsweredAs hub a o → g.0 ≡ a.0
-same_octets hub number rest g a None same given answered = absurd (not_longer hub g.1 same given)
-same_octets hub number rest g a (Some r) same given answered = given-octets hub number rest g r r.over given ∙ sym answered
+-- what was given is what is answered, and the session is left alike
+alike_by : (hub : Hub) (number : ℕ) (rest input : List ℕ) (g a : OctetsAndHub) (r : Ran) (over : Option EndReason) → GivenBy hub number rest g r over → GivenBy hub number input a r over → GivesAsAnswered number rest g a
+alike_by hub number rest input g a r None given answered = record {
+  octets = given.octets ∙ sym answered.octets;
+  history = ap (λ (h : Hub). h.history) given.at.is ∙ sym (ap (λ (h : Hub). h.history) answered.at.is);
+  standing = ap (λ (o : Option Session). option_map (λ s. s.standing) o) given.at.there ∙ sym (ap (λ (o : Option Session). option_map (λ s. s.standing) o) answered.at.there);
+  session = λ live. given.at.there ∙ sym (ap (λ (o : Option Session). option_map (with_input rest) o) answered.at.there);
+}
+alike_by hub number rest input g a r (Some reason) given answered =
+    let ended : standing_of a.1 number ≡ Some (Ended reason) = ap (λ (o : Option Session). option_map (λ s. s.standing) o) answered.over.at.there ∙ ap (λ (s : Standing). Some s) answered.over.standing in
+    record {
+      octets = given.octets ∙ sym answered.octets;
+      history = ap (λ (h : Hub). h.history) given.over.at.is ∙ sym (ap (λ (h : Hub). h.history) answered.over.at.is);
+      standing = ap (λ (o : Option Session). option_map (λ s. s.standing) o) given.over.at.there ∙ ap (λ (s : Standing). Some s) given.over.standing ∙ sym ended;
+      session = λ live. absurd (not_live (sym ended ∙ live));
+    }
+  where
+    not_live : Some (Ended reason) ≡ Some Live → ⊥
+    not_live e = cc
+
+alike : (hub : Hub) (number : ℕ) (rest input : List ℕ) (g a : OctetsAndHub) (o : Option Ran) → a.1.history ≡ hub.history → GivenAs hub number rest g o → GivenAs hub number input a o → GivesAsAnswered number rest g a
+alike hub number rest input g a None same given answered = absurd (not_longer hub a.1 same answered)
+alike hub number rest input g a (Some r) same given answered = alike_by hub number rest input g a r r.over given answered
 
 -- what was given is what is given otherwise
 same_given : (hub : Hub) (number : ℕ) (rest : List ℕ) (g h : OctetsAndHub) (o : Option Ran) → g.1.history ≡ hub.history → GivenAs hub number rest g o → GivenAs hub number rest h o → g.0 ≡ h.0
 same_given hub number rest g h None same given other = absurd (not_longer hub g.1 same given)
 same_given hub number rest g h (Some r) same given other = given-octets hub number rest g r r.over given ∙ sym (given-octets hub number rest h r r.over other)
-
--- ---- the session that is found
-
-input-octets : (number : ℕ) (session : Session) (sessions : List (ℕ × Session)) → AllByRecursion (λ e. All (λ o. o < 256) e.1.input) sessions
-    → option_map (λ (e : ℕ × Session). e.1) (find (λ (e : ℕ × Session). e.0 == number) sessions) ≡ Some session → AreOctets session.input
-input-octets number session [] all there = absurd cc
-input-octets number session (e ∷ es) all there = by (e.0 == number) (input-octets number session es all.1) there
-  where
-    by : (b : Bool) → (option_map (λ (e : ℕ × Session). e.1) (find (λ (e : ℕ × Session). e.0 == number) es) ≡ Some session → AreOctets session.input)
-        → option_map (λ (e : ℕ × Session). e.1) (cond b (Some e) (find (λ (e : ℕ × Session). e.0 == number) es)) ≡ Some session → AreOctets session.input
-    by true others is = subst (λ (s : Session). AreOctets s.input) (same_found e.1 session is) all.0
-    by false others is = others is
 
 -- ---- the law
 
@@ -55,18 +64,18 @@ module _ (turns-as-told : TurnsAsTold) (writes-few : WritesFew) (stays-longer : 
   module _ (number : ℕ) (session : Session) (rest : IsAtRest hub number session) where
     -- the octets that came and those of the pieces
     below : (pieces : List (List ℕ)) → ArePassable (concat pieces) → AreOctets (session.input ++ concat pieces)
-    below pieces passable = octets-both session.input (concat pieces) (input-octets number session hub.sessions all rest.there) passable.0
+    below pieces passable = octets-both session.input (concat pieces) (found_octets hub number session rest.there all) passable.0
 
     given-ran : (pieces : List (List ℕ)) → ArePassable (concat pieces)
         → GivenAs hub number (messages_in (session.input ++ concat pieces)).1 (given_for number pieces hub) (ran hub (messages_in (session.input ++ concat pieces)).0 (core_of session))
     given-ran pieces passable =
-        given-for stays-longer emits-as-ran hub number bounded pieces hub (core_of session) session.input (rest-at hub number session rest) (rest-input hub number session rest) (below pieces passable) passable.1
+        given-for stays-longer emits-as-ran hub number bounded pieces hub (core_of session) session.input (rest-at hub number session rest) rest.waits (below pieces passable) passable.1
 
   pub answers-in-turn : (number : ℕ) → AnswersInTurn hub number
   answers-in-turn number session pieces rest passable same =
-      let messages : List (List ℕ) = (messages_in (session.input ++ concat pieces)).0 in
-      same_octets hub number (messages_in (session.input ++ concat pieces)).1 (given_for number pieces hub) (answers_to number messages hub) (ran hub messages (core_of session)) same (given-ran number session rest pieces passable)
-      (answers-as-ran turns-as-told writes-few stays-longer hub number bounded messages hub (core_of session) session.input (rest-at hub number session rest))
+      let split = messages_in (session.input ++ concat pieces) in
+      alike hub number split.1 session.input (given_for number pieces hub) (answers_to number split.0 hub) (ran hub split.0 (core_of session)) same (given-ran number session rest pieces passable)
+      (answers-as-ran turns-as-told writes-few stays-longer hub number bounded split.0 hub (core_of session) session.input (rest-at hub number session rest))
 
   pub one-output-for-every-cut : (number : ℕ) → OneOutputForEveryCut hub number
   one-output-for-every-cut number session first second rest passable is same =

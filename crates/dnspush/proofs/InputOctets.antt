@@ -84,7 +84,7 @@ written_octets h octets e = written-by (λ (o : List ℕ). are_octets o ≡ true
 
 -- ---- what peers send
 
-all_octets : (octets : List ℕ) → are_octets octets ≡ true → AreOctets octets
+pub all_octets : (octets : List ℕ) → are_octets octets ≡ true → AreOctets octets
 all_octets [] h = All-nil IsOctet
 all_octets (o ∷ os) h = let parts = and_true (nat_lt o 256) (are_octets os) h in All-cons IsOctet o os (ltb-true o 256 parts.0) (all_octets os parts.1)
 
@@ -116,7 +116,7 @@ one_octets number f step hub h = map_octets (λ e. cond (e.0 == number) (f e.1) 
     by true s i = step s i
     by false s i = i
 
-found_octets : (hub : Hub) (number : ℕ) (session : Session) → session_of hub number ≡ Some session → HoldsOctets hub → AreOctets session.input
+pub found_octets : (hub : Hub) (number : ℕ) (session : Session) → session_of hub number ≡ Some session → HoldsOctets hub → AreOctets session.input
 found_octets hub number session there h = by (find (λ (e : ℕ × Session). e.0 == number) hub.sessions) refl there
   where
     same : (a b : Session) → Some a ≡ Some b → a ≡ b

@@ -40,9 +40,15 @@ pub mod RestingExchanges
 pub mod RestingPieces
 pub mod RestingAnswers
 pub mod EveryCut
+pub mod BetweenLines
 pub mod EveryScriptCut
 pub mod Serving
 pub mod WorkedServing
+pub mod Placing
+pub mod OtherLines
+pub mod PieceLines
+pub mod SentPieces
+pub mod WorkedPieces
 pub mod Happening
 pub mod MoreLines
 pub mod Walks

@@ -70,7 +70,8 @@ connect-made hub some = by (nat_lt (length hub.sessions) max_sessions && nat_lt 
     by true h = refl
     by false h = absurd cc
 
-module _ (world : World) (w : Word) (octets message : List ℕ) (question : Question) where
+-- what a peer's line does, by the session that the peer has, and by the one that is made
+module _ (world : World) (w : Word) (octets : List ℕ) where
   abbrev pub by_connected : Option ℕ × Hub → Printed
   by_connected r = elim r.0 as (λ _. Printed) [
     | None ↦ printing (codes "noseat" ∷ w ∷ []) world
@@ -83,9 +84,10 @@ module _ (world : World) (w : Word) (octets message : List ℕ) (question : Ques
     | None ↦ by_connected (connect world.hub)
   ]
 
+module _ (world : World) (w : Word) (octets message : List ℕ) (question : Question) where
   module _ (below : IsBehind world.hub) (bounded : IsBounded (state_now world.hub)) (found : first_message octets ≡ Some (message, [])) (few : length octets ≤ 65537) where
     exchange-line : IsAcceptable (with_new world.hub) (new_session (now world.hub)) message question
-        → (by_connected (Some world.hub.made, with_new world.hub)).1 ≡ bytes_line w (first_reply (with_new world.hub) message question) ∷ []
+        → (by_connected world w octets (Some world.hub.made, with_new world.hub)).1 ≡ bytes_line w (first_reply (with_new world.hub) message question) ∷ []
     exchange-line a =
         let reply = first_reply (with_new world.hub) message question in
         let some : is_empty reply ≡ false = refl in
@@ -97,5 +99,5 @@ module _ (world : World) (w : Word) (octets message : List ℕ) (question : Ques
     pub sent-line : session_number world w ≡ None → IsSome (connect world.hub).0 → IsAcceptable (connect world.hub).1 (new_session (now world.hub)) message question
         → (sends w octets world).1 ≡ bytes_line w (first_reply (connect world.hub).1 message question) ∷ []
     sent-line new seat a =
-        ap (λ o. (by_number o).1) new
-        ∙ subst (λ (r : Option ℕ × Hub). IsAcceptable r.1 (new_session (now world.hub)) message question → (by_connected r).1 ≡ bytes_line w (first_reply r.1 message question) ∷ []) (sym (connect-made world.hub seat)) exchange-line a
+        ap (λ o. (by_number world w octets o).1) new
+        ∙ subst (λ (r : Option ℕ × Hub). IsAcceptable r.1 (new_session (now world.hub)) message question → (by_connected world w octets r).1 ≡ bytes_line w (first_reply r.1 message question) ∷ []) (sym (connect-made world.hub seat)) exchange-line a

@@ -1,6 +1,7 @@
 -- That the numbers of a hub's sessions stay below that of the next, and that its start stays, whatever is called.
 --     IsFrom start hub      the hub began with this state, and its sessions' numbers are below that of the next
 --     from-kept      the steps of which calls are made keep it
+--     any_sent      what lines send are pieces of any kind
 --     from-lines      so do built lines
 use Rattle.std.proofs.Common.{◌≡◌, ℕ, ◌<◌, List, [], ◌∷◌, map, not, cond}
 use Rattle.std.specs.Prelude.{◌==◌}
@@ -48,7 +49,7 @@ module _ (start : State) where
     rest = λ n piece any. tt;
   }
 
-any_sent : (lines : List ScriptLine) → AllByRecursion (λ line. AnyPiece (sent_by line)) lines
+pub any_sent : (lines : List ScriptLine) → AllByRecursion (λ line. AnyPiece (sent_by line)) lines
 any_sent [] = tt
 any_sent (line ∷ lines) = (tt, any_sent lines)
 

@@ -1,10 +1,6 @@
 -- What a resting session answers to whole messages, one after the other.
---     AnsweredAs      what was answered is as the messages say
 --     answers-as-ran      each answer is
-use Rattle.std.proofs.Common.{◌≡◌, ℕ, ◌≤◌, cond, List, [], ◌∷◌, ◌++◌, length, drop, Option, Some, None, option_map, inl, inr, refl, sym, ◌∙◌, ap, subst, arith, take_all, drop_of_length-le}
-use Rattle.push_base.specs.Cases.{is_empty}
-use Rattle.dsosession.specs.declared.session.EndReason.{EndReason}
-use Rattle.pushsession.specs.declared.standing.Standing.{Standing}
+use Rattle.std.proofs.Common.{◌≡◌, ℕ, ◌≤◌, List, [], ◌∷◌, ◌++◌, length, drop, Option, Some, None, option_map, inl, inr, refl, sym, ap, subst, arith, take_all, drop_of_length-le}
 use Rattle.pushserver.specs.declared.given.Given.{Given}
 use Rattle.pushserver.specs.declared.given.Given.TheVariants.{Bytes, Worked, Nothing, Ending, End}
 use Rattle.pushserver.specs.Sessions.{Session}
@@ -13,18 +9,10 @@ use Rattle.pushserver.specs.Giving.{Giving, did, copies, copies_or, given_after,
 use Rattle.replay.specs.Running.{enough}
 use Rattle.replay.specs.Cuts.{answers_to}
 use Rattle.dnspush.proofs.ZoneSizes.{IsBounded}
-use Rattle.dnspush.proofs.AtRest.{Core, Turned, Ran, resting, turned, ran_by, ran, behind_octets, At, Longer, IsOver, Follows, IsFew, TurnsAsTold, WritesFew, StaysLonger}
+use Rattle.dnspush.proofs.AtRest.{Core, Turned, resting, turned, ran_by, ran, behind_octets, At, Longer, Follows, IsFew, TurnsAsTold, WritesFew, StaysLonger}
 use Rattle.dnspush.proofs.RestingHubs.{at-in_session}
 use Rattle.dnspush.proofs.RestingGives.{give-ended}
-use Rattle.dnspush.proofs.RestingPieces.{OctetsAndHub}
-
-abbrev pub AnsweredAs : Hub → OctetsAndHub → Option Ran → Type 0
-AnsweredAs hub a None = Longer hub a.1
-AnsweredAs hub a (Some r) = a.0 ≡ r.octets
-
-answered-behind : (hub : Hub) (octets : List ℕ) (a : OctetsAndHub) (o : Option Ran) → AnsweredAs hub a o → AnsweredAs hub (octets ++ a.0, a.1) (option_map (behind_octets octets) o)
-answered-behind hub octets a None h = h
-answered-behind hub octets a (Some r) h = ap (λ (o : List ℕ). octets ++ o) h
+use Rattle.dnspush.proofs.RestingPieces.{OctetsAndHub, GivenEnd, GivenAs, behind}
 
 -- ---- the octets of one reaction
 
@@ -82,24 +70,24 @@ module _ (stays-longer : (hub : Hub) → StaysLonger hub) (hub : Hub) (number : 
 
 -- what is said of messages
 abbrev pub AnswersAsRan : Hub → ℕ → List (List ℕ) → Type 0
-AnswersAsRan hub number messages = (later : Hub) (core : Core) (input : List ℕ) → At hub number later (resting core input []) → AnsweredAs hub (answers_to number messages later) (ran hub messages core)
+AnswersAsRan hub number messages = (later : Hub) (core : Core) (input : List ℕ) → At hub number later (resting core input []) → GivenAs hub number input (answers_to number messages later) (ran hub messages core)
 
 module _ (stays-longer : (hub : Hub) → StaysLonger hub) (hub : Hub) (number : ℕ) (messages : List (List ℕ)) (others : AnswersAsRan hub number messages) (core : Core) (input : List ℕ) where
-  one-answered : (t : Turned) (later : Hub) → IsFew t → Follows hub number later input t → AnsweredAs hub (then_answers number messages (after_reaction number enough later)) (ran_by hub (λ left. ran hub messages left) core t)
+  one-answered : (t : Turned) (later : Hub) → IsFew t → Follows hub number later input t → GivenAs hub number input (then_answers number messages (after_reaction number enough later)) (ran_by hub (λ left. ran hub messages left) core t)
   one-answered None later few follows =
       let one : Giving = after_reaction number enough later in
       longer-by stays-longer hub number messages (answers-longer stays-longer hub number messages) one one.given ((stays-longer hub).after_reaction later number enough follows)
-  one-answered (Some (inl reason)) later few follows = ap (λ (one : Giving). (then_answers number messages one).0) (give-ended hub number enough later reason follows)
+  one-answered (Some (inl reason)) later few follows =
+      let end : GivenEnd hub number reason (record { octets = []; over = Some reason; core = core }) (then_answers number messages (did (End reason) later)) = record { octets = refl; over = follows } in
+      subst (λ (one : Giving). GivenEnd hub number reason (record { octets = []; over = Some reason; core = core }) (then_answers number messages one)) (sym (give-ended hub number enough later reason follows)) end
   one-answered (Some (inr left)) later few follows =
       let one : Giving = after_reaction number enough later in
       let on = hands-on hub number later left.0 input left.1 (omega (arith, few)) follows in
-      let last = answered-behind hub left.1 (answers_to number messages one.hub) (ran hub messages left.0) (others one.hub left.0 input on.at) in
-      let whole : (left.1 ++ (answers_to number messages one.hub).0, (answers_to number messages one.hub).1) ≡ then_answers number messages one =
-      ap (λ (octets : List ℕ). (octets ++ (answers_to number messages one.hub).0, (answers_to number messages one.hub).1)) (sym on.octets) ∙ sym (on.goes messages) in
-      subst (λ (a : OctetsAndHub). AnsweredAs hub a (option_map (behind_octets left.1) (ran hub messages left.0))) whole last
+      let whole = behind hub number input one.octets left.1 (answers_to number messages one.hub) (ran hub messages left.0) on.octets (others one.hub left.0 input on.at) in
+      subst (λ (a : OctetsAndHub). GivenAs hub number input a (option_map (behind_octets left.1) (ran hub messages left.0))) (sym (on.goes messages)) whole
 
 module _ (turns-as-told : TurnsAsTold) (writes-few : WritesFew) (stays-longer : (hub : Hub) → StaysLonger hub) (hub : Hub) (number : ℕ) (bounded : IsBounded (state_now hub)) where
   pub answers-as-ran : (messages : List (List ℕ)) → AnswersAsRan hub number messages
-  answers-as-ran [] = λ later core input at. refl
+  answers-as-ran [] = λ later core input at. record { octets = refl; at = at }
   answers-as-ran (message ∷ messages) = λ later core input at. one-answered stays-longer hub number messages (answers-as-ran messages) core input (turned hub message core) (reacted message number later)
       (writes-few hub message core bounded) (turns-as-told hub number later message core input at)

@@ -19,7 +19,7 @@ use Rattle.dnspush.proofs.Turns.{exchanged_as, emitted-turn}
 use Rattle.dnspush.proofs.AtRest.{Core, Ran, resting, ran, behind_octets, At, Longer, IsOver, EmittedBy, EmittedAs, EmitsAsRan, StaysLonger}
 use Rattle.dnspush.proofs.RanLaws.{followed_by, followed, ran-append}
 use Rattle.dnspush.proofs.StreamCounts.{rest-has-none}
-use Rattle.dnspush.proofs.RestingStreams.{short-rest, octets-front, first_part, second_part, cut_behind, first-octets, second-octets}
+use Rattle.dnspush.proofs.RestingStreams.{short-rest, octets-front, first_part, second_part, cut_behind, second-octets}
 use Rattle.dnspush.proofs.RestingHubs.{taken-by, at-taken, over-taken, over-octets, give-over}
 
 -- ---- what an exchange is

@@ -2,11 +2,10 @@
 --     at-in_session      what is done in the session leaves the rest of the hub
 --     taken-by, at-taken      a session at rest takes octets up to its bound
 --     over-taken, over-octets, give-over      an ended session takes none and gives none
---     rest-session, rest-input      what it is to be at rest
-use Rattle.std.proofs.Common.{◌≡◌, ℕ, ◌-◌, ◌≤◌, ◌==◌, min, Bool, true, false, cond, List, [], ◌++◌, map, length, Option, Some, None, option_map, refl, ◌∙◌, ap, subst, arith, take_all}
+--     rest-session, rest-at      what it is to be at rest
+use Rattle.std.proofs.Common.{◌≡◌, ℕ, ◌-◌, ◌≤◌, min, Bool, true, false, cond, List, [], ◌++◌, length, Option, Some, None, option_map, refl, ◌∙◌, ap, subst, arith, take_all}
 use Rattle.push_base.specs.Limits.{max_input}
 use Rattle.push_base.specs.Cases.{is_empty}
-use Rattle.dsotlv.specs.Messages.{first_message}
 use Rattle.dsosession.specs.declared.session.EndReason.{EndReason}
 use Rattle.dsosession.specs.declared.session.EndReason.TheVariants as ends
 use Rattle.pushsession.specs.Kept.{is_open}
@@ -16,7 +15,6 @@ use Rattle.pushserver.specs.Sessions.{Session}
 use Rattle.pushserver.specs.Hubs.{Hub, in_session, room_of, takes, taken_by, take_octets}
 use Rattle.pushserver.specs.Giving.{Giving, did, copies, by_standing, give}
 use Rattle.pushserver.proofs.Subscribing.{session_of-in_session}
-use Rattle.pushserver.proofs.promises.Answers.{given-quiet}
 use Rattle.replay.specs.Cuts.{IsAtRest}
 use Rattle.dnspush.proofs.AtRest.{Core, core_of, resting, At, IsOver}
 
@@ -76,21 +74,16 @@ module _ (hub : Hub) (number : ℕ) (later : Hub) (reason : EndReason) (over : I
 
 module _ (hub : Hub) (number : ℕ) (session : Session) (rest : IsAtRest hub number session) where
   pub rest-session : session ≡ resting (core_of session) session.input []
-  rest-session =
-      let quiet = given-quiet hub number 1 session rest.there rest.nothing in
-      λ i. record {
-        subscriptions = session.subscriptions;
-        queue = rest.queue i;
-        clocks = session.clocks;
-        established = session.established;
-        standing = quiet.0 i;
-        input = session.input;
-        output = quiet.1 i;
-        made = session.made;
-      }
-
-  pub rest-input : first_message session.input ≡ None
-  rest-input = (given-quiet hub number 1 session rest.there rest.nothing).2
+  rest-session = λ i. record {
+    subscriptions = session.subscriptions;
+    queue = rest.queue i;
+    clocks = session.clocks;
+    established = session.established;
+    standing = rest.standing i;
+    input = session.input;
+    output = rest.output i;
+    made = session.made;
+  }
 
   -- it is in its own hub
   pub rest-at : At hub number hub (resting (core_of session) session.input [])

@@ -71,7 +71,7 @@ module _ (hub : Hub) (number : ℕ) where
   behind-by rest before octets g r None is given = record { octets = ap (λ (o : List ℕ). o ++ g.0) is ∙ ap (λ (o : List ℕ). octets ++ o) given.octets; at = given.at }
   behind-by rest before octets g r (Some reason) is given = record { octets = ap (λ (o : List ℕ). o ++ g.0) is ∙ ap (λ (o : List ℕ). octets ++ o) given.octets; over = given.over }
 
-  behind : (rest before octets : List ℕ) (g : OctetsAndHub) (o : Option Ran) → before ≡ octets → GivenAs hub number rest g o → GivenAs hub number rest (before ++ g.0, g.1) (option_map (behind_octets octets) o)
+  pub behind : (rest before octets : List ℕ) (g : OctetsAndHub) (o : Option Ran) → before ≡ octets → GivenAs hub number rest g o → GivenAs hub number rest (before ++ g.0, g.1) (option_map (behind_octets octets) o)
   behind rest before octets g None is given = given
   behind rest before octets g (Some r) is given = behind-by rest before octets g r r.over is given
 

@@ -8,7 +8,7 @@ use Rattle.std.proofs.lemmas.List.{take_at, drop_at}
 use Rattle.std.proofs.lemmas.List.Elements.{All-take, All-drop, All-append}
 use Rattle.dsotlv.specs.Laws.{AreOctets}
 use Rattle.dsotlv.specs.Messages.{frame, first_message, messages_in}
-use Rattle.dsotlv.proofs.FrameLaws.{Split, no_frame, no_frame_found, frames_found}
+use Rattle.dsotlv.proofs.FrameLaws.{Split, no_frame_found, frames_found}
 use Rattle.dsotlv.proofs.StreamLaws.{cut_anywhere}
 use Rattle.dsotlv.proofs.Numbers.{two_below}
 

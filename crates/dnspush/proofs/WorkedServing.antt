@@ -6,7 +6,7 @@ use Rattle.replay.specs.Lines.{zone}
 use Rattle.dnspush.specs.Script.{first_later}
 use Rattle.dnspush.specs.Serving.{Asked, AsksFirst}
 
-abbrev frame_sent : List ℕ
+abbrev pub frame_sent : List ℕ
 frame_sent = hex (codes "002100013000000000000000000000400011076578616d706c6503636f6d0000060001")
 
 abbrev script : List ℕ

@@ -1,51 +1,72 @@
--- That in every script that is built a peer is answered the same, however its octets are cut.
+-- That in every script that is built a session answers its octets the same in whatever pieces they come, as long as no entry is made.
 --     AnswersEveryCutIn script      of each session, between any two lines
---     Sent      a peer's word, the pieces that it sends in lines one after the other, and the lines before and behind
---     SendsPieces script sent answers      the script is built, these are its lines, and this is answered to the whole messages in all pieces
---     pieces_reply sent told      the status and the text, where these octets are told of each piece
-use Rattle.std.specs.Prelude.{◌≡◌, ℕ, List, [], ◌∷◌, ◌++◌, map, codes, Option, Some, None, Ok, option_map}
-use Rattle.std.specs.List.{concat}
+--     SentInPieces      a peer's word, the pieces that it sends in lines with those of others between them, its session, and the lines before and behind
+--     SendsPieces script sent      the script is built, these are its lines, no entry is made, and the session goes on
+--     TellsInTurn sent told      what is told of each piece answers the messages that it completes
+--     pieces_reply sent told      the status and the text, where this is told
+use Rattle.std.specs.Prelude.{◌≡◌, ℕ, Bool, true, not, List, [], ◌∷◌, ◌++◌, map, take, length, flat_map, codes, Option, Some, None, Ok, option_map}
+use Rattle.std.specs.List.{concat, list_all, AllByRecursion}
+use Rattle.std.specs.Str.{bytes_eq}
 use Rattle.dsotlv.specs.Messages.{messages_in}
 use Rattle.pushsession.specs.declared.standing.Standing.TheVariants.{Live}
 use Rattle.pushserver.specs.Sessions.{Session}
-use Rattle.pushserver.specs.Hubs.{Hub, session_of, connect}
-use Rattle.replay.specs.Lines.{Word, ScriptLine, send}
+use Rattle.pushserver.specs.Hubs.{Hub, connect}
+use Rattle.replay.specs.Lines.{Word, ScriptLine, cut, send, stop}
 use Rattle.replay.specs.Scripts.{script_of}
 use Rattle.replay.specs.World.{World, start_world, session_number}
 use Rattle.replay.specs.Telling.{spaced, octets_text, by_history}
-use Rattle.replay.specs.Text.{ended_lines, printed_by, world_after}
-use Rattle.replay.specs.Cuts.{IsAtRest, ArePassable, answers_to, AnswersEveryCutNow}
+use Rattle.replay.specs.Text.{ended_lines, line_does, printed_by, world_after}
+use Rattle.replay.specs.Cuts.{IsAtRest, ArePassable, answers_to, standing_of, AnswersEveryCutNow}
 use Rattle.dnspush.specs.Reply.{Reply}
 use Rattle.dnspush.specs.Script.{first_later}
 use Rattle.dnspush.specs.Words.{Request}
 
--- Where a session has no name queued and nothing to say, and no entry is made until the last piece is answered: the whole
--- messages in all its octets are answered one after the other, until it ends, and each cut gives the same output.
+-- Where a live session has no name queued and nothing to say, and no entry is made until the last piece is answered: the whole
+-- messages in its input and all pieces are answered one after the other, until it ends, and all pieces of the same octets give
+-- the same output.
 unfoldable pub AnswersEveryCutIn : List ℕ → Type 0
 AnswersEveryCutIn script = (before behind : List ScriptLine) → first_later script ≡ None → script_of script ≡ Ok (before ++ behind)
     → AnswersEveryCutNow (world_after before (start_world (before ++ behind))).hub
 
-pub record Sent : Type 0 where
+-- whether a line neither sends a peer's octets, nor stops its session, nor cuts its connection
+abbrev pub is_of_others : Word → ScriptLine → Bool
+is_of_others w (send v octets) = not (bytes_eq v w)
+is_of_others w (stop v rcode delay) = not (bytes_eq v w)
+is_of_others w (cut v) = not (bytes_eq v w)
+is_of_others w _ = true
+
+-- a piece, and the lines of others behind it
+abbrev pub Turn : Type 0
+Turn = List ℕ × List ScriptLine
+
+-- The number of the peer's session, the world with it, and the session are those behind the lines before: its own, or a new one.
+pub record SentInPieces : Type 0 where
   pub before : List ScriptLine
   pub word : Word
-  pub pieces : List (List ℕ)
+  pub turns : List Turn
   pub behind : List ScriptLine
+  pub number : ℕ
+  pub world : World
+  pub session : Session
 
--- a line for each piece
-abbrev pub lines_sent : Sent → List ScriptLine
-lines_sent sent = map (send sent.word) sent.pieces
+abbrev pub pieces_of : SentInPieces → List (List ℕ)
+pieces_of sent = map (λ t. t.0) sent.turns
 
-abbrev pub lines_of : Sent → List ScriptLine
+-- a line for each piece, and behind it those of others
+abbrev pub lines_sent : SentInPieces → List ScriptLine
+lines_sent sent = flat_map (λ t. send sent.word t.0 ∷ t.1) sent.turns
+
+abbrev pub lines_of : SentInPieces → List ScriptLine
 lines_of sent = sent.before ++ (lines_sent sent ++ sent.behind)
 
 -- the world before the peer's lines, and the one behind them
-abbrev pub world_start : Sent → World
+abbrev pub world_start : SentInPieces → World
 world_start sent = start_world (lines_of sent)
 
-abbrev pub world_then : Sent → World
+abbrev pub world_then : SentInPieces → World
 world_then sent = world_after sent.before (world_start sent)
 
-abbrev pub world_behind : Sent → World
+abbrev pub world_behind : SentInPieces → World
 world_behind sent = world_after (lines_sent sent) (world_then sent)
 
 -- the number of a peer's session, and the world with it: the session that it has, or else a new one
@@ -55,32 +76,47 @@ placed w world = elim (session_number world w) [
   | None ↦ option_map (λ number. (number, record world { hub = (connect world.hub).1; peers = world.peers ++ (w, number) ∷ [] })) (connect world.hub).0
 ]
 
--- the script is built; the peer's session has no name queued and nothing to say; and to the whole messages in all pieces it answers this, makes no entry and goes on
-pub record SendsPieces (script : List ℕ) (sent : Sent) (answers : List ℕ) : Type 0 where
-  pub number : ℕ
-  pub world : World
-  pub session : Session
-  pub later : Hub
+-- what the session answers to the whole messages in its input and the first pieces, and the hub after them
+abbrev pub answered_to_first : ℕ → SentInPieces → List ℕ × Hub
+answered_to_first n sent = answers_to sent.number (messages_in (sent.session.input ++ concat (take n (pieces_of sent)))).0 sent.world.hub
+
+-- and to those in all pieces
+abbrev pub answered_to_all : SentInPieces → List ℕ × Hub
+answered_to_all sent = answers_to sent.number (messages_in (sent.session.input ++ concat (pieces_of sent))).0 sent.world.hub
+
+-- The script is built; the peer's session is at rest; the lines between are of others; no entry is made until the last of them is done;
+-- and the session goes on behind the whole messages in its input and all pieces.
+pub record SendsPieces (script : List ℕ) (sent : SentInPieces) : Type 0 where
   pub built : first_later script ≡ None
   pub read : script_of script ≡ Ok (lines_of sent)
-  pub place : placed sent.word (world_then sent) ≡ Some (number, world)
-  pub rest : IsAtRest world.hub number session
-  pub passable : ArePassable (concat sent.pieces)
-  pub answered : answers_to number (messages_in (session.input ++ concat sent.pieces)).0 world.hub ≡ (answers, later)
-  pub no_entry : later.history ≡ world.hub.history
-  pub goes_on : option_map (λ s. s.standing) (session_of later number) ≡ Some Live
+  pub place : placed sent.word (world_then sent) ≡ Some (sent.number, sent.world)
+  pub rest : IsAtRest sent.world.hub sent.number sent.session
+  pub passable : ArePassable (concat (pieces_of sent))
+  pub others : AllByRecursion (λ t. list_all (is_of_others sent.word) t.1 ≡ true) sent.turns
+  pub no_entry : (world_behind sent).hub.history ≡ sent.world.hub.history
+  pub goes_on : standing_of (answered_to_all sent).1 sent.number ≡ Some Live
 
-abbrev pub AsksInPieces : Option Request → List ℕ → Sent → List ℕ → Type 0
-AsksInPieces None script sent answers = ⊥
-AsksInPieces (Some request) script sent answers = SendsPieces script sent answers
+abbrev pub AsksInPieces : Option Request → List ℕ → SentInPieces → Type 0
+AsksInPieces None script sent = ⊥
+AsksInPieces (Some request) script sent = SendsPieces script sent
 
--- one line for each piece, with what is told of it
-abbrev pub told_lines : Word → List (List ℕ) → List (List ℕ)
-told_lines w told = map (λ octets. spaced (codes "bytes" ∷ w ∷ octets_text octets ∷ [])) told
+-- for each piece something is told; and what is told of the first pieces, together, is the answers to the whole messages in the input and these
+pub record TellsInTurn (sent : SentInPieces) (told : List (List ℕ)) : Type 0 where
+  pub count : length told ≡ length sent.turns
+  pub turns : (n : ℕ) → concat (take n told) ≡ (answered_to_first n sent).0
 
--- those lines alone stand between what the lines before print and what those behind them do
-abbrev pub pieces_reply : Sent → List (List ℕ) → Reply
+-- a line with each of these, and behind it what the lines of others print
+abbrev pub printed_turns : Word → List Turn → List (List ℕ) → World → List (List ℕ)
+printed_turns w [] told world = []
+printed_turns w (turn ∷ turns) [] world = []
+printed_turns w (turn ∷ turns) (octets ∷ told) world =
+    let later = (line_does by_history (send w turn.0) world).0 in
+    spaced (codes "bytes" ∷ w ∷ octets_text octets ∷ []) ∷ (printed_by by_history turn.1 later ++ printed_turns w turns told (world_after turn.1 later))
+
+-- those lines alone stand between what the lines before print and what those behind do
+abbrev pub pieces_reply : SentInPieces → List (List ℕ) → Reply
 pieces_reply sent told = record {
   status = 0;
-  text = ended_lines (printed_by by_history sent.before (world_start sent)) ++ (ended_lines (told_lines sent.word told) ++ ended_lines (printed_by by_history sent.behind (world_behind sent)));
+  text = ended_lines (printed_by by_history sent.before (world_start sent))
+      ++ (ended_lines (printed_turns sent.word sent.turns told (world_then sent)) ++ ended_lines (printed_by by_history sent.behind (world_behind sent)));
 }

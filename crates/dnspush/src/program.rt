@@ -1,7 +1,8 @@
 ghost use Rattle.std.specs.Prelude.{◌≡◌, ◌≢◌, ◌+◌, ◌⊎◌, ℕ, List, IsNone};
+ghost use Rattle.std.specs.List.{concat};
 ghost use Rattle.push_base.specs.Causes.{Rose};
 ghost use Rattle.replay.specs.Scripts.{max_script};
-ghost use Rattle.dnspush.specs.Cutting.{AnswersEveryCutIn};
+ghost use Rattle.dnspush.specs.Cutting.{SentInPieces, AnswersEveryCutIn, AsksInPieces, TellsInTurn, pieces_reply};
 ghost use Rattle.dnspush.specs.Given.{LostAtMost};
 ghost use Rattle.dnspush.specs.Outside.{Adds, MayHaveGiven};
 ghost use Rattle.dnspush.specs.Reply.{Answers, IsFrontOf, Took};
@@ -45,7 +46,15 @@ pub fn run<O: Outside>(
         (SourceRose (request_in words.now) (Rose (O.In.faults input.old) (O.In.faults input.new)) (Rose (O.reads outside.old) (O.reads outside.new)))
         (served_reply asked) result) }
 
-    // In every built script, between any two lines: whole messages are answered one after the other, the same for every cut of a session's octets.
+    // In every built script, as long as no entry is made, what is told of the pieces in which a peer sends its octets answers the whole messages that they complete.
+    ensures pieces { (octets : List ℕ) (sent : SentInPieces) →
+        MayBeOctets (request_in words.now) (O.In.left input.old) (O.used outside.old) (O.used outside.new) octets →
+        AsksInPieces (request_in words.now) (front_read octets) sent →
+        (told : List (List ℕ)) × TellsInTurn sent told × Took (O.Out.taken out.old) (O.Out.taken out.new) (Answers
+        (SourceRose (request_in words.now) (Rose (O.In.faults input.old) (O.In.faults input.new)) (Rose (O.reads outside.old) (O.reads outside.new)))
+        (pieces_reply sent told) result) }
+
+    // A law of the worlds between the lines of built scripts: a session at rest answers whole messages one after the other, in whatever pieces its octets come.
     ensures cuts { (script : List ℕ) → AnswersEveryCutIn script }
 
     // When each status comes.

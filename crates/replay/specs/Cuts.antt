@@ -1,14 +1,17 @@
--- That a peer is answered the same, however its octets are cut (RFC 7766, 8; RFC 8490, 5.4).
+-- That a session answers its octets the same in whatever pieces they come (RFC 7766, 8; RFC 8490, 5.4).
 --     given_for number pieces hub      what a session gives for pieces of octets that come one after the other
---     answers_to number messages hub      what it answers to whole messages, one after the other, until it ends
---     AnswersInTurn, OneOutputForEveryCut      the former is the latter for the whole messages in all octets, and so it is one for every cut
-use Rattle.std.specs.Prelude.{◌≡◌, ℕ, ◌<◌, ◌≤◌, List, [], ◌∷◌, ◌++◌, length, All, Some}
+--     answers_to number messages hub      what a live session without output answers to whole messages, one after the other, until it ends
+--     AnswersInTurn      what it gives for pieces is what it answers to the whole messages in its input and all pieces
+--     OneOutputForEveryCut      so it gives one output for the same octets, however they are cut into pieces
+use Rattle.std.specs.Prelude.{◌≡◌, ℕ, ◌<◌, ◌≤◌, List, [], ◌∷◌, ◌++◌, length, All, Option, Some, None, option_map}
 use Rattle.std.specs.List.{concat}
-use Rattle.dsotlv.specs.Messages.{messages_in}
-use Rattle.pushserver.specs.declared.given.Given.TheVariants.{Nothing, End}
+use Rattle.dsotlv.specs.Messages.{first_message, messages_in}
+use Rattle.pushsession.specs.declared.standing.Standing.{Standing}
+use Rattle.pushsession.specs.declared.standing.Standing.TheVariants.{Live}
+use Rattle.pushserver.specs.declared.given.Given.TheVariants.{End}
 use Rattle.pushserver.specs.Sessions.{Session}
 use Rattle.pushserver.specs.Hubs.{Hub, session_of, connect}
-use Rattle.pushserver.specs.Giving.{give, reacted, after_reaction}
+use Rattle.pushserver.specs.Giving.{reacted, after_reaction}
 use Rattle.replay.specs.Running.{exchanged, enough}
 
 -- the octets that a session gives for pieces that come one after the other, and the hub after them
@@ -16,7 +19,8 @@ abbrev pub given_for : ℕ → List (List ℕ) → Hub → List ℕ × Hub
 given_for number [] hub = ([], hub)
 given_for number (piece ∷ pieces) hub = (let x = exchanged enough number piece hub [] in let later = given_for number pieces x.hub in (x.octets ++ later.0, later.1))
 
--- what a session answers to messages that it reacts to one after the other, until it ends, and the hub after them
+-- What a live session without output answers to messages that it reacts to one after the other, until it ends, and the hub after
+-- them; no reaction writes as much as there is room for.
 abbrev pub answers_to : ℕ → List (List ℕ) → Hub → List ℕ × Hub
 answers_to number [] hub = ([], hub)
 answers_to number (message ∷ messages) hub =
@@ -26,23 +30,38 @@ answers_to number (message ∷ messages) hub =
       | _ ↦ (let later = answers_to number messages one.hub in (one.octets ++ later.0, later.1))
     ]
 
--- the session has no name queued and nothing to say
+-- a live session: no name is queued, nothing is to be written, and no whole message waits
 pub record IsAtRest (hub : Hub) (number : ℕ) (session : Session) : Type 0 where
   pub there : session_of hub number ≡ Some session
+  pub standing : session.standing ≡ Live
   pub queue : session.queue ≡ []
-  pub nothing : (give hub number 1).given ≡ Nothing
+  pub output : session.output ≡ []
+  pub waits : first_message session.input ≡ None
 
--- octets, as many as a run can pass
+-- numbers below 256, as many as a run can pass
 abbrev pub ArePassable : List ℕ → Type 0
 ArePassable octets = All (λ o. o < 256) octets × (length octets ≤ enough)
 
--- Where no entry is made until the last piece is answered, the whole messages in all octets are answered one after the other.
+abbrev pub with_input : List ℕ → Session → Session
+with_input rest session = record session { input = rest }
+
+abbrev pub standing_of : Hub → ℕ → Option Standing
+standing_of hub number = option_map (λ s. s.standing) (session_of hub number)
+
+-- The octets given are those answered, and the session is left alike: it lives, or has ended for the same reason; and where it lives, the octets behind the last whole message wait in its input.
+pub record GivesAsAnswered (number : ℕ) (rest : List ℕ) (given answered : List ℕ × Hub) : Type 0 where
+  pub octets : given.0 ≡ answered.0
+  pub history : given.1.history ≡ answered.1.history
+  pub standing : standing_of given.1 number ≡ standing_of answered.1 number
+  pub session : standing_of answered.1 number ≡ Some Live → session_of given.1 number ≡ option_map (with_input rest) (session_of answered.1 number)
+
+-- Where no whole message in its input and all pieces makes an entry, they are answered one after the other.
 abbrev pub AnswersInTurn : Hub → ℕ → Type 0
 AnswersInTurn hub number = (session : Session) (pieces : List (List ℕ)) → IsAtRest hub number session → ArePassable (concat pieces)
-    → (given_for number pieces hub).1.history ≡ hub.history
-    → (given_for number pieces hub).0 ≡ (answers_to number (messages_in (session.input ++ concat pieces)).0 hub).0
+    → let split = messages_in (session.input ++ concat pieces) in
+    (answers_to number split.0 hub).1.history ≡ hub.history → GivesAsAnswered number split.1 (given_for number pieces hub) (answers_to number split.0 hub)
 
--- Where no entry is made for one cut, each cut of the same octets gives the same output.
+-- Where pieces come and no entry is made, all other pieces of the same octets give the same output.
 abbrev pub OneOutputForEveryCut : Hub → ℕ → Type 0
 OneOutputForEveryCut hub number = (session : Session) (first second : List (List ℕ)) → IsAtRest hub number session → ArePassable (concat first) → concat first ≡ concat second
     → (given_for number first hub).1.history ≡ hub.history
@@ -52,6 +71,6 @@ OneOutputForEveryCut hub number = (session : Session) (first second : List (List
 abbrev pub AnswersEveryCut : Hub → Type 0
 AnswersEveryCut hub = (number : ℕ) → AnswersInTurn hub number × OneOutputForEveryCut hub number
 
--- between two lines: of each session that is there, and of the one that would come next
+-- of each session that is there, and of the one that would come next
 abbrev pub AnswersEveryCutNow : Hub → Type 0
 AnswersEveryCutNow hub = AnswersEveryCut hub × AnswersEveryCut (connect hub).1

@@ -3,6 +3,7 @@ use Rattle.dnspush.specs.Command.{asked}
 use Rattle.dnspush.proofs.Running.{usage_answered, input_answered, path_answered}
 use Rattle.dnspush.proofs.Serving.{served_answered}
 use Rattle.dnspush.proofs.EveryScriptCut.{answers-every-cut-in}
+use Rattle.dnspush.proofs.SentPieces.{pieces_answered}
 use Rattle.dnspush.proofs.program.run.Goals as goal
 
 pub returns-in-None-clause-replied : goal.returns-in-None-clause-replied
@@ -28,6 +29,18 @@ pub returns-in-Some-ReplayPath-clause-served : goal.returns-in-Some-ReplayPath-c
 returns-in-Some-ReplayPath-clause-served g c = λ octets asks may h.
     let is = ap (λ x. Some (asked x)) (sym c.in-Some-ReplayPath.field-0-is) ∙ c.in-Some-ReplayPath.ensures in
     served_answered _ _ octets asks _ _ _ h
+    (path_answered _ _ _ c.in-Some-ReplayPath.path.now _ _ _ _ _ octets _ _ is c.code-in-Some-ReplayPath.ensures (c.replay_path.ensures.replied octets) may)
+
+pub returns-in-Some-ReplayInput-clause-pieces : goal.returns-in-Some-ReplayInput-clause-pieces
+returns-in-Some-ReplayInput-clause-pieces g c = λ octets sent may h.
+    let is = ap (λ x. Some (asked x)) (sym c.in-Some-ReplayInput.field-0-is) ∙ c.in-Some-ReplayInput.ensures in
+    pieces_answered _ _ octets sent _ _ _ h
+    (input_answered _ _ _ _ _ _ _ _ octets _ _ is c.code-in-Some-ReplayInput.ensures c.replay.ensures.replied may)
+
+pub returns-in-Some-ReplayPath-clause-pieces : goal.returns-in-Some-ReplayPath-clause-pieces
+returns-in-Some-ReplayPath-clause-pieces g c = λ octets sent may h.
+    let is = ap (λ x. Some (asked x)) (sym c.in-Some-ReplayPath.field-0-is) ∙ c.in-Some-ReplayPath.ensures in
+    pieces_answered _ _ octets sent _ _ _ h
     (path_answered _ _ _ c.in-Some-ReplayPath.path.now _ _ _ _ _ octets _ _ is c.code-in-Some-ReplayPath.ensures (c.replay_path.ensures.replied octets) may)
 
 pub returns-in-None-clause-cuts : goal.returns-in-None-clause-cuts
