@@ -28,7 +28,7 @@ use Rattle.dsotlv.specs.declared.message.Notice.{Notice}
 use Rattle.coalesce.specs.Laws.{is_sent_so, can_be_sent}
 use Rattle.coalesce.specs.Net.{net, net_frame, push_frame, push_message, additions, kinds_of, single_changes, all_anew, all_gone, owner_of, size_of_notices, shorter, max_net_message, max_net_size}
 use Rattle.coalesce.specs.Sides.{IsOneSide, AreOfOneName}
-use Rattle.coalesce.specs.Steps.{removals_behind, additions_to, notices_as, gone_form, head_of}
+use Rattle.coalesce.specs.Steps.{removals_behind, additions_to, gone_form, head_of}
 use Rattle.coalesce.specs.declared.form.Form.TheVariants.{AllKinds}
 use Rattle.coalesce.proofs.NetSizes.{size_of_notices-append, size_of-all_anew, size_of-additions, net-takes, length-push_message, owner_has_name, net_fits_one_message}
 use Rattle.coalesce.proofs.Sides.{Side, side, sent}
@@ -86,11 +86,6 @@ pub single_is : (name : Labels) (old new : RecordSet) → IsOneSide old → sing
 single_is name old new one = sym (λ i. removals_behind-is name new old (rise old one) i ++ additions_to-is old new i)
 
 -- ---- the form of a net
-
-pub gone_form-is : (name : Labels) (kinds : List ℕ) (old new : RecordSet) → notices_as (gone_form kinds) name old new ≡ all_gone name kinds
-gone_form-is name [] old new = refl
-gone_form-is name (k ∷ []) old new = refl
-gone_form-is name (k ∷ l ∷ ks) old new = refl
 
 -- kinds that differ
 pub gone_form-several : (k x : ℕ) (xs : List ℕ) → (x == k) ≡ false → gone_form (dedup_from (λ a b. a == b) k (x ∷ xs)) ≡ AllKinds

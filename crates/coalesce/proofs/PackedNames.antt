@@ -11,7 +11,7 @@ use Rattle.rrset.specs.RecordSet.{RecordSet, matching}
 use Rattle.rrset.specs.declared.record.Question.{Question}
 use Rattle.dsotlv.specs.Notices.{applied, applied_all}
 use Rattle.dsotlv.specs.declared.message.Notice.{Notice}
-use Rattle.coalesce.specs.Net.{net, size_of_notices, max_message, packed_behind, packed}
+use Rattle.coalesce.specs.Net.{net, size_of_notices, max_push, packed_behind, packed}
 use Rattle.coalesce.specs.Laws.{is_side, can_be_sent, Nets, all_notices, speaks_of, are_others, is_named_in, are_apart, nets_of, HaveSides, IsAlike, PackedLeads, PackedIsReadBack}
 use Rattle.coalesce.proofs.SameNames.{same_name-joined, same_name-swapped}
 use Rattle.coalesce.proofs.Sides.{side, net_leads_to_new}
@@ -104,7 +104,7 @@ module _ (sent now : Labels → RecordSet) (q : Question) where
         → applied_all (packed_behind size ((n, notices) ∷ nets_of sent now ns)).0 q (matching q (sent q.name)) ≡ after (b || is_named_in q.name ns) (is_named_in q.name (packed_behind size ((n, notices) ∷ nets_of sent now ns)).1)
     leads_first n ns its sides apart size rest [] is true same = goes_first n ns sides apart same size [] (its_net n its.0 its.1 same [] is)
     leads_first n ns its sides apart size rest [] is false same = rest size
-    leads_first n ns its sides apart size rest (m ∷ ms) is b same = by (size == 0 || nat_le (16 + size + size_of_notices (m ∷ ms)) max_message) b same
+    leads_first n ns its sides apart size rest (m ∷ ms) is b same = by (size == 0 || nat_le (16 + size + size_of_notices (m ∷ ms)) max_push) b same
       where
         further : List Notice × List Labels
         further = packed_behind (size + size_of_notices (m ∷ ms)) (nets_of sent now ns)

@@ -6,17 +6,17 @@ use Rattle.std.proofs.lemmas.Bool.{eqb-false, ne_eqb, leb-true, leb-false, or_pa
 use Rattle.push_base.specs.Cases.{is_empty}
 use Rattle.dnsname.specs.Names.{Labels}
 use Rattle.dsotlv.specs.declared.message.Notice.{Notice}
-use Rattle.coalesce.specs.Net.{size_of_notices, max_message, packed_behind, packed, push_message, max_net_message}
+use Rattle.coalesce.specs.Net.{size_of_notices, max_push, packed_behind, packed, push_message, max_net_message}
 use Rattle.coalesce.specs.Laws.{Nets, all_notices, telling, StopsBefore, PacksTheFront, PacksNothingOfNothing, PackedFitsOneMessage}
 use Rattle.coalesce.proofs.NetSizes.{length-push_message, size_of_notices-append, net-takes}
 
 -- Behind so many octets: at most one of the names that go tells something, where nothing stands there, and else none; or the message isn't too long.
 abbrev Fits : ℕ → Nets → Type 0
-Fits size gone = (length (telling gone) ≤ cond (size == 0) 1 0) ⊎ (16 + (size + size_of_notices (all_notices gone)) ≤ max_message)
+Fits size gone = (length (telling gone) ≤ cond (size == 0) 1 0) ⊎ (16 + (size + size_of_notices (all_notices gone)) ≤ max_push)
 
 abbrev Stops : ℕ → Nets → Type 0
 Stops size [] = Unit {0}
-Stops size (e ∷ left) = (0 < size) × (is_empty e.1 ≡ false) × (max_message < 16 + (size + size_of_notices e.1))
+Stops size (e ∷ left) = (0 < size) × (is_empty e.1 ≡ false) × (max_push < 16 + (size + size_of_notices e.1))
 
 -- what is packed behind so many octets
 pub record PackedBehind (size : ℕ) (names : Nets) (result : List Notice × List Labels) : Type 0 where
@@ -34,7 +34,7 @@ none_tells ((name, []) ∷ rest) e = none_tells rest e
 none_tells ((name, n ∷ ns) ∷ rest) e = absurd (omega (arith, e))
 
 -- a net that goes in front of others that fit behind it
-fits-cons : (size : ℕ) (name : Labels) (n : Notice) (ns : List Notice) (gone : Nets) → (size == 0 || nat_le (16 + size + size_of_notices (n ∷ ns)) max_message) ≡ true
+fits-cons : (size : ℕ) (name : Labels) (n : Notice) (ns : List Notice) (gone : Nets) → (size == 0 || nat_le (16 + size + size_of_notices (n ∷ ns)) max_push) ≡ true
     → Fits (size + size_of_notices (n ∷ ns)) gone → Fits size ((name, n ∷ ns) ∷ gone)
 fits-cons size name n ns gone test fit = by fit
   where
@@ -44,10 +44,10 @@ fits-cons size name n ns gone test fit = by fit
     behind : ◌≡◌ {A = ℕ} (cond ((size + size_of_notices (n ∷ ns)) == 0) 1 0) 0
     behind = let some = net-takes n ns in ap {A = Bool} {B = ℕ} (λ b. cond b 1 0) (ne_eqb (size + size_of_notices (n ∷ ns)) 0 (λ e. omega (arith, e, some)))
 
-    alone : length (telling gone) ≡ 0 → ((size == 0) ≡ true) ⊎ (nat_le (16 + size + size_of_notices (n ∷ ns)) max_message ≡ true) → Fits size ((name, n ∷ ns) ∷ gone)
+    alone : length (telling gone) ≡ 0 → ((size == 0) ≡ true) ⊎ (nat_le (16 + size + size_of_notices (n ∷ ns)) max_push ≡ true) → Fits size ((name, n ∷ ns) ∷ gone)
     alone none (inl first) = inl (subst (λ (b : Bool). suc (length (telling gone)) ≤ cond b 1 0) (sym first) (omega (arith, none)))
     alone none (inr fits) =
-        let small = leb-true (16 + size + size_of_notices (n ∷ ns)) max_message fits in
+        let small = leb-true (16 + size + size_of_notices (n ∷ ns)) max_push fits in
         let nothing = none_tells gone none in
         let sum = sizes in
         inr (omega (arith, small, nothing, sum))
@@ -56,7 +56,7 @@ fits-cons size name n ns gone test fit = by fit
     by (inl few) = let none = behind in alone (omega (arith, few, none)) (or_cases _ _ test)
     by (inr small) = let sum = sizes in inr (omega (arith, small, sum))
 
-packed_first : (size : ℕ) (name : Labels) (n : Notice) (ns : List Notice) (rest : Nets) → (b : Bool) → (size == 0 || nat_le (16 + size + size_of_notices (n ∷ ns)) max_message) ≡ b
+packed_first : (size : ℕ) (name : Labels) (n : Notice) (ns : List Notice) (rest : Nets) → (b : Bool) → (size == 0 || nat_le (16 + size + size_of_notices (n ∷ ns)) max_push) ≡ b
     → PackedBehind (size + size_of_notices (n ∷ ns)) rest (packed_behind (size + size_of_notices (n ∷ ns)) rest)
     → PackedBehind size ((name, n ∷ ns) ∷ rest) (elim b [ true ↦ ((n ∷ ns) ++ (packed_behind (size + size_of_notices (n ∷ ns)) rest).0, (packed_behind (size + size_of_notices (n ∷ ns)) rest).1) | false ↦ ([], name ∷ map (λ e. e.0) rest) ])
 packed_first size name n ns rest true test r = record {
@@ -86,17 +86,17 @@ packed_first size name n ns rest false test r = record {
     positive (suc k) h = omega arith
 
     some : 0 < size + 0
-    some = positive size (eqb-false size 0 (or_parts (size == 0) (nat_le (16 + size + size_of_notices (n ∷ ns)) max_message) test).0)
+    some = positive size (eqb-false size 0 (or_parts (size == 0) (nat_le (16 + size + size_of_notices (n ∷ ns)) max_push) test).0)
 
-    large : max_message < 16 + (size + 0 + size_of_notices (n ∷ ns))
-    large = let e = leb-false (16 + size + size_of_notices (n ∷ ns)) max_message (or_parts (size == 0) (nat_le (16 + size + size_of_notices (n ∷ ns)) max_message) test).1 in omega (arith, e)
+    large : max_push < 16 + (size + 0 + size_of_notices (n ∷ ns))
+    large = let e = leb-false (16 + size + size_of_notices (n ∷ ns)) max_push (or_parts (size == 0) (nat_le (16 + size + size_of_notices (n ∷ ns)) max_push) test).1 in omega (arith, e)
 
 pub is_packed_behind : (size : ℕ) (names : Nets) → PackedBehind size names (packed_behind size names)
 is_packed_behind size [] = record { gone = []; left = []; split = refl; whole_nets = refl; stay = refl; stops = tt; fits = inl (omega arith) }
 is_packed_behind size ((name, []) ∷ rest) =
     let r = is_packed_behind size rest in
     record { gone = (name, []) ∷ r.gone; left = r.left; split = ap (λ es. (name, []) ∷ es) r.split; whole_nets = r.whole_nets; stay = r.stay; stops = r.stops; fits = r.fits }
-is_packed_behind size ((name, n ∷ ns) ∷ rest) = packed_first size name n ns rest (size == 0 || nat_le (16 + size + size_of_notices (n ∷ ns)) max_message) refl (is_packed_behind (size + size_of_notices (n ∷ ns)) rest)
+is_packed_behind size ((name, n ∷ ns) ∷ rest) = packed_first size name n ns rest (size == 0 || nat_le (16 + size + size_of_notices (n ∷ ns)) max_push) refl (is_packed_behind (size + size_of_notices (n ∷ ns)) rest)
 
 -- ---- a whole message
 
@@ -125,7 +125,7 @@ packs_the_front names =
     plain : (k : ℕ) → 0 + k ≡ k
     plain k = omega arith
 
-    by : (gone : Nets) (message : List Notice) → message ≡ all_notices gone → Fits 0 gone → (length (telling gone) ≤ 1) ⊎ (length (push_message message) ≤ max_message)
+    by : (gone : Nets) (message : List Notice) → message ≡ all_notices gone → Fits 0 gone → (length (telling gone) ≤ 1) ⊎ (length (push_message message) ≤ max_push)
     by gone message is (inl few) = inl few
     by gone message is (inr small) =
         let whole = length-push_message (all_notices gone) in
@@ -163,6 +163,6 @@ packed_fits_one_message names fit =
     let p = packs_the_front names in
     by p.gone (packed names).0 p.whole_nets (each-front FitsAlone p.gone p.left (subst (AllByRecursion FitsAlone) p.split fit)) p.size
   where
-    by : (gone : Nets) (message : List Notice) → message ≡ all_notices gone → AllByRecursion FitsAlone gone → (length (telling gone) ≤ 1) ⊎ (length (push_message message) ≤ max_message) → length (push_message message) ≤ max_net_message
+    by : (gone : Nets) (message : List Notice) → message ≡ all_notices gone → AllByRecursion FitsAlone gone → (length (telling gone) ≤ 1) ⊎ (length (push_message message) ≤ max_push) → length (push_message message) ≤ max_net_message
     by gone message is fit (inl few) = subst (λ ns. length (push_message ns) ≤ max_net_message) (sym is) (one_tells gone few fit)
     by gone message is fit (inr small) = omega (arith, small)

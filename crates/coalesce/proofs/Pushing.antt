@@ -1,24 +1,24 @@
 -- One PUSH of the first names of a queue.
 --     IsAhead nets rest size      so many octets are in the message, and what goes in behind them is packed of the rest
-use Rattle.std.proofs.Common.{◌≡◌, ◌⊎◌, inl, inr, ℕ, ◌+◌, ◌-◌, ◌<◌, ◌≤◌, ◌≢◌, Bool, true, false, List, [], ◌∷◌, ◌++◌, map, length, take, drop, append_assoc, sym, subst, ap, refl, ◌∙◌, arith}
+use Rattle.std.proofs.Common.{◌≡◌, ◌⊎◌, inl, inr, ℕ, ◌+◌, ◌-◌, ◌<◌, ◌≤◌, ◌≢◌, Bool, true, false, List, [], ◌∷◌, ◌++◌, map, length, take, append_assoc, sym, subst, ap, refl, ◌∙◌, arith}
 use Rattle.std.specs.Prelude.{flat_map, nat_le, ◌||◌, ◌==◌, IsTrue}
 use Rattle.std.specs.Int.{w16, to_be_bytes}
 use Rattle.std.proofs.lemmas.Bool.{leb-true, eqb-true}
-use Rattle.std.proofs.lemmas.List.{length-append, length-map, take-append-drop}
+use Rattle.std.proofs.lemmas.List.{length-append, length-map}
 use Rattle.dnsname.specs.Names.{Labels}
 use Rattle.rrset.specs.RecordSet.{RecordSet, at_name}
 use Rattle.subscr.specs.Asked.{Asked, wants}
 use Rattle.dsotlv.specs.Notices.{notice_octets}
 use Rattle.dsotlv.specs.declared.message.Notice.{Notice}
 use Rattle.coalesce.specs.Laws.{Nets, all_notices, can_be_sent}
-use Rattle.coalesce.specs.Net.{net, packed, packed_behind, max_message, size_of_notices, push_message, push_frame, max_net_frame, max_net_size}
+use Rattle.coalesce.specs.Net.{net, packed, packed_behind, max_push, size_of_notices, push_message, push_frame, max_net_frame, max_net_size}
 use Rattle.coalesce.specs.Sides.{AreOfOneName, frame_octets}
 use Rattle.coalesce.specs.Steps.{head_of}
-use Rattle.coalesce.specs.Waiting.{WaitingName, old_side, new_side, IsPackable, CanBePacked, asked_net, nets_in, packed_of}
+use Rattle.coalesce.specs.Waiting.{WaitingName, old_side, new_side, IsPackable, asked_net, nets_in, packed_of}
 use Rattle.coalesce.proofs.NetSizes.{size_of_notices-append, net-takes, length-push_message}
 use Rattle.coalesce.proofs.Sides.{parts_stay_sides}
 use Rattle.coalesce.proofs.Forms.{net_small}
-use Rattle.coalesce.proofs.Packing.{packs_the_front, each-front}
+use Rattle.coalesce.proofs.Packing.{packs_the_front}
 
 -- ---- both sides of a name, as questions ask for them
 
@@ -48,9 +48,6 @@ pub record IsAhead (nets rest : Nets) (size : ℕ) : Type 0 where
   pub sum : size + size_of_notices (packed_behind size rest).0 ≡ size_of_notices (packed nets).0
   pub most : size ≤ max_net_size
 
-pub ahead_begin : (nets : Nets) → IsAhead nets nets 0
-ahead_begin nets = record { left = refl; sum = omega arith; most = omega arith }
-
 -- a name with nothing to tell
 pub ahead_silent : (nets rest : Nets) (size : ℕ) (name : Labels) (ns : List Notice) → IsAhead nets ((name, ns) ∷ rest) size → size_of_notices ns ≡ 0 → IsAhead nets rest size
 ahead_silent nets rest size name [] ahead none = record { left = ahead.left; sum = ahead.sum; most = ahead.most }
@@ -61,10 +58,10 @@ abbrev first_packed : Bool → ℕ → Labels → List Notice → Nets → List 
 first_packed true size name ns rest = (ns ++ (packed_behind (size + size_of_notices ns) rest).0, (packed_behind (size + size_of_notices ns) rest).1)
 first_packed false size name ns rest = ([], name ∷ map (λ e. e.0) rest)
 
-packed_behind-first : (size : ℕ) (name : Labels) (ns : List Notice) (rest : Nets) (b : Bool) → size_of_notices ns ≢ 0 → (size == 0 || nat_le (16 + size + size_of_notices ns) max_message) ≡ b
+packed_behind-first : (size : ℕ) (name : Labels) (ns : List Notice) (rest : Nets) (b : Bool) → size_of_notices ns ≢ 0 → (size == 0 || nat_le (16 + size + size_of_notices ns) max_push) ≡ b
     → packed_behind size ((name, ns) ∷ rest) ≡ first_packed b size name ns rest
 packed_behind-first size name [] rest b some is = absurd (some refl)
-packed_behind-first size name (n ∷ ns) rest b some is = by (size == 0 || nat_le (16 + size + size_of_notices (n ∷ ns)) max_message) ∙ ap (λ t. first_packed t size name (n ∷ ns) rest) is
+packed_behind-first size name (n ∷ ns) rest b some is = by (size == 0 || nat_le (16 + size + size_of_notices (n ∷ ns)) max_push) ∙ ap (λ t. first_packed t size name (n ∷ ns) rest) is
   where
     by : (t : Bool) → elim t as (λ _. List Notice × List Labels) [ true ↦ ((n ∷ ns) ++ (packed_behind (size + size_of_notices (n ∷ ns)) rest).0, (packed_behind (size + size_of_notices (n ∷ ns)) rest).1) | false ↦ ([], name ∷ map (λ e. e.0) rest) ]
         ≡ first_packed t size name (n ∷ ns) rest
@@ -73,7 +70,7 @@ packed_behind-first size name (n ∷ ns) rest b some is = by (size == 0 || nat_l
 
 -- a net that goes in
 pub ahead_more : (nets rest : Nets) (size : ℕ) (name : Labels) (ns : List Notice) → IsAhead nets ((name, ns) ∷ rest) size → size_of_notices ns ≢ 0 → size_of_notices ns ≤ max_net_size
-    → (size == 0 || nat_le (16 + size + size_of_notices ns) max_message) ≡ true → IsAhead nets rest (size + size_of_notices ns)
+    → (size == 0 || nat_le (16 + size + size_of_notices ns) max_push) ≡ true → IsAhead nets rest (size + size_of_notices ns)
 ahead_more nets rest size name ns ahead some alone fits =
     let is = packed_behind-first size name ns rest true some fits in
     let sum = ap (λ p. size + size_of_notices p.0) is in
@@ -87,20 +84,20 @@ ahead_more nets rest size name ns ahead some alone fits =
     added : (a b c d e : ℕ) → e ≡ a + d → d ≡ b + c → a + b + c ≡ e
     added a b c d e h g = omega arith
 
-    by : (z : Bool) → (size == 0) ≡ z → (z || nat_le (16 + size + size_of_notices ns) max_message) ≡ true → (size ≡ 0) ⊎ (16 + size + size_of_notices ns ≤ max_message)
+    by : (z : Bool) → (size == 0) ≡ z → (z || nat_le (16 + size + size_of_notices ns) max_push) ≡ true → (size ≡ 0) ⊎ (16 + size + size_of_notices ns ≤ max_push)
     by true is h = inl (eqb-true size 0 is)
-    by false is h = inr (leb-true (16 + size + size_of_notices ns) max_message h)
+    by false is h = inr (leb-true (16 + size + size_of_notices ns) max_push h)
 
-    small : (a b : ℕ) → b ≤ max_net_size → (a ≡ 0) ⊎ (16 + a + b ≤ max_message) → a + b ≤ max_net_size
+    small : (a b : ℕ) → b ≤ max_net_size → (a ≡ 0) ⊎ (16 + a + b ≤ max_push) → a + b ≤ max_net_size
     small a b h (inl e) = omega arith
     small a b h (inr e) = omega arith
 
 -- the same, of a size that was counted
 pub turn_more : (nets rest : Nets) (size : ℕ) (name : Labels) (ns : List Notice) (more : ℕ) → IsAhead nets ((name, ns) ∷ rest) size → more ≡ size_of_notices ns → 0 < more → more ≤ max_net_size
-    → (size == 0 || nat_le (16 + size + more) max_message) ≡ true → IsAhead nets rest (size + more)
+    → (size == 0 || nat_le (16 + size + more) max_push) ≡ true → IsAhead nets rest (size + more)
 turn_more nets rest size name ns more ahead is some alone fits =
     subst (IsAhead nets rest) (ap (λ m. size + m) (sym is))
-    (ahead_more nets rest size name ns ahead (λ e. absurd (omega (arith, e, is, some))) (subst (λ m. m ≤ max_net_size) is alone) (sym (ap (λ m. size == 0 || nat_le (16 + size + m) max_message) is) ∙ fits))
+    (ahead_more nets rest size name ns ahead (λ e. absurd (omega (arith, e, is, some))) (subst (λ m. m ≤ max_net_size) is alone) (sym (ap (λ m. size == 0 || nat_le (16 + size + m) max_push) is) ∙ fits))
 
 pub turn_silent : (nets rest : Nets) (size : ℕ) (name : Labels) (ns : List Notice) (more : ℕ) → IsAhead nets ((name, ns) ∷ rest) size → more ≡ size_of_notices ns → more ≤ 0 → IsAhead nets rest size
 turn_silent nets rest size name ns more ahead is none = ahead_silent nets rest size name ns ahead (omega arith)
@@ -126,9 +123,6 @@ gone_is asked rows queue count is =
     ap (λ n. all_notices (nets_in asked rows (take n queue))) first
     ∙ ap all_notices (first_of (λ (w : WaitingName). (w.name, asked_net asked rows w)) p.gone p.left queue p.split)
     ∙ sym p.whole_nets
-
-pub gone_can : (rows : RecordSet) (queue : List WaitingName) (count : ℕ) → CanBePacked rows queue → CanBePacked rows (take count queue)
-gone_can rows queue count can = each-front (IsPackable rows) (take count queue) (drop count queue) (subst (CanBePacked rows) (sym (take-append-drop count queue)) can)
 
 -- the frame of the first names
 pub push_frame-is : (ns : List Notice) (size : ℕ) → size ≡ size_of_notices ns → size ≢ 0 → push_frame ns ≡ head_of size ++ flat_map notice_octets ns

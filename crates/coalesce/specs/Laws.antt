@@ -20,7 +20,7 @@ use Rattle.rrset.specs.declared.record.Question.{Question}
 use Rattle.dsotlv.specs.Notices.{applied_all, last_ttl, notice_octets, notices_of}
 use Rattle.dsotlv.specs.declared.message.Notice.{Notice}
 use Rattle.dsotlv.specs.declared.message.Notice.TheVariants.{Add, RemoveOne, RemoveSet, RemoveClass, RemoveAll, Odd}
-use Rattle.coalesce.specs.Net.{net, push_message, max_message, packed, max_net_message}
+use Rattle.coalesce.specs.Net.{net, push_message, max_push, packed, max_net_message}
 
 -- a record of the name and of class IN, with fields as wide as those of a message, no meta kind 255, and rdata that fits
 abbrev pub is_sent_so : Labels → Key × Shown → Bool
@@ -85,10 +85,10 @@ telling names = filter (λ e. not (is_empty e.1)) names
 -- nothing is left, or first a net that would make the message too long, which has something already
 abbrev pub StopsBefore : List Notice → Nets → Type 0
 StopsBefore message [] = Unit {0}
-StopsBefore message (e ∷ left) = (is_empty message ≡ false) × (is_empty e.1 ≡ false) × (max_message < length (push_message (message ++ e.1)))
+StopsBefore message (e ∷ left) = (is_empty message ≡ false) × (is_empty e.1 ≡ false) × (max_push < length (push_message (message ++ e.1)))
 
 -- The first names of a queue go, each with its whole net and nothing else; the others stay, in order. The message has the
--- net of one name alone, or at most 16,382 octets.
+-- net of one name alone, or at most `max_push` octets.
 pub record IsPacked (names : Nets) : Type 0 where
   pub gone : Nets
   pub left : Nets
@@ -96,7 +96,7 @@ pub record IsPacked (names : Nets) : Type 0 where
   pub whole_nets : (packed names).0 ≡ all_notices gone
   pub stay : (packed names).1 ≡ map (λ e. e.0) left
   pub stops : StopsBefore (packed names).0 left
-  pub size : (length (telling gone) ≤ 1) ⊎ (length (push_message (packed names).0) ≤ max_message)
+  pub size : (length (telling gone) ≤ 1) ⊎ (length (push_message (packed names).0) ≤ max_push)
 
 abbrev pub PacksTheFront : Type 0
 PacksTheFront = (names : Nets) → IsPacked names
@@ -105,7 +105,7 @@ PacksTheFront = (names : Nets) → IsPacked names
 abbrev pub PacksNothingOfNothing : Type 0
 PacksNothingOfNothing = (names : Nets) → is_empty (packed names).0 ≡ list_all (λ e. is_empty e.1) names
 
--- where each net alone takes at most 60,281 octets, the message does
+-- where each net alone takes at most `max_net_message` octets, the message does
 abbrev pub PackedFitsOneMessage : Type 0
 PackedFitsOneMessage = (names : Nets) → AllByRecursion (λ e. length (push_message e.1) ≤ max_net_message) names → length (push_message (packed names).0) ≤ max_net_message
 

@@ -7,14 +7,15 @@ use Rattle.dnsname.specs.Names.{Labels}
 use Rattle.rrset.specs.Records.{matches}
 use Rattle.rrset.specs.RecordSet.{RecordSet}
 use Rattle.rrset.specs.declared.record.Key.{Key}
+use Rattle.dsotlv.specs.Messages.{max_frame}
 use Rattle.subscr.specs.Asked.{wants}
 use Rattle.coalesce.specs.Laws.{is_side}
 use Rattle.coalesce.specs.declared.asking.Asking.{Asking}
 use Rattle.coalesce.specs.declared.asking.Asking.TheVariants as asking
 
--- the length's two octets and the longest message (RFC 7766, 8)
+-- those of the longest frame (RFC 7766, 8)
 abbrev pub frame_octets : ℕ
-frame_octets = 65537
+frame_octets = max_frame
 
 abbrev pub IsOneSide : RecordSet → Type 0
 IsOneSide rows = (name : Labels) × IsTrue (is_side name rows)

@@ -38,7 +38,9 @@ pub(crate) enum Form {
 /// The form of a net, and the octets of its records.
 #[derive(Clone, Copy, Debug)]
 pub(crate) struct Plan {
+    /// How the net tells the change.
     pub form: Form,
+    /// The octets of its records.
     pub size: u64,
 }
 

@@ -4,11 +4,9 @@ ghost use Rattle.std.specs.Prelude.{◌≡◌, ◌+◌, ◌-◌, ◌≤◌, ◌+
 ghost use Rattle.coalesce.specs.Sides.{frame_octets};
 
 use crate::NoMemory;
+use dsotlv::MAX_FRAME;
 use std::alloc::Global;
 use std::marker::Model;
-
-/// The octets of the longest frame: two of length, and a message of 65,535 (RFC 7766, 8).
-pub const MAX_FRAME: usize = 65_537;
 
 /// The octets of frames, at most `MAX_FRAME`. Its memory is taken once, with `new`.
 #[derive(Debug, Drop)]

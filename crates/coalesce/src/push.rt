@@ -3,7 +3,7 @@
 ghost use Rattle.std.specs.Prelude.{◌≡◌, ◌+◌, ◌-◌, ◌≤◌, ◌++◌, ◌||◌, ◌==◌, drop, flat_map, length, nat_le};
 ghost use Rattle.dsotlv.specs.Notices.{notice_octets};
 ghost use Rattle.coalesce.specs.Laws.{all_notices};
-ghost use Rattle.coalesce.specs.Net.{max_message, size_of_notices, push_frame, max_net_frame, max_net_size};
+ghost use Rattle.coalesce.specs.Net.{max_push, message_head, size_of_notices, push_frame, max_net_frame, max_net_size};
 ghost use Rattle.coalesce.specs.Sides.{frame_octets};
 ghost use Rattle.coalesce.specs.Waiting.{CanBePacked, nets_in, packed_of};
 
@@ -13,13 +13,15 @@ use crate::waiting::Waiting;
 use rrset::Table;
 use subscr::Subscriptions;
 
-/// The most octets of a message of several names.
-const MAX_MESSAGE: u64 = 16_382;
+/// The most octets of a PUSH of several names. The number is this project's own.
+const MAX_PUSH: u64 = 16_382;
 
 /// The first names of a queue, and the octets of their records.
 #[derive(Clone, Copy, Debug)]
 pub(crate) struct Front {
+    /// How many names go.
     pub names: usize,
+    /// The octets of the records of their nets.
     pub size: u64,
 }
 
@@ -27,9 +29,9 @@ pub(crate) struct Front {
 fn fits(size: u64, more: u64) -> bool
     requires size { size ≤ max_net_size }
     requires more { more ≤ max_net_size }
-    ensures { result ≡ (size == 0 || nat_le (16 + size + more) max_message) }
+    ensures { result ≡ (size == 0 || nat_le (message_head + size + more) max_push) }
 {
-    size == 0 || MESSAGE_HEAD + size + more <= MAX_MESSAGE
+    size == 0 || MESSAGE_HEAD + size + more <= MAX_PUSH
 }
 
 /// The names that go into one message, up to the first that doesn't fit.

@@ -3,11 +3,13 @@
 ghost use Rattle.std.specs.Prelude.{◌≡◌, ◌+◌, ◌<◌, ◌≤◌, ◌^◌, ◌++◌, length};
 ghost use Rattle.dnsname.specs.Names.{octets};
 ghost use Rattle.dsotlv.specs.Notices.{push_record};
+ghost use Rattle.coalesce.specs.Net.{message_head};
 ghost use Rattle.coalesce.specs.Sides.{frame_octets};
 ghost use Rattle.coalesce.specs.Steps.{behind_owner, head_of};
 
 use crate::frame::Frame;
 use dnsname::Name;
+use dsotlv::LENGTH;
 use dsotlv::flags::REQUEST;
 use dsotlv::kinds::PUSH;
 use rrset::FIXED_FIELDS;
@@ -16,13 +18,16 @@ use rrset::FIXED_FIELDS;
 pub(crate) const MESSAGE_HEAD: u64 = 16;
 
 /// The octets of a frame in front of its records: length, and the message's head.
-pub(crate) const FRAME_HEAD: usize = 18;
+pub(crate) const FRAME_HEAD: usize = LENGTH + MESSAGE_HEAD as usize;
 
 /// The fields of a record behind its owner (RFC 1035, 3.2.1).
 #[derive(Clone, Copy, Debug)]
 pub(crate) struct Fields {
+    /// The TYPE.
     pub kind: u16,
+    /// The CLASS.
     pub class: u16,
+    /// The TTL: in seconds, or what it says in a PUSH (RFC 8765, 6.3.1).
     pub ttl: u32,
 }
 
@@ -61,7 +66,7 @@ pub(crate) fn append_record(out: &mut Frame, owner: &Name, fields: Fields, rdata
 
 /// Appends what stands in front of so many octets of records.
 pub(crate) fn append_head(out: &mut Frame, size: usize)
-    requires size { 16 + size < 2 ^ 16 }
+    requires size { message_head + size < 2 ^ 16 }
     requires room { length out.old + 18 ≤ frame_octets }
     ensures { out.new ≡ out.old ++ head_of size }
 {

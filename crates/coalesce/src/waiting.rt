@@ -19,8 +19,11 @@ use subscr::Subscriptions;
 /// A name that waits, with the point before its first change and its records as they were then.
 #[derive(Debug, Drop)]
 pub(crate) struct Waiting {
+    /// The name.
     pub name: Name,
+    /// The point before its first change.
     pub point: u64,
+    /// Its records as they were then, in key order.
     pub old: Vec<(Key, Shown)>,
 }
 

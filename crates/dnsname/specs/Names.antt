@@ -10,19 +10,28 @@ use Rattle.std.specs.Prelude.{◌≡◌, ℕ, ◌-◌, ◌<◌, ◌≤◌, Bool,
 use Rattle.std.specs.List.{flat_map, AllByRecursion, list_all, ends_with}
 use Rattle.std.specs.Char.{to_ascii_lowercase}
 use Rattle.std.specs.Str.{bytes_eq}
+use Rattle.dnsname.specs.declared.part.TheConstants as part
+use Rattle.dnsname.specs.declared.text.TheConstants as text
 
 -- the labels, the innermost first, without the empty one of the root (RFC 1035, 3.1)
 abbrev pub Labels : Type 0
 Labels = List (List ℕ)
 
+-- the most octets of a label, and of a name (RFC 1035, 2.3.4)
+abbrev pub max_label : ℕ
+max_label = text.MAX_LABEL
+
+abbrev pub max_name : ℕ
+max_name = part.MAX_NAME
+
 -- 1 to 63 octets (RFC 1035, 2.3.4)
 pub record IsLabel (label : List ℕ) : Type 0 where
   pub octets : AllByRecursion (λ o. o < 256) label
   pub some : 1 ≤ length label
-  pub few : length label ≤ 63
+  pub few : length label ≤ max_label
 
 abbrev pub is_label : List ℕ → Bool
-is_label label = list_all (λ o. nat_lt o 256) label && nat_le 1 (length label) && nat_le (length label) 63
+is_label label = list_all (λ o. nat_lt o 256) label && nat_le 1 (length label) && nat_le (length label) max_label
 
 -- a label's length in one octet, and then the label (RFC 1035, 3.1)
 abbrev pub label_octets : List ℕ → List ℕ
@@ -38,10 +47,10 @@ octets name = labels_octets name ++ 0 ∷ []
 -- labels that take at most 255 octets in all (RFC 1035, 2.3.4)
 pub record IsName (name : Labels) : Type 0 where
   pub labels : AllByRecursion IsLabel name
-  pub size : length (octets name) ≤ 255
+  pub size : length (octets name) ≤ max_name
 
 abbrev pub is_name : Labels → Bool
-is_name name = list_all is_label name && nat_le (length (octets name)) 255
+is_name name = list_all is_label name && nat_le (length (octets name)) max_name
 
 -- the octets of a name, without pointers
 pub record SpellsName (text : List ℕ) (name : Labels) : Type 0 where

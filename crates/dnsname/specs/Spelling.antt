@@ -7,17 +7,17 @@ use Rattle.std.specs.Prelude.{◌≡◌, ℕ, ◌+◌, ◌/◌, ◌%◌, ◌^◌
 use Rattle.std.specs.List.{AllByRecursion}
 use Rattle.dnsname.specs.declared.name.NameFault.{NameFault}
 use Rattle.dnsname.specs.declared.name.NameFault.TheVariants.{Short, LongLabel, Pointer, TooLong, NoMemory}
-use Rattle.dnsname.specs.Names.{Labels, IsLabel, IsName, label_octets, labels_octets, octets}
+use Rattle.dnsname.specs.Names.{Labels, max_label, max_name, IsLabel, IsName, label_octets, labels_octets, octets}
 
 -- these octets stand at the place
 abbrev pub StandsAt : List ℕ → ℕ → List ℕ → Type 0
 StandsAt message place bytes = (rest : List ℕ) × (drop place message ≡ bytes ++ rest)
 
--- the length of a label, with the top bits 00, with which a name of size octets before it stays within 255
+-- the length of a label, with the top bits 00, with which a name of size octets before it stays within a name
 pub record IsLength (size n : ℕ) : Type 0 where
   pub some : 1 ≤ n
-  pub few : n ≤ 63
-  pub fits : size + n + 2 ≤ 255
+  pub few : n ≤ max_label
+  pub fits : size + n + 2 ≤ max_name
 
 -- The fault that is met at a place itself, before which size octets of the name stand.
 abbrev pub IsFault : List ℕ → ℕ → ℕ → NameFault → Type 0
@@ -30,7 +30,7 @@ IsFault message place size (LongLabel p) =
     (p ≡ place) × (n : ℕ) × StandsAt message place (n ∷ []) × (64 ≤ n) × (n < 192)
 -- a label with which the name would pass 255 octets (RFC 1035, 2.3.4)
 IsFault message place size (TooLong p) =
-    (p ≡ place) × (n : ℕ) × StandsAt message place (n ∷ []) × (1 ≤ n) × (n ≤ 63) × (255 < size + n + 2)
+    (p ≡ place) × (n : ℕ) × StandsAt message place (n ∷ []) × (1 ≤ n) × (n ≤ max_label) × (max_name < size + n + 2)
 IsFault message place size (Pointer p) = ⊥
 IsFault message place size NoMemory = ⊥
 
@@ -53,7 +53,7 @@ pub record PlainFaultAt (bytes : List ℕ) (at : ℕ) (fault : NameFault) : Type
   pub labels : Labels
   pub are_labels : AllByRecursion IsLabel labels
   pub spelled : StandsAt bytes at (labels_octets labels)
-  pub fits : length (labels_octets labels) < 255
+  pub fits : length (labels_octets labels) < max_name
   pub met : IsPlainFault bytes (at + length (labels_octets labels)) (length (labels_octets labels)) fault
 
 -- ---- names with pointers
@@ -104,7 +104,7 @@ pub data FaultFrom (message : List ℕ) : List ℕ → ℕ → ℕ → ℕ → N
   here : {piece : List ℕ} {begin place size : ℕ} {fault : NameFault}
       → IsPartFault piece begin place size fault → FaultFrom message piece begin place size fault
   label : {piece : List ℕ} {begin place size : ℕ} {fault : NameFault} {label : List ℕ}
-      → IsLabel label → StandsAt piece place (label_octets label) → size + length label + 2 ≤ 255
+      → IsLabel label → StandsAt piece place (label_octets label) → size + length label + 2 ≤ max_name
       → FaultFrom message piece begin (place + 1 + length label) (size + 1 + length label) fault
       → FaultFrom message piece begin place size fault
   pointer : {piece : List ℕ} {begin place size target : ℕ} {fault : NameFault}

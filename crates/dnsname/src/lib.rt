@@ -12,6 +12,3 @@ mod text;
 pub use name::{Name, NameFault, TextFault};
 pub use plain::plain_name_end;
 pub use push_base::NoMemory;
-
-#[cfg(test)]
-mod tests;

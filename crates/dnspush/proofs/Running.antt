@@ -1,23 +1,27 @@
 -- What a run answers, by what is told of its source.
-use Rattle.std.proofs.Common.{◌≡◌, inl, inr, ℕ, Option, Some, None, Err, List, [], ◌∷◌, ◌++◌, length, refl, sym, ◌∙◌, ap, subst, arith, length-append}
+use Rattle.std.proofs.Common.{◌≡◌, ◌⊎◌, inl, inr, ⊎_elim, ℕ, Option, Some, None, Err, List, [], ◌∷◌, ◌++◌, length, refl, sym, ◌∙◌, ap, subst, arith, length-append}
 use Rattle.std.proofs.lemmas.List.{append_cancel_left}
 use Rattle.push_base.specs.Causes.{Rose}
-use Rattle.dnspush.specs.declared.status.Status.{Status}
-use Rattle.dnspush.specs.declared.status.Status.TheVariants.{Usage}
-use Rattle.dnspush.specs.Status.{code_of}
-use Rattle.dnspush.specs.Given.{Gave}
+use Rattle.replay.specs.declared.outcome.Outcome.{Outcome}
+use Rattle.replay.specs.declared.outcome.Outcome.TheVariants.{WriteFault}
+use Rattle.replay.specs.BuiltScripts.{front_read, reply_to_script}
+use Rattle.replay.specs.Outcomes.{status_of}
+use Rattle.replay.specs.Reply.{IsFrontOf, Answers, Took, In_full}
+use Rattle.replay.specs.Sources.{Gave}
+use Rattle.replay.proofs.replies.Written.{Replied, answers_with_cause}
 use Rattle.dnspush.specs.declared.outside.OpenFault.{OpenFault}
 use Rattle.dnspush.specs.declared.outside.OpenFault.TheVariants.{Failed}
+use Rattle.dnspush.specs.declared.status.Status.{Status}
+use Rattle.dnspush.specs.declared.status.Status.TheVariants.{Usage, Ended}
 use Rattle.dnspush.specs.Opening.{CountsFailure}
 use Rattle.dnspush.specs.Outside.{Used, AddsUse, IsFresh, RaisedBy, MayHaveGiven}
-use Rattle.dnspush.specs.Reply.{Answers, Took, In_full}
-use Rattle.dnspush.specs.Script.{front_read, reply_to_script}
-use Rattle.dnspush.specs.Words.{Request, Replay_input, Replay_path, reply_to, MayBeOctets, SourceRose, usage}
-use Rattle.dnspush.proofs.Telling.{Said, Replied, answered, answers_with_cause}
+use Rattle.dnspush.specs.Runs.{reply_to, MayBeOctets, SourceRose}
+use Rattle.dnspush.specs.Status.{code_of}
+use Rattle.dnspush.specs.Words.{Request, Replay_input, Replay_path, usage}
 
 -- what a script of these octets is answered
-abbrev pub RepliedTo : Type 0 → Option (List ℕ) → Option (List ℕ) → Status → List ℕ → Type 0
-RepliedTo cause taken taken_now result octets = Took taken taken_now (Answers cause (reply_to_script (front_read octets)) (code_of result))
+abbrev pub RepliedTo : Type 0 → Option (List ℕ) → Option (List ℕ) → Outcome → List ℕ → Type 0
+RepliedTo cause taken taken_now result octets = Took taken taken_now (Answers cause (reply_to_script (front_read octets)) (status_of result))
 
 -- where one more was added at its end, a list isn't what it was, and the added one is known
 one_added : (before now : List Used) (u : Used) (octets : List ℕ) → now ≡ before ++ u ∷ [] → MayHaveGiven (Some before) (Some now) octets → u.gave ++ u.left ≡ octets
@@ -35,7 +39,7 @@ all_had left (Some start) gave rest fresh h =
     h.1 ∙ ap (λ l. Some (l ++ rest)) (sym (is ∙ ap (λ l. l ++ h.0) fresh))
 
 -- a source that was opened, used and taken back
-pub replied_back : (cause wider : Type 0) (left left_now given given_now taken taken_now : Option (List ℕ)) (before now : Option (List Used)) (result : Status)
+pub replied_back : (cause wider : Type 0) (left left_now given given_now taken taken_now : Option (List ℕ)) (before now : Option (List Used)) (result : Outcome)
     → (cause → wider) → IsFresh given → Gave left left_now given given_now → Replied cause left taken taken_now result → AddsUse before now given_now left_now
     → (octets : List ℕ) → MayHaveGiven before now octets → RepliedTo wider taken taken_now result octets
 replied_back cause wider left left_now given given_now taken taken_now None now result brings fresh moved replied adds octets may = absurd may
@@ -58,28 +62,38 @@ failed_open A before now fault is counts = (subst (λ f. CountsFailure {A = A} b
 
 -- ---- what each request is answered, by its number
 
-answers_by : (cause : Option Request → Type 0) (request asked : Option Request) (octets : List ℕ) (taken taken_now : Option (List ℕ)) (result : Status) (code : ℕ)
-    → asked ≡ request → code ≡ code_of result → Took taken taken_now (Answers (cause asked) (reply_to asked octets) (code_of result))
+answers_by : (cause : Option Request → Type 0) (request asked : Option Request) (octets : List ℕ) (taken taken_now : Option (List ℕ)) (result : Outcome) (code : ℕ)
+    → asked ≡ request → code ≡ status_of result → Took taken taken_now (Answers (cause asked) (reply_to asked octets) (status_of result))
     → Took taken taken_now (Answers (cause request) (reply_to request octets) code)
 answers_by cause request asked octets taken taken_now result code is code_is h =
     subst (λ r. Took taken taken_now (Answers (cause r) (reply_to r octets) code)) is
     (subst (λ n. Took taken taken_now (Answers (cause asked) (reply_to asked octets) n)) (sym code_is) h)
 
-pub usage_answered : (input_rose outside_rose : Type 0) (request : Option Request) (octets : List ℕ) (taken taken_now : Option (List ℕ)) (result : Status) (code : ℕ)
-    → None ≡ request → code ≡ code_of result → Said taken taken_now Usage usage result → Took taken taken_now (Answers (SourceRose request input_rose outside_rose) (reply_to request octets) code)
-usage_answered input_rose outside_rose request octets taken taken_now result code is code_is said =
-    answers_by (λ r. SourceRose r input_rose outside_rose) request None octets taken taken_now result code is code_is
-    (answered ⊥ (reply_to None octets) taken taken_now Usage result usage (In_full refl refl) said)
+-- what was written where the words ask for nothing
+abbrev pub SaidUsage : Option (List ℕ) → Option (List ℕ) → Status → Type 0
+SaidUsage before now result = Took before now (λ wrote. ((result ≡ Usage) × (wrote ≡ usage)) ⊎ ((result ≡ Ended WriteFault) × IsFrontOf wrote usage))
 
-pub input_answered : (input_rose outside_rose : Type 0) (request : Option Request) (input taken taken_now : Option (List ℕ)) (before now : Option (List Used)) (octets : List ℕ) (result : Status) (code : ℕ)
-    → Some Replay_input ≡ request → code ≡ code_of result → Replied input_rose input taken taken_now result → MayBeOctets request input before now octets
+pub usage_answered : (input_rose outside_rose : Type 0) (request : Option Request) (octets : List ℕ) (taken taken_now : Option (List ℕ)) (result : Status) (code : ℕ)
+    → None ≡ request → code ≡ code_of result → SaidUsage taken taken_now result → Took taken taken_now (Answers (SourceRose request input_rose outside_rose) (reply_to request octets) code)
+usage_answered input_rose outside_rose request octets taken taken_now result code is code_is said =
+    subst (λ r. Took taken taken_now (Answers (SourceRose r input_rose outside_rose) (reply_to r octets) code)) is (
+      said.0,
+      said.1,
+      ⊎_elim
+          (λ whole. inl (In_full (code_is ∙ ap code_of whole.0) whole.1))
+          (λ cut. inr (code_is ∙ ap code_of cut.0, 1, usage, In_full refl refl, cut.1))
+          said.2,
+    )
+
+pub input_answered : (input_rose outside_rose : Type 0) (request : Option Request) (input taken taken_now : Option (List ℕ)) (before now : Option (List Used)) (octets : List ℕ) (result : Outcome) (code : ℕ)
+    → Some Replay_input ≡ request → code ≡ status_of result → Replied input_rose input taken taken_now result → MayBeOctets request input before now octets
     → Took taken taken_now (Answers (SourceRose request input_rose outside_rose) (reply_to request octets) code)
 input_answered input_rose outside_rose request input taken taken_now before now octets result code is code_is replied may =
     let told : input ≡ Some octets = subst (λ r. MayBeOctets r input before now octets) (sym is) may in
     answers_by (λ r. SourceRose r input_rose outside_rose) request (Some Replay_input) octets taken taken_now result code is code_is (subst (λ i. Replied input_rose i taken taken_now result) told replied)
 
-pub path_answered : (input_rose outside_rose : Type 0) (request : Option Request) (path : List ℕ) (input taken taken_now : Option (List ℕ)) (before now : Option (List Used)) (octets : List ℕ) (result : Status) (code : ℕ)
-    → Some (Replay_path path) ≡ request → code ≡ code_of result → (MayHaveGiven before now octets → RepliedTo outside_rose taken taken_now result octets) → MayBeOctets request input before now octets
+pub path_answered : (input_rose outside_rose : Type 0) (request : Option Request) (path : List ℕ) (input taken taken_now : Option (List ℕ)) (before now : Option (List Used)) (octets : List ℕ) (result : Outcome) (code : ℕ)
+    → Some (Replay_path path) ≡ request → code ≡ status_of result → (MayHaveGiven before now octets → RepliedTo outside_rose taken taken_now result octets) → MayBeOctets request input before now octets
     → Took taken taken_now (Answers (SourceRose request input_rose outside_rose) (reply_to request octets) code)
 path_answered input_rose outside_rose request path input taken taken_now before now octets result code is code_is replied may =
     let told : MayHaveGiven before now octets = subst (λ r. MayBeOctets r input before now octets) (sym is) may in

@@ -1,6 +1,6 @@
 -- Configurations: texts of lines, as scripts are.
 --     serving_of text, subscribing_of text      the configuration, or the number of the first line outside
-use Rattle.std.specs.Prelude.{ℕ, ◌+◌, Bool, true, false, not, ◌&&◌, ◌||◌, List, [], ◌∷◌, ◌++◌, length, min, Option, Some, None, Result, Ok, Err, is_some, nat_lt, nat_le, ◌==◌, codes, option_map, if◌then◌else◌}
+use Rattle.std.specs.Prelude.{ℕ, ◌+◌, not, ◌&&◌, ◌||◌, List, [], ◌∷◌, ◌++◌, length, min, Option, Some, None, Result, Ok, Err, is_some, nat_lt, nat_le, ◌==◌, codes, option_map, if◌then◌else◌}
 use Rattle.std.specs.List.{list_any, slice_split}
 use Rattle.std.specs.Str.{bytes_eq, is_utf8}
 use Rattle.push_base.specs.Cases.{is_empty}
@@ -8,8 +8,8 @@ use Rattle.push_base.specs.Optional.{◌>>=◌}
 use Rattle.push_base.specs.Limits.{max_questions}
 use Rattle.rrset.specs.Records.{same_question}
 use Rattle.rrset.specs.declared.record.Question.{Question}
-use Rattle.replay.specs.Lines.{Word, ScriptLine, silent, timers, zone, link, number, word, question, is, line_of}
-use Rattle.replay.specs.Scripts.{Known, nothing_known, fits, lines_in, max_script}
+use Rattle.replay.specs.Lines.{Word, ScriptLine, silent, number, word, question, is, line_of}
+use Rattle.replay.specs.Scripts.{Known, nothing_known, is_head, fits, lines_in, max_script}
 
 abbrev pub max_accepted : ℕ
 max_accepted = 1000000
@@ -61,13 +61,6 @@ abbrev pub feed_line : Serving → List Word → Option Serving
 feed_line s (l ∷ a ∷ []) = word l >>= λ w. address a >>= λ b.
     if list_any (bytes_eq w) s.known.links && not (list_any (λ f. bytes_eq w f.0) s.feeds) then Some (record s { feeds = s.feeds ++ (w, b) ∷ [] }) else None
 feed_line s _ = None
-
-abbrev pub is_head : ScriptLine → Bool
-is_head silent = true
-is_head (timers i k) = true
-is_head (zone apex serial mode) = true
-is_head (link w domain) = true
-is_head _ = false
 
 abbrev pub head_line : Serving → List ℕ → Option Serving
 head_line s text = line_of text >>= λ line. if is_head line then option_map (λ k. record s { head = s.head ++ line ∷ []; known = k }) (fits [] s.known line) else None

@@ -1,4 +1,8 @@
--- What an outside tells of the objects that it made.
+-- What an outside tells of the sources that it opened.
+--     Used      what a source gave and had left
+--     Adds, AddsUse      one more is told: of any list; of the sources that were taken back
+--     IsFresh, RaisedBy      of a source that was just opened; of the count of faults, once it was taken back
+--     MayHaveGiven      the octets that the one source may have had
 use Rattle.std.specs.Prelude.{◌≡◌, ◌⊎◌, ℕ, ◌<◌, ◌≤◌, ⊤, Some, None, List, [], ◌∷◌, ◌++◌}
 use Rattle.std.specs.declared.option.Option.{Option}
 use Rattle.push_base.specs.Causes.{Rose}

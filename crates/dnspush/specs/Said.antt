@@ -13,7 +13,7 @@ use Rattle.pushclient.specs.Clients.{Client, new_client, subscribe, connected, t
 use Rattle.dsotlv.specs.Messages.{frame, messages_in}
 use Rattle.push_base.specs.Limits.{max_moment}
 use Rattle.pushclient.specs.Steps.{step, moment}
-use Rattle.replay.specs.Telling.{spaced, close_words, octets_text}
+use Rattle.replay.specs.TextWords.{spaced, close_words, octets_text}
 use Rattle.dnspush.specs.Configurations.{Subscribing, max_turns}
 
 -- what one read of the line gave

@@ -2,27 +2,14 @@
 #![tactic(auto)]
 
 mod adapters;
-mod clients;
-mod event_lines;
 mod examples;
-mod exchanging;
-mod line;
-mod line_words;
 mod mem_outside;
 mod outside;
 mod program;
-mod read;
-mod replayed;
-mod replaying;
-mod reply;
-mod script;
-mod script_text;
 mod status;
 #[cfg(test)]
 mod tests;
-mod text_lines;
 mod words;
-mod write;
 
 use adapters::{Origin, Reading, System, Writing};
 use std::env;

@@ -1,5 +1,10 @@
-ghost use Rattle.std.specs.Prelude.{◌≡◌, [], ◌∷◌, ◌++◌, Some, false, All, OnOk, OnErr};
-ghost use Rattle.dnspush.specs.MemOutside.{IsNew, told_uses};
+//! The outside in memory, for tests.
+
+ghost use Rattle.std.specs.Prelude.{◌≡◌, ◌<◌, [], ◌∷◌, ◌++◌, Some, false, All, IfOk, OnOk, OnErr};
+ghost use Rattle.std.specs.List.{concat};
+ghost use Rattle.dnspush.specs.MemOutside.{IsNew, told_uses, Opens, TakesBack};
+ghost use Rattle.dnspush.specs.Opening.{CountsFailure, TellsWords};
+ghost use Rattle.dnspush.specs.Outside.{AddsUse, IsFresh, RaisedBy};
 
 use crate::outside::{OpenFault, Outside};
 use push_base::{MemSink, MemSource, NoMemory, Octets};
@@ -7,7 +12,8 @@ use std::alloc::Global;
 use std::collections::VecDeque;
 use std::marker::Model;
 
-/// An outside in memory. It hands out its sources in order, whatever the path; an `open` past the last fails.
+/// An outside in memory. It hands out its sources in order, whatever the path; an `open` past the last fails. With each
+/// source it makes the room in which that one is taken back, so that none is lost.
 #[derive(Drop)]
 pub struct MemOutside {
     alloc: Global,
@@ -31,9 +37,10 @@ impl Model for MemOutside {
 }
 
 impl MemOutside {
+    /// An outside that will hand out these sources, none of which was read from yet.
     pub fn new(alloc: Global, files: Vec<MemSource>) -> Self
         requires { All IsNew files.items }
-        ensures { result ≡ record { files = files.items; opened = []; used = []; lost = false; reads = 0 } }
+        ensures { result ≡ record { files = files.items; opened = []; used = []; room = result.room; lost = false; reads = 0 } }
     {
         MemOutside {
             alloc,
@@ -45,11 +52,18 @@ impl MemOutside {
         }
     }
 
-    /// The words that were handed to `open`.
+    /// The words that were handed to `open`, the first one first.
     pub fn opened(&self) -> &[Octets]
         ensures { result.now ≡ self.now.opened }
     {
         &self.opened
+    }
+
+    /// The sources that were taken back, the first one first.
+    pub fn used(&self) -> &[MemSource]
+        ensures { result.now ≡ self.now.used }
+    {
+        &self.used
     }
 
     /// How often `open` failed, or a source that had failed was taken back.
@@ -59,13 +73,15 @@ impl MemOutside {
         self.reads
     }
 
-    // Keeps the words, and room for the source that is to be taken back.
+    // Keeps the words, and makes room for the source that is to be taken back.
     fn keep(&mut self, path: &str) -> Result<(), NoMemory>
-        ensures ok { OnOk result (self.new ≡ record self.old { opened = self.old.opened ++ path.now ∷ [] }) }
+        ensures ok { OnOk result (self.new ≡ record self.old { opened = self.old.opened ++ path.now ∷ []; room = self.new.room }) }
+        ensures room { OnOk result (0 < self.new.room) }
         ensures err { OnErr result (self.new ≡ self.old) }
     {
-        self.used.reserve(1)?;
         let words = Octets::from_slice(self.alloc, path.as_bytes())?;
+        self.opened.reserve(1)?;
+        self.used.reserve(1)?;
         self.opened.push(words)?;
         Ok(())
     }
@@ -82,7 +98,16 @@ impl Outside for MemOutside {
 
     ghost reads = { λ s. s.reads };
 
-    fn open(&mut self, path: &str) -> Result<MemSource, OpenFault> {
+    fn open(&mut self, path: &str) -> Result<MemSource, OpenFault>
+        ensures faults { IfOk result (λ source. source.calls.faults ≡ 0) }
+        ensures fresh { IfOk result (λ source. IsFresh (Some source.octets.given)) }
+        ensures reads { CountsFailure self.old.reads self.new.reads result }
+        ensures opened { TellsWords (Some self.old.opened) (Some self.new.opened) result path.now }
+        ensures used { told_uses self.new ≡ told_uses self.old }
+
+        // Which source it hands out, when it fails, and what is kept afterwards.
+        ensures exact { Opens path.now self.old self.new result }
+    {
         if self.keep(path).is_err() {
             return Err(OpenFault::NoMemory);
         }
@@ -93,7 +118,14 @@ impl Outside for MemOutside {
         Ok(source)
     }
 
-    fn back_in(&mut self, source: MemSource) {
+    fn back_in(&mut self, source: MemSource)
+        ensures reads { RaisedBy source.calls.faults self.old.reads self.new.reads }
+        ensures used { AddsUse (told_uses self.old) (told_uses self.new) (Some source.octets.given) (Some (concat source.octets.items)) }
+        ensures opened { self.new.opened ≡ self.old.opened }
+
+        // That the source is kept, save where there was no room for it.
+        ensures exact { TakesBack source self.old self.new }
+    {
         if source.faults() > 0 {
             self.reads = self.reads.saturating_add(1);
         }

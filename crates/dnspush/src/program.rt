@@ -1,25 +1,29 @@
-ghost use Rattle.std.specs.Prelude.{◌≡◌, ◌≢◌, ◌+◌, ◌⊎◌, ℕ, List, IsNone};
-ghost use Rattle.std.specs.List.{concat};
+//! All that the program does, over any outside.
+
+ghost use Rattle.std.specs.Prelude.{◌≡◌, ◌+◌, ◌⊎◌, ℕ, List, IsNone};
 ghost use Rattle.push_base.specs.Causes.{Rose};
 ghost use Rattle.replay.specs.Scripts.{max_script};
-ghost use Rattle.dnspush.specs.Cutting.{SentInPieces, AnswersEveryCutIn, AsksInPieces, TellsInTurn, pieces_reply};
-ghost use Rattle.dnspush.specs.Given.{LostAtMost};
+ghost use Rattle.replay.specs.BuiltScripts.{front_read, reply_to_script};
+ghost use Rattle.replay.specs.Outcomes.{status_of};
+ghost use Rattle.replay.specs.Pieces.{SentInPieces, TellsInTurn, pieces_reply};
+ghost use Rattle.replay.specs.Reply.{Answers, IsFrontOf, Took};
+ghost use Rattle.replay.specs.Serving.{Asked, served_reply};
+ghost use Rattle.replay.specs.Sources.{HasRead, LostAtMost};
 ghost use Rattle.dnspush.specs.Outside.{Adds, MayHaveGiven};
-ghost use Rattle.dnspush.specs.Reply.{Answers, IsFrontOf, Took};
-ghost use Rattle.dnspush.specs.Reading.{HasRead, UsesWhole};
-ghost use Rattle.dnspush.specs.Script.{front_read, reply_to_script};
-ghost use Rattle.dnspush.specs.Serving.{Asked, AsksServed, served_reply};
+ghost use Rattle.dnspush.specs.Runs.{AsksInPieces, AsksServed, InputStays, IsAnswered, LeavesRest, OpensPath, SourceRose, UsesWhole, reply_to};
 ghost use Rattle.dnspush.specs.Status.{code_of};
+ghost use Rattle.dnspush.specs.Words.{request_in, usage};
 ghost use Rattle.dnspush.specs.declared.status.Status.{Status};
-ghost use Rattle.dnspush.specs.Words.{request_in, reply_to, usage, MayBeOctets, LeavesRest, SourceRose, OpensPath, InputStays};
 
 use crate::outside::{OpenFault, Outside};
-use crate::replaying::{NO_MEMORY, READ_FAULT, replay};
 use crate::status::Status;
 use crate::words::{Command, read_words};
-use crate::write::tell;
+use push_base::{Failed, Sink};
+use replay::{NO_MEMORY, Outcome, READ_FAULT, replay, tell, write_all};
 use std::alloc::Global;
 
+/// What is written where the words aren't as they should be: a line that names all commands, also those that aren't
+/// built yet.
 pub const USAGE: &[u8] =
     b"usage: dnspush replay PATH | serve CONFIG | subscribe CONFIG | check PATH | big N\n";
 
@@ -33,29 +37,18 @@ pub fn run<O: Outside>(
 ) -> u8
     // What is written, for the octets that the source had, as far as they are told.
     ensures replied { (octets : List ℕ) →
-        MayBeOctets (request_in words.now) (O.In.left input.old) (O.used outside.old) (O.used outside.new) octets →
-        Took (O.Out.taken out.old) (O.Out.taken out.new) (Answers
-        (SourceRose (request_in words.now) (Rose (O.In.faults input.old) (O.In.faults input.new)) (Rose (O.reads outside.old) (O.reads outside.new)))
-        (reply_to (request_in words.now) octets) result) }
+        IsAnswered (request_in words.now) (O.In.left input.old) (O.used outside.old) (O.used outside.new) (O.Out.taken out.old) (O.Out.taken out.new)
+        (O.In.faults input.old) (O.In.faults input.new) (O.reads outside.old) (O.reads outside.new) result octets (reply_to (request_in words.now) octets) }
 
     // In every built script a peer's first SUBSCRIBE that a new session accepts is answered NOERROR, and the records follow.
-    ensures served { (octets : List ℕ) (asked : Asked) →
-        MayBeOctets (request_in words.now) (O.In.left input.old) (O.used outside.old) (O.used outside.new) octets →
-        AsksServed (request_in words.now) (front_read octets) asked →
-        Took (O.Out.taken out.old) (O.Out.taken out.new) (Answers
-        (SourceRose (request_in words.now) (Rose (O.In.faults input.old) (O.In.faults input.new)) (Rose (O.reads outside.old) (O.reads outside.new)))
-        (served_reply asked) result) }
+    ensures served { (octets : List ℕ) (asked : Asked) → AsksServed (request_in words.now) (front_read octets) asked →
+        IsAnswered (request_in words.now) (O.In.left input.old) (O.used outside.old) (O.used outside.new) (O.Out.taken out.old) (O.Out.taken out.new)
+        (O.In.faults input.old) (O.In.faults input.new) (O.reads outside.old) (O.reads outside.new) result octets (served_reply asked) }
 
     // In every built script, as long as no entry is made, what is told of the pieces in which a peer sends its octets answers the whole messages that they complete.
-    ensures pieces { (octets : List ℕ) (sent : SentInPieces) →
-        MayBeOctets (request_in words.now) (O.In.left input.old) (O.used outside.old) (O.used outside.new) octets →
-        AsksInPieces (request_in words.now) (front_read octets) sent →
-        (told : List (List ℕ)) × TellsInTurn sent told × Took (O.Out.taken out.old) (O.Out.taken out.new) (Answers
-        (SourceRose (request_in words.now) (Rose (O.In.faults input.old) (O.In.faults input.new)) (Rose (O.reads outside.old) (O.reads outside.new)))
-        (pieces_reply sent told) result) }
-
-    // A law of the worlds between the lines of built scripts: a session at rest answers whole messages one after the other, in whatever pieces its octets come.
-    ensures cuts { (script : List ℕ) → AnswersEveryCutIn script }
+    ensures pieces { (octets : List ℕ) (sent : SentInPieces) → AsksInPieces (request_in words.now) (front_read octets) sent → (told : List (List ℕ)) × TellsInTurn sent told ×
+        IsAnswered (request_in words.now) (O.In.left input.old) (O.used outside.old) (O.used outside.new) (O.Out.taken out.old) (O.Out.taken out.new)
+        (O.In.faults input.old) (O.In.faults input.new) (O.reads outside.old) (O.reads outside.new) result octets (pieces_reply sent told) }
 
     // When each status comes.
     ensures statuses { (status : Status) × (result ≡ code_of status) }
@@ -75,30 +68,45 @@ pub fn run<O: Outside>(
     ensures input { InputStays (request_in words.now) input.old input.new }
 {
     match read_words(words) {
-        None => tell(out, Status::Usage, USAGE).code(),
-        Some(Command::ReplayInput) => replay(alloc, input, out).code(),
-        Some(Command::ReplayPath(path)) => replay_path(alloc, path, out, outside).code(),
+        None => tell_usage(out).code(),
+        Some(Command::ReplayInput) => Status::Ended(replay(alloc, input, out)).code(),
+        Some(Command::ReplayPath(path)) => {
+            let outcome = replay_path(alloc, path, out, outside);
+            Status::Ended(outcome).code()
+        }
     }
 }
 
-fn replay_path<O: Outside>(alloc: Global, path: &str, out: &mut O::Out, outside: &mut O) -> Status
+// Writes how the program is called.
+fn tell_usage<K: Sink>(out: &mut K) -> Status
+    ensures told { Took (K.taken out.old) (K.taken out.new)
+        (λ wrote. ((result ≡ Status.Usage) × (wrote ≡ usage)) ⊎ ((result ≡ Status.Ended Outcome.WriteFault) × IsFrontOf wrote usage)) }
+    ensures cause { (result ≡ Status.Usage) ⊎ ((result ≡ Status.Ended Outcome.WriteFault) × Rose (K.faults out.old) (K.faults out.new)) }
+{
+    match write_all(out, USAGE) {
+        Ok(()) => Status::Usage,
+        Err(Failed) => Status::Ended(Outcome::WriteFault),
+    }
+}
+
+// Replays the script at a path, and hands its source back.
+fn replay_path<O: Outside>(alloc: Global, path: &str, out: &mut O::Out, outside: &mut O) -> Outcome
     ensures replied { (octets : List ℕ) → MayHaveGiven (O.used outside.old) (O.used outside.new) octets →
         Took (O.Out.taken out.old) (O.Out.taken out.new)
-        (Answers (Rose (O.reads outside.old) (O.reads outside.new)) (reply_to_script (front_read octets)) (code_of result)) }
-    ensures read_fault { result ≡ Status.ReadFault → Rose (O.reads outside.old) (O.reads outside.new) }
-    ensures write_fault { result ≡ Status.WriteFault → Rose (O.Out.faults out.old) (O.Out.faults out.new) }
-    ensures rest { HasRead (code_of result) → UsesWhole (O.used outside.old) (O.used outside.new) }
-    ensures not_usage { result ≢ Status.Usage }
+        (Answers (Rose (O.reads outside.old) (O.reads outside.new)) (reply_to_script (front_read octets)) (status_of result)) }
+    ensures read_fault { result ≡ Outcome.ReadFault → Rose (O.reads outside.old) (O.reads outside.new) }
+    ensures write_fault { result ≡ Outcome.WriteFault → Rose (O.Out.faults out.old) (O.Out.faults out.new) }
+    ensures rest { HasRead (status_of result) → UsesWhole (O.used outside.old) (O.used outside.new) }
     ensures opened { Adds (O.opened outside.old) (O.opened outside.new) path.now
-        ⊎ ((O.opened outside.new ≡ O.opened outside.old) × ((result ≡ Status.NoMemory) ⊎ (result ≡ Status.WriteFault))) }
+        ⊎ ((O.opened outside.new ≡ O.opened outside.old) × ((result ≡ Outcome.NoMemory) ⊎ (result ≡ Outcome.WriteFault))) }
 {
     match outside.open(path) {
         Ok(mut source) => {
-            let status = replay(alloc, &mut source, out);
+            let outcome = replay(alloc, &mut source, out);
             outside.back_in(source);
-            status
+            outcome
         }
-        Err(OpenFault::Failed) => tell(out, Status::ReadFault, READ_FAULT),
-        Err(OpenFault::NoMemory) => tell(out, Status::NoMemory, NO_MEMORY),
+        Err(OpenFault::Failed) => tell(out, Outcome::ReadFault, READ_FAULT),
+        Err(OpenFault::NoMemory) => tell(out, Outcome::NoMemory, NO_MEMORY),
     }
 }

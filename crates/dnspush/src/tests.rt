@@ -1,8 +1,11 @@
+//! Runs of the program in memory, and the adapters over readers and writers in memory.
+
 ghost use Rattle.std.specs.Prelude.{◌<◌, length, All, IfOk};
 
+use crate::adapters::{Origin, Reading, Writing};
 use crate::mem_outside::MemOutside;
 use crate::program::{USAGE, run};
-use push_base::{MemSink, MemSource, Octets};
+use push_base::{Failed, MemSink, MemSource, Octets, Sink, Source};
 use std::alloc::{AllocError, Global};
 use std::test::Fail;
 
@@ -249,5 +252,21 @@ fn a_script_at_a_path(rt: HostRuntime) -> Result<(), Fail> {
     assert_eq!(rt; ran.wrote.as_slice(), b"read fault\n".as_slice());
     assert_eq!(rt; ran.outside.reads(), 1);
     assert_eq!(rt; ran.outside.opened().len(), 2);
+    assert_eq!(rt; ran.outside.used().len(), 1);
+    Ok(())
+}
+
+// A source over two readers, of which the second is there, and a sink with room for two octets.
+#[test]
+fn adapters_in_memory(rt: HostRuntime) -> Result<(), Fail> {
+    let mut source = Reading::new(Origin::<&[u8], &[u8]>::File(b"ab"));
+    let mut buf = [0; 3];
+    assert_eq!(rt; source.read(&mut buf), Ok(2));
+    assert_eq!(rt; buf, [b'a', b'b', 0]);
+    assert_eq!(rt; source.read(&mut buf), Ok(0));
+    let mut octets = [0; 2];
+    let mut sink = Writing::new(octets.as_mut_slice());
+    assert_eq!(rt; sink.write(b"abc"), Ok(2));
+    assert_eq!(rt; sink.write(b"c"), Err(Failed));
     Ok(())
 }

@@ -8,11 +8,12 @@ use Rattle.push_base.specs.Limits.{max_datagram}
 use Rattle.dnsname.specs.Reading.{name_at}
 use Rattle.rrset.specs.Kinds.{in_class, none_class}
 use Rattle.rrset.specs.Rdata.{rdata_at}
-use Rattle.rrset.specs.Header.{two_octets, id_of, flags_of, is_response, opcode_of, rcode_of}
+use Rattle.rrset.specs.Header.{header_octets, two_octets, id_of, flags_of, is_response, opcode_of, rcode_of}
 use Rattle.rrset.specs.declared.record.Rr.{Rr}
 use Rattle.rrset.specs.declared.record.Question.{Question}
 use Rattle.rrset.specs.declared.record.HeardRr.{HeardRr}
 use Rattle.rrset.specs.declared.record.Hearing.{Hearing}
+use Rattle.dnswire.specs.declared.hearing.TheConstants as hearing
 use Rattle.dnswire.specs.declared.message.Update.{Update}
 use Rattle.dnswire.specs.declared.message.WireFault.{WireFault}
 use Rattle.dnswire.specs.declared.message.WireFault.TheVariants.{Short, Trailing, Name, Rdata}
@@ -63,7 +64,7 @@ update_shape class size = class == in_class || (class == none_class && nat_lt 0 
 -- zones, prerequisites, changes, and additional records that are dropped, to the last octet (RFC 2136, 2)
 abbrev pub update_of : List ℕ → Result Update WireFault
 update_of message = do
-  zones ← several question_at (two_octets message 4) message 12
+  zones ← several question_at (two_octets message 4) message header_octets
   prereqs ← several (record_at update_shape) (two_octets message 6) message zones.1
   changes ← several (record_at update_shape) (two_octets message 8) message prereqs.1
   others ← several (record_at update_shape) (two_octets message 10) message changes.1
@@ -71,15 +72,15 @@ update_of message = do
 
 -- the class without the cache-flush bit (RFC 6762, 10.2)
 abbrev pub heard_shape : ℕ → ℕ → Bool
-heard_shape class size = class % 0x8000 == in_class
+heard_shape class size = class % hearing.CACHE_FLUSH == in_class
 
 abbrev pub heard_rr : Rr → HeardRr
-heard_rr rr = record { rr = record rr { class = rr.class % 0x8000 }; flush = nat_le 0x8000 rr.class }
+heard_rr rr = record { rr = record rr { class = rr.class % hearing.CACHE_FLUSH }; flush = nat_le hearing.CACHE_FLUSH rr.class }
 
 -- questions and the authority section are skipped, octets after the counted entries ignored (RFC 6762, 6 and 18)
 abbrev pub entries_heard : List ℕ → Result Hearing WireFault
 entries_heard message = do
-  questions ← several question_at (two_octets message 4) message 12
+  questions ← several question_at (two_octets message 4) message header_octets
   answers ← several (record_at heard_shape) (two_octets message 6) message questions.1
   authority ← several (record_at heard_shape) (two_octets message 8) message answers.1
   additional ← several (record_at heard_shape) (two_octets message 10) message authority.1
@@ -89,7 +90,7 @@ entries_heard message = do
 abbrev pub hearing_of : List ℕ → Result Hearing HearFault
 hearing_of datagram =
     if nat_lt max_datagram (length datagram) then Err hear.Long
-    else if nat_lt (length datagram) 12 then Err hear.Short
+    else if nat_lt (length datagram) header_octets then Err hear.Short
     else if not (is_response (flags_of datagram)) then Err hear.Query
     else if not (opcode_of (flags_of datagram) == 0 && rcode_of (flags_of datagram) == 0) then Err hear.Coded
     else fault_as hear.Wire (entries_heard datagram)

@@ -8,12 +8,10 @@ use crate::header::{ANCOUNT, ARCOUNT, FLAGS, NSCOUNT, header_field, rcode};
 use crate::message::{HearFault, WireFault};
 use crate::record::Shaped;
 use crate::section::{question_section, record_section};
+use push_base::limits::MAX_DATAGRAM;
 use rrset::header::{HEADER, is_response, opcode_of};
 use rrset::{HeardRr, HeardRrs, Hearing, NoMemory, Rr, Rrs};
 use std::alloc::Global;
-
-/// The most octets that a datagram has (RFC 6762, 17).
-const MAX_DATAGRAM: usize = 9000;
 
 /// The cache-flush bit of a class (RFC 6762, 10.2).
 const CACHE_FLUSH: u16 = 0x8000;

@@ -8,8 +8,6 @@ pub mod laws;
 pub mod message;
 mod record;
 mod section;
-#[cfg(test)]
-mod tests;
 mod update;
 
 ghost use Rattle.std.specs.Prelude.{◌≡◌, [], ◌∷◌, true, false, codes, Some, None, Ok, Err};
@@ -24,6 +22,7 @@ pub use hearing::read_hearing;
 pub use message::{HearFault, Update, WireFault};
 pub use update::read_update;
 
+/// Examples of messages.
 pub fn worked_rows()
     ensures add { update_of (hex (codes "000128000001000000010000076578616d706c6503636f6d00000600010161c00c000100010000003c0004c0000201")) ≡ Ok (record {
       id = 1;

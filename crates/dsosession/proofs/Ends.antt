@@ -3,7 +3,7 @@ use Rattle.std.proofs.Common.{◌≡◌, ◌<◌, ◌≤◌, ℕ, Bool, true, fa
 use Rattle.push_base.specs.Limits.{max_number}
 use Rattle.dsosession.specs.declared.session.Timers.{Timers}
 use Rattle.dsosession.specs.Timing.{Clocks, is_silent, is_idle, reason_of}
-use Rattle.dsosession.specs.ServerStates.{IsDeadline, has_come}
+use Rattle.dsosession.specs.SessionStates.{IsDeadline, has_come}
 
 -- one of the tests, or neither
 pub reason_of-some : (silent idle : Bool) → (silent || idle) ≡ true → IsSome (reason_of silent idle)

@@ -1,6 +1,7 @@
 -- The first line that fits a message is the reaction to it (RFC 8490, 5.1 to 5.4, 6 and 7; RFC 8765, 6).
 --     server_reaction head established      of the server, to a message of at least 12 octets
 --     client_reaction head established      of the client
+--     is_keepalive head, may_be_keepalive head      which timers the message restarts
 use Rattle.std.specs.Prelude.{ℕ, Bool, false, not, ◌&&◌, ◌||◌, [], ◌∷◌, Some, None, nat_le, is_some, ◌==◌, if◌then◌else◌}
 use Rattle.push_base.specs.Cases.{chosen}
 use Rattle.rrset.specs.Rcodes.{formerr, dsotypeni}
@@ -20,6 +21,10 @@ use Rattle.dsosession.specs.declared.session.ClientReaction.TheVariants as clien
 -- a Keepalive, as a request or without an answer: the primary TLV alone makes it one (RFC 8490, 7.1)
 abbrev pub is_keepalive : DsoHead → Bool
 is_keepalive head = not (is_response head.flags) && opcode_of head.flags == dso_opcode && (elim head.primary [ None ↦ false | Some primary ↦ primary.0 == keepalive_tlv ])
+
+-- by its head alone an answer may be one to a Keepalive, too
+abbrev pub may_be_keepalive : DsoHead → Bool
+may_be_keepalive head = is_response head.flags || is_keepalive head
 
 -- a request is answered, and what has no ID ends the session
 abbrev pub answer_or_end : DsoHead → ℕ → EndReason → Reaction

@@ -1,8 +1,10 @@
 -- The timers of both ends; all numbers are milliseconds (after RFC 8490, 6).
 --     server_start, server_spoke, server_ends      from the connection on; after a message; why the session ends
+--     infinite, least_keepalive, least_idle, stop_time      spans
 --     is_silent, is_idle, reason_of      the two reasons, and which one counts
 --     client_start, client_spoke, client_due      the same of the client; what is due
 use Rattle.std.specs.Prelude.{ℕ, ◌+◌, ◌*◌, Bool, not, ◌&&◌, max, Option, Some, None, nat_le, ◌==◌, if◌then◌else◌}
+use Rattle.dsosession.specs.declared.times.TheConstants as times
 use Rattle.dsosession.specs.declared.session.Timers.{Timers}
 use Rattle.dsosession.specs.declared.session.EndReason.{EndReason}
 use Rattle.dsosession.specs.declared.session.EndReason.TheVariants.{Silent, Idle}
@@ -15,8 +17,9 @@ pub record Clocks : Type 0 where
   pub last_message : ℕ
   pub last_other : ℕ
 
+-- the timers until a Keepalive says otherwise (RFC 8490, 6.2)
 abbrev pub default_timers : Timers
-default_timers = record { inactivity = 15000; keepalive = 15000 }
+default_timers = record { inactivity = times.DEFAULT_TIMER; keepalive = times.DEFAULT_TIMER }
 
 abbrev pub server_start : ℕ → Clocks
 server_start now = record { timers = default_timers; last_message = now; last_other = now }
@@ -31,10 +34,23 @@ server_spoke is_keepalive now clocks = record clocks { last_message = now; last_
 abbrev pub client_spoke : Bool → ℕ → Clocks → Clocks
 client_spoke is_keepalive now clocks = server_spoke is_keepalive now clocks
 
--- so long has passed; 0xFFFFFFFF is infinite
+-- a timer that never ends (RFC 8490, 6.4.2 and 6.5.2)
 abbrev pub infinite : ℕ
-infinite = 0xffffffff
+infinite = times.INFINITE
 
+-- the least keepalive interval (RFC 8490, 6.5.2)
+abbrev pub least_keepalive : ℕ
+least_keepalive = times.LEAST_KEEPALIVE
+
+-- the least span after which a session is idle (RFC 8490, 6.4.1)
+abbrev pub least_idle : ℕ
+least_idle = times.LEAST_IDLE
+
+-- how long a client that was asked to stop keeps its connection at most (RFC 8490, 6.6.1)
+abbrev pub stop_time : ℕ
+stop_time = times.STOP_TIME
+
+-- so long has passed
 abbrev pub has_passed : ℕ → ℕ → ℕ → Bool
 has_passed span since now = nat_le (since + span) now
 
@@ -42,11 +58,11 @@ has_passed span since now = nat_le (since + span) now
 abbrev pub is_silent : Clocks → ℕ → Bool
 is_silent clocks now = not (clocks.timers.keepalive == infinite) && has_passed (2 * clocks.timers.keepalive) clocks.last_message now
 
--- idle where a session without a subscription had no message but Keepalives for twice the timeout, at least five
--- seconds (RFC 8490, 6.4.1)
+-- idle where a session without a subscription had no message but Keepalives for twice the timeout, and for
+-- the least span (RFC 8490, 6.4.1)
 abbrev pub is_idle : Clocks → ℕ → ℕ → Bool
 is_idle clocks now subscriptions =
-    subscriptions == 0 && not (clocks.timers.inactivity == infinite) && has_passed (max (2 * clocks.timers.inactivity) 5000) clocks.last_other now
+    subscriptions == 0 && not (clocks.timers.inactivity == infinite) && has_passed (max (2 * clocks.timers.inactivity) least_idle) clocks.last_other now
 
 -- silence comes first
 abbrev pub reason_of : Bool → Bool → Option EndReason

@@ -1,9 +1,9 @@
-//! What the server does with a message, by its head (RFC 8490, 5 to 7; RFC 8765, 6).
+//! What each end does with a message, by its head (RFC 8490, 5 to 7; RFC 8765, 6).
 
 ghost use Rattle.std.specs.Prelude.{◌≡◌};
-ghost use Rattle.dsosession.specs.Reactions.{is_keepalive, answer_or_end, primary_reaction, dso_reaction, server_reaction};
+ghost use Rattle.dsosession.specs.Reactions.{is_keepalive, may_be_keepalive, answer_or_end, primary_reaction, dso_reaction, server_reaction, is_known, told_reaction, client_reaction};
 
-use crate::session::{EndReason, Reaction};
+use crate::session::{ClientReaction, CloseReason, EndReason, Reaction};
 use dsotlv::DsoHead;
 use dsotlv::kinds::{KEEPALIVE, PADDING, PUSH, RECONFIRM, RETRY_DELAY, SUBSCRIBE, UNSUBSCRIBE};
 use rrset::header::{DSO_OPCODE, UPDATE_OPCODE, is_response, opcode_of};
@@ -13,8 +13,10 @@ use rrset::rcodes::{DSOTYPENI, FORMERR};
 const KEEPALIVE_SIZE: u16 = 8;
 /// The octets of the ID that an UNSUBSCRIBE names (RFC 8765, 6.4.1).
 const UNSUBSCRIBE_SIZE: u16 = 2;
+/// The octets of the delay in a Retry Delay (RFC 8490, 7.2).
+const RETRY_DELAY_SIZE: u16 = 4;
 
-/// Whether a message is a Keepalive that a client sends (RFC 8490, 7.1).
+/// Whether a message is a Keepalive that is no answer (RFC 8490, 7.1).
 pub(crate) fn is_keepalive(head: &DsoHead) -> bool
     ensures { result ≡ is_keepalive head.now }
 {
@@ -22,6 +24,13 @@ pub(crate) fn is_keepalive(head: &DsoHead) -> bool
         return false;
     }
     head.primary.is_some_and(|primary| primary.0 == KEEPALIVE)
+}
+
+/// Whether a message is a Keepalive, or an answer, which may be one to a Keepalive (RFC 8490, 7.1).
+pub(crate) fn may_be_keepalive(head: &DsoHead) -> bool
+    ensures { result ≡ may_be_keepalive head.now }
+{
+    is_response(head.flags) || is_keepalive(head)
 }
 
 /// A request is answered, and what has no ID ends the session.
@@ -90,4 +99,57 @@ pub fn server_reaction(head: &DsoHead, established: bool) -> Reaction
         return answer_or_end(head, FORMERR, EndReason::Counts);
     }
     dso_reaction(head, established)
+}
+
+/// Whether a TLV's kind is one of those that either end may send first (RFC 8490, 7; RFC 8765, 6).
+fn is_known(kind: u16) -> bool
+    ensures { result ≡ is_known kind }
+{
+    matches!(
+        kind,
+        KEEPALIVE | RETRY_DELAY | PADDING | SUBSCRIBE..=RECONFIRM
+    )
+}
+
+/// What the client does with a message that is no answer and whose primary TLV has this kind and length.
+fn told_reaction(head: &DsoHead, established: bool, kind: u16, size: u16) -> ClientReaction
+    ensures { result ≡ told_reaction head.now established kind size }
+{
+    if head.id != 0 && is_known(kind) {
+        return ClientReaction::Close(CloseReason::Misuse(kind));
+    }
+    if head.id != 0 {
+        return ClientReaction::Typeless;
+    }
+    if !established {
+        return ClientReaction::Close(CloseReason::Early);
+    }
+    match kind {
+        KEEPALIVE => ClientReaction::Keepalive,
+        RETRY_DELAY if size == RETRY_DELAY_SIZE => ClientReaction::Delay,
+        RETRY_DELAY => ClientReaction::Close(CloseReason::BadData(kind)),
+        PUSH => ClientReaction::Push,
+        _ if is_known(kind) => ClientReaction::Close(CloseReason::Misuse(kind)),
+        _ => ClientReaction::Close(CloseReason::Unknown(kind)),
+    }
+}
+
+/// What the client does with a message of at least 12 octets, by its head, where the session is established or not.
+pub(crate) fn client_reaction(head: &DsoHead, established: bool) -> ClientReaction
+    ensures { result ≡ client_reaction head.now established }
+{
+    if opcode_of(head.flags) != DSO_OPCODE {
+        return ClientReaction::Close(CloseReason::Opcode);
+    }
+    if !head.zero_counts {
+        return ClientReaction::Close(CloseReason::Counts);
+    }
+    if !head.tlvs_good {
+        return ClientReaction::Close(CloseReason::Tlvs);
+    }
+    match head.primary {
+        _ if is_response(head.flags) => ClientReaction::Answered,
+        Some((kind, size)) => told_reaction(head, established, kind, size),
+        None => ClientReaction::Close(CloseReason::Tlvs),
+    }
 }

@@ -3,7 +3,7 @@
 ghost use Rattle.std.specs.Prelude.{◌≡◌, true, false, Option};
 ghost use Rattle.dsosession.specs.Reactions.{server_reaction, is_keepalive};
 ghost use Rattle.dsosession.specs.Timing.{server_start, server_spoke, server_ends};
-ghost use Rattle.dsosession.specs.ServerStates.{IsDeadline};
+ghost use Rattle.dsosession.specs.SessionStates.{IsDeadline};
 
 use crate::reaction::{is_keepalive, server_reaction};
 use crate::session::{EndReason, Reaction, Timers};
@@ -22,9 +22,9 @@ pub struct ServerSession {
 }
 
 impl Model for ServerSession {
-    ghost use Rattle.dsosession.specs.ServerStates.{ServerState};
+    ghost use Rattle.dsosession.specs.SessionStates.{SessionState};
 
-    ghost Value = { ServerState };
+    ghost Value = { SessionState };
 
     ghost view = { λ s. record { clocks = record { timers = s.timers; last_message = s.last_message; last_other = s.last_other }; established = s.established } };
 

@@ -1,25 +1,20 @@
-//! When a session of the server ends where no message passes (RFC 8490, 6).
+//! When the timers of a session have run out where no message passes (RFC 8490, 6).
 
 ghost use Rattle.std.specs.Prelude.{◌≡◌, ◌≤◌, IfSome, ◌+◌, ◌*◌, ◌||◌, ◌&&◌, ◌==◌, ℕ, max, not};
 ghost use Rattle.push_base.specs.Limits.{max_number};
 ghost use Rattle.dsosession.specs.Timing.{infinite, has_passed, is_silent, is_idle, reason_of, default_timers};
-ghost use Rattle.dsosession.specs.ServerStates.{has_come};
+ghost use Rattle.dsosession.specs.SessionStates.{has_come};
 
 use crate::session::{EndReason, Timers};
-
-/// A timer of so many milliseconds never ends (RFC 8490, 6.4.2 and 6.5.2).
-const INFINITE: u32 = 0xffff_ffff;
-
-/// The least span of milliseconds after which a session is idle (RFC 8490, 6.4.1).
-const LEAST_IDLE: u64 = 5_000;
+use crate::times::{DEFAULT_TIMER, INFINITE, LEAST_IDLE};
 
 /// The timers until a Keepalive says otherwise, in milliseconds (RFC 8490, 6.2).
 pub(crate) fn default_timers() -> Timers
     ensures { result ≡ default_timers }
 {
     Timers {
-        inactivity: 15_000,
-        keepalive: 15_000,
+        inactivity: DEFAULT_TIMER,
+        keepalive: DEFAULT_TIMER,
     }
 }
 
@@ -32,6 +27,13 @@ fn end_of(timer: u32, span: u64, since: u64) -> Option<u64>
         return None;
     }
     since.checked_add(span)
+}
+
+/// Whether so much as a timer has passed since a moment; an infinite one never does (RFC 8490, 6.4.1 and 6.5.1).
+pub(crate) fn has_run_out(timer: u32, since: u64, now: u64) -> bool
+    ensures { result ≡ (not (timer == infinite) && has_passed timer since now) }
+{
+    has_come(end_of(timer, u64::from(timer), since), now)
 }
 
 /// The moment from which a session is silent (RFC 8490, 6.5.1).

@@ -138,9 +138,6 @@ from_kind text owner p =
     (field_at w16 text (p + 2) >>= λ class.
     (field_at w32 text (p + 4) >>= from_ttl text owner p kind class))
 
-same_steps : (text : List ℕ) (at : ℕ) → notice_at text at ≡ fault_as (λ f. Data (place_of f)) (plain_name_at text at) >>= λ owner. from_kind text owner.0 owner.1
-same_steps text at = refl
-
 -- what was tested from the rdata on
 record Ended (text : List ℕ) (owner : List (List ℕ)) (p kind class ttl size : ℕ) (read : Notice × ℕ) : Type 0 where
   pub size_ok : (ttl == remove_many_ttl && nat_lt 0 size) ≡ false

@@ -23,9 +23,6 @@ behind front (Err fault) = Err fault
 ltb_false : (a b : ℕ) → ltb a b ≡ false → b ≤ a
 ltb_false a b h = grind (arith, nat_tests)
 
-abbrev place_done : ℕ → Option ℕ
-place_done end = Some end
-
 -- where a TLV is whole
 pub record IsWhole (message : List ℕ) (place end : ℕ) : Type 0 where
   pub head : place + 4 ≤ length message

@@ -4,7 +4,7 @@
 --     IsDsoFault      the fault of a text; the first of those that it has
 --     NamesEachDsoFault      what is read is this fault exactly where the text has it
 use Rattle.std.specs.Prelude.{◌≡◌, ◌≢◌, ℕ, ◌+◌, ◌<◌, ◌≤◌, List, ◌++◌, length, drop, All, flat_map, IsTrue, IsFalse, Err}
-use Rattle.rrset.specs.Header.{flags_of, opcode_of}
+use Rattle.rrset.specs.Header.{header_octets, flags_of, opcode_of}
 use Rattle.dsotlv.specs.declared.message.Tlv.{Tlv}
 use Rattle.dsotlv.specs.declared.message.DsoFault.{DsoFault}
 use Rattle.dsotlv.specs.declared.message.DsoFault.TheVariants.{Short, Opcode, Counts, Tlv as TlvAt, NoMemory}
@@ -13,7 +13,7 @@ use Rattle.dsotlv.specs.Laws.{AreOctets, HasSize}
 
 -- a header with the OPCODE of DSO
 pub record HasDsoOpcode (text : List ℕ) : Type 0 where
-  pub long : 12 ≤ length text
+  pub long : header_octets ≤ length text
   pub opcode : opcode_of (flags_of text) ≡ dso_opcode
 
 pub record HasDsoHeader (text : List ℕ) : Type 0 where
@@ -31,10 +31,10 @@ pub record IsCutFrom (text : List ℕ) (at place : ℕ) : Type 0 where
 
 -- a header first, then its OPCODE, then its counts, then TLVs to the last octet
 abbrev pub IsDsoFault : List ℕ → DsoFault → Type 0
-IsDsoFault text Short = length text < 12
-IsDsoFault text Opcode = (12 ≤ length text) × (opcode_of (flags_of text) ≢ dso_opcode)
+IsDsoFault text Short = length text < header_octets
+IsDsoFault text Opcode = (header_octets ≤ length text) × (opcode_of (flags_of text) ≢ dso_opcode)
 IsDsoFault text Counts = HasDsoOpcode text × IsFalse (has_zero_counts text)
-IsDsoFault text (TlvAt place) = HasDsoHeader text × IsCutFrom text 12 place
+IsDsoFault text (TlvAt place) = HasDsoHeader text × IsCutFrom text header_octets place
 IsDsoFault text NoMemory = ⊥
 
 abbrev pub NamesEachDsoFault : Type 0

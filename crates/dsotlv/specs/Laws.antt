@@ -12,7 +12,7 @@ use Rattle.rrset.specs.declared.record.Rr.{Rr}
 use Rattle.dsotlv.specs.declared.message.Tlv.{Tlv}
 use Rattle.dsotlv.specs.declared.message.DsoMessage.{DsoMessage}
 use Rattle.dsotlv.specs.declared.message.Notice.{Notice}
-use Rattle.dsotlv.specs.Messages.{dso_of, dso_octets, frame, first_message, messages_in, tlv_octets}
+use Rattle.dsotlv.specs.Messages.{dso_of, dso_octets, frame, max_frame, first_message, messages_in, tlv_octets}
 use Rattle.dsotlv.specs.Notices.{question_of, reconfirm_of, notices_of, notice_octets}
 use Rattle.dsotlv.specs.Spelling.{SpellsDso, SplitsIntoFrames, SpellsQuestionData, SpellsReconfirm, SpellsNotice, SpellsPush}
 
@@ -62,7 +62,7 @@ WholeStaysFirst = (stream behind message rest : List ℕ) → first_message stre
 
 -- the octets of a longest frame, or more, have a whole message
 abbrev pub LongIsWhole : Type 0
-LongIsWhole = (stream : List ℕ) → AreOctets stream → 65537 ≤ length stream → IsSome (first_message stream)
+LongIsWhole = (stream : List ℕ) → AreOctets stream → max_frame ≤ length stream → IsSome (first_message stream)
 
 abbrev pub FramesAreWholeAgain : Type 0
 FramesAreWholeAgain = (messages : List (List ℕ)) → All (λ message. length message < 2 ^ 16) messages → messages_in (flat_map frame messages) ≡ (messages, [])

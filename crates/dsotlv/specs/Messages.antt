@@ -1,13 +1,16 @@
 -- DSO messages and frames (RFC 8490, 5.4; RFC 7766, 8).
 --     head_of, dso_of      what a reaction needs to know of a message; the whole message, or the first fault
---     dso_octets, frame      the octets of a message; a message behind its length
+--     dso_octets, frame, max_frame      the octets of a message; a message behind its length; the most octets of that
 --     messages_in      the whole messages of a stream, and what is left
 --     primary_data      the data of a message's primary TLV
 use Rattle.std.specs.Prelude.{ℕ, zero, suc, ◌+◌, Bool, true, false, cond, List, [], ◌∷◌, ◌++◌, length, drop, Option, Some, None, Result, Ok, Err, nat_lt, ◌==◌, slice_range, flat_map, is_ok, if◌then◌else◌}
 use Rattle.std.specs.Int.{w16, to_be_bytes}
 use Rattle.std.specs.List.{list_all}
 use Rattle.push_base.specs.Cases.{◌>>=◌}
-use Rattle.rrset.specs.Header.{two_octets, id_of, flags_of, is_response, opcode_of, rcode_of, answer_octets}
+use Rattle.rrset.specs.declared.header.TheConstants as header
+use Rattle.rrset.specs.Header.{header_octets, two_octets, id_of, flags_of, is_response, opcode_of, rcode_of, answer_octets}
+use Rattle.dsotlv.specs.declared.flags.TheConstants as flags
+use Rattle.dsotlv.specs.declared.framer.TheConstants as framer
 use Rattle.dsotlv.specs.declared.message.Tlv.{Tlv}
 use Rattle.dsotlv.specs.declared.message.DsoMessage.{DsoMessage}
 use Rattle.dsotlv.specs.declared.message.DsoHead.{DsoHead}
@@ -35,18 +38,19 @@ tlvs_from (suc more) message at =
     ]
 
 abbrev pub tlvs_of : List ℕ → Result (List Tlv) DsoFault
-tlvs_of message = tlvs_from (length message) message 12
+tlvs_of message = tlvs_from (length message) message header_octets
 
+-- RFC 8490, 5.4
 abbrev pub dso_opcode : ℕ
-dso_opcode = 6
+dso_opcode = header.DSO_OPCODE
 
 abbrev pub has_zero_counts : List ℕ → Bool
-has_zero_counts message = list_all (λ o. o == 0) (slice_range message 4 12)
+has_zero_counts message = list_all (λ o. o == 0) (slice_range message 4 header_octets)
 
 -- header with OPCODE 6 and zero counts, then whole TLVs; the Z bits may have any value
 abbrev pub dso_of : List ℕ → Result DsoMessage DsoFault
 dso_of message =
-    if nat_lt (length message) 12 then Err Short
+    if nat_lt (length message) header_octets then Err Short
     else if opcode_of (flags_of message) == dso_opcode then (if has_zero_counts message then (tlvs_of message >>= λ tlvs.
     Ok (record { id = id_of message; response = is_response (flags_of message); rcode = rcode_of (flags_of message); tlvs = tlvs })) else Err Counts)
     else Err Opcode
@@ -58,7 +62,7 @@ primary_of (tlv ∷ tlvs) = Some (tlv.kind, length tlv.octets)
 -- the primary TLV stands first (RFC 8490, 5.4.2)
 abbrev pub head_of : List ℕ → Option DsoHead
 head_of message =
-    if nat_lt (length message) 12 then None
+    if nat_lt (length message) header_octets then None
     else Some (record {
       id = id_of message;
       flags = flags_of message;
@@ -69,7 +73,7 @@ head_of message =
 
 -- flags with OPCODE 6 and the Z bits 0
 abbrev pub dso_flags : Bool → ℕ → ℕ
-dso_flags response rcode = cond response 0xb000 0x3000 + rcode
+dso_flags response rcode = cond response flags.ANSWER flags.REQUEST + rcode
 
 abbrev pub dso_octets : DsoMessage → List ℕ
 dso_octets message = answer_octets message.id (dso_flags message.response message.rcode) ++ flat_map tlv_octets message.tlvs
@@ -77,6 +81,10 @@ dso_octets message = answer_octets message.id (dso_flags message.response messag
 -- two octets of length, and the message (RFC 7766, 8)
 abbrev pub frame : List ℕ → List ℕ
 frame message = to_be_bytes w16 (length message) ++ message
+
+-- the octets of the longest frame
+abbrev pub max_frame : ℕ
+max_frame = framer.MAX_FRAME
 
 -- the first whole message of a stream and what follows it
 abbrev pub first_message : List ℕ → Option (List ℕ × List ℕ)

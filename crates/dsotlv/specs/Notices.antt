@@ -16,6 +16,7 @@ use Rattle.rrset.specs.RecordSet.{RecordSet, is_of_rrset, put, without}
 use Rattle.rrset.specs.declared.record.Rr.{Rr}
 use Rattle.rrset.specs.declared.record.Key.{Key}
 use Rattle.rrset.specs.declared.record.Question.{Question}
+use Rattle.dsotlv.specs.declared.ttls.TheConstants as ttls
 use Rattle.dsotlv.specs.declared.message.Notice.{Notice}
 use Rattle.dsotlv.specs.declared.message.Notice.TheVariants.{Add, RemoveOne, RemoveSet, RemoveClass, RemoveAll, Odd}
 use Rattle.dsotlv.specs.declared.message.PushFault.{PushFault}
@@ -43,13 +44,13 @@ reconfirm_of data' = result_ok (question_first data' >>= λ found. Ok (record { 
 
 -- the TTLs of a PUSH (RFC 8765, 6.3.1)
 abbrev pub last_ttl : ℕ
-last_ttl = 0x7fffffff
+last_ttl = ttls.LAST_TTL
 
 abbrev pub remove_one_ttl : ℕ
-remove_one_ttl = 0xffffffff
+remove_one_ttl = ttls.REMOVE_ONE
 
 abbrev pub remove_many_ttl : ℕ
-remove_many_ttl = 0xfffffffe
+remove_many_ttl = ttls.REMOVE_MANY
 
 -- a TTL of a record that is added or removed by itself
 abbrev pub is_single : ℕ → Bool

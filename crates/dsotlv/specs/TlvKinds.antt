@@ -1,23 +1,24 @@
--- Kinds of TLVs (RFC 8490, 10.3; RFC 8765, 8).
+-- Kinds of TLVs (RFC 8490, 10.3; RFC 8765, 8). Each number stands in `kinds` alone.
 use Rattle.std.specs.Prelude.{ℕ}
+use Rattle.dsotlv.specs.declared.kinds.TheConstants as kinds
 
 abbrev pub keepalive_tlv : ℕ
-keepalive_tlv = 1
+keepalive_tlv = kinds.KEEPALIVE
 
 abbrev pub retry_delay_tlv : ℕ
-retry_delay_tlv = 2
+retry_delay_tlv = kinds.RETRY_DELAY
 
 abbrev pub padding_tlv : ℕ
-padding_tlv = 3
+padding_tlv = kinds.PADDING
 
 abbrev pub subscribe_tlv : ℕ
-subscribe_tlv = 0x40
+subscribe_tlv = kinds.SUBSCRIBE
 
 abbrev pub push_tlv : ℕ
-push_tlv = 0x41
+push_tlv = kinds.PUSH
 
 abbrev pub unsubscribe_tlv : ℕ
-unsubscribe_tlv = 0x42
+unsubscribe_tlv = kinds.UNSUBSCRIBE
 
 abbrev pub reconfirm_tlv : ℕ
-reconfirm_tlv = 0x43
+reconfirm_tlv = kinds.RECONFIRM

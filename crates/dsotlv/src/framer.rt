@@ -2,18 +2,21 @@
 
 ghost use Rattle.std.specs.Prelude.{◌≡◌, ◌-◌, ◌<◌, ◌≤◌, ◌++◌, [], length, min, take, drop, slice_range, option_map, Some, None, IfOk, IfSome, IsSome, MatchOption};
 ghost use Rattle.push_base.specs.Limits.{max_input};
-ghost use Rattle.dsotlv.specs.Messages.{first_message};
+ghost use Rattle.rrset.specs.Header.{max_message};
+ghost use Rattle.dsotlv.specs.Messages.{first_message, max_frame};
 
 use crate::NoMemory;
 use crate::number::number_at;
+use push_base::limits::MAX_INPUT;
+use rrset::header::MAX_MESSAGE;
 use std::alloc::Global;
 use std::marker::Model;
 
-/// The octets that one end keeps unread: a whole frame, and 4,096 more.
-const MAX_INPUT: usize = 69_633;
-
 /// The octets of a message's length (RFC 7766, 8).
 pub const LENGTH: usize = 2;
+
+/// The most octets of a message and its length (RFC 7766, 8).
+pub const MAX_FRAME: usize = LENGTH + MAX_MESSAGE;
 
 /// Octets of a connection until they are whole messages (RFC 7766, 8): at most 69,633, which is a whole frame and
 /// 4,096 more. Its memory is taken once, with `new`.
@@ -39,9 +42,9 @@ fn first_end(octets: &[u8]) -> Option<usize>
     ensures found { IfSome result (λ end. first_message octets.now ≡ Some (slice_range octets.now 2 end, drop end octets.now)) }
     ensures head { IfSome result (λ end. 2 ≤ end) }
     ensures within { IfSome result (λ end. end ≤ length octets.now) }
-    ensures most { IfSome result (λ end. end ≤ 65537) }
+    ensures most { IfSome result (λ end. end ≤ max_frame) }
     ensures none { result ≡ None → first_message octets.now ≡ None }
-    ensures room { result ≡ None → length octets.now ≤ 65536 }
+    ensures room { result ≡ None → length octets.now < max_frame }
 {
     if octets.len() < LENGTH {
         return None;
@@ -79,8 +82,8 @@ impl Framer {
     /// 4,097 octets and more.
     pub fn next(&self) -> Option<&[u8]>
         ensures first { MatchOption result (first_message self.now ≡ None) (λ message. option_map (λ f. f.0) (first_message self.now) ≡ Some message.now) }
-        ensures most { IfSome result (λ message. length message.now ≤ 65535) }
-        ensures room { result ≡ None → length self.now ≤ 65536 }
+        ensures most { IfSome result (λ message. length message.now ≤ max_message) }
+        ensures room { result ≡ None → length self.now < max_frame }
     {
         let end = first_end(&self.octets)?;
         Some(&self.octets[LENGTH..end])

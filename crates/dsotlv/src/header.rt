@@ -1,6 +1,7 @@
 //! What a reaction needs to know of a DSO message (RFC 8490, 5.4).
 
 ghost use Rattle.std.specs.Prelude.{◌≡◌, ◌≤◌, length, is_ok, None, Ok, Err};
+ghost use Rattle.rrset.specs.Header.{header_octets};
 ghost use Rattle.dsotlv.specs.Messages.{has_zero_counts, tlvs_of, primary_of, primary_data, head_of};
 ghost use Rattle.dsotlv.specs.Giving.{tlv_end};
 
@@ -29,7 +30,7 @@ pub(crate) fn tlv_end(message: &[u8], at: usize) -> Option<usize>
 
 /// Whether the four counts of a header are 0.
 pub(crate) fn has_zero_counts(message: &[u8]) -> bool
-    requires { 12 ≤ length message.now }
+    requires { header_octets ≤ length message.now }
     ensures { result ≡ has_zero_counts message.now }
 {
     message[4..HEADER].iter().all(|octet| *octet == 0)
@@ -37,7 +38,7 @@ pub(crate) fn has_zero_counts(message: &[u8]) -> bool
 
 /// Whether whole TLVs follow the header, to the last octet.
 fn tlvs_are_whole(message: &[u8]) -> bool
-    requires { 12 ≤ length message.now }
+    requires { header_octets ≤ length message.now }
     ensures { result ≡ is_ok (tlvs_of message.now) }
 {
     let mut place = HEADER;
@@ -52,7 +53,7 @@ fn tlvs_are_whole(message: &[u8]) -> bool
 
 /// Kind and length of the first TLV.
 fn primary(message: &[u8], tlvs_good: bool) -> Option<(u16, u16)>
-    requires long { 12 ≤ length message.now }
+    requires long { header_octets ≤ length message.now }
     requires good { tlvs_good ≡ is_ok (tlvs_of message.now) }
     ensures { result ≡ elim (tlvs_of message.now) [ Err fault ↦ None | Ok tlvs ↦ primary_of tlvs ] }
 {
@@ -64,7 +65,7 @@ fn primary(message: &[u8], tlvs_good: bool) -> Option<(u16, u16)>
 
 /// The data of the first TLV (RFC 8490, 5.4.2), or nothing where no TLV or a broken one follows the header.
 pub fn primary_data(message: &[u8]) -> &[u8]
-    requires { 12 ≤ length message.now }
+    requires { header_octets ≤ length message.now }
     ensures { result.now ≡ primary_data message.now }
 {
     if !tlvs_are_whole(message) {

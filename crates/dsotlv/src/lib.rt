@@ -1,6 +1,7 @@
 //! DSO messages and notices: reading and writing them (RFC 8490, 5.4; RFC 8765, 6).
 #![tactic(auto)]
 
+pub mod delays;
 pub mod flags;
 mod framer;
 mod header;
@@ -13,8 +14,6 @@ mod push;
 mod question;
 mod read;
 mod reconfirm;
-#[cfg(test)]
-mod tests;
 pub mod ttls;
 mod write;
 
@@ -25,7 +24,7 @@ ghost use Rattle.dsotlv.specs.Messages.{head_of, dso_of, frame, messages_in, dso
 ghost use Rattle.dsotlv.specs.Notices.{notices_of, question_of, reconfirm_of, notice_octets, applied_all};
 ghost use Rattle.rrset.specs.RecordSet.{set_of};
 
-pub use framer::{Framer, LENGTH};
+pub use framer::{Framer, LENGTH, MAX_FRAME};
 pub use header::{head, primary_data};
 pub use message::{
     DsoFault, DsoHead, DsoMessage, Notice, Notices, PushFault, Tlv, Tlvs, WriteDsoFault,

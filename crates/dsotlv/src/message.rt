@@ -14,7 +14,9 @@ use std::marker::Model;
 /// A TLV (RFC 8490, 5.4.4).
 #[derive(Debug, Drop)]
 pub struct Tlv {
+    /// The DSO-TYPE.
     pub kind: u16,
+    /// The DSO-DATA.
     pub octets: Octets,
 }
 
@@ -59,12 +61,14 @@ impl Tlvs {
         Ok(())
     }
 
+    /// The TLVs, in order.
     pub fn as_slice(&self) -> &[Tlv]
         ensures { result.now ≡ self.now }
     {
         &self.items
     }
 
+    /// How many TLVs there are.
     pub fn len(&self) -> usize
         ensures { result ≡ length self.now }
     {
@@ -75,30 +79,45 @@ impl Tlvs {
 /// A DSO message (RFC 8490, 5.4).
 #[derive(Debug, Drop)]
 pub struct DsoMessage {
+    /// The ID; 0 where no answer is wanted (RFC 8490, 5.4.1).
     pub id: u16,
+    /// QR: whether it is an answer.
     pub response: bool,
+    /// The RCODE, below 16.
     pub rcode: u8,
+    /// The TLVs; the first of a request is the primary one (RFC 8490, 5.4.2).
     pub tlvs: Tlvs,
 }
 
 /// What a reaction needs to know of a message.
 #[derive(Clone, Copy, Debug)]
 pub struct DsoHead {
+    /// The ID.
     pub id: u16,
+    /// The flags: QR, OPCODE, Z bits and RCODE.
     pub flags: u16,
+    /// Whether all four counts are 0 (RFC 8490, 5.4.1).
     pub zero_counts: bool,
+    /// Whether whole TLVs follow the header, to the last octet.
     pub tlvs_good: bool,
+    /// The kind of the primary TLV and the octets of its data, where the TLVs are whole and there is one.
     pub primary: Option<(u16, u16)>,
 }
 
 /// A record of a PUSH (RFC 8765, 6.3.1).
 #[derive(Debug, Drop)]
 pub enum Notice {
+    /// The record is there, with this TTL.
     Add(Rr),
+    /// The record of this key is gone.
     RemoveOne(Rr),
+    /// All records of a name, a class and a TYPE, in this order, are gone.
     RemoveSet(Name, u16, u16),
+    /// All records of a name and a class are gone.
     RemoveClass(Name, u16),
+    /// All records of a name are gone.
     RemoveAll(Name),
+    /// A record with a TTL of which nothing is said, from 0x80000000 to 0xFFFFFFFD. It changes nothing.
     Odd(Name, u32),
 }
 
@@ -143,12 +162,14 @@ impl Notices {
         Ok(())
     }
 
+    /// The notices, in order.
     pub fn as_slice(&self) -> &[Notice]
         ensures { result.now ≡ self.now }
     {
         &self.items
     }
 
+    /// How many notices there are.
     pub fn len(&self) -> usize
         ensures { result ≡ length self.now }
     {

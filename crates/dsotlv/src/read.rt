@@ -1,7 +1,7 @@
 //! Reading DSO messages (RFC 8490, 5.4).
 
 ghost use Rattle.std.specs.Prelude.{◌≡◌, ◌≢◌, ◌+◌, ◌<◌, ◌≤◌, length, slice_range, Err, IfOk, IsFalse};
-ghost use Rattle.rrset.specs.Header.{two_octets, flags_of, opcode_of};
+ghost use Rattle.rrset.specs.Header.{header_octets, two_octets, flags_of, opcode_of};
 ghost use Rattle.dsotlv.specs.Giving.{GivesDso};
 ghost use Rattle.dsotlv.specs.Messages.{tlvs_of, dso_opcode, has_zero_counts, dso_of};
 
@@ -27,7 +27,7 @@ fn tlv_between(alloc: Global, message: &[u8], at: usize, end: usize) -> Result<T
 
 /// The TLVs behind the header.
 fn tlvs_of(alloc: Global, message: &[u8]) -> Result<Tlvs, DsoFault>
-    requires { 12 ≤ length message.now }
+    requires { header_octets ≤ length message.now }
     ensures { GivesDso result (tlvs_of message.now) }
 {
     let mut tlvs = Tlvs::new(alloc);
@@ -47,9 +47,9 @@ fn tlvs_of(alloc: Global, message: &[u8]) -> Result<Tlvs, DsoFault>
 /// its faults come always.
 pub fn read_dso(alloc: Global, message: &[u8]) -> Result<DsoMessage, DsoFault>
     ensures exact { GivesDso result (dso_of message.now) }
-    ensures short { length message.now < 12 → result ≡ Err DsoFault.Short }
-    ensures opcode { 12 ≤ length message.now → opcode_of (flags_of message.now) ≢ dso_opcode → result ≡ Err DsoFault.Opcode }
-    ensures counts { 12 ≤ length message.now → opcode_of (flags_of message.now) ≡ dso_opcode → IsFalse (has_zero_counts message.now) → result ≡ Err DsoFault.Counts }
+    ensures short { length message.now < header_octets → result ≡ Err DsoFault.Short }
+    ensures opcode { header_octets ≤ length message.now → opcode_of (flags_of message.now) ≢ dso_opcode → result ≡ Err DsoFault.Opcode }
+    ensures counts { header_octets ≤ length message.now → opcode_of (flags_of message.now) ≡ dso_opcode → IsFalse (has_zero_counts message.now) → result ≡ Err DsoFault.Counts }
 {
     if message.len() < HEADER {
         return Err(DsoFault::Short);

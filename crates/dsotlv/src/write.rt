@@ -2,6 +2,7 @@
 
 ghost use Rattle.std.specs.Prelude.{◌≡◌, ◌+◌, ◌++◌, ◌<◌, ◌≤◌, length, flat_map, IfOk, IfSome, OnOk, OnErr, None, Err};
 ghost use Rattle.std.specs.Int.{w16, to_be_bytes};
+ghost use Rattle.rrset.specs.Header.{header_octets, max_message};
 ghost use Rattle.dsotlv.specs.Messages.{tlv_octets, dso_octets, frame};
 
 use crate::NoMemory;
@@ -13,9 +14,9 @@ use std::alloc::Global;
 
 /// How many octets a message with these TLVs takes, where a frame holds them.
 fn framed_size(tlvs: &[Tlv]) -> Option<usize>
-    ensures some { IfSome result (λ size. size ≡ 12 + length (flat_map tlv_octets tlvs.now)) }
-    ensures fits { IfSome result (λ size. size ≤ 65535) }
-    ensures none { result ≡ None → 65535 < 12 + length (flat_map tlv_octets tlvs.now) }
+    ensures some { IfSome result (λ size. size ≡ header_octets + length (flat_map tlv_octets tlvs.now)) }
+    ensures fits { IfSome result (λ size. size ≤ max_message) }
+    ensures none { result ≡ None → max_message < header_octets + length (flat_map tlv_octets tlvs.now) }
 {
     let mut size = HEADER;
     'tlvs: for tlv in tlvs {
@@ -33,7 +34,7 @@ fn framed_size(tlvs: &[Tlv]) -> Option<usize>
 
 /// Appends a TLV.
 fn push_tlv(tlv: &Tlv, out: &mut Vec<u8>) -> Result<(), NoMemory>
-    requires { length tlv.now.octets ≤ 65535 }
+    requires { length tlv.now.octets ≤ max_message }
     ensures { OnOk result (out.new.items ≡ out.old.items ++ tlv_octets tlv.now) }
 {
     out.extend_from_slice(&tlv.kind.to_be_bytes())?;
@@ -43,7 +44,7 @@ fn push_tlv(tlv: &Tlv, out: &mut Vec<u8>) -> Result<(), NoMemory>
 
 /// Appends TLVs.
 fn push_tlvs(tlvs: &[Tlv], out: &mut Vec<u8>) -> Result<(), NoMemory>
-    requires { length (flat_map tlv_octets tlvs.now) ≤ 65535 }
+    requires { length (flat_map tlv_octets tlvs.now) ≤ max_message }
     ensures { OnOk result (out.new.items ≡ out.old.items ++ flat_map tlv_octets tlvs.now) }
 {
     'tlvs: for tlv in tlvs {
@@ -74,9 +75,9 @@ fn framed_octets(alloc: Global, message: &DsoMessage, size: u16) -> Result<Vec<u
 pub fn write_dso(message: &DsoMessage, out: &mut Vec<u8>) -> Result<(), WriteDsoFault>
     requires { message.now.rcode < 16 }
     ensures ok { OnOk result (out.new.items ≡ out.old.items ++ frame (dso_octets message.now)) }
-    ensures fits { OnOk result (length (dso_octets message.now) ≤ 65535) }
-    ensures long { result ≡ Err WriteDsoFault.Long → 65535 < length (dso_octets message.now) }
-    ensures too_long { 65535 < length (dso_octets message.now) → result ≡ Err WriteDsoFault.Long }
+    ensures fits { OnOk result (length (dso_octets message.now) ≤ max_message) }
+    ensures long { result ≡ Err WriteDsoFault.Long → max_message < length (dso_octets message.now) }
+    ensures too_long { max_message < length (dso_octets message.now) → result ≡ Err WriteDsoFault.Long }
     ensures err { OnErr result (out.new.items ≡ out.old.items) }
 {
     let size = framed_size(message.tlvs.as_slice()).ok_or(WriteDsoFault::Long)?;

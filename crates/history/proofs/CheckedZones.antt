@@ -1,5 +1,5 @@
 -- What an update of zones gets, from what the zone that it names gets.
-use Rattle.std.proofs.Common.{◌≡◌, ℕ, zero, suc, ◌<◌, Bool, true, List, [], ◌∷◌, ◌++◌, length, set, map, filter, Option, Some, None, Ok, Err, refl, sym, ap, subst, ◌∙◌, arith}
+use Rattle.std.proofs.Common.{◌≡◌, ℕ, zero, suc, ◌<◌, Bool, true, List, [], ◌∷◌, ◌++◌, length, set, map, filter, Option, Some, None, Ok, refl, sym, ap, subst, ◌∙◌, arith}
 use Rattle.std.specs.Prelude.{position, slice_get}
 use Rattle.std.specs.List.{list_any}
 use Rattle.std.proofs.lemmas.List.{length-append, length-map}
@@ -23,7 +23,7 @@ use Rattle.history.proofs.KeptZones.{same_some}
 use Rattle.history.proofs.LongestTurns.{same_names}
 use Rattle.history.proofs.Positions.{Found, found_from, slice_get-here}
 use Rattle.history.proofs.ShownAtHome.{Placed}
-use Rattle.history.proofs.UpdateSteps.{named, refused-asked, refused-none, refused-found, accepted-found, accepted-held, index-found}
+use Rattle.history.proofs.UpdateSteps.{named, refused-none, refused-found, accepted-found, accepted-held, index-found}
 use Rattle.history.proofs.UpdatedHomes.{with_zone}
 use Rattle.history.proofs.ZoneLists.{states, position-map}
 
@@ -33,9 +33,6 @@ first_named zones apex = position (λ z. same_name z.state.apex apex) zones
 
 pub first-states : (zones : List ZoneKept) (apex : Labels) (o : Option ℕ) → o ≡ first_named zones apex → position (named apex) (states zones) ≡ o
 first-states zones apex o is = position-map (λ (z : ZoneKept). z.state) (named apex) zones ∙ sym is
-
-pub checked-asked : (zones : List ZoneKept) (update : Update) (code : ℕ) → zone_asked update.zones ≡ Err code → (t : ℕ) → Checks (at_moment zones t) update (results.Refuse code)
-checked-asked zones update code asked t = refused-asked (at_moment zones t) update code asked
 
 pub checked-none : (zones : List ZoneKept) (update : Update) (apex : Labels) → zone_asked update.zones ≡ Ok apex → None ≡ first_named zones apex → (t : ℕ) → Checks (at_moment zones t) update (results.Refuse 9)
 checked-none zones update apex asked none t = refused-none (at_moment zones t) update apex asked (first-states zones apex None none)

@@ -1,13 +1,10 @@
 -- One of a list of zones is changed in its place.
-use Rattle.std.proofs.Common.{◌≡◌, ℕ, zero, suc, ◌+◌, ◌<◌, Bool, cond, List, [], ◌∷◌, ◌++◌, length, get_or, set, filter, Some, Result, Ok, Err, refl, sym, ap, subst, ◌∙◌, arith}
+use Rattle.std.proofs.Common.{◌≡◌, ℕ, zero, suc, ◌<◌, List, [], ◌∷◌, length, get_or, set, Some, Result, Ok, Err, refl, sym, ap, subst, ◌∙◌, arith}
 use Rattle.std.specs.Prelude.{slice_get, IfOk}
-use Rattle.std.proofs.lemmas.List.Elements.{filter-append}
-use Rattle.dnsname.specs.Names.{Labels}
 use Rattle.rrset.specs.RecordSet.{RecordSet}
 use Rattle.rrset.specs.declared.record.Changed.{Changed}
 use Rattle.zoneupdate.specs.declared.plan.Verdict.{Verdict}
-use Rattle.zoneupdate.specs.Keeping.{ZoneKept, lies_under, HasRoom, Leads}
-use Rattle.history.proofs.LongestTurns.{names, names-next}
+use Rattle.zoneupdate.specs.Keeping.{ZoneKept, HasRoom, Leads}
 use Rattle.history.proofs.ZoneLists.{states}
 
 pub slice_get-read : {X : Type 0} (xs : List X) (i : ℕ) (d : X) → i < length xs → d ≡ get_or xs i d → slice_get xs i ≡ Some d
@@ -47,13 +44,3 @@ applied-here zones i old new plan h is applied zone rows at leads =
     states-set zones i new ∙ ap (set (states zones) i) (applied rows (subst (λ (z : ZoneKept). Leads z.state plan rows) (sym same) leads) ∙ ap (λ (z : ZoneKept). record z.state { rows = rows }) same)
 
 -- ---- the names under an apex
-
-pub under-more : (apex : Labels) (zones : List ZoneKept) (i : ℕ) (zone : ZoneKept) (found now : List Labels) (copy name : Labels) (b : Bool) → i < length zones → zone ≡ get_or zones i zone → found ≡ filter (lies_under apex) (names i zones)
-    → b ≡ lies_under apex name → name ≡ zone.state.apex → now ≡ found ++ cond b (zone.state.apex ∷ []) [] → now ≡ filter (lies_under apex) (names (i + 1) zones)
-under-more apex zones i zone found now copy name b h is so_far test name_is now_is =
-    now_is ∙ (λ j. so_far j ++ cond (test_is j) (zone.state.apex ∷ []) [])
-    ∙ sym (filter-append (lies_under apex) (names i zones) (zone.state.apex ∷ []))
-    ∙ ap (filter (lies_under apex)) (sym (names-next i zones zone h is))
-  where
-    test_is : b ≡ lies_under apex zone.state.apex
-    test_is = test ∙ ap (lies_under apex) name_is

@@ -2,7 +2,6 @@
 --     LongestSoFar homes name best most      the longest of the homes that the name ends in, and how many octets it has
 use Rattle.std.proofs.Common.{◌≡◌, ℕ, zero, suc, ◌+◌, ◌<◌, ◌≤◌, Bool, true, false, cond, ltb, List, [], ◌∷◌, ◌++◌, length, filter, Option, Some, None, refl, sym, ap, subst, ◌∙◌, arith, ltb-true, ltb-false}
 use Rattle.std.specs.Prelude.{slice_get}
-use Rattle.history.specs.Standing.{IsHomeAt}
 use Rattle.std.proofs.lemmas.List.{length-append}
 use Rattle.std.proofs.lemmas.List.Elements.{filter-append}
 use Rattle.dnsname.specs.Names.{Labels, labels_octets, octets, ends_in, longest}
@@ -133,7 +132,3 @@ so_far-kept homes name x (Some j) most size e few is (h, at, found, most_is) =
         let octets_more = more_octets name x h e (ends homes name h found) more in
         absurd (omega arith)
     by false c = refl
-
-pub so_far-end : (homes : List Labels) (name : Labels) (best : Option ℕ) (most : ℕ) → LongestSoFar homes name best most → IsHomeAt homes name best
-so_far-end homes name None most (none, zero_is) = none
-so_far-end homes name (Some i) most (h, at, is, size) = (h, at, is)

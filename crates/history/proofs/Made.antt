@@ -5,7 +5,7 @@ use Rattle.dnsname.specs.Names.{Labels}
 use Rattle.dnswire.specs.declared.message.Update.{Update}
 use Rattle.rrset.specs.RecordSet.{changes}
 use Rattle.rrset.specs.declared.record.Changed.{Changed}
-use Rattle.history.specs.Keeping.{HomesKept, Held, held_of, held_for, zone_index}
+use Rattle.history.specs.Keeping.{HomesKept, Held, held_of, zone_index}
 use Rattle.history.specs.Plans.{Plan, refuse, idle, accept, planned}
 use Rattle.history.specs.Standing.{AreAtHome, at_moment, moment_after, IsHeldFor, IsStateOf}
 use Rattle.history.specs.States.{State, zone_asked, after, records}
@@ -33,14 +33,6 @@ some_zone state update changed e none = asked (zone_asked update.zones) refl non
     asked (Err code) is none = let wrong : refuse code ≡ accept changed = sym (refused-asked state update code is) ∙ e in cc
     asked (Ok apex) is none = found apex (position (named apex) state.zones) is refl none
 
-pub made-zone : (homes later : HomesKept) (i : ℕ) (changed : List Changed)
-    → ((t : ℕ) (update : Update) → AreAtHome (at_moment homes t) → held_for (at_moment homes t) (entries.Update update) ≡ Some (record { zone = Some i; changed = changed }) → (at_moment later t ≡ after (at_moment homes t) (entries.Update update)) × AreAtHome (at_moment later t))
-    → (t : ℕ) (entry : Entry) → AreAtHome (at_moment homes t) → IsHeldFor (at_moment homes t) entry (Some (record { zone = Some i; changed = changed })) → IsStateOf later (moment_after t entry) (after (at_moment homes t) entry)
-made-zone homes later i changed applied t (entries.Update update) home held = let both = applied t update home (sym held.plan) in record { same = both.0; home = subst AreAtHome both.0 both.1 }
-made-zone homes later i changed applied t (entries.Heard link hearing) home held = let wrong = (held_from None (planned (at_moment homes t) (entries.Heard link hearing)) (record { zone = Some i; changed = changed }) held.plan).1 in cc
-made-zone homes later i changed applied t (entries.Moment u) home held = let wrong = (held_from None (planned (at_moment homes t) (entries.Moment u)) (record { zone = Some i; changed = changed }) held.plan).1 in cc
-made-zone homes later i changed applied t (entries.Reconfirm link key) home held = let wrong = (held_from None (planned (at_moment homes t) (entries.Reconfirm link key)) (record { zone = Some i; changed = changed }) held.plan).1 in cc
-
 moment-home : (homes : HomesKept) (t u : ℕ) → AreAtHome (at_moment homes t) → AreAtHome (at_moment homes u)
 moment-home homes t u home = record { links = refl; together = home.together; zones = home.zones }
 
@@ -61,6 +53,3 @@ made-moment homes t (entries.Moment u) home held = by (ltb t u) refl (held_from 
     by : (b : Bool) → ltb t u ≡ b → cond b (accept (changes (records old) (records (cond b new old)))) idle ≡ accept [] → IsStateOf homes u (after old (entries.Moment u))
     by true is e = let whole : new ≡ after old (entries.Moment u) = ap (λ c. cond c new old) (sym is) in record { same = whole; home = subst AreAtHome whole (moment-home homes t u home) }
     by false is e = cc
-
-pub made-none : (homes : HomesKept) (t : ℕ) (entry : Entry) → AreAtHome (at_moment homes t) → IsHeldFor (at_moment homes t) entry None → IsStateOf homes (moment_after t entry) (after (at_moment homes t) entry)
-made-none homes t entry home held = let wrong : false ≡ true = held.some in cc

@@ -11,16 +11,18 @@ use Rattle.rrset.specs.declared.record.Question.{Question}
 use Rattle.zoneupdate.proofs.Filters.{filter_within, and-left}
 use Rattle.history.specs.Keeping.{HomesKept, Past, state_of, state_now, records_now}
 use Rattle.history.specs.Standing.{AreAtHome, at_moment, IsStateOf, IsPresent}
+use Rattle.history.specs.Totals.{totals}
 use Rattle.history.specs.States.{State, after, records, records_at}
 use Rattle.history.specs.declared.entry.Entry.{Entry}
 
-pub present-new : (homes copy : HomesKept) (history : List Entry) → AreAtHome (state_of homes) → state_of copy ≡ state_of homes → history ≡ [] → IsPresent (record { start = state_of copy; history = history }) 0 homes 0 0 None
+pub present-new : (homes copy : HomesKept) (history : List Entry) → AreAtHome (state_of homes) → state_of copy ≡ state_of homes → history ≡ [] → IsPresent (record { start = state_of copy; history = history }) 0 homes 0 0 (totals []) None
 present-new homes copy history home same none =
-    subst (λ h. IsPresent (record { start = state_of copy; history = h }) 0 homes 0 0 None) (sym none) (record {
+    subst (λ h. IsPresent (record { start = state_of copy; history = h }) 0 homes 0 0 (totals []) None) (sym none) (record {
       present = record { same = sym same; home = subst AreAtHome (sym same) home };
       start = subst AreAtHome (sym same) home;
       first = refl;
       size = refl;
+      groups = refl;
       few = omega arith;
       within = omega arith;
       room = tt;

@@ -1,5 +1,5 @@
 -- Each state of a history of zones has its records at home, if the start has.
-use Rattle.std.proofs.Common.{◌≡◌, ℕ, Bool, true, false, cond, ltb, List, [], ◌∷◌, ◌++◌, map, fold, take, Option, Some, None, Result, Ok, Err, refl, sym, ap, subst, ◌∙◌}
+use Rattle.std.proofs.Common.{◌≡◌, ℕ, Bool, true, false, cond, ltb, List, [], ◌++◌, map, Option, Some, None, Result, Ok, Err, refl, sym, ap, subst, ◌∙◌}
 use Rattle.std.specs.Prelude.{position}
 use Rattle.std.specs.List.{AllByRecursion}
 use Rattle.push_base.specs.Cases.{◌>>=◌, changed_at}
@@ -9,7 +9,7 @@ use Rattle.rrset.specs.Rcodes.{notauth}
 use Rattle.rrset.specs.RecordSet.{RecordSet, changes}
 use Rattle.zoneupdate.specs.Updates.{judged}
 use Rattle.history.specs.Standing.{IsAtHome, AreAtHome}
-use Rattle.history.specs.States.{State, LinkState, home_names, zone_asked, with_rows, updated, after, state_at, link_heard, link_at_moment}
+use Rattle.history.specs.States.{State, LinkState, home_names, zone_asked, with_rows, updated, after, link_heard, link_at_moment}
 use Rattle.linkcache.specs.Rows.{reconfirmed}
 use Rattle.history.specs.declared.entry.Entry.{Entry}
 use Rattle.history.specs.declared.entry.Entry.TheVariants as entries
@@ -66,10 +66,3 @@ home-after state home (entries.Moment t) = by (ltb state.now t)
     by : (b : Bool) → AreAtHome (cond b (record state { now = t; links = map (link_at_moment t) state.links }) state)
     by true = home-relinked state home (map (link_at_moment t) state.links) t (ap (map (link_at_moment t)) home.links)
     by false = home
-
-pub home-fold : (state : State) → AreAtHome state → (entries : List Entry) → AreAtHome (fold after state entries)
-home-fold state home [] = home
-home-fold state home (e ∷ es) = home-fold (after state e) (home-after state home e) es
-
-pub home-state_at : (start : State) → AreAtHome start → (history : List Entry) (point : ℕ) → AreAtHome (state_at start history point)
-home-state_at start home history point = home-fold start home (take point history)

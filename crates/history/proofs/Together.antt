@@ -47,10 +47,6 @@ pub filter-zones : (zones : List ZoneState) → filter (λ (h : NamedHome). if h
 filter-zones [] = refl
 filter-zones (z ∷ zones) = ap (λ l. (z.apex, false) ∷ l) (filter-zones zones)
 
-or_nothing : (b : Bool) → (b || false) ≡ b
-or_nothing true = refl
-or_nothing false = refl
-
 pub clash-named : (apex : Labels) (zones : List ZoneState) → position (clashes (apex, false)) (named_zones zones) ≡ position (λ z. same_name apex z.apex) zones
 clash-named apex [] = refl
 clash-named apex (z ∷ zones) =

@@ -77,8 +77,8 @@ told_plan (refuse code) = plans.Refuse code
 told_plan idle = plans.Idle
 told_plan (accept changed) = plans.Accept changed
 
--- what adding a home answers: nothing, or its fault, unless memory ran out
+-- what adding a home answers: its fault, always where it has one; memory is wanted only where it has none
 abbrev pub GivesFault : {X : Type 0} → Result X HomeFault → Option HomeFault → Type 0
 GivesFault (Ok done) fault = fault ≡ None
-GivesFault (Err NoMemory) fault = Unit {0}
+GivesFault (Err NoMemory) fault = fault ≡ None
 GivesFault (Err other) fault = fault ≡ Some other

@@ -12,10 +12,12 @@ use Rattle.zoneupdate.specs.Keeping.{ZoneKept}
 use Rattle.zoneupdate.specs.Zones.{ZoneState, is_inside}
 use Rattle.history.specs.Homes.{NamedHome}
 use Rattle.history.specs.Keeping.{HomesKept, Held, Past, state_of, state_now, zone_index, held_for}
+use Rattle.history.specs.Totals.{totals}
 use Rattle.history.specs.Plans.{may_stand_together, planned, refuse, accept}
 use Rattle.history.specs.States.{State, home_names, entry_size, max_journal_entries, max_journal_octets}
 use Rattle.history.specs.declared.entry.Entry.{Entry}
 use Rattle.history.specs.declared.entry.Entry.TheVariants as entries
+use Rattle.history.specs.declared.entry.Totals.{Totals}
 use Rattle.history.specs.declared.planning.HeldPlan.{HeldPlan}
 use Rattle.history.specs.declared.planning.HeldPlan.TheVariants as plans
 use Rattle.history.specs.declared.updating.Checked.{Checked}
@@ -106,12 +108,13 @@ pub record CanMake (homes : HomesKept) (held : Option Held) : Type 0 where
   pub is_held : IsHeldFor (at_moment homes moment) entry held
   pub room : HasRoomHeld homes held
 
--- homes at a moment are the state after all entries, and the octets those of the journal
-pub record IsPresent (past : Past) (number : ℕ) (homes : HomesKept) (moment octets : ℕ) (held : Option Held) : Type 0 where
+-- homes at a moment are the state after all entries, and the octets and counts those of the journal
+pub record IsPresent (past : Past) (number : ℕ) (homes : HomesKept) (moment octets : ℕ) (counts : Totals) (held : Option Held) : Type 0 where
   pub present : IsStateOf homes moment (state_now past)
   pub start : AreAtHome past.start
   pub first : number ≡ 0
   pub size : octets ≡ sum_by entry_size past.history
+  pub groups : counts ≡ totals past.history
   pub few : length past.history ≤ max_journal_entries
   pub within : octets ≤ max_journal_octets
   pub room : HasRoomHeld homes held

@@ -7,7 +7,7 @@ use Rattle.push_base.specs.Cases.{◌>>=◌, fault_as, is_empty, changed_at}
 use Rattle.dnsname.specs.Names.{Labels, same_name, home}
 use Rattle.rrset.specs.Kinds.{in_class, soa_kind}
 use Rattle.rrset.specs.Rcodes.{formerr, notauth}
-use Rattle.rrset.specs.Header.{flags_of, is_response, opcode_of, update_opcode}
+use Rattle.rrset.specs.Header.{header_octets, max_message, flags_of, is_response, opcode_of, update_opcode}
 use Rattle.rrset.specs.Records.{key_of, rr_size}
 use Rattle.rrset.specs.RecordSet.{RecordSet, union}
 use Rattle.rrset.specs.declared.record.Rr.{Rr}
@@ -20,6 +20,8 @@ use Rattle.zoneupdate.specs.Zones.{ZoneState}
 use Rattle.zoneupdate.specs.Updates.{judged}
 use Rattle.linkmap.specs.Translation.{heard_as}
 use Rattle.linkcache.specs.Rows.{LinkRows, heard, at_moment, reconfirmed, has_key, shown_rows, usable_of}
+use Rattle.history.specs.declared.entry.TheConstants as entry
+use Rattle.history.specs.declared.points.TheConstants as points
 use Rattle.history.specs.declared.entry.Entry.{Entry}
 use Rattle.history.specs.declared.entry.Entry.TheVariants as entries
 use Rattle.history.specs.declared.entry.Home.{Home}
@@ -73,7 +75,7 @@ updated state update = do
 -- a message that is no update is a format error (RFC 2136, 2.2)
 abbrev pub update_in : List ℕ → Result Update ℕ
 update_in message =
-    if nat_lt (length message) 12 || nat_lt 65535 (length message) || is_response (flags_of message) || not (opcode_of (flags_of message) == update_opcode) then Err formerr
+    if nat_lt (length message) header_octets || nat_lt max_message (length message) || is_response (flags_of message) || not (opcode_of (flags_of message) == update_opcode) then Err formerr
     else fault_as (λ _. formerr) (update_of message)
 
 abbrev pub verdict : State → List ℕ → Result Update ℕ
@@ -119,18 +121,22 @@ key_heard state rr _ = None
 abbrev pub reconfirm_key : State → Rr → Option (ℕ × Key)
 reconfirm_key state rr = key_heard state rr (home_of state rr.owner)
 
+-- the octets that the journal counts for an entry beside its records
+abbrev pub entry_octets : ℕ
+entry_octets = entry.ENTRY_OCTETS
+
 -- the journal's size of an entry
 abbrev pub entry_size : Entry → ℕ
-entry_size (entries.Update update) = 32 + sum_by rr_size update.prereqs + sum_by rr_size update.changes
-entry_size (entries.Heard link hearing) = 32 + sum_by (λ h. rr_size h.rr) hearing.rrs
-entry_size (entries.Moment t) = 32
-entry_size (entries.Reconfirm link key) = 32
+entry_size (entries.Update update) = entry_octets + sum_by rr_size update.prereqs + sum_by rr_size update.changes
+entry_size (entries.Heard link hearing) = entry_octets + sum_by (λ h. rr_size h.rr) hearing.rrs
+entry_size (entries.Moment t) = entry_octets
+entry_size (entries.Reconfirm link key) = entry_octets
 
 abbrev pub max_journal_entries : ℕ
-max_journal_entries = 65536
+max_journal_entries = points.MAX_ENTRIES
 
 abbrev pub max_journal_octets : ℕ
-max_journal_octets = 67108864
+max_journal_octets = points.MAX_OCTETS
 
 -- entries and one more of a size are within the two numbers (this project's own)
 abbrev pub journal_has_room : List Entry → ℕ → Bool

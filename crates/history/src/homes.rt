@@ -5,7 +5,6 @@ ghost use Rattle.std.specs.List.{AllByRecursion};
 ghost use Rattle.dnsname.specs.Names.{is_name, same_name};
 ghost use Rattle.push_base.specs.Limits.{max_octets_at_name};
 ghost use Rattle.rrset.specs.RecordSet.{at_name, size_of, union};
-ghost use Rattle.rrset.specs.Tables.{HaveLowerOwners};
 ghost use Rattle.dnswire.specs.declared.message.Update.{Update as UpdateRecord};
 ghost use Rattle.history.specs.Standing.{IsHomeAt, AreAtHome, at_moment, Checks, HasRoomAt, CanApply, rows_of_kept};
 ghost use Rattle.history.specs.declared.entry.Entry.TheVariants as entries;
@@ -18,7 +17,7 @@ use crate::updating::{Checked, apply_zones, check_zones};
 use dnsname::Name;
 use dnswire::Update;
 use push_base::limits::MAX_HOME_OCTETS;
-use rrset::{Key, NoMemory, Shown, Table};
+use rrset::{Key, NoMemory, Shown, Table, put_all};
 use std::alloc::Global;
 use std::marker::Model;
 use zoneupdate::{Zone, ZonePlan};
@@ -41,7 +40,7 @@ impl Model for Homes {
     ghost invariant = { λ h. IsTrue (may_stand_together (named_homes h.zones.items)) };
 }
 
-/// The greatest number of zones.
+/// The most zones, and the most links.
 const MAX_ZONES: usize = 16;
 
 /// The first of some zones that has a name.
@@ -76,17 +75,6 @@ fn zone_at<'a>(zones: &'a [Zone], index: usize, name: &Name) -> &'a [(Key, Shown
         Some(zone) => zone.rows().at(name),
         None => &[],
     }
-}
-
-/// Puts copies of all records into a table.
-fn put_all(all: &mut Table, rows: &[(Key, Shown)]) -> Result<(), NoMemory>
-    requires { HaveLowerOwners rows.now }
-    ensures { OnOk result (all.new.rows ≡ union all.old.rows rows.now) }
-{
-    'rows: for (key, shown) in rows {
-        all.put(key.copy()?, shown.copy()?)?;
-    }
-    Ok(())
 }
 
 /// Tells that the names of zones are names (RFC 1035, 3.1).
@@ -136,7 +124,7 @@ impl Homes {
     }
 
     /// Adds a zone behind the others. `Many`: there are 16. `Long`: its name has more than 200 octets. `Clash(i)`: home
-    /// i, counted from 0, has the same name.
+    /// i, counted from 0, has the same name. These are tested before any memory is taken, so that they come always.
     pub fn add_zone(&mut self, zone: Zone) -> Result<(), HomeFault>
         ensures fault { GivesFault result (home_fault (named_homes self.old) (zone.state.apex, false)) }
         ensures ok { OnOk result (self.new ≡ self.old ++ zone ∷ []) }

@@ -7,8 +7,6 @@ mod plan;
 mod planning;
 mod points;
 mod replaying;
-#[cfg(test)]
-mod tests;
 mod totals;
 mod updating;
 
@@ -25,6 +23,7 @@ pub use homes::Homes;
 pub use plan::{ChangedKeys, PastFault, Planned};
 pub use points::Points;
 
+/// Examples of states and of faults of homes.
 pub fn worked_rows()
     ensures nested_zone { fault_of_last ((name (codes "com."), false) ∷ (name (codes "example.com."), false) ∷ []) ≡ None }
     ensures same_zone { fault_of_last ((name (codes "com."), false) ∷ (name (codes "example.com."), false) ∷ (name (codes "Example.com."), false) ∷ []) ≡ Some (HomeFault.Clash 1) }

@@ -65,6 +65,7 @@ impl ChangedKeys {
         Ok(ChangedKeys { items })
     }
 
+    /// The keys, in key order.
     pub fn as_slice(&self) -> &[Changed]
         ensures { result.now ≡ self.now }
     {

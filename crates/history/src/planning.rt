@@ -20,7 +20,9 @@ use zoneupdate::ZonePlan;
 /// A plan that was accepted: the zone that an update changes, counted from 0, and its keys; or a later moment.
 #[derive(Debug, Drop)]
 pub(crate) enum HeldPlan {
+    /// The zone, and its keys.
     Zone(usize, ZonePlan),
+    /// A later moment.
     Moment,
 }
 

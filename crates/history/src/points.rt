@@ -15,7 +15,6 @@ use crate::homes::Homes;
 use crate::plan::{PastFault, Planned};
 use crate::planning::{HeldPlan, make, moment_after, plan_of};
 use crate::replaying::{matching_rrs, replayed};
-use crate::totals::totals;
 use dnsname::Name;
 use rrset::{Key, NoMemory, Question, Rrs, Shown, Table};
 use std::alloc::Global;
@@ -29,13 +28,14 @@ pub(crate) struct Past {
     pub(crate) entries: Vec<Entry>,
 }
 
-/// A past, and the homes and the moment after all its entries.
+/// A past, the homes and the moment after all its entries, and how many octets and how many entries of each group it has.
 #[derive(Debug, Drop)]
 pub struct Points {
     past: Past,
     homes: Homes,
     moment: u64,
     octets: u64,
+    counts: Totals,
     held: Option<HeldPlan>,
 }
 
@@ -54,7 +54,7 @@ impl Model for Points {
 
     ghost view = { λ p. record { past = record { start = state_of p.past.start; history = p.past.entries.items }; held = option_map held_kept p.held } };
 
-    ghost invariant = { λ p. IsPresent (record { start = state_of p.past.start; history = p.past.entries.items }) p.past.number p.homes p.moment p.octets (option_map held_kept p.held) };
+    ghost invariant = { λ p. IsPresent (record { start = state_of p.past.start; history = p.past.entries.items }) p.past.number p.homes p.moment p.octets p.counts (option_map held_kept p.held) };
 }
 
 impl Points {
@@ -75,6 +75,7 @@ impl Points {
             homes,
             moment: 0,
             octets: 0,
+            counts: Totals::none(),
             held: None,
         })
     }
@@ -104,7 +105,7 @@ impl Points {
     pub fn counts(&self) -> Totals
         ensures { result ≡ totals self.now.past.history }
     {
-        totals(&self.past.entries)
+        self.counts
     }
 
     /// The number of the start state.
@@ -164,8 +165,10 @@ impl Points {
             return Err(PastFault::Full);
         }
         let moment = moment_after(self.moment, &entry);
+        let counts = self.counts.and_one(&entry);
         self.past.entries.push(entry)?;
         self.octets += size;
+        self.counts = counts;
         make(&mut self.homes, self.held.take());
         self.moment = moment;
         Ok(())

@@ -1,68 +1,43 @@
 //! How many entries of each group a history has.
 
-ghost use Rattle.std.specs.Prelude.{◌≡◌, count_by};
-ghost use Rattle.history.specs.Totals.{is_change, is_hearing, is_moment, totals};
+ghost use Rattle.std.specs.Prelude.{◌≡◌, ◌<◌, []};
+ghost use Rattle.push_base.specs.Limits.{max_number};
+ghost use Rattle.history.specs.Totals.{and_one, totals};
 
 use crate::entry::{Entry, Totals};
 
-/// Whether an entry is an update or a reconfirmation.
-fn is_change(entry: &Entry) -> bool
-    ensures { result ≡ is_change entry.now }
-{
-    match entry {
-        Entry::Update(_) | Entry::Reconfirm(_, _) => true,
-        Entry::Heard(_, _) | Entry::Moment(_) => false,
+impl Totals {
+    /// Those of no entries.
+    pub(crate) fn none() -> Totals
+        ensures { result ≡ totals [] }
+    {
+        Totals {
+            changes: 0,
+            heard: 0,
+            moments: 0,
+        }
     }
-}
 
-/// Whether an entry is a hearing of a link.
-fn is_hearing(entry: &Entry) -> bool
-    ensures { result ≡ is_hearing entry.now }
-{
-    match entry {
-        Entry::Heard(_, _) => true,
-        Entry::Update(_) | Entry::Reconfirm(_, _) | Entry::Moment(_) => false,
-    }
-}
-
-/// Whether an entry is a moment.
-fn is_moment(entry: &Entry) -> bool
-    ensures { result ≡ is_moment entry.now }
-{
-    match entry {
-        Entry::Moment(_) => true,
-        Entry::Update(_) | Entry::Reconfirm(_, _) | Entry::Heard(_, _) => false,
-    }
-}
-
-/// How many updates and reconfirmations there are.
-fn changes_in(entries: &[Entry]) -> usize
-    ensures { result ≡ count_by is_change entries.now }
-{
-    entries.iter().filter(|entry| is_change(entry)).count()
-}
-
-/// How many hearings of links there are.
-fn hearings_in(entries: &[Entry]) -> usize
-    ensures { result ≡ count_by is_hearing entries.now }
-{
-    entries.iter().filter(|entry| is_hearing(entry)).count()
-}
-
-/// How many moments there are.
-fn moments_in(entries: &[Entry]) -> usize
-    ensures { result ≡ count_by is_moment entries.now }
-{
-    entries.iter().filter(|entry| is_moment(entry)).count()
-}
-
-/// How many entries of each group there are.
-pub(crate) fn totals(entries: &[Entry]) -> Totals
-    ensures { result ≡ totals entries.now }
-{
-    Totals {
-        changes: changes_in(entries) as u64,
-        heard: hearings_in(entries) as u64,
-        moments: moments_in(entries) as u64,
+    /// Those with one entry more.
+    pub(crate) fn and_one(self, entry: &Entry) -> Totals
+        requires changes { self.changes < max_number }
+        requires heard { self.heard < max_number }
+        requires moments { self.moments < max_number }
+        ensures { result ≡ and_one entry.now self }
+    {
+        match entry {
+            Entry::Update(_) | Entry::Reconfirm(_, _) => Totals {
+                changes: self.changes + 1,
+                ..self
+            },
+            Entry::Heard(_, _) => Totals {
+                heard: self.heard + 1,
+                ..self
+            },
+            Entry::Moment(_) => Totals {
+                moments: self.moments + 1,
+                ..self
+            },
+        }
     }
 }

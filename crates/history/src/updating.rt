@@ -23,7 +23,9 @@ use zoneupdate::{Under, Verdict, Zone, ZonePlan};
 /// What an update of zones gets: the RCODE that refuses it, or the zone that it changes, counted from 0, and the plan.
 #[derive(Debug, Drop)]
 pub(crate) enum Checked {
+    /// This RCODE refuses it.
     Refuse(u8),
+    /// The zone, and the plan.
     Accept(usize, ZonePlan),
 }
 

@@ -42,20 +42,25 @@ has_key key rows = list_any (λ row. same_key key row.0) rows
 abbrev pub size_under : Labels → Labels → LinkRows → ℕ
 size_under domain owner rows = sum_by (λ row. rr_size (renamed_rr local domain (rr_of_row row))) (filter (λ row. same_name owner row.0.owner) rows)
 
+-- the most rows of a link (this project's own)
 abbrev pub max_rows : ℕ
 max_rows = 16384
 
--- a link has at most 16,384 rows, and an owner at most 60,000 octets (this project's own)
+-- few enough rows, and few enough octets of an owner (this project's own)
 abbrev pub row_has_room : Labels → LinkRows → Rr → Bool
 row_has_room domain rows rr = nat_lt (length rows) max_rows && nat_le (size_under domain rr.owner rows + rr_size (renamed_rr local domain rr)) max_octets_at_name
 
+-- in milliseconds
+abbrev pub second : ℕ
+second = 1000
+
 abbrev pub heard_at : ℕ → HeardRr → HeardRow
-heard_at now h = record { shown = record (shown_of h.rr) { ttl = ttl_of h }; heard = now; ends = now + 1000 * ttl_of h }
+heard_at now h = record { shown = record (shown_of h.rr) { ttl = ttl_of h }; heard = now; ends = now + second * ttl_of h }
 
 -- the first pass: a record is put with its TTL; a TTL of 0 lets the row go after a second (RFC 6762, 10 and 10.1)
 abbrev pub put_heard : Labels → ℕ → LinkRows → HeardRr → LinkRows
 put_heard domain now rows h =
-    if ttl_of h == 0 then map (λ row. cond (same_key (key_of h.rr) row.0) (ending_by (now + 1000) row) row) rows
+    if ttl_of h == 0 then map (λ row. cond (same_key (key_of h.rr) row.0) (ending_by (now + second) row) row) rows
     else if has_key (key_of h.rr) rows || row_has_room domain rows h.rr then map_put key_cmp (key_of h.rr) (heard_at now h) rows
     else rows
 
@@ -64,7 +69,7 @@ is_of_set rr row = is_of_rrset rr.owner rr.class rr.kind row.0
 
 -- the second pass: what was heard more than a second ago goes after a second (RFC 6762, 10.2)
 abbrev pub flushed_by : ℕ → LinkRows → HeardRr → LinkRows
-flushed_by now rows h = map (λ row. cond (is_of_set h.rr row && nat_lt (row.1.heard + 1000) now) (ending_by (now + 1000) row) row) rows
+flushed_by now rows h = map (λ row. cond (is_of_set h.rr row && nat_lt (row.1.heard + second) now) (ending_by (now + second) row) row) rows
 
 abbrev pub usable_of : Labels → List HeardRr → List HeardRr
 usable_of domain hearing = filter (λ h. is_usable domain h.rr) hearing
@@ -77,9 +82,9 @@ heard domain rows now hearing =
 abbrev pub at_moment : LinkRows → ℕ → LinkRows
 at_moment rows now = filter (λ row. nat_lt now row.1.ends) rows
 
--- RFC 6762, 10.4
+-- a row that is reconfirmed and isn't heard goes after ten seconds (RFC 6762, 10.4)
 abbrev pub reconfirmed : LinkRows → Key → ℕ → LinkRows
-reconfirmed rows key now = map (λ row. cond (same_key key row.0) (ending_by (now + 10000) row) row) rows
+reconfirmed rows key now = map (λ row. cond (same_key key row.0) (ending_by (now + 10 * second) row) row) rows
 
 abbrev pub put_shown : Labels → RecordSet → Key × HeardRow → RecordSet
 put_shown domain set row = elim (shown_as domain (rr_of_row row)) [ None ↦ set | Some rr ↦ put_rr set rr ]

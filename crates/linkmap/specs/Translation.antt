@@ -5,7 +5,7 @@
 use Rattle.std.specs.Prelude.{◌/◌, Bool, not, ◌&&◌, ◌||◌, [], ◌∷◌, length, take, Option, Some, None, nat_le, ◌==◌, codes, if◌then◌else◌}
 use Rattle.std.specs.Int.{w16, from_be_bytes}
 use Rattle.std.specs.List.{list_all, list_any, starts_with}
-use Rattle.dnsname.specs.Names.{Labels, octets, ends_in, swapped_suffix}
+use Rattle.dnsname.specs.Names.{Labels, max_name, octets, ends_in, swapped_suffix}
 use Rattle.rrset.specs.Kinds.{in_class, a_kind, aaaa_kind, nsec_kind, is_meta}
 use Rattle.rrset.specs.Rdata.{rdata_names, with_names, shape_fits}
 use Rattle.rrset.specs.declared.record.Rr.{Rr}
@@ -23,9 +23,9 @@ abbrev pub renamed_rr : Labels → Labels → Rr → Rr
 renamed_rr old new rr = record rr { owner = renamed old new rr.owner; rdata = with_names (renamed old new) rr.kind rr.rdata }
 
 abbrev pub fits_a_name : Labels → Bool
-fits_a_name name = nat_le (length (octets name)) 255
+fits_a_name name = nat_le (length (octets name)) max_name
 
--- the owner and the names inside have at most 255 octets each
+-- the owner and the names inside fit a name each (RFC 1035, 2.3.4)
 abbrev pub names_fit : Labels → Labels → Rr → Bool
 names_fit old new rr = fits_a_name (renamed old new rr.owner) && list_all (λ name. fits_a_name (renamed old new name)) (rdata_names rr.kind rr.rdata)
 

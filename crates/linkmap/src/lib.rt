@@ -8,6 +8,7 @@ ghost use Rattle.rrset.specs.Records.{key_of};
 ghost use Rattle.rrset.specs.declared.record.Rr.{Rr};
 ghost use Rattle.linkmap.specs.Translation.{is_usable, shown_as, heard_as, renamed};
 
+/// Examples of what is shown under a domain.
 pub fn worked_rows()
     ensures renamed_owner { renamed (name (codes "local.")) (name (codes "lan.example.com.")) (name (codes "h.LOCAL.")) ≡ name (codes "h.lan.example.com.") }
     ensures shown { shown_as (name (codes "lan.example.com.")) (record { owner = name (codes "h.local."); class = 1; kind = 12; ttl = 120; rdata = hex (codes "0161056c6f63616c00") })

@@ -3,8 +3,6 @@
 
 mod applying;
 mod holding;
-#[cfg(test)]
-mod tests;
 
 ghost use Rattle.std.specs.Prelude.{◌≡◌, [], ◌∷◌, codes, None, Some};
 ghost use Rattle.dnsname.specs.Text.{name};

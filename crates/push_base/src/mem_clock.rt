@@ -1,3 +1,5 @@
+//! A clock in memory.
+
 ghost use Rattle.std.specs.Prelude.{◌≡◌, ◌-◌, ◌^◌, ◌||◌, ◌==◌, [], ◌∷◌, Some, false};
 ghost use Rattle.push_base.specs.Causes.{CountsOne, next_count};
 ghost use Rattle.push_base.specs.Told.{TellsMore};
@@ -23,6 +25,7 @@ impl Model for MemClock {
 }
 
 impl MemClock {
+    /// These moments, of which none was answered yet.
     pub fn new(items: Vec<u64>) -> Self
         ensures { result ≡ record { items = items.items; calls = 0; lost = false } }
     {

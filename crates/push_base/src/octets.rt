@@ -1,3 +1,5 @@
+//! Octets, seen as their list.
+
 ghost use Rattle.std.specs.Prelude.{◌≡◌, ℕ, List, [], ◌∷◌, ◌++◌, length, IfOk, OnOk, OnErr};
 
 use crate::NoMemory;
@@ -26,12 +28,14 @@ impl Octets {
         }
     }
 
+    /// These octets.
     pub fn from_vec(bytes: Vec<u8>) -> Self
         ensures { result ≡ bytes.items }
     {
         Octets { bytes }
     }
 
+    /// The octets as a vector. No memory is taken.
     pub fn into_vec(self) -> Vec<u8>
         ensures { result.items ≡ self }
     {
@@ -39,6 +43,7 @@ impl Octets {
         bytes
     }
 
+    /// A copy of octets.
     pub fn from_slice(alloc: Global, octets: &[u8]) -> Result<Self, NoMemory>
         ensures { IfOk result (λ copy. copy ≡ octets.now) }
     {
@@ -52,12 +57,14 @@ impl Octets {
         *self.bytes.allocator()
     }
 
+    /// The octets.
     pub fn as_slice(&self) -> &[u8]
         ensures { result.now ≡ self.now }
     {
         &self.bytes
     }
 
+    /// How many octets there are.
     pub fn len(&self) -> usize
         ensures { result ≡ length self.now }
     {

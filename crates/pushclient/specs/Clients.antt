@@ -1,6 +1,7 @@
 -- The client: its wishes in order of asking, and its connection. It keeps no set, but the notices taken since each answer.
 --     connected, cut, subscribe, unsubscribe, reconfirm      the calls that ask
 --     take_octets, give_octets      octets in and out
+--     id_of      the ID with which a question is asked
 --     held      what the client knows of a question
 use Rattle.std.specs.Prelude.{ℕ, zero, suc, ◌+◌, ◌-◌, Bool, true, false, not, ◌&&◌, cond, List, [], ◌∷◌, ◌++◌, map, length, take, drop, filter, fold, find, flat_map, Option, Some, None, is_some, nat_le, ◌==◌, option_map, option_to_list, if◌then◌else◌}
 use Rattle.std.specs.Int.{w16, to_be_bytes}
@@ -179,6 +180,16 @@ closed_as client = elim client.connection [ None ↦ None | Some c ↦ c.closed 
 
 abbrev pub is_connected : Client → Bool
 is_connected client = is_some client.connection
+
+-- the ID of a request that has no answer yet, or that is answered
+abbrev pub id_asked : RequestState → Option ℕ
+id_asked (unanswered id) = Some id
+id_asked (answered id) = Some id
+id_asked _ = None
+
+-- also of a question that was dropped and has no answer yet
+abbrev pub id_of : Client → Question → Option ℕ
+id_of client question = elim (wish_for client question) [ None ↦ None | Some wish ↦ id_asked wish.standing ]
 
 -- what a client knows of a question
 pub data Held : Type 0 where

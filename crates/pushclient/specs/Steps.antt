@@ -15,7 +15,7 @@ use Rattle.dsotlv.specs.declared.message.DsoHead.{DsoHead}
 use Rattle.dsotlv.specs.declared.message.Notice.{Notice}
 use Rattle.dsotlv.specs.TlvKinds.{keepalive_tlv, push_tlv}
 use Rattle.dsosession.specs.Reactions.{client_reaction, is_keepalive}
-use Rattle.dsosession.specs.Timing.{default_timers, client_spoke, client_due}
+use Rattle.dsosession.specs.Timing.{default_timers, least_keepalive, client_spoke, client_due}
 use Rattle.dsosession.specs.declared.session.CloseReason.{CloseReason}
 use Rattle.dsosession.specs.declared.session.CloseReason.TheVariants as closes
 use Rattle.dsosession.specs.declared.session.ClientReaction.{ClientReaction}
@@ -70,7 +70,7 @@ timers_of message = elim (tlvs_of message) [ Err fault ↦ None | Ok tlvs ↦ ti
 abbrev pub adopts : List ℕ → Client → Step × Client
 adopts message client = elim (timers_of message) [
   | None ↦ closes_as (closes.BadData keepalive_tlv) client
-  | Some numbers ↦ if nat_lt numbers.1 10000 then closes_as (closes.Interval numbers.1) client
+  | Some numbers ↦ if nat_lt numbers.1 least_keepalive then closes_as (closes.Interval numbers.1) client
       else (steps.Kept numbers.0 numbers.1, establishes (in_connection (λ c. record c { clocks = record c.clocks { timers = record { inactivity = numbers.0; keepalive = numbers.1 } } }) client))
 ]
 

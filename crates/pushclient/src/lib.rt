@@ -1,15 +1,24 @@
-//! The client's core. The code is a stand-in: only the definitions count here.
+//! The client's core: its wishes, its connection, and the sets that it was told (RFC 8490, RFC 8765).
 #![tactic(auto)]
 
 pub mod client;
+mod connection;
+mod keeping;
+mod octets;
+mod opened;
+pub mod wish;
+mod wishes;
 
 ghost use Rattle.std.specs.Prelude.{◌≡◌, [], ◌∷◌, ◌++◌, codes, Some};
 ghost use Rattle.push_base.specs.Hexadecimal.{hex, hex_text};
 ghost use Rattle.pushclient.specs.Worked.{asking, dropping, output_after, later, fed};
 ghost use Rattle.pushclient.specs.Clients.{closed_as};
 
+pub use client::Client;
 use dsosession::session::CloseReason;
+pub use rrset::NoMemory;
 
+/// Examples of what a client sends.
 pub fn worked_rows()
     ensures request { hex_text (output_after (asking (codes "example.com.") 6)) ≡ codes "002100013000000000000000000000400011076578616d706c6503636f6d0000060001" }
     ensures quiet { hex_text (output_after (later 9999 (fed (hex (codes "00180000300000000000000000000001000800003a9800002710")) (fed (hex (codes "000c0001b0000000000000000000")) (asking (codes "example.com.") 6))))) ≡ [] }

@@ -1,13 +1,14 @@
 -- What an entry makes of the records, and what a plan says of an update and of a moment.
 use Rattle.std.proofs.Common.{◌≡◌, ℕ, Bool, true, false, not, cond, ltb, List, [], ◌∷◌, ◌++◌, length, Option, Some, Result, Ok, Err, refl, sym, ap, subst, ◌∙◌, arith}
-use Rattle.std.specs.Prelude.{if◌then◌else◌, fold, ok_or}
+use Rattle.std.specs.Prelude.{fold, ok_or, OnOk, OnErr}
+use Rattle.std.specs.Result.{is_err}
 use Rattle.std.specs.List.{list_all, AllByRecursion}
 use Rattle.push_base.specs.Cases.{◌>>=◌}
 use Rattle.std.proofs.lemmas.List.{take_all}
 use Rattle.std.proofs.lemmas.List.Sums.{fold-append}
 use Rattle.dnsname.specs.Names.{Labels}
 use Rattle.rrset.specs.RecordSet.{RecordSet, is_record_set, shows_its_key, put, union, changes, with_changes}
-use Rattle.rrset.specs.Rcodes.{noerror, formerr, servfail}
+use Rattle.rrset.specs.Rcodes.{formerr}
 use Rattle.rrset.specs.declared.record.Key.{Key}
 use Rattle.rrset.specs.declared.record.Shown.{Shown}
 use Rattle.rrset.specs.declared.record.Changed.{Changed}
@@ -28,10 +29,26 @@ use Rattle.history.specs.declared.plan.Planned.TheVariants as plans
 use Rattle.history.proofs.ShownAtHome.{rows_of, records-zones}
 use Rattle.history.proofs.StatesAtHome.{home-after}
 use Rattle.history.proofs.UnitedParts.{united}
-use Rattle.pushsession.specs.Kept.{timed}
+use Rattle.history.specs.States.{update_in}
+use Rattle.pushsession.specs.Sessions.{timed}
+use Rattle.pushsession.specs.Kept.{KeptSession, keeping}
 use Rattle.pushserver.specs.Rule.{KeptHub}
-use Rattle.pushserver.specs.KeptHubs.{each_session, entered, can_enter, moment}
-use Rattle.pushserver.specs.Parts.{Numbered, all_sessions, with_entry, entry_changes, entered_where, judged}
+use Rattle.pushserver.specs.Hubs.{Numbered, all_sessions, entered, can_enter, update, moment}
+use Rattle.pushserver.proofs.hub_steps.Cases.{enters_update, update_as, enters_moment, moment_as}
+
+-- a past with one more entry, and the keys that it changes
+abbrev with_entry : Entry → Past → Past
+with_entry entry past = record past { history = past.history ++ entry ∷ [] }
+
+abbrev entry_changes : Entry → Past → List Changed
+entry_changes entry past = changes (records_now past) (records_now (with_entry entry past))
+
+-- the past of a hub; a hub with this past
+abbrev pub past_of : KeptHub → Past
+past_of k = record { start = k.start; history = k.history }
+
+abbrev pub with_past : Past → KeptHub → KeptHub
+with_past past k = record k { start = past.start; history = past.history }
 
 -- ---- the records after one more entry
 
@@ -93,50 +110,24 @@ told-changes state entry changed told = by entry told
 pub told-entry : (past : Past) (entry : Entry) (changed : List Changed) → plans.Accept changed ≡ told_plan (planned (state_now past) entry) → changed ≡ entry_changes entry past
 told-entry past entry changed told = told-changes (state_now past) entry changed told ∙ ap (λ (s : State). changes (records_now past) (records s)) (sym (now-entered past entry))
 
--- an update by what its step gives
-abbrev judged_as : Result State ℕ → Update → KeptHub → ℕ × KeptHub
-judged_as (Err code) u kept = (code, kept)
-judged_as (Ok later) u kept = if can_enter kept (entries.Update u) then (noerror, entered (entries.Update u) kept) else (servfail, kept)
+-- ---- an update
 
-abbrev judged_by : Result Update ℕ → KeptHub → ℕ × KeptHub
-judged_by (Err code) kept = (code, kept)
-judged_by (Ok u) kept = if can_enter kept (entries.Update u) then (noerror, entered (entries.Update u) kept) else (servfail, kept)
+same_past : (k : KeptHub) (past : Past) → past ≡ past_of k → with_past past k ≡ k
+same_past k past same = ap (λ (p : Past). with_past p k) same
 
-judged-by : (r : Result Update ℕ) (kept : KeptHub) → judged r kept ≡ judged_by (r >>= λ update. updated (state_now kept.past) update >>= λ _. Ok update) kept
-judged-by r kept = by (r >>= λ update. updated (state_now kept.past) update >>= λ _. Ok update)
+-- an accepted update, as it is entered from a plan
+pub judged-entered : (k : KeptHub) (past : Past) (later : KeptHub) (u : Update) (changed : List Changed) (found : Option Update) (message : List ℕ) (room : Bool) → found ≡ Some u → plans.Accept changed ≡ told_plan (planned (state_now (past_of k)) (entries.Update u))
+    → past ≡ past_of k → room ≡ can_enter (with_past past k) (entries.Update u) → room ≡ true → later ≡ entered (entries.Update u) (with_past past k) → update_in message ≡ ok_or found formerr → later ≡ (update k message).1
+judged-entered k past later u changed found message room some told same room_is has is reads =
+    is ∙ ap (entered (entries.Update u)) (same_past k past same)
+    ∙ sym (ap (λ (r : Result Update ℕ). (update_as k (r >>= λ update. updated (state_now (past_of k)) update >>= λ _. Ok update)).1) (reads ∙ ap (λ (o : Option Update). ok_or o formerr) some)
+    ∙ by (updated (state_now (past_of k)) u) told
+    ∙ ap (λ b. (enters_update k u b).1) (ap (λ (h : KeptHub). can_enter h (entries.Update u)) (sym (same_past k past same)) ∙ sym room_is ∙ has))
   where
-    by : (t : Result Update ℕ) → elim t as (λ _. ℕ × KeptHub) [
-      | Err code ↦ (code, kept)
-      | Ok u ↦ if can_enter kept (entries.Update u) then (noerror, entered (entries.Update u) kept) else (servfail, kept)
-    ] ≡ judged_by t kept
-    by (Err code) = refl
-    by (Ok u) = refl
-
-judged-as : (u : Update) (kept : KeptHub) → judged (Ok u) kept ≡ judged_as (updated (state_now kept.past) u) u kept
-judged-as u kept = judged-by (Ok u) kept ∙ by (updated (state_now kept.past) u)
-  where
-    by : (r : Result State ℕ) → judged_by (r >>= λ _. Ok u) kept ≡ judged_as r u kept
-    by (Err code) = refl
-    by (Ok later) = refl
-
-abbrev pub entered_as : Bool → Update → KeptHub → ℕ × KeptHub
-entered_as room u kept = (cond room noerror servfail, entered_where room (entries.Update u) kept)
-
-pub judged-accepted : (u : Update) (kept : KeptHub) (changed : List Changed) (room : Bool) → plans.Accept changed ≡ told_plan (planned (state_now kept.past) (entries.Update u)) → room ≡ can_enter kept (entries.Update u)
-    → judged (Ok u) kept ≡ entered_as room u kept
-judged-accepted u kept changed room told is = judged-as u kept ∙ by (updated (state_now kept.past) u) told ∙ at (can_enter kept (entries.Update u)) ∙ ap (λ b. entered_as b u kept) (sym is)
-  where
-    made : Bool → ℕ × KeptHub
-    made b = if b then (noerror, entered (entries.Update u) kept) else (servfail, kept)
-
-    by : (r : Result State ℕ) → plans.Accept changed ≡ told_plan (elim r as (λ _. Plan) [ Err code ↦ refuse code | Ok later ↦ accept (changes (records (state_now kept.past)) (records later)) ])
-        → judged_as r u kept ≡ made (can_enter kept (entries.Update u))
+    by : (r : Result State ℕ) → plans.Accept changed ≡ told_plan (elim r as (λ _. Plan) [ Err code ↦ refuse code | Ok later ↦ accept (changes (records (state_now (past_of k))) (records later)) ])
+        → (update_as k (r >>= λ _. Ok u)).1 ≡ (enters_update k u (can_enter k (entries.Update u))).1
     by (Err code) e = cc
     by (Ok later) e = refl
-
-    at : (b : Bool) → made b ≡ entered_as b u kept
-    at true = refl
-    at false = refl
 
 -- ---- a moment
 
@@ -147,33 +138,20 @@ later_told t state changed told = by (ltb state.now t) _ told
     by true new e = refl
     by false new e = cc
 
-abbrev moment_as : Bool → Bool → ℕ → KeptHub → Bool × KeptHub
-moment_as later room t kept = if not later then (false, kept) else if room then (false, each_session (timed t) (entered (entries.Moment t) kept)) else (true, kept)
+-- a moment that is entered from a plan, and then each session's
+pub moment-entered : (k : KeptHub) (past : Past) (mid : KeptHub) (t : ℕ) (changed : List Changed) (sessions : Numbered KeptSession) (room : Bool) → plans.Accept changed ≡ told_plan (planned (state_now (past_of k)) (entries.Moment t)) → past ≡ past_of k
+    → room ≡ can_enter k (entries.Moment t) → room ≡ true → mid ≡ entered (entries.Moment t) (with_past past k) → sessions ≡ all_sessions (timed keeping t) mid.sessions → record mid { sessions = sessions } ≡ (moment k t).1
+moment-entered k past mid t changed sessions room told same room_is has is timed_is =
+    ap (λ (xs : Numbered KeptSession). record mid { sessions = xs }) timed_is
+    ∙ ap (λ (h : KeptHub). record h { sessions = all_sessions (timed keeping t) h.sessions }) (is ∙ ap (entered (entries.Moment t)) (same_past k past same))
+    ∙ sym (ap (λ b. (moment_as k t (not b)).1) (later_told t (state_now (past_of k)) changed told) ∙ ap (λ b. (enters_moment k t b).1) (sym room_is ∙ has))
 
-pub moment-told : (t : ℕ) (kept : KeptHub) (changed : List Changed) (room : Bool) → plans.Accept changed ≡ told_plan (planned (state_now kept.past) (entries.Moment t)) → room ≡ can_enter kept (entries.Moment t)
-    → moment kept t ≡ cond room (false, each_session (timed t) (entered (entries.Moment t) kept)) (true, kept)
-moment-told t kept changed room told is =
-    ap (λ b. moment_as b (can_enter kept (entries.Moment t)) t kept) (later_told t (state_now kept.past) changed told)
-    ∙ ap (λ b. moment_as true b t kept) (sym is)
+-- ---- the parts of what is kept
 
--- ---- all that is kept, after an entry
+pub on_is_err : {A E P : Type 0} (r : Result A E) (b : Bool) → b ≡ is_err r → b ≡ true → OnErr r P → P
+on_is_err (Ok x) b is e p = cc
+on_is_err (Err x) b is e p = p
 
--- an accepted update, as it is entered from a plan
-pub judge-made : (k : KeptHub) (past : Past) (after : KeptHub) (u : Update) (changed : List Changed) (room : Bool) (found : Option Update) → found ≡ Some u → plans.Accept changed ≡ told_plan (planned (state_now k.past) (entries.Update u)) → past ≡ k.past
-    → room ≡ can_enter (record k { past = past }) (entries.Update u) → after ≡ entered_where room (entries.Update u) (record k { past = past }) → after ≡ (judged (ok_or found formerr) k).1
-judge-made k past after u changed room found some told same room_is is =
-    let kept : record k { past = past } ≡ k = ap (λ (p : Past). record k { past = p }) same in
-    is ∙ ap (entered_where room (entries.Update u)) kept
-    ∙ sym (ap (λ (j : ℕ × KeptHub). j.1) (judged-accepted u k changed room told (room_is ∙ ap (λ (k : KeptHub). can_enter k (entries.Update u)) kept)))
-    ∙ ap (λ (o : Option Update). (judged (ok_or o formerr) k).1) (sym some)
-
--- a moment that is made, and then each session's
-pub moment-made : (k : KeptHub) (past : Past) (mid : KeptHub) (t : ℕ) (changed : List Changed) (room : Bool) (sessions : Numbered) → plans.Accept changed ≡ told_plan (planned (state_now k.past) (entries.Moment t)) → past ≡ k.past
-    → room ≡ can_enter (record k { past = past }) (entries.Moment t) → mid ≡ entered_where room (entries.Moment t) (record k { past = past }) → room ≡ true → sessions ≡ all_sessions (timed t) mid.sessions
-    → record mid { sessions = sessions } ≡ (moment k t).1
-moment-made k past mid t changed room sessions told same room_is is yes_room timed_is =
-    let kept : record k { past = past } ≡ k = ap (λ (p : Past). record k { past = p }) same in
-    let made : mid ≡ entered (entries.Moment t) k = is ∙ ap (λ b. entered_where b (entries.Moment t) (record k { past = past })) yes_room ∙ ap (entered (entries.Moment t)) kept in
-    ap (λ (xs : Numbered). record mid { sessions = xs }) timed_is
-    ∙ ap (each_session (timed t)) made
-    ∙ sym (ap (λ (j : Bool × KeptHub). j.1) (moment-told t k changed true told (sym yes_room ∙ room_is ∙ ap (λ (k : KeptHub). can_enter k (entries.Moment t)) kept)))
+pub on_not_err : {A E P : Type 0} (r : Result A E) (b : Bool) → b ≡ is_err r → b ≡ false → OnOk r P → P
+on_not_err (Ok x) b is e p = p
+on_not_err (Err x) b is e p = cc

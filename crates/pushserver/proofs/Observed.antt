@@ -8,17 +8,16 @@ use Rattle.coalesce.specs.Waiting.{WaitingName, is_named, since}
 use Rattle.zoneupdate.proofs.Filters.{and-both}
 use Rattle.history.proofs.Together.{same_name-turned}
 use Rattle.pushsession.specs.Kept.{KeptSession, filled_of}
-use Rattle.pushserver.specs.Sessions.{Session, Subscription, Queue, point_in, subscription_of}
-use Rattle.pushserver.specs.Hubs.{Hub, newest, now, session_of}
+use Rattle.pushserver.specs.Sessions.{Hub, Session, Subscription, Queue, point_in, subscription_of}
+use Rattle.pushserver.specs.Hubs.{newest, session_of}
 use Rattle.pushserver.specs.Observing as observing
 use Rattle.pushserver.specs.Observing.{filled_for, filled_in, told_of, told_in}
 use Rattle.pushserver.specs.Rule.{KeptHub, StandsFor, filled_kept}
-use Rattle.pushserver.specs.Parts.{session_in}
 use Rattle.pushserver.proofs.hub_steps.Standing.{FoundBoth, both_found}
 
 -- ---- one session
 
-both : (k : KeptHub) (hub : Hub) (number : ℕ) → StandsFor k hub → FoundBoth hub number (session_in number k.sessions) (session_of hub number)
+both : (k : KeptHub) (hub : Hub) (number : ℕ) → StandsFor k hub → FoundBoth hub number (session_of k number) (session_of hub number)
 both k hub number stands = both_found hub number k.sessions hub.sessions stands.sessions
 
 live-both : (hub : Hub) (number : ℕ) (o : Option KeptSession) (q : Option Session) → FoundBoth hub number o q → is_some o ≡ is_some q
@@ -27,8 +26,8 @@ live-both hub number None (Some p) b = absurd b
 live-both hub number (Some s) None b = absurd b
 live-both hub number (Some s) (Some p) b = refl
 
-pub live-seen : (k : KeptHub) (hub : Hub) (number : ℕ) (b : Bool) → b ≡ is_some (session_in number k.sessions) → StandsFor k hub → b ≡ is_some (session_of hub number)
-live-seen k hub number b is stands = is ∙ live-both hub number (session_in number k.sessions) (session_of hub number) (both k hub number stands)
+pub live-seen : (k : KeptHub) (hub : Hub) (number : ℕ) (b : Bool) → b ≡ is_some (session_of k number) → StandsFor k hub → b ≡ is_some (session_of hub number)
+live-seen k hub number b is stands = is ∙ live-both hub number (session_of k number) (session_of hub number) (both k hub number stands)
 
 pub live-is : {R : Type 0} (now : R → KeptSession) (r : Option R) (o : Option KeptSession) → MatchOption r (o ≡ None) (λ s. o ≡ Some (now s)) → is_some r ≡ is_some o
 live-is now None o e = ap is_some (sym e)
@@ -48,7 +47,7 @@ filled-kept id (s ∷ ss) = by (s.id == id) (filled-kept id ss)
 
 abbrev pub filled_kept_in : ℕ → Option KeptSession → Option ℕ
 filled_kept_in id None = None
-filled_kept_in id (Some s) = filled_of id s.filled
+filled_kept_in id (Some s) = filled_of id s.subscriptions.filled
 
 filled-both : (hub : Hub) (number id : ℕ) (o : Option KeptSession) (q : Option Session) → FoundBoth hub number o q → filled_kept_in id o ≡ observing.filled_of id q
 filled-both hub number id None None b = refl
@@ -56,8 +55,8 @@ filled-both hub number id None (Some p) b = absurd b
 filled-both hub number id (Some s) None b = absurd b
 filled-both hub number id (Some s) (Some p) b = ap (filled_of id) b.filled ∙ filled-kept id p.subscriptions
 
-pub filled-seen : (k : KeptHub) (hub : Hub) (number id : ℕ) (o : Option KeptSession) (r : Option ℕ) → session_in number k.sessions ≡ o → r ≡ filled_kept_in id o → StandsFor k hub → r ≡ filled_in hub number id
-filled-seen k hub number id o r at is stands = is ∙ ap (filled_kept_in id) (sym at) ∙ filled-both hub number id (session_in number k.sessions) (session_of hub number) (both k hub number stands)
+pub filled-seen : (k : KeptHub) (hub : Hub) (number id : ℕ) (o : Option KeptSession) (r : Option ℕ) → session_of k number ≡ o → r ≡ filled_kept_in id o → StandsFor k hub → r ≡ filled_in hub number id
+filled-seen k hub number id o r at is stands = is ∙ ap (filled_kept_in id) (sym at) ∙ filled-both hub number id (session_of k number) (session_of hub number) (both k hub number stands)
 
 -- ---- the point up to which a name was told
 
@@ -83,9 +82,9 @@ told-both hub number newest name None (Some p) b = absurd b
 told-both hub number newest name (Some s) None b = absurd b
 told-both hub number newest name (Some s) (Some p) b = ap (λ o. unwrap_or o newest) (since-kept name s.queue ∙ ap (λ (q : Queue). point_in q name) b.queue)
 
-pub told-seen : (k : KeptHub) (hub : Hub) (number point : ℕ) (name : Labels) (o : Option KeptSession) (r : ℕ) → point ≡ length k.past.history → session_in number k.sessions ≡ o → r ≡ told_kept_in point name o → StandsFor k hub → r ≡ told_in hub number name
+pub told-seen : (k : KeptHub) (hub : Hub) (number point : ℕ) (name : Labels) (o : Option KeptSession) (r : ℕ) → point ≡ newest k → session_of k number ≡ o → r ≡ told_kept_in point name o → StandsFor k hub → r ≡ told_in hub number name
 told-seen k hub number point name o r newest_is at is stands =
-    is ∙ ap (told_kept_in point name) (sym at) ∙ told-both hub number point name (session_in number k.sessions) (session_of hub number) (both k hub number stands)
+    is ∙ ap (told_kept_in point name) (sym at) ∙ told-both hub number point name (session_of k number) (session_of hub number) (both k hub number stands)
     ∙ ap (λ n. told_of n name (session_of hub number)) (newest_is ∙ ap length stands.history)
 
 -- ---- octets

@@ -1,12 +1,19 @@
--- Sessions with their numbers: one is changed, or one after the other.
+-- Sessions in their seats: one is changed where it stands, or one after the other.
 --     front f i sessions      the first sessions are changed
-use Rattle.std.proofs.Common.{◌≡◌, ℕ, zero, suc, ◌+◌, ◌<◌, ◌≤◌, Bool, true, false, cond, [], ◌∷◌, length, get_or, set, Option, Some, None, refl, sym, ap, subst, ◌∙◌, arith}
-use Rattle.std.specs.Prelude.{find, position, option_map, ◌==◌}
-use Rattle.std.specs.List.{AllByRecursion, IsDistinct}
-use Rattle.pushsession.specs.Kept.{KeptSession}
+use Rattle.std.proofs.Common.{◌≡◌, ℕ, zero, suc, ◌+◌, ◌<◌, ◌≤◌, Bool, true, false, cond, [], ◌∷◌, ◌++◌, not, ◌||◌, length, get_or, set, Option, Some, None, Result, Ok, Err, refl, sym, ap, subst, ◌∙◌, arith}
+use Rattle.std.specs.Prelude.{find, position, option_map, ◌==◌, OnOk, OnErr}
+use Rattle.std.specs.List.{list_any, AllByRecursion, IsDistinct}
+use Rattle.rrset.proofs.Distinct.{distinct_push, distinct_filter}
 use Rattle.history.proofs.Positions.{position-cons}
-use Rattle.pushserver.proofs.hub_steps.Pairs.{absent-here, distinct-map}
-use Rattle.pushserver.specs.Parts.{Numbered, session_in, in_sessions, all_sessions, AreApart}
+use Rattle.pushsession.specs.Kept.{KeptSession}
+use Rattle.pushserver.specs.Hubs as hubs
+use Rattle.pushserver.specs.Hubs.{session_in, in_sessions, all_sessions, without_session}
+use Rattle.pushserver.specs.Seats.{AreApart, AreBelow}
+use Rattle.pushserver.proofs.hub_steps.Pairs.{distinct-map}
+use Rattle.pushserver.proofs.SessionLists.{same-number, number-itself, other-number}
+
+abbrev Numbered : Type 0
+Numbered = hubs.Numbered KeptSession
 
 -- ---- one after the other
 
@@ -54,6 +61,14 @@ has_number number e = e.0 == number
 same_some : {X : Type 0} (x y : X) → Some x ≡ Some y → x ≡ y
 same_some x y e = cc
 
+-- a number that differs from another's
+absent-here : (a n m : ℕ) → (a == n) ≡ true → (a == m) ≡ false → (m == n) ≡ false
+absent-here a n m is other = by (m == n) refl
+  where
+    by : (b : Bool) → (m == n) ≡ b → b ≡ false
+    by true e = let same : m ≡ a = same-number m n e ∙ sym (same-number a n is) in (let wrong : true ≡ false = sym (number-itself a) ∙ ap (λ x. a == x) (sym same) ∙ other in cc)
+    by false e = refl
+
 others : (number : ℕ) (x : ℕ × KeptSession) (xs : Numbered) → (x.0 == number) ≡ true → AllByRecursion (λ y. (x.0 == y.0) ≡ false) xs → AllByRecursion (λ y. (y.0 == number) ≡ false) xs
 others number x [] is all = tt
 others number x (y ∷ xs) is all = (absent-here x.0 number y.0 is all.0, others number x xs is all.1)
@@ -92,15 +107,7 @@ changed-here number f (x ∷ xs) i e apart at is = by (x.0 == number) (position 
         let next = same_some (suc j) i place in
         ap (λ n. set (x ∷ xs) n (e.0, f e.1)) (sym next) ∙ ap (λ l. x ∷ l) (rest j e refl (subst (λ (n : ℕ). e ≡ get_or (x ∷ xs) n e) (sym next) is))
 
--- the same, as it is read from its place
-pub seat : (number : ℕ) (xs : Numbered) (i : ℕ) (d : ℕ × KeptSession) → Some i ≡ position (has_number number) xs → d ≡ get_or xs i d → session_in number xs ≡ Some (get_or xs i d).1
-seat number xs i d at is = found-here number xs i (get_or xs i d) (sym at) (ap (get_or xs i) is)
-
-pub seat-changed : (number : ℕ) (f : KeptSession → KeptSession) (xs : Numbered) (i : ℕ) (d : ℕ × KeptSession) (new : KeptSession) → AreApart xs → Some i ≡ position (has_number number) xs → d ≡ get_or xs i d → new ≡ f (get_or xs i d).1
-    → set xs i ((get_or xs i d).0, new) ≡ in_sessions number f xs
-seat-changed number f xs i d new apart at is new_is = ap (λ n. set xs i ((get_or xs i d).0, n)) new_is ∙ changed-here number f xs i (get_or xs i d) apart (sym at) (ap (get_or xs i) is)
-
--- where there is no such session, none is found, and none is changed
+-- where there is no such session, none is found
 pub found-none : (number : ℕ) (xs : Numbered) → position (has_number number) xs ≡ None → session_in number xs ≡ None
 found-none number [] at = refl
 found-none number (x ∷ xs) at = by (x.0 == number) (position (has_number number) xs) (found-none number xs) (sym (position-cons (has_number number) x xs) ∙ at)
@@ -109,21 +116,6 @@ found-none number (x ∷ xs) at = by (x.0 == number) (position (has_number numbe
     by true o rest e = cc
     by false None rest e = rest refl
     by false (Some j) rest e = cc
-
-pub changed-none : (number : ℕ) (f : KeptSession → KeptSession) (xs : Numbered) → position (has_number number) xs ≡ None → in_sessions number f xs ≡ xs
-changed-none number f [] at = refl
-changed-none number f (x ∷ xs) at = by (x.0 == number) (position (has_number number) xs) (changed-none number f xs) (sym (position-cons (has_number number) x xs) ∙ at)
-  where
-    by : (b : Bool) (o : Option ℕ) → (o ≡ None → in_sessions number f xs ≡ xs) → cond b (Some 0) (option_map suc o) ≡ None → (x.0, cond b (f x.1) x.1) ∷ in_sessions number f xs ≡ x ∷ xs
-    by true o rest e = cc
-    by false None rest e = ap (λ l. x ∷ l) (rest refl)
-    by false (Some j) rest e = cc
-
-pub no_seat : (number : ℕ) (xs : Numbered) → None ≡ position (has_number number) xs → session_in number xs ≡ None
-no_seat number xs at = found-none number xs (sym at)
-
-pub no_seat-changed : (number : ℕ) (f : KeptSession → KeptSession) (xs : Numbered) → None ≡ position (has_number number) xs → xs ≡ in_sessions number f xs
-no_seat-changed number f xs at = sym (changed-none number f xs (sym at))
 
 -- ---- two changes that agree on the session that is found are one
 
@@ -152,17 +144,6 @@ itself number (x ∷ xs) = by (x.0 == number) ∙ ap (λ l. x ∷ l) (itself num
     by true = refl
     by false = refl
 
--- what was changed is found as it is then
-pub found-all : (number : ℕ) (f : KeptSession → KeptSession) (xs : Numbered) → session_in number (all_sessions f xs) ≡ option_map f (session_in number xs)
-found-all number f [] = refl
-found-all number f (x ∷ xs) = by (x.0 == number) (found-all number f xs)
-  where
-    by : (b : Bool) → session_in number (all_sessions f xs) ≡ option_map f (session_in number xs)
-        → option_map (λ (e : ℕ × KeptSession). e.1) (cond b (Some (x.0, f x.1)) (find (has_number number) (all_sessions f xs)))
-        ≡ option_map f (option_map (λ (e : ℕ × KeptSession). e.1) (cond b (Some x) (find (has_number number) xs)))
-    by true h = refl
-    by false h = h
-
 -- ---- numbers stay apart
 
 pub apart-in : (number : ℕ) (f : KeptSession → KeptSession) (xs : Numbered) → AreApart xs → AreApart (in_sessions number f xs)
@@ -171,9 +152,37 @@ apart-in number f xs apart = distinct-map (λ (e : ℕ × KeptSession). cond (e.
 pub apart-all : (f : KeptSession → KeptSession) (xs : Numbered) → AreApart xs → AreApart (all_sessions f xs)
 apart-all f xs apart = distinct-map (λ (e : ℕ × KeptSession). f e.1) xs apart
 
--- one place holds one session, whatever is read where there is none
-pub same_seat : (number : ℕ) (xs : Numbered) (i : ℕ) (d e : ℕ × KeptSession) → Some i ≡ position (has_number number) xs → d ≡ get_or xs i d → e ≡ get_or xs i e → (get_or xs i d).1 ≡ (get_or xs i e).1
-same_seat number xs i d e at h g = some_one (get_or xs i d).1 (get_or xs i e).1 (sym (seat number xs i d at h) ∙ seat number xs i e at g)
-  where
-    some_one : (s t : KeptSession) → Some s ≡ Some t → s ≡ t
-    some_one s t e = cc
+-- ---- a session that is lent out of its place
+
+here : (number : ℕ) (ys xs : Numbered) (i : ℕ) → ys ≡ xs → Some i ≡ position (has_number number) ys → position (has_number number) xs ≡ Some i
+here number ys xs i same at = ap (position (has_number number)) (sym same) ∙ sym at
+
+pub seat-lent : (number : ℕ) (ys xs : Numbered) (i : ℕ) (d : ℕ × KeptSession) (last : KeptSession) → AreApart xs → ys ≡ xs → Some i ≡ position (has_number number) ys → d ≡ get_or xs i d → set xs i (d.0, last) ≡ in_sessions number (λ _. last) xs
+seat-lent number ys xs i d last apart same at is = changed-here number (λ _. last) xs i d apart (here number ys xs i same at) is
+
+pub seat-found : (number : ℕ) (ys xs : Numbered) (i : ℕ) (d : ℕ × KeptSession) → ys ≡ xs → Some i ≡ position (has_number number) ys → d ≡ get_or xs i d → session_in number xs ≡ Some d.1
+seat-found number ys xs i d same at is = found-here number xs i d (here number ys xs i same at) is
+
+pub lent-apart : (number : ℕ) (ys xs : Numbered) (i : ℕ) (d : ℕ × KeptSession) (last : KeptSession) → AreApart xs → ys ≡ xs → Some i ≡ position (has_number number) ys → d ≡ get_or xs i d → AreApart (set xs i (d.0, last))
+lent-apart number ys xs i d last apart same at is = subst AreApart (sym (seat-lent number ys xs i d last apart same at is)) (apart-in number (λ _. last) xs apart)
+
+pub no_seat-found : (number : ℕ) (ys xs : Numbered) → ys ≡ xs → None ≡ position (has_number number) ys → session_in number xs ≡ None
+no_seat-found number ys xs same at = found-none number xs (ap (position (has_number number)) (sym same) ∙ sym at)
+
+-- ---- one comes, and one goes
+
+pub apart-left : (number : ℕ) (xs : Numbered) → AreApart xs → AreApart (without_session number xs)
+apart-left number xs apart = distinct_filter (λ (d e : ℕ × KeptSession). d.0 == e.0) (λ e. not (e.0 == number)) xs apart
+
+pub apart-last : (xs : Numbered) (number : ℕ) (s : KeptSession) → AreApart xs → list_any (has_number number) xs ≡ false → AreApart (xs ++ (number, s) ∷ [])
+apart-last xs number s apart new = distinct_push (λ (d e : ℕ × KeptSession). d.0 == e.0) xs (number, s) apart new
+
+-- a number that comes next is new
+pub below-new : (made : ℕ) (xs : Numbered) → AreBelow made xs → list_any (has_number made) xs ≡ false
+below-new made [] below = refl
+below-new made (x ∷ xs) below = ap (λ b. b || list_any (has_number made) xs) (other-number x.0 made (λ same. omega (arith, below.0, same))) ∙ below-new made xs below.1
+
+-- all are changed, or none is
+pub apart-either : {A E : Type 0} (f : KeptSession → KeptSession) (old new : Numbered) (r : Result A E) → OnOk r (new ≡ all_sessions f old) → OnErr r (new ≡ old) → AreApart old → AreApart new
+apart-either f old new (Ok x) ok err apart = subst AreApart (sym ok) (apart-all f old apart)
+apart-either f old new (Err e) ok err apart = subst AreApart (sym err) apart

@@ -1,112 +1,116 @@
 -- A SUBSCRIBE that none of the tests refuses is answered.
+--     accepted      no test refuses it
+--     verdict-holds      which verdicts there may be
+--     output_says      what the answer and the PUSH add to the output
+--     reaction, verdict      the hub behind it, and that it is accepted
+--     found_accepted      the session afterwards
 --     subscribe_is_answered      by NOERROR, and by the first answer's PUSH
-use Rattle.std.proofs.Common.{◌≡◌, ℕ, Bool, true, false, cond, not, ◌||◌, List, [], ◌∷◌, ◌++◌, map, length, Option, Some, None, is_some, sym, ◌∙◌, ap, refl}
-use Rattle.std.specs.Prelude.{find, ◌+◌, option_map, nat_le, ◌==◌, if◌then◌else◌}
+use Rattle.std.proofs.Common.{◌≡◌, ℕ, Bool, true, false, not, ◌||◌, List, [], ◌∷◌, ◌++◌, Option, Some, None, is_some, sym, ◌∙◌, ap, refl}
+use Rattle.std.specs.Prelude.{option_map, nat_le, if◌then◌else◌}
 use Rattle.std.proofs.lemmas.Bool.{lt-leb}
 use Rattle.std.proofs.lemmas.List.{append_assoc, append-nil}
 use Rattle.push_base.specs.Limits.{max_questions}
 use Rattle.rrset.specs.Header.{id_of}
-use Rattle.rrset.specs.Kinds.{in_class, any_class}
-use Rattle.rrset.specs.Rcodes.{noerror, formerr, refused, notauth}
+use Rattle.rrset.specs.Rcodes.{noerror, formerr, notauth, refused}
 use Rattle.rrset.specs.declared.record.Question.{Question}
+use Rattle.dsotlv.specs.Answers.{answer_to}
 use Rattle.dsotlv.specs.Messages.{frame}
-use Rattle.dsotlv.specs.declared.message.DsoHead.{DsoHead}
 use Rattle.dsotlv.specs.declared.message.Notice.{Notice}
 use Rattle.coalesce.specs.Net.{push_frame}
-use Rattle.dsosession.specs.Reactions.{server_reaction, is_keepalive}
-use Rattle.dsosession.specs.Timing.{server_spoke}
+use Rattle.dsosession.specs.declared.session.EndReason.{EndReason}
 use Rattle.dsosession.specs.declared.session.EndReason.TheVariants as ends
-use Rattle.history.specs.States.{home_of}
-use Rattle.pushserver.specs.Sessions.{Session, Subscription, Note, note_of, written, subscription_of, subscription_for}
-use Rattle.pushserver.specs.Hubs.{Hub, newest, state_now, now, session_of, in_session}
-use Rattle.pushserver.specs.Giving.{answers, ends_as, dso_answer, delayed_answer, first_answer, first_answer_size, subscribed, says_first_answer, accepts_subscription, by_reaction, reacted}
+use Rattle.pushsession.specs.Sessions.{SessionOf, Keeps}
+use Rattle.pushsession.specs.Subscribing.{Verdict, Refuse, Abort, Accept, verdict_on, is_served, subscribed, says_first_answer, first_answer_size, accepts, decided, answered}
+use Rattle.pushsession.specs.Reactions.{heard}
+use Rattle.pushserver.specs.Sessions.{Hub, Session, Subscription, first_answer}
+use Rattle.pushserver.specs.Hubs.{now, keeps_now, tells_now, session_of, in_session}
+use Rattle.pushserver.specs.Giving.{has_home, by_reaction, reacted}
 use Rattle.pushserver.specs.Laws.{IsAcceptable, SubscribeIsAnswered}
+use Rattle.pushserver.proofs.SessionLists.{found-in}
+use Rattle.pushserver.proofs.hub_steps.Cases.{session_as, head_as}
 
--- a session that was changed is found as it is then
-pub session_of-in_session : (number : ℕ) (f : Session → Session) (hub : Hub) → session_of (in_session number f hub) number ≡ option_map f (session_of hub number)
-session_of-in_session number f hub = found hub.sessions
+-- ---- the tests
+
+-- the verdict by the outcomes of the tests
+abbrev by_tests : ℕ → Question → Bool → Option ℕ → Bool → Bool → Bool → Verdict
+by_tests id question used active served has_home full =
+    if used then Abort (ends.IdInUse id)
+    else elim active [ Some twice ↦ Abort (ends.Twice twice) | None ↦ if not served || not has_home then Refuse notauth else if full then Refuse refused else Accept question ]
+
+passed : (id : ℕ) (question : Question) (used : Bool) (active : Option ℕ) (served has_home full : Bool) → used ≡ false → active ≡ None → served ≡ true → has_home ≡ true → full ≡ false
+    → by_tests id question used active served has_home full ≡ Accept question
+passed id question used active served has_home full u a s h f i = by_tests id question (u i) (a i) (s i) (h i) (f i)
+
+pub accepted : {A Q M : Type 0} (keeps : Keeps A Q M) (id : ℕ) (question : Question) (has_home : Bool) (subscriptions : A) → keeps.has_id id subscriptions ≡ false → keeps.id_of question subscriptions ≡ None
+    → is_served question.class ≡ true → has_home ≡ true → nat_le max_questions (keeps.count subscriptions) ≡ false → verdict_on keeps id (Some question) has_home subscriptions ≡ Accept question
+accepted keeps id question has_home subscriptions new_id new_question served home room =
+    passed id question (keeps.has_id id subscriptions) (keeps.id_of question subscriptions) (is_served question.class) has_home (nat_le max_questions (keeps.count subscriptions)) new_id new_question served home room
+
+-- what holds of each verdict that there may be
+pub verdict-holds : {A Q M : Type 0} (keeps : Keeps A Q M) (id : ℕ) (question : Option Question) (home : Bool) (subscriptions : A) (P : Verdict → Type 0)
+    → P (Refuse formerr) → P (Refuse notauth) → P (Refuse refused) → ((reason : EndReason) → P (Abort reason))
+    → ((q : Question) → question ≡ Some q → keeps.has_id id subscriptions ≡ false → keeps.id_of q subscriptions ≡ None → P (Accept q))
+    → P (verdict_on keeps id question home subscriptions)
+verdict-holds keeps id None home subscriptions P malformed away full ends_with taken = malformed
+verdict-holds keeps id (Some q) home subscriptions P malformed away full ends_with taken =
+    by (keeps.has_id id subscriptions) refl (keeps.id_of q subscriptions) refl (is_served q.class) home (nat_le max_questions (keeps.count subscriptions))
   where
-    found : (sessions : List (ℕ × Session))
-        → option_map (λ (e : ℕ × Session). e.1) (find (λ (e : ℕ × Session). e.0 == number) (map (λ (e : ℕ × Session). (e.0, cond (e.0 == number) (f e.1) e.1)) sessions))
-        ≡ option_map f (option_map (λ (e : ℕ × Session). e.1) (find (λ (e : ℕ × Session). e.0 == number) sessions))
-    found [] = refl
-    found (e ∷ es) = by (e.0 == number) (found es)
-      where
-        by : (b : Bool) → option_map (λ (e : ℕ × Session). e.1) (find (λ (e : ℕ × Session). e.0 == number) (map (λ (e : ℕ × Session). (e.0, cond (e.0 == number) (f e.1) e.1)) es))
-            ≡ option_map f (option_map (λ (e : ℕ × Session). e.1) (find (λ (e : ℕ × Session). e.0 == number) es))
-            → option_map (λ (e : ℕ × Session). e.1) (cond b (Some (e.0, cond b (f e.1) e.1)) (find (λ (e : ℕ × Session). e.0 == number) (map (λ (e : ℕ × Session). (e.0, cond (e.0 == number) (f e.1) e.1)) es)))
-            ≡ option_map f (option_map (λ (e : ℕ × Session). e.1) (cond b (Some e) (find (λ (e : ℕ × Session). e.0 == number) es)))
-        by true h = refl
-        by false h = h
+    by : (used : Bool) → keeps.has_id id subscriptions ≡ used → (active : Option ℕ) → keeps.id_of q subscriptions ≡ active → (served home no_room : Bool) → P (by_tests id q used active served home no_room)
+    by true u active a served home no_room = ends_with (ends.IdInUse id)
+    by false u (Some twice) a served home no_room = ends_with (ends.Twice twice)
+    by false u None a false home no_room = away
+    by false u None a true false no_room = away
+    by false u None a true true true = full
+    by false u None a true true false = taken q refl u a
 
--- what the answer and the PUSH add to the output
-pub output_says : (newest t : ℕ) (answer : List ℕ) (notices : List Notice) (before : Note) (session : Session)
-    → (says_first_answer newest t answer notices before session).output ≡ session.output ++ (frame answer ++ push_frame notices)
-output_says newest t answer [] before session = ap (λ x. session.output ++ x) (sym (append-nil (frame answer)))
-output_says newest t answer (n ∷ ns) before session = append_assoc session.output (frame answer) (push_frame (n ∷ ns))
+-- ---- what is written
 
--- the last of the tests' cases, where no test is met
-pub no_test : {X : Type 0} (class home full : Bool) (first second third : X) → class ≡ true → home ≡ true → full ≡ false
-    → cond (not class || not home) first (cond full second third) ≡ third
-no_test true true false first second third c h f = refl
-no_test true true true first second third c h f = cc
-no_test true false full first second third c h f = cc
-no_test false home full first second third c h f = cc
+pub output_says : {A Q M : Type 0} (keeps : Keeps A Q M) (now : ℕ) (answer : List ℕ) (notices : List Notice) (before : Q) (session : SessionOf A Q M)
+    → (says_first_answer keeps now answer notices before session).output ≡ session.output ++ (frame answer ++ push_frame notices)
+output_says keeps now answer [] before session = ap (λ x. session.output ++ x) (sym (append-nil (frame answer)))
+output_says keeps now answer (n ∷ ns) before session = append_assoc session.output (frame answer) (push_frame (n ∷ ns))
+
+-- ---- the session
 
 module _ (message : List ℕ) (number : ℕ) (hub : Hub) (session : Session) (question : Question) (a : IsAcceptable hub session message question) where
   -- the session and the hub when the timers are restarted
-  abbrev pub spoken : Session → Session
-  spoken s = record s { clocks = server_spoke (is_keepalive a.head) (now hub) s.clocks }
+  abbrev pub listening : Session
+  listening = heard a.head (now hub) session
 
-  abbrev pub hub_spoken : Hub
-  hub_spoken = in_session number spoken hub
+  abbrev pub hub_heard : Hub
+  hub_heard = in_session number (heard a.head (now hub)) hub
 
-  -- the hub after the tests of class, home and room, and after all tests
-  abbrev pub by_last_tests : Question → Hub
-  by_last_tests q =
-      if not (q.class == in_class || q.class == any_class) || not (is_some (home_of (state_now hub_spoken) q.name)) then answers number false (delayed_answer message notauth) hub_spoken
-      else if nat_le max_questions (length session.subscriptions) then answers number false (delayed_answer message refused) hub_spoken
-      else in_session number (accepts_subscription hub_spoken message q) hub_spoken
+  abbrev pub answering : Option Question → Session → Session
+  answering o s = answered (keeps_now hub) (tells_now hub) (now hub) (id_of message) o (has_home hub o) s
 
-  abbrev pub by_tests : Question → Hub
-  by_tests q =
-      if is_some (subscription_of session.subscriptions (id_of message)) then ends_as number (ends.IdInUse (id_of message)) hub_spoken
-      else elim (subscription_for session.subscriptions q) [ Some active ↦ ends_as number (ends.Twice active.id) hub_spoken | None ↦ by_last_tests q ]
-
-  pub accepted : by_tests question ≡ in_session number (accepts_subscription hub_spoken message question) hub_spoken
-  accepted =
-      ap (λ (o : Option Subscription). cond (is_some o) (ends_as number (ends.IdInUse (id_of message)) hub_spoken)
-      (elim (subscription_for session.subscriptions question) [ Some active ↦ ends_as number (ends.Twice active.id) hub_spoken | None ↦ by_last_tests question ])) a.new_id
-      ∙ ap (λ (o : Option Subscription). elim o [ Some active ↦ ends_as number (ends.Twice active.id) hub_spoken | None ↦ by_last_tests question ]) a.new_question
-      ∙ no_test (question.class == in_class || question.class == any_class) (is_some (home_of (state_now hub) question.name)) (nat_le max_questions (length session.subscriptions))
-      (answers number false (delayed_answer message notauth) hub_spoken) (answers number false (delayed_answer message refused) hub_spoken)
-      (in_session number (accepts_subscription hub_spoken message question) hub_spoken) a.class a.home (lt-leb max_questions (length session.subscriptions) a.room)
-
-  pub reaction : session_of hub number ≡ Some session → reacted message number hub ≡ in_session number (accepts_subscription hub_spoken message question) hub_spoken
+  pub reaction : session_of hub number ≡ Some session → reacted message number hub ≡ in_session number (answering (Some question)) hub_heard
   reaction has =
-      ap (λ (o : Option DsoHead). elim o [
-        | None ↦ ends_as number ends.Short hub
-        | Some head ↦ elim (session_of hub number) [
-          | None ↦ hub
-          | Some s ↦ by_reaction (server_reaction head s.established) number message s (in_session number (λ s. record s { clocks = server_spoke (is_keepalive head) (now hub) s.clocks }) hub)
-        ]
-      ]) a.whole
-      ∙ ap (λ (o : Option Session). elim o [ None ↦ hub | Some s ↦ by_reaction (server_reaction a.head s.established) number message s hub_spoken ]) has
-      ∙ ap (λ r. by_reaction r number message session hub_spoken) a.reaction
-      ∙ ap (λ (o : Option Question). elim o [ None ↦ answers number false (delayed_answer message formerr) hub_spoken | Some q ↦ by_tests q ]) a.spelled
-      ∙ accepted
+      ap (head_as hub number message) a.whole
+      ∙ ap (session_as hub number message a.head) has
+      ∙ ap (λ r. by_reaction r number message hub_heard) a.reaction
+      ∙ ap (λ (o : Option Question). in_session number (answering o) hub_heard) a.spelled
 
-  pub is_answered : session_of hub number ≡ Some session
+  pub verdict : verdict_on (keeps_now hub) (id_of message) (Some question) (has_home hub (Some question)) session.subscriptions ≡ Accept question
+  verdict =
+      accepted (keeps_now hub) (id_of message) question (has_home hub (Some question)) session.subscriptions (ap (λ (o : Option Subscription). is_some o) a.new_id)
+      (ap (λ (o : Option Subscription). option_map (λ (s : Subscription). s.id) o) a.new_question) a.class a.home (lt-leb _ _ a.room)
+
+  pub found_accepted : session_of hub number ≡ Some session → session_of (reacted message number hub) number ≡ Some (accepts (keeps_now hub) (tells_now hub) (now hub) (id_of message) question listening)
+  found_accepted has =
+      ap (λ (h : Hub). session_of h number) (reaction has)
+      ∙ found-in number (answering (Some question)) hub_heard.sessions
+      ∙ ap (option_map (answering (Some question))) (found-in number (heard a.head (now hub)) hub.sessions ∙ ap (option_map (heard a.head (now hub))) has)
+      ∙ ap (λ (v : Verdict). Some (decided (keeps_now hub) (tells_now hub) (now hub) (id_of message) v listening)) verdict
+
+  is_answered : session_of hub number ≡ Some session
       → option_map (λ (s : Session). s.output) (session_of (reacted message number hub) number)
-      ≡ Some (session.output ++ (frame (dso_answer message noerror) ++ push_frame (first_answer hub session question)))
+      ≡ Some (session.output ++ (frame (answer_to (id_of message) noerror) ++ push_frame (first_answer hub session question)))
   is_answered has =
-      ap (λ h. option_map (λ (s : Session). s.output) (session_of h number)) (reaction has)
-      ∙ ap (λ o. option_map (λ (s : Session). s.output) o) (session_of-in_session number (accepts_subscription hub_spoken message question) hub_spoken)
-      ∙ ap (λ o. option_map (λ (s : Session). s.output) (option_map (accepts_subscription hub_spoken message question) o)) (session_of-in_session number spoken hub ∙ ap (λ o. option_map spoken o) has)
-      ∙ ap (λ o. Some o) (output_says (newest hub) (now hub) (dso_answer message noerror) (first_answer hub session question) (note_of (newest hub) (spoken session)) (subscribed new (spoken session)))
+      ap (λ o. option_map (λ (s : Session). s.output) o) (found_accepted has)
+      ∙ ap (λ o. Some o) (output_says (keeps_now hub) (now hub) (answer_to (id_of message) noerror) (first_answer hub session question) listening.queue (subscribed (keeps_now hub) (id_of message) question end listening))
     where
-      new : Subscription
-      new = record { id = id_of message; question = question; filled = written session + first_answer_size (dso_answer message noerror) (first_answer hub session question) }
+      end : ℕ
+      end = (keeps_now hub).end_behind (first_answer_size (answer_to (id_of message) noerror) (first_answer hub session question)) session.made
 
 pub subscribe_is_answered : SubscribeIsAnswered
 subscribe_is_answered hub number session message question has a = is_answered message number hub session question a has

@@ -4,9 +4,7 @@ pub mod Standing
 pub mod Names
 pub mod Queued
 pub mod Entering
+pub mod Cases
 pub mod Calls
-pub mod Taken
-pub mod Asking
-pub mod Confirming
-pub mod Updating
+pub mod Reacting
 pub mod Giving

@@ -1,4 +1,7 @@
+-- That each rule does to a session as it is kept what it does to the plain one.
 pub mod Lists
+pub mod Octets
+pub mod Parts
 pub mod Standing
 pub mod Saying
 pub mod Reactions
@@ -7,4 +10,3 @@ pub mod Nets
 pub mod Packing
 pub mod FirstAnswers
 pub mod Accepting
-pub mod Parts

@@ -5,9 +5,9 @@ use Rattle.std.specs.Prelude.{ℕ, not, ◌&&◌, [], ◌∷◌, drop, min, Opti
 use Rattle.dsosession.specs.declared.session.EndReason.TheVariants.{Behind}
 use Rattle.history.specs.States.{entry_size, journal_has_room}
 use Rattle.history.specs.declared.entry.Entry.{Entry}
-use Rattle.pushserver.specs.Sessions.{Session, Queue, ended_with}
-use Rattle.pushserver.specs.Hubs.{Hub, each_session, entered}
-use Rattle.pushsession.specs.Kept.{is_open}
+use Rattle.pushserver.specs.Sessions.{Hub, Session, Queue, plain_keeps}
+use Rattle.pushserver.specs.Hubs.{newest, each_session, entered}
+use Rattle.pushsession.specs.Sessions.{is_open, ended_with}
 
 -- the least point of a queue
 abbrev pub least_point : Queue → Option ℕ
@@ -22,7 +22,7 @@ behind_at hub entry session = elim (least_point session.queue) [
 ]
 
 abbrev pub ended_behind : Hub → Entry → Session → Session
-ended_behind hub entry session = elim (behind_at hub entry session) [ None ↦ session | Some p ↦ ended_with (Behind p) session ]
+ended_behind hub entry session = elim (behind_at hub entry session) [ None ↦ session | Some p ↦ ended_with (plain_keeps (newest hub)) (Behind p) session ]
 
 abbrev pub ends_behind : Entry → Hub → Hub
 ends_behind entry hub = each_session (ended_behind hub entry) hub

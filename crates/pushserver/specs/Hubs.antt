@@ -1,79 +1,108 @@
--- The server as plain lists: the history, and the sessions. It keeps nothing that the history tells.
---     state_now, records_now, sent      the state and the records at the newest point; what counts as sent of a name
+-- A hub: one history, and the sessions that are told of it (RFC 8765), whatever a session keeps.
+--     SessionKind      what the sessions of a hub keep, and what is told to them
+--     HubOf, empty_hub      a hub; one in which nothing has changed and nobody asks
+--     Numbered, session_in, in_sessions, all_sessions      sessions with their numbers
+--     newest, state_now, now, records_now      the newest point, and the state and the records there
 --     entered entry hub      the hub after an entry
 --     update, hear, moment, connect, take_octets, stop, end_session      the calls beside `give`
-use Rattle.std.specs.Prelude.{ℕ, ◌+◌, ◌-◌, Bool, true, false, not, ◌&&◌, cond, List, [], ◌∷◌, ◌++◌, map, length, take, filter, find, min, Option, Some, None, Ok, Err, nat_lt, ◌==◌, option_map, if◌then◌else◌}
-use Rattle.push_base.specs.Limits.{max_input, max_number}
-use Rattle.dnsname.specs.Names.{Labels}
+use Rattle.std.specs.Prelude.{ℕ, ◌+◌, Bool, true, false, not, ◌&&◌, cond, List, [], ◌∷◌, ◌++◌, map, length, filter, find, min, Option, Some, None, Ok, Err, nat_lt, ◌==◌, option_map, if◌then◌else◌}
+use Rattle.push_base.specs.Limits.{max_number}
 use Rattle.dnsname.specs.Reading.{place_of}
-use Rattle.rrset.specs.RecordSet.{RecordSet, at_name, changes}
+use Rattle.rrset.specs.RecordSet.{RecordSet, changes}
+use Rattle.rrset.specs.Rcodes.{noerror, servfail}
 use Rattle.dnswire.specs.Reading.{hearing_of}
 use Rattle.dnswire.specs.declared.message.WireFault.{WireFault}
 use Rattle.dnswire.specs.declared.message.WireFault.TheVariants as wires
 use Rattle.dnswire.specs.declared.message.HearFault.{HearFault}
 use Rattle.dnswire.specs.declared.message.HearFault.TheVariants as hearfaults
-use Rattle.rrset.specs.Rcodes.{noerror, servfail}
 use Rattle.dsosession.specs.declared.session.Timers.{Timers}
-use Rattle.dsosession.specs.declared.session.EndReason.TheVariants as ends
-use Rattle.dsosession.specs.Timing.{server_ends, has_passed}
-use Rattle.history.specs.States.{State, state_at, records_at, records, verdict, accepts, entry_size, journal_has_room}
+use Rattle.history.specs.States.{State, state_at, records, verdict, accepts, entry_size, journal_has_room}
 use Rattle.history.specs.declared.entry.Entry.{Entry}
 use Rattle.history.specs.declared.entry.Entry.TheVariants as entries
+use Rattle.pushsession.specs.Sessions.{SessionOf, Keeps, new_session, room_of, takes, asked_to_stop, timed, noted}
+use Rattle.pushsession.specs.Subscribing.{Tells}
+use Rattle.pushserver.specs.declared.sessions.TheConstants as sessions
 use Rattle.pushserver.specs.declared.given.Why.{Why}
 use Rattle.pushserver.specs.declared.given.Why.TheVariants as whys
 use Rattle.pushserver.specs.declared.given.Heard.{Heard}
 use Rattle.pushserver.specs.declared.given.Heard.TheVariants.{Entered, Ignored}
-use Rattle.pushsession.specs.declared.standing.Standing.{Standing}
-use Rattle.pushsession.specs.declared.standing.Standing.TheVariants.{AskedToStop, Stopped, Ended}
-use Rattle.pushsession.specs.Kept.{is_open}
-use Rattle.pushserver.specs.Sessions.{Session, new_session, note_of, told, wanted, queued, ended_with}
 
-pub record Hub : Type 0 where
+-- what sessions keep where so many entries are made, and what is told to them of a start and the entries since
+pub record SessionKind (Asked Queue Messages : Type 0) : Type 0 where
+  pub keeps : ℕ → Keeps Asked Queue Messages
+  pub tells : State → List Entry → Tells Asked Queue
+
+-- the homes at first, what is granted to a Keepalive, the entries since, the sessions with their numbers, and how many were ever made
+pub record HubOf {A Q M : Type 0} (kind : SessionKind A Q M) : Type 0 where
   pub start : State
   pub timers : Timers
   pub history : List Entry
-  pub sessions : List (ℕ × Session)
+  pub sessions : List (ℕ × SessionOf A Q M)
   pub made : ℕ
 
-abbrev pub new_hub : State → Timers → Hub
-new_hub start timers = record { start = start; timers = timers; history = []; sessions = []; made = 0 }
+abbrev pub empty_hub : {A Q M : Type 0} (kind : SessionKind A Q M) → State → Timers → HubOf kind
+empty_hub kind start timers = record { start = start; timers = timers; history = []; sessions = []; made = 0 }
 
-abbrev pub newest : Hub → ℕ
+-- ---- sessions with their numbers
+
+abbrev pub Numbered : Type 0 → Type 0
+Numbered S = List (ℕ × S)
+
+abbrev pub session_in : {S : Type 0} → ℕ → Numbered S → Option S
+session_in number sessions = option_map (λ e. e.1) (find (λ e. e.0 == number) sessions)
+
+abbrev pub in_sessions : {S : Type 0} → ℕ → (S → S) → Numbered S → Numbered S
+in_sessions number f sessions = map (λ e. (e.0, cond (e.0 == number) (f e.1) e.1)) sessions
+
+abbrev pub all_sessions : {S : Type 0} → (S → S) → Numbered S → Numbered S
+all_sessions f sessions = map (λ e. (e.0, f e.1)) sessions
+
+abbrev pub without_session : {S : Type 0} → ℕ → Numbered S → Numbered S
+without_session number sessions = filter (λ e. not (e.0 == number)) sessions
+
+-- ---- what a hub has now
+
+abbrev pub newest : {A Q M : Type 0} {kind : SessionKind A Q M} → HubOf kind → ℕ
 newest hub = length hub.history
 
-abbrev pub state_now : Hub → State
+abbrev pub state_now : {A Q M : Type 0} {kind : SessionKind A Q M} → HubOf kind → State
 state_now hub = state_at hub.start hub.history (newest hub)
 
-abbrev pub now : Hub → ℕ
+abbrev pub now : {A Q M : Type 0} {kind : SessionKind A Q M} → HubOf kind → ℕ
 now hub = (state_now hub).now
 
-abbrev pub records_now : Hub → RecordSet
+abbrev pub records_now : {A Q M : Type 0} {kind : SessionKind A Q M} → HubOf kind → RecordSet
 records_now hub = records (state_now hub)
 
--- what counts as sent of a name: the records at the point up to which it was told, as the questions match them
-abbrev pub sent : Hub → Session → Labels → RecordSet
-sent hub session name = wanted session.subscriptions (at_name name (records_at hub.start hub.history (told (note_of (newest hub) session) name)))
+-- what its sessions keep now, and what is told to them
+abbrev pub keeps_now : {A Q M : Type 0} {kind : SessionKind A Q M} → HubOf kind → Keeps A Q M
+keeps_now {kind = kind} hub = kind.keeps (newest hub)
 
-abbrev pub session_of : Hub → ℕ → Option Session
-session_of hub number = option_map (λ e. e.1) (find (λ e. e.0 == number) hub.sessions)
+abbrev pub tells_now : {A Q M : Type 0} {kind : SessionKind A Q M} → HubOf kind → Tells A Q
+tells_now {kind = kind} hub = kind.tells hub.start hub.history
 
-abbrev pub each_session : (Session → Session) → Hub → Hub
-each_session f hub = record hub { sessions = map (λ e. (e.0, f e.1)) hub.sessions }
+abbrev pub session_of : {A Q M : Type 0} {kind : SessionKind A Q M} → HubOf kind → ℕ → Option (SessionOf A Q M)
+session_of hub number = session_in number hub.sessions
 
-abbrev pub in_session : ℕ → (Session → Session) → Hub → Hub
-in_session number f hub = record hub { sessions = map (λ e. (e.0, cond (e.0 == number) (f e.1) e.1)) hub.sessions }
+abbrev pub each_session : {A Q M : Type 0} {kind : SessionKind A Q M} → (SessionOf A Q M → SessionOf A Q M) → HubOf kind → HubOf kind
+each_session f hub = record hub { sessions = all_sessions f hub.sessions }
 
--- an entry goes to the end of the history, and each session queues what it touches
-abbrev pub entered : Entry → Hub → Hub
+abbrev pub in_session : {A Q M : Type 0} {kind : SessionKind A Q M} → ℕ → (SessionOf A Q M → SessionOf A Q M) → HubOf kind → HubOf kind
+in_session number f hub = record hub { sessions = in_sessions number f hub.sessions }
+
+-- ---- entries
+
+-- an entry goes to the end of the history, and of each session the names that it touches wait
+abbrev pub entered : {A Q M : Type 0} {kind : SessionKind A Q M} → Entry → HubOf kind → HubOf kind
 entered entry hub =
     let later = record hub { history = hub.history ++ entry ∷ [] } in
-    each_session (queued (changes (records_now hub) (records_now later)) (newest hub)) later
+    each_session (noted (keeps_now hub) (changes (records_now hub) (records_now later)) (records_now hub) (newest hub)) later
 
-abbrev pub can_enter : Hub → Entry → Bool
+abbrev pub can_enter : {A Q M : Type 0} {kind : SessionKind A Q M} → HubOf kind → Entry → Bool
 can_enter hub entry = journal_has_room hub.history (entry_size entry)
 
 -- the RCODE of an update message, and the hub after it (RFC 2136, 3)
-abbrev pub update : Hub → List ℕ → ℕ × Hub
+abbrev pub update : {A Q M : Type 0} {kind : SessionKind A Q M} → HubOf kind → List ℕ → ℕ × HubOf kind
 update hub message = elim (verdict (state_now hub) message) [
   | Err code ↦ (code, hub)
   | Ok u ↦ if can_enter hub (entries.Update u) then (noerror, entered (entries.Update u) hub) else (servfail, hub)
@@ -97,7 +126,7 @@ why_not (hearfaults.Wire fault) = whys.Unreadable (wire_place fault)
 why_not hearfaults.NoMemory = whys.Nothing
 
 -- what becomes of a datagram, or nothing where the journal is full, and the hub after it
-abbrev pub hear : Hub → ℕ → List ℕ → Option Heard × Hub
+abbrev pub hear : {A Q M : Type 0} {kind : SessionKind A Q M} → HubOf kind → ℕ → List ℕ → Option Heard × HubOf kind
 hear hub link datagram = elim (hearing_of datagram) [
   | Err fault ↦ (Some (Ignored (why_not fault)), hub)
   | Ok hearing ↦ (let entry = entries.Heard link hearing in
@@ -105,49 +134,32 @@ hear hub link datagram = elim (hearing_of datagram) [
       else if can_enter hub entry then (Some Entered, entered entry hub) else (None, hub))
 ]
 
--- a stopped session ends after 5,000 milliseconds (RFC 8490, 6.6.1), and a live one by its timers (RFC 8490, 6.4 and 6.5)
-abbrev pub timed_as : Standing → ℕ → Session → Session
-timed_as (Ended reason) t session = session
-timed_as (Stopped since) t session = if has_passed 5000 since t then ended_with ends.Stopped session else session
-timed_as _ t session = elim (server_ends session.clocks t (length session.subscriptions)) [ None ↦ session | Some reason ↦ ended_with reason session ]
-
-abbrev pub timed : ℕ → Session → Session
-timed t session = timed_as session.standing t session
-
--- true where the journal is full, and the hub at a later moment
-abbrev pub moment : Hub → ℕ → Bool × Hub
+-- true where the journal is full, and the hub at a later moment: the entry is made first, and then sessions end by their timers
+abbrev pub moment : {A Q M : Type 0} {kind : SessionKind A Q M} → HubOf kind → ℕ → Bool × HubOf kind
 moment hub t =
     if not (nat_lt (now hub) t) then (false, hub)
-    else if can_enter hub (entries.Moment t) then (false, each_session (timed t) (entered (entries.Moment t) hub)) else (true, hub)
+    else if can_enter hub (entries.Moment t) then (false, each_session (timed (keeps_now hub) t) (entered (entries.Moment t) hub)) else (true, hub)
+
+-- ---- sessions come and go
 
 abbrev pub max_sessions : ℕ
-max_sessions = 64
+max_sessions = sessions.MAX_SESSIONS
 
 -- the number of a new session, counted from 0; none where too many live or the numbers are used up
-abbrev pub connect : Hub → Option ℕ × Hub
+abbrev pub connect : {A Q M : Type 0} {kind : SessionKind A Q M} → HubOf kind → Option ℕ × HubOf kind
 connect hub = if nat_lt (length hub.sessions) max_sessions && nat_lt hub.made max_number
-    then (Some hub.made, record hub { sessions = hub.sessions ++ (hub.made, new_session (now hub)) ∷ []; made = hub.made + 1 })
+    then (Some hub.made, record hub { sessions = hub.sessions ++ (hub.made, new_session (keeps_now hub) (now hub)) ∷ []; made = hub.made + 1 })
     else (None, hub)
 
--- how many octets of a piece go into a session's input
-abbrev pub room_of : Session → ℕ
-room_of session = cond (is_open session.standing) (max_input - length session.input) 0
-
-abbrev pub taken_by : Hub → ℕ → List ℕ → ℕ
+-- how many octets of a piece a session takes
+abbrev pub taken_by : {A Q M : Type 0} {kind : SessionKind A Q M} → HubOf kind → ℕ → List ℕ → ℕ
 taken_by hub number piece = elim (session_of hub number) [ None ↦ 0 | Some session ↦ min (length piece) (room_of session) ]
 
-abbrev pub takes : List ℕ → Session → Session
-takes piece session = record session { input = session.input ++ take (room_of session) piece }
-
-abbrev pub take_octets : Hub → ℕ → List ℕ → Hub
+abbrev pub take_octets : {A Q M : Type 0} {kind : SessionKind A Q M} → HubOf kind → ℕ → List ℕ → HubOf kind
 take_octets hub number piece = in_session number (takes piece) hub
 
--- a stop is asked for in place of an earlier one; an ended or stopped session is left as it is
-abbrev pub asked : ℕ → ℕ → Session → Session
-asked rcode delay session = cond (is_open session.standing) (record session { standing = AskedToStop rcode delay }) session
+abbrev pub stop : {A Q M : Type 0} {kind : SessionKind A Q M} → HubOf kind → ℕ → ℕ → ℕ → HubOf kind
+stop hub number rcode delay = in_session number (asked_to_stop rcode delay) hub
 
-abbrev pub stop : Hub → ℕ → ℕ → ℕ → Hub
-stop hub number rcode delay = in_session number (asked rcode delay) hub
-
-abbrev pub end_session : Hub → ℕ → Hub
-end_session hub number = record hub { sessions = filter (λ e. not (e.0 == number)) hub.sessions }
+abbrev pub end_session : {A Q M : Type 0} {kind : SessionKind A Q M} → HubOf kind → ℕ → HubOf kind
+end_session hub number = record hub { sessions = without_session number hub.sessions }

@@ -4,15 +4,15 @@
 --     GiveChangesOneSession, OtherCallsKeepOutputs      what a call leaves as it was
 --     SubscribeIsAnswered      what a SUBSCRIBE gets that none of the tests refuses
 --     MayWantMemory hub number      where memory may be wanted
-use Rattle.std.specs.Prelude.{◌≡◌, ◌⊎◌, ℕ, ◌<◌, ◌||◌, ◌==◌, List, [], ◌++◌, length, Some, None, IsTrue, IsSome, option_map}
+use Rattle.std.specs.Prelude.{◌≡◌, ◌⊎◌, ℕ, ◌<◌, List, [], ◌++◌, length, Some, None, IsTrue, IsSome, option_map}
 use Rattle.std.specs.List.{AllByRecursion}
 use Rattle.push_base.specs.Limits.{max_questions}
 use Rattle.rrset.specs.Header.{id_of}
-use Rattle.rrset.specs.Kinds.{in_class, any_class}
 use Rattle.rrset.specs.RecordSet.{at_name, matching}
 use Rattle.rrset.specs.declared.record.Question.{Question}
 use Rattle.rrset.specs.Rcodes.{noerror}
 use Rattle.dsotlv.specs.Messages.{first_message, frame, head_of, primary_data}
+use Rattle.dsotlv.specs.Answers.{answer_to}
 use Rattle.dsotlv.specs.Notices.{question_of}
 use Rattle.dsotlv.specs.declared.message.DsoHead.{DsoHead}
 use Rattle.coalesce.specs.Net.{push_frame}
@@ -23,11 +23,12 @@ use Rattle.history.specs.States.{home_of}
 use Rattle.history.specs.declared.entry.Entry.{Entry}
 use Rattle.pushserver.specs.declared.given.Given.TheVariants.{Nothing}
 use Rattle.pushsession.specs.declared.standing.Standing.TheVariants.{Live}
-use Rattle.pushserver.specs.Sessions.{Session, wanted, subscription_of, subscription_for}
-use Rattle.pushserver.specs.Hubs.{Hub, state_now, records_now, sent, session_of, entered, update, hear, moment, connect, take_octets, stop, end_session}
-use Rattle.pushserver.specs.Giving.{give, reacted, first_answer, dso_answer}
+use Rattle.pushsession.specs.Subscribing.{is_served}
+use Rattle.pushserver.specs.Sessions.{Hub, Session, sent, first_answer, wanted, subscription_of, subscription_for}
+use Rattle.pushserver.specs.Hubs.{state_now, records_now, session_of, entered, update, hear, moment, connect, take_octets, stop, end_session}
+use Rattle.pushserver.specs.Giving.{give, reacted}
 use Rattle.pushserver.specs.Rule.{KeptHub, StandsFor}
-use Rattle.pushserver.specs.Telling.{TellsHistory, set_after}
+use Rattle.pushserver.specs.ToldMessages.{TellsHistory, set_after}
 
 -- a live session without output, without a whole message that waits, and with all records of its names sent
 abbrev pub IsAllTold : Hub → Session → Type 0
@@ -75,7 +76,7 @@ pub record IsAcceptable (hub : Hub) (session : Session) (message : List ℕ) (qu
   pub spelled : question_of (primary_data message) ≡ Some question
   pub new_id : subscription_of session.subscriptions (id_of message) ≡ None
   pub new_question : subscription_for session.subscriptions question ≡ None
-  pub class : IsTrue (question.class == in_class || question.class == any_class)
+  pub class : IsTrue (is_served question.class)
   pub home : IsSome (home_of (state_now hub) question.name)
   pub room : length session.subscriptions < max_questions
 
@@ -83,7 +84,7 @@ pub record IsAcceptable (hub : Hub) (session : Session) (message : List ℕ) (qu
 abbrev pub SubscribeIsAnswered : Type 0
 SubscribeIsAnswered = (hub : Hub) (number : ℕ) (session : Session) (message : List ℕ) (question : Question) → session_of hub number ≡ Some session → IsAcceptable hub session message question
     → option_map (λ s. s.output) (session_of (reacted message number hub) number)
-    ≡ Some (session.output ++ (frame (dso_answer message noerror) ++ push_frame (first_answer hub session question)))
+    ≡ Some (session.output ++ (frame (answer_to (id_of message) noerror) ++ push_frame (first_answer hub session question)))
 
 -- the reaction to a SUBSCRIBE, a RECONFIRM or an update: a question, a record or an update is read for it
 abbrev pub ReadsData : Reaction → Type 0

@@ -4,8 +4,8 @@
 use Rattle.std.specs.Prelude.{ℕ, min, Option, Some, None, option_map}
 use Rattle.push_base.specs.Limits.{max_number}
 use Rattle.dnsname.specs.Names.{Labels}
-use Rattle.pushserver.specs.Sessions.{Session, note_of, told, subscription_of}
-use Rattle.pushserver.specs.Hubs.{Hub, newest, session_of}
+use Rattle.pushserver.specs.Sessions.{Hub, Session, note_of, told, subscription_of}
+use Rattle.pushserver.specs.Hubs.{newest, session_of}
 
 -- they are counted up to the last number
 abbrev pub filled_for : ℕ → Session → Option ℕ

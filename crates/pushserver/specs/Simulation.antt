@@ -2,16 +2,16 @@
 --     SessionKeeps hub f g      a step of the kept session is this step of the plain one
 --     UpdatesStand, MomentsStand, ConnectsStand, TakesStand, StopsStand, EndsStand, GivesStand      each call
 --     HubsTell      what is told of records can be told
-use Rattle.std.specs.Prelude.{◌≡◌, ℕ, List, Some, nat_lt, IsTrue}
-use Rattle.std.specs.List.{list_all}
+--     CountsStand      both count alike
+use Rattle.std.specs.Prelude.{◌≡◌, ℕ, List, Some}
 use Rattle.coalesce.specs.Waiting.{CanBePacked}
+use Rattle.history.specs.Totals.{totals}
 use Rattle.pushsession.specs.Kept.{KeptSession}
-use Rattle.pushserver.specs.Sessions.{Session}
-use Rattle.pushserver.specs.Hubs as hubs
-use Rattle.pushserver.specs.Hubs.{Hub}
-use Rattle.pushserver.specs.Giving as giving
-use Rattle.pushserver.specs.KeptHubs as kept
-use Rattle.pushserver.specs.Rule.{KeptHub, SessionStandsFor, StandsFor}
+use Rattle.pushserver.specs.Calls.{AreOctets}
+use Rattle.pushserver.specs.Sessions.{Session, Hub, Giving}
+use Rattle.pushserver.specs.Hubs.{session_of, records_now, update, moment, connect, taken_by, take_octets, stop, end_session}
+use Rattle.pushserver.specs.Giving.{give}
+use Rattle.pushserver.specs.Rule.{KeptHub, KeptGiving, SessionStandsFor, StandsFor}
 use Rattle.pushserver.specs.Rows.{AreTold}
 
 abbrev pub SessionKeeps : Hub → (KeptSession → KeptSession) → (Session → Session) → Type 0
@@ -21,37 +21,38 @@ SessionKeeps hub f g = (k : ℕ × KeptSession) (p : ℕ × Session) → Session
 abbrev pub BothAnswer : {X : Type 0} → X × KeptHub → X × Hub → Type 0
 BothAnswer k p = (k.0 ≡ p.0) × StandsFor k.1 p.1
 
-abbrev pub AreOctets : List ℕ → Type 0
-AreOctets octets = IsTrue (list_all (λ o. nat_lt o 256) octets)
-
 abbrev pub UpdatesStand : Type 0
-UpdatesStand = (k : KeptHub) (hub : Hub) (message : List ℕ) → StandsFor k hub → AreOctets message → BothAnswer (kept.update k message) (hubs.update hub message)
+UpdatesStand = (k : KeptHub) (hub : Hub) (message : List ℕ) → StandsFor k hub → AreOctets message → BothAnswer (update k message) (update hub message)
 
 abbrev pub MomentsStand : Type 0
-MomentsStand = (k : KeptHub) (hub : Hub) (t : ℕ) → StandsFor k hub → BothAnswer (kept.moment k t) (hubs.moment hub t)
+MomentsStand = (k : KeptHub) (hub : Hub) (t : ℕ) → StandsFor k hub → BothAnswer (moment k t) (moment hub t)
 
 abbrev pub ConnectsStand : Type 0
-ConnectsStand = (k : KeptHub) (hub : Hub) → StandsFor k hub → BothAnswer (kept.connect k) (hubs.connect hub)
+ConnectsStand = (k : KeptHub) (hub : Hub) → StandsFor k hub → BothAnswer (connect k) (connect hub)
 
 abbrev pub TakesStand : Type 0
 TakesStand = (k : KeptHub) (hub : Hub) (number : ℕ) (piece : List ℕ) → StandsFor k hub → AreOctets piece
-    → BothAnswer (kept.taken_by k number piece, kept.take_octets k number piece) (hubs.taken_by hub number piece, hubs.take_octets hub number piece)
+    → BothAnswer (taken_by k number piece, take_octets k number piece) (taken_by hub number piece, take_octets hub number piece)
 
 abbrev pub StopsStand : Type 0
-StopsStand = (k : KeptHub) (hub : Hub) (number rcode delay : ℕ) → StandsFor k hub → StandsFor (kept.stop k number rcode delay) (hubs.stop hub number rcode delay)
+StopsStand = (k : KeptHub) (hub : Hub) (number rcode delay : ℕ) → StandsFor k hub → StandsFor (stop k number rcode delay) (stop hub number rcode delay)
 
 abbrev pub EndsStand : Type 0
-EndsStand = (k : KeptHub) (hub : Hub) (number : ℕ) → StandsFor k hub → StandsFor (kept.end_session k number) (hubs.end_session hub number)
+EndsStand = (k : KeptHub) (hub : Hub) (number : ℕ) → StandsFor k hub → StandsFor (end_session k number) (end_session hub number)
 
-pub record BothGive (k : kept.KeptGiving) (p : giving.Giving) : Type 0 where
+pub record BothGive (k : KeptGiving) (p : Giving) : Type 0 where
   pub octets : k.octets ≡ p.octets
   pub given : k.given ≡ p.given
   pub hub : StandsFor k.hub p.hub
 
 abbrev pub GivesStand : Type 0
-GivesStand = (k : KeptHub) (hub : Hub) (number room : ℕ) → StandsFor k hub → BothGive (kept.give k number room) (giving.give hub number room)
+GivesStand = (k : KeptHub) (hub : Hub) (number room : ℕ) → StandsFor k hub → BothGive (give k number room) (give hub number room)
 
 -- the records now, and the copies of a session's names, are such as nets are made of
 abbrev pub HubsTell : Type 0
 HubsTell = (k : KeptHub) (hub : Hub) → StandsFor k hub
-    → AreTold k.index × ((number : ℕ) (session : KeptSession) → kept.session_of k number ≡ Some session → CanBePacked k.index session.queue)
+    → AreTold (records_now k) × ((number : ℕ) (session : KeptSession) → session_of k number ≡ Some session → CanBePacked (records_now k) session.queue)
+
+-- as many entries of each group, and as many sessions ever made
+abbrev pub CountsStand : Type 0
+CountsStand = (k : KeptHub) (hub : Hub) → StandsFor k hub → (totals k.history ≡ totals hub.history) × (k.made ≡ hub.made)

@@ -1,17 +1,18 @@
 //! The server's core: one history, and the sessions that are told of it.
 
-ghost use Rattle.std.specs.Prelude.{◌≡◌, ◌++◌, None, Some, drop, false, length, true, IfOk, IsErrOf, OnErr, OnOk};
+ghost use Rattle.std.specs.Prelude.{◌≡◌, ◌≤◌, ◌+◌, ◌++◌, None, Some, drop, false, length, true, IfOk, IsErrOf, OnErr, OnOk};
 ghost use Rattle.history.specs.Keeping.{state_of};
 ghost use Rattle.history.specs.Plans.{IsStart};
-ghost use Rattle.pushserver.specs.Hubs.{Hub as Plain, connect, end_session, moment, new_hub, stop, take_octets, taken_by, update};
+ghost use Rattle.pushserver.specs.Counting.{MayAddChange, MayAddMoment, octets_of};
 ghost use Rattle.pushserver.specs.Giving.{give};
+ghost use Rattle.pushserver.specs.Hubs.{connect, empty_hub, end_session, max_sessions, moment, stop, take_octets, taken_by, update};
 ghost use Rattle.pushserver.specs.Laws.{MayWantMemory};
-ghost use Rattle.pushserver.specs.Rule.{StandsFor};
+ghost use Rattle.pushserver.specs.Rule.{StandsFor, kept};
+ghost use Rattle.pushserver.specs.Sessions.{Hub as Plain, new_hub};
 
 use crate::fault::{ConnectFault, HubFault};
 use crate::given::Given;
 use crate::keeping::Keeping;
-use crate::numbered;
 use dsosession::session::Timers;
 use history::Homes;
 use pushsession::NoMemory;
@@ -25,14 +26,14 @@ pub struct Hub {
 }
 
 impl Model for Hub {
-    ghost use Rattle.pushserver.specs.Parts.{IsHub, kept_of};
+    ghost use Rattle.pushserver.specs.KeptHubs.{IsHub, kept_of};
     ghost use Rattle.pushserver.specs.Rule.{KeptHub};
 
     ghost Value = { KeptHub };
 
     ghost view = { λ h. kept_of h.keeping };
 
-    ghost invariant = { λ h. IsHub (kept_of h.keeping) };
+    ghost invariant = { λ h. IsHub h.keeping };
 }
 
 impl Hub {
@@ -40,7 +41,8 @@ impl Hub {
     /// (RFC 8490, 7.1).
     pub fn new(homes: Homes, timers: Timers) -> Result<Hub, NoMemory>
         requires { IsStart (state_of homes) }
-        ensures { IfOk result (λ hub. StandsFor hub (new_hub (state_of homes) timers)) }
+        ensures stands { IfOk result (λ hub. StandsFor hub (new_hub (state_of homes) timers)) }
+        ensures kept { IfOk result (λ hub. hub ≡ empty_hub kept (state_of homes) timers) }
     {
         let keeping = Keeping::new(homes, timers)?;
         Ok(Hub { keeping })
@@ -52,16 +54,23 @@ impl Hub {
         ensures ok { IfOk result (λ code. (hub : Plain) → StandsFor self.old hub → (code ≡ (update hub message.now).0) × StandsFor self.new (update hub message.now).1) }
         ensures never { IsErrOf result HubFault.Full → ⊥ }
         ensures err { OnErr result ((hub : Plain) → StandsFor self.old hub → StandsFor self.new hub) }
+        ensures kept { IfOk result (λ code. (code ≡ (update self.old message.now).0) × (self.new ≡ (update self.old message.now).1)) }
+        ensures same { OnErr result (self.new ≡ self.old) }
     {
         Ok(self.keeping.update(message)?)
     }
 
     /// It is a moment: where it is a later one, it is entered, and sessions end by their timers (RFC 8490, 6.4 to 6.6).
-    /// `Full`: the journal has no room for it.
+    /// `Full`: the journal has no room for it, which is told before any memory is taken.
     pub fn moment(&mut self, at: u64) -> Result<(), HubFault>
         ensures ok { OnOk result ((hub : Plain) → StandsFor self.old hub → ((moment hub at).0 ≡ false) × StandsFor self.new (moment hub at).1) }
         ensures full { IsErrOf result HubFault.Full → (hub : Plain) → StandsFor self.old hub → ((moment hub at).0 ≡ true) × StandsFor self.new (moment hub at).1 }
         ensures err { OnErr result ((hub : Plain) → StandsFor self.old hub → StandsFor self.new hub) }
+        ensures kept { OnOk result (((moment self.old at).0 ≡ false) × (self.new ≡ (moment self.old at).1)) }
+        ensures same { OnErr result (self.new ≡ self.old) }
+        ensures room { IsErrOf result HubFault.NoMemory → (moment self.old at).0 ≡ false }
+        ensures no_room { IsErrOf result HubFault.Full → (moment self.old at).0 ≡ true }
+        ensures counts { MayAddMoment self.old self.new }
     {
         if self.keeping.moment(at)? {
             return Err(HubFault::Full);
@@ -70,24 +79,32 @@ impl Hub {
     }
 
     /// A new session. Gives its number; no two sessions have one number. `NoSeat`: there are 64 sessions, or all numbers
-    /// were given out.
+    /// were given out, which is told before any memory is taken.
     pub fn connect(&mut self) -> Result<u64, ConnectFault>
         ensures ok { IfOk result (λ number. (hub : Plain) → StandsFor self.old hub → ((connect hub).0 ≡ Some number) × StandsFor self.new (connect hub).1) }
         ensures no_seat { IsErrOf result ConnectFault.NoSeat → (hub : Plain) → StandsFor self.old hub → ((connect hub).0 ≡ None) × StandsFor self.new (connect hub).1 }
         ensures err { OnErr result ((hub : Plain) → StandsFor self.old hub → StandsFor self.new hub) }
+        ensures kept { IfOk result (λ number. ((connect self.old).0 ≡ Some number) × (self.new ≡ (connect self.old).1)) }
+        ensures same { OnErr result (self.new ≡ self.old) }
+        ensures seat { IsErrOf result ConnectFault.NoMemory → (connect self.old).0 ≡ Some self.old.made }
+        ensures seats { IsErrOf result ConnectFault.NoSeat → (connect self.old).0 ≡ None }
+        ensures counts { IfOk result (λ number. (number ≡ self.old.made) × (self.new.made ≡ self.old.made + 1) × (self.new.history ≡ self.old.history)) }
+        ensures many { IsErrOf result ConnectFault.NoSeat → max_sessions ≤ self.old.made }
     {
-        match self.keeping.connect()? {
-            Some(number) => Ok(number),
-            None => Err(ConnectFault::NoSeat),
-        }
+        let Some(number) = self.keeping.connect()? else {
+            return Err(ConnectFault::NoSeat);
+        };
+        Ok(number)
     }
 
     /// A session takes octets that its client sent, as far as there is room. Gives how many.
     pub fn take(&mut self, session: u64, piece: &[u8]) -> usize
         ensures count { (hub : Plain) → StandsFor self.old hub → result ≡ taken_by hub session piece.now }
         ensures hub { (hub : Plain) → StandsFor self.old hub → StandsFor self.new (take_octets hub session piece.now) }
+        ensures kept { self.new ≡ take_octets self.old session piece.now }
+        ensures bound { result ≤ length piece.now }
     {
-        numbered::take(&mut self.keeping.sessions, session, piece)
+        self.keeping.take(session, piece)
     }
 
     /// One piece of work for a session, in its order: octets of its output that wait, its stop, the reaction to one whole
@@ -98,21 +115,27 @@ impl Hub {
         ensures never { IsErrOf result HubFault.Full → ⊥ }
         ensures err { OnErr result ((hub : Plain) → StandsFor self.old hub → StandsFor self.new hub) }
         ensures memory { OnErr result ((hub : Plain) → StandsFor self.old hub → MayWantMemory hub session) }
+        ensures kept { OnOk result (self.new ≡ (give self.old session (length buf.old)).hub) }
+        ensures same { OnErr result (self.new ≡ self.old) }
+        ensures bound { IfOk result (λ given. octets_of given ≤ length buf.old) }
+        ensures counts { MayAddChange self.old self.new }
     {
         Ok(self.keeping.give(session, buf)?)
     }
 
     /// A session's connection is gone: the session goes with its number.
     pub fn end(&mut self, session: u64)
-        ensures { (hub : Plain) → StandsFor self.old hub → StandsFor self.new (end_session hub session) }
+        ensures hub { (hub : Plain) → StandsFor self.old hub → StandsFor self.new (end_session hub session) }
+        ensures kept { self.new ≡ end_session self.old session }
     {
         self.keeping.end(session);
     }
 
     /// Asks for the stop of a session with an RCODE and a Retry Delay in milliseconds (RFC 8490, 6.6.1).
     pub fn stop(&mut self, session: u64, rcode: u8, delay: u32)
-        ensures { (hub : Plain) → StandsFor self.old hub → StandsFor self.new (stop hub session rcode delay) }
+        ensures hub { (hub : Plain) → StandsFor self.old hub → StandsFor self.new (stop hub session rcode delay) }
+        ensures kept { self.new ≡ stop self.old session rcode delay }
     {
-        numbered::stop(&mut self.keeping.sessions, session, rcode, delay);
+        self.keeping.stop(session, rcode, delay);
     }
 }

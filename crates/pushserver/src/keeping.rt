@@ -1,52 +1,44 @@
 //! What the hub keeps, and what its calls do to that.
 
-ghost use Rattle.std.specs.Prelude.{◌≡◌, ◌==◌, not, filter, IfOk, IsTrue, OnErr, ok_or};
+ghost use Rattle.std.specs.Prelude.{◌≡◌, ◌≤◌, List, ℕ, Some, false, length, IfOk, IsTrue, OnErr, ok_or};
 ghost use Rattle.std.specs.List.{AllByRecursion};
 ghost use Rattle.dnsname.specs.Names.{is_name};
 ghost use Rattle.rrset.specs.Rcodes.{formerr};
-ghost use Rattle.history.specs.Keeping.{IsHeld, state_of};
+ghost use Rattle.history.specs.Keeping.{state_of};
 ghost use Rattle.history.specs.Plans.{IsStart};
 ghost use Rattle.history.specs.Standing.{AreAtHome};
-ghost use Rattle.pushserver.specs.KeptHubs.{can_enter, connect, end_session, moment, update};
-ghost use Rattle.pushserver.specs.Parts.{IsSound, entered_where, entry_changes, judged, kept_of, new_kept};
+ghost use Rattle.history.specs.States.{update_in};
+ghost use Rattle.pushserver.specs.Hubs.{connect, empty_hub, end_session, moment, records_now, stop, take_octets, taken_by, update};
+ghost use Rattle.pushserver.specs.Rule.{kept};
+ghost use Rattle.pushserver.specs.KeptHubs.{IsSound, kept_of};
 
-use crate::entering::{enter, has_room};
-use crate::numbered::time;
 use crate::reading::read_message;
+use crate::sessions::{MAX_SESSIONS, Sessions};
 use dnswire::Update;
 use dsosession::session::Timers;
 use history::entry::Entry;
-use history::{ChangedKeys, Homes, Planned, Points};
+use history::{Homes, Planned, Points};
 use pushsession::{NoMemory, PushSession};
 use rrset::Table;
 use rrset::rcodes::{FORMERR, NOERROR, SERVFAIL};
 use std::alloc::Global;
 
-/// The most sessions at a time.
-const MAX_SESSIONS: usize = 64;
-
-/// The history, what is granted, all records in one table, the sessions with their numbers, and the next number.
+/// The history, what is granted, all records in one table, the sessions, and the number of the next one.
 #[derive(Debug, Drop)]
 pub(crate) struct Keeping {
     pub(crate) points: Points,
     pub(crate) timers: Timers,
     pub(crate) index: Table,
-    pub(crate) sessions: Vec<(u64, PushSession)>,
+    pub(crate) sessions: Sessions,
     pub(crate) made: u64,
-}
-
-/// The sessions without that of a number.
-fn without(sessions: &mut Vec<(u64, PushSession)>, number: u64)
-    ensures { sessions.new.items ≡ filter (λ e. not (e.0 == number)) sessions.old.items }
-{
-    sessions.retain(|entry| entry.0 != number);
 }
 
 impl Keeping {
     /// What is kept of homes in which nothing has changed yet.
     pub(crate) fn new(homes: Homes, timers: Timers) -> Result<Keeping, NoMemory>
         requires { IsStart (state_of homes) }
-        ensures kept { IfOk result (λ keeping. kept_of keeping ≡ new_kept (state_of homes) timers) }
+        ensures kept { IfOk result (λ keeping. kept_of keeping ≡ empty_hub kept (state_of homes) timers) }
+        ensures index { IfOk result (λ keeping. keeping.index.rows ≡ records_now (kept_of keeping)) }
         ensures home { AreAtHome (state_of homes) }
         ensures names { AllByRecursion (λ z. IsTrue (is_name z.state.apex)) homes }
     {
@@ -58,46 +50,24 @@ impl Keeping {
             points,
             timers,
             index,
-            sessions: Vec::new(alloc),
+            sessions: Sessions::new(alloc),
             made: 0,
         })
     }
 
     /// The allocator of all that is kept.
     pub(crate) fn allocator(&self) -> Global {
-        *self.sessions.allocator()
+        self.sessions.allocator()
     }
 
-    /// Enters the entry whose plan is held, with the keys that it changes, where the journal has room. Gives whether it
-    /// has.
-    fn enter_where_room(&mut self, entry: Entry, changed: ChangedKeys) -> Result<bool, NoMemory>
-        requires sound { IsSound (kept_of self.old) }
-        requires held { IsHeld self.old.points entry }
-        requires changes { changed ≡ entry_changes entry self.old.points.past }
-        ensures room { IfOk result (λ room. room ≡ can_enter (kept_of self.old) entry) }
-        ensures hub { IfOk result (λ room. kept_of self.new ≡ entered_where room entry (kept_of self.old)) }
-        ensures err { OnErr result (kept_of self.new ≡ kept_of self.old) }
-    {
-        if !has_room(&self.points, &entry) {
-            return Ok(false);
-        }
-        enter(
-            &mut self.points,
-            &mut self.index,
-            &mut self.sessions,
-            entry,
-            changed,
-        )?;
-        Ok(true)
-    }
-
-    /// Judges an update, and enters it where it is accepted and the journal has room. Gives its RCODE: FORMERR for what
-    /// is no update, SERVFAIL where the journal has no room (RFC 2136, 2.2).
+    /// Judges the update that a message is, if it is one, and enters it where it is accepted and the journal has room.
+    /// Gives its RCODE: FORMERR for what is no update, SERVFAIL where the journal has no room (RFC 2136, 2.2).
     pub(crate) fn judge(&mut self, found: Option<Update>) -> Result<u8, NoMemory>
-        requires { IsSound (kept_of self.old) }
-        ensures code { IfOk result (λ code. code ≡ (judged (ok_or found formerr) (kept_of self.old)).0) }
-        ensures hub { IfOk result (λ code. kept_of self.new ≡ (judged (ok_or found formerr) (kept_of self.old)).1) }
+        requires { IsSound self.old }
+        ensures code { IfOk result (λ code. (message : List ℕ) → update_in message ≡ ok_or found formerr → code ≡ (update (kept_of self.old) message).0) }
+        ensures hub { IfOk result (λ code. (message : List ℕ) → update_in message ≡ ok_or found formerr → kept_of self.new ≡ (update (kept_of self.old) message).1) }
         ensures err { OnErr result (kept_of self.new ≡ kept_of self.old) }
+        ensures index { self.new.index.rows ≡ records_now (kept_of self.new) }
     {
         let Some(update) = found else {
             return Ok(FORMERR);
@@ -108,69 +78,106 @@ impl Keeping {
             Planned::Refuse(code) => Ok(code),
             Planned::Idle => unreachable!(),
             Planned::Accept(changed) => {
-                if self.enter_where_room(entry, changed)? {
-                    Ok(NOERROR)
-                } else {
-                    Ok(SERVFAIL)
+                if !self.can_enter(&entry) {
+                    return Ok(SERVFAIL);
                 }
+                self.enter(entry, changed)?;
+                Ok(NOERROR)
             }
         }
     }
 
     /// Judges an update message.
     pub(crate) fn update(&mut self, message: &[u8]) -> Result<u8, NoMemory>
-        requires { IsSound (kept_of self.old) }
+        requires { IsSound self.old }
         ensures code { IfOk result (λ code. code ≡ (update (kept_of self.old) message.now).0) }
         ensures hub { IfOk result (λ code. kept_of self.new ≡ (update (kept_of self.old) message.now).1) }
         ensures err { OnErr result (kept_of self.new ≡ kept_of self.old) }
+        ensures index { self.new.index.rows ≡ records_now (kept_of self.new) }
     {
         let alloc = self.allocator();
         let found = read_message(alloc, message)?;
         self.judge(found)
     }
 
-    /// It is a moment. Gives whether the journal was full.
+    /// It is a moment, in milliseconds. Gives whether the journal was full, which is told before any memory is taken.
     pub(crate) fn moment(&mut self, at: u64) -> Result<bool, NoMemory>
-        requires { IsSound (kept_of self.old) }
+        requires { IsSound self.old }
         ensures full { IfOk result (λ full. full ≡ (moment (kept_of self.old) at).0) }
         ensures hub { IfOk result (λ full. kept_of self.new ≡ (moment (kept_of self.old) at).1) }
         ensures err { OnErr result (kept_of self.new ≡ kept_of self.old) }
+        ensures room { OnErr result ((moment (kept_of self.old) at).0 ≡ false) }
+        ensures index { self.new.index.rows ≡ records_now (kept_of self.new) }
     {
+        if at <= self.points.now() {
+            return Ok(false);
+        }
         let entry = Entry::Moment(at);
+        if !self.can_enter(&entry) {
+            return Ok(true);
+        }
         let alloc = self.allocator();
         match self.points.plan(alloc, &entry)? {
             Planned::Refuse(_) => unreachable!(),
-            Planned::Idle => Ok(false),
+            Planned::Idle => unreachable!(),
             Planned::Accept(changed) => {
-                if !self.enter_where_room(entry, changed)? {
-                    return Ok(true);
-                }
-                time(&mut self.sessions, at);
+                self.enter(entry, changed)?;
+                self.sessions.moment(at);
                 Ok(false)
             }
         }
     }
 
-    /// A new session. Gives its number, or nothing where no seat is free.
+    /// A new session. Gives its number, or nothing where no seat is free, which is told before any memory is taken.
     pub(crate) fn connect(&mut self) -> Result<Option<u64>, NoMemory>
+        requires { IsSound self.old }
         ensures number { IfOk result (λ number. number ≡ (connect (kept_of self.old)).0) }
         ensures hub { IfOk result (λ number. kept_of self.new ≡ (connect (kept_of self.old)).1) }
         ensures err { OnErr result (kept_of self.new ≡ kept_of self.old) }
+        ensures seat { OnErr result ((connect (kept_of self.old)).0 ≡ Some self.old.made) }
+        ensures index { self.new.index.rows ≡ records_now (kept_of self.new) }
     {
         if self.sessions.len() >= MAX_SESSIONS || self.made == u64::MAX {
             return Ok(None);
         }
         let number = self.made;
         let session = PushSession::new(self.allocator(), self.points.now())?;
-        self.sessions.push((number, session))?;
+        self.sessions.push(number, session)?;
         self.made = number + 1;
         Ok(Some(number))
     }
 
     /// The session of a number goes.
     pub(crate) fn end(&mut self, number: u64)
-        ensures { kept_of self.new ≡ end_session (kept_of self.old) number }
+        requires { IsSound self.old }
+        ensures hub { kept_of self.new ≡ end_session (kept_of self.old) number }
+        ensures index { self.new.index.rows ≡ records_now (kept_of self.new) }
     {
-        without(&mut self.sessions, number);
+        self.sessions.remove(number);
+    }
+
+    /// Octets go into a session's input as far as there is room. Gives how many.
+    pub(crate) fn take(&mut self, number: u64, piece: &[u8]) -> usize
+        requires { IsSound self.old }
+        ensures count { result ≡ taken_by (kept_of self.old) number piece.now }
+        ensures hub { kept_of self.new ≡ take_octets (kept_of self.old) number piece.now }
+        ensures bound { result ≤ length piece.now }
+        ensures index { self.new.index.rows ≡ records_now (kept_of self.new) }
+    {
+        match self.sessions.get_mut(number) {
+            Some(session) => session.take(piece),
+            None => 0,
+        }
+    }
+
+    /// A stop of a session is asked for, with an RCODE and a Retry Delay in milliseconds (RFC 8490, 6.6.1).
+    pub(crate) fn stop(&mut self, number: u64, rcode: u8, delay: u32)
+        requires { IsSound self.old }
+        ensures hub { kept_of self.new ≡ stop (kept_of self.old) number rcode delay }
+        ensures index { self.new.index.rows ≡ records_now (kept_of self.new) }
+    {
+        if let Some(session) = self.sessions.get_mut(number) {
+            session.stop(rcode, delay);
+        }
     }
 }

@@ -1,6 +1,6 @@
 //! Laws that the hub's contracts stand on.
 
-ghost use Rattle.pushserver.specs.Simulation.{UpdatesStand, MomentsStand, ConnectsStand, TakesStand, StopsStand, EndsStand, GivesStand, HubsTell};
+ghost use Rattle.pushserver.specs.Simulation.{UpdatesStand, MomentsStand, ConnectsStand, TakesStand, StopsStand, EndsStand, GivesStand, HubsTell, CountsStand};
 ghost use Rattle.pushserver.specs.Laws.{NothingWhereAllIsTold, NothingMeansAllIsShown, GiveChangesOneSession, OtherCallsKeepOutputs, SubscribeIsAnswered};
 
 /// What each call does to the hub as it is kept is what it does to the plain hub that it stands for, and what is told of
@@ -24,4 +24,9 @@ pub fn calls_keep_promises()
     ensures one { GiveChangesOneSession }
     ensures outputs { OtherCallsKeepOutputs }
     ensures answered { SubscribeIsAnswered }
+{}
+
+/// A hub as it is kept counts as the plain one does.
+pub fn kept_hubs_count()
+    ensures counts { CountsStand }
 {}

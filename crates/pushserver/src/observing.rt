@@ -2,49 +2,54 @@
 
 ghost use Rattle.std.specs.Prelude.{◌≡◌, is_some};
 ghost use Rattle.history.specs.Totals.{totals};
-ghost use Rattle.pushserver.specs.Hubs.{Hub as Plain, newest, now, session_of};
+ghost use Rattle.pushserver.specs.Hubs.{newest, now, session_of};
+ghost use Rattle.pushserver.specs.Sessions.{Hub as Plain};
 ghost use Rattle.pushserver.specs.Observing.{filled_in, told_in};
 ghost use Rattle.pushserver.specs.Rule.{StandsFor};
 
 use crate::hub::Hub;
-use crate::numbered::session_of;
 use dnsname::Name;
 use history::entry::Totals;
 
 impl Hub {
     /// The newest point: how many entries there are.
     pub fn point(&self) -> u64
-        ensures { (hub : Plain) → StandsFor self.now hub → result ≡ newest hub }
+        ensures hub { (hub : Plain) → StandsFor self.now hub → result ≡ newest hub }
+        ensures kept { result ≡ newest self.now }
     {
         self.keeping.points.point()
     }
 
     /// The moment, in milliseconds.
     pub fn now(&self) -> u64
-        ensures { (hub : Plain) → StandsFor self.now hub → result ≡ now hub }
+        ensures hub { (hub : Plain) → StandsFor self.now hub → result ≡ now hub }
+        ensures kept { result ≡ now self.now }
     {
         self.keeping.points.now()
     }
 
     /// How many entries of each group there are.
     pub fn counts(&self) -> Totals
-        ensures { (hub : Plain) → StandsFor self.now hub → result ≡ totals hub.history }
+        ensures hub { (hub : Plain) → StandsFor self.now hub → result ≡ totals hub.history }
+        ensures kept { result ≡ totals self.now.history }
     {
         self.keeping.points.counts()
     }
 
     /// How many sessions were ever connected.
     pub fn made(&self) -> u64
-        ensures { (hub : Plain) → StandsFor self.now hub → result ≡ hub.made }
+        ensures hub { (hub : Plain) → StandsFor self.now hub → result ≡ hub.made }
+        ensures kept { result ≡ self.now.made }
     {
         self.keeping.made
     }
 
     /// Whether there is a session of a number.
     pub fn live(&self, session: u64) -> bool
-        ensures { (hub : Plain) → StandsFor self.now hub → result ≡ is_some (session_of hub session) }
+        ensures hub { (hub : Plain) → StandsFor self.now hub → result ≡ is_some (session_of hub session) }
+        ensures kept { result ≡ is_some (session_of self.now session) }
     {
-        session_of(&self.keeping.sessions, session).is_some()
+        self.keeping.sessions.get(session).is_some()
     }
 
     /// The octets of a session's whole output up to the end of the first answer of an ID (RFC 8765, 6.2.2), or the
@@ -52,7 +57,7 @@ impl Hub {
     pub fn filled(&self, session: u64, id: u16) -> Option<u64>
         ensures { (hub : Plain) → StandsFor self.now hub → result ≡ filled_in hub session id }
     {
-        match session_of(&self.keeping.sessions, session) {
+        match self.keeping.sessions.get(session) {
             Some(session) => session.filled(id),
             None => None,
         }
@@ -64,7 +69,7 @@ impl Hub {
         ensures { (hub : Plain) → StandsFor self.now hub → result ≡ told_in hub session name.now }
     {
         let newest = self.keeping.points.point();
-        match session_of(&self.keeping.sessions, session) {
+        match self.keeping.sessions.get(session) {
             Some(session) => session.since(name).unwrap_or(newest),
             None => newest,
         }

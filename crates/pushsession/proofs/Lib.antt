@@ -1,3 +1,4 @@
+pub mod Accepting
 pub mod Ends
 pub mod Numbers
 pub mod SessionLaws

@@ -17,8 +17,10 @@ use Rattle.dsosession.specs.declared.session.Timers.{Timers}
 use Rattle.dsosession.specs.declared.session.EndReason.TheVariants as ends
 use Rattle.dsosession.specs.declared.session.Reaction.{Reaction}
 use Rattle.dsosession.specs.declared.session.Reaction.TheVariants.{Answer, Grant, Abort, Subscribe, Unsubscribe, Reconfirm, Update, NotImplemented}
-use Rattle.pushsession.specs.Kept.{KeptSession}
-use Rattle.pushsession.specs.Reacting.{by_itself, message_of, reacted, reacted_to, taken_up}
+use Rattle.pushsession.specs.Sessions.{ended_with}
+use Rattle.pushsession.specs.Reactions.{by_itself}
+use Rattle.pushsession.specs.Kept.{KeptSession, keeping}
+use Rattle.pushsession.specs.Requests.{message_of, reacted, taken_up}
 use Rattle.pushsession.specs.declared.taking.Taken.{Taken}
 
 abbrev is_unsubscribe : Reaction → Bool
@@ -151,15 +153,15 @@ number_in message established taken is reaction = by (head_of message) refl is
     by (Some head) at e = let same : taken ≡ taken_as established head = cc in number_stands message head established at (sym (ap (λ (t : Taken). t.reaction) same) ∙ reaction)
 
 pub number_of_taken : (message : List ℕ) (session : KeptSession) (result : Option Taken) (taken : Taken) → message ≡ message_of session
-    → result ≡ option_map (taken_as session.state.established) (head_of (message_of session)) → result ≡ Some taken → taken.reaction ≡ Unsubscribe → HasNumber message
-number_of_taken message session result taken at made is reaction = subst HasNumber (sym at) (number_in (message_of session) session.state.established taken (sym is ∙ made) reaction)
+    → result ≡ option_map (taken_as session.established) (head_of (message_of session)) → result ≡ Some taken → taken.reaction ≡ Unsubscribe → HasNumber message
+number_of_taken message session result taken at made is reaction = subst HasNumber (sym at) (number_in (message_of session) session.established taken (sym is ∙ made) reaction)
 
-pub reacts_as : (timers : Timers) (now : ℕ) (session : KeptSession) (taken : Taken) → Some taken ≡ option_map (taken_as session.state.established) (head_of (message_of session))
-    → reacted timers now session ≡ by_itself taken.reaction timers now (message_of session) (taken_up now session)
+pub reacts_as : (timers : Timers) (now : ℕ) (session : KeptSession) (taken : Taken) → Some taken ≡ option_map (taken_as session.established) (head_of (message_of session))
+    → reacted timers now session ≡ by_itself keeping taken.reaction timers now (message_of session) (taken_up now session)
 reacts_as timers now session taken is = by (head_of (message_of session)) is
   where
-    by : (head : Option DsoHead) → Some taken ≡ option_map (taken_as session.state.established) head → reacted_to head timers now session ≡ by_itself taken.reaction timers now (message_of session) (taken_up now session)
+    by : (head : Option DsoHead) → Some taken ≡ option_map (taken_as session.established) head → elim head [ None ↦ ended_with keeping ends.Short (taken_up now session) | Some head ↦ by_itself keeping (server_reaction head session.established) timers now (message_of session) (taken_up now session) ] ≡ by_itself keeping taken.reaction timers now (message_of session) (taken_up now session)
     by None e = absurd cc
     by (Some head) e =
-        let same : taken ≡ taken_as session.state.established head = cc in
-        ap (λ (r : Reaction). by_itself r timers now (message_of session) (taken_up now session)) (sym (ap (λ (t : Taken). t.reaction) same))
+        let same : taken ≡ taken_as session.established head = cc in
+        ap (λ (r : Reaction). by_itself keeping r timers now (message_of session) (taken_up now session)) (sym (ap (λ (t : Taken). t.reaction) same))

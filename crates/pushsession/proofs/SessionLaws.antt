@@ -9,7 +9,8 @@ use Rattle.push_base.specs.Limits.{max_input}
 use Rattle.dnsname.specs.Names.{Labels}
 use Rattle.rrset.specs.RecordSet.{RecordSet}
 use Rattle.coalesce.specs.Waiting.{WaitingName, with_copy, waits, before_point}
-use Rattle.pushsession.specs.Kept.{Filled, filled_of, is_open, noted_name, touched}
+use Rattle.pushsession.specs.Sessions.{SessionOf, is_open, takes, touched}
+use Rattle.pushsession.specs.Kept.{Filled, filled_of, keeping}
 use Rattle.pushsession.specs.Laws.{NotesGoBack, PiecesAreOne, EachQuestionHasItsEnd}
 
 -- ---- names that were noted
@@ -27,9 +28,9 @@ copy_goes name sent point queue = by (waits name queue)
         ∙ ap (λ (b : Bool). before_point point queue ++ cond b (new ∷ []) []) (le-ltb point point (omega arith))
         ∙ append-nil (before_point point queue)
 
-names_go : (rows : RecordSet) (point : ℕ) (names : List Labels) (queue : List WaitingName) → before_point point (fold (noted_name rows point) queue names) ≡ before_point point queue
+names_go : (rows : RecordSet) (point : ℕ) (names : List Labels) (queue : List WaitingName) → before_point point (fold (keeping.with_name point rows) queue names) ≡ before_point point queue
 names_go rows point [] queue = refl
-names_go rows point (name ∷ names) queue = names_go rows point names (noted_name rows point queue name) ∙ copy_goes name _ point queue
+names_go rows point (name ∷ names) queue = names_go rows point names (keeping.with_name point rows queue name) ∙ copy_goes name _ point queue
 
 older_stay : (point : ℕ) (queue : List WaitingName) → AllByRecursion (λ w. w.point < point) queue → before_point point queue ≡ queue
 older_stay point [] older = refl
@@ -38,7 +39,7 @@ older_stay point (w ∷ ws) older =
 
 pub notes_go_back : NotesGoBack
 notes_go_back changed rows point session older =
-    ap (λ (q : List WaitingName). record session { queue = q }) (names_go rows point (touched session.asked changed) session.queue ∙ older_stay point session.queue older)
+    ap (λ (q : List WaitingName). record session { queue = q }) (names_go rows point (touched keeping session.subscriptions changed) session.queue ∙ older_stay point session.queue older)
 
 -- ---- pieces
 
@@ -64,8 +65,12 @@ pieces_in : (open' : Bool) (input first second : List ℕ)
 pieces_in true input first second = pieces_fit max_input input first second
 pieces_in false input first second = append-nil (input ++ [])
 
+-- whatever a session keeps
+pub pieces_join : {A Q M : Type 0} (first second : List ℕ) (session : SessionOf A Q M) → takes second (takes first session) ≡ takes (first ++ second) session
+pieces_join first second session = ap (λ (i : List ℕ). record session { input = i }) (pieces_in (is_open session.standing) session.input first second)
+
 pub pieces_are_one : PiecesAreOne
-pieces_are_one first second session = ap (λ (i : List ℕ). record session { input = i }) (pieces_in (is_open session.standing) session.input first second)
+pieces_are_one = pieces_join
 
 -- ---- ends
 

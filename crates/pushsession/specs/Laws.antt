@@ -7,12 +7,13 @@ use Rattle.std.specs.List.{AllByRecursion}
 use Rattle.rrset.specs.RecordSet.{RecordSet}
 use Rattle.rrset.specs.declared.record.Changed.{Changed}
 use Rattle.subscr.specs.Asked.{Asked, has}
-use Rattle.pushsession.specs.Kept.{KeptSession, Filled, HasEnds, filled_of, noted, taken_back, takes}
+use Rattle.pushsession.specs.Sessions.{noted, takes}
+use Rattle.pushsession.specs.Kept.{KeptSession, Filled, HasEnds, filled_of, keeping, taken_back}
 
 -- the names that are noted at a point go when it is taken back, where all others wait since before it
 abbrev pub NotesGoBack : Type 0
 NotesGoBack = (changed : List Changed) (rows : RecordSet) (point : ℕ) (session : KeptSession) → AllByRecursion (λ w. w.point < point) session.queue
-    → taken_back point (noted changed rows point session) ≡ session
+    → taken_back point (noted keeping changed rows point session) ≡ session
 
 -- two pieces are taken as one (RFC 7766, 8)
 abbrev pub PiecesAreOne : Type 0

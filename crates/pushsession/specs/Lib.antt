@@ -1,5 +1,7 @@
+pub mod Sessions
+pub mod Subscribing
+pub mod Reactions
 pub mod Kept
+pub mod Requests
 pub mod Laws
-pub mod Reacting
-pub mod Saying
 pub mod Worked

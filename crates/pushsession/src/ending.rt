@@ -2,16 +2,15 @@
 
 ghost use Rattle.std.specs.Prelude.{◌≡◌, [], Some, None};
 ghost use Rattle.dsosession.specs.Timing.{has_passed};
-ghost use Rattle.pushsession.specs.Kept.{asked_to_stop, cleared, due, ended_with, timed};
+ghost use Rattle.pushsession.specs.Sessions.{asked_to_stop, cleared, due, ended_with, timed};
+ghost use Rattle.pushsession.specs.Kept.{keeping};
 
 use crate::session::PushSession;
 use crate::standing::Standing;
 use coalesce::Queue;
 use dsosession::session::EndReason;
+use dsosession::times::STOP_TIME;
 use subscr::Subscriptions;
-
-/// How long a client has after a Retry Delay to close the connection, in milliseconds (RFC 8490, 6.6.1).
-const STOP_TIME: u64 = 5_000;
 
 /// Whether so long has passed since a moment.
 fn has_passed(span: u64, since: u64, now: u64) -> bool
@@ -23,7 +22,7 @@ fn has_passed(span: u64, since: u64, now: u64) -> bool
 impl PushSession {
     /// Lets go of all questions and of all names that wait.
     pub(crate) fn clear(&mut self, standing: Standing)
-        ensures { self.new ≡ cleared standing self.old }
+        ensures { self.new ≡ cleared keeping standing self.old }
     {
         let alloc = *self.filled.allocator();
         self.subscriptions = Subscriptions::new(alloc);
@@ -44,14 +43,14 @@ impl PushSession {
 
     /// Ends it: it asks for nothing more, and no name waits. Octets that were written stay until they are handed on.
     pub fn end(&mut self, reason: EndReason)
-        ensures { self.new ≡ ended_with reason self.old }
+        ensures { self.new ≡ ended_with keeping reason self.old }
     {
         self.clear(Standing::Ended(reason));
     }
 
     /// Why it ends at a moment, if it does.
     fn due(&self, now: u64) -> Option<EndReason>
-        ensures { result ≡ due now self.now }
+        ensures { result ≡ due keeping now self.now }
     {
         match self.standing {
             Standing::Ended(_) => None,
@@ -71,7 +70,7 @@ impl PushSession {
     /// It is a moment: a stopped session ends after 5,000 milliseconds (RFC 8490, 6.6.1), and one that goes on by its
     /// timers (RFC 8490, 6.4 and 6.5).
     pub fn moment(&mut self, now: u64)
-        ensures { self.new ≡ timed now self.old }
+        ensures { self.new ≡ timed keeping now self.old }
     {
         if let Some(reason) = self.due(now) {
             self.end(reason);

@@ -1,8 +1,9 @@
 //! What an entry makes wait (RFC 8765, 6.3).
 
-ghost use Rattle.std.specs.Prelude.{◌≡◌, fold, OnOk, OnErr};
+ghost use Rattle.std.specs.Prelude.{◌≡◌, [], fold, OnOk, OnErr};
 ghost use Rattle.coalesce.specs.Waiting.{before_point};
-ghost use Rattle.pushsession.specs.Kept.{noted, noted_name, taken_back, touched};
+ghost use Rattle.pushsession.specs.Sessions.{noted, touched};
+ghost use Rattle.pushsession.specs.Kept.{keeping, taken_back};
 
 use crate::NoMemory;
 use crate::session::PushSession;
@@ -18,7 +19,7 @@ fn note_names(
     index: &Table,
     point: u64,
 ) -> Result<(), NoMemory>
-    ensures ok { OnOk result (queue.new ≡ fold (noted_name index.now.rows point) queue.old (touched questions.now changed.now)) }
+    ensures ok { OnOk result (queue.new ≡ fold (keeping.with_name point index.now.rows) queue.old (touched keeping (record { asked = questions.now; filled = [] }) changed.now)) }
     ensures err { OnErr result (before_point point queue.new ≡ before_point point queue.old) }
 {
     'keys: for change in changed {
@@ -36,7 +37,7 @@ impl PushSession {
     /// runs out, some may wait; `take_back` of the point undoes that, where all others wait since
     /// an earlier one.
     pub fn note(&mut self, changed: &[Changed], index: &Table, point: u64) -> Result<(), NoMemory>
-        ensures ok { OnOk result (self.new ≡ noted changed.now index.now.rows point self.old) }
+        ensures ok { OnOk result (self.new ≡ noted keeping changed.now index.now.rows point self.old) }
         ensures err { OnErr result (taken_back point self.new ≡ taken_back point self.old) }
     {
         note_names(&mut self.queue, &self.subscriptions, changed, index, point)

@@ -1,30 +1,22 @@
 //! How a session reacts to its first whole message (RFC 8490, 5; RFC 8765, 6.4 and 6.5).
 
-ghost use Rattle.std.specs.Prelude.{◌≡◌, ◌≤◌, [], length, IfOk, Some};
+ghost use Rattle.std.specs.Prelude.{◌≡◌, ◌≤◌, [], length, Some, is_some};
 ghost use Rattle.std.specs.Int.{w16, from_be_bytes};
 ghost use Rattle.dsotlv.specs.Messages.{primary_data};
-ghost use Rattle.dsotlv.specs.Notices.{reconfirm_of};
-ghost use Rattle.pushsession.specs.Kept.{without_filled};
-ghost use Rattle.pushsession.specs.Reacting.{granted, message_of, need_of, reacted, reconfirmed, unsubscribed, updated};
-ghost use Rattle.pushsession.specs.declared.need.Need.TheVariants as needs;
+ghost use Rattle.pushsession.specs.Kept.{keeping, without_filled};
+ghost use Rattle.pushsession.specs.Reactions.{granted, unsubscribed};
+ghost use Rattle.pushsession.specs.Requests.{reacted, reconfirmed, request_of, updated};
+ghost use Rattle.pushsession.specs.declared.request.Request.TheVariants as requests;
 
-use crate::NoMemory;
 use crate::octets::{answer, header, keepalive};
 use crate::session::PushSession;
 use crate::taking::Taken;
 use dsosession::session::{EndReason, Reaction, Timers};
 use dsotlv::kinds::RECONFIRM;
-use dsotlv::{primary_data, read_reconfirm};
+use dsotlv::primary_data;
 use rrset::Rr;
-use rrset::header::{HEADER, RESPONSE};
+use rrset::header::{HEADER, KEPT_FLAGS, RESPONSE, UPDATE_ANSWER};
 use rrset::rcodes::{NOERROR, NOTIMP};
-use std::alloc::Global;
-
-/// Flags with OPCODE 5, of an answer (RFC 2136, 2.2).
-const UPDATE_ANSWER: u16 = 0xa800;
-
-/// The flags that stay in an answer: OPCODE and RD (RFC 1035, 4.1.1).
-const KEPT_FLAGS: u16 = 0x7900;
 
 /// The number in the first TLV of a message, where it has the two octets of one (RFC 8765, 6.4.1).
 fn first_number(message: &[u8]) -> Option<u16>
@@ -58,17 +50,17 @@ impl PushSession {
 
     /// Takes out an ID with its question (RFC 8765, 6.4). An unknown ID is ignored.
     fn unsubscribe(&mut self, id: u16)
-        ensures { self.new ≡ unsubscribed id self.old }
+        ensures { self.new ≡ unsubscribed keeping id self.old }
     {
         let _ = self.subscriptions.remove(id);
         take_out(&mut self.filled, id);
     }
 
-    /// Reacts to a message that needs nothing: the server's timers are given where it asks for them. One without a
+    /// Reacts to a message for which it needs nothing: the server's timers are given where it asks for them. One without a
     /// whole header ends the session.
     pub fn react(&mut self, timers: Timers, now: u64)
         requires output { self.old.output ≡ [] }
-        requires need { need_of self.old ≡ Some needs.Nothing }
+        requires request { request_of self.old ≡ Some requests.Itself }
         ensures { self.new ≡ reacted timers now self.old }
     {
         let number = first_number(self.message());
@@ -102,7 +94,7 @@ impl PushSession {
     /// Answers an update that got this RCODE (RFC 2136, 3.8).
     pub fn answer_update(&mut self, rcode: u8, now: u64)
         requires output { self.old.output ≡ [] }
-        requires need { need_of self.old ≡ Some needs.Update }
+        requires request { request_of self.old ≡ Some requests.Update }
         ensures { self.new ≡ updated rcode now self.old }
     {
         let id = self.id();
@@ -111,21 +103,13 @@ impl PushSession {
         self.say(false, now, &header, &[]);
     }
 
-    /// The record of a RECONFIRM, or nothing where its data is none (RFC 8765, 6.5.1).
-    pub fn record(&self, alloc: Global) -> Result<Option<Rr>, NoMemory>
-        requires { need_of self.now ≡ Some needs.Record }
-        ensures { IfOk result (λ rr. rr ≡ reconfirm_of (primary_data (message_of self.now))) }
-    {
-        read_reconfirm(alloc, primary_data(self.message()))
-    }
-
     /// Takes up a RECONFIRM whose data is a record, or ends where it is none (RFC 8765, 6.5).
-    pub fn reconfirm(&mut self, good: bool, now: u64)
-        requires { need_of self.old ≡ Some needs.Record }
-        ensures { self.new ≡ reconfirmed good now self.old }
+    pub fn reconfirm(&mut self, rr: Option<Rr>, now: u64)
+        requires { request_of self.old ≡ Some (requests.Reconfirm rr) }
+        ensures { self.new ≡ reconfirmed (is_some rr) now self.old }
     {
         let _ = self.take_up(now);
-        if !good {
+        if rr.is_none() {
             self.end(EndReason::BadData(RECONFIRM));
         }
     }

@@ -3,7 +3,9 @@
 ghost use Rattle.std.specs.Prelude.{◌≡◌, ◌+◌, ◌<◌, ◌≤◌, ◌^◌, ◌++◌, [], length};
 ghost use Rattle.coalesce.specs.Sides.{frame_octets};
 ghost use Rattle.coalesce.specs.Waiting.{CanBePacked};
-ghost use Rattle.pushsession.specs.Saying.{packed, says, stopped};
+ghost use Rattle.pushsession.specs.Sessions.{answers, stopped};
+ghost use Rattle.pushsession.specs.Subscribing.{packs};
+ghost use Rattle.pushsession.specs.Kept.{keeping, telling};
 
 use crate::octets::{append_message, header, retry_delay};
 use crate::session::PushSession;
@@ -17,7 +19,7 @@ impl PushSession {
     pub(crate) fn say(&mut self, keepalive: bool, now: u64, header: &[u8], body: &[u8])
         requires size { length header.now + length body.now < 2 ^ 16 }
         requires room { length self.old.output + 2 + length header.now + length body.now ≤ frame_octets }
-        ensures { self.new ≡ says keepalive now (header.now ++ body.now) self.old }
+        ensures { self.new ≡ answers keeping keepalive now (header.now ++ body.now) self.old }
     {
         append_message(&mut self.output, header, body);
         let size = LENGTH + header.len() + body.len();
@@ -29,7 +31,7 @@ impl PushSession {
     /// 6.6.1).
     pub fn write_stop(&mut self, rcode: u8, delay: u32, now: u64)
         requires { self.old.output ≡ [] }
-        ensures { self.new ≡ stopped rcode delay now self.old }
+        ensures { self.new ≡ stopped keeping rcode delay now self.old }
     {
         let header = header(0, REQUEST + u16::from(rcode));
         self.say(false, now, &header, &retry_delay(delay));
@@ -41,7 +43,7 @@ impl PushSession {
     pub fn pack(&mut self, index: &Table, now: u64)
         requires output { self.old.output ≡ [] }
         requires sides { CanBePacked index.now.rows self.old.queue }
-        ensures { self.new ≡ packed index.now.rows now self.old }
+        ensures { self.new ≡ packs keeping (telling index.now.rows) now self.old }
     {
         let size = self
             .queue

@@ -3,7 +3,8 @@
 ghost use Rattle.std.specs.Prelude.{◌≡◌, not, IfOk};
 ghost use Rattle.push_base.specs.Cases.{is_empty};
 ghost use Rattle.coalesce.specs.Waiting.{since};
-ghost use Rattle.pushsession.specs.Kept.{HasEnds, new_session, filled_of};
+ghost use Rattle.pushsession.specs.Sessions.{new_session};
+ghost use Rattle.pushsession.specs.Kept.{HasEnds, filled_of, keeping};
 
 use crate::NoMemory;
 use crate::standing::Standing;
@@ -35,7 +36,7 @@ impl Model for PushSession {
 
     ghost Value = { KeptSession };
 
-    ghost view = { λ s. record { asked = s.subscriptions; filled = s.filled.items; queue = s.queue; state = s.state; standing = s.standing; input = s.input; output = s.output; written = s.written } };
+    ghost view = { λ s. record { subscriptions = record { asked = s.subscriptions; filled = s.filled.items }; queue = s.queue; clocks = s.state.clocks; established = s.state.established; standing = s.standing; input = s.input; output = s.output; made = s.written } };
 
     ghost invariant = { λ s. HasEnds s.subscriptions s.filled.items };
 }
@@ -51,7 +52,7 @@ fn found(filled: &[(u16, u64)], id: u16) -> Option<u64>
 impl PushSession {
     /// A session that has just been connected (RFC 8490, 5.1). It takes the memory of its octets here, once.
     pub fn new(alloc: Global, now: u64) -> Result<Self, NoMemory>
-        ensures { IfOk result (λ session. session ≡ new_session now) }
+        ensures { IfOk result (λ session. session ≡ new_session keeping now) }
     {
         let input = Framer::new(alloc)?;
         let output = Frame::new(alloc)?;
@@ -76,7 +77,7 @@ impl PushSession {
 
     /// Whether it is established (RFC 8490, 5.1).
     pub fn established(&self) -> bool
-        ensures { result ≡ self.now.state.established }
+        ensures { result ≡ self.now.established }
     {
         self.state.established()
     }
@@ -90,8 +91,8 @@ impl PushSession {
 
     /// What it asks (RFC 8765, 6.2). Of each ID, in this order, the end of the first answer is known.
     pub fn subscriptions(&self) -> &Subscriptions
-        ensures asked { result.now ≡ self.now.asked }
-        ensures ends { HasEnds self.now.asked self.now.filled }
+        ensures asked { result.now ≡ self.now.subscriptions.asked }
+        ensures ends { HasEnds self.now.subscriptions.asked self.now.subscriptions.filled }
     {
         &self.subscriptions
     }
@@ -106,7 +107,7 @@ impl PushSession {
     /// The octets of the whole output up to the end of the first answer of an ID (RFC 8765, 6.2.2), or the greatest
     /// number of 64 bits where they are more.
     pub fn filled(&self, id: u16) -> Option<u64>
-        ensures { result ≡ filled_of id self.now.filled }
+        ensures { result ≡ filled_of id self.now.subscriptions.filled }
     {
         found(&self.filled, id)
     }

@@ -1,7 +1,7 @@
 //! Whether a session goes on.
 
 ghost use Rattle.std.specs.Prelude.{◌≡◌};
-ghost use Rattle.pushsession.specs.Kept.{is_open};
+ghost use Rattle.pushsession.specs.Sessions.{is_open};
 
 use dsosession::session::EndReason;
 

@@ -1,7 +1,7 @@
 //! Octets that come in and octets that are handed on.
 
 ghost use Rattle.std.specs.Prelude.{◌≡◌, ◌++◌, drop, length, min, take};
-ghost use Rattle.pushsession.specs.Kept.{copied, room_of, takes};
+ghost use Rattle.pushsession.specs.Sessions.{copied, room_of, takes};
 
 use crate::session::PushSession;
 

@@ -1,43 +1,39 @@
 //! SUBSCRIBE (RFC 8765, 6.2).
 
-ghost use Rattle.std.specs.Prelude.{◌≡◌, ◌<◌, ◌≤◌, ◌-◌, ◌++◌, ◌∷◌, ◌==◌, ◌||◌, [], false, find, length, IfOk, OnOk, OnErr, IsTrue, None, Some};
+ghost use Rattle.std.specs.Prelude.{◌≡◌, ◌<◌, ◌≤◌, ◌-◌, ◌++◌, ◌∷◌, [], false, find, length, IfOk, OnOk, OnErr, IsTrue, None, Some};
 ghost use Rattle.push_base.specs.Limits.{max_questions};
-ghost use Rattle.rrset.specs.Kinds.{any_class, in_class};
 ghost use Rattle.rrset.specs.Rcodes.{noerror};
 ghost use Rattle.rrset.specs.RecordSet.{at_name};
-ghost use Rattle.dsotlv.specs.Answers.{answer_to};
-ghost use Rattle.dsotlv.specs.Messages.{frame, primary_data};
-ghost use Rattle.dsotlv.specs.Notices.{question_of};
+ghost use Rattle.dsotlv.specs.Answers.{answer_to, refusal_to};
+ghost use Rattle.dsotlv.specs.Messages.{frame};
 ghost use Rattle.subscr.specs.Asked.{has, id_of as id_asked};
 ghost use Rattle.coalesce.specs.FirstAnswers.{first_notices};
 ghost use Rattle.coalesce.specs.Laws.{can_be_sent};
 ghost use Rattle.coalesce.specs.Net.{push_frame};
 ghost use Rattle.coalesce.specs.Sides.{IsOneSide};
 ghost use Rattle.coalesce.specs.Waiting.{is_named};
-ghost use Rattle.pushsession.specs.Reacting.{CanBeTold, accepts, held, message_of, need_of, refuses, subscribed, taken_up};
-ghost use Rattle.pushsession.specs.declared.need.Need.TheVariants as needs;
+ghost use Rattle.pushsession.specs.Sessions.{answers, ended_with};
+ghost use Rattle.pushsession.specs.Kept.{keeping, telling};
+ghost use Rattle.pushsession.specs.Subscribing.{accepts, is_served};
+ghost use Rattle.pushsession.specs.Requests.{CanBeTold, request_of, subscribed_by, taken_up};
+ghost use Rattle.pushsession.specs.declared.request.Request.TheVariants as requests;
 
 use crate::NoMemory;
 use crate::octets::{answer, append_message, retry_delay};
 use crate::session::PushSession;
 use coalesce::{Frame, Queue};
 use dsosession::session::EndReason;
-use dsotlv::{primary_data, read_question};
+use dsotlv::LENGTH;
+use dsotlv::delays::REFUSAL;
 use rrset::classes::{ANY, IN};
+use rrset::header::HEADER;
 use rrset::rcodes::{FORMERR, NOERROR, NOTAUTH, REFUSED};
 use rrset::{Question, Table};
-use std::alloc::Global;
 use subscr::{MAX_QUESTIONS, Subscriptions};
-
-/// For how long a client that was refused is to wait, in milliseconds; this project's own (RFC 8765, 6.2.2).
-const REFUSAL_DELAY: u32 = 300_000;
-
-/// The octets of an answer without TLVs: its length and its header.
-const ANSWER_SIZE: u64 = 14;
 
 /// Whether records of a class are served.
 fn is_served(class: u16) -> bool
-    ensures { result ≡ (class == in_class || class == any_class) }
+    ensures { result ≡ is_served class }
 {
     class == IN || class == ANY
 }
@@ -62,31 +58,33 @@ fn append_first_answer(
 }
 
 impl PushSession {
-    /// The question of a SUBSCRIBE, or nothing where its data is none (RFC 8765, 6.2.1).
-    pub fn question(&self, alloc: Global) -> Result<Option<Question>, NoMemory>
-        requires { need_of self.now ≡ Some needs.Question }
-        ensures { IfOk result (λ question. question ≡ question_of (primary_data (message_of self.now))) }
-    {
-        read_question(alloc, primary_data(self.message()))
-    }
-
-    /// Refuses a SUBSCRIBE with an RCODE and a Retry Delay (RFC 8765, 6.2.2).
+    /// Takes up a SUBSCRIBE, and refuses it with an RCODE and a Retry Delay (RFC 8765, 6.2.2).
     fn refuse(&mut self, id: u16, rcode: u8, now: u64)
         requires { self.old.output ≡ [] }
-        ensures { self.new ≡ refuses id rcode now self.old }
+        ensures { self.new ≡ answers keeping false now (refusal_to id rcode) (taken_up now self.old) }
     {
-        self.say(false, now, &answer(id, rcode), &retry_delay(REFUSAL_DELAY));
+        let _ = self.take_up(now);
+        self.say(false, now, &answer(id, rcode), &retry_delay(REFUSAL));
     }
 
-    /// Takes up a question with its ID, and writes the first answer. Where memory runs out nothing changes.
+    /// Takes up a SUBSCRIBE, and ends the session.
+    fn abort(&mut self, reason: EndReason, now: u64)
+        ensures { self.new ≡ ended_with keeping reason (taken_up now self.old) }
+    {
+        let _ = self.take_up(now);
+        self.end(reason);
+    }
+
+    /// What of accepting a SUBSCRIBE can run out of memory: all but that the message is taken up, the timers restart and
+    /// the session is established. Where it does, nothing changes.
     fn hold(&mut self, id: u16, question: Question, index: &Table) -> Result<(), NoMemory>
         requires output { self.old.output ≡ [] }
-        requires id { has id self.old.asked ≡ false }
-        requires question { id_asked question self.old.asked ≡ None }
-        requires few { length self.old.asked < max_questions }
+        requires id { has id self.old.subscriptions.asked ≡ false }
+        requires question { id_asked question self.old.subscriptions.asked ≡ None }
+        requires few { length self.old.subscriptions.asked < max_questions }
         requires side { IsOneSide (at_name question.name index.now.rows) }
         requires sent { IsTrue (can_be_sent (at_name question.name index.now.rows)) }
-        ensures ok { OnOk result (self.new ≡ held id question index.now.rows self.old) }
+        ensures ok { OnOk result (self.new ≡ record (accepts keeping (telling index.now.rows) 0 id question self.old) { clocks = self.old.clocks; established = self.old.established }) }
         ensures err { OnErr result (self.new ≡ self.old) }
     {
         let name = question.name.copy()?;
@@ -103,7 +101,7 @@ impl PushSession {
             self.output.clear();
             return Err(NoMemory);
         }
-        let written = self.written.saturating_add(ANSWER_SIZE);
+        let written = self.written.saturating_add((LENGTH + HEADER) as u64);
         self.written = written.saturating_add(size as u64);
         if self.filled.push((id, self.written)).is_err() {
             unreachable!();
@@ -113,6 +111,7 @@ impl PushSession {
     }
 
     /// Accepts a SUBSCRIBE with NOERROR and the PUSH that follows it. Where memory runs out nothing changes.
+    #[tactic(auto, using(crate::proofs::Accepting::accepts_later))]
     fn accept(
         &mut self,
         id: u16,
@@ -121,12 +120,12 @@ impl PushSession {
         now: u64,
     ) -> Result<(), NoMemory>
         requires output { self.old.output ≡ [] }
-        requires id { has id self.old.asked ≡ false }
-        requires question { id_asked question self.old.asked ≡ None }
-        requires few { length self.old.asked < max_questions }
+        requires id { has id self.old.subscriptions.asked ≡ false }
+        requires question { id_asked question self.old.subscriptions.asked ≡ None }
+        requires few { length self.old.subscriptions.asked < max_questions }
         requires side { IsOneSide (at_name question.name index.now.rows) }
         requires sent { IsTrue (can_be_sent (at_name question.name index.now.rows)) }
-        ensures ok { OnOk result (self.new ≡ accepts id question index.now.rows now (taken_up now self.old)) }
+        ensures ok { OnOk result (self.new ≡ accepts keeping (telling index.now.rows) now id question (taken_up now self.old)) }
         ensures err { OnErr result (self.new ≡ self.old) }
     {
         self.hold(id, question, index)?;
@@ -147,34 +146,29 @@ impl PushSession {
         now: u64,
     ) -> Result<(), NoMemory>
         requires output { self.old.output ≡ [] }
-        requires need { need_of self.old ≡ Some needs.Question }
+        requires request { request_of self.old ≡ Some (requests.Subscribe question) }
         requires told { CanBeTold question has_home index.now.rows }
-        ensures ok { OnOk result (self.new ≡ subscribed question has_home index.now.rows now self.old) }
+        ensures ok { OnOk result (self.new ≡ subscribed_by question has_home index.now.rows now self.old) }
         ensures err { OnErr result (self.new ≡ self.old) }
     {
         let id = self.id();
         let Some(question) = question else {
-            let _ = self.take_up(now);
             self.refuse(id, FORMERR, now);
             return Ok(());
         };
         if self.subscriptions.has(id) {
-            let _ = self.take_up(now);
-            self.end(EndReason::IdInUse(id));
+            self.abort(EndReason::IdInUse(id), now);
             return Ok(());
         }
         if let Some(active) = self.subscriptions.id_of(&question) {
-            let _ = self.take_up(now);
-            self.end(EndReason::Twice(active));
+            self.abort(EndReason::Twice(active), now);
             return Ok(());
         }
         if !is_served(question.class) || !has_home {
-            let _ = self.take_up(now);
             self.refuse(id, NOTAUTH, now);
             return Ok(());
         }
         if self.subscriptions.len() >= MAX_QUESTIONS {
-            let _ = self.take_up(now);
             self.refuse(id, REFUSED, now);
             return Ok(());
         }

@@ -1,40 +1,51 @@
 //! The first whole message of a session (RFC 7766, 8).
 
-ghost use Rattle.std.specs.Prelude.{◌≡◌, ◌≤◌, length, None, option_map};
+ghost use Rattle.std.specs.Prelude.{◌≡◌, ◌≤◌, length, IfOk, OnErr, Some, None, option_map};
 ghost use Rattle.rrset.specs.Header.{id_of};
 ghost use Rattle.dsotlv.specs.Messages.{head_of};
 ghost use Rattle.dsosession.specs.Reactions.{server_reaction};
-ghost use Rattle.pushsession.specs.Reacting.{message_of, need_for, need_in, need_of, taken_up};
+ghost use Rattle.pushsession.specs.Requests.{IsRead, message_of, request_for, request_in, request_of, taken_up};
 
-use crate::need::Need;
+use crate::NoMemory;
+use crate::request::Request;
 use crate::session::PushSession;
 use dsosession::server_reaction;
 use dsosession::session::Reaction;
-use dsotlv::{DsoHead, head};
+use dsotlv::{DsoHead, head, primary_data, read_question, read_reconfirm};
+use std::alloc::Global;
 
-/// What a reaction needs.
-fn need_for(reaction: Reaction) -> Need
-    ensures { result ≡ need_for reaction }
+/// What is needed for a message with this reaction.
+fn request_for(alloc: Global, reaction: Reaction, message: &[u8]) -> Result<Request, NoMemory>
+    requires { 12 ≤ length message.now }
+    ensures request { IfOk result (λ request. request ≡ request_for reaction message.now) }
+    ensures memory { OnErr result (IsRead (Some (request_for reaction message.now))) }
 {
     match reaction {
-        Reaction::Subscribe => Need::Question,
-        Reaction::Reconfirm => Need::Record,
-        Reaction::Update => Need::Update,
+        Reaction::Subscribe => {
+            let question = read_question(alloc, primary_data(message))?;
+            Ok(Request::Subscribe(question))
+        }
+        Reaction::Reconfirm => {
+            let record = read_reconfirm(alloc, primary_data(message))?;
+            Ok(Request::Reconfirm(record))
+        }
+        Reaction::Update => Ok(Request::Update),
         Reaction::Answer(_)
         | Reaction::Grant
         | Reaction::Abort(_)
         | Reaction::Unsubscribe
-        | Reaction::NotImplemented => Need::Nothing,
+        | Reaction::NotImplemented => Ok(Request::Itself),
     }
 }
 
-/// What the reaction to a message needs.
-fn need_in(message: &[u8], established: bool) -> Need
-    ensures { result ≡ need_in message.now established }
+/// What is needed for a message, where the session is established or not.
+fn request_in(alloc: Global, message: &[u8], established: bool) -> Result<Request, NoMemory>
+    ensures request { IfOk result (λ request. request ≡ request_in message.now established) }
+    ensures memory { OnErr result (IsRead (Some (request_in message.now established))) }
 {
     match head(message) {
-        Some(head) => need_for(server_reaction(&head, established)),
-        None => Need::Nothing,
+        Some(head) => request_for(alloc, server_reaction(&head, established), message),
+        None => Ok(Request::Itself),
     }
 }
 
@@ -46,14 +57,20 @@ pub(crate) struct Taken {
 }
 
 impl PushSession {
-    /// What it needs to react to the first whole message, if one waits. Where none does, there is room for 4,097 octets
-    /// and more.
-    pub fn need(&self) -> Option<Need>
-        ensures need { result ≡ need_of self.now }
-        ensures room { result ≡ None → length self.now.input ≤ 65536 }
+    /// What it needs of the server to react to the first whole message, if one waits. Only a question and a record take
+    /// memory. Where no message waits, there is room for 4,097 octets and more.
+    pub fn request(&self, alloc: Global) -> Result<Option<Request>, NoMemory>
+        ensures request { IfOk result (λ request. request ≡ request_of self.now) }
+        ensures memory { OnErr result (IsRead (request_of self.now)) }
+        ensures room { IfOk result (λ request. request ≡ None → length self.now.input ≤ 65536) }
     {
-        let message = self.input.next()?;
-        Some(need_in(message, self.state.established()))
+        match self.input.next() {
+            Some(message) => {
+                let request = request_in(alloc, message, self.state.established())?;
+                Ok(Some(request))
+            }
+            None => Ok(None),
+        }
     }
 
     /// The first whole message, or nothing.
@@ -78,7 +95,7 @@ impl PushSession {
     /// Takes up the first message: it leaves the input, and restarts the timers. Gives its head and the reaction to it,
     /// or nothing where it has no whole header.
     pub(crate) fn take_up(&mut self, now: u64) -> Option<Taken>
-        ensures taken { result ≡ option_map (λ head. record { head = head; reaction = server_reaction head self.old.state.established }) (head_of (message_of self.old)) }
+        ensures taken { result ≡ option_map (λ head. record { head = head; reaction = server_reaction head self.old.established }) (head_of (message_of self.old)) }
         ensures session { self.new ≡ taken_up now self.old }
     {
         let head = head(self.input.next()?);

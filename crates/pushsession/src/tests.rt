@@ -17,14 +17,16 @@ const SUBSCRIBE: [u8; 25] =
 const KEEPALIVE: [u8; 26] =
     *b"\x00\x18\x00\x02\x30\x00\x00\x00\x00\x00\x00\x00\x00\x00\x00\x01\x00\x08\x00\x00\x00\x00\x00\x00\x00\x00";
 
-/// Reacts to a SUBSCRIBE, where there is one and no output waits, with or without a home.
-fn subscribe(rt: HostRuntime, session: &mut PushSession, has_home: bool) -> Result<bool, NoMemory> {
-    if session.has_output() || session.need() != Some(Need::Question) {
+/// Accepts a SUBSCRIBE, where there is one and no output waits.
+fn subscribe(rt: HostRuntime, session: &mut PushSession) -> Result<bool, NoMemory> {
+    if session.has_output() {
         return Ok(false);
     }
     let index = Table::new(rt.alloc());
-    let question = session.question(rt.alloc())?;
-    session.subscribe(question, has_home, &index, 10)?;
+    let Some(Request::Subscribe(question)) = session.request(rt.alloc())? else {
+        return Ok(false);
+    };
+    session.subscribe(question, true, &index, 10)?;
     Ok(true)
 }
 
@@ -33,9 +35,9 @@ fn a_subscribe_comes_in_pieces(rt: HostRuntime) -> Result<(), Fail> {
     let mut session = PushSession::new(rt.alloc(), 0)?;
     let (first, second) = SUBSCRIBE.split_at(9);
     assert_eq!(rt; session.take(first), 9);
-    assert_eq!(rt; session.need(), None);
+    assert!(rt; !subscribe(rt, &mut session)?);
     assert_eq!(rt; session.take(second), 16);
-    assert!(rt; subscribe(rt, &mut session, true)?);
+    assert!(rt; subscribe(rt, &mut session)?);
     assert_eq!(rt; session.subscriptions().len(), 1);
     assert_eq!(rt; session.filled(1), Some(14));
     let mut buf = [0; 14];
@@ -52,13 +54,16 @@ fn a_subscribe_comes_in_pieces(rt: HostRuntime) -> Result<(), Fail> {
     Ok(())
 }
 
-/// Reacts to a message that needs nothing, where there is one and no output waits.
-fn react(session: &mut PushSession, now: u64) -> bool {
-    if session.has_output() || session.need() != Some(Need::Nothing) {
-        return false;
+/// Reacts to a message for which nothing is needed, where there is one and no output waits.
+fn react(rt: HostRuntime, session: &mut PushSession, now: u64) -> Result<bool, NoMemory> {
+    if session.has_output() {
+        return Ok(false);
     }
+    let Some(Request::Itself) = session.request(rt.alloc())? else {
+        return Ok(false);
+    };
     session.react(TIMERS, now);
-    true
+    Ok(true)
 }
 
 /// Writes a stop, where no output waits.
@@ -75,7 +80,7 @@ fn a_keepalive_is_granted_and_a_stop_written(rt: HostRuntime) -> Result<(), Fail
     let mut session = PushSession::new(rt.alloc(), 0)?;
     let mut buf = [0; 64];
     assert_eq!(rt; session.take(&KEEPALIVE), 26);
-    assert!(rt; react(&mut session, 5));
+    assert!(rt; react(rt, &mut session, 5)?);
     assert!(rt; session.established());
     assert_eq!(rt; session.copy(&mut buf), 26);
     session.stop(0, 7_000);

@@ -1,9 +1,8 @@
 -- The octets of a message and of its parts are below 256.
 --     id-small      its ID has two octets
 --     data-below      the data of its first TLV
-use Rattle.std.proofs.Common.{◌≡◌, ℕ, ◌+◌, ◌-◌, ◌<◌, Bool, true, false, cond, List, [], ◌∷◌, length, drop, zero, suc, Ok, Err, Result, refl, arith}
+use Rattle.std.proofs.Common.{◌≡◌, ℕ, ◌+◌, ◌<◌, Bool, true, false, cond, List, [], ◌∷◌, length, zero, suc, Ok, Err, Result, refl, arith}
 use Rattle.std.specs.Prelude.{nat_lt, slice_range, ◌==◌}
-use Rattle.std.specs.List.{AllByRecursion}
 use Rattle.std.proofs.lemmas.Bool.{and_from}
 use Rattle.push_base.specs.Cases.{◌>>=◌}
 use Rattle.rrset.specs.Header.{two_octets, id_of}
@@ -11,17 +10,8 @@ use Rattle.dsotlv.specs.Messages.{tlvs_from, data_of_first, primary_data}
 use Rattle.dsotlv.specs.declared.message.DsoFault.{DsoFault}
 use Rattle.dsotlv.specs.declared.message.DsoFault.TheVariants.{Tlv as TlvAt}
 use Rattle.dsotlv.specs.declared.message.Tlv.{Tlv}
-use Rattle.pushserver.specs.Simulation.{AreOctets}
-use Rattle.pushtelling.proofs.Hubs.{all-take}
-use Rattle.pushtelling.proofs.Tells.{AreBelow}
-
-pub all-drop : {X : Type 0} (P : X → Type 0) (n : ℕ) (xs : List X) → AllByRecursion P xs → AllByRecursion P (drop n xs)
-all-drop P zero xs all = all
-all-drop P (suc n) [] all = tt
-all-drop P (suc n) (x ∷ xs) all = all-drop P n xs all.1
-
-pub range-below : (octets : List ℕ) (from to : ℕ) → AreBelow octets → AreBelow (slice_range octets from to)
-range-below octets from to all = all-take (λ o. o < 256) (to - from) (drop from octets) (all-drop (λ o. o < 256) from octets all)
+use Rattle.pushserver.specs.Calls.{AreOctets}
+use Rattle.pushserver.proofs.told_rows.Entered.{AreBelow, range_below}
 
 pub octets-of : (octets : List ℕ) → AreBelow octets → AreOctets octets
 octets-of [] all = refl
@@ -63,7 +53,7 @@ tlvs-below (suc more) message at below = by (at == length message) (nat_lt (leng
     by false true c rest = tt
     by false false true rest = tt
     by false false false (Err fault) = tt
-    by false false false (Ok others) = range-below message (at + 4) (at + 4 + two_octets message (at + 2)) below
+    by false false false (Ok others) = range_below message below (at + 4) (at + 4 + two_octets message (at + 2))
 
 pub data-below : (message : List ℕ) → AreBelow message → AreBelow (primary_data message)
 data-below message below = tlvs-below (length message) message 12 below

@@ -5,10 +5,9 @@ use Rattle.std.proofs.Common.{◌≡◌, List, [], ◌∷◌, ◌++◌, sym, ◌
 use Rattle.std.specs.List.{AllByRecursion}
 use Rattle.std.proofs.Math.Nat.{le_trans}
 use Rattle.std.proofs.lemmas.List.{append-nil, append_assoc}
-use Rattle.pushserver.specs.Sessions.{Session, Made, Note}
-use Rattle.pushserver.specs.Hubs.{Hub}
-use Rattle.pushserver.specs.Telling.{TellsHistory, EachIsRight, IsRightAfter, IsNoEarlier, NotesRise}
-use Rattle.pushtelling.proofs.Messages.{all_map}
+use Rattle.pushserver.specs.Sessions.{Hub, Session, Made, Note}
+use Rattle.pushserver.specs.ToldMessages.{TellsHistory, EachIsRight, IsRightAfter, IsNoEarlier, NotesRise}
+use Rattle.pushserver.proofs.hub_steps.Pairs.{all-weaken}
 
 -- each message is right after those before it
 right-at : (hub : Hub) (before xs : List Made) (m : Made) (ys : List Made) → EachIsRight hub before (xs ++ m ∷ ys) → IsRightAfter hub (before ++ xs) m
@@ -21,4 +20,4 @@ tells-taken hub session xs m flying h made = right-at hub [] xs m flying (subst 
 
 pub rise-after : (n : Note) (notes : List Note) → NotesRise (n ∷ notes) → AllByRecursion (IsNoEarlier n) notes
 rise-after n [] rise = tt
-rise-after n (m ∷ ms) rise = (rise.0, all_map (IsNoEarlier m) (IsNoEarlier n) ms (λ k later name. le_trans (rise.0 name) (later name)) (rise-after m ms rise.1))
+rise-after n (m ∷ ms) rise = (rise.0, all-weaken (IsNoEarlier m) (IsNoEarlier n) (λ k later name. le_trans (rise.0 name) (later name)) ms (rise-after m ms rise.1))

@@ -28,15 +28,16 @@ use Rattle.coalesce.proofs.KindsOf.{any-map}
 use Rattle.coalesce.proofs.SameNames.{same_name-swapped, same_name-joined}
 use Rattle.coalesce.proofs.Sides.{matching-only}
 use Rattle.history.specs.States.{state_at, records_at}
-use Rattle.pushserver.specs.Sessions.{Session, Subscription, Note, told, note_of, point_in, asks_for, leaves_queue}
-use Rattle.pushserver.specs.Hubs.{Hub, newest, records_now}
-use Rattle.pushserver.specs.Giving.{first_answer}
+use Rattle.history.proofs.Present.{matching-at_name}
+use Rattle.pushserver.specs.Sessions.{Hub, Session, Subscription, Note, told, note_of, point_in, asks_for, leaves_queue, first_answer}
+use Rattle.pushserver.specs.Hubs.{newest, records_now}
+use Rattle.pushserver.proofs.AskedFor.{matches-name}
+use Rattle.pushserver.proofs.hub_steps.Pairs.{all-weaken}
 use Rattle.pushserver.proofs.Queues.{point_in-same, same_name-octets}
 use Rattle.pushserver.proofs.told_rows.HubTells.{StatesTell}
 use Rattle.pushserver.proofs.told_rows.Told.{tellable-told}
-use Rattle.pushtelling.proofs.Messages.{noted, all_map}
+use Rattle.pushtelling.proofs.Messages.{noted_records}
 use Rattle.pushtelling.proofs.Notes.{AnswersAlike, point_in-left, told-below}
-use Rattle.pushtelling.proofs.Parts.{matching-at_name, matches-name}
 use Rattle.pushtelling.proofs.Tells.{IsReadBack}
 use Rattle.pushtelling.proofs.Reading.{push_read}
 
@@ -59,7 +60,7 @@ contains-more y xs x at = (suc at.0, omega (arith, at.1), at.2)
 
 pub all_among : (subscriptions : List Subscription) → AllByRecursion (IsAmong subscriptions) subscriptions
 all_among [] = tt
-all_among (s ∷ ss) = ((0, omega arith, refl), all_map (IsAmong ss) (IsAmong (s ∷ ss)) ss (λ t among. contains-more (s.id, s.question) (asked_by ss) (t.id, t.question) among) (all_among ss))
+all_among (s ∷ ss) = ((0, omega arith, refl), all-weaken (IsAmong ss) (IsAmong (s ∷ ss)) (λ t among. contains-more (s.id, s.question) (asked_by ss) (t.id, t.question) among) ss (all_among ss))
 
 asks-wants : (subscriptions : List Subscription) (key : Key) → asks_for subscriptions key ≡ wants key (asked_by subscriptions)
 asks-wants subscriptions key = sym (any-map (λ (e : ℕ × Question). matches e.1 key) (λ (s : Subscription). (s.id, s.question)) subscriptions)
@@ -126,9 +127,9 @@ module _ (hub : Hub) (session : Session) (question : Question) where
 
     -- a subscriber to the name has what is there now
     leads-there : (id : ℕ) (other : Question) → Contains (asked_by session.subscriptions) (id, other) → same_name other.name question.name ≡ true
-        → applied_all (first_answer hub session question) other (noted hub.start hub.history before other) ≡ matching other (records_now hub)
+        → applied_all (first_answer hub session question) other (noted_records hub.start hub.history before other) ≡ matching other (records_now hub)
     leads-there id other among same =
-        ap (λ ns. applied_all ns other (noted hub.start hub.history before other)) first-is
+        ap (λ ns. applied_all ns other (noted_records hub.start hub.history before other)) first-is
         ∙ ap (λ set. applied_all notices other set)
         (ap (λ o. matching other (records_at hub.start hub.history (unwrap_or o (newest hub)))) (point_in-same other.name question.name session.queue same) ∙ sym (named other same (records_at hub.start hub.history (told before question.name))))
         ∙ first_leads_the_others question (asked_by session.subscriptions) (records_now hub) waiting id other (question.name, now-side) (same_name-itself question.name, old-side) among
@@ -143,23 +144,23 @@ module _ (hub : Hub) (session : Session) (question : Question) where
 
     -- a subscriber to another name has what it had
     leads-away : (other : Question) → same_name other.name question.name ≡ false
-        → applied_all (first_answer hub session question) other (noted hub.start hub.history before other) ≡ noted hub.start hub.history before other
+        → applied_all (first_answer hub session question) other (noted_records hub.start hub.history before other) ≡ noted_records hub.start hub.history before other
     leads-away other differ =
-        ap (λ ns. applied_all ns other (noted hub.start hub.history before other)) first-is
+        ap (λ ns. applied_all ns other (noted_records hub.start hub.history before other)) first-is
         ∙ first_leaves_other_names question (asked_by session.subscriptions) (records_now hub) waiting other (records_at hub.start hub.history (told before other.name)) (question.name, now-side) (ap not differ)
 
     -- all of the subscribers are led to the note after it
     pub leads : (id : ℕ) (other : Question) → Contains (asked_by session.subscriptions) (id, other)
-        → applied_all (first_answer hub session question) other (noted hub.start hub.history before other) ≡ noted hub.start hub.history after other
+        → applied_all (first_answer hub session question) other (noted_records hub.start hub.history before other) ≡ noted_records hub.start hub.history after other
     leads id other among = by (same_name question.name other.name) refl
       where
-        by : (b : Bool) → same_name question.name other.name ≡ b → applied_all (first_answer hub session question) other (noted hub.start hub.history before other) ≡ noted hub.start hub.history after other
+        by : (b : Bool) → same_name question.name other.name ≡ b → applied_all (first_answer hub session question) other (noted_records hub.start hub.history before other) ≡ noted_records hub.start hub.history after other
         by true e = leads-there id other among (same_name-swapped question.name other.name e)
             ∙ sym (ap (λ o. matching other (records_at hub.start hub.history (unwrap_or o (newest hub)))) (point_in-left stays stays-alike session.queue other.name ∙ ap (λ b. cond (not b) (point_in session.queue other.name) None) e))
         by false e = leads-away other (same_name-turned other.name question.name ∙ e)
             ∙ sym (ap (λ o. matching other (records_at hub.start hub.history (unwrap_or o (newest hub)))) (point_in-left stays stays-alike session.queue other.name ∙ ap (λ b. cond (not b) (point_in session.queue other.name) None) e))
 
-    pub leads-itself : applied_all (first_answer hub session question) question [] ≡ noted hub.start hub.history after question
+    pub leads-itself : applied_all (first_answer hub session question) question [] ≡ noted_records hub.start hub.history after question
     leads-itself = leads-new
         ∙ sym (ap (λ o. matching question (records_at hub.start hub.history (unwrap_or o (newest hub)))) (point_in-left stays stays-alike session.queue question.name ∙ ap (λ b. cond (not b) (point_in session.queue question.name) None) (same_name-itself question.name)))
 

@@ -1,5 +1,6 @@
 -- What one message more does to the notices since an answer, to the set after them, and to what was right before.
---     noted      the records of a question at the point that a note gives for its name
+--     noted_records      the records of a question at the point that a note gives for its name
+--     LeadsTo made note      what these messages lead a subscription to
 --     EachIsRightAt      each message is right by its note, in terms of a start and a history
 use Rattle.std.proofs.Common.{◌≡◌, ℕ, ◌+◌, ◌≤◌, true, false, cond, List, [], ◌∷◌, ◌++◌, length, sym, ◌∙◌, ap, subst, arith}
 use Rattle.std.specs.List.{AllByRecursion}
@@ -12,15 +13,22 @@ use Rattle.dsotlv.specs.Notices.{applied, applied_all}
 use Rattle.history.specs.States.{State, records_at}
 use Rattle.history.specs.declared.entry.Entry.{Entry}
 use Rattle.history.proofs.LongerHistory.{records_at-append}
-use Rattle.pushserver.specs.Sessions.{Subscription, Made, Note, told, made_octets, octets_made}
-use Rattle.pushserver.specs.Hubs.{Hub}
-use Rattle.pushserver.specs.Telling.{is_answer_to, notices_in, and_notices, notices_since, set_after, EachIsRight}
+use Rattle.pushserver.specs.Sessions.{Hub, Subscription, Made, Note, told, made_octets, octets_made}
+use Rattle.pushserver.proofs.hub_steps.Pairs.{all-weaken}
+use Rattle.pushserver.specs.ToldMessages.{is_answer_to, notices_in, and_notices, notices_since, set_after, EachIsRight}
 
-abbrev pub noted : State → List Entry → Note → Question → RecordSet
-noted start history note question = matching question (records_at start history (told note question.name))
+abbrev pub noted_records : State → List Entry → Note → Question → RecordSet
+noted_records start history note question = matching question (records_at start history (told note question.name))
+
+-- these messages lead a subscription to what a note gives for it; and so they do where its first answer is among them
+abbrev pub LeadsTo : State → List Entry → List Made → Note → Subscription → Type 0
+LeadsTo start history made note s = set_after made s ≡ noted_records start history note s.question
+
+abbrev pub LeadsIfFilled : State → List Entry → List Made → Note → Subscription → Type 0
+LeadsIfFilled start history made note s = s.filled ≤ octets_made made → LeadsTo start history made note s
 
 abbrev pub IsRightAt : State → List Entry → List Made → Made → Type 0
-IsRightAt start history before m = AllByRecursion (λ s. s.filled ≤ octets_made (before ++ m ∷ []) → set_after (before ++ m ∷ []) s ≡ noted start history m.note s.question) m.subscribed
+IsRightAt start history before m = AllByRecursion (LeadsIfFilled start history (before ++ m ∷ []) m.note) m.subscribed
 
 abbrev pub EachIsRightAt : State → List Entry → List Made → List Made → Type 0
 EachIsRightAt start history before [] = Unit {0}
@@ -30,16 +38,6 @@ EachIsRightAt start history before (m ∷ ms) = IsRightAt start history before m
 pub each_right-hub : (hub : Hub) (before ms : List Made) → EachIsRightAt hub.start hub.history before ms → EachIsRight hub before ms
 each_right-hub hub before [] each = tt
 each_right-hub hub before (m ∷ ms) each = (each.0, each_right-hub hub (before ++ m ∷ []) ms each.1)
-
--- ---- what holds of each element
-
-pub all_map : {X : Type 0} (P Q : X → Type 0) (xs : List X) → ((x : X) → P x → Q x) → AllByRecursion P xs → AllByRecursion Q xs
-all_map P Q [] f all = tt
-all_map P Q (x ∷ xs) f all = (f x all.0, all_map P Q xs f all.1)
-
-pub all_both : {X : Type 0} (P Q R : X → Type 0) (xs : List X) → ((x : X) → P x → Q x → R x) → AllByRecursion P xs → AllByRecursion Q xs → AllByRecursion R xs
-all_both P Q R [] f ps qs = tt
-all_both P Q R (x ∷ xs) f ps qs = (f x ps.0 qs.0, all_both P Q R xs f ps.1 qs.1)
 
 -- ---- the notices since an answer
 
@@ -82,11 +80,8 @@ pub each_right-later : (start : State) (history more : List Entry) (before ms : 
     → AllByRecursion (λ m. (name : Labels) → told m.note name ≤ length history) ms → EachIsRightAt start history before ms → EachIsRightAt start (history ++ more) before ms
 each_right-later start history more before [] low each = tt
 each_right-later start history more before (x ∷ xs) low each = (
-  all_map
-      (λ (s : Subscription). s.filled ≤ octets_made (before ++ x ∷ []) → set_after (before ++ x ∷ []) s ≡ noted start history x.note s.question)
-      (λ (s : Subscription). s.filled ≤ octets_made (before ++ x ∷ []) → set_after (before ++ x ∷ []) s ≡ noted start (history ++ more) x.note s.question)
-      x.subscribed
-      (λ s right filled. right filled ∙ sym (ap (λ r. matching s.question r) (records_at-append start history more (told x.note s.question.name) (low.0 s.question.name))))
-      each.0,
+  all-weaken (LeadsIfFilled start history (before ++ x ∷ []) x.note)
+      (LeadsIfFilled start (history ++ more) (before ++ x ∷ []) x.note)
+      (λ s right filled. right filled ∙ sym (ap (λ r. matching s.question r) (records_at-append start history more (told x.note s.question.name) (low.0 s.question.name)))) x.subscribed each.0,
   each_right-later start history more (before ++ x ∷ []) xs low.1 each.1,
 )

@@ -1,15 +1,13 @@
 -- Points of notes that never fall.
-use Rattle.std.proofs.Common.{◌≡◌, ℕ, ◌≤◌, Bool, true, false, cond, List, [], ◌∷◌, ◌++◌, map, Option, Some, None, is_some, sym, ◌∙◌, ap, subst, refl, arith}
+use Rattle.std.proofs.Common.{◌≡◌, ℕ, ◌≤◌, Bool, true, false, cond, List, [], ◌∷◌, ◌++◌, map, Option, Some, None, sym, ◌∙◌, ap, subst, refl, arith}
 use Rattle.std.specs.Prelude.{fold, filter, find, option_map, unwrap_or}
-use Rattle.std.specs.List.{list_any, AllByRecursion, IsDistinct}
+use Rattle.std.specs.List.{list_any, AllByRecursion}
 use Rattle.std.specs.Option.{option_or}
 use Rattle.std.proofs.Math.Nat.{le_trans}
 use Rattle.std.proofs.lemmas.List.{append_assoc, map-append}
 use Rattle.dnsname.specs.Names.{Labels, same_name}
-use Rattle.history.proofs.Together.{same_name-turned}
-use Rattle.coalesce.proofs.ReadBack.{each-append}
 use Rattle.pushserver.specs.Sessions.{Made, Note, Queue, told, point_in, enqueued}
-use Rattle.pushserver.specs.Telling.{IsNoEarlier, NotesRise}
+use Rattle.pushserver.specs.ToldMessages.{IsNoEarlier, NotesRise}
 use Rattle.pushserver.proofs.Queues.{point_in-queued}
 
 -- the last note may be a later one
@@ -57,49 +55,6 @@ told-entered newest later queue names higher name =
     by (Some p) b = omega arith
     by None true = omega arith
     by None false = higher
-
--- ---- what an entry leaves of a queue: points of the history, each name once
-
-pub points-enqueued : (p later : ℕ) (queue : Queue) (name : Labels) → p ≤ later → AllByRecursion (λ e. e.1 ≤ later) queue → AllByRecursion (λ e. e.1 ≤ later) (enqueued p queue name)
-points-enqueued p later queue name higher low = by (is_some (point_in queue name))
-  where
-    by : (b : Bool) → AllByRecursion (λ (e : Labels × ℕ). e.1 ≤ later) (cond b queue (queue ++ (name, p) ∷ []))
-    by true = low
-    by false = each-append (λ (e : Labels × ℕ). e.1 ≤ later) queue ((name, p) ∷ []) low (higher, tt)
-
-pub points-queued : (p later : ℕ) (queue : Queue) (names : List Labels) → p ≤ later → AllByRecursion (λ e. e.1 ≤ later) queue → AllByRecursion (λ e. e.1 ≤ later) (fold (enqueued p) queue names)
-points-queued p later queue [] higher low = low
-points-queued p later queue (n ∷ ns) higher low = points-queued p later (enqueued p queue n) ns higher (points-enqueued p later queue n higher low)
-
-abbrev pub EachOnce : Queue → Type 0
-EachOnce queue = IsDistinct (λ (e f : Labels × ℕ). same_name e.0 f.0) queue
-
--- a name that has no point differs from each that is queued
-pub differs : (queue : Queue) (name : Labels) → is_some (point_in queue name) ≡ false → AllByRecursion (λ e. same_name e.0 name ≡ false) queue
-differs [] name none = tt
-differs (e ∷ es) name none = by (differs es name) (same_name name e.0) refl none
-  where
-    by : (is_some (point_in es name) ≡ false → AllByRecursion (λ (q : Labels × ℕ). same_name q.0 name ≡ false) es)
-        → (b : Bool) → same_name name e.0 ≡ b → is_some (option_map (λ (q : Labels × ℕ). q.1) (cond b (Some e) (find (λ (q : Labels × ℕ). same_name name q.0) es))) ≡ false
-        → AllByRecursion (λ (q : Labels × ℕ). same_name q.0 name ≡ false) (e ∷ es)
-    by rest true s none = cc
-    by rest false s none = (same_name-turned e.0 name ∙ s, rest none)
-
-pub once-push : (queue : Queue) (name : Labels) (p : ℕ) → EachOnce queue → AllByRecursion (λ e. same_name e.0 name ≡ false) queue → EachOnce (queue ++ (name, p) ∷ [])
-unfolding IsDistinct
-once-push [] name p once other = (tt, tt)
-once-push (e ∷ es) name p once other = (each-append (λ (f : Labels × ℕ). same_name e.0 f.0 ≡ false) es ((name, p) ∷ []) once.0 (other.0, tt), once-push es name p once.1 other.1)
-
-pub once-enqueued : (p : ℕ) (queue : Queue) (name : Labels) → EachOnce queue → EachOnce (enqueued p queue name)
-once-enqueued p queue name once = by (is_some (point_in queue name)) refl
-  where
-    by : (b : Bool) → is_some (point_in queue name) ≡ b → EachOnce (cond b queue (queue ++ (name, p) ∷ []))
-    by true s = once
-    by false s = once-push queue name p once (differs queue name s)
-
-pub once-queued : (p : ℕ) (queue : Queue) (names : List Labels) → EachOnce queue → EachOnce (fold (enqueued p) queue names)
-once-queued p queue [] once = once
-once-queued p queue (n ∷ ns) once = once-queued p (enqueued p queue n) ns (once-enqueued p queue n once)
 
 -- ---- what is left of a queue by a test that answers alike for the same names
 

@@ -17,17 +17,22 @@ use Rattle.coalesce.proofs.NetSizes.{net_fits_one_message}
 use Rattle.coalesce.proofs.Packing.{packed_fits_one_message}
 use Rattle.coalesce.proofs.PackedNames.{packed_leads, packed_is_read_back}
 use Rattle.history.specs.States.{records_at}
-use Rattle.pushserver.specs.Sessions.{Session, Subscription, Queue, Note, told, note_of, point_in, asks_for, wanted, written}
-use Rattle.pushserver.specs.Hubs.{Hub, newest, now, records_now, sent}
-use Rattle.pushserver.specs.Giving.{nets, stays_queued, says_notices, packs}
-use Rattle.pushserver.specs.Telling.{set_after}
+use Rattle.pushsession.specs.Subscribing.{says_notices, packs}
+use Rattle.pushserver.specs.Sessions.{Hub, Session, Subscription, Queue, Note, told, note_of, point_in, asks_for, wanted, written, sent, stays_queued}
+use Rattle.pushserver.specs.Sessions.{nets_of as nets_from}
+use Rattle.pushserver.specs.Hubs.{newest, now, keeps_now, tells_now, records_now}
+use Rattle.pushserver.proofs.AskedFor.{IsAsked, all_asked, matching-sent}
+use Rattle.pushserver.proofs.hub_steps.Pairs.{all-weaken}
+use Rattle.history.proofs.Together.{same_name-turned}
+use Rattle.pushserver.proofs.session_steps.Lists.{each-both}
+use Rattle.pushserver.proofs.session_steps.Names.{AreApart}
+use Rattle.pushserver.specs.ToldMessages.{set_after}
 use Rattle.pushserver.proofs.Queues.{point_in-same, same_name-octets}
 use Rattle.pushserver.proofs.told_rows.HubTells.{StatesTell}
-use Rattle.pushtelling.proofs.Messages.{noted, all_map, all_both, set_after-append}
-use Rattle.pushtelling.proofs.Notes.{AnswersAlike, left_by, point_in-left, told-below, EachOnce}
-use Rattle.pushtelling.proofs.Parts.{IsAsked, all_asked, matching-sent}
+use Rattle.pushtelling.proofs.Messages.{LeadsTo, noted_records, set_after-append}
+use Rattle.pushtelling.proofs.Notes.{AnswersAlike, left_by, point_in-left, told-below}
 use Rattle.pushtelling.proofs.Leading.{side-at}
-use Rattle.pushtelling.proofs.Tells.{Tells, Almost, almost, almost-left, tells-says, made_now, IsReadBack}
+use Rattle.pushtelling.proofs.Tells.{Tells, Almost, almost-left, tells-says, made_now, IsReadBack}
 use Rattle.pushtelling.proofs.Reading.{push_read}
 use Rattle.pushtelling.proofs.Quiet.{other_flags}
 
@@ -37,14 +42,14 @@ abbrev pub names_in : Queue → List Labels
 names_in queue = map (λ e. e.0) queue
 
 -- no name stands twice
-pub apart : (queue : Queue) → EachOnce queue → are_apart (names_in queue) ≡ true
+pub apart : (queue : Queue) → AreApart queue → are_apart (names_in queue) ≡ true
 unfolding IsDistinct
 apart [] once = refl
 apart (e ∷ es) once = ap (λ b. not b && are_apart (names_in es)) (unnamed es once.0) ∙ apart es once.1
   where
-    unnamed : (fs : Queue) → AllByRecursion (λ (f : Labels × ℕ). same_name e.0 f.0 ≡ false) fs → is_named_in e.0 (names_in fs) ≡ false
+    unnamed : (fs : Queue) → AllByRecursion (λ (f : Labels × ℕ). same_name f.0 e.0 ≡ false) fs → is_named_in e.0 (names_in fs) ≡ false
     unnamed [] other = refl
-    unnamed (f ∷ fs) other = ap (λ b. b || is_named_in e.0 (names_in fs)) other.0 ∙ unnamed fs other.1
+    unnamed (f ∷ fs) other = ap (λ b. b || is_named_in e.0 (names_in fs)) (same_name-turned e.0 f.0 ∙ other.0) ∙ unnamed fs other.1
 
 -- a name that isn't among them has no point
 pub no_point : (queue : Queue) (name : Labels) → is_named_in name (names_in queue) ≡ false → point_in queue name ≡ None
@@ -65,7 +70,7 @@ module _ (hub : Hub) (session : Session) where
   note = note_of (newest hub) session
 
   abbrev pub pack : List Notice × List Labels
-  pack = packed (nets hub session)
+  pack = packed (nets_from hub.start hub.history session.subscriptions session.queue)
 
   abbrev pub wanted_now : Labels → RecordSet
   wanted_now name = wanted session.subscriptions (at_name name (records_now hub))
@@ -85,7 +90,7 @@ module _ (hub : Hub) (session : Session) where
   nets-are [] = refl
   nets-are (e ∷ es) = ap (λ (more : Nets). (e.0, net (sent hub session e.0) (wanted_now e.0)) ∷ more) (nets-are es)
 
-  pub nets_are : nets hub session ≡ nets_of (sent hub session) wanted_now (names_in session.queue)
+  pub nets_are : nets_from hub.start hub.history session.subscriptions session.queue ≡ nets_of (sent hub session) wanted_now (names_in session.queue)
   nets_are = nets-are session.queue
 
   -- a name in another spelling
@@ -124,8 +129,8 @@ module _ (hub : Hub) (session : Session) where
 
     -- ---- the pack leads each subscriber to the note after it
 
-    pub leads : EachOnce session.queue → (question : Question) → IsAsked session.subscriptions question
-        → applied_all pack.0 question (noted hub.start hub.history note question) ≡ noted hub.start hub.history after question
+    pub leads : AreApart session.queue → (question : Question) → IsAsked session.subscriptions question
+        → applied_all pack.0 question (noted_records hub.start hub.history note question) ≡ noted_records hub.start hub.history after question
     leads once question asked =
         ap (λ set. applied_all pack.0 question set) (sym (matching-sent session.subscriptions question (records_at hub.start hub.history (told note question.name)) asked))
         ∙ ap (λ (named : Nets). applied_all (packed named).0 question (matching question (sent hub session question.name))) nets_are
@@ -159,40 +164,35 @@ module _ (hub : Hub) (session : Session) where
   lighter = record session { queue = stays_queued pack.1 session.queue }
 
   -- a session that packs a PUSH tells the history
-  pub tells-packs : StatesTell hub → Tells hub.start hub.history session → Tells hub.start hub.history (packs hub session)
+  pub tells-packs : StatesTell hub → Tells hub.start hub.history session → Tells hub.start hub.history (packs (keeps_now hub) (tells_now hub) (now hub) session)
   tells-packs states h = by pack.0 refl
     where
       base : Almost hub.start hub.history lighter
-      base = almost-left hub.start hub.history session stays stays-alike (almost hub.start hub.history session h)
+      base = almost-left hub.start hub.history session stays stays-alike h.most
 
-      led : AllByRecursion (λ (s : Subscription). applied_all pack.0 s.question (set_after session.made s) ≡ noted hub.start hub.history after s.question) session.subscriptions
-      led = all_both (λ (s : Subscription). set_after session.made s ≡ noted hub.start hub.history note s.question) (λ (s : Subscription). IsAsked session.subscriptions s.question)
-          (λ (s : Subscription). applied_all pack.0 s.question (set_after session.made s) ≡ noted hub.start hub.history after s.question)
-          session.subscriptions (λ s e asked. ap (applied_all pack.0 s.question) e ∙ leads states h.points h.names s.question asked) h.all (all_asked session.subscriptions)
+      led : AllByRecursion (λ (s : Subscription). applied_all pack.0 s.question (set_after session.made s) ≡ noted_records hub.start hub.history after s.question) session.subscriptions
+      led = each-both (LeadsTo hub.start hub.history session.made note) (λ (s : Subscription). IsAsked session.subscriptions s.question)
+          (λ (s : Subscription). applied_all pack.0 s.question (set_after session.made s) ≡ noted_records hub.start hub.history after s.question)
+          (λ s e asked. ap (applied_all pack.0 s.question) e ∙ leads states h.most.points h.most.names s.question asked) session.subscriptions h.all (all_asked session.subscriptions)
 
-      by : (notices : List Notice) → pack.0 ≡ notices → Tells hub.start hub.history (says_notices (newest hub) (now hub) notices lighter)
+      by : (notices : List Notice) → pack.0 ≡ notices → Tells hub.start hub.history (says_notices (keeps_now hub) (now hub) notices lighter)
       by [] none = record {
-        each = base.each;
-        all = all_map (λ (s : Subscription). applied_all pack.0 s.question (set_after session.made s) ≡ noted hub.start hub.history after s.question) (λ (s : Subscription). set_after session.made s ≡ noted hub.start hub.history after s.question)
-            session.subscriptions (λ s e. sym (ap (λ ns. applied_all ns s.question (set_after session.made s)) none) ∙ e) led;
-        notes = base.notes;
-        names = base.names;
-        points = base.points;
-        ids = base.ids;
-        id_sizes = base.id_sizes;
-        questions = base.questions;
+        most = base;
+        all = all-weaken (λ (s : Subscription). applied_all pack.0 s.question (set_after session.made s) ≡ noted_records hub.start hub.history after s.question)
+            (LeadsTo hub.start hub.history session.made after) (λ s e. sym (ap (λ ns. applied_all ns s.question (set_after session.made s)) none) ∙ e) session.subscriptions
+            led;
         whole = h.whole;
-        input = base.input;
+        octets = h.octets;
       }
       by (n ∷ ns) some =
-          tells-says hub.start hub.history lighter false (now hub) (push_message (n ∷ ns)) base
-          (all_map (λ (s : Subscription). s.filled ≤ written session) (λ (s : Subscription). s.filled ≤ written session + length (frame (push_message (n ∷ ns)))) session.subscriptions (λ s low. omega (arith, low)) h.whole)
-          (all_map (λ (s : Subscription). applied_all pack.0 s.question (set_after session.made s) ≡ noted hub.start hub.history after s.question)
-          (λ (s : Subscription). set_after (session.made ++ made_now hub.start hub.history lighter (push_message (n ∷ ns)) ∷ []) s ≡ noted hub.start hub.history after s.question)
-          session.subscriptions (λ s e. pushed s n ns some ∙ e) led)
+          tells-says hub.start hub.history lighter false (now hub) (push_message (n ∷ ns)) base h.octets
+          (all-weaken (λ (s : Subscription). s.filled ≤ written session) (λ (s : Subscription). s.filled ≤ written session + length (frame (push_message (n ∷ ns)))) (λ s low. omega (arith, low)) session.subscriptions h.whole)
+          (all-weaken (λ (s : Subscription). applied_all pack.0 s.question (set_after session.made s) ≡ noted_records hub.start hub.history after s.question)
+          (LeadsTo hub.start hub.history (session.made ++ made_now hub.start hub.history lighter (push_message (n ∷ ns)) ∷ []) after) (λ s e. pushed s n ns some ∙ e)
+          session.subscriptions led)
         where
           pushed : (s : Subscription) (n : Notice) (ns : List Notice) → pack.0 ≡ n ∷ ns
               → set_after (session.made ++ made_now hub.start hub.history lighter (push_message (n ∷ ns)) ∷ []) s ≡ applied_all pack.0 s.question (set_after session.made s)
           pushed s n ns some =
               set_after-append session.made (made_now hub.start hub.history lighter (push_message (n ∷ ns))) s (other_flags (push_message (n ∷ ns)) s.id refl)
-              ∙ ap (λ all. applied_all all s.question (set_after session.made s)) (pack_is_read states h.points n ns some ∙ sym some)
+              ∙ ap (λ all. applied_all all s.question (set_after session.made s)) (pack_is_read states h.most.points n ns some ∙ sym some)

@@ -10,13 +10,11 @@ use Rattle.std.proofs.lemmas.Nat.Bits.{bit_at_and}
 use Rattle.std.proofs.lemmas.Slice.Eq.{bytes_eq-Decides}
 use Rattle.rrset.specs.Header.{id_of, flags_of, is_response, answer_octets}
 use Rattle.rrset.specs.Rcodes.{noerror, formerr, refused, notauth, dsotypeni}
-use Rattle.dsotlv.specs.Answers.{answer_to}
+use Rattle.dsotlv.specs.Answers.{answer_to, not_implemented, answer_to_update, stop_message}
 use Rattle.dsotlv.specs.Messages.{tlvs_of}
 use Rattle.dsotlv.specs.declared.message.Notice.{Notice}
-use Rattle.pushsession.specs.Saying.{not_implemented, stop_message}
-use Rattle.pushserver.specs.Hubs.{Hub}
-use Rattle.pushserver.specs.Giving.{dso_answer, delayed_answer, grant_answer}
-use Rattle.pushserver.specs.Telling.{notices_in_tlvs}
+use Rattle.dsotlv.specs.Answers.{refusal_to, grant_to}
+use Rattle.pushserver.specs.ToldMessages.{notices_in_tlvs}
 use Rattle.pushtelling.proofs.Tells.{IsQuiet}
 
 -- ---- what isn't the NOERROR answer
@@ -42,24 +40,24 @@ other_length message id other = not_both (bytes_eq message (answer_to id noerror
 
 -- ---- answers by their flags or their length
 
-pub quiet-formerr : (message : List ℕ) → IsQuiet (dso_answer message formerr)
-quiet-formerr message = (refl, λ id. other_flags (dso_answer message formerr) id refl)
+pub quiet-formerr : (id : ℕ) → IsQuiet (answer_to id formerr)
+quiet-formerr id = (refl, λ other. other_flags (answer_to id formerr) other refl)
 
-pub quiet-dsotypeni : (message : List ℕ) → IsQuiet (dso_answer message dsotypeni)
-quiet-dsotypeni message = (refl, λ id. other_flags (dso_answer message dsotypeni) id refl)
+pub quiet-dsotypeni : (id : ℕ) → IsQuiet (answer_to id dsotypeni)
+quiet-dsotypeni id = (refl, λ other. other_flags (answer_to id dsotypeni) other refl)
 
-pub quiet-delayed_formerr : (message : List ℕ) → IsQuiet (delayed_answer message formerr)
-quiet-delayed_formerr message = (refl, λ id. other_flags (delayed_answer message formerr) id refl)
+pub quiet-refusal_formerr : (id : ℕ) → IsQuiet (refusal_to id formerr)
+quiet-refusal_formerr id = (refl, λ other. other_flags (refusal_to id formerr) other refl)
 
-pub quiet-delayed_refused : (message : List ℕ) → IsQuiet (delayed_answer message refused)
-quiet-delayed_refused message = (refl, λ id. other_flags (delayed_answer message refused) id refl)
+pub quiet-refusal_refused : (id : ℕ) → IsQuiet (refusal_to id refused)
+quiet-refusal_refused id = (refl, λ other. other_flags (refusal_to id refused) other refl)
 
-pub quiet-delayed_notauth : (message : List ℕ) → IsQuiet (delayed_answer message notauth)
-quiet-delayed_notauth message = (refl, λ id. other_flags (delayed_answer message notauth) id refl)
+pub quiet-refusal_notauth : (id : ℕ) → IsQuiet (refusal_to id notauth)
+quiet-refusal_notauth id = (refl, λ other. other_flags (refusal_to id notauth) other refl)
 
 -- also one with the ID of an active subscription
-pub quiet-grant : (hub : Hub) (message : List ℕ) → IsQuiet (grant_answer hub message)
-quiet-grant hub message = (refl, λ id. other_length (grant_answer hub message) id refl)
+pub quiet-grant : (id inactivity keepalive : ℕ) → IsQuiet (grant_to id inactivity keepalive)
+quiet-grant id inactivity keepalive = (refl, λ other. other_length (grant_to id inactivity keepalive) other refl)
 
 pub quiet-stop : (rcode delay : ℕ) → IsQuiet (stop_message rcode delay)
 quiet-stop rcode delay = (by (is_response (flags_of (stop_message rcode delay))), λ id. other_length (stop_message rcode delay) id refl)
@@ -82,8 +80,8 @@ quiet-header id flags small response other = (
 )
 
 -- the answer to an update with a small RCODE
-pub quiet-update : (message : List ℕ) (code : ℕ) → code < 2048 → IsQuiet (answer_octets (id_of message) (0xa800 + code))
-quiet-update message code small = quiet-header (id_of message) (0xa800 + code) (omega (arith, small)) (grind (arith, small)) (grind (arith, small))
+pub quiet-update : (id code : ℕ) → code < 2048 → IsQuiet (answer_to_update id code)
+quiet-update id code small = quiet-header id (0xa800 + code) (omega (arith, small)) (grind (arith, small)) (grind (arith, small))
 
 -- what another OPCODE gets is quiet: its RCODE is 4
 pub quiet-not_implemented : (message : List ℕ) → IsQuiet (not_implemented message)
@@ -111,12 +109,12 @@ quiet-not_implemented message = quiet-header (id_of message) (0x8000 + bit_and (
 
 -- ---- the answer to a SUBSCRIBE
 
-pub answer-itself : (message : List ℕ) → bytes_eq (dso_answer message noerror) (answer_to (id_of message) noerror) ≡ true
-answer-itself message = (bytes_eq-Decides (dso_answer message noerror) (answer_to (id_of message) noerror)).1 refl
+pub answer-itself : (id : ℕ) → bytes_eq (answer_to id noerror) (answer_to id noerror) ≡ true
+answer-itself id = (bytes_eq-Decides (answer_to id noerror) (answer_to id noerror)).1 refl
 
-pub answer-other : (message : List ℕ) (id : ℕ) → id_of message < 65536 → id < 65536 → (id_of message == id) ≡ false → bytes_eq (dso_answer message noerror) (answer_to id noerror) ≡ false
-answer-other message id small small_too other =
-    not_both (bytes_eq (dso_answer message noerror) (answer_to id noerror)) (λ e. clash (id_of message) id (sym (id_read (id_of message) small) ∙ ap id_of (same_octets (dso_answer message noerror) id e) ∙ id_read id small_too) other)
+pub answer-other : (first id : ℕ) → first < 65536 → id < 65536 → (first == id) ≡ false → bytes_eq (answer_to first noerror) (answer_to id noerror) ≡ false
+answer-other first id small small_too other =
+    not_both (bytes_eq (answer_to first noerror) (answer_to id noerror)) (λ e. clash first id (sym (id_read first small) ∙ ap id_of (same_octets (answer_to first noerror) id e) ∙ id_read id small_too) other)
   where
     id_read : (n : ℕ) → n < 65536 → id_of (answer_to n noerror) ≡ n
     id_read n low = from_be_bytes-to_be_bytes_2 n low

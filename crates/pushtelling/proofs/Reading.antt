@@ -15,7 +15,7 @@ use Rattle.dsotlv.specs.declared.message.Tlv.{Tlv}
 use Rattle.dsotlv.proofs.TlvLaws.{tlvs_there}
 use Rattle.coalesce.specs.Net.{push_message, max_net_message}
 use Rattle.coalesce.proofs.NetSizes.{length-push_message}
-use Rattle.pushserver.specs.Telling.{notices_in_tlvs}
+use Rattle.pushserver.specs.ToldMessages.{notices_in_tlvs}
 use Rattle.pushtelling.proofs.Tells.{IsReadBack}
 
 -- the one TLV of a PUSH

@@ -1,51 +1,18 @@
 -- What the server promises over any calls: each session was told what the history says.
---     HubCall, called      the calls of the hub; the hub after one
---     after_calls      the hub after several
 --     IsStartOfZones      what a history begins with
 --     SessionsTellTheHistory      the promise
 --     MessagesStay      what was told before stays
-use Rattle.std.specs.Prelude.{◌≡◌, ℕ, ◌<◌, List, [], ◌++◌, Some, fold, IsTrue}
+use Rattle.std.specs.Prelude.{◌≡◌, ℕ, ◌<◌, List, [], ◌++◌, Some, IsTrue}
 use Rattle.std.specs.List.{AllByRecursion}
 use Rattle.dnsname.specs.Names.{is_name}
 use Rattle.dsosession.specs.declared.session.Timers.{Timers}
 use Rattle.history.specs.Plans.{IsStart, may_stand_together}
 use Rattle.history.specs.Standing.{named_zones}
 use Rattle.history.specs.States.{State}
-use Rattle.pushserver.specs.Sessions.{Session, Made}
-use Rattle.pushserver.specs.Hubs.{Hub, new_hub, session_of, update, hear, moment, connect, take_octets, stop, end_session}
-use Rattle.pushserver.specs.Giving.{give}
-use Rattle.pushserver.specs.Simulation.{AreOctets}
-use Rattle.pushserver.specs.Telling.{TellsHistory}
-
-pub data HubCall : Type 0 where
-  updates : List ℕ → HubCall
-  hears : ℕ → List ℕ → HubCall
-  moves : ℕ → HubCall
-  connects : HubCall
-  takes : ℕ → List ℕ → HubCall
-  gives : ℕ → ℕ → HubCall
-  stops : ℕ → ℕ → ℕ → HubCall
-  ends : ℕ → HubCall
-
-abbrev pub called : HubCall → Hub → Hub
-called (updates message) hub = (update hub message).1
-called (hears link datagram) hub = (hear hub link datagram).1
-called (moves t) hub = (moment hub t).1
-called connects hub = (connect hub).1
-called (takes number piece) hub = take_octets hub number piece
-called (gives number room) hub = (give hub number room).hub
-called (stops number rcode delay) hub = stop hub number rcode delay
-called (ends number) hub = end_session hub number
-
--- one after the other
-abbrev pub after_calls : List HubCall → Hub → Hub
-after_calls calls hub = fold (λ h c. called c h) hub calls
-
--- what comes as octets are octets
-abbrev pub BringsOctets : HubCall → Type 0
-BringsOctets (updates message) = AreOctets message
-BringsOctets (takes number piece) = AreOctets piece
-BringsOctets _ = Unit {0}
+use Rattle.pushserver.specs.Sessions.{Hub, Session, Made, new_hub}
+use Rattle.pushserver.specs.Hubs.{session_of}
+use Rattle.pushserver.specs.Calls.{HubCall, after_calls, BringsOctets}
+use Rattle.pushserver.specs.ToldMessages.{TellsHistory}
 
 -- zones with their first records, which may stand together, and no links
 pub record IsStartOfZones (start : State) : Type 0 where

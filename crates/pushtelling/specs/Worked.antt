@@ -9,11 +9,11 @@ use Rattle.dsotlv.specs.TlvKinds.{keepalive_tlv}
 use Rattle.dsosession.specs.Timing.{default_timers}
 use Rattle.zoneupdate.specs.Zones.{new_zone}
 use Rattle.history.specs.States.{State}
-use Rattle.pushserver.specs.Sessions.{Session}
-use Rattle.pushserver.specs.Hubs.{new_hub, session_of}
-use Rattle.pushserver.specs.Telling.{notices_in, set_after}
+use Rattle.pushserver.specs.Sessions.{Session, new_hub}
+use Rattle.pushserver.specs.Hubs.{session_of}
+use Rattle.pushserver.specs.Calls.{HubCall, connects, takes, gives, updates, after_calls}
+use Rattle.pushserver.specs.ToldMessages.{notices_in, set_after}
 use Rattle.pushserver.specs.Worked.{named, subscribe}
-use Rattle.pushtelling.specs.Laws.{HubCall, connects, takes, gives, updates, after_calls}
 
 abbrev pub one_zone : State
 one_zone = record { zones = new_zone (name (codes "example.com.")) 1 true ∷ []; links = []; now = 0 }

@@ -7,7 +7,8 @@ use Rattle.dsotlv.specs.Messages.{frame, tlv_octets}
 use Rattle.dsotlv.specs.TlvKinds.{push_tlv}
 use Rattle.dsosession.specs.Timing.{default_timers}
 use Rattle.pushsession.specs.declared.standing.Standing.TheVariants.{Stopped}
-use Rattle.pushserver.specs.Sessions.{Session, Made, Subscription, new_session, made_octets}
+use Rattle.pushsession.specs.Sessions.{new_session}
+use Rattle.pushserver.specs.Sessions.{Session, plain_keeps, Made, Subscription, made_octets}
 use Rattle.pushclient.specs.Clients.{Wish, RequestState, unanswered, answered, new_client, new_connection, subscribe_message, unsubscribe_message}
 use Rattle.pushclient.specs.Steps.{keepalive_message}
 use Rattle.replay.specs.World.{new_seat}
@@ -28,7 +29,7 @@ holds_between client_established session wishes made up = flight_of default_time
     (record (new_seat (codes "c") false) { session = Some 0; up_wire = flat_map frame up; down_wire = flat_map made_octets made })
 
 abbrev pub begun : Session
-begun = new_session 0
+begun = new_session (plain_keeps 0) 0
 
 abbrev pub established : Session
 established = record begun { established = true }

@@ -3,16 +3,22 @@
 --     answers_to number messages hub      what a live session without output answers to whole messages, one after the other, until it ends
 --     AnswersInTurn      what it gives for pieces is what it answers to the whole messages in its input and all pieces
 --     OneOutputForEveryCut      so it gives one output for the same octets, however they are cut into pieces
-use Rattle.std.specs.Prelude.{◌≡◌, ℕ, ◌<◌, ◌≤◌, List, [], ◌∷◌, ◌++◌, length, All, Option, Some, None, option_map}
+--     AnswersEveryCutIn script      of each session between any two lines of a script that is built
+use Rattle.std.specs.Prelude.{◌≡◌, ℕ, ◌<◌, ◌≤◌, List, [], ◌∷◌, ◌++◌, length, All, Option, Some, None, option_map, Ok}
 use Rattle.std.specs.List.{concat}
 use Rattle.dsotlv.specs.Messages.{first_message, messages_in}
 use Rattle.pushsession.specs.declared.standing.Standing.{Standing}
 use Rattle.pushsession.specs.declared.standing.Standing.TheVariants.{Live}
 use Rattle.pushserver.specs.declared.given.Given.TheVariants.{End}
-use Rattle.pushserver.specs.Sessions.{Session}
-use Rattle.pushserver.specs.Hubs.{Hub, session_of, connect}
-use Rattle.pushserver.specs.Giving.{reacted, after_reaction}
-use Rattle.replay.specs.Running.{exchanged, enough}
+use Rattle.pushserver.specs.Sessions.{Session, Hub}
+use Rattle.pushserver.specs.Hubs.{session_of, connect}
+use Rattle.pushserver.specs.Giving.{reacted, after_reaction, without_first}
+use Rattle.replay.specs.Lines.{ScriptLine}
+use Rattle.replay.specs.Scripts.{script_of}
+use Rattle.replay.specs.World.{start_world}
+use Rattle.replay.specs.PassedOctets.{exchanged, enough}
+use Rattle.replay.specs.Text.{world_after}
+use Rattle.replay.specs.BuiltScripts.{first_later}
 
 -- the octets that a session gives for pieces that come one after the other, and the hub after them
 abbrev pub given_for : ℕ → List (List ℕ) → Hub → List ℕ × Hub
@@ -42,9 +48,6 @@ pub record IsAtRest (hub : Hub) (number : ℕ) (session : Session) : Type 0 wher
 abbrev pub ArePassable : List ℕ → Type 0
 ArePassable octets = All (λ o. o < 256) octets × (length octets ≤ enough)
 
-abbrev pub with_input : List ℕ → Session → Session
-with_input rest session = record session { input = rest }
-
 abbrev pub standing_of : Hub → ℕ → Option Standing
 standing_of hub number = option_map (λ s. s.standing) (session_of hub number)
 
@@ -53,7 +56,7 @@ pub record GivesAsAnswered (number : ℕ) (rest : List ℕ) (given answered : Li
   pub octets : given.0 ≡ answered.0
   pub history : given.1.history ≡ answered.1.history
   pub standing : standing_of given.1 number ≡ standing_of answered.1 number
-  pub session : standing_of answered.1 number ≡ Some Live → session_of given.1 number ≡ option_map (with_input rest) (session_of answered.1 number)
+  pub session : standing_of answered.1 number ≡ Some Live → session_of given.1 number ≡ option_map (without_first rest) (session_of answered.1 number)
 
 -- Where no whole message in its input and all pieces makes an entry, they are answered one after the other.
 abbrev pub AnswersInTurn : Hub → ℕ → Type 0
@@ -74,3 +77,10 @@ AnswersEveryCut hub = (number : ℕ) → AnswersInTurn hub number × OneOutputFo
 -- of each session that is there, and of the one that would come next
 abbrev pub AnswersEveryCutNow : Hub → Type 0
 AnswersEveryCutNow hub = AnswersEveryCut hub × AnswersEveryCut (connect hub).1
+
+-- Where a live session has no name queued and nothing to say, and no entry is made until the last piece is answered: the whole
+-- messages in its input and all pieces are answered one after the other, until it ends, and all pieces of the same octets give
+-- the same output.
+unfoldable pub AnswersEveryCutIn : List ℕ → Type 0
+AnswersEveryCutIn script = (before behind : List ScriptLine) → first_later script ≡ None → script_of script ≡ Ok (before ++ behind)
+    → AnswersEveryCutNow (world_after before (start_world (before ++ behind))).hub

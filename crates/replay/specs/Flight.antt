@@ -11,15 +11,15 @@ use Rattle.rrset.specs.declared.record.Question.{Question}
 use Rattle.rrset.specs.declared.record.Rr.{Rr}
 use Rattle.rrset.specs.Rcodes.{noerror, notauth}
 use Rattle.dsotlv.specs.Messages.{frame}
-use Rattle.dsotlv.specs.Answers.{answer_to, grant_to, refusal_to}
+use Rattle.dsotlv.specs.Answers.{answer_to, grant_to, refusal_to, stop_message}
 use Rattle.dsotlv.specs.Notices.{notices_of, notice_octets}
 use Rattle.dsotlv.specs.declared.message.Notice.{Notice}
 use Rattle.coalesce.specs.Net.{push_message}
 use Rattle.dsosession.specs.declared.session.Timers.{Timers}
-use Rattle.pushsession.specs.Saying.{stop_message}
+use Rattle.dsosession.specs.Timing.{least_keepalive}
 use Rattle.pushserver.specs.Sessions.{Session, Subscription, Made, made_octets}
-use Rattle.pushsession.specs.Kept.{is_open}
-use Rattle.pushserver.specs.Telling.{notices_since, is_answer_to}
+use Rattle.pushsession.specs.Sessions.{is_open}
+use Rattle.pushserver.specs.ToldMessages.{notices_since, is_answer_to}
 use Rattle.pushclient.specs.Clients.{Client, Connection, Wish, RequestState, unanswered, answered, subscribe_message, unsubscribe_message, reconfirm_message}
 use Rattle.pushclient.specs.Steps.{keepalive_message}
 
@@ -229,7 +229,7 @@ pub record Upward (e : BothEnds) (up : List ℕ) (flying : List Made) : Type 0 w
 
 -- the two numbers that are granted; a client closes on an interval under ten seconds (RFC 8490, 6.5.2)
 abbrev pub CanBeGranted : Timers → Type 0
-CanBeGranted timers = (timers.inactivity < 2 ^ 32) × (10000 ≤ timers.keepalive) × (timers.keepalive < 2 ^ 32)
+CanBeGranted timers = (timers.inactivity < 2 ^ 32) × (least_keepalive ≤ timers.keepalive) × (timers.keepalive < 2 ^ 32)
 
 pub record InFlight (e : BothEnds) (up down : List ℕ) : Type 0 where
   pub taken : List Made

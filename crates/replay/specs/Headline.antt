@@ -6,7 +6,7 @@
 --     NoMessageEnds      no message of a hub's client ends its session, and none of the hub but Retry Delay closes the client
 --     EveryCutGivesOneOutput      a peer is sent the same, however its octets are cut
 --     EndsStandFor kept clients world      the hub and the clients that ran a script
-use Rattle.std.specs.Prelude.{◌≡◌, ℕ, ◌+◌, Bool, true, false, not, List, [], ◌∷◌, ◌++◌, map, length, Option, Some, None, option_map, Ok, IsTrue, IsSome, codes, decimal, if◌then◌else◌}
+use Rattle.std.specs.Prelude.{◌≡◌, ℕ, ◌+◌, Bool, true, false, not, List, [], ◌∷◌, ◌++◌, map, length, Some, None, option_map, Ok, IsTrue, IsSome, codes, decimal, if◌then◌else◌}
 use Rattle.std.specs.List.{list_any, AllByRecursion, AllZip}
 use Rattle.std.specs.Str.{bytes_eq}
 use Rattle.rrset.specs.RecordSet.{RecordSet, matching}
@@ -18,22 +18,24 @@ use Rattle.dsosession.specs.declared.session.EndReason.TheVariants as ends
 use Rattle.dsosession.specs.declared.session.CloseReason.{CloseReason}
 use Rattle.dsosession.specs.declared.session.CloseReason.TheVariants as closes
 use Rattle.history.specs.States.{home_of}
-use Rattle.pushserver.specs.Sessions.{Session, Made, octets_made, subscription_of}
-use Rattle.pushserver.specs.Hubs.{Hub, state_now, records_now, session_of}
+use Rattle.pushsession.specs.Subscribing.{is_served}
+use Rattle.pushserver.specs.Sessions.{Session, Made, octets_made, subscription_of, Hub}
+use Rattle.pushserver.specs.Hubs.{state_now, records_now, session_of}
 use Rattle.pushserver.specs.declared.given.Given.TheVariants.{Nothing}
 use Rattle.pushserver.specs.Giving.{give}
-use Rattle.pushserver.specs.Telling.{TellsHistory}
+use Rattle.pushserver.specs.ToldMessages.{TellsHistory}
 use Rattle.pushserver.specs.Rule.{KeptHub, StandsFor}
 use Rattle.pushclient.specs.Clients.{Client, Connection, Wish, answered, wish_for, held, Held, set_held}
-use Rattle.pushclient.specs.Rule.{KeptWish, KeptClient}
+use Rattle.mirror.specs.Held.{set_of}
+use Rattle.pushclient.specs.Rule.{KeptClient, without_told}
 use Rattle.replay.specs.Lines.{Word, ScriptLine, show, settle}
 use Rattle.replay.specs.Scripts.{script_of}
 use Rattle.replay.specs.World.{World, Seat, seat_of, start_world, filled_of, last_of}
-use Rattle.replay.specs.Telling.{by_history, show_at, with_records, is_filling, records_told, record_line, spaced, end_words, close_words}
+use Rattle.replay.specs.TextWords.{by_history, show_at, with_records, is_filling, records_told, record_line, spaced, end_words, close_words}
 use Rattle.replay.specs.Text.{line_does, world_after, text_of_script, text_by_notices}
 use Rattle.replay.specs.Cuts.{AnswersEveryCutNow}
 use Rattle.replay.specs.Flight.{subscribed_at_last, InFlight, ends_of, going_up, going_down}
-use Rattle.replay.specs.Settled.{NeverEarlier, settled_from, settles_alone, has_class}
+use Rattle.replay.specs.HeldPoints.{NeverEarlier, settled_from, settles_alone}
 
 abbrev pub is_wanted : Client → Question → Bool
 is_wanted client question = elim (wish_for client question) [ None ↦ false | Some w ↦ w.wanted ]
@@ -46,7 +48,7 @@ held_lines w question written set =
 -- a `show` of a question that the client wants, and that has a home and a class, prints the records of the newest point
 abbrev pub ShowsNewest : World → Word → Type 0
 ShowsNewest world w = (seat : Seat) (question : Question) (written : List ℕ) → seat_of world w ≡ Some seat → IsTrue (is_wanted seat.client question)
-    → IsTrue (has_class question) → IsSome (home_of (state_now world.hub) question.name)
+    → IsTrue (is_served question.class) → IsSome (home_of (state_now world.hub) question.name)
     → (line_does by_history (show w question written) world).1 ≡ held_lines w question written (matching question (records_now world.hub))
 
 abbrev pub KeepsPromises : List ScriptLine → Type 0
@@ -136,16 +138,11 @@ shows_records seat (set_held id set) = if seat.is_lone then true else not (is_fi
 shows_records seat _ = false
 
 -- the set that is kept of a question is the one that `show` tells, where it tells one
-pub record KeepsTheSet (world : World) (seat : Seat) (kept : KeptWish) (wish : Wish) : Type 0 where
-  pub question : kept.question ≡ wish.question
-  pub wanted : kept.wanted ≡ wish.wanted
-  pub standing : kept.standing ≡ wish.standing
-  pub set : IsTrue (shows_records seat (held seat.client wish.question)) → kept.set ≡ (show_at by_history world seat wish.question).1
-
 pub record ClientStandsFor (world : World) (kept : KeptClient) (seat : Seat) : Type 0 where
-  pub wishes : AllZip (KeepsTheSet world seat) kept.wishes seat.client.wishes
+  pub wishes : kept.wishes ≡ map without_told seat.client.wishes
   pub connection : kept.connection ≡ seat.client.connection
   pub now : kept.now ≡ seat.client.now
+  pub sets : (question : Question) → IsTrue (shows_records seat (held seat.client question)) → set_of question kept.sets ≡ Some (show_at by_history world seat question).1
 
 -- the hub and the clients, in the order of their lines, that ran the script
 pub record EndsStandFor (kept : KeptHub) (clients : List KeptClient) (world : World) : Type 0 where

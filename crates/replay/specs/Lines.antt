@@ -8,6 +8,7 @@ use Rattle.push_base.specs.Cases.{chosen, is_empty}
 use Rattle.push_base.specs.Limits.{max_moment}
 use Rattle.push_base.specs.Optional.{◌>>=◌}
 use Rattle.push_base.specs.Hexadecimal.{hex_octets}
+use Rattle.dsosession.specs.Timing.{least_keepalive}
 use Rattle.dnsname.specs.Names.{Labels}
 use Rattle.dnsname.specs.Text.{name_of_text}
 use Rattle.rrset.specs.declared.record.Rr.{Rr}
@@ -59,12 +60,17 @@ abbrev pub begins_with_zero : List ℕ → Bool
 begins_with_zero (c ∷ d ∷ ds) = c == 48
 begins_with_zero _ = false
 
+-- whether a word has the form of a number: digits, at least one, and no leading zeros
+abbrev pub has_form : Word → Bool
+has_form [] = false
+has_form (c ∷ cs) = list_all is_digit (c ∷ cs) && not (begins_with_zero (c ∷ cs))
+
 -- a decimal number without leading zeros, at most the first one
 abbrev pub number : ℕ → Word → Option ℕ
 number greatest [] = None
 number greatest (c ∷ cs) =
     let n = fold (λ n d. 10 * n + (d - 48)) 0 (c ∷ cs) in
-    if list_all is_digit (c ∷ cs) && not (begins_with_zero (c ∷ cs)) && nat_le n greatest then Some n else None
+    if has_form (c ∷ cs) && nat_le n greatest then Some n else None
 
 abbrev pub number16 : Word → Option ℕ
 number16 = number 65535
@@ -72,9 +78,13 @@ number16 = number 65535
 abbrev pub number32 : Word → Option ℕ
 number32 = number max_u32
 
+-- what stands in a word: digits and lower-case letters
+abbrev pub is_word_octet : ℕ → Bool
+is_word_octet c = is_digit c || (nat_le 97 c && nat_le c 122)
+
 -- 1 to 32 lower-case letters and digits
 abbrev pub word : Word → Option Word
-word w = if nat_le 1 (length w) && nat_le (length w) 32 && list_all (λ c. is_digit c || (nat_le 97 c && nat_le c 122)) w then Some w else None
+word w = if nat_le 1 (length w) && nat_le (length w) 32 && list_all is_word_octet w then Some w else None
 
 -- an even number of hexadecimal digits, at most 131,074, or - for none
 abbrev pub octets_written : Word → Option (List ℕ)
@@ -116,12 +126,15 @@ of_word_and_question line (w ∷ n ∷ k ∷ c ∷ []) = word w >>= λ p. questi
 of_word_and_question line _ = None
 
 abbrev pub timers_line : List Word → Option ScriptLine
-timers_line (i ∷ k ∷ []) = number32 i >>= λ inactivity. number32 k >>= λ keepalive. if nat_le 10000 keepalive then Some (timers inactivity keepalive) else None
+timers_line (i ∷ k ∷ []) = number32 i >>= λ inactivity. number32 k >>= λ keepalive. if nat_le least_keepalive keepalive then Some (timers inactivity keepalive) else None
 timers_line _ = None
 
+-- whether a zone may be written
+abbrev pub writable_of : Word → Option Bool
+writable_of w = if is w (codes "open") then Some true else if is w (codes "shut") then Some false else None
+
 abbrev pub zone_line : List Word → Option ScriptLine
-zone_line (n ∷ s ∷ mode ∷ []) = name_of_text n >>= λ apex. number32 s >>= λ serial.
-    if is mode (codes "open") then Some (zone apex serial true) else if is mode (codes "shut") then Some (zone apex serial false) else None
+zone_line (n ∷ s ∷ mode ∷ []) = name_of_text n >>= λ apex. number32 s >>= λ serial. option_map (λ writable. zone apex serial writable) (writable_of mode)
 zone_line _ = None
 
 abbrev pub link_line : List Word → Option ScriptLine

@@ -10,18 +10,19 @@ use Rattle.dsosession.specs.declared.session.CloseReason.{CloseReason}
 use Rattle.pushserver.specs.declared.given.Heard.{Heard}
 use Rattle.pushserver.specs.declared.given.Heard.TheVariants.{Entered, Ignored}
 use Rattle.pushserver.specs.Hubs as hubs
-use Rattle.pushserver.specs.Hubs.{Hub, newest, now, connect}
+use Rattle.pushserver.specs.Hubs.{newest, now, connect}
 use Rattle.pushclient.specs.declared.client.Asked.{Asked}
 use Rattle.pushclient.specs.declared.client.Asked.TheVariants as asked
 use Rattle.pushclient.specs.Clients as clients
 use Rattle.pushclient.specs.Clients.{Client, is_connected, output_of, give_octets, closed_as, connected}
 use Rattle.pushclient.specs.Steps as steps
 use Rattle.replay.specs.Lines.{Word, ScriptLine, client, lone, at_moment, update, hear, ask, drop_question, reconfirm, open_connection, cut, say, up, emit, down, settle, send, feed, stop, point, show}
+use Rattle.replay.specs.Reply.{line}
 use Rattle.replay.specs.Scripts.{script_of}
 use Rattle.replay.specs.World.{Seat, World, new_seat, start_world, seat_of, with_seat, session_number, cut_connection, cut_peer}
-use Rattle.replay.specs.Running as running
-use Rattle.replay.specs.Running.{Passed, passed, enough, exchanged, settled, to_client}
-use Rattle.replay.specs.Telling.{spaced, end_words, close_words, why_words, octets_text, record_line, HeldRecords, by_history, by_notices, show_at}
+use Rattle.replay.specs.PassedOctets as running
+use Rattle.replay.specs.PassedOctets.{Passed, passed, enough, exchanged, settled, to_client}
+use Rattle.replay.specs.TextWords.{spaced, end_words, close_words, why_words, octets_text, record_line, HeldRecords, by_history, by_notices, show_at}
 
 -- a world, and the lines that were printed on the way to it
 abbrev pub Printed : Type 0
@@ -166,8 +167,12 @@ feeds w octets world = elim (seat_of world w) [
 abbrev pub session_of_word : World → Word → Option ℕ
 session_of_word world w = elim (seat_of world w) [ Some seat ↦ seat.session | None ↦ session_number world w ]
 
+-- a session is asked to stop, if there is one
+abbrev pub asked_to_stop : Option ℕ → ℕ → ℕ → World → World
+asked_to_stop session rcode delay world = elim session [ None ↦ world | Some number ↦ record world { hub = hubs.stop world.hub number rcode delay } ]
+
 abbrev pub stops : Word → ℕ → ℕ → World → Printed
-stops w rcode delay world = printing (codes "stop" ∷ w ∷ []) (elim (session_of_word world w) [ None ↦ world | Some number ↦ record world { hub = hubs.stop world.hub number rcode delay } ])
+stops w rcode delay world = printing (codes "stop" ∷ w ∷ []) (asked_to_stop (session_of_word world w) rcode delay world)
 
 abbrev pub shows : HeldRecords → Word → Question → List ℕ → World → Printed
 shows records w question written world = elim (seat_of world w) [
@@ -215,7 +220,7 @@ printed_by records (line ∷ lines) world = (let one = line_does records line wo
 
 -- each line ends with a line feed
 abbrev pub ended_lines : List (List ℕ) → List ℕ
-ended_lines lines = flat_map (λ l. l ++ 10 ∷ []) lines
+ended_lines lines = flat_map (λ l. line l) lines
 
 abbrev pub text_of_script : List ScriptLine → List ℕ
 text_of_script script = ended_lines (printed_by by_history script (start_world script))

@@ -13,24 +13,25 @@ use Rattle.rrset.specs.declared.record.Question.{Question}
 use Rattle.dsotlv.specs.TlvKinds.{keepalive_tlv, subscribe_tlv, unsubscribe_tlv, reconfirm_tlv}
 use Rattle.dsotlv.specs.Messages.{messages_in, head_of, primary_data}
 use Rattle.dsotlv.specs.Notices.{question_of, reconfirm_of, notice_octets, notices_of}
-use Rattle.pushserver.specs.Sessions.{Session, Made, Note, told, note_of, made_octets, octets_made, written}
-use Rattle.pushsession.specs.Kept.{is_open}
-use Rattle.pushserver.specs.Hubs.{Hub, newest, sent, session_of}
+use Rattle.pushserver.specs.Sessions.{Session, Made, Note, told, note_of, made_octets, octets_made, written, Hub, sent}
+use Rattle.pushserver.specs.Hubs.{newest, session_of}
 use Rattle.pushserver.specs.declared.given.Given.TheVariants.{Nothing}
 use Rattle.pushserver.specs.Giving.{give}
-use Rattle.pushserver.specs.Telling.{set_after, records_noted, notices_since, is_answer_to}
+use Rattle.pushserver.specs.ToldMessages.{set_after, records_noted, notices_since, is_answer_to}
 use Rattle.pushclient.specs.Clients.{Client, Connection, Wish, answered}
 use Rattle.history.specs.States.{home_of}
+use Rattle.pushsession.specs.Sessions.{is_open}
+use Rattle.pushsession.specs.Subscribing.{is_served}
 use Rattle.pushserver.specs.Hubs.{state_now, records_now}
 use Rattle.dsosession.specs.declared.session.Timers.{Timers}
 use Rattle.replay.specs.Lines.{Word, ScriptLine, ask, settle}
-use Rattle.replay.specs.Settled.{held_points, settles_alone, leaves_settled, has_class}
+use Rattle.replay.specs.HeldPoints.{held_points, settles_alone, leaves_settled}
 use Rattle.replay.specs.Headline.{is_wanted}
 use Rattle.replay.specs.World.{seat_of}
-use Rattle.replay.specs.Telling.{ShowTold, show_at, with_records}
+use Rattle.replay.specs.TextWords.{ShowTold, show_at, with_records}
 use Rattle.replay.specs.Scripts.{script_of}
 use Rattle.replay.specs.World.{Seat, World, start_world, whole_within}
-use Rattle.replay.specs.Telling.{by_history}
+use Rattle.replay.specs.TextWords.{by_history}
 use Rattle.replay.specs.Text.{line_does, text_of_script, text_by_notices}
 use Rattle.replay.specs.Flight.{BothEnds, going_up, going_down, unsubscribed_id, is_let_go, count_of, is_requested, is_active_answer, was_active, ClientMessage, subscribes, unsubscribes, reconfirms, requests_keepalive, request_id, answer_id, unanswered_ids, is_answered_as, is_active_as, unsubscribes_id, all_taken_up, ids_and_questions, answer_comes_first, ends_of, server_octets, ServerMessage, accepts, refuses, grants, tells, delays, used_ids, is_id, is_question}
 
@@ -163,7 +164,7 @@ same_told a b = bytes_eq a.0 b.0 && same_rows a.1 b.1
 -- right after a settle a wanted question that has a home shows the newest records
 abbrev pub is_newest : World → Seat → Question → Bool
 is_newest world seat q =
-    not (is_wanted seat.client q) || not (has_class q) || not (is_some (home_of (state_now world.hub) q.name))
+    not (is_wanted seat.client q) || not (is_served q.class) || not (is_some (home_of (state_now world.hub) q.name))
     || same_told (show_at by_history world seat q) (with_records (codes "held") (matching q (records_now world.hub)))
 
 abbrev pub newest_if : Bool → World → Word → Question → Bool

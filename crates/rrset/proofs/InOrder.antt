@@ -1,10 +1,8 @@
 -- What keeps a record set in key order, and that two sets in order are one where they show the same of each key.
 use Rattle.std.proofs.Common.{◌≡◌, Bool, not, List, [], ◌∷◌, Option, Some, None, T}
-use Rattle.std.specs.Prelude.{fold}
 use Rattle.std.specs.FinMap.Entries.{same_entries, is_sorted-where_key, is_sorted-put}
-use Rattle.rrset.specs.RecordSet.{RecordSet, is_in_order, put, only, without, union, put_rr, set_of, shown_at, with_changed, with_changes}
-use Rattle.rrset.specs.Records.{key_cmp, key_of, shown_of, same_key}
-use Rattle.rrset.specs.declared.record.Rr.{Rr}
+use Rattle.rrset.specs.RecordSet.{RecordSet, is_in_order, put, only, without, union, shown_at, with_changed, with_changes}
+use Rattle.rrset.specs.Records.{key_cmp, same_key}
 use Rattle.rrset.specs.declared.record.Key.{Key}
 use Rattle.rrset.specs.declared.record.Shown.{Shown}
 use Rattle.rrset.specs.declared.record.Changed.{Changed}
@@ -26,13 +24,6 @@ in_order-without p set h = in_order-only (λ key. not (p key)) set h
 pub in_order-union : (first second : RecordSet) → InOrder first → InOrder (union first second)
 in_order-union first [] h = h
 in_order-union first (e ∷ es) h = in_order-union (put e.0 e.1 first) es (in_order-put e.0 e.1 first h)
-
-pub in_order-put_rrs : (set : RecordSet) (rrs : List Rr) → InOrder set → InOrder (fold put_rr set rrs)
-in_order-put_rrs set [] h = h
-in_order-put_rrs set (rr ∷ rrs) h = in_order-put_rrs (put_rr set rr) rrs (in_order-put (key_of rr) (shown_of rr) set h)
-
-pub in_order-set_of : (rrs : List Rr) → InOrder (set_of rrs)
-in_order-set_of rrs = in_order-put_rrs [] rrs tt
 
 pub in_order-with_changed : (set : RecordSet) (c : Changed) → InOrder set → InOrder (with_changed set c)
 in_order-with_changed set c h = by c.after

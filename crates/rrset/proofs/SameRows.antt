@@ -6,7 +6,7 @@ use Rattle.std.specs.Cmp.Lexicographic.{pointwise_decides}
 use Rattle.std.proofs.lemmas.Cmp.{nat_list_cmp_total}
 use Rattle.dnsname.specs.Names.{octets}
 use Rattle.rrset.specs.Records.{key_cmp, same_key, same_octets, same_shown}
-use Rattle.rrset.specs.RecordSet.{RecordSet, same_keys, same_rows, shown_the_same, shown_at, union, changes}
+use Rattle.rrset.specs.RecordSet.{RecordSet, same_rows, shown_the_same, shown_at, union, changes}
 use Rattle.rrset.specs.declared.record.Key.{Key}
 use Rattle.rrset.specs.declared.record.Shown.{Shown}
 use Rattle.rrset.proofs.KeyOrder.{key_cmp_total, key_cmp-IsAntisymmetric}
@@ -52,11 +52,6 @@ same_rows-same a b e = (pointwise_decides same_row-decides a b).0 e
 
 pub same_rows-self : (a : RecordSet) → same_rows a a ≡ true
 same_rows-self a = (pointwise_decides same_row-decides a a).1 refl
-
--- what is the same has the same keys
-pub same_keys-self : (a : RecordSet) → same_keys a a ≡ true
-same_keys-self [] = refl
-same_keys-self (e ∷ es) = λ i. same_key-self e.0 i && same_keys-self es i
 
 -- ---- changes
 

@@ -39,13 +39,6 @@ only-put-failed p k s set h fails =
     by true false e o = refl
     by false b e o = refl
 
-pub only-put : (p : Key → Bool) (k : Key) (s : Shown) (set : RecordSet) → InOrder set → only p (put k s set) ≡ cond (p k) (put k s (only p set)) (only p set)
-only-put p k s set h = by (p k) refl
-  where
-    by : (b : Bool) → p k ≡ b → only p (put k s set) ≡ cond b (put k s (only p set)) (only p set)
-    by true e = only-put-passed p k s set h e
-    by false e = only-put-failed p k s set h e
-
 -- ---- many records
 
 -- the second of the two may be in any order

@@ -72,10 +72,3 @@ length-put-le key shown (e ∷ es) = by (key_cmp key e.0) (length-put-le key sho
     by Less h = omega arith
     by Equal h = omega arith
     by Greater h = omega arith
-
-pub length-union-le : (first second : RecordSet) → length (union first second) ≤ length first + length second
-length-union-le first [] = omega arith
-length-union-le first (e ∷ es) =
-    let rest = length-union-le (put e.0 e.1 first) es in
-    let one = length-put-le e.0 e.1 first in
-    omega arith

@@ -1,38 +1,39 @@
--- RCODEs, by their numbers (RFC 1035, 4.1.1; RFC 2136, 2.2; RFC 8490, 10.2).
+-- RCODEs, by their numbers (RFC 1035, 4.1.1; RFC 2136, 2.2; RFC 8490, 10.2). Each number stands in `rcodes` alone.
 use Rattle.std.specs.Prelude.{ℕ}
+use Rattle.rrset.specs.declared.rcodes.TheConstants as rcodes
 
 abbrev pub noerror : ℕ
-noerror = 0
+noerror = rcodes.NOERROR
 
 abbrev pub formerr : ℕ
-formerr = 1
+formerr = rcodes.FORMERR
 
 abbrev pub servfail : ℕ
-servfail = 2
+servfail = rcodes.SERVFAIL
 
 abbrev pub nxdomain : ℕ
-nxdomain = 3
+nxdomain = rcodes.NXDOMAIN
 
 abbrev pub notimp : ℕ
-notimp = 4
+notimp = rcodes.NOTIMP
 
 abbrev pub refused : ℕ
-refused = 5
+refused = rcodes.REFUSED
 
 abbrev pub yxdomain : ℕ
-yxdomain = 6
+yxdomain = rcodes.YXDOMAIN
 
 abbrev pub yxrrset : ℕ
-yxrrset = 7
+yxrrset = rcodes.YXRRSET
 
 abbrev pub nxrrset : ℕ
-nxrrset = 8
+nxrrset = rcodes.NXRRSET
 
 abbrev pub notauth : ℕ
-notauth = 9
+notauth = rcodes.NOTAUTH
 
 abbrev pub notzone : ℕ
-notzone = 10
+notzone = rcodes.NOTZONE
 
 abbrev pub dsotypeni : ℕ
-dsotypeni = 11
+dsotypeni = rcodes.DSOTYPENI

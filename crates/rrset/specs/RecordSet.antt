@@ -6,7 +6,7 @@
 --     matching      the part that a question asks for
 --     changes      what is shown otherwise in one set than in another
 --     with_changes      a set with such changes made to it
-use Rattle.std.specs.Prelude.{ℕ, Bool, not, ◌&&◌, List, [], map, Option, Some, None, fold, filter, sum_by, ◌==◌}
+use Rattle.std.specs.Prelude.{◌≡◌, ℕ, ◌<◌, Bool, not, ◌&&◌, List, [], map, length, take, Option, Some, None, fold, filter, sum_by, ◌==◌}
 use Rattle.std.specs.Option.{option_eq}
 use Rattle.std.specs.Cmp.Lexicographic.{pointwise}
 use Rattle.std.specs.List.{list_all}
@@ -73,6 +73,10 @@ set_of rrs = fold put_rr [] rrs
 -- all records of both sets; at a key of both, the second's
 abbrev pub union : RecordSet → RecordSet → RecordSet
 union first second = fold (λ set e. put e.0 e.1 set) first second
+
+-- the union with the first entries of a list, and not with the last
+abbrev pub IsUnionWithFront : RecordSet → RecordSet → RecordSet → Type 0
+IsUnionWithFront set entries all = (count : ℕ) × (count < length entries) × (all ≡ union set (take count entries))
 
 abbrev pub same_keys : RecordSet → RecordSet → Bool
 same_keys xs ys = pointwise (λ e f. same_key e.0 f.0) xs ys

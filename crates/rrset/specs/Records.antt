@@ -10,6 +10,7 @@ use Rattle.std.specs.Cmp.Lexicographic.{slice_cmp}
 use Rattle.dnsname.specs.Names.{octets, lower, same_name}
 use Rattle.rrset.specs.Kinds.{any_kind, any_class}
 use Rattle.rrset.specs.Rdata.{lowered_rdata}
+use Rattle.rrset.specs.declared.matching.TheConstants as matching
 use Rattle.rrset.specs.declared.record.Rr.{Rr}
 use Rattle.rrset.specs.declared.record.Key.{Key}
 use Rattle.rrset.specs.declared.record.Shown.{Shown}
@@ -29,9 +30,13 @@ rr_of key shown = record { owner = shown.owner; class = key.class; kind = key.ki
 abbrev pub counted_ttl : ℕ → ℕ
 counted_ttl ttl = if nat_lt ttl (2 ^ 31) then ttl else 0
 
--- owner, ten octets of fields, and rdata (RFC 1035, 3.2.1)
+-- the octets of a record's fields beside owner and rdata (RFC 1035, 3.2.1)
+abbrev pub fixed_fields : ℕ
+fixed_fields = matching.FIXED_FIELDS
+
+-- owner, fields and rdata (RFC 1035, 3.2.1)
 abbrev pub rr_size : Rr → ℕ
-rr_size rr = length (octets rr.owner) + 10 + length rr.rdata
+rr_size rr = length (octets rr.owner) + fixed_fields + length rr.rdata
 
 abbrev pub octets_cmp : List ℕ → List ℕ → Ordering
 octets_cmp = slice_cmp nat_cmp

@@ -1,8 +1,8 @@
 //! What is shown otherwise in one table than in another.
 
-ghost use Rattle.std.specs.Prelude.{◌≡◌, IfOk, OnOk};
+ghost use Rattle.std.specs.Prelude.{◌≡◌, IfOk, OnOk, OnErr};
 ghost use Rattle.rrset.specs.Records.{same_octets, same_key, same_shown};
-ghost use Rattle.rrset.specs.RecordSet.{changes, same_keys, same_rows, shown_at, shown_the_same, union};
+ghost use Rattle.rrset.specs.RecordSet.{IsUnionWithFront, changes, same_keys, same_rows, shown_at, shown_the_same, union};
 ghost use Rattle.rrset.specs.Tables.{HaveLowerOwners};
 
 use crate::record::{Changed, Key, NoMemory, Shown};
@@ -36,10 +36,11 @@ pub fn same_shown(first: &Shown, second: &Shown) -> bool
         && same_octets(first.rdata.as_slice(), second.rdata.as_slice())
 }
 
-/// Puts copies of entries over those of a table.
+/// Puts copies of entries over those of a table. Where memory runs out, the first of them are put.
 pub fn put_all(all: &mut Table, entries: &[(Key, Shown)]) -> Result<(), NoMemory>
     requires { HaveLowerOwners entries.now }
-    ensures { OnOk result (all.new.rows ≡ union all.old.rows entries.now) }
+    ensures all { OnOk result (all.new.rows ≡ union all.old.rows entries.now) }
+    ensures front { OnErr result (IsUnionWithFront all.old.rows entries.now all.new.rows) }
 {
     'entries: for (key, shown) in entries {
         all.put(key.copy()?, shown.copy()?)?;

@@ -13,6 +13,10 @@ pub const RESPONSE: u16 = 0x8000;
 pub const UPDATE_OPCODE: u16 = 5;
 /// The OPCODE of a DSO message (RFC 8490, 5.4).
 pub const DSO_OPCODE: u16 = 6;
+/// The flags of the answer to an update, with an RCODE of 0: QR, and the OPCODE of an update (RFC 2136, 3.8).
+pub const UPDATE_ANSWER: u16 = 0xa800;
+/// The flags of a request that stay in the answer that it isn't built: OPCODE and RD (RFC 1035, 4.1.1).
+pub const KEPT_FLAGS: u16 = 0x7900;
 
 /// Whether the flags are those of a response.
 pub fn is_response(flags: u16) -> bool

@@ -14,8 +14,6 @@ mod reading;
 pub mod record;
 mod shape;
 mod table;
-#[cfg(test)]
-mod tests;
 
 ghost use Rattle.std.specs.Prelude.{◌≡◌, [], ◌∷◌, true, false, codes, Some, None, Ok, Err, length};
 ghost use Rattle.push_base.specs.Hexadecimal.{hex};
@@ -34,6 +32,7 @@ pub use record::{
 pub use shape::shape_fits;
 pub use table::Table;
 
+/// Examples of rdata and keys.
 pub fn worked_rows()
     ensures address { shape_fits 1 (hex (codes "c0000201")) ≡ true }
     ensures no_address { shape_fits 1 (hex (codes "c00002")) ≡ false }

@@ -22,6 +22,7 @@ impl Rrs {
         Rrs { items }
     }
 
+    /// The records as a vector. No memory is taken.
     pub fn into_vec(self) -> Vec<Rr>
         ensures { result.items ≡ self }
     {
@@ -38,12 +39,14 @@ impl Rrs {
         Ok(())
     }
 
+    /// The records, in order.
     pub fn as_slice(&self) -> &[Rr]
         ensures { result.now ≡ self.now }
     {
         &self.items
     }
 
+    /// How many records there are.
     pub fn len(&self) -> usize
         ensures { result ≡ length self.now }
     {
@@ -68,6 +71,7 @@ impl Questions {
         Questions { items }
     }
 
+    /// The questions as a vector. No memory is taken.
     pub fn into_vec(self) -> Vec<Question>
         ensures { result.items ≡ self }
     {
@@ -84,12 +88,14 @@ impl Questions {
         Ok(())
     }
 
+    /// The questions, in order.
     pub fn as_slice(&self) -> &[Question]
         ensures { result.now ≡ self.now }
     {
         &self.items
     }
 
+    /// How many questions there are.
     pub fn len(&self) -> usize
         ensures { result ≡ length self.now }
     {
@@ -114,6 +120,7 @@ impl HeardRrs {
         HeardRrs { items }
     }
 
+    /// The heard records as a vector. No memory is taken.
     pub fn into_vec(self) -> Vec<HeardRr>
         ensures { result.items ≡ self }
     {
@@ -130,12 +137,14 @@ impl HeardRrs {
         Ok(())
     }
 
+    /// The heard records, in order.
     pub fn as_slice(&self) -> &[HeardRr]
         ensures { result.now ≡ self.now }
     {
         &self.items
     }
 
+    /// How many heard records there are.
     pub fn len(&self) -> usize
         ensures { result ≡ length self.now }
     {

@@ -3,20 +3,17 @@
 
 mod searching;
 mod subscriptions;
-#[cfg(test)]
-mod tests;
 
 ghost use Rattle.std.specs.Prelude.{◌≡◌, [], ◌∷◌, true, false, codes, None, Some};
-ghost use Rattle.push_base.specs.Limits.{max_questions};
 ghost use Rattle.dnsname.specs.Text.{name};
 ghost use Rattle.subscr.specs.Asked.{id_of, question_of, watches, without};
 
 pub use push_base::NoMemory;
-pub use subscriptions::{MAX_QUESTIONS, Subscriptions};
+pub use push_base::limits::MAX_QUESTIONS;
+pub use subscriptions::Subscriptions;
 
 /// Examples of what is asked.
 pub fn worked_rows()
-    ensures limit { MAX_QUESTIONS ≡ max_questions }
     ensures letter_case { id_of (record { name = name (codes "A."); kind = 1; class = 1 }) ((7, record { name = name (codes "a."); kind = 1; class = 1 }) ∷ []) ≡ Some 7 }
     ensures other_kind { id_of (record { name = name (codes "a."); kind = 28; class = 1 }) ((7, record { name = name (codes "a."); kind = 1; class = 1 }) ∷ []) ≡ None }
     ensures gone { without 7 ((7, record { name = name (codes "a."); kind = 1; class = 1 }) ∷ []) ≡ [] }

@@ -10,9 +10,6 @@ use rrset::record::{Key, Question};
 use std::alloc::Global;
 use std::marker::Model;
 
-/// The most questions that a session asks at once.
-pub const MAX_QUESTIONS: usize = 1_024;
-
 /// Questions with their IDs, in the order in which they were added: at most `MAX_QUESTIONS`, no ID twice, and no
 /// question twice (names but for case).
 #[derive(Debug, Drop)]

@@ -1,18 +1,41 @@
-//! Octets of messages, each with what it says or with the place of its fault, as tests of the crates below.
+//! Octets of messages, each with what it says or with the place of its fault, and what the calls of the crates below
+//! give, as tests of them.
 #![tactic(auto)]
 
 #[cfg(test)]
+mod asked;
+#[cfg(test)]
+mod client_sessions;
+#[cfg(test)]
 mod hearings;
+#[cfg(test)]
+mod histories;
+#[cfg(test)]
+mod made;
 #[cfg(test)]
 mod names;
 #[cfg(test)]
+mod nets;
+#[cfg(test)]
 mod notices;
+#[cfg(test)]
+mod outside;
+#[cfg(test)]
+mod queues;
 #[cfg(test)]
 mod rdata;
 #[cfg(test)]
 mod session_messages;
 #[cfg(test)]
+mod sessions;
+#[cfg(test)]
 mod shown;
+#[cfg(test)]
+mod sides;
+#[cfg(test)]
+mod streams;
+#[cfg(test)]
+mod tables;
 #[cfg(test)]
 mod updates;
 

@@ -1,4 +1,4 @@
-//! Names in messages and names without pointers (RFC 1035, 2.3.4, 3.1 and 4.1.4).
+//! Names in messages, names without pointers and texts of names (RFC 1035, 2.3.4, 3.1, 4.1.4 and 5.1).
 
 use crate::spaced_octets;
 use dnsname::{Name, NameFault, NoMemory};
@@ -270,6 +270,63 @@ fn names_are_read(rt: HostRuntime) -> Result<(), Fail> {
         assert_eq!(rt; (text.as_str(), place), read, "{shows}");
         let (text, place) = outcome(alloc, Name::read_plain(alloc, octets.as_slice(), at))?;
         assert_eq!(rt; (text.as_str(), place), plain, "plain: {shows}");
+    }
+    Ok(())
+}
+
+/// A name's text, its octets, and the text that it has.
+const TEXTS: [(&str, &[u8], &str); 2] = [
+    (
+        "a\\.b\\\\\\007\\065.Example.",
+        b"\x06a.b\\\x07A\x07Example\0",
+        "a\\.b\\\\\\007A.Example.",
+    ),
+    (".", b"\0", "."),
+];
+
+#[test]
+fn texts_are_read_and_written(rt: HostRuntime) -> Result<(), Fail> {
+    'texts: for (text, octets, written) in TEXTS {
+        let name = Name::from_text(rt.alloc(), text)?;
+        assert_eq!(rt; name.octets(), octets);
+        assert_eq!(rt; name.text()?.as_str(), written);
+    }
+    Ok(())
+}
+
+/// A name, a suffix of it and another one; the name in lower case, and with the other one in place of the suffix.
+const SUFFIXES: [(&str, &str, &str, &[u8], &[u8]); 1] = [(
+    "Printer.local.",
+    "LOCAL.",
+    "example.com.",
+    b"\x07printer\x05local\0",
+    b"\x07Printer\x07example\x03com\0",
+)];
+
+/// The octets of a name's copy with another suffix, or none where it would be too long.
+fn with_suffix(alloc: Global, name: &Name, old: &Name, new: &Name) -> Result<Vec<u8>, NoMemory> {
+    let mut out = Vec::new(alloc);
+    if !name.ends_in(old) {
+        return Ok(out);
+    }
+    if let Some(swapped) = name.swap_suffix(old, new)? {
+        swapped.copy()?.write_to(&mut out)?;
+    }
+    Ok(out)
+}
+
+#[test]
+fn suffixes_are_swapped(rt: HostRuntime) -> Result<(), Fail> {
+    'names: for (name, old, new, lower, swapped) in SUFFIXES {
+        let name = Name::from_text(rt.alloc(), name)?;
+        let old = Name::from_text(rt.alloc(), old)?;
+        let new = Name::from_text(rt.alloc(), new)?;
+        assert!(rt; !old.same(&new));
+        assert_eq!(rt; name.lower()?.octets(), lower);
+        assert_eq!(rt;
+            with_suffix(rt.alloc(), &name, &old, &new)?.as_slice(),
+            swapped
+        );
     }
     Ok(())
 }

@@ -10,7 +10,7 @@ use std::alloc::Global;
 use std::test::Fail;
 
 /// What a case shows, the message, its head, and what it says or its fault.
-const MESSAGES: [(&str, &str, &str, &str); 21] = [
+const MESSAGES: [(&str, &str, &str, &str); 22] = [
     (
         "a SUBSCRIBE",
         "0001 3000 0000 0000 0000 0000 0040 0011 076578616d706c6503636f6d00 0006 0001",
@@ -34,6 +34,12 @@ const MESSAGES: [(&str, &str, &str, &str); 21] = [
         "0001 3000 0000 0000 0000 0000 0001 0008 00003a98 00003a98",
         "1 3000 counts true, TLVs true, 1 of 8",
         "request 1 0: 1 [00003a9800003a98];",
+    ),
+    (
+        "an answer with a Keepalive",
+        "0001 b000 0000 0000 0000 0000 0001 0008 00000000 00003a98",
+        "1 b000 counts true, TLVs true, 1 of 8",
+        "answer 1 0: 1 [0000000000003a98];",
     ),
     (
         "a PUSH",
@@ -134,7 +140,7 @@ const MESSAGES: [(&str, &str, &str, &str); 21] = [
 ];
 
 /// What a case shows, the data of a SUBSCRIBE, and its name, kind and class.
-const QUESTIONS: [(&str, &str, &str); 10] = [
+const QUESTIONS: [(&str, &str, &str); 11] = [
     (
         "a question",
         "076578616d706c6503636f6d00 0006 0001",
@@ -149,6 +155,11 @@ const QUESTIONS: [(&str, &str, &str); 10] = [
         "every kind and class of the root",
         "00 00ff 00ff",
         ". 255 255",
+    ),
+    (
+        "the greatest class",
+        "056f7468657200 0001 ffff",
+        "other. 1 65535",
     ),
     ("no octet", "", "none"),
     ("a pointer", "c00c 0001 0001", "none"),
@@ -177,7 +188,7 @@ type Written = (
     &'static str,
 );
 
-const WRITTEN: [Written; 5] = [
+const WRITTEN: [Written; 6] = [
     (
         "an answer without a TLV",
         1,
@@ -201,6 +212,14 @@ const WRITTEN: [Written; 5] = [
         0,
         &[(0x1, "0000000000003a98")],
         "0018 0001 3000 0000 0000 0000 0000 0001 0008 00000000 00003a98",
+    ),
+    (
+        "an answer with a Keepalive",
+        1,
+        true,
+        0,
+        &[(0x1, "0000000000003a98")],
+        "0018 0001 b000 0000 0000 0000 0000 0001 0008 00000000 00003a98",
     ),
     (
         "a PUSH that adds the start of a zone",

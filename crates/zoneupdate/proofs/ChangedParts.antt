@@ -1,6 +1,6 @@
 -- A change looks at one name alone, and changes it alone.
 use Rattle.std.proofs.Common.{◌≡◌, ℕ, Bool, true, false, not, ◌&&◌, ◌||◌, List, [], ◌∷◌, Some, None, option_and_then, ◌==◌, refl, sym, ap, ◌∙◌}
-use Rattle.push_base.specs.Cases.{chosen, is_empty}
+use Rattle.push_base.specs.Cases.{is_empty}
 use Rattle.dnsname.specs.Names.{Labels, same_name}
 use Rattle.rrset.specs.Kinds.{in_class, any_class, any_kind, cname_kind, soa_kind, ns_kind}
 use Rattle.rrset.specs.Records.{key_of, shown_of, same_key}
@@ -47,18 +47,12 @@ cases_of apex rr rows =
     ∷ (same_name rr.owner apex && rr.kind == ns_kind && is_only (as_class_in rr) (set_at rr.owner ns_kind rows), rows)
     ∷ []
 
-pub changed_by-cases : (apex : Labels) (rows : RecordSet) (rr : Rr) → changed_by apex rows rr ≡ chosen (cases_of apex rr rows) (without (of_record rr) rows)
-changed_by-cases apex rows rr = refl
-
 -- the serial of the record is greater than that of the first of these
 abbrev pub newer_than : Rr → RecordSet → Bool
 newer_than rr soas = elim (option_and_then (λ shown. serial_of shown.rdata) (first_shown soas)) [
   | None ↦ false
   | Some old ↦ elim (serial_of rr.rdata) [ None ↦ false | Some new ↦ serial_is_greater new old ]
 ]
-
-pub is_newer_soa-newer : (rr : Rr) (rows : RecordSet) → is_newer_soa rr rows ≡ newer_than rr (set_at rr.owner soa_kind rows)
-is_newer_soa-newer rr rows = refl
 
 -- ---- what each test looks at, and what each change takes out, is at the name
 

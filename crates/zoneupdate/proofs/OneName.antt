@@ -1,9 +1,8 @@
 -- Tests of a record set by the records of one name.
-use Rattle.std.proofs.Common.{◌≡◌, ℕ, suc, ◌+◌, ◌<◌, Bool, true, false, cond, not, ◌&&◌, ◌==◌, List, [], ◌∷◌, length, get_or, drop, Option, Some, None, is_some, refl, sym, ap, ◌∙◌, arith}
+use Rattle.std.proofs.Common.{◌≡◌, ℕ, suc, Bool, true, false, cond, not, ◌&&◌, ◌==◌, List, [], ◌∷◌, length, Option, Some, None, is_some, refl, sym, ap, ◌∙◌, arith}
 use Rattle.std.specs.Prelude.{option_and_then}
 use Rattle.std.specs.List.{list_any}
 use Rattle.std.proofs.lemmas.Bool.Decides.{nat_tests}
-use Rattle.std.proofs.lemmas.List.{at_drop_more}
 use Rattle.push_base.specs.Cases.{is_empty}
 use Rattle.dnsname.specs.Names.{Labels, same_name}
 use Rattle.rrset.specs.Records.{key_of, same_key}
@@ -64,12 +63,6 @@ serial-at_name rows entries owner e = ap (λ l. serial_shown (first_shown l)) (a
 
 abbrev pub first_of : (Key → Bool) → RecordSet → Option Shown
 first_of p rows = first_shown (only p rows)
-
-pub first-here : (p : Key → Bool) (rows : RecordSet) (i : ℕ) (d : Key × Shown) → i < length rows → p (get_or rows i d).0 ≡ true → first_of p (drop i rows) ≡ Some (get_or rows i d).1
-first-here p rows i d h e = at_drop_more (first_of p) rows i d h ∙ ap (λ b. first_shown (cond b (get_or rows i d ∷ only p (drop (i + 1) rows)) (only p (drop (i + 1) rows)))) e
-
-pub first-later : (p : Key → Bool) (rows : RecordSet) (i : ℕ) (d : Key × Shown) → i < length rows → p (get_or rows i d).0 ≡ false → first_of p (drop i rows) ≡ first_of p (drop (i + 1) rows)
-first-later p rows i d h e = at_drop_more (first_of p) rows i d h ∙ ap (λ b. first_shown (cond b (get_or rows i d ∷ only p (drop (i + 1) rows)) (only p (drop (i + 1) rows)))) e
 
 -- ---- the only record of a name and kind
 

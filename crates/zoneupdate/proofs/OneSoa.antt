@@ -129,9 +129,6 @@ one_soa-replaced apex rr rows sorted one class kind serial = by (same_name rr.ow
     by true at = ap one_soa (soas-new apex (of_set rr) rr rows sorted (set-all apex rr at kind) (soa-key apex rr at class kind)) ∙ serial
     by false at = ap one_soa (soas-replaced apex rr rows sorted (λ e _. not_both (same_name rr.owner apex) e at)) ∙ one
 
-abbrev pub kind_is : ℕ → Rr → Bool
-kind_is kind rr = rr.kind == kind
-
 pub other_kind : (rr : Rr) → (rr.kind == soa_kind) ≡ false → rr.kind ≡ soa_kind → ⊥
 other_kind rr no_soa is = not_both (rr.kind == soa_kind) (eq-eqb rr.kind soa_kind is) no_soa
 

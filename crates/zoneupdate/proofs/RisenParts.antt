@@ -73,10 +73,6 @@ with_soas apex soas rows = fold put_rr (without (is_of_rrset apex in_class soa_k
 abbrev pub serial_stays : RecordSet → RecordSet → RecordSet → RecordSet → Bool
 serial_stays old new before soas = same_rows old new || not (same_rows before soas)
 
-pub with_risen_serial-cases : (apex : Labels) (old new : RecordSet)
-    → with_risen_serial apex old new ≡ cond (serial_stays old new (set_at apex soa_kind old) (set_at apex soa_kind new)) new (with_soas apex (set_at apex soa_kind new) new)
-with_risen_serial-cases apex old new = refl
-
 pub risen-only : (p : Key → Bool) (apex : Labels) (old new : RecordSet) → Covers p apex → InOrder old → IsSet new → AgreeApart p old new
     → only p (with_risen_serial apex old new) ≡ with_risen_serial apex (only p old) (only p new)
 risen-only p apex old new covers sorted set agree =

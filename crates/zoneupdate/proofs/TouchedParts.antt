@@ -7,10 +7,10 @@ use Rattle.rrset.specs.declared.record.Rr.{Rr}
 use Rattle.rrset.specs.declared.record.Key.{Key}
 use Rattle.rrset.proofs.Selected.{fails}
 use Rattle.rrset.proofs.Apart.{AgreeApart, changes-apart, length-apart}
-use Rattle.zoneupdate.specs.Zones.{ZoneState, is_zone}
+use Rattle.zoneupdate.specs.Zones.{ZoneState}
 use Rattle.zoneupdate.specs.Updates.{changed_by, with_risen_serial, rows_after}
 use Rattle.zoneupdate.specs.Touched.{is_touched, part_of, part_after}
-use Rattle.zoneupdate.proofs.Filters.{and-left, or-left, or-right}
+use Rattle.zoneupdate.proofs.Filters.{or-left, or-right}
 use Rattle.zoneupdate.proofs.Owners.{Covers}
 use Rattle.zoneupdate.proofs.RecordSets.{IsSet, set-in_order, set-changes}
 use Rattle.zoneupdate.proofs.RisenParts.{CoversAll, changes-only, changes-outside, risen-only, risen-outside}
@@ -35,9 +35,6 @@ pub touched-changes : (apex : Labels) (rrs : List Rr) → CoversAll (is_touched 
 touched-changes apex rrs = covers-any (is_touched apex rrs) rrs (touched-change apex rrs)
 
 -- ---- the rows after all changes
-
-pub zone-set : (zone : ZoneState) → is_zone zone ≡ true → IsSet zone.rows
-zone-set zone h = and-left _ _ (and-left _ _ (and-left _ _ h))
 
 -- the changes alone leave what isn't touched
 pub changed-untouched : (zone : ZoneState) (rrs : List Rr) → IsSet zone.rows → AgreeApart (is_touched zone.apex rrs) zone.rows (fold (changed_by zone.apex) zone.rows rrs)

@@ -15,6 +15,7 @@ use Rattle.rrset.specs.declared.record.Rr.{Rr}
 use Rattle.rrset.specs.declared.record.Key.{Key}
 use Rattle.rrset.specs.declared.record.Shown.{Shown}
 use Rattle.dnswire.specs.declared.message.Update.{Update}
+use Rattle.zoneupdate.specs.declared.planning.TheConstants as planning
 use Rattle.zoneupdate.specs.Zones.{ZoneState, set_at, soa_of, serial_of, with_serial, serial_is_greater, is_inside}
 
 abbrev pub with_counted_ttl : Rr → Rr
@@ -109,10 +110,11 @@ with_risen_serial apex old new =
     if same_rows old new || not (same_rows (set_at apex soa_kind old) soa) then new
     else fold put_rr (without (is_of_rrset apex in_class soa_kind) new) (map risen_soa soa)
 
+-- the most records of a zone (this project's own)
 abbrev pub max_zone_records : ℕ
-max_zone_records = 65536
+max_zone_records = planning.MAX_RECORDS
 
--- a name's records have at most 60,000 octets, and a zone at most 65,536 records (this project's own)
+-- few enough octets at each name, and few enough records (this project's own)
 abbrev pub is_within_limits : RecordSet → Bool
 is_within_limits rows = nat_le (length rows) max_zone_records && list_all (λ e. nat_le (size_at e.0.owner rows) max_octets_at_name) rows
 

@@ -11,6 +11,7 @@ use Rattle.dnsname.specs.Names.{Labels, octets, same_name, home}
 use Rattle.rrset.specs.Kinds.{in_class, ns_kind, soa_kind}
 use Rattle.rrset.specs.Rdata.{Field, raw, named, rdata_fields}
 use Rattle.rrset.specs.RecordSet.{RecordSet, is_of_rrset, only, set_of, is_record_set}
+use Rattle.zoneupdate.specs.declared.records.TheConstants as records
 use Rattle.rrset.specs.declared.record.Rr.{Rr}
 use Rattle.rrset.specs.declared.record.Shown.{Shown}
 
@@ -28,12 +29,12 @@ first_soa apex serial = record {
   owner = apex;
   class = in_class;
   kind = soa_kind;
-  ttl = 3600;
-  rdata = soa_rdata (codes "ns" ∷ apex) (codes "hostmaster" ∷ apex) (to_be_bytes w32 serial ++ to_be_bytes w32 3600 ++ to_be_bytes w32 600 ++ to_be_bytes w32 86400 ++ to_be_bytes w32 60);
+  ttl = records.TTL;
+  rdata = soa_rdata (codes "ns" ∷ apex) (codes "hostmaster" ∷ apex) (to_be_bytes w32 serial ++ to_be_bytes w32 records.REFRESH ++ to_be_bytes w32 records.RETRY ++ to_be_bytes w32 records.EXPIRE ++ to_be_bytes w32 records.MINIMUM);
 }
 
 abbrev pub first_ns : Labels → Rr
-first_ns apex = record { owner = apex; class = in_class; kind = ns_kind; ttl = 3600; rdata = octets (codes "ns" ∷ apex) }
+first_ns apex = record { owner = apex; class = in_class; kind = ns_kind; ttl = records.TTL; rdata = octets (codes "ns" ∷ apex) }
 
 -- a zone begins with its SOA and NS; their names, the TTL and the numbers behind the serial are this project's own
 abbrev pub new_zone : Labels → ℕ → Bool → ZoneState

@@ -26,6 +26,7 @@ pub use applying::make_changes;
 pub use plan::{Under, Verdict, ZoneFault, ZonePlan};
 pub use zone::Zone;
 
+/// Examples of zones and their updates.
 pub fn worked_rows()
     ensures zone { is_zone (new_zone (name (codes "example.com.")) 1 true) ≡ true }
     ensures zone_with_address { is_zone_after 4294967295 (codes "a.example.com.") 60 1 1 (hex (codes "c0000201")) ≡ Ok true }

@@ -48,6 +48,7 @@ impl Model for ZonePlan {
 }
 
 impl ZonePlan {
+    /// The keys, in key order.
     pub fn as_slice(&self) -> &[Changed]
         ensures { result.now ≡ self.now }
     {
@@ -58,7 +59,9 @@ impl ZonePlan {
 /// What an update gets: the RCODE that refuses it, or the keys that it changes (RFC 2136, 3).
 #[derive(Debug, Drop)]
 pub enum Verdict {
+    /// This RCODE refuses it.
     Refuse(u8),
+    /// It is accepted, and changes these keys.
     Accept(ZonePlan),
 }
 

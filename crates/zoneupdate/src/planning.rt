@@ -10,14 +10,12 @@ ghost use Rattle.zoneupdate.specs.Checking.{is_within};
 
 use crate::prerequisites::has_name;
 use dnsname::Name;
+use push_base::limits::MAX_OCTETS_AT_NAME;
 use rrset::{NoMemory, Rrs, Table, put_all};
 use std::alloc::Global;
 
 /// The most records of a zone.
 const MAX_RECORDS: usize = 65_536;
-
-/// The most octets of the records of one name.
-const MAX_OCTETS_AT_NAME: u64 = 60_000;
 
 /// Copies the records of a name from one table into another.
 fn copy_name(part: &mut Table, rows: &Table, name: &Name) -> Result<(), NoMemory>

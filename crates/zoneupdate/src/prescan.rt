@@ -16,17 +16,11 @@ use rrset::classes::{ANY, IN, NONE};
 use rrset::rcodes::{FORMERR, NOTZONE};
 use rrset::{Rr, Rrs, kinds};
 
-/// The kind of no record, but of what a message says of its sender (RFC 6891).
-const OPT: u16 = 41;
-
-/// The first of the kinds that stand in messages alone: meta kinds, and those of questions (RFC 6895, 3.1).
-const FIRST_META: u16 = 249;
-
 /// Whether no zone holds records of a kind.
 fn is_meta(kind: u16) -> bool
     ensures { result ≡ is_meta kind }
 {
-    (kind == 0) | (kind == OPT) | ((FIRST_META <= kind) & (kind <= kinds::ANY))
+    (kind == 0) | (kind == kinds::OPT) | ((kinds::FIRST_META <= kind) & (kind <= kinds::ANY))
 }
 
 /// The RCODE that a change is refused with.

@@ -13,14 +13,21 @@ use rrset::kinds::{NS, SOA};
 use rrset::{NoMemory, Rr, Shown, Table};
 use std::alloc::Global;
 
+// The times of a zone's first records, in seconds; they are this project's own (RFC 1035, 3.3.13).
+
+/// The TTL of both records.
 const TTL: u32 = 3600;
 
+/// After which another server asks whether the zone has changed.
 const REFRESH: u32 = 3600;
 
+/// After which it asks again where it got no answer.
 const RETRY: u32 = 600;
 
+/// After which it no longer answers for the zone.
 const EXPIRE: u32 = 86_400;
 
+/// How long what isn't there counts as not there (RFC 2308, 4).
 const MINIMUM: u32 = 60;
 
 /// The octets of the name of one label under another name.
@@ -71,7 +78,7 @@ pub(crate) fn first_soa(alloc: Global, apex: &Name, serial: u32) -> Result<Rr, N
 
 /// The serial and the four times of the SOA, each in four octets.
 fn soa_numbers(alloc: Global, serial: u32) -> Result<Vec<u8>, NoMemory>
-    ensures { IfOk result (λ octets. octets.items ≡ to_be_bytes w32 serial ++ to_be_bytes w32 3600 ++ to_be_bytes w32 600 ++ to_be_bytes w32 86400 ++ to_be_bytes w32 60) }
+    ensures { IfOk result (λ octets. octets.items ≡ to_be_bytes w32 serial ++ to_be_bytes w32 REFRESH ++ to_be_bytes w32 RETRY ++ to_be_bytes w32 EXPIRE ++ to_be_bytes w32 MINIMUM) }
 {
     let mut octets = Vec::new(alloc);
     octets.extend_from_slice(&serial.to_be_bytes())?;

@@ -40,11 +40,13 @@ impl Model for Zone {
 }
 
 impl Zone {
-    /// A zone with its SOA and NS. Its name has at most 200 octets.
+    /// A zone with its SOA and NS. `TooLong` comes exactly where its name has more than 200 octets, which is tested
+    /// before any memory is taken.
     pub fn new(alloc: Global, apex: Name, serial: u32, writable: bool) -> Result<Zone, ZoneFault>
         ensures made { IfOk result (λ zone. zone.state ≡ new_zone apex serial writable) }
         ensures short { OnOk result (length (octets apex) ≤ max_home_octets) }
         ensures long { IsErrOf result ZoneFault.TooLong → max_home_octets < length (octets apex) }
+        ensures too_long { max_home_octets < length (octets apex) → IsErrOf result ZoneFault.TooLong }
     {
         if apex.octets().len() > MAX_HOME_OCTETS {
             return Err(ZoneFault::TooLong);

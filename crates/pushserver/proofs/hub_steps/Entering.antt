@@ -1,123 +1,116 @@
 -- An entry of the hub that is kept is the entry of the plain one.
---     session-entered      a session notes what it queues
+--     session-entered      the names that the entry touches wait in a session
 --     entered-stands      the hub after the entry
-use Rattle.std.proofs.Common.{◌≡◌, ℕ, ◌+◌, ◌<◌, ◌≤◌, List, [], ◌∷◌, ◌++◌, length, Option, sym, ◌∙◌, ap, subst, refl, arith}
+use Rattle.std.proofs.Common.{◌≡◌, ℕ, ◌+◌, ◌<◌, ◌≤◌, List, [], ◌∷◌, ◌++◌, map, filter, Option, sym, ◌∙◌, ap, subst, refl, arith}
 use Rattle.std.proofs.lemmas.List.{length-append, length-map}
-use Rattle.std.specs.Prelude.{fold, IsSome, IsTrue, ◌||◌, ◌==◌}
+use Rattle.std.specs.Prelude.{fold, IsSome}
 use Rattle.std.specs.List.{AllByRecursion}
 use Rattle.dnsname.specs.Names.{Labels}
-use Rattle.rrset.specs.Kinds.{in_class, any_class}
 use Rattle.rrset.specs.RecordSet.{at_name, changes}
 use Rattle.rrset.specs.declared.record.Changed.{Changed}
 use Rattle.coalesce.specs.Waiting.{WaitingName}
+use Rattle.history.specs.Standing.{AreAtHome}
 use Rattle.history.specs.States.{after, home_of}
 use Rattle.history.specs.declared.entry.Entry.{Entry}
 use Rattle.history.specs.declared.entry.Home.{Home}
 use Rattle.history.proofs.LongerHistory.{records_at-append}
-use Rattle.pushsession.specs.Kept.{KeptSession, noted, touched, noted_name}
-use Rattle.pushserver.specs.Sessions as sessions
-use Rattle.pushserver.specs.Sessions.{Session, Subscription, queued, enqueued}
-use Rattle.pushserver.specs.Hubs as hubs
-use Rattle.pushserver.specs.Hubs.{Hub, newest, state_now, records_now, max_sessions}
-use Rattle.pushserver.specs.KeptHubs as kept
+use Rattle.pushsession.specs.Kept.{KeptSession, keeping}
+use Rattle.pushsession.specs.Sessions.{touched, noted}
+use Rattle.pushserver.specs.Sessions.{Hub, Session, Queue, enqueued, plain_keeps}
+use Rattle.pushserver.specs.Hubs.{newest, state_now, records_now, entered, all_sessions, max_sessions}
 use Rattle.pushserver.specs.Rows.{IsTellable}
 use Rattle.pushserver.specs.Rule.{SessionStandsFor, StandsFor, IsCopy}
 use Rattle.pushserver.proofs.session_steps.Lists.{each-both, each-map}
+use Rattle.pushserver.proofs.session_steps.Nets.{queue_of, wants-alike}
+use Rattle.pushserver.proofs.session_steps.Parts.{HasHome, Asks, Waits, reads, writes, of_parts}
 use Rattle.pushserver.proofs.told_rows.Histories.{state_at-last, states-more}
-use Rattle.pushserver.proofs.hub_steps.Pairs.{zip-map, all-weaken, distinct-map, in_each}
+use Rattle.pushserver.proofs.hub_steps.Pairs.{zip-map, all-weaken, distinct-map}
 use Rattle.pushserver.proofs.hub_steps.Standing.{kept_of, Stands, session-moved}
-use Rattle.pushserver.proofs.hub_steps.Queued.{place, places, touched-same, queue-fold, copies-fold, points-fold, names-fold}
+use Rattle.pushserver.proofs.hub_steps.Names.{home-after_entry}
+use Rattle.pushserver.proofs.hub_steps.Queued.{queue-fold, copies-fold, points-fold, names-fold}
 
 -- ---- the history with one more
-
-pub one_longer : (history : List Entry) (entry : Entry) → length (history ++ entry ∷ []) ≡ length history + 1
-one_longer history entry = length-append history (entry ∷ [])
 
 abbrev pub longer : Hub → Entry → Hub
 longer hub entry = record hub { history = hub.history ++ entry ∷ [] }
 
-pub state_now-longer : (hub : Hub) (entry : Entry) → state_now (longer hub entry) ≡ after (state_now hub) entry
+state_now-longer : (hub : Hub) (entry : Entry) → state_now (longer hub entry) ≡ after (state_now hub) entry
 state_now-longer hub entry = state_at-last hub.start hub.history entry
 
 -- ---- one session
 
-abbrev pub changed_by : Hub → Entry → List Changed
-changed_by hub entry = changes (records_now hub) (records_now (longer hub entry))
+module _ (hub : Hub) (entry : Entry) where
+  abbrev pub changed_by : List Changed
+  changed_by = changes (records_now hub) (records_now (longer hub entry))
 
-abbrev pub noted_by : Hub → Entry → KeptSession → KeptSession
-noted_by hub entry session = noted (changed_by hub entry) (records_now hub) (newest hub) session
+  abbrev pub kept_noted : KeptSession → KeptSession
+  kept_noted session = noted keeping changed_by (records_now hub) (newest hub) session
 
-abbrev pub queued_by : Hub → Entry → Session → Session
-queued_by hub entry session = queued (changed_by hub entry) (newest hub) session
+  abbrev pub plain_noted : Session → Session
+  plain_noted session = noted (plain_keeps (newest hub)) changed_by (records_now hub) (newest hub) session
 
--- the homes of names stay
-abbrev pub HomesStay : Hub → Entry → Type 0
-HomesStay hub entry = (name : Labels) → home_of (after (state_now hub) entry) name ≡ home_of (state_now hub) name
+  home-stays : AreAtHome (state_now hub) → (name : Labels) → IsSome (home_of (state_now hub) name) → IsSome (home_of (state_now (longer hub entry)) name)
+  home-stays at_home name h = subst (λ (o : Option Home). IsSome o) (sym (ap (λ s. home_of s name) (state_now-longer hub entry) ∙ home-after_entry (state_now hub) at_home entry name)) h
 
-home-stays : (hub : Hub) (entry : Entry) → HomesStay hub entry → (name : Labels) → IsSome (home_of (state_now hub) name) → IsSome (home_of (state_now (longer hub entry)) name)
-home-stays hub entry stay name h = subst (λ (o : Option Home). IsSome o) (sym (ap (λ s. home_of s name) (state_now-longer hub entry) ∙ stay name)) h
+  -- a copy of the past stays one
+  copy-longer : (w : WaitingName) → w.point ≤ newest hub → IsCopy hub w → IsCopy (longer hub entry) w
+  copy-longer w within copy = copy ∙ ap (at_name w.name) (sym (records_at-append hub.start hub.history (entry ∷ []) w.point within))
 
--- a copy of the past stays one, and a copy of the records now is one
-copy-longer : (hub : Hub) (entry : Entry) (w : WaitingName) → w.point ≤ newest hub → IsCopy hub w → IsCopy (longer hub entry) w
-copy-longer hub entry w within copy = copy ∙ ap (at_name w.name) (sym (records_at-append hub.start hub.history (entry ∷ []) w.point within))
+  more : newest (longer hub entry) ≡ newest hub + 1
+  more = length-append hub.history (entry ∷ [])
 
-pub session-entered : (hub : Hub) (entry : Entry) → HomesStay hub entry → (k : ℕ × KeptSession) (p : ℕ × Session)
-    → SessionStandsFor hub k p → SessionStandsFor (longer hub entry) (k.0, noted_by hub entry k.1) (p.0, queued_by hub entry p.1)
-session-entered hub entry stay k p s = record {
-  number = s.number;
-  below = s.below;
-  asked = s.asked;
-  filled = s.filled;
-  queue =
-      ap (λ names. places (fold (noted_name (records_now hub) (newest hub)) k.1.queue names)) (touched-same k.1.asked p.1.subscriptions s.asked (changed_by hub entry))
-      ∙ queue-fold (records_now hub) (newest hub) names k.1.queue
-      ∙ ap (λ q. fold (enqueued (newest hub)) q names) s.queue;
-  copies = copies-fold (IsCopy (longer hub entry)) (records_now hub) (newest hub) new_copy (touched k.1.asked (changed_by hub entry)) k.1.queue
-      (each-both (IsCopy hub) (λ (w : WaitingName). w.point < newest hub) (IsCopy (longer hub entry)) (λ w copy low. copy-longer hub entry w (omega (arith, low)) copy) k.1.queue s.copies past);
-  clocks = s.clocks;
-  established = s.established;
-  standing = s.standing;
-  input = s.input;
-  output = s.output;
-  written = s.written;
-  points = points-fold (λ (e : Labels × ℕ). e.1 < newest (longer hub entry)) (newest hub) (λ n. let more = one_longer hub.history entry in omega (arith, more)) names p.1.queue
-      (all-weaken (λ (e : Labels × ℕ). e.1 < newest hub) (λ (e : Labels × ℕ). e.1 < newest (longer hub entry)) (λ e low. let more = one_longer hub.history entry in omega (arith, more, low)) p.1.queue s.points);
-  names = names-fold (newest hub) names p.1.queue s.names;
-  few = s.few;
-  ids = s.ids;
-  questions = s.questions;
-  homes = all-weaken (λ (u : Subscription). IsTrue (u.question.class == in_class || u.question.class == any_class) × IsSome (home_of (state_now hub) u.question.name))
-      (λ (u : Subscription). IsTrue (u.question.class == in_class || u.question.class == any_class) × IsSome (home_of (state_now (longer hub entry)) u.question.name))
-      (λ u both. (both.0, home-stays hub entry stay u.question.name both.1)) p.1.subscriptions s.homes;
-  octets = s.octets;
-  input_fits = s.input_fits;
-  output_fits = s.output_fits;
-}
-  where
-    names : List Labels
-    names = sessions.touched p.1.subscriptions (changed_by hub entry)
+  session-entered : AreAtHome (state_now hub) → (k : ℕ × KeptSession) (p : ℕ × Session) → SessionStandsFor hub k p → SessionStandsFor (longer hub entry) (k.0, kept_noted k.1) (p.0, plain_noted p.1)
+  session-entered at_home k p s = of_parts (longer hub entry) (k.0, kept_noted k.1) (p.0, plain_noted p.1) s.number s.below asked waiting (reads hub k p s) (writes hub k p s) s.clocks s.established s.standing
+    where
+      asked : Asks (state_now (longer hub entry)) k.1.subscriptions p.1.subscriptions
+      asked = record {
+        asked = s.asked;
+        filled = s.filled;
+        few = s.few;
+        ids = s.ids;
+        questions = s.questions;
+        homes = all-weaken (HasHome (state_now hub)) (HasHome (state_now (longer hub entry))) (λ u both. (both.0, home-stays at_home u.question.name both.1)) p.1.subscriptions s.homes;
+      }
 
-    past : AllByRecursion (λ (w : WaitingName). w.point < newest hub) k.1.queue
-    past = each-map place (λ (e : Labels × ℕ). e.1 < newest hub) k.1.queue (subst (AllByRecursion (λ (e : Labels × ℕ). e.1 < newest hub)) (sym s.queue) s.points)
+      names : List Labels
+      names = touched (plain_keeps (newest hub)) p.1.subscriptions changed_by
 
-    new_copy : (n : Labels) → IsCopy (longer hub entry) (record { name = n; point = newest hub; old = at_name n (records_now hub) })
-    new_copy n = ap (at_name n) (sym (records_at-append hub.start hub.history (entry ∷ []) (newest hub) (omega arith)))
+      same_names : touched keeping k.1.subscriptions changed_by ≡ names
+      same_names = λ i. map (λ (c : Changed). c.key.owner) (filter (λ (c : Changed). wants-alike hub k p s c.key i) changed_by)
+
+      past : AllByRecursion (λ (w : WaitingName). w.point < newest hub) k.1.queue
+      past = each-map (λ (w : WaitingName). (w.name, w.point)) (λ (e : Labels × ℕ). e.1 < newest hub) k.1.queue (subst (AllByRecursion (λ (e : Labels × ℕ). e.1 < newest hub)) (sym s.queue) s.points)
+
+      new_copy : (n : Labels) → IsCopy (longer hub entry) (record { name = n; point = newest hub; old = at_name n (records_now hub) })
+      new_copy n = ap (at_name n) (sym (records_at-append hub.start hub.history (entry ∷ []) (newest hub) (omega arith)))
+
+      waiting : Waits hub.start (longer hub entry).history (kept_noted k.1).queue (plain_noted p.1).queue
+      waiting = record {
+        queue =
+            ap (λ ns. queue_of (fold (keeping.with_name (newest hub) (records_now hub)) k.1.queue ns)) same_names
+            ∙ queue-fold (records_now hub) (newest hub) names k.1.queue
+            ∙ ap (λ (q : Queue). fold (enqueued (newest hub)) q names) s.queue;
+        copies = copies-fold (IsCopy (longer hub entry)) (records_now hub) (newest hub) new_copy (touched keeping k.1.subscriptions changed_by) k.1.queue
+            (each-both (IsCopy hub) (λ (w : WaitingName). w.point < newest hub) (IsCopy (longer hub entry)) (λ w copy low. copy-longer w (omega (arith, low)) copy) k.1.queue s.copies past);
+        points = points-fold (λ (e : Labels × ℕ). e.1 < newest (longer hub entry)) (newest hub) (λ n. omega (arith, more)) names p.1.queue
+            (all-weaken (λ (e : Labels × ℕ). e.1 < newest hub) (λ (e : Labels × ℕ). e.1 < newest (longer hub entry)) (λ e low. omega (arith, more, low)) p.1.queue s.points);
+        names = names-fold (newest hub) names p.1.queue s.names;
+      }
 
 -- ---- the hub
 
-pub entered-stands : (hub : Hub) (ks : List (ℕ × KeptSession)) (entry : Entry) → HomesStay hub entry → IsTellable (after (state_now hub) entry) → Stands hub ks
-    → StandsFor (kept.entered entry (kept_of hub ks)) (hubs.entered entry hub)
-entered-stands hub ks entry stay last h = record {
+pub entered-stands : (hub : Hub) (ks : List (ℕ × KeptSession)) (entry : Entry) → IsTellable (after (state_now hub) entry) → Stands hub ks
+    → StandsFor (entered entry (kept_of hub ks)) (entered entry hub)
+entered-stands hub ks entry last h = record {
   timers = refl;
   made = refl;
   begins = h.begins;
   links = h.links;
   start = refl;
   history = refl;
-  index = refl;
   states = states-more hub.start hub.history entry h.states last;
-  sessions = zip-map (SessionStandsFor hub) (SessionStandsFor (hubs.entered entry hub)) (λ (e : ℕ × KeptSession). (e.0, noted_by hub entry e.1)) (λ (e : ℕ × Session). (e.0, queued_by hub entry e.1))
-      (λ k p s. session-moved (longer hub entry) (in_each (queued_by hub entry) hub.sessions) hub.made (omega arith) (k.0, noted_by hub entry k.1) (p.0, queued_by hub entry p.1) (session-entered hub entry stay k p s)) ks hub.sessions h.sessions;
-  numbers = distinct-map (λ (e : ℕ × Session). queued_by hub entry e.1) hub.sessions h.numbers;
-  seats = subst (λ n. n ≤ max_sessions) (sym (length-map hub.sessions (λ (e : ℕ × Session). (e.0, queued_by hub entry e.1)))) h.seats;
+  sessions = zip-map (SessionStandsFor hub) (SessionStandsFor (entered entry hub)) (λ (e : ℕ × KeptSession). (e.0, kept_noted hub entry e.1)) (λ (e : ℕ × Session). (e.0, plain_noted hub entry e.1))
+      (λ k p s. session-moved (longer hub entry) (all_sessions (plain_noted hub entry) hub.sessions) hub.made (omega arith) (k.0, kept_noted hub entry k.1) (p.0, plain_noted hub entry p.1) (session-entered hub entry (h.states (newest hub) (omega arith)).home k p s)) ks hub.sessions h.sessions;
+  numbers = distinct-map (λ (e : ℕ × Session). plain_noted hub entry e.1) hub.sessions h.numbers;
+  seats = subst (λ n. n ≤ max_sessions) (sym (length-map hub.sessions (λ (e : ℕ × Session). (e.0, plain_noted hub entry e.1)))) h.seats;
 }

@@ -1,11 +1,13 @@
 -- Two lists whose elements belong together one by one, and lists with numbers.
---     in_list number f xs      what has the number is changed
---     zip-map, zip-filter, zip-append      what stays together
-use Rattle.std.proofs.Common.{◌≡◌, ℕ, ◌≤◌, Bool, true, false, cond, List, [], ◌∷◌, ◌++◌, map, length, Option, Some, T, sym, ◌∙◌, ap, subst, refl, eqb→eq, arith}
-use Rattle.std.proofs.Math.Dec.{eqb_refl}
+--     zip-map, zip-push, zip-filter      what stays together
+--     zip-in      the elements of a number change
+use Rattle.std.proofs.Common.{◌≡◌, ℕ, Bool, true, false, cond, List, [], ◌∷◌, ◌++◌, map, Option, Some, None, sym, ◌∙◌, ap, refl}
 use Rattle.std.specs.Prelude.{find, filter, option_map, ◌==◌}
-use Rattle.pushserver.proofs.session_steps.Lists.{each-push}
-use Rattle.std.specs.List.{AllZip, AllByRecursion, IsDistinct}
+use Rattle.std.specs.List.{AllZip, AllByRecursion, IsDistinct, list_any}
+use Rattle.rrset.proofs.Distinct.{IsLone, lone, none_found}
+use Rattle.pushserver.specs.Hubs.{Numbered, session_in, in_sessions}
+use Rattle.pushserver.specs.Seats.{AreApart}
+use Rattle.pushserver.proofs.SessionLists.{same-number, number-itself}
 
 -- ---- two lists
 
@@ -35,8 +37,8 @@ zip-filter R p q same (x ∷ xs) (y ∷ ys) h = by (p x) (q y) (same x y h.0) h.
   where
     by : (a b : Bool) → a ≡ b → R x y → AllZip R (filter p xs) (filter q ys) → AllZip R (cond a (x ∷ filter p xs) (filter p xs)) (cond b (y ∷ filter q ys) (filter q ys))
     by true true e r h = (r, h)
-    by true false e r h = cc
-    by false true e r h = cc
+    by true false e r h = absurd cc
+    by false true e r h = absurd cc
     by false false e r h = h
 
 -- ---- one list
@@ -49,78 +51,37 @@ pub all-weaken : {A : Type 0} (P Q : A → Type 0) → ((x : A) → P x → Q x)
 all-weaken P Q step [] all = tt
 all-weaken P Q step (x ∷ xs) all = (step x all.0, all-weaken P Q step xs all.1)
 
-pub all-filter : {A : Type 0} (P : A → Type 0) (p : A → Bool) (xs : List A) → AllByRecursion P xs → AllByRecursion P (filter p xs)
-all-filter P p [] all = tt
-all-filter P p (x ∷ xs) all = by (p x) all.0 (all-filter P p xs all.1)
-  where
-    by : (b : Bool) → P x → AllByRecursion P (filter p xs) → AllByRecursion P (cond b (x ∷ filter p xs) (filter p xs))
-    by true h r = (h, r)
-    by false h r = r
-
-pub distinct-filter : {A : Type 0} (e : A → A → Bool) (p : A → Bool) (xs : List A) → IsDistinct e xs → IsDistinct e (filter p xs)
-unfolding IsDistinct
-distinct-filter e p [] once = tt
-distinct-filter e p (x ∷ xs) once = by (p x) once.0 (distinct-filter e p xs once.1)
-  where
-    by : (b : Bool) → AllByRecursion (λ y. e x y ≡ false) xs → IsDistinct e (filter p xs) → IsDistinct e (cond b (x ∷ filter p xs) (filter p xs))
-    by true h r = (all-filter (λ y. e x y ≡ false) p xs h, r)
-    by false h r = r
-
-pub distinct-push : {A : Type 0} (e : A → A → Bool) (xs : List A) (x : A) → IsDistinct e xs → AllByRecursion (λ y. e y x ≡ false) xs → IsDistinct e (xs ++ x ∷ [])
-unfolding IsDistinct
-distinct-push e [] x once apart = (tt, tt)
-distinct-push e (a ∷ xs) x once apart = (each-push (λ y. e a y ≡ false) xs x once.0 apart.0, distinct-push e xs x once.1 apart.1)
-
-pub filter-shorter : {A : Type 0} (p : A → Bool) (xs : List A) → length (filter p xs) ≤ length xs
-filter-shorter p [] = omega arith
-filter-shorter p (x ∷ xs) = by (p x) (filter-shorter p xs)
-  where
-    by : (b : Bool) → length (filter p xs) ≤ length xs → length (cond b (x ∷ filter p xs) (filter p xs)) ≤ length (x ∷ xs)
-    by true h = omega (arith, h)
-    by false h = omega (arith, h)
-
--- ---- a list with numbers
-
-abbrev pub in_list : {S : Type 0} → ℕ → (S → S) → List (ℕ × S) → List (ℕ × S)
-in_list number f xs = map (λ e. (e.0, cond (e.0 == number) (f e.1) e.1)) xs
-
-abbrev pub in_each : {S : Type 0} → (S → S) → List (ℕ × S) → List (ℕ × S)
-in_each f xs = map (λ e. (e.0, f e.1)) xs
-
-abbrev pub numbered : {S : Type 0} → ℕ → List (ℕ × S) → Option S
-numbered number xs = option_map (λ e. e.1) (find (λ e. e.0 == number) xs)
-
--- one change after another is one change
-pub in_list-fused : {S : Type 0} (number : ℕ) (f g : S → S) (xs : List (ℕ × S)) → in_list number f (in_list number g xs) ≡ in_list number (λ s. f (g s)) xs
-in_list-fused number f g [] = refl
-in_list-fused {S} number f g (x ∷ xs) = by (x.0 == number) (in_list-fused number f g xs)
-  where
-    by : (b : Bool) → in_list number f (in_list number g xs) ≡ in_list number (λ s. f (g s)) xs
-        → (x.0, cond b (f (cond b (g x.1) x.1)) (cond b (g x.1) x.1)) ∷ in_list number f (in_list number g xs) ≡ (x.0, cond b (f (g x.1)) x.1) ∷ in_list number (λ s. f (g s)) xs
-    by true h = ap (λ r. (x.0, f (g x.1)) ∷ r) h
-    by false h = ap (λ r. (x.0, x.1) ∷ r) h
-
--- what was changed is found as it is then
-pub numbered-in : {S : Type 0} (number : ℕ) (f : S → S) (xs : List (ℕ × S)) → numbered number (in_list number f xs) ≡ option_map f (numbered number xs)
-numbered-in number f [] = refl
-numbered-in {S} number f (x ∷ xs) = by (x.0 == number) (numbered-in number f xs)
-  where
-    by : (b : Bool) → numbered number (in_list number f xs) ≡ option_map f (numbered number xs)
-        → option_map (λ (e : ℕ × S). e.1) (cond b (Some (x.0, cond b (f x.1) x.1)) (find (λ (e : ℕ × S). e.0 == number) (in_list number f xs)))
-        ≡ option_map f (option_map (λ (e : ℕ × S). e.1) (cond b (Some x) (find (λ (e : ℕ × S). e.0 == number) xs)))
-    by true h = refl
-    by false h = h
+-- ---- lists with numbers
 
 -- numbers differ still when what they number changes
-pub distinct-map : {S : Type 0} (f : ℕ × S → S) (xs : List (ℕ × S)) → IsDistinct (λ (e g : ℕ × S). e.0 == g.0) xs → IsDistinct (λ (e g : ℕ × S). e.0 == g.0) (map (λ e. (e.0, f e)) xs)
+pub distinct-map : {S : Type 0} (f : ℕ × S → S) (xs : Numbered S) → AreApart xs → AreApart (map (λ e. (e.0, f e)) xs)
 unfolding IsDistinct
 distinct-map f [] once = tt
 distinct-map {S} f (x ∷ xs) once = (all-map (λ e. (e.0, f e)) (λ (g : ℕ × S). (x.0 == g.0) ≡ false) xs once.0, distinct-map f xs once.1)
 
--- a number that none has changes nothing
-pub absent-here : (a n m : ℕ) → (a == n) ≡ true → (a == m) ≡ false → (m == n) ≡ false
-absent-here a n m is other = by (m == n) refl
+-- one element at most has a number
+pub lone-number : {S : Type 0} (number : ℕ) (xs : Numbered S) → AreApart xs → IsLone (λ (e : ℕ × S). e.0 == number) xs
+lone-number {S} number xs once = lone (λ (d e : ℕ × S). d.0 == e.0) (λ e. e.0 == number) (λ d e first second. ap (λ n. n == e.0) (same-number d.0 number first ∙ sym (same-number e.0 number second)) ∙ number-itself e.0) xs once
+
+-- what belongs together does so after a change, where the second is the one that is found
+abbrev Steps : {S P : Type 0} → (ℕ × S → ℕ × P → Type 0) → (S → S) → (P → P) → Option P → Type 0
+Steps {S} {P} R f g found = (x : ℕ × S) (y : ℕ × P) → found ≡ Some y.1 → R x y → R (x.0, f x.1) (y.0, g y.1)
+
+-- the elements of a number change
+pub zip-in : {S P : Type 0} (R : ℕ × S → ℕ × P → Type 0) → ((x : ℕ × S) (y : ℕ × P) → R x y → x.0 ≡ y.0) → (number : ℕ) (f : S → S) (g : P → P) (xs : Numbered S) (ys : Numbered P) → IsLone (λ (e : ℕ × P). e.0 == number) ys
+    → Steps R f g (session_in number ys) → AllZip R xs ys → AllZip R (in_sessions number f xs) (in_sessions number g ys)
+zip-in R same number f g [] [] once step h = tt
+zip-in R same number f g [] (y ∷ ys) once step h = absurd h
+zip-in R same number f g (x ∷ xs) [] once step h = absurd h
+zip-in {S} {P} R same number f g (x ∷ xs) (y ∷ ys) once step h = by (x.0 == number) (y.0 == number) (ap (λ n. n == number) (same x y h.0)) once.0 step (λ step. zip-in R same number f g xs ys once.1 step h.1)
   where
-    by : (b : Bool) → (m == n) ≡ b → b ≡ false
-    by true e = let both : a ≡ m = eqb→eq a n (subst T (sym is) tt) ∙ sym (eqb→eq m n (subst T (sym e) tt)) in absurd (subst T (ap (λ x. x == m) (sym both) ∙ other) (eqb_refl m))
-    by false e = refl
+    absent : session_in number ys ≡ None → Steps R f g (session_in number ys)
+    absent none x y found r = let wrong : None ≡ Some y.1 = sym none ∙ found in absurd cc
+
+    by : (a b : Bool) → a ≡ b → (b ≡ true → list_any (λ (e : ℕ × P). e.0 == number) ys ≡ false) → Steps R f g (option_map (λ (e : ℕ × P). e.1) (cond b (Some y) (find (λ (e : ℕ × P). e.0 == number) ys)))
+        → (Steps R f g (session_in number ys) → AllZip R (in_sessions number f xs) (in_sessions number g ys))
+        → AllZip R ((x.0, cond a (f x.1) x.1) ∷ in_sessions number f xs) ((y.0, cond b (g y.1) y.1) ∷ in_sessions number g ys)
+    by true true e lone step rest = (step x y refl h.0, rest (absent (ap (λ o. option_map (λ (e : ℕ × P). e.1) o) (none_found (λ (e : ℕ × P). e.0 == number) ys (lone refl)))))
+    by true false e lone step rest = absurd cc
+    by false true e lone step rest = absurd cc
+    by false false e lone step rest = (h.0, rest step)

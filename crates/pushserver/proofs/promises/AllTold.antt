@@ -22,12 +22,11 @@ use Rattle.coalesce.proofs.Telling.{nothing_to_tell}
 use Rattle.history.specs.States.{state_at, records_at}
 use Rattle.history.proofs.Together.{same_name-turned}
 use Rattle.pushsession.specs.Kept.{KeptSession}
-use Rattle.pushserver.specs.Sessions.{Session, Subscription, Queue, note_of, told, asks_for, wanted}
-use Rattle.pushserver.specs.Hubs.{Hub, newest, records_now, sent}
+use Rattle.pushserver.specs.Sessions.{Hub, Session, Subscription, Queue, note_of, told, asks_for, wanted, sent}
+use Rattle.pushserver.specs.Hubs.{session_in, newest, records_now}
 use Rattle.pushserver.specs.Rule.{ArePast}
 use Rattle.pushserver.specs.Laws.{NothingWhereAllIsTold}
 use Rattle.pushserver.proofs.Queues.{point_in-same}
-use Rattle.pushserver.proofs.hub_steps.Pairs.{numbered}
 use Rattle.pushserver.proofs.hub_steps.Standing.{FoundBoth, both_found}
 use Rattle.pushserver.proofs.promises.Answers.{are_empty, quiet-given, given-quiet}
 use Rattle.pushserver.proofs.session_steps.Lists.{found-each}
@@ -163,4 +162,4 @@ nothing_where_all_is_told kept hub number room session stands has = (
     past : ArePast (newest hub) session.queue
     past =
         let both = both_found hub number kept.sessions hub.sessions stands.sessions in
-        queue-past hub number (numbered number kept.sessions) session (subst (λ (o : Option Session). FoundBoth hub number (numbered number kept.sessions) o) has both)
+        queue-past hub number (session_in number kept.sessions) session (subst (λ (o : Option Session). FoundBoth hub number (session_in number kept.sessions) o) has both)

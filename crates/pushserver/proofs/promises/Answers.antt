@@ -5,26 +5,29 @@ use Rattle.std.proofs.Common.{◌≡◌, ℕ, ◌<◌, Bool, true, false, cond, 
 use Rattle.std.specs.Prelude.{min}
 use Rattle.std.specs.List.{list_all}
 use Rattle.push_base.specs.Cases.{is_empty}
+use Rattle.dnsname.specs.Names.{Labels}
 use Rattle.dsotlv.specs.Messages.{frame, first_message}
 use Rattle.dsotlv.specs.declared.message.Notice.{Notice}
-use Rattle.dsosession.specs.declared.session.EndReason.TheVariants as ends
 use Rattle.coalesce.specs.Net.{packed, push_message}
 use Rattle.coalesce.proofs.Packing.{packs_nothing_of_nothing}
 use Rattle.pushsession.specs.declared.standing.Standing.{Standing}
 use Rattle.pushsession.specs.declared.standing.Standing.TheVariants.{Live, AskedToStop, Stopped, Ended}
 use Rattle.pushserver.specs.declared.given.Given.{Given}
-use Rattle.pushserver.specs.declared.given.Given.TheVariants.{Bytes, Worked, Nothing, End}
-use Rattle.pushserver.specs.Sessions.{Session}
-use Rattle.pushserver.specs.Hubs.{Hub, now, newest, session_of, in_session}
-use Rattle.pushserver.specs.Giving.{Giving, did, copies, copies_or, given_after, after_reaction, after_packing, without_first, reacted, packs, nets, says_notices, stays_queued, stops, ends_as, by_standing, give}
-use Rattle.pushserver.proofs.Subscribing.{session_of-in_session}
+use Rattle.pushserver.specs.declared.given.Given.TheVariants.{Bytes, Worked, Nothing}
+use Rattle.pushsession.specs.Sessions.{stopped}
+use Rattle.pushsession.specs.Subscribing.{says_notices, packs}
+use Rattle.pushserver.specs.Sessions.{Hub, Session, Giving, nets_of, stays_queued}
+use Rattle.pushserver.specs.Hubs.{now, keeps_now, tells_now, session_of, in_session}
+use Rattle.pushserver.specs.Giving.{copies_or, given_after, after_reaction, after_packing, without_first, reacted, by_standing, give}
+use Rattle.pushserver.proofs.SessionLists.{found-in}
+use Rattle.pushserver.proofs.hub_steps.Cases.{copies_as, found_as, works_as, stops_as, output_as, give_as}
 
 -- ---- what a message that is taken up gives
 
 copies_or-other : (given : Given) (number room : ℕ) (session : Session) (hub : Hub) → (given ≡ Nothing → ⊥) → (copies_or given number room session hub).given ≡ Nothing → ⊥
 copies_or-other given number room session hub other is = by (is_empty session.output) is
   where
-    by : (b : Bool) → (cond b (did given hub) (copies number room session hub)).given ≡ Nothing → ⊥
+    by : (b : Bool) → (copies_as hub number room session given b).given ≡ Nothing → ⊥
     by true is = other is
     by false is = cc
 
@@ -37,7 +40,7 @@ given_after-other Live is = cc
 after_reaction-other : (number room : ℕ) (hub : Hub) → (after_reaction number room hub).given ≡ Nothing → ⊥
 after_reaction-other number room hub is = by (session_of hub number) is
   where
-    by : (o : Option Session) → (elim o as (λ _. Giving) [ None ↦ did Worked hub | Some session ↦ copies_or (given_after session.standing) number room session hub ]).given ≡ Nothing → ⊥
+    by : (o : Option Session) → (found_as hub number room Worked given_after o).given ≡ Nothing → ⊥
     by None is = cc
     by (Some session) is = copies_or-other (given_after session.standing) number room session hub (given_after-other session.standing) is
 
@@ -51,11 +54,15 @@ some_octets (o ∷ os) some = refl
 some_framed : (message : List ℕ) → is_empty (frame message) ≡ false
 some_framed message = some_octets (frame message) (omega arith)
 
-says-silent : (newest t : ℕ) (notices : List Notice) (session : Session) → session.output ≡ [] → is_empty (says_notices newest t notices session).output ≡ is_empty notices
-says-silent newest t [] session silent = ap (λ (o : List ℕ). is_empty o) silent
-says-silent newest t (n ∷ ns) session silent = ap (λ (o : List ℕ). is_empty (o ++ frame (push_message (n ∷ ns)))) silent ∙ some_framed (push_message (n ∷ ns))
+says-silent : (hub : Hub) (notices : List Notice) (session : Session) → session.output ≡ [] → is_empty (says_notices (keeps_now hub) (now hub) notices session).output ≡ is_empty notices
+says-silent hub [] session silent = ap (λ (o : List ℕ). is_empty o) silent
+says-silent hub (n ∷ ns) session silent = ap (λ (o : List ℕ). is_empty (o ++ frame (push_message (n ∷ ns)))) silent ∙ some_framed (push_message (n ∷ ns))
 
 -- ---- the session of the call
+
+-- each name that waits with its net
+abbrev nets : Hub → Session → List (Labels × List Notice)
+nets hub session = nets_of hub.start hub.history session.subscriptions session.queue
 
 abbrev pub are_empty : Hub → Session → Bool
 are_empty hub session = list_all (λ e. is_empty e.1) (nets hub session)
@@ -64,59 +71,50 @@ abbrev pub IsQuiet : Hub → Session → Type 0
 IsQuiet hub session = (session.standing ≡ Live) × (session.output ≡ []) × (first_message session.input ≡ None) × (are_empty hub session ≡ true)
 
 module _ (hub : Hub) (number room : ℕ) (session : Session) (has : session_of hub number ≡ Some session) where
+  abbrev packing_names : Session → Session
+  packing_names s = packs (keeps_now hub) (tells_now hub) (now hub) s
+
   abbrev later : Hub
-  later = in_session number (packs hub) hub
+  later = in_session number packing_names hub
 
   abbrev written : Given
-  written = Bytes (min room (length (packs hub session).output))
+  written = Bytes (min room (length (packing_names session).output))
 
-  packs-silent : session.output ≡ [] → is_empty (packs hub session).output ≡ are_empty hub session
+  packs-silent : session.output ≡ [] → is_empty (packing_names session).output ≡ are_empty hub session
   packs-silent silent =
-      says-silent (newest hub) (now hub) (packed (nets hub session)).0 (record session { queue = stays_queued (packed (nets hub session)).1 session.queue }) silent
+      says-silent hub (packed (nets hub session)).0 (record session { queue = stays_queued (packed (nets hub session)).1 session.queue }) silent
       ∙ packs_nothing_of_nothing (nets hub session)
 
-  given-of : (b : Bool) → (cond b (did Nothing later) (copies number room (packs hub session) later)).given ≡ cond b Nothing written
+  given-of : (b : Bool) → (copies_as later number room (packing_names session) Nothing b).given ≡ cond b Nothing written
   given-of true = refl
   given-of false = refl
 
   packing : session.output ≡ [] → (after_packing number room later).given ≡ cond (are_empty hub session) Nothing written
   packing silent =
-      ap (λ (o : Option Session). (elim o as (λ _. Giving) [ None ↦ did Nothing later | Some s ↦ copies_or Nothing number room s later ]).given)
-      (session_of-in_session number (packs hub) hub ∙ ap (λ o. option_map (packs hub) o) has)
-      ∙ given-of (is_empty (packs hub session).output) ∙ ap (λ (b : Bool). cond b Nothing written) (packs-silent silent)
+      ap (λ (o : Option Session). (found_as later number room Nothing (λ standing. Nothing) o).given)
+      (found-in number packing_names hub.sessions ∙ ap (option_map packing_names) has)
+      ∙ given-of (is_empty (packing_names session).output) ∙ ap (λ (b : Bool). cond b Nothing written) (packs-silent silent)
 
   -- ---- the cases in their order
 
-  abbrev by_output : Bool → Giving
-  by_output b = elim b as (λ _. Giving) [ false ↦ copies number room session hub | true ↦ by_standing session.standing number room session hub ]
-
-  abbrev by_message : Option (List ℕ × List ℕ) → Giving
-  by_message o = elim o as (λ _. Giving) [
-    | Some found ↦ after_reaction number room (reacted found.0 number (in_session number (without_first found.1) hub))
-    | None ↦ after_packing number room later
-  ]
-
-  give-is : give hub number room ≡ by_output (is_empty session.output)
-  give-is = ap (λ (o : Option Session). elim o as (λ _. Giving) [
-    | None ↦ did (End ends.Gone) hub
-    | Some session ↦ elim (is_empty session.output) as (λ _. Giving) [ false ↦ copies number room session hub | true ↦ by_standing session.standing number room session hub ]
-  ]) has
+  give-is : give hub number room ≡ output_as hub number room session (is_empty session.output)
+  give-is = ap (give_as hub number room) has
 
   pub quiet-given : IsQuiet hub session → (give hub number room).given ≡ Nothing
   quiet-given (live, silent, none, empty) =
-      ap (λ (g : Giving). g.given) (give-is ∙ ap (λ (o : List ℕ). by_output (is_empty o)) silent ∙ ap (λ (s : Standing). by_standing s number room session hub) live ∙ ap by_message none)
+      ap (λ (g : Giving). g.given) (give-is ∙ ap (λ (o : List ℕ). output_as hub number room session (is_empty o)) silent ∙ ap (λ (s : Standing). by_standing s number room session hub) live ∙ ap (works_as hub number room) none)
       ∙ packing silent ∙ ap (λ (b : Bool). cond b Nothing written) empty
 
   from_nets : (b : Bool) → are_empty hub session ≡ b → cond b Nothing written ≡ Nothing → are_empty hub session ≡ true
   from_nets true e is = e
   from_nets false e is = cc
 
-  from_message : session.output ≡ [] → session.standing ≡ Live → (o : Option (List ℕ × List ℕ)) → first_message session.input ≡ o → (by_message o).given ≡ Nothing → IsQuiet hub session
+  from_message : session.output ≡ [] → session.standing ≡ Live → (o : Option (List ℕ × List ℕ)) → first_message session.input ≡ o → (works_as hub number room o).given ≡ Nothing → IsQuiet hub session
   from_message silent live (Some found) e is = absurd (after_reaction-other number room (reacted found.0 number (in_session number (without_first found.1) hub)) is)
   from_message silent live None e is = (live, silent, e, from_nets (are_empty hub session) refl (sym (packing silent) ∙ is))
 
-  from_stop : (rcode delay : ℕ) (b : Bool) → (cond b (after_reaction number room (in_session number (stops hub rcode delay) hub)) (did (End ends.Stopped) (ends_as number ends.Stopped hub))).given ≡ Nothing → ⊥
-  from_stop rcode delay true is = after_reaction-other number room (in_session number (stops hub rcode delay) hub) is
+  from_stop : (rcode delay : ℕ) (b : Bool) → (stops_as hub number room rcode delay b).given ≡ Nothing → ⊥
+  from_stop rcode delay true is = after_reaction-other number room (in_session number (stopped (keeps_now hub) rcode delay (now hub)) hub) is
   from_stop rcode delay false is = cc
 
   from_standing : session.output ≡ [] → (s : Standing) → session.standing ≡ s → (by_standing s number room session hub).given ≡ Nothing → IsQuiet hub session
@@ -125,7 +123,7 @@ module _ (hub : Hub) (number room : ℕ) (session : Session) (has : session_of h
   from_standing silent (Stopped since) e is = cc
   from_standing silent Live e is = from_message silent e (first_message session.input) refl is
 
-  from_output : (o : List ℕ) → session.output ≡ o → (by_output (is_empty o)).given ≡ Nothing → IsQuiet hub session
+  from_output : (o : List ℕ) → session.output ≡ o → (output_as hub number room session (is_empty o)).given ≡ Nothing → IsQuiet hub session
   from_output [] e is = from_standing e session.standing refl is
   from_output (x ∷ xs) e is = cc
 

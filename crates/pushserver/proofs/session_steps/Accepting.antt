@@ -1,14 +1,15 @@
 -- A kept session and the plain one: the reaction to a SUBSCRIBE.
---     plain_answered hub question message      what the plain hub makes of its session
-use Rattle.std.proofs.Common.{◌≡◌, ℕ, ◌+◌, ◌-◌, ◌≤◌, ◌^◌, Bool, true, false, cond, not, ◌||◌, List, [], ◌∷◌, ◌++◌, length, min, Option, Some, None, is_some, refl, sym, ◌∙◌, ap, subst, arith}
-use Rattle.std.specs.Prelude.{find, filter, option_map, nat_le, ◌==◌, if◌then◌else◌}
+--     verdict-alike      the verdict
+--     Passed, passed      what an accepted question has passed
+--     answered-keeps      what each verdict does
+use Rattle.std.proofs.Common.{◌≡◌, ℕ, ◌+◌, ◌-◌, ◌≤◌, ◌^◌, Bool, true, false, cond, not, ◌||◌, List, [], ◌∷◌, ◌++◌, length, min, Option, Some, None, refl, sym, ◌∙◌, ap, subst, arith}
+use Rattle.std.specs.Prelude.{IsTrue, find, filter, option_map, nat_le, ◌==◌}
 use Rattle.std.proofs.lemmas.Bool.{leb-false}
 use Rattle.std.proofs.lemmas.List.{length-append, length-map, map-append}
+use Rattle.std.proofs.lemmas.List.Elements.{filter_agree}
 use Rattle.push_base.specs.Limits.{max_questions, max_number}
-use Rattle.dnsname.specs.Names.{same_name}
-use Rattle.rrset.specs.Header.{id_of}
-use Rattle.rrset.specs.Kinds.{in_class, any_class}
-use Rattle.rrset.specs.Rcodes.{noerror, formerr, notauth, refused}
+use Rattle.dnsname.specs.Names.{is_name, same_name}
+use Rattle.rrset.specs.Rcodes.{noerror, notauth, refused}
 use Rattle.rrset.specs.Records.{same_question}
 use Rattle.rrset.specs.declared.record.Question.{Question}
 use Rattle.rrset.proofs.Distinct.{distinct_push, distinct_filter, any_found}
@@ -17,151 +18,75 @@ use Rattle.dsotlv.specs.Messages.{frame}
 use Rattle.dsotlv.specs.Answers.{answer_to, refusal_to}
 use Rattle.dsotlv.specs.declared.message.Notice.{Notice}
 use Rattle.dsosession.specs.declared.session.EndReason.TheVariants as ends
-use Rattle.subscr.specs.Asked.{Asked, has, is_id, is_question, id_of as id_asked}
+use Rattle.subscr.specs.Asked.{Asked, has, is_id, is_question, id_of}
 use Rattle.coalesce.specs.FirstAnswers.{first_notices}
 use Rattle.coalesce.specs.Net.{push_message, max_net_message}
-use Rattle.coalesce.specs.Waiting.{WaitingName, CanBePacked, is_named, without_name}
+use Rattle.coalesce.specs.Waiting.{WaitingName, is_named, without_name}
+use Rattle.coalesce.proofs.FirstLeads.{first_fits_one_message}
 use Rattle.coalesce.proofs.KindsOf.{any-map}
+use Rattle.coalesce.proofs.ReadBack.{each-append}
 use Rattle.history.proofs.Together.{same_name-turned}
-use Rattle.history.specs.States.{home_of}
-use Rattle.pushsession.specs.Kept.{KeptSession, Filled, ended_with as ended_kept}
-use Rattle.pushsession.specs.Saying as saying
-use Rattle.pushsession.specs.Reacting as reacting
-use Rattle.pushserver.specs.Sessions.{Session, Subscription, Queue, note_of, written, ended_with, subscription_of, subscription_for, leaves_queue}
-use Rattle.pushserver.specs.Hubs.{Hub, newest, state_now, now, records_now}
-use Rattle.pushserver.specs.Giving.{dso_answer, delayed_answer, first_answer_size, subscribed, says_first_answer, accepts_subscription}
+use Rattle.pushsession.specs.Kept.{KeptSession, Filled, keeping, telling}
+use Rattle.pushsession.specs.Sessions.{Keeps}
+use Rattle.pushsession.specs.Subscribing as subscribing
+use Rattle.pushsession.specs.Subscribing.{Verdict, is_served, verdict_on, subscribed, says_first_answer, first_answer_size, accepts, decided, answered}
+use Rattle.pushserver.specs.Sessions.{Hub, Session, Subscription, Queue, octets_made, subscription_for, leaves_queue, plain_keeps, plain_tells}
+use Rattle.pushserver.specs.Hubs.{state_now, records_now}
+use Rattle.pushserver.specs.Giving.{has_home}
 use Rattle.pushserver.specs.Rule.{SessionStandsFor, IsCopy}
 use Rattle.pushserver.specs.Rows.{AreTold}
-use Rattle.pushserver.proofs.session_steps.Parts.{Asks, Waits, takes, writes, stands}
-use Rattle.pushserver.proofs.session_steps.Lists.{filter-map, filter-alike, find-map, each-push, some-find}
+use Rattle.pushserver.proofs.session_steps.Parts.{Asks, Waits, reads, writes, stands}
+use Rattle.pushserver.proofs.session_steps.Lists.{filter-map, find-map, some-find}
 use Rattle.pushserver.proofs.session_steps.Nets.{queue_of}
 use Rattle.pushserver.proofs.session_steps.Standing.{ended-keeps}
-use Rattle.pushserver.proofs.session_steps.Saying.{says-keeps}
-use Rattle.pushserver.proofs.session_steps.Reactions.{answers_now, answers-keeps}
-use Rattle.pushserver.proofs.session_steps.FirstAnswers.{first-alike, first_fits}
+use Rattle.pushserver.proofs.session_steps.Saying.{says-keeps, answers-keeps}
+use Rattle.pushserver.proofs.session_steps.FirstAnswers.{first-alike}
 
--- a question whose name has a home of the server
-abbrev pub has_home_in : Hub → Option Question → Bool
-has_home_in hub None = false
-has_home_in hub (Some question) = is_some (home_of (state_now hub) question.name)
+-- ---- the verdict
 
-abbrev pub is_told_class : Question → Bool
-is_told_class question = question.class == in_class || question.class == any_class
+-- the tests of a question, whether its ID is in use, which ID it has, and how many there are
+abbrev pub tested : Question → Bool → ℕ → Bool → Option ℕ → ℕ → Verdict
+tested question has_home id used active count =
+    cond used (subscribing.Abort (ends.IdInUse id)) (elim active as (λ _. Verdict) [
+      | Some other ↦ subscribing.Abort (ends.Twice other)
+      | None ↦ cond (not (is_served question.class) || not has_home) (subscribing.Refuse notauth) (cond (nat_le max_questions count) (subscribing.Refuse refused) (subscribing.Accept question))
+    ])
 
--- the tests of class, home and room
-abbrev pub plain_admitted : Hub → Question → List ℕ → Session → Session
-plain_admitted hub question message session =
-    if not (question.class == in_class || question.class == any_class) || not (is_some (home_of (state_now hub) question.name)) then answers_now hub false (delayed_answer message notauth) session
-    else if nat_le max_questions (length session.subscriptions) then answers_now hub false (delayed_answer message refused) session
-    else accepts_subscription hub message question session
+-- what an accepted question has passed
+pub record Passed {A Q M : Type 0} (keeps : Keeps A Q M) (id : ℕ) (question : Question) (has_home : Bool) (subscriptions : A) : Type 0 where
+  pub new_id : keeps.has_id id subscriptions ≡ false
+  pub new_question : keeps.id_of question subscriptions ≡ None
+  pub class : is_served question.class ≡ true
+  pub home : has_home ≡ true
+  pub room : nat_le max_questions (keeps.count subscriptions) ≡ false
 
--- the tests of a SUBSCRIBE in their order (RFC 8765, 6.2)
-abbrev pub plain_answered : Hub → Option Question → List ℕ → Session → Session
-plain_answered hub None message session = answers_now hub false (delayed_answer message formerr) session
-plain_answered hub (Some question) message session =
-    if is_some (subscription_of session.subscriptions (id_of message)) then ended_with (ends.IdInUse (id_of message)) session
-    else elim (subscription_for session.subscriptions question) [ Some active ↦ ended_with (ends.Twice active.id) session | None ↦ plain_admitted hub question message session ]
-
--- ---- one subscription more
-
--- the session with one more
-abbrev begun : ℕ → Question → ℕ → KeptSession → KeptSession
-begun id question filled session = record session {
-  asked = session.asked ++ (id, question) ∷ [];
-  filled = session.filled ++ (id, filled) ∷ [];
-  queue = without_name question.name session.queue;
-  state = record session.state { established = true };
-}
-
-module _ (hub : Hub) (k : ℕ × KeptSession) (p : ℕ × Session) (s : SessionStandsFor hub k p) where
-  leaves_alike : (question : Question) → queue_of (without_name question.name k.1.queue) ≡ leaves_queue question.name p.1.queue
-  leaves_alike question =
-      sym (filter-map (λ (w : WaitingName). (w.name, w.point)) (λ e. not (same_name e.0 question.name)) k.1.queue)
-      ∙ ap (λ (q : Queue). filter (λ e. not (same_name e.0 question.name)) q) s.queue
-      ∙ filter-alike (λ e. not (same_name e.0 question.name)) (λ e. not (same_name question.name e.0)) (λ e. ap not (same_name-turned e.0 question.name)) p.1.queue
-
-  begun-keeps : (new : Subscription) → is_some (subscription_of p.1.subscriptions new.id) ≡ false → subscription_for p.1.subscriptions new.question ≡ None
-      → is_told_class new.question ≡ true → is_some (home_of (state_now hub) new.question.name) ≡ true → nat_le max_questions (length p.1.subscriptions) ≡ false
-      → SessionStandsFor hub (k.0, begun new.id new.question (min new.filled max_number) k.1) (p.0, subscribed new p.1)
-  begun-keeps new new_id new_question class home room =
-      stands hub k p s (begun new.id new.question (min new.filled max_number) k.1) (subscribed new p.1) one_more others (takes hub k p s) (writes hub k p s) s.clocks refl s.standing
+module _ {A Q M : Type 0} (keeps : Keeps A Q M) (id : ℕ) (has_home : Bool) (subscriptions : A) where
+  passed : (given : Option Question) (question : Question) → verdict_on keeps id given has_home subscriptions ≡ subscribing.Accept question → (given ≡ Some question) × Passed keeps id question has_home subscriptions
+  passed None question e = absurd cc
+  passed (Some q) question e = by (keeps.has_id id subscriptions) refl (keeps.id_of q subscriptions) refl (is_served q.class) refl has_home refl (nat_le max_questions (keeps.count subscriptions)) refl e
     where
-      one_more : Asks hub (k.1.asked ++ (new.id, new.question) ∷ []) (k.1.filled ++ (new.id, min new.filled max_number) ∷ []) (p.1.subscriptions ++ new ∷ [])
-      one_more = record {
-        asked = ap (λ (a : Asked). a ++ (new.id, new.question) ∷ []) s.asked ∙ sym (map-append (λ (q : Subscription). (q.id, q.question)) p.1.subscriptions (new ∷ []));
-        filled_as = ap (λ (f : Filled). f ++ (new.id, min new.filled max_number) ∷ []) s.filled ∙ sym (map-append (λ (q : Subscription). (q.id, min q.filled max_number)) p.1.subscriptions (new ∷ []));
-        few = omega (arith, leb-false max_questions (length p.1.subscriptions) room, length-append p.1.subscriptions (new ∷ []));
-        ids = distinct_push _ p.1.subscriptions new s.ids (sym (some-find (λ q. q.id == new.id) p.1.subscriptions) ∙ new_id);
-        questions = distinct_push _ p.1.subscriptions new s.questions (any_found (λ q. same_question q.question new.question) p.1.subscriptions new_question);
-        homes = each-push _ p.1.subscriptions new s.homes (class, home);
-      }
+      by : (used : Bool) → keeps.has_id id subscriptions ≡ used → (active : Option ℕ) → keeps.id_of q subscriptions ≡ active → (served : Bool) → is_served q.class ≡ served
+          → (home : Bool) → has_home ≡ home → (full : Bool) → nat_le max_questions (keeps.count subscriptions) ≡ full
+          → cond used (subscribing.Abort (ends.IdInUse id)) (elim active as (λ _. Verdict) [
+            | Some other ↦ subscribing.Abort (ends.Twice other)
+            | None ↦ cond (not served || not home) (subscribing.Refuse notauth) (cond full (subscribing.Refuse refused) (subscribing.Accept q))
+          ]) ≡ subscribing.Accept question → (Some q ≡ Some question) × Passed keeps id question has_home subscriptions
+      by true u active a served s home h full f e = absurd cc
+      by false u (Some other) a served s home h full f e = absurd cc
+      by false u None a false s home h full f e = absurd cc
+      by false u None a true s false h full f e = absurd cc
+      by false u None a true s true h true f e = absurd cc
+      by false u None a true s true h false f e =
+          let same : q ≡ question = cc in
+          (ap (λ q. Some q) same, subst (λ q. Passed keeps id q has_home subscriptions) same (record { new_id = u; new_question = a; class = s; home = h; room = f }))
 
-      others : Waits hub (without_name new.question.name k.1.queue) (leaves_queue new.question.name p.1.queue)
-      others = record {
-        queue = leaves_alike new.question;
-        copies = all_filter (IsCopy hub) (λ w. not (is_named new.question.name w)) k.1.queue s.copies;
-        points = all_filter _ (λ e. not (same_name new.question.name e.0)) p.1.queue s.points;
-        names = distinct_filter _ (λ e. not (same_name new.question.name e.0)) p.1.queue s.names;
-      }
+module _ (hub : Hub) (n : ℕ) (k : ℕ × KeptSession) (p : ℕ × Session) (s : SessionStandsFor hub k p) where
+  has_alike : (id : ℕ) → keeping.has_id id k.1.subscriptions ≡ (plain_keeps n).has_id id p.1.subscriptions
+  has_alike id = ap (λ (a : Asked). has id a) s.asked ∙ any-map (is_id id) (λ (q : Subscription). (q.id, q.question)) p.1.subscriptions ∙ sym (some-find (λ q. q.id == id) p.1.subscriptions)
 
--- ---- the octets of the answer and of the PUSH behind it
-
--- the octets written, with the answer and the notices
-abbrev said : ℕ → List ℕ → List Notice → KeptSession → KeptSession
-said t answer notices session = saying.says_notices t notices (saying.says false t answer session)
-
-counted_twice : (kept all first second : ℕ) → kept ≡ min all max_number → min (min (kept + first) (2 ^ 64 - 1) + second) (2 ^ 64 - 1) ≡ min (all + (first + second)) max_number
-counted_twice kept all first second is = omega (arith, is)
-
-said_written : (t : ℕ) (answer : List ℕ) (notices : List Notice) (session : KeptSession) (all : ℕ) → session.written ≡ min all max_number
-    → (said t answer notices session).written ≡ min (all + first_answer_size answer notices) max_number
-said_written t answer [] session all is = omega (arith, is)
-said_written t answer (n ∷ ns) session all is = counted_twice session.written all (length (frame answer)) (length (frame (push_message (n ∷ ns)))) is
-
-module _ (hub : Hub) (question : Question) (message : List ℕ) where
-  abbrev new_of : List Notice → Session → Subscription
-  new_of notices session = record { id = id_of message; question = question; filled = written session + first_answer_size (dso_answer message noerror) notices }
-
-  abbrev accepts_plain : List Notice → Session → Session
-  accepts_plain notices session = says_first_answer (newest hub) (now hub) (dso_answer message noerror) notices (note_of (newest hub) session) (subscribed (new_of notices session) session)
-
-  -- the kept session after these notices, where the first answer ends behind so many octets
-  abbrev counted_as : List Notice → ℕ → KeptSession → KeptSession
-  counted_as notices n session =
-      record (said (now hub) (answer_to (id_of message) noerror) notices session) {
-        asked = session.asked ++ (id_of message, question) ∷ [];
-        filled = session.filled ++ (id_of message, n) ∷ [];
-        queue = without_name question.name session.queue;
-        state = record (said (now hub) (answer_to (id_of message) noerror) notices session).state { established = true };
-      }
-
-  both_said : (notices : List Notice) (k : ℕ × KeptSession) (p : ℕ × Session) → p.1.output ≡ [] → length (push_message notices) ≤ max_net_message
-      → SessionStandsFor hub (k.0, begun (id_of message) question (min (new_of notices p.1).filled max_number) k.1) (p.0, subscribed (new_of notices p.1) p.1)
-      → SessionStandsFor hub (k.0, counted_as notices (min (new_of notices p.1).filled max_number) k.1) (p.0, accepts_plain notices p.1)
-  both_said [] k p silent fits b = says-keeps hub false (now hub) (dso_answer message noerror) (note_of (newest hub) (subscribed (new_of [] p.1) p.1)) _ _ (omega (arith, ap length silent)) b
-  both_said (n ∷ ns) k p silent fits b =
-      let later = subscribed (new_of (n ∷ ns) p.1) p.1 in
-      says-keeps hub false (now hub) (push_message (n ∷ ns)) (note_of (newest hub) later) _ _ (omega (arith, ap length silent, fits, length-append p.1.output (frame (dso_answer message noerror))))
-      (says-keeps hub false (now hub) (dso_answer message noerror) (note_of (newest hub) p.1) _ _ (omega (arith, ap length silent)) b)
-
-  accepted : (notices : List Notice) (k : ℕ × KeptSession) (p : ℕ × Session) → p.1.output ≡ [] → length (push_message notices) ≤ max_net_message → SessionStandsFor hub k p
-      → is_some (subscription_of p.1.subscriptions (id_of message)) ≡ false → subscription_for p.1.subscriptions question ≡ None
-      → is_told_class question ≡ true → is_some (home_of (state_now hub) question.name) ≡ true → nat_le max_questions (length p.1.subscriptions) ≡ false
-      → SessionStandsFor hub (k.0, counted_as notices (said (now hub) (answer_to (id_of message) noerror) notices k.1).written k.1) (p.0, accepts_plain notices p.1)
-  accepted notices k p silent fits s new_id new_question class home room =
-      subst (λ (n : ℕ). SessionStandsFor hub (k.0, counted_as notices n k.1) (p.0, accepts_plain notices p.1))
-      (sym (said_written (now hub) (answer_to (id_of message) noerror) notices k.1 (written p.1) s.written))
-      (both_said notices k p silent fits (begun-keeps hub k p s (new_of notices p.1) new_id new_question class home room))
-
--- ---- all tests
-
-module _ (hub : Hub) (message : List ℕ) (k : ℕ × KeptSession) (p : ℕ × Session) (silent : p.1.output ≡ []) (told : AreTold (records_now hub)) (can : CanBePacked (records_now hub) k.1.queue) (s : SessionStandsFor hub k p) where
-  has_alike : has (id_of message) k.1.asked ≡ is_some (subscription_of p.1.subscriptions (id_of message))
-  has_alike = ap (λ (a : Asked). has (id_of message) a) s.asked ∙ any-map (is_id (id_of message)) (λ (q : Subscription). (q.id, q.question)) p.1.subscriptions ∙ sym (some-find (λ q. q.id == id_of message) p.1.subscriptions)
-
-  active_alike : (question : Question) → id_asked question k.1.asked ≡ option_map (λ (q : Subscription). q.id) (subscription_for p.1.subscriptions question)
+  active_alike : (question : Question) → keeping.id_of question k.1.subscriptions ≡ (plain_keeps n).id_of question p.1.subscriptions
   active_alike question =
-      ap (λ (a : Asked). id_asked question a) s.asked
+      ap (λ (a : Asked). id_of question a) s.asked
       ∙ ap (λ (o : Option (ℕ × Question)). option_map (λ (e : ℕ × Question). e.0) o) (find-map (λ (q : Subscription). (q.id, q.question)) (is_question question) p.1.subscriptions)
       ∙ both (subscription_for p.1.subscriptions question)
     where
@@ -169,69 +94,100 @@ module _ (hub : Hub) (message : List ℕ) (k : ℕ × KeptSession) (p : ℕ × S
       both None = refl
       both (Some q) = refl
 
-  accepts_keep : (question : Question) → is_some (subscription_of p.1.subscriptions (id_of message)) ≡ false → subscription_for p.1.subscriptions question ≡ None
-      → is_told_class question ≡ true → is_some (home_of (state_now hub) question.name) ≡ true → nat_le max_questions (length p.1.subscriptions) ≡ false
-      → SessionStandsFor hub (k.0, reacting.accepts (id_of message) question (records_now hub) (now hub) k.1) (p.0, accepts_subscription hub message question p.1)
-  accepts_keep question new_id new_question class home room =
-      subst (λ (notices : List Notice). SessionStandsFor hub (k.0, reacting.accepts (id_of message) question (records_now hub) (now hub) k.1) (p.0, accepts_plain hub question message notices p.1))
-      (first-alike hub k p s question)
-      (accepted hub question message (first_notices question k.1.asked (records_now hub) (find (is_named question.name) k.1.queue)) k p silent (first_fits hub k p s question told can) s new_id new_question class home room)
+  count_alike : length k.1.subscriptions.asked ≡ length p.1.subscriptions
+  count_alike = ap length s.asked ∙ length-map p.1.subscriptions (λ (q : Subscription). (q.id, q.question))
 
-  refusal : (rcode : ℕ) → SessionStandsFor hub (k.0, saying.says false (now hub) (refusal_to (id_of message) rcode) k.1) (p.0, answers_now hub false (delayed_answer message rcode) p.1)
-  refusal rcode = answers-keeps hub false (delayed_answer message rcode) k p silent (omega arith) s
+  verdict-alike : (id : ℕ) (question : Option Question) (has_home : Bool) → verdict_on keeping id question has_home k.1.subscriptions ≡ verdict_on (plain_keeps n) id question has_home p.1.subscriptions
+  verdict-alike id None has_home = refl
+  verdict-alike id (Some question) has_home = λ i. tested question has_home id (has_alike id i) (active_alike question i) (count_alike i)
 
-  by_room : (question : Question) → is_some (subscription_of p.1.subscriptions (id_of message)) ≡ false → subscription_for p.1.subscriptions question ≡ None
-      → is_told_class question ≡ true → is_some (home_of (state_now hub) question.name) ≡ true
-      → (a b : Bool) → a ≡ b → nat_le max_questions (length p.1.subscriptions) ≡ b
-      → SessionStandsFor hub (k.0, cond a (saying.says false (now hub) (refusal_to (id_of message) refused) k.1) (reacting.accepts (id_of message) question (records_now hub) (now hub) k.1))
-      (p.0, cond b (answers_now hub false (delayed_answer message refused) p.1) (accepts_subscription hub message question p.1))
-  by_room question new_id new_question class home true true e full = refusal refused
-  by_room question new_id new_question class home false false e room = accepts_keep question new_id new_question class home room
-  by_room question new_id new_question class home true false e room = absurd cc
-  by_room question new_id new_question class home false true e room = absurd cc
+-- ---- one subscription more
 
-  same_room : nat_le max_questions (length k.1.asked) ≡ nat_le max_questions (length p.1.subscriptions)
-  same_room = ap (λ n. nat_le max_questions n) (ap length s.asked ∙ length-map p.1.subscriptions (λ (q : Subscription). (q.id, q.question)))
+module _ (hub : Hub) (n : ℕ) (k : ℕ × KeptSession) (p : ℕ × Session) (s : SessionStandsFor hub k p) where
+  leaves_alike : (question : Question) → queue_of (without_name question.name k.1.queue) ≡ leaves_queue question.name p.1.queue
+  leaves_alike question =
+      sym (filter-map (λ (w : WaitingName). (w.name, w.point)) (λ e. not (same_name e.0 question.name)) k.1.queue)
+      ∙ ap (λ (q : Queue). filter (λ e. not (same_name e.0 question.name)) q) s.queue
+      ∙ filter_agree (λ e. not (same_name e.0 question.name)) (λ e. not (same_name question.name e.0)) (λ e. ap not (same_name-turned e.0 question.name)) p.1.queue
 
-  by_home : (question : Question) → is_some (subscription_of p.1.subscriptions (id_of message)) ≡ false → subscription_for p.1.subscriptions question ≡ None
-      → (c h : Bool) → is_told_class question ≡ c → is_some (home_of (state_now hub) question.name) ≡ h
-      → SessionStandsFor hub (
-        k.0,
-        cond (not c || not h) (saying.says false (now hub) (refusal_to (id_of message) notauth) k.1)
-            (cond (nat_le max_questions (length k.1.asked)) (saying.says false (now hub) (refusal_to (id_of message) refused) k.1) (reacting.accepts (id_of message) question (records_now hub) (now hub) k.1)),
-      ) (
-        p.0,
-        cond (not c || not h) (answers_now hub false (delayed_answer message notauth) p.1)
-            (cond (nat_le max_questions (length p.1.subscriptions)) (answers_now hub false (delayed_answer message refused) p.1) (accepts_subscription hub message question p.1)),
-      )
-  by_home question new_id new_question false h class home = refusal notauth
-  by_home question new_id new_question true false class home = refusal notauth
-  by_home question new_id new_question true true class home = by_room question new_id new_question class home (nat_le max_questions (length k.1.asked)) (nat_le max_questions (length p.1.subscriptions)) same_room refl
+  no_question : (question : Question) → (plain_keeps n).id_of question p.1.subscriptions ≡ None → subscription_for p.1.subscriptions question ≡ None
+  no_question question none = by (subscription_for p.1.subscriptions question) none
+    where
+      by : (o : Option Subscription) → option_map (λ (q : Subscription). q.id) o ≡ None → o ≡ None
+      by None e = refl
+      by (Some q) e = absurd cc
 
-  abbrev tests : Question → Option ℕ → KeptSession
-  tests question o = reacting.answered_new o (id_of message) question (is_some (home_of (state_now hub) question.name)) (records_now hub) (now hub) k.1
+  subscribed-keeps : (id : ℕ) (question : Question) (end : ℕ) → Passed (plain_keeps n) id question (has_home hub (Some question)) p.1.subscriptions
+      → SessionStandsFor hub (k.0, subscribed keeping id question (min end max_number) k.1) (p.0, subscribed (plain_keeps n) id question end p.1)
+  subscribed-keeps id question end can =
+      stands hub k p s (subscribed keeping id question (min end max_number) k.1) (subscribed (plain_keeps n) id question end p.1) one_more others (reads hub k p s) (writes hub k p s) s.clocks refl s.standing
+    where
+      new : Subscription
+      new = record { id = id; question = question; filled = end }
 
-  by_active : (question : Question) → is_some (subscription_of p.1.subscriptions (id_of message)) ≡ false → (o : Option Subscription) → subscription_for p.1.subscriptions question ≡ o
-      → SessionStandsFor hub (k.0, tests question (option_map (λ (q : Subscription). q.id) o))
-      (p.0, elim o as (λ _. Session) [ Some active ↦ ended_with (ends.Twice active.id) p.1 | None ↦ plain_admitted hub question message p.1 ])
-  by_active question new_id (Some active) is = ended-keeps hub (ends.Twice active.id) k p s
-  by_active question new_id None is = by_home question new_id is (is_told_class question) (is_some (home_of (state_now hub) question.name)) refl refl
+      one_more : Asks (state_now hub) (keeping.with_question id question (min end max_number) k.1.subscriptions) (p.1.subscriptions ++ new ∷ [])
+      one_more = record {
+        asked = ap (λ (a : Asked). a ++ (id, question) ∷ []) s.asked ∙ sym (map-append (λ (q : Subscription). (q.id, q.question)) p.1.subscriptions (new ∷ []));
+        filled = ap (λ (f : Filled). f ++ (id, min end max_number) ∷ []) s.filled ∙ sym (map-append (λ (q : Subscription). (q.id, min q.filled max_number)) p.1.subscriptions (new ∷ []));
+        few = omega (arith, leb-false max_questions (length p.1.subscriptions) can.room, length-append p.1.subscriptions (new ∷ []));
+        ids = distinct_push _ p.1.subscriptions new s.ids (sym (some-find (λ q. q.id == id) p.1.subscriptions) ∙ can.new_id);
+        questions = distinct_push _ p.1.subscriptions new s.questions (any_found (λ q. same_question q.question question) p.1.subscriptions (no_question question can.new_question));
+        homes = each-append _ p.1.subscriptions (new ∷ []) s.homes ((can.class, can.home), tt);
+      }
 
-  by_id : (question : Question) → (a b : Bool) → a ≡ b → is_some (subscription_of p.1.subscriptions (id_of message)) ≡ b
-      → SessionStandsFor hub (k.0, cond a (ended_kept (ends.IdInUse (id_of message)) k.1) (tests question (id_asked question k.1.asked)))
-      (p.0, cond b (ended_with (ends.IdInUse (id_of message)) p.1) (elim (subscription_for p.1.subscriptions question) as (λ _. Session) [ Some active ↦ ended_with (ends.Twice active.id) p.1 | None ↦ plain_admitted hub question message p.1 ]))
-  by_id question true true e used = ended-keeps hub (ends.IdInUse (id_of message)) k p s
-  by_id question false false e new_id =
-      subst (λ (o : Option ℕ). SessionStandsFor hub (k.0, tests question o)
-      (p.0, elim (subscription_for p.1.subscriptions question) as (λ _. Session) [ Some active ↦ ended_with (ends.Twice active.id) p.1 | None ↦ plain_admitted hub question message p.1 ]))
-      (sym (active_alike question)) (by_active question new_id (subscription_for p.1.subscriptions question) refl)
-  by_id question true false e new_id = absurd cc
-  by_id question false true e new_id = absurd cc
+      others : Waits hub.start hub.history (without_name question.name k.1.queue) (leaves_queue question.name p.1.queue)
+      others = record {
+        queue = leaves_alike question;
+        copies = all_filter (IsCopy hub) (λ w. not (is_named question.name w)) k.1.queue s.copies;
+        points = all_filter _ (λ e. not (same_name question.name e.0)) p.1.queue s.points;
+        names = distinct_filter _ (λ e. not (same_name question.name e.0)) p.1.queue s.names;
+      }
 
-  answers : (question : Option Question) → SessionStandsFor hub (k.0, reacting.answered question (id_of message) (has_home_in hub question) (records_now hub) (now hub) k.1) (p.0, plain_answered hub question message p.1)
-  answers None = refusal formerr
-  answers (Some question) = by_id question (has (id_of message) k.1.asked) (is_some (subscription_of p.1.subscriptions (id_of message))) has_alike refl
+-- ---- the answer, and the PUSH behind it
 
-pub answered-keeps : (hub : Hub) (question : Option Question) (message : List ℕ) (k : ℕ × KeptSession) (p : ℕ × Session) → p.1.output ≡ [] → AreTold (records_now hub) → CanBePacked (records_now hub) k.1.queue
-    → SessionStandsFor hub k p → SessionStandsFor hub (k.0, reacting.answered question (id_of message) (has_home_in hub question) (records_now hub) (now hub) k.1) (p.0, plain_answered hub question message p.1)
-answered-keeps hub question message k p silent told can s = answers hub message k p silent told can s question
+-- where an answer ends: octets are counted up to the last number
+end_alike : (made all size : ℕ) → made ≡ min all max_number → min (made + size) (2 ^ 64 - 1) ≡ min (all + size) max_number
+end_alike made all size is = omega (arith, is)
+
+module _ (hub : Hub) (n t id : ℕ) (question : Question) where
+  said-keeps : (notices : List Notice) (waiting : List WaitingName) (queue : Queue) (k : ℕ × KeptSession) (p : ℕ × Session) → p.1.output ≡ [] → length (push_message notices) ≤ max_net_message → SessionStandsFor hub k p
+      → SessionStandsFor hub (k.0, says_first_answer keeping t (answer_to id noerror) notices waiting k.1) (p.0, says_first_answer (plain_keeps n) t (answer_to id noerror) notices queue p.1)
+  said-keeps [] waiting queue k p silent fits s = answers-keeps hub n false t (answer_to id noerror) k p silent (omega arith) s
+  said-keeps (x ∷ xs) waiting queue k p silent fits s =
+      says-keeps hub n false t (push_message (x ∷ xs)) k.1.queue p.1.queue _ _ (omega (arith, ap length silent, fits, length-append p.1.output (frame (answer_to id noerror))))
+      (says-keeps hub n false t (answer_to id noerror) waiting queue k p (omega (arith, ap length silent)) s)
+
+  -- an accepted question, and what follows the answer to it
+  abbrev plain_accepts : List Notice → Session → Session
+  plain_accepts notices p = says_first_answer (plain_keeps n) t (answer_to id noerror) notices p.queue (subscribed (plain_keeps n) id question (octets_made p.made + first_answer_size (answer_to id noerror) notices) p)
+
+  accepts-keeps : (k : ℕ × KeptSession) (p : ℕ × Session) → p.1.output ≡ [] → AreTold (records_now hub) → IsTrue (is_name question.name) → SessionStandsFor hub k p
+      → Passed (plain_keeps n) id question (has_home hub (Some question)) p.1.subscriptions
+      → SessionStandsFor hub (k.0, accepts keeping (telling (records_now hub)) t id question k.1) (p.0, accepts (plain_keeps n) (plain_tells hub.start hub.history) t id question p.1)
+  accepts-keeps k p silent told named s new =
+      subst (λ (notices : List Notice). SessionStandsFor hub (k.0, accepts keeping (telling (records_now hub)) t id question k.1) (p.0, plain_accepts notices p.1)) (first-alike hub k p s question)
+      (subst (λ (end : ℕ). SessionStandsFor hub (k.0, says_first_answer keeping t (answer_to id noerror) notices k.1.queue (subscribed keeping id question end k.1)) (p.0, plain_accepts notices p.1))
+      (sym (end_alike k.1.made (octets_made p.1.made) (first_answer_size (answer_to id noerror) notices) s.written))
+      (said-keeps notices k.1.queue p.1.queue _ _ silent (first_fits_one_message question k.1.subscriptions.asked (records_now hub) (find (is_named question.name) k.1.queue) named (question.name, (told question.name).0) (told question.name).1)
+      (subscribed-keeps hub n k p s id question (octets_made p.1.made + first_answer_size (answer_to id noerror) notices) new)))
+    where
+      notices : List Notice
+      notices = first_notices question k.1.subscriptions.asked (records_now hub) (find (is_named question.name) k.1.queue)
+
+-- ---- all verdicts
+
+pub answered-keeps : (hub : Hub) (n t id : ℕ) (question : Option Question) (k : ℕ × KeptSession) (p : ℕ × Session) → p.1.output ≡ [] → AreTold (records_now hub)
+    → ((q : Question) → question ≡ Some q → IsTrue (is_name q.name)) → SessionStandsFor hub k p
+    → SessionStandsFor hub (k.0, answered keeping (telling (records_now hub)) t id question (has_home hub question) k.1) (p.0, answered (plain_keeps n) (plain_tells hub.start hub.history) t id question (has_home hub question) p.1)
+answered-keeps hub n t id question k p silent told named s =
+    subst (λ (v : Verdict). SessionStandsFor hub (k.0, decided keeping (telling (records_now hub)) t id v k.1) (p.0, answered (plain_keeps n) (plain_tells hub.start hub.history) t id question (has_home hub question) p.1))
+    (sym (verdict-alike hub n k p s id question (has_home hub question)))
+    (by (verdict_on (plain_keeps n) id question (has_home hub question) p.1.subscriptions) refl)
+  where
+    by : (v : Verdict) → verdict_on (plain_keeps n) id question (has_home hub question) p.1.subscriptions ≡ v
+        → SessionStandsFor hub (k.0, decided keeping (telling (records_now hub)) t id v k.1) (p.0, decided (plain_keeps n) (plain_tells hub.start hub.history) t id v p.1)
+    by (subscribing.Refuse rcode) is = answers-keeps hub n false t (refusal_to id rcode) k p silent (omega arith) s
+    by (subscribing.Abort reason) is = ended-keeps hub n reason k p s
+    by (subscribing.Accept q) is =
+        let both = passed (plain_keeps n) id (has_home hub question) p.1.subscriptions question q is in
+        accepts-keeps hub n t id q k p silent told (named q both.0) s (subst (λ (o : Option Question). Passed (plain_keeps n) id q (has_home hub o) p.1.subscriptions) both.0 both.1)

@@ -1,5 +1,5 @@
 -- Lists that are taken from, left, and seen through a function.
-use Rattle.std.proofs.Common.{◌≡◌, ℕ, zero, suc, Bool, true, false, cond, ◌||◌, List, [], ◌∷◌, ◌++◌, map, take, drop, Some, is_some, refl, sym, ◌∙◌, ap, subst}
+use Rattle.std.proofs.Common.{◌≡◌, ℕ, zero, suc, Bool, true, false, cond, ◌||◌, List, [], ◌∷◌, map, take, drop, Some, is_some, refl, sym, ◌∙◌, ap, subst}
 use Rattle.std.specs.Prelude.{find, filter, option_map}
 use Rattle.std.specs.List.{list_all, list_any, AllByRecursion}
 use Rattle.std.proofs.lemmas.Bool.{and_from, and_parts}
@@ -32,10 +32,6 @@ find-map f p (x ∷ xs) = by (p (f x)) (find-map f p xs)
     by true h = refl
     by false h = h
 
-pub each-push : {X : Type 0} (P : X → Type 0) (xs : List X) (x : X) → AllByRecursion P xs → P x → AllByRecursion P (xs ++ x ∷ [])
-each-push P [] x all last = (last, tt)
-each-push P (y ∷ ys) x all last = (all.0, each-push P ys x all.1 last)
-
 -- ---- each of several
 
 pub each-both : {X : Type 0} (P Q R : X → Type 0) → ((x : X) → P x → Q x → R x) → (xs : List X) → AllByRecursion P xs → AllByRecursion Q xs → AllByRecursion R xs
@@ -50,10 +46,6 @@ pub each-drop : {X : Type 0} (P : X → Type 0) (n : ℕ) (xs : List X) → AllB
 each-drop P zero xs all = all
 each-drop P (suc n) [] all = tt
 each-drop P (suc n) (x ∷ xs) all = each-drop P n xs all.1
-
-pub filter-alike : {X : Type 0} (p q : X → Bool) → ((x : X) → p x ≡ q x) → (xs : List X) → filter p xs ≡ filter q xs
-filter-alike p q alike [] = refl
-filter-alike p q alike (x ∷ xs) = ap (λ b. cond b (x ∷ filter p xs) (filter p xs)) (alike x) ∙ ap (λ ys. cond (q x) (x ∷ ys) ys) (filter-alike p q alike xs)
 
 pub find-alike : {X : Type 0} (p q : X → Bool) → ((x : X) → p x ≡ q x) → (xs : List X) → find p xs ≡ find q xs
 find-alike p q alike [] = refl

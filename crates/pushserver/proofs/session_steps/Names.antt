@@ -1,24 +1,24 @@
 -- The names that wait in a session, as they are kept and as the plain session has them.
---     sent-copy      what counts as sent of a name that waits is what its copy has
+--     points-there      the point of each name that waits
 --     stays-last      the names that stay are the last ones
 use Rattle.std.proofs.Common.{◌≡◌, ℕ, zero, suc, Bool, true, false, cond, ◌||◌, List, [], ◌∷◌, map, drop, Some, refl, ◌∙◌, ap}
 use Rattle.std.specs.Prelude.{find, option_map}
 use Rattle.std.specs.List.{list_any, AllByRecursion, IsDistinct}
+use Rattle.std.proofs.lemmas.List.Elements.{filter_agree}
 use Rattle.dnsname.specs.Names.{Labels, same_name}
 use Rattle.rrset.specs.RecordSet.{RecordSet, at_name}
 use Rattle.zoneupdate.proofs.Owners.{same_name-itself, same_name-for}
 use Rattle.history.proofs.Together.{same_name-turned}
-use Rattle.pushserver.specs.Sessions.{Queue, point_in}
-use Rattle.pushserver.specs.Giving.{stays_queued}
-use Rattle.pushserver.proofs.session_steps.Lists.{each-both, filter-alike, filter-each}
+use Rattle.pushserver.specs.Sessions.{Queue, point_in, stays_queued}
+use Rattle.pushserver.proofs.session_steps.Lists.{each-both, filter-each}
 
 pub at_name-alike : (a b : Labels) → same_name a b ≡ true → (set : RecordSet) → at_name a set ≡ at_name b set
-at_name-alike a b same set = filter-alike (λ e. same_name a e.0.owner) (λ e. same_name b e.0.owner) (λ e. same_name-for a b e.0.owner same) set
+at_name-alike a b same set = filter_agree (λ e. same_name a e.0.owner) (λ e. same_name b e.0.owner) (λ e. same_name-for a b e.0.owner same) set
 
-abbrev same_queued : Labels × ℕ → Labels × ℕ → Bool
+abbrev pub same_queued : Labels × ℕ → Labels × ℕ → Bool
 same_queued d e = same_name e.0 d.0
 
-abbrev AreApart : Queue → Type 0
+abbrev pub AreApart : Queue → Type 0
 AreApart queue = IsDistinct same_queued queue
 
 -- ---- the point of a name that waits

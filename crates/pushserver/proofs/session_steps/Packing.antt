@@ -15,13 +15,12 @@ use Rattle.coalesce.specs.Waiting.{WaitingName, CanBePacked, IsPackable, asked_n
 use Rattle.coalesce.proofs.NetSizes.{net_fits_one_message}
 use Rattle.coalesce.proofs.Packing.{packs_the_front, packed_fits_one_message}
 use Rattle.coalesce.proofs.Sides.{parts_stay_sides}
-use Rattle.pushsession.specs.Kept.{KeptSession}
-use Rattle.pushsession.specs.Saying as saying
-use Rattle.pushserver.specs.Sessions.{Session, Queue}
-use Rattle.pushserver.specs.Hubs.{Hub, newest, now, records_now}
-use Rattle.pushserver.specs.Giving.{packs, stays_queued, says_notices}
+use Rattle.pushsession.specs.Kept.{KeptSession, keeping, telling}
+use Rattle.pushsession.specs.Subscribing.{says_notices, packs}
+use Rattle.pushserver.specs.Sessions.{Hub, Session, Queue, stays_queued, plain_keeps, plain_tells}
+use Rattle.pushserver.specs.Hubs.{records_now}
 use Rattle.pushserver.specs.Rule.{SessionStandsFor, IsCopy}
-use Rattle.pushserver.proofs.session_steps.Parts.{Waits, asks, takes, writes, stands}
+use Rattle.pushserver.proofs.session_steps.Parts.{Waits, asks, reads, writes, stands}
 use Rattle.pushserver.proofs.session_steps.Lists.{each-drop}
 use Rattle.pushserver.proofs.session_steps.Names.{names_of, stays-last}
 use Rattle.pushserver.proofs.session_steps.Nets.{queue_of, nets-alike}
@@ -39,7 +38,7 @@ all_fit : (asked : Asked) (rows : RecordSet) (queue : List WaitingName) → CanB
 all_fit asked rows [] can = tt
 all_fit asked rows (w ∷ ws) can = (one_fits asked rows w can.0, all_fit asked rows ws can.1)
 
-pub packed_fits : (asked : Asked) (rows : RecordSet) (queue : List WaitingName) → CanBePacked rows queue → length (push_message (packed_of asked rows queue).0) ≤ max_net_message
+packed_fits : (asked : Asked) (rows : RecordSet) (queue : List WaitingName) → CanBePacked rows queue → length (push_message (packed_of asked rows queue).0) ≤ max_net_message
 packed_fits asked rows queue can = packed_fits_one_message (nets_in asked rows queue) (all_fit asked rows queue can)
 
 -- ---- the names that stay
@@ -86,32 +85,30 @@ module _ (hub : Hub) (k : ℕ × KeptSession) (p : ℕ × Session) (s : SessionS
   abbrev rows : RecordSet
   rows = records_now hub
 
-  stays_alike : queue_of (left_in k.1.asked rows k.1.queue) ≡ stays_queued (packed_of k.1.asked rows k.1.queue).1 p.1.queue
+  stays_alike : queue_of (left_in k.1.subscriptions.asked rows k.1.queue) ≡ stays_queued (packed_of k.1.subscriptions.asked rows k.1.queue).1 p.1.queue
   stays_alike =
-      let t = stay k.1.asked rows k.1.queue in
+      let t = stay k.1.subscriptions.asked rows k.1.queue in
       ap queue_of t.left ∙ sym (drop-map (λ (w : WaitingName). (w.name, w.point)) t.gone k.1.queue) ∙ ap (λ (q : Queue). drop t.gone q) s.queue
       ∙ sym (stays-last t.gone p.1.queue s.names)
       ∙ ap (λ (ns : List Labels). stays_queued ns p.1.queue) (sym (t.names ∙ names_kept t.gone k.1.queue ∙ ap (λ (q : Queue). names_of (drop t.gone q)) s.queue))
 
   -- the names that fit leave
-  pub left-keeps : SessionStandsFor hub (k.0, record k.1 { queue = left_in k.1.asked rows k.1.queue }) (p.0, record p.1 { queue = stays_queued (packed_of k.1.asked rows k.1.queue).1 p.1.queue })
+  left-keeps : SessionStandsFor hub (k.0, record k.1 { queue = left_in k.1.subscriptions.asked rows k.1.queue }) (p.0, record p.1 { queue = stays_queued (packed_of k.1.subscriptions.asked rows k.1.queue).1 p.1.queue })
   left-keeps =
-      stands hub k p s (record k.1 { queue = left_in k.1.asked rows k.1.queue }) (record p.1 { queue = stays_queued (packed_of k.1.asked rows k.1.queue).1 p.1.queue }) (asks hub k p s) fewer (takes hub k p s) (writes hub k p s)
+      stands hub k p s (record k.1 { queue = left_in k.1.subscriptions.asked rows k.1.queue }) (record p.1 { queue = stays_queued (packed_of k.1.subscriptions.asked rows k.1.queue).1 p.1.queue }) (asks hub k p s) fewer (reads hub k p s) (writes hub k p s)
       s.clocks s.established s.standing
     where
-      fewer : Waits hub (left_in k.1.asked rows k.1.queue) (stays_queued (packed_of k.1.asked rows k.1.queue).1 p.1.queue)
+      fewer : Waits hub.start hub.history (left_in k.1.subscriptions.asked rows k.1.queue) (stays_queued (packed_of k.1.subscriptions.asked rows k.1.queue).1 p.1.queue)
       fewer = record {
         queue = stays_alike;
-        copies = each-drop (IsCopy hub) (length k.1.queue - length (packed_of k.1.asked rows k.1.queue).1) k.1.queue s.copies;
-        points = all_filter _ (λ e. list_any (same_name e.0) (packed_of k.1.asked rows k.1.queue).1) p.1.queue s.points;
-        names = distinct_filter _ (λ e. list_any (same_name e.0) (packed_of k.1.asked rows k.1.queue).1) p.1.queue s.names;
+        copies = each-drop (IsCopy hub) (length k.1.queue - length (packed_of k.1.subscriptions.asked rows k.1.queue).1) k.1.queue s.copies;
+        points = all_filter _ (λ e. list_any (same_name e.0) (packed_of k.1.subscriptions.asked rows k.1.queue).1) p.1.queue s.points;
+        names = distinct_filter _ (λ e. list_any (same_name e.0) (packed_of k.1.subscriptions.asked rows k.1.queue).1) p.1.queue s.names;
       }
 
-  packed_keep : p.1.output ≡ [] → CanBePacked rows k.1.queue → SessionStandsFor hub (k.0, saying.packed rows (now hub) k.1) (p.0, packs hub p.1)
-  packed_keep silent can = subst (λ (ns : Nets). SessionStandsFor hub (k.0, saying.packed rows (now hub) k.1) (p.0, says_notices (newest hub) (now hub) (packed ns).0 (record p.1 { queue = stays_queued (packed ns).1 p.1.queue })))
+  pub packs-keeps : (n t : ℕ) → p.1.output ≡ [] → CanBePacked rows k.1.queue
+      → SessionStandsFor hub (k.0, packs keeping (telling rows) t k.1) (p.0, packs (plain_keeps n) (plain_tells hub.start hub.history) t p.1)
+  packs-keeps n t silent can =
+      subst (λ (ns : Nets). SessionStandsFor hub (k.0, packs keeping (telling rows) t k.1) (p.0, says_notices (plain_keeps n) t (packed ns).0 (record p.1 { queue = stays_queued (packed ns).1 p.1.queue })))
       (nets-alike hub k p s)
-      (says_notices-keeps hub (now hub) (packed_of k.1.asked rows k.1.queue).0 _ _ (omega (arith, ap length silent, packed_fits k.1.asked rows k.1.queue can)) left-keeps)
-
-pub packs-keeps : (hub : Hub) (k : ℕ × KeptSession) (p : ℕ × Session) → p.1.output ≡ [] → CanBePacked (records_now hub) k.1.queue → SessionStandsFor hub k p
-    → SessionStandsFor hub (k.0, saying.packed (records_now hub) (now hub) k.1) (p.0, packs hub p.1)
-packs-keeps hub k p silent can s = packed_keep hub k p s silent can
+      (says_notices-keeps hub n t (packed_of k.1.subscriptions.asked rows k.1.queue).0 _ _ (omega (arith, ap length silent, packed_fits k.1.subscriptions.asked rows k.1.queue can)) left-keeps)

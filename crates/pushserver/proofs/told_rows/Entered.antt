@@ -49,7 +49,7 @@ two_below octets h =
     let is : from_be_bytes w16 octets ≡ get_or octets 0 0 * 256 + get_or octets 1 0 = refl in
     omega (arith, high, low, is)
 
-range_below : (message : List ℕ) → AreBelow message → (a b : ℕ) → AreBelow (slice_range message a b)
+pub range_below : (message : List ℕ) → AreBelow message → (a b : ℕ) → AreBelow (slice_range message a b)
 range_below message below a b = below-take (b - a) (drop a message) (AreOctets-drop a message (below_at message below))
 
 -- ---- a record that is read

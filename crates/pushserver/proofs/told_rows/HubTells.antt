@@ -1,19 +1,20 @@
 -- What a server keeps can be told: the records now, and the copies of the names that wait in its sessions.
 --     StatesTell hub      each state of its history is tellable
 --     hub_told, session_packable, hubs_tell
-use Rattle.std.proofs.Common.{◌≡◌, ℕ, ◌<◌, ◌≤◌, Bool, true, false, cond, List, [], ◌∷◌, map, find, Option, Some, None, option_map, ◌==◌, refl, sym, subst, arith}
+use Rattle.std.proofs.Common.{◌≡◌, ℕ, ◌<◌, ◌≤◌, List, [], ◌∷◌, map, length, Option, Some, None, sym, subst, arith}
 use Rattle.std.specs.Prelude.{IsTrue}
-use Rattle.std.specs.List.{AllByRecursion, AllZip}
+use Rattle.std.specs.List.{AllByRecursion}
 use Rattle.rrset.specs.RecordSet.{RecordSet}
 use Rattle.coalesce.specs.Laws.{is_side}
 use Rattle.coalesce.specs.Waiting.{WaitingName, IsPackable, CanBePacked}
-use Rattle.history.specs.States.{state_at}
+use Rattle.history.specs.States.{state_at, records_at}
 use Rattle.pushsession.specs.Kept.{KeptSession}
-use Rattle.pushserver.specs.Sessions.{Session}
-use Rattle.pushserver.specs.Hubs.{Hub, newest, state_now, records_now}
-use Rattle.pushserver.specs.Rule.{IsCopy, ArePast, SessionStandsFor}
+use Rattle.pushserver.specs.Sessions.{Session, Hub}
+use Rattle.pushserver.specs.Hubs.{newest, state_now, records_now, session_of}
+use Rattle.pushserver.specs.Rule.{KeptHub, IsCopy, ArePast, SessionStandsFor, StandsFor}
 use Rattle.pushserver.specs.Rows.{AreTold, IsTellable}
 use Rattle.pushserver.specs.Simulation.{HubsTell}
+use Rattle.pushserver.proofs.hub_steps.Standing.{FoundBoth, both_found}
 use Rattle.pushserver.proofs.told_rows.Told.{tellable-told}
 
 -- each state of the history is tellable
@@ -43,24 +44,17 @@ session_packable hub states k p stands = each_packable hub states k.1.queue stan
 
 -- ---- all sessions
 
--- an element that is found stands beside one of the other list
-pub found-beside : {X Y : Type 0} (R : X → Y → Type 0) (q : X → Bool) (xs : List X) (ys : List Y) → AllZip R xs ys → (x : X) → find q xs ≡ Some x → (y : Y) × R x y
-found-beside R q [] [] all x e = absurd cc
-found-beside R q [] (y ∷ ys) all x e = absurd all
-found-beside R q (z ∷ xs) [] all x e = absurd all
-found-beside {X} {Y} R q (z ∷ xs) (y ∷ ys) all x e = by (q z) (λ e. found-beside R q xs ys all.1 x e) e
-  where
-    by : (b : Bool) → (find q xs ≡ Some x → (y : Y) × R x y) → cond b (Some z) (find q xs) ≡ Some x → (y : Y) × R x y
-    by true others e = let same : z ≡ x = cc in (y, subst (λ (z : X). R z y) same all.0)
-    by false others e = others e
+-- the records now of what is kept
+kept_now : (k : KeptHub) (hub : Hub) → StandsFor k hub → records_now hub ≡ records_now k
+kept_now k hub stands = sym (λ i. records_at (stands.start i) (stands.history i) (length (stands.history i)))
 
 pub hubs_tell : HubsTell
-hubs_tell k hub stands = (subst AreTold (sym stands.index) (hub_told hub stands.states), λ number session e. by number session (find (λ e. e.0 == number) k.sessions) refl e)
+hubs_tell k hub stands = (
+  subst AreTold (kept_now k hub stands) (hub_told hub stands.states),
+  λ number session is. subst (λ (rows : RecordSet). CanBePacked rows session.queue) (kept_now k hub stands)
+      (packable number session (session_of hub number) (subst (λ (o : Option KeptSession). FoundBoth hub number o (session_of hub number)) is (both_found hub number k.sessions hub.sessions stands.sessions))),
+)
   where
-    by : (number : ℕ) (session : KeptSession) (o : Option (ℕ × KeptSession)) → find (λ e. e.0 == number) k.sessions ≡ o → option_map (λ e. e.1) o ≡ Some session → CanBePacked k.index session.queue
-    by number session None is e = absurd cc
-    by number session (Some found) is e =
-        let same : found.1 ≡ session = cc in
-        let beside = found-beside (SessionStandsFor hub) (λ e. e.0 == number) k.sessions hub.sessions stands.sessions found is in
-        subst (λ (rows : RecordSet). CanBePacked rows session.queue) (sym stands.index)
-        (subst (λ (s : KeptSession). CanBePacked (records_now hub) s.queue) same (session_packable hub stands.states found beside.0 beside.1))
+    packable : (number : ℕ) (session : KeptSession) (o : Option Session) → FoundBoth hub number (Some session) o → CanBePacked (records_now hub) session.queue
+    packable number session None both = absurd both
+    packable number session (Some p) both = session_packable hub stands.states (number, session) (number, p) both

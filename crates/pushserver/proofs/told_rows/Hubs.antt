@@ -9,12 +9,13 @@ use Rattle.dsosession.specs.declared.session.Timers.{Timers}
 use Rattle.dnswire.specs.declared.message.Update.{Update}
 use Rattle.history.specs.Plans.{IsStart}
 use Rattle.history.specs.Standing.{AreAtHome}
-use Rattle.history.specs.States.{State, after, records, state_at, verdict}
+use Rattle.history.specs.States.{State, after, state_at, verdict}
 use Rattle.history.specs.declared.entry.Entry.{Entry}
 use Rattle.history.specs.declared.entry.Entry.TheVariants as entries
-use Rattle.pushserver.specs.Hubs.{Hub, new_hub, newest, state_now, entered}
+use Rattle.pushserver.specs.Hubs.{newest, state_now, entered, empty_hub}
+use Rattle.pushserver.specs.Sessions.{Hub, new_hub}
 use Rattle.pushserver.specs.Rows.{IsTellable}
-use Rattle.pushserver.specs.Rule.{KeptHub, StandsFor}
+use Rattle.pushserver.specs.Rule.{kept, StandsFor}
 use Rattle.pushserver.proofs.told_rows.HubTells.{StatesTell}
 use Rattle.pushserver.proofs.told_rows.Histories.{states-more}
 use Rattle.pushserver.proofs.told_rows.Updated.{update-tellable, moment-tellable, start-tellable}
@@ -37,11 +38,7 @@ new_tells start timers is point within =
     let first : point ≡ 0 = omega (arith, within) in
     subst IsTellable (sym (ap (λ (n : ℕ). state_at start [] n) first)) is
 
--- what is kept of a new hub
-abbrev pub new_kept : State → Timers → KeptHub
-new_kept start timers = record { past = record { start = start; history = [] }; timers = timers; index = records start; sessions = []; made = 0 }
-
-pub new_stands : (start : State) (timers : Timers) → IsStart start → AreAtHome start → AllByRecursion (λ z. IsTrue (is_name z.apex)) start.zones → StandsFor (new_kept start timers) (new_hub start timers)
+pub new_stands : (start : State) (timers : Timers) → IsStart start → AreAtHome start → AllByRecursion (λ z. IsTrue (is_name z.apex)) start.zones → StandsFor (empty_hub kept start timers) (new_hub start timers)
 unfolding IsDistinct
 new_stands start timers begins home names = record {
   timers = refl;
@@ -50,7 +47,6 @@ new_stands start timers begins home names = record {
   links = home.links;
   start = refl;
   history = refl;
-  index = refl;
   states = new_tells start timers (start-tellable start begins home names);
   sessions = tt;
   numbers = tt;

@@ -1,13 +1,13 @@
 use Rattle.std.proofs.Common.{subst, sym}
 use Rattle.dnspush.specs.Outside.{MayHaveGiven}
-use Rattle.dnspush.specs.Script.{front_read, reply_to_script}
-use Rattle.dnspush.proofs.Telling.{answered, unread_is, starved_is}
+use Rattle.replay.specs.BuiltScripts.{front_read, reply_to_script}
+use Rattle.replay.proofs.replies.Written.{answered, unread_is, starved_is}
 use Rattle.dnspush.proofs.Running.{replied_back, brought, failed_open}
 use Rattle.dnspush.proofs.program.replay_path.Goals as goal
 
 pub returns-in-Ok-clause-replied : goal.returns-in-Ok-clause-replied
 returns-in-Ok-clause-replied g c = λ octets may.
-    replied_back _ _ _ _ _ _ _ _ _ _ _ (brought _ _ _ _ _ c.in-Ok.ensures.faults c.in-Ok.ensures.reads c.back_in.ensures.reads) c.in-Ok.ensures.fresh c.replay-status.ensures.gave c.replay-status.ensures.replied c.back_in.ensures.used octets
+    replied_back _ _ _ _ _ _ _ _ _ _ _ (brought _ _ _ _ _ c.in-Ok.ensures.faults c.in-Ok.ensures.reads c.back_in.ensures.reads) c.in-Ok.ensures.fresh c.replay-outcome.ensures.gave c.replay-outcome.ensures.replied c.back_in.ensures.used octets
     (subst (λ before. MayHaveGiven before (g.O.Outside.used c.back_in.new.self) octets) (sym c.in-Ok.ensures.used) may)
 
 pub returns-in-Err-Failed-clause-replied : goal.returns-in-Err-Failed-clause-replied

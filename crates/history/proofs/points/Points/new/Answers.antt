@@ -8,7 +8,7 @@ use Rattle.history.proofs.points.Points.new.Goals as goal
 
 pub invariant_of-result : goal.invariant_of-result
 invariant_of-result c =
-    present-new c.args.homes c.in_ok-copy.field-0 c.new.result.items (start-home c.args.homes (ap (λ zs. may_stand_together (named_homes zs)) (sym c.homes.view_is) ∙ c.homes.invariant) c.requires) c.in_ok-copy.ensures c.new.ensures.items
+    rw c.none.ensures (present-new c.args.homes c.in_ok-copy.field-0 c.new.result.items (start-home c.args.homes (ap (λ zs. may_stand_together (named_homes zs)) (sym c.homes.view_is) ∙ c.homes.invariant) c.requires) c.in_ok-copy.ensures c.new.ensures.items)
 
 pub returns-in_err-copy-clause-home : goal.returns-in_err-copy-clause-home
 returns-in_err-copy-clause-home c = start-home c.args.homes (ap (λ zs. may_stand_together (named_homes zs)) (sym c.homes.view_is) ∙ c.homes.invariant) c.requires

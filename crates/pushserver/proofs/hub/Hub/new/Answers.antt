@@ -1,12 +1,18 @@
--- The hub stands for the plain one afterwards.
-use Rattle.pushserver.specs.Parts.{kept_of}
+-- What is kept at first stands for a new hub.
+use Rattle.std.proofs.Common.{sym, subst}
 use Rattle.history.specs.Keeping.{state_of}
-use Rattle.pushserver.specs.Hubs.{new_hub}
-use Rattle.pushserver.proofs.Soundness.{new-hub}
+use Rattle.pushserver.specs.Sessions.{new_hub}
+use Rattle.pushserver.specs.Rule.{KeptHub, StandsFor}
+use Rattle.pushserver.proofs.Soundness.{named_states}
+use Rattle.pushserver.proofs.told_rows.Hubs.{new_stands}
 use Rattle.pushserver.proofs.hub.Hub.new.Goals as goal
 
 pub invariant_of-result : goal.invariant_of-result
-invariant_of-result c = (new_hub (state_of c.args.homes) c.args.timers, new-hub c.args.homes c.args.timers (kept_of c.in_ok-keeping.keeping) c.requires c.new.ensures.home c.new.ensures.names c.in_ok-keeping.ensures.kept)
+invariant_of-result c = record {
+  index = c.in_ok-keeping.ensures.index;
+  hub = new_hub (state_of c.args.homes) c.args.timers;
+  stands = subst (λ (k : KeptHub). StandsFor k (new_hub (state_of c.args.homes) c.args.timers)) (sym c.in_ok-keeping.ensures.kept) (new_stands (state_of c.args.homes) c.args.timers c.requires c.new.ensures.home (named_states c.args.homes c.new.ensures.names));
+}
 
-pub returns : goal.returns
-returns c = new-hub c.args.homes c.args.timers (kept_of c.in_ok-keeping.keeping) c.requires c.new.ensures.home c.new.ensures.names c.in_ok-keeping.ensures.kept
+pub returns-clause-stands : goal.returns-clause-stands
+returns-clause-stands c = subst (λ (k : KeptHub). StandsFor k (new_hub (state_of c.args.homes) c.args.timers)) (sym c.in_ok-keeping.ensures.kept) (new_stands (state_of c.args.homes) c.args.timers c.requires c.new.ensures.home (named_states c.args.homes c.new.ensures.names))

@@ -1,14 +1,29 @@
--- The session is as it was, but for what it noted.
-use Rattle.std.proofs.Common.{sym, ap, subst, ◌∙◌}
-use Rattle.std.specs.Prelude.{ok_or}
-use Rattle.rrset.specs.Rcodes.{formerr}
-use Rattle.pushserver.specs.Rule.{KeptHub}
-use Rattle.pushserver.specs.Parts.{AreApart, kept_of}
-use Rattle.pushserver.proofs.JudgedSteps.{IsReady, judged-apart, judged-ready}
+-- The session is as it was, but for the names that wait since the update.
+use Rattle.pushsession.specs.Requests.{message_of}
+use Rattle.pushserver.specs.KeptHubs.{kept_of}
+use Rattle.pushserver.proofs.JudgedTurns.{ready-output, ready-request, ready-found, update-gave}
+use Rattle.pushserver.proofs.GiveSteps.{on_some}
 use Rattle.pushserver.proofs.keeping.Keeping.answer_update.Goals as goal
 
-pub answer_in-requires-clause-apart : goal.answer_in-requires-clause-apart
-answer_in-requires-clause-apart c = subst AreApart (sym (c.deref_mut.ensures.value ∙ ap (λ (k : KeptHub). k.sessions) c.in_ok-code.ensures.hub)) (judged-apart (ok_or c.in_ok-found.found formerr) (kept_of c.args.self.now) c.requires.sound.apart)
+pub answer_update-requires-clause-output : goal.answer_update-requires-clause-output
+answer_update-requires-clause-output c =
+    let ready = c.requires.ready in
+    ready-output (kept_of c.args.self.now) c.args.number ready.session ready.there (kept_of c.judge.new.self) (c.in_ok-code.ensures.hub (message_of ready.session) ready.reads) c.in-Some.session.now c.in-Some.ensures.value ready.silent
 
-pub answer_in-requires-clause-ready : goal.answer_in-requires-clause-ready
-answer_in-requires-clause-ready c = subst (IsReady c.args.number) (sym (c.deref_mut.ensures.value ∙ ap (λ (k : KeptHub). k.sessions) c.in_ok-code.ensures.hub)) (judged-ready (ok_or c.in_ok-found.found formerr) (kept_of c.args.self.now) c.args.number c.requires.ready)
+pub answer_update-requires-clause-request : goal.answer_update-requires-clause-request
+answer_update-requires-clause-request c =
+    let ready = c.requires.ready in
+    ready-request (kept_of c.args.self.now) c.args.number ready.session ready.there (kept_of c.judge.new.self) (c.in_ok-code.ensures.hub (message_of ready.session) ready.reads) c.in-Some.session.now c.in-Some.ensures.value ready.request
+
+pub returns-in-Some-clause-ok : goal.returns-in-Some-clause-ok
+returns-in-Some-clause-ok c =
+    let ready = c.requires.ready in
+    update-gave (kept_of c.args.self.now) c.args.number ready.session ready.there ready.live ready.silent ready.request (kept_of c.judge.new.self) c.in_ok-code.code (c.in_ok-code.ensures.hub (message_of ready.session) ready.reads) (c.in_ok-code.ensures.code (message_of ready.session) ready.reads)
+    c.in-Some.session.now c.in-Some.ensures.value c.in-Some.ensures.apart c.requires.sound.apart c.now-now.result c.after_reaction.result c.args.buf.now c.after_reaction.new.buf c.answer_update.new.self c.after_reaction.new.session (c.get_mut.follows.lender c.after_reaction.new.session)
+    c.now-now.ensures c.answer_update.ensures (record { given_is = c.after_reaction.ensures.given; octets = c.after_reaction.ensures.octets; session = c.after_reaction.ensures.session })
+    (on_some c.get_mut.result c.in-Some.session c.in-Some.is (c.get_mut.follows.holds c.after_reaction.new.session))
+
+pub returns-in-None-clause-ok : goal.returns-in-None-clause-ok
+returns-in-None-clause-ok c =
+    let ready = c.requires.ready in
+    absurd (ready-found (kept_of c.args.self.now) c.args.number ready.session ready.there (kept_of c.judge.new.self) (c.in_ok-code.ensures.hub (message_of ready.session) ready.reads) c.in-None.ensures.value)

@@ -1,17 +1,53 @@
--- What waits is handed on; a session that was asked to stop does so.
-use Rattle.std.proofs.Common.{sym, ap, ◌∙◌}
-use Rattle.std.proofs.lemmas.List.{with_items_is}
-use Rattle.pushserver.specs.Parts.{kept_of, session_in}
-use Rattle.pushserver.proofs.GaveSteps.{gave-sessions, give-with-output, give-with-stop}
+-- One turn of the session that is found, or the judging of an update.
+use Rattle.std.proofs.Common.{List, ℕ, ◌≡◌, length, sym, ap, subst}
+use Rattle.std.specs.Prelude.{IfOk, OnErr}
+use Rattle.pushsession.specs.Kept.{KeptSession}
+use Rattle.pushserver.specs.Hubs.{Numbered}
+use Rattle.pushserver.specs.Giving.{give}
+use Rattle.pushserver.specs.KeptHubs.{kept_of, Gave, IsSound, IsToJudge}
+use Rattle.pushserver.proofs.GiveSteps.{on_some, on_each_err, seat-of, as_before, did-gave, to-judge, judge-wants}
 use Rattle.pushserver.proofs.keeping.Keeping.give.Goals as goal
 
-pub returns-then-has_output-clause-ok : goal.returns-then-has_output-clause-ok
-returns-then-has_output-clause-ok c =
-    give-with-output c.args.number (kept_of c.args.self.now) c.in-Some.session.now c.args.buf.now c.after_packing.new.buf c.after_packing.result _ c.has_output.result (ap (session_in c.args.number) (sym c.deref.ensures.value) ∙ c.in-Some.ensures) c.has_output.ensures c.if-has_output.true
-    (gave-sessions _ c.after_packing.result c.args.buf.now c.after_packing.new.buf (kept_of c.args.self.now) _ c.after_packing.new.sessions (with_items_is c.args.self.now.sessions c.after_packing.new.sessions (c.after_packing.auto.sessions ∙ c.deref_mut.ensures.len)) (c.after_packing.ensures (kept_of c.args.self.now) (sym c.deref_mut.ensures.value)))
+pub returns-in_err-given-clause-err : goal.returns-in_err-given-clause-err
+returns-in_err-given-clause-err c =
+    on_each_err c.from_residual.result (ap (λ (xs : Numbered KeptSession). record (kept_of c.args.self.now) { sessions = xs })
+    (as_before c.args.number c.args.self.now.sessions (c.get_mut.follows.lender c.take_turn.new.session) c.in-Some.session.now c.take_turn.new.session c.in-Some.ensures.value c.in-Some.ensures.apart c.in_err-given.ensures.err
+    (on_some c.get_mut.result c.in-Some.session c.in-Some.is (c.get_mut.follows.holds c.take_turn.new.session))))
 
-pub returns-in-AskedToStop-clause-ok : goal.returns-in-AskedToStop-clause-ok
-returns-in-AskedToStop-clause-ok c =
-    give-with-stop c.args.number (kept_of c.args.self.now) c.in-Some.session.now c.args.buf.now c.stop_and_give.new.buf c.stop_and_give.result _ c.has_output.result c.standing.result c.in-AskedToStop.rcode c.in-AskedToStop.delay c.now-now.result c.requires.apart
-    (ap (session_in c.args.number) (sym c.deref.ensures.value) ∙ c.in-Some.ensures) c.has_output.ensures c.if-has_output.false c.standing.ensures c.in-AskedToStop.is c.now-now.ensures
-    (gave-sessions _ c.stop_and_give.result c.args.buf.now c.stop_and_give.new.buf (kept_of c.args.self.now) _ c.stop_and_give.new.sessions (with_items_is c.args.self.now.sessions c.stop_and_give.new.sessions (c.stop_and_give.auto.sessions ∙ c.deref_mut-in-AskedToStop.ensures.len)) (c.stop_and_give.ensures (kept_of c.args.self.now) (sym c.deref_mut-in-AskedToStop.ensures.value)))
+pub answer_update-requires-clause-sound : goal.answer_update-requires-clause-sound
+answer_update-requires-clause-sound c =
+    let came = to-judge c.args.self.now c.args.number c.in-Some.session.now c.take_turn.new.session c.in_ok-given.field-0 c.in-Judge.found c.args.buf.now c.take_turn.new.buf (c.get_mut.follows.lender c.take_turn.new.session) c.requires c.in-Some.ensures.value c.in-Some.ensures.apart
+    c.in-Judge.is (on_some c.get_mut.result c.in-Some.session c.in-Some.is (c.get_mut.follows.holds c.take_turn.new.session)) c.in_ok-given.ensures.ok in
+    subst (λ (xs : Numbered KeptSession). IsSound (record c.args.self.now { sessions = xs })) (sym came.sessions) c.requires
+
+pub answer_update-requires-clause-ready : goal.answer_update-requires-clause-ready
+answer_update-requires-clause-ready c =
+    let came = to-judge c.args.self.now c.args.number c.in-Some.session.now c.take_turn.new.session c.in_ok-given.field-0 c.in-Judge.found c.args.buf.now c.take_turn.new.buf (c.get_mut.follows.lender c.take_turn.new.session) c.requires c.in-Some.ensures.value c.in-Some.ensures.apart
+    c.in-Judge.is (on_some c.get_mut.result c.in-Some.session c.in-Some.is (c.get_mut.follows.holds c.take_turn.new.session)) c.in_ok-given.ensures.ok in
+    subst (IsToJudge c.args.number c.in-Judge.found) (sym came.sessions) came.ready
+
+pub returns-in-Did-clause-ok : goal.returns-in-Did-clause-ok
+returns-in-Did-clause-ok c =
+    did-gave c.args.self.now c.args.number c.in-Some.session.now c.take_turn.new.session c.in_ok-given.field-0 c.in-Did.given c.args.buf.now c.take_turn.new.buf (c.get_mut.follows.lender c.take_turn.new.session) c.in-Did.is
+    (on_some c.get_mut.result c.in-Some.session c.in-Some.is (c.get_mut.follows.holds c.take_turn.new.session))
+    (c.in_ok-given.ensures.ok (kept_of c.args.self.now) c.args.number (seat-of c.args.self.now c.args.number c.in-Some.session.now c.requires c.in-Some.ensures.value c.in-Some.ensures.apart))
+
+pub returns-in-Judge-clause-ok : goal.returns-in-Judge-clause-ok
+returns-in-Judge-clause-ok c =
+    let came = to-judge c.args.self.now c.args.number c.in-Some.session.now c.take_turn.new.session c.in_ok-given.field-0 c.in-Judge.found c.args.buf.now c.take_turn.new.buf (c.get_mut.follows.lender c.take_turn.new.session) c.requires c.in-Some.ensures.value c.in-Some.ensures.apart
+    c.in-Judge.is (on_some c.get_mut.result c.in-Some.session c.in-Some.is (c.get_mut.follows.holds c.take_turn.new.session)) c.in_ok-given.ensures.ok in
+    subst (λ (buf : List ℕ). IfOk c.answer_update.result (λ given. Gave (give (kept_of c.args.self.now) c.args.number (length buf)) given buf c.answer_update.new.buf (kept_of c.answer_update.new.self))) came.octets
+    (subst (λ (xs : Numbered KeptSession). IfOk c.answer_update.result (λ given. Gave (give (kept_of (record c.args.self.now { sessions = xs })) c.args.number (length c.take_turn.new.buf)) given c.take_turn.new.buf c.answer_update.new.buf (kept_of c.answer_update.new.self))) came.sessions
+    c.answer_update.ensures.ok)
+
+pub returns-in-Judge-clause-err : goal.returns-in-Judge-clause-err
+returns-in-Judge-clause-err c =
+    let came = to-judge c.args.self.now c.args.number c.in-Some.session.now c.take_turn.new.session c.in_ok-given.field-0 c.in-Judge.found c.args.buf.now c.take_turn.new.buf (c.get_mut.follows.lender c.take_turn.new.session) c.requires c.in-Some.ensures.value c.in-Some.ensures.apart
+    c.in-Judge.is (on_some c.get_mut.result c.in-Some.session c.in-Some.is (c.get_mut.follows.holds c.take_turn.new.session)) c.in_ok-given.ensures.ok in
+    subst (λ (xs : Numbered KeptSession). OnErr c.answer_update.result (kept_of c.answer_update.new.self ≡ kept_of (record c.args.self.now { sessions = xs }))) came.sessions c.answer_update.ensures.err
+
+pub returns-in-Judge-clause-memory : goal.returns-in-Judge-clause-memory
+returns-in-Judge-clause-memory c =
+    let came = to-judge c.args.self.now c.args.number c.in-Some.session.now c.take_turn.new.session c.in_ok-given.field-0 c.in-Judge.found c.args.buf.now c.take_turn.new.buf (c.get_mut.follows.lender c.take_turn.new.session) c.requires c.in-Some.ensures.value c.in-Some.ensures.apart
+    c.in-Judge.is (on_some c.get_mut.result c.in-Some.session c.in-Some.is (c.get_mut.follows.holds c.take_turn.new.session)) c.in_ok-given.ensures.ok in
+    on_each_err c.answer_update.result (judge-wants c.args.number c.in-Judge.found c.args.self.now.sessions came.ready)

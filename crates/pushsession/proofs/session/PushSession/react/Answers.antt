@@ -2,8 +2,9 @@ use Rattle.std.proofs.Common.{◌≡◌, ◌∙◌, ℕ, List, Some, None, sym, 
 use Rattle.std.specs.Int.{w16, from_be_bytes}
 use Rattle.dsotlv.specs.Messages.{primary_data}
 use Rattle.dsosession.specs.declared.session.Reaction.{Reaction}
-use Rattle.pushsession.specs.Kept.{KeptSession}
-use Rattle.pushsession.specs.Reacting.{by_itself, message_of, taken_up, unsubscribed}
+use Rattle.pushsession.specs.Reactions.{by_itself, unsubscribed}
+use Rattle.pushsession.specs.Kept.{KeptSession, keeping}
+use Rattle.pushsession.specs.Requests.{message_of, taken_up}
 use Rattle.pushsession.proofs.Numbers.{number_of_taken, reacts_as}
 use Rattle.pushsession.proofs.session.PushSession.react.Goals as goal
 
@@ -21,7 +22,7 @@ returns-in-Some-number c =
     let there : Some c.in-Some-number.id ≡ Some (from_be_bytes w16 (primary_data c.message.result.now)) = c.in-Some-number.ensures number.long number.two in
     let same : c.in-Some-number.id ≡ from_be_bytes w16 (primary_data c.message.result.now) = cc in
     c.unsubscribe.ensures
-    ∙ ap (λ (s : KeptSession). unsubscribed c.in-Some-number.id s) c.take_up.ensures.session
-    ∙ ap (λ (n : ℕ). unsubscribed n taken) (same ∙ ap (λ (m : List ℕ). from_be_bytes w16 (primary_data m)) c.message.ensures)
+    ∙ ap (λ (s : KeptSession). unsubscribed keeping c.in-Some-number.id s) c.take_up.ensures.session
+    ∙ ap (λ (n : ℕ). unsubscribed keeping n taken) (same ∙ ap (λ (m : List ℕ). from_be_bytes w16 (primary_data m)) c.message.ensures)
     ∙ sym (reacts_as c.args.timers c.args.now session c.in-Some.field-0 (sym c.in-Some.is ∙ c.take_up.ensures.taken)
-    ∙ ap (λ (r : Reaction). by_itself r c.args.timers c.args.now (message_of session) taken) c.in-Unsubscribe.is)
+    ∙ ap (λ (r : Reaction). by_itself keeping r c.args.timers c.args.now (message_of session) taken) c.in-Unsubscribe.is)

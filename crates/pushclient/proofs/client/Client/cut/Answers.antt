@@ -1,0 +1,9 @@
+-- The plain client's call.
+use Rattle.pushclient.proofs.Calls.{moved}
+use Rattle.pushclient.proofs.Dropping.{cut_stands}
+use Rattle.pushclient.specs.Clients.{cut}
+use Rattle.pushclient.specs.Kept.{kept_cut}
+use Rattle.pushclient.proofs.client.Client.cut.Goals as goal
+
+pub returns : goal.returns
+returns c = moved kept_cut cut (λ k p s. cut_stands k p s) c.args.self.now c.self.inside.keeping c.cut.new.self c.self.view_is c.cut.ensures

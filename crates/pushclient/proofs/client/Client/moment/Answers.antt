@@ -1,0 +1,9 @@
+-- The plain client's call.
+use Rattle.pushclient.proofs.Calls.{moved}
+use Rattle.pushclient.proofs.Standing.{moment_stands}
+use Rattle.pushclient.specs.Steps.{moment}
+use Rattle.pushclient.specs.Kept.{kept_moment}
+use Rattle.pushclient.proofs.client.Client.moment.Goals as goal
+
+pub returns-clause-ok : goal.returns-clause-ok
+returns-clause-ok c = moved (λ k. kept_moment k c.args.now) (λ p. moment p c.args.now) (λ k p s. moment_stands k p s c.args.now) c.args.self.now c.self.inside.keeping c.moment.new.self c.self.view_is c.in_ok-moment.ensures.ok

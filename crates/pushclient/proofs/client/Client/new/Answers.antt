@@ -1,0 +1,9 @@
+-- The plain client's call.
+use Rattle.std.proofs.Common.{sym, subst}
+use Rattle.pushclient.proofs.Dropping.{new_stands}
+use Rattle.pushclient.specs.Clients.{new_client}
+use Rattle.pushclient.specs.Rule.{StandsFor}
+use Rattle.pushclient.proofs.client.Client.new.Goals as goal
+
+pub returns : goal.returns
+returns c = subst (λ k. StandsFor k new_client) (sym c.new.ensures) new_stands

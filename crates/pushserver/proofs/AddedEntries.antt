@@ -1,0 +1,255 @@
+-- What a call adds to the entries of each group, and how many octets it hands on.
+--     give-adds, moment-adds      at most one change; at most one moment
+--     give-within      no more octets than there is room for
+--     connect-counts, connect-many      one session is made; where no seat is free, as many were made
+use Rattle.std.proofs.Common.{◌≡◌, ℕ, suc, ◌+◌, ◌<◌, ◌≤◌, Bool, true, false, cond, not, ◌&&◌, ◌||◌, List, [], ◌∷◌, ◌++◌, map, length, Option, Some, None, Result, Ok, Err, T, inl, inr, refl, sym, ap, subst, ◌∙◌, arith}
+use Rattle.std.specs.Prelude.{◌==◌, filter, nat_lt}
+use Rattle.std.specs.List.{count_by, list_any, AllByRecursion, IsDistinct}
+use Rattle.std.proofs.Math.Dec.{eqb, nltb→le}
+use Rattle.std.proofs.lemmas.List.{length-append}
+use Rattle.std.proofs.lemmas.List.Elements.{filter-append}
+use Rattle.std.proofs.lemmas.List.Sums.{length-filter}
+use Rattle.std.proofs.lemmas.Map.Steps.{length-le_from_distinct_below}
+use Rattle.push_base.specs.Cases.{is_empty}
+use Rattle.push_base.specs.Limits.{max_number}
+use Rattle.rrset.specs.declared.record.Key.{Key}
+use Rattle.rrset.specs.declared.record.Rr.{Rr}
+use Rattle.dnswire.specs.declared.message.Update.{Update}
+use Rattle.dsotlv.specs.Messages.{first_message, head_of, primary_data}
+use Rattle.dsotlv.specs.Notices.{reconfirm_of}
+use Rattle.dsotlv.specs.declared.message.DsoHead.{DsoHead}
+use Rattle.dsosession.specs.Reactions.{server_reaction}
+use Rattle.dsosession.specs.declared.session.Reaction.{Reaction}
+use Rattle.dsosession.specs.declared.session.Reaction.TheVariants as reactions
+use Rattle.history.specs.States.{accepts, reconfirm_key, verdict}
+use Rattle.history.specs.Totals.{is_change, is_hearing, is_moment, totals}
+use Rattle.history.specs.declared.entry.Entry.{Entry}
+use Rattle.history.specs.declared.entry.Entry.TheVariants as entries
+use Rattle.pushsession.specs.Kept.{KeptSession}
+use Rattle.pushsession.specs.Sessions.{SessionOf}
+use Rattle.pushsession.specs.declared.standing.Standing.{Standing}
+use Rattle.pushsession.specs.declared.standing.Standing.TheVariants.{Live, AskedToStop, Stopped, Ended}
+use Rattle.pushserver.specs.Counting.{MayAddChange, MayAddMoment, octets_of}
+use Rattle.pushserver.specs.Giving.{by_reaction, reacted, after_reaction, by_standing, given_after, give}
+use Rattle.pushserver.specs.Hubs.{Numbered, SessionKind, HubOf, now, state_now, session_of, entered, can_enter, update, moment, connect, max_sessions}
+use Rattle.pushserver.specs.Rule.{KeptHub}
+use Rattle.pushserver.specs.Seats.{AreApart, AreBelow}
+use Rattle.pushserver.specs.declared.given.Given.{Given}
+use Rattle.pushserver.specs.declared.given.Given.TheVariants.{Worked, Nothing}
+use Rattle.pushserver.proofs.SessionLists.{same-number}
+use Rattle.pushserver.proofs.Walks.{with_new}
+use Rattle.pushserver.proofs.hub_steps.Cases.{enters_update, update_as, enters_moment, moment_as, key_as, record_as, session_as, head_as, copies_as, found_as, works_as, stops_as, output_as, give_as}
+
+-- ---- one entry more
+
+last-filter : (p : Entry → Bool) (h : List Entry) (e : Entry) → count_by p (h ++ e ∷ []) ≡ count_by p h + length (filter p (e ∷ []))
+last-filter p h e =
+    sym (length-filter p (h ++ e ∷ [])) ∙ ap length (filter-append p h (e ∷ [])) ∙ length-append (filter p h) (filter p (e ∷ [])) ∙ ap (λ n. n + length (filter p (e ∷ []))) (length-filter p h)
+
+one_more : (p : Entry → Bool) (h : List Entry) (e : Entry) → p e ≡ true → count_by p (h ++ e ∷ []) ≡ count_by p h + 1
+one_more p h e is = last-filter p h e ∙ ap (λ b. count_by p h + length (cond b (e ∷ []) [])) is
+
+none_more : (p : Entry → Bool) (h : List Entry) (e : Entry) → p e ≡ false → count_by p (h ++ e ∷ []) ≡ count_by p h
+none_more p h e is = let sum = last-filter p h e ∙ ap (λ b. count_by p h + length (cond b (e ∷ []) [])) is in omega (arith, sum)
+
+more_change : (h : List Entry) (e : Entry) → is_change e ≡ true → is_hearing e ≡ false → is_moment e ≡ false → totals (h ++ e ∷ []) ≡ record (totals h) { changes = (totals h).changes + 1 }
+more_change h e change hearing moment = λ i. record { changes = one_more is_change h e change i; heard = none_more is_hearing h e hearing i; moments = none_more is_moment h e moment i }
+
+more_moment : (h : List Entry) (t : ℕ) → totals (h ++ entries.Moment t ∷ []) ≡ record (totals h) { moments = (totals h).moments + 1 }
+more_moment h t = λ i. record { changes = none_more is_change h (entries.Moment t) refl i; heard = none_more is_hearing h (entries.Moment t) refl i; moments = one_more is_moment h (entries.Moment t) refl i }
+
+-- ---- `give` and a moment
+
+ends_without : (s : Standing) → octets_of (given_after s) ≡ 0
+ends_without (Ended reason) = refl
+ends_without (Stopped since) = refl
+ends_without Live = refl
+ends_without (AskedToStop rcode delay) = refl
+
+module _ {A Q M : Type 0} {kind : SessionKind A Q M} (number room : ℕ) where
+  adds-update : (hub : HubOf kind) (message : List ℕ) → MayAddChange hub (update hub message).1
+  adds-update hub message = by (verdict (state_now hub) message)
+    where
+      by_room : (u : Update) (b : Bool) → MayAddChange hub (enters_update hub u b).1
+      by_room u true = (refl, inr (more_change hub.history (entries.Update u) refl refl refl))
+      by_room u false = (refl, inl refl)
+
+      by : (r : Result Update ℕ) → MayAddChange hub (update_as hub r).1
+      by (Err code) = (refl, inl refl)
+      by (Ok u) = by_room u (can_enter hub (entries.Update u))
+
+  adds-reconfirm : (hub : HubOf kind) (message : List ℕ) → MayAddChange hub (record_as hub number (reconfirm_of (primary_data message)))
+  adds-reconfirm hub message = by (reconfirm_of (primary_data message))
+    where
+      by_room : (found : ℕ × Key) (b : Bool) → MayAddChange hub (cond b (entered (entries.Reconfirm found.0 found.1) hub) hub)
+      by_room found true = (refl, inr (more_change hub.history (entries.Reconfirm found.0 found.1) refl refl refl))
+      by_room found false = (refl, inl refl)
+
+      by_key : (o : Option (ℕ × Key)) → MayAddChange hub (key_as hub o)
+      by_key None = (refl, inl refl)
+      by_key (Some found) = by_room found (accepts (state_now hub) (entries.Reconfirm found.0 found.1) && can_enter hub (entries.Reconfirm found.0 found.1))
+
+      by : (o : Option Rr) → MayAddChange hub (record_as hub number o)
+      by None = (refl, inl refl)
+      by (Some rr) = by_key (reconfirm_key (state_now hub) rr)
+
+  adds-reaction : (hub : HubOf kind) (message : List ℕ) (r : Reaction) → MayAddChange hub (by_reaction r number message hub)
+  adds-reaction hub message reactions.Update = adds-update hub message
+  adds-reaction hub message reactions.Reconfirm = adds-reconfirm hub message
+  adds-reaction hub message reactions.Subscribe = (refl, inl refl)
+  adds-reaction hub message (reactions.Answer rcode) = (refl, inl refl)
+  adds-reaction hub message reactions.Grant = (refl, inl refl)
+  adds-reaction hub message (reactions.Abort reason) = (refl, inl refl)
+  adds-reaction hub message reactions.Unsubscribe = (refl, inl refl)
+  adds-reaction hub message reactions.NotImplemented = (refl, inl refl)
+
+  adds-message : (hub : HubOf kind) (message : List ℕ) → MayAddChange hub (reacted message number hub)
+  adds-message hub message = by (head_of message)
+    where
+      by_session : (head : DsoHead) (o : Option (SessionOf A Q M)) → MayAddChange hub (session_as hub number message head o)
+      by_session head None = (refl, inl refl)
+      by_session head (Some session) = adds-reaction _ message (server_reaction head session.established)
+
+      by : (o : Option DsoHead) → MayAddChange hub (head_as hub number message o)
+      by None = (refl, inl refl)
+      by (Some head) = by_session head (session_of hub number)
+
+  -- octets that are handed on add nothing
+  adds-found : (hub later : HubOf kind) (none : Given) (given : Standing → Given) (o : Option (SessionOf A Q M)) → MayAddChange hub later → MayAddChange hub (found_as later number room none given o).hub
+  adds-found hub later none given None adds = adds
+  adds-found hub later none given (Some session) adds = by (is_empty session.output)
+    where
+      by : (b : Bool) → MayAddChange hub (copies_as later number room session (given session.standing) b).hub
+      by true = adds
+      by false = adds
+
+  adds-after : (hub later : HubOf kind) → MayAddChange hub later → MayAddChange hub (after_reaction number room later).hub
+  adds-after hub later adds = adds-found hub later Worked given_after (session_of later number) adds
+
+  adds-works : (hub : HubOf kind) (o : Option (List ℕ × List ℕ)) → MayAddChange hub (works_as hub number room o).hub
+  adds-works hub None = adds-found hub _ Nothing (λ standing. Nothing) _ (refl, inl refl)
+  adds-works hub (Some found) = adds-after hub _ (adds-message _ found.0)
+
+  adds-standing : (hub : HubOf kind) (session : SessionOf A Q M) (standing : Standing) → MayAddChange hub (by_standing standing number room session hub).hub
+  adds-standing hub session (Ended reason) = (refl, inl refl)
+  adds-standing hub session (Stopped since) = (refl, inl refl)
+  adds-standing hub session Live = adds-works hub (first_message session.input)
+  adds-standing hub session (AskedToStop rcode delay) = by session.established
+    where
+      by : (b : Bool) → MayAddChange hub (stops_as hub number room rcode delay b).hub
+      by true = adds-after hub _ (refl, inl refl)
+      by false = (refl, inl refl)
+
+  pub give-adds : (hub : HubOf kind) → MayAddChange hub (give hub number room).hub
+  give-adds hub = by (session_of hub number)
+    where
+      by_output : (session : SessionOf A Q M) (b : Bool) → MayAddChange hub (output_as hub number room session b).hub
+      by_output session false = (refl, inl refl)
+      by_output session true = adds-standing hub session session.standing
+
+      by : (o : Option (SessionOf A Q M)) → MayAddChange hub (give_as hub number room o).hub
+      by None = (refl, inl refl)
+      by (Some session) = by_output session (is_empty session.output)
+
+  -- ---- no more octets than there is room for
+
+  within-found : (later : HubOf kind) (none : Given) (given : Standing → Given) → octets_of none ≡ 0 → ((s : Standing) → octets_of (given s) ≡ 0) → (o : Option (SessionOf A Q M)) → octets_of (found_as later number room none given o).given ≤ room
+  within-found later none given nothing given_nothing None = omega (arith, nothing)
+  within-found later none given nothing given_nothing (Some session) = by (is_empty session.output)
+    where
+      by : (b : Bool) → octets_of (copies_as later number room session (given session.standing) b).given ≤ room
+      by true = omega (arith, given_nothing session.standing)
+      by false = omega arith
+
+  within-after : (later : HubOf kind) → octets_of (after_reaction number room later).given ≤ room
+  within-after later = within-found later Worked given_after refl ends_without (session_of later number)
+
+  within-standing : (hub : HubOf kind) (session : SessionOf A Q M) (standing : Standing) → octets_of (by_standing standing number room session hub).given ≤ room
+  within-standing hub session (Ended reason) = omega arith
+  within-standing hub session (Stopped since) = omega arith
+  within-standing hub session Live = by (first_message session.input)
+    where
+      by : (o : Option (List ℕ × List ℕ)) → octets_of (works_as hub number room o).given ≤ room
+      by None = within-found _ Nothing (λ standing. Nothing) refl (λ s. refl) _
+      by (Some found) = within-after _
+  within-standing hub session (AskedToStop rcode delay) = by session.established
+    where
+      by : (b : Bool) → octets_of (stops_as hub number room rcode delay b).given ≤ room
+      by true = within-after _
+      by false = omega arith
+
+  pub give-within : (hub : HubOf kind) → octets_of (give hub number room).given ≤ room
+  give-within hub = by (session_of hub number)
+    where
+      by_output : (session : SessionOf A Q M) (b : Bool) → octets_of (output_as hub number room session b).given ≤ room
+      by_output session false = omega arith
+      by_output session true = within-standing hub session session.standing
+
+      by : (o : Option (SessionOf A Q M)) → octets_of (give_as hub number room o).given ≤ room
+      by None = omega arith
+      by (Some session) = by_output session (is_empty session.output)
+
+pub moment-adds : {A Q M : Type 0} {kind : SessionKind A Q M} (hub : HubOf kind) (t : ℕ) → MayAddMoment hub (moment hub t).1
+moment-adds hub t = by (not (nat_lt (now hub) t))
+  where
+    by_room : (b : Bool) → MayAddMoment hub (enters_moment hub t b).1
+    by_room true = (refl, inr (more_moment hub.history t))
+    by_room false = (refl, inl refl)
+
+    by : (b : Bool) → MayAddMoment hub (moment_as hub t b).1
+    by true = (refl, inl refl)
+    by false = by_room (can_enter hub (entries.Moment t))
+
+-- ---- a session is made
+
+abbrev connect_as : {A Q M : Type 0} {kind : SessionKind A Q M} → HubOf kind → Bool → Option ℕ × HubOf kind
+connect_as hub b = cond b (Some hub.made, with_new hub) (None, hub)
+
+pub connect-counts : {A Q M : Type 0} {kind : SessionKind A Q M} (hub : HubOf kind) (number : ℕ) → (connect hub).0 ≡ Some number → (number ≡ hub.made) × ((connect hub).1.made ≡ hub.made + 1) × ((connect hub).1.history ≡ hub.history)
+connect-counts hub number = by (nat_lt (length hub.sessions) max_sessions && nat_lt hub.made max_number)
+  where
+    same_some : (a b : ℕ) → Some a ≡ Some b → a ≡ b
+    same_some a b e = cc
+
+    by : (b : Bool) → (connect_as hub b).0 ≡ Some number → (number ≡ hub.made) × ((connect_as hub b).1.made ≡ hub.made + 1) × ((connect_as hub b).1.history ≡ hub.history)
+    by true e = (sym (same_some hub.made number e), refl, refl)
+    by false e = cc
+
+-- as many sessions as there are were made
+numbers-distinct : (xs : Numbered KeptSession) → AreApart xs → IsDistinct eqb (map (λ e. e.0) xs)
+unfolding IsDistinct
+numbers-distinct [] apart = tt
+numbers-distinct (x ∷ xs) apart = (by xs apart.0, numbers-distinct xs apart.1)
+  where
+    by : (ys : Numbered KeptSession) → AllByRecursion (λ (y : ℕ × KeptSession). (x.0 == y.0) ≡ false) ys → AllByRecursion (λ n. eqb x.0 n ≡ false) (map (λ e. e.0) ys)
+    by [] all = tt
+    by (y ∷ ys) all = (all.0, by ys all.1)
+
+numbers-below : (made : ℕ) (xs : Numbered KeptSession) → AreBelow made xs → (q : ℕ) → list_any (eqb q) (map (λ e. e.0) xs) ≡ true → q < made
+numbers-below made [] below q any = cc
+numbers-below made (x ∷ xs) below q any = by (eqb q x.0) refl any (numbers-below made xs below.1 q)
+  where
+    by : (b : Bool) → eqb q x.0 ≡ b → (b || list_any (eqb q) (map (λ (e : ℕ × KeptSession). e.0) xs)) ≡ true → (list_any (eqb q) (map (λ (e : ℕ × KeptSession). e.0) xs) ≡ true → q < made) → q < made
+    by true is e rest = subst (λ n. n < made) (sym (same-number q x.0 is)) below.0
+    by false is e rest = rest e
+
+fewer_than-made : (made : ℕ) (xs : Numbered KeptSession) → AreApart xs → AreBelow made xs → length xs ≤ made
+fewer_than-made made xs apart below =
+    let few = length-le_from_distinct_below (map (λ (e : ℕ × KeptSession). e.0) xs) made (numbers-distinct xs apart) (numbers-below made xs below) in
+    let same : length (map (λ (e : ℕ × KeptSession). e.0) xs) ≡ length xs = as_many xs in
+    omega (arith, few, same)
+  where
+    as_many : (ys : Numbered KeptSession) → length (map (λ (e : ℕ × KeptSession). e.0) ys) ≡ length ys
+    as_many [] = refl
+    as_many (y ∷ ys) = ap suc (as_many ys)
+
+no_less : (a b : ℕ) → nat_lt a b ≡ false → b ≤ a
+no_less a b is = nltb→le a b (subst (λ c. T (not c)) (sym is) tt)
+
+pub connect-many : (k : KeptHub) → AreApart k.sessions → AreBelow k.made k.sessions → (connect k).0 ≡ None → max_sessions ≤ k.made
+connect-many k apart below = by (nat_lt (length k.sessions) max_sessions) (nat_lt k.made max_number) refl refl
+  where
+    by : (a b : Bool) → nat_lt (length k.sessions) max_sessions ≡ a → nat_lt k.made max_number ≡ b → (connect_as k (a && b)).0 ≡ None → max_sessions ≤ k.made
+    by true true few more e = cc
+    by false b few more e = let many = no_less (length k.sessions) max_sessions few in omega (arith, fewer_than-made k.made k.sessions apart below, many)
+    by true false few more e = let many = no_less k.made max_number more in omega (arith, many)

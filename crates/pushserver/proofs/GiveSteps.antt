@@ -1,0 +1,123 @@
+-- A session that is lent to one turn, and given back.
+use Rattle.std.proofs.Common.{◌≡◌, ℕ, Bool, true, false, cond, min, List, [], ◌∷◌, length, Option, Some, None, Result, Ok, Err, refl, sym, ap, subst, ◌∙◌}
+use Rattle.std.specs.Option.{OnSome}
+use Rattle.std.specs.Prelude.{◌==◌, find, option_map, OnErr}
+use Rattle.dnswire.specs.declared.message.Update.{Update}
+use Rattle.dsotlv.specs.Messages.{first_message, head_of}
+use Rattle.dsotlv.specs.declared.message.DsoHead.{DsoHead}
+use Rattle.dsosession.specs.Reactions.{server_reaction}
+use Rattle.dsosession.specs.declared.session.Reaction.{Reaction}
+use Rattle.dsosession.specs.declared.session.Reaction.TheVariants as reactions
+use Rattle.pushsession.specs.Kept.{KeptSession}
+use Rattle.pushsession.specs.declared.request.Request.{Request}
+use Rattle.pushsession.specs.Sessions.{room_of}
+use Rattle.pushsession.specs.Requests.{request_for, request_in}
+use Rattle.pushsession.specs.declared.request.Request.TheVariants as requests
+use Rattle.pushserver.specs.Sessions.{Hub}
+use Rattle.pushserver.specs.Laws.{MayWantMemory, ReadsData}
+use Rattle.pushserver.specs.Hubs.{Numbered, session_in, in_sessions, taken_by}
+use Rattle.pushserver.specs.Giving.{give}
+use Rattle.pushserver.specs.Rule.{KeptHub, StandsFor}
+use Rattle.pushserver.specs.KeptHubs.{kept_of, IsSound, IsSeated, IsToJudge, Gave, Turns, TakesMemory, WantsMemory}
+use Rattle.pushserver.specs.Seats.{AreApart}
+use Rattle.pushserver.specs.declared.given.Given.{Given}
+use Rattle.pushserver.specs.declared.keeping.Keeping.{Keeping}
+use Rattle.pushserver.specs.declared.turning.Turn.{Turn}
+use Rattle.pushserver.specs.declared.turning.Turn.TheVariants as turnings
+use Rattle.pushserver.proofs.SeatLists.{alike, itself}
+use Rattle.pushserver.proofs.Wanting.{may-want}
+
+pub on_some : {A : Type 0} {P : Type 0} (r : Option A) (x : A) → r ≡ Some x → OnSome r P → P
+on_some None x is p = cc
+on_some (Some y) x is p = p
+
+pub on_each_err : {A E : Type 0} {P : Type 0} (r : Result A E) → P → OnErr r P
+on_each_err (Ok x) p = tt
+on_each_err (Err e) p = p
+
+-- ---- the session in its seat
+
+pub seat-of : (keeping : Keeping) (number : ℕ) (s : KeptSession) → IsSound keeping → session_in number keeping.sessions ≡ Some s → AreApart keeping.sessions → IsSeated (kept_of keeping) number s keeping.points.past keeping.timers keeping.index.rows
+seat-of keeping number s sound there apart = record { there = there; apart = apart; past_is = refl; timers_is = refl; rows_is = sound.index; home = sound.home }
+
+-- a session that is as it was stands as before
+pub as_before : (number : ℕ) (xs ys : Numbered KeptSession) (s t : KeptSession) → session_in number xs ≡ Some s → AreApart xs → t ≡ s → ys ≡ in_sessions number (λ _. t) xs → ys ≡ xs
+as_before number xs ys s t there apart same lent = lent ∙ ap (λ (x : KeptSession). in_sessions number (λ _. x) xs) same ∙ alike number (λ _. s) (λ x. x) xs s apart there refl ∙ itself number xs
+
+-- ---- what the turn came to
+
+pub did-gave : (keeping : Keeping) (number : ℕ) (s t : KeptSession) (turn : Turn) (given : Given) (old new : List ℕ) (ys : Numbered KeptSession) → turn ≡ turnings.Did given → ys ≡ in_sessions number (λ _. t) keeping.sessions
+    → Turns (kept_of keeping) number turn old new s t → Gave (give (kept_of keeping) number (length old)) given old new (record (kept_of keeping) { sessions = ys })
+did-gave keeping number s t turn given old new ys is lent came =
+    subst (λ (xs : Numbered KeptSession). Gave (give (kept_of keeping) number (length old)) given old new (record (kept_of keeping) { sessions = xs })) (sym lent)
+    (subst (λ (u : Turn). Turns (kept_of keeping) number u old new s t) is came)
+
+-- an update is to be judged: the octets and the sessions are as before
+pub record ComesToJudge (number : ℕ) (found : Option Update) (old new : List ℕ) (xs ys : Numbered KeptSession) : Type 0 where
+  pub octets : new ≡ old
+  pub sessions : ys ≡ xs
+  pub ready : IsToJudge number found xs
+
+pub to-judge : (keeping : Keeping) (number : ℕ) (s t : KeptSession) (turn : Turn) (found : Option Update) (old new : List ℕ) (ys : Numbered KeptSession) → IsSound keeping → session_in number keeping.sessions ≡ Some s → AreApart keeping.sessions
+    → turn ≡ turnings.Judge found → ys ≡ in_sessions number (λ _. t) keeping.sessions
+    → ((kept : KeptHub) (number : ℕ) → IsSeated kept number s keeping.points.past keeping.timers keeping.index.rows → Turns kept number turn old new s t) → ComesToJudge number found old new keeping.sessions ys
+to-judge keeping number s t turn found old new ys sound there apart is lent came =
+    by (subst (λ (u : Turn). Turns (kept_of keeping) number u old new s t) is (came (kept_of keeping) number (seat-of keeping number s sound there apart)))
+  where
+    by : (new ≡ old) × (t ≡ s) × IsToJudge number found keeping.sessions → ComesToJudge number found old new keeping.sessions ys
+    by (octets, same, ready) = record { octets = octets; sessions = as_before number keeping.sessions ys s t there apart same lent; ready = ready }
+
+pub judge-wants : (number : ℕ) (found : Option Update) (xs : Numbered KeptSession) → IsToJudge number found xs → WantsMemory number xs
+judge-wants number found xs ready = record { session = ready.session; there = ready.there; wants = record { live = ready.live; silent = ready.silent; reads = subst TakesMemory (sym ready.request) tt } }
+
+-- ---- a session that was changed, and one that isn't there
+
+pub lent-changed : (number : ℕ) (xs ys : Numbered KeptSession) (f : KeptSession → KeptSession) (s t : KeptSession) → session_in number xs ≡ Some s → AreApart xs → t ≡ f s → ys ≡ in_sessions number (λ _. t) xs → ys ≡ in_sessions number f xs
+lent-changed number xs ys f s t there apart step lent = lent ∙ alike number (λ _. t) f xs s apart there step
+
+pub absent : (number : ℕ) (xs : Numbered KeptSession) (f : KeptSession → KeptSession) → session_in number xs ≡ None → xs ≡ in_sessions number f xs
+absent number [] f none = refl
+absent number (x ∷ xs) f none = by (x.0 == number) none (absent number xs f)
+  where
+    by : (b : Bool) → option_map (λ (e : ℕ × KeptSession). e.1) (cond b (Some x) (find (λ (e : ℕ × KeptSession). e.0 == number) xs)) ≡ None → (session_in number xs ≡ None → xs ≡ in_sessions number f xs)
+        → x ∷ xs ≡ (x.0, cond b (f x.1) x.1) ∷ in_sessions number f xs
+    by true e rest = cc
+    by false e rest = ap (λ l. x ∷ l) (rest e)
+
+abbrev taken_as : List ℕ → Option KeptSession → ℕ
+taken_as piece None = 0
+taken_as piece (Some session) = min (length piece) (room_of session)
+
+pub taken-some : (k : KeptHub) (number : ℕ) (s : KeptSession) (piece : List ℕ) → session_in number k.sessions ≡ Some s → min (length piece) (room_of s) ≡ taken_by k number piece
+taken-some k number s piece there = sym (ap (taken_as piece) there)
+
+pub taken-none : (k : KeptHub) (number : ℕ) (piece : List ℕ) → session_in number k.sessions ≡ None → 0 ≡ taken_by k number piece
+taken-none k number piece there = sym (ap (taken_as piece) there)
+
+-- ---- where memory is wanted
+
+reads-data : (r : Reaction) (message : List ℕ) → TakesMemory (Some (request_for r message)) → ReadsData r
+reads-data reactions.Subscribe message takes = tt
+reads-data reactions.Reconfirm message takes = tt
+reads-data reactions.Update message takes = tt
+reads-data (reactions.Answer rcode) message takes = absurd takes
+reads-data reactions.Grant message takes = absurd takes
+reads-data (reactions.Abort reason) message takes = absurd takes
+reads-data reactions.Unsubscribe message takes = absurd takes
+reads-data reactions.NotImplemented message takes = absurd takes
+
+-- what is kept wants memory only where the plain hub may
+pub wants-plain : (k : KeptHub) (hub : Hub) (number : ℕ) → WantsMemory number k.sessions → StandsFor k hub → MayWantMemory hub number
+wants-plain k hub number wanted stands = by (first_message s.input) refl wanted.wants.reads
+  where
+    s : KeptSession
+    s = wanted.session
+
+    by_head : (found : List ℕ × List ℕ) → first_message s.input ≡ Some found → (o : Option DsoHead) → head_of found.0 ≡ o
+        → TakesMemory (Some (elim o as (λ _. Request) [ None ↦ requests.Itself | Some head ↦ request_for (server_reaction head s.established) found.0 ])) → MayWantMemory hub number
+    by_head found waits None whole takes = absurd takes
+    by_head found waits (Some head) whole takes = may-want k hub number s found head stands wanted.there wanted.wants.live wanted.wants.silent waits whole (reads-data (server_reaction head s.established) found.0 takes)
+
+    by : (o : Option (List ℕ × List ℕ)) → first_message s.input ≡ o → TakesMemory (option_map (λ message. request_in message s.established) (option_map (λ (f : List ℕ × List ℕ). f.0) o)) → MayWantMemory hub number
+    by None waits takes = absurd takes
+    by (Some found) waits takes = by_head found waits (head_of found.0) refl takes

@@ -1,0 +1,362 @@
+-- One turn of a session that has its number in a hub: what `give` does is told by what the session becomes.
+--     becomes t      the hub with the session as it is then
+--     output-gave, ended-gave, stopped-gave, stop-gave      octets wait; it has ended, is stopped, stops
+--     packed-gave, itself-gave, subscribe-gave, reconfirm-gave      it goes on: no message waits; by the request of its first one
+use Rattle.std.proofs.Common.{◌≡◌, ℕ, Bool, true, false, cond, not, min, List, [], ◌∷◌, ◌++◌, length, take, drop, Option, Some, None, inl, inr, refl, sym, ap, subst, ◌∙◌, arith}
+use Rattle.std.specs.Prelude.{option_map, unwrap_or, is_some}
+use Rattle.std.proofs.lemmas.Bool.{cases_lt}
+use Rattle.std.proofs.lemmas.List.{length-take, drop_all}
+use Rattle.push_base.specs.Cases.{is_empty}
+use Rattle.rrset.specs.Header.{id_of}
+use Rattle.rrset.specs.RecordSet.{RecordSet}
+use Rattle.rrset.specs.declared.record.Rr.{Rr}
+use Rattle.rrset.specs.declared.record.Question.{Question}
+use Rattle.dsotlv.specs.Messages.{first_message, head_of, primary_data}
+use Rattle.dsotlv.specs.Notices.{question_of, reconfirm_of}
+use Rattle.dsotlv.specs.TlvKinds.{reconfirm_tlv}
+use Rattle.dsotlv.specs.declared.message.DsoHead.{DsoHead}
+use Rattle.dsosession.specs.Reactions.{server_reaction}
+use Rattle.dsosession.specs.Timing.{Clocks}
+use Rattle.dsosession.specs.declared.session.EndReason.{EndReason}
+use Rattle.dsosession.specs.declared.session.EndReason.TheVariants as ends
+use Rattle.dsosession.specs.declared.session.Timers.{Timers}
+use Rattle.dsosession.specs.declared.session.Reaction.{Reaction}
+use Rattle.dsosession.specs.declared.session.Reaction.TheVariants as reactions
+use Rattle.history.specs.Keeping.{Past, state_now as past_state}
+use Rattle.history.specs.Standing.{AreAtHome}
+use Rattle.pushsession.specs.Sessions.{copied, ended_with, stopped}
+use Rattle.pushsession.specs.Subscribing.{answered, packs}
+use Rattle.pushsession.specs.Reactions.{heard, by_itself}
+use Rattle.pushsession.specs.Kept.{KeptSession, keeping, telling}
+use Rattle.pushsession.specs.Requests.{CanBeTold, message_of, taken_up, request_for, request_in, request_of, reacted, subscribed_by, reconfirmed}
+use Rattle.pushsession.specs.declared.request.Request.{Request}
+use Rattle.pushsession.specs.declared.request.Request.TheVariants as requests
+use Rattle.pushsession.specs.declared.standing.Standing.{Standing}
+use Rattle.pushsession.specs.declared.standing.Standing.TheVariants.{Live, AskedToStop, Stopped, Ended}
+use Rattle.pushserver.specs.Hubs.{Numbered, session_in, now, state_now, records_now, in_session}
+use Rattle.pushserver.specs.Giving as giving
+use Rattle.pushserver.specs.Giving.{has_home, by_reaction, did, copies, copies_or, given_after, after_reaction, after_packing, without_first, give}
+use Rattle.pushserver.specs.Rule.{KeptHub, KeptGiving}
+use Rattle.pushserver.specs.KeptHubs.{Gave}
+use Rattle.pushserver.specs.Rows.{AreTold}
+use Rattle.pushserver.specs.Seats.{AreApart}
+use Rattle.pushserver.specs.declared.given.Given.{Given}
+use Rattle.pushserver.specs.declared.given.Given.TheVariants.{Bytes, Worked, Nothing, Ending, End}
+use Rattle.pushserver.proofs.SessionLists.{found-in, in-fused}
+use Rattle.pushserver.proofs.SeatLists.{alike, itself}
+use Rattle.pushserver.proofs.hub_steps.Cases.{record_as, session_as, head_as, found_as, works_as, stops_as, output_as, give_as, key_as}
+use Rattle.pushserver.proofs.hub_steps.Reacting.{no_key}
+
+nothing_in : (xs : List ℕ) → is_empty xs ≡ true → xs ≡ []
+nothing_in [] e = refl
+nothing_in (x ∷ xs) e = cc
+
+-- the octets behind those that were handed on
+behind : (old out : List ℕ) → drop (length out) old ≡ drop (length (take (length old) out)) old
+behind old out = elim (cases_lt (length out) (length old)) [
+  | inl fits ↦ (let same : length (take (length old) out) ≡ length out = omega (arith, length-take (length old) out, fits) in ap (λ n. drop n old) (sym same))
+  | inr long ↦ (let all : length (take (length old) out) ≡ length old = omega (arith, length-take (length old) out, long) in
+      drop_all (length out) old (omega (arith, long)) ∙ sym (ap (λ n. drop n old) all ∙ drop_all (length old) old (omega arith)))
+]
+
+no_octets : (n : ℕ) (old : List ℕ) → take n [] ++ drop 0 old ≡ old
+no_octets n old = grind arith
+
+pub some_output : (s : KeptSession) (b : Bool) → b ≡ not (is_empty s.output) → b ≡ true → is_empty s.output ≡ false
+some_output s b test is = by (is_empty s.output) (sym test ∙ is)
+  where
+    by : (c : Bool) → not c ≡ true → c ≡ false
+    by false e = refl
+    by true e = cc
+
+pub no_output : (s : KeptSession) (b : Bool) → b ≡ not (is_empty s.output) → b ≡ false → is_empty s.output ≡ true
+no_output s b test is = by (is_empty s.output) (sym test ∙ is)
+  where
+    by : (c : Bool) → not c ≡ false → c ≡ true
+    by true e = refl
+    by false e = cc
+
+pub gave-as : (g h : KeptGiving) (r : Given) (old new : List ℕ) (later : KeptHub) → g ≡ h → Gave h r old new later → Gave g r old new later
+gave-as g h r old new later same gave = subst (λ (g : KeptGiving). Gave g r old new later) (sym same) gave
+
+-- what a session hands on of its output, or else did
+pub record HandsOn (t : KeptSession) (otherwise r : Given) (old new : List ℕ) (t_now : KeptSession) : Type 0 where
+  pub given_is : r ≡ cond (is_empty t.output) otherwise (Bytes (min (length old) (length t.output)))
+  pub octets : new ≡ take (length old) t.output ++ drop (length t.output) old
+  pub session : t_now ≡ copied (length old) t
+
+-- the moment of a hub is that of its past
+pub moment-is : (k : KeptHub) (past : Past) (t : ℕ) → record { start = k.start; history = k.history } ≡ past → t ≡ (past_state past).now → t ≡ now k
+moment-is k past t same is = is ∙ ap (λ (p : Past). (past_state p).now) (sym same)
+
+-- the records that a question with a home would be told
+pub can_be_told : (question : Option Question) (has : Bool) (rows : RecordSet) → AreTold rows → CanBeTold question has rows
+can_be_told None has rows told = tt
+can_be_told (Some question) false rows told = tt
+can_be_told (Some question) true rows told = let at = told question.name in ((question.name, at.0), at.1)
+
+module _ (number : ℕ) (k : KeptHub) (s : KeptSession) (there : session_in number k.sessions ≡ Some s) (apart : AreApart k.sessions) where
+  abbrev pub becomes : KeptSession → KeptHub
+  becomes t = in_session number (λ _. t) k
+
+  with_list : Numbered KeptSession → KeptHub
+  with_list xs = record k { sessions = xs }
+
+  -- a step of the session, and a further one
+  pub one : (f : KeptSession → KeptSession) → in_session number f k ≡ becomes (f s)
+  one f = ap (λ (xs : Numbered KeptSession). record k { sessions = xs }) (alike number f (λ _. f s) k.sessions s apart there refl)
+
+  pub further : (f : KeptSession → KeptSession) (t : KeptSession) → in_session number f (becomes t) ≡ becomes (f t)
+  further f t = ap (λ (xs : Numbered KeptSession). record k { sessions = xs }) (in-fused number f (λ _. t) k.sessions)
+
+  found : (t : KeptSession) → session_in number (becomes t).sessions ≡ Some t
+  found t = found-in number (λ _. t) k.sessions ∙ ap (option_map (λ _. t)) there
+
+  stays : becomes s ≡ k
+  stays = sym (one (λ t. t)) ∙ ap (λ (xs : Numbered KeptSession). record k { sessions = xs }) (itself number k.sessions)
+
+  -- ---- octets that are handed on
+
+  pub hands : (otherwise r : Given) (t t_now : KeptSession) (old new : List ℕ) → HandsOn t otherwise r old new t_now → Gave (copies_or otherwise number (length old) t (becomes t)) r old new (becomes t_now)
+  hands otherwise r t t_now old new on = by (is_empty t.output) refl on.given_is
+    where
+      by : (b : Bool) → is_empty t.output ≡ b → r ≡ cond b otherwise (Bytes (min (length old) (length t.output))) → Gave (cond b (did otherwise (becomes t)) (copies number (length old) t (becomes t))) r old new (becomes t_now)
+      by true none is =
+          let nothing : t.output ≡ [] = nothing_in t.output none in
+          let same : copied (length old) t ≡ t = ap (λ (o : List ℕ). record t { output = drop (length old) o }) nothing ∙ ap (λ (o : List ℕ). record t { output = o }) (drop_all (length old) [] (omega arith) ∙ sym nothing) in
+          record {
+            given_is = is;
+            octets = on.octets ∙ ap (λ (o : List ℕ). take (length old) o ++ drop (length o) old) nothing ∙ no_octets (length old) old;
+            hub = ap becomes (on.session ∙ same);
+          }
+      by false some is = record {
+        given_is = is;
+        octets = on.octets ∙ ap (λ o. take (length old) t.output ++ o) (behind old t.output);
+        hub = ap becomes on.session ∙ sym (further (copied (length old)) t);
+      }
+
+  pub reaction-is : (room : ℕ) (t : KeptSession) → after_reaction number room (becomes t) ≡ copies_or (given_after t.standing) number room t (becomes t)
+  reaction-is room t = ap (found_as (becomes t) number room Worked given_after) (found t)
+
+  packing-is : (room : ℕ) (t : KeptSession) → after_packing number room (becomes t) ≡ copies_or Nothing number room t (becomes t)
+  packing-is room t = ap (found_as (becomes t) number room Nothing (λ _. Nothing)) (found t)
+
+  -- ---- the cases of a call
+
+  give-output : (room : ℕ) (b : Bool) → is_empty s.output ≡ b → give k number room ≡ output_as k number room s b
+  give-output room b output = ap (give_as k number room) there ∙ ap (output_as k number room s) output
+
+  give-standing : (room : ℕ) (standing : Standing) → is_empty s.output ≡ true → s.standing ≡ standing → give k number room ≡ giving.by_standing standing number room s k
+  give-standing room standing output is = give-output room true output ∙ ap (λ t. giving.by_standing t number room s k) is
+
+  pub output-gave : (r : Given) (old new : List ℕ) (s_now : KeptSession) → is_empty s.output ≡ false → r ≡ Bytes (min (length old) (length s.output)) → new ≡ take (length old) s.output ++ drop (length s.output) old → s_now ≡ copied (length old) s
+      → Gave (give k number (length old)) r old new (becomes s_now)
+  output-gave r old new s_now some given_is octets session = gave-as (give k number (length old)) (copies number (length old) s k) r old new (becomes s_now) (give-output (length old) false some) (record {
+    given_is = given_is;
+    octets = octets ∙ ap (λ o. take (length old) s.output ++ o) (behind old s.output);
+    hub = ap becomes session ∙ sym (one (copied (length old)));
+  })
+
+  did-gave : (r : Given) (old : List ℕ) → Gave (did r k) r old old (becomes s)
+  did-gave r old = record { given_is = refl; octets = refl; hub = stays }
+
+  pub ended-gave : (reason : EndReason) (old : List ℕ) → is_empty s.output ≡ true → s.standing ≡ Ended reason → Gave (give k number (length old)) (End reason) old old (becomes s)
+  ended-gave reason old output is = gave-as (give k number (length old)) (did (End reason) k) (End reason) old old (becomes s) (give-standing (length old) (Ended reason) output is) (did-gave (End reason) old)
+
+  pub stopped-gave : (since : ℕ) (old : List ℕ) → is_empty s.output ≡ true → s.standing ≡ Stopped since → Gave (give k number (length old)) Ending old old (becomes s)
+  stopped-gave since old output is = gave-as (give k number (length old)) (did Ending k) Ending old old (becomes s) (give-standing (length old) (Stopped since) output is) (did-gave Ending old)
+
+  -- a stop that was asked for
+  abbrev pub stops : ℕ → ℕ → ℕ → KeptSession
+  stops rcode delay t = cond s.established (stopped keeping rcode delay t s) (ended_with keeping ends.Stopped s)
+
+  stop-is : (room rcode delay : ℕ) → is_empty s.output ≡ true → s.standing ≡ AskedToStop rcode delay → give k number room ≡ after_reaction number room (becomes (stops rcode delay (now k)))
+  stop-is room rcode delay output is = give-standing room (AskedToStop rcode delay) output is ∙ by s.established
+    where
+      by : (b : Bool) → stops_as k number room rcode delay b ≡ after_reaction number room (becomes (cond b (stopped keeping rcode delay (now k) s) (ended_with keeping ends.Stopped s)))
+      by true = ap (after_reaction number room) (one (stopped keeping rcode delay (now k)))
+      by false =
+          let t = ended_with keeping ends.Stopped s in
+          ap (did (End ends.Stopped)) (one (ended_with keeping ends.Stopped))
+          ∙ sym (reaction-is room t ∙ ap (λ b. cond b (did (End ends.Stopped) (becomes t)) (copies number room t (becomes t))) output)
+
+  pub stop-gave : (rcode delay t : ℕ) (r : Given) (old new : List ℕ) (mid s_now : KeptSession) → is_empty s.output ≡ true → s.standing ≡ AskedToStop rcode delay → t ≡ now k → mid ≡ stops rcode delay t → HandsOn mid (given_after mid.standing) r old new s_now
+      → Gave (give k number (length old)) r old new (becomes s_now)
+  stop-gave rcode delay t r old new mid s_now output is moment step on =
+      gave-as (give k number (length old)) (copies_or (given_after mid.standing) number (length old) mid (becomes mid)) r old new (becomes s_now)
+      (stop-is (length old) rcode delay output is ∙ ap (λ n. after_reaction number (length old) (becomes (stops rcode delay n))) (sym moment) ∙ ap (λ m. after_reaction number (length old) (becomes m)) (sym step) ∙ reaction-is (length old) mid)
+      (hands (given_after mid.standing) r mid s_now old new on)
+
+  -- ---- it goes on, without output
+
+  module _ (live : s.standing ≡ Live) (silent : s.output ≡ []) where
+    pub give-live : (room : ℕ) (o : Option (List ℕ × List ℕ)) → first_message s.input ≡ o → give k number room ≡ works_as k number room o
+    give-live room o first = give-standing room Live (ap is_empty silent) live ∙ ap (works_as k number room) first
+
+    no_message : request_of s ≡ None → first_message s.input ≡ None
+    no_message none = by (first_message s.input) none
+      where
+        by : (o : Option (List ℕ × List ℕ)) → option_map (λ message. request_in message s.established) (option_map (λ (f : List ℕ × List ℕ). f.0) o) ≡ None → o ≡ None
+        by None e = refl
+        by (Some f) e = cc
+
+    pub packed-gave : (rows : RecordSet) (t : ℕ) (r : Given) (old new : List ℕ) (mid s_now : KeptSession) → request_of s ≡ None → rows ≡ records_now k → t ≡ now k → mid ≡ packs keeping (telling rows) t s → HandsOn mid Nothing r old new s_now → Gave (give k number (length old)) r old new (becomes s_now)
+    packed-gave rows t r old new mid s_now none shown moment step on =
+        let f = packs keeping (telling (records_now k)) (now k) in
+        gave-as (give k number (length old)) (copies_or Nothing number (length old) mid (becomes mid)) r old new (becomes s_now)
+        (give-live (length old) None (no_message none) ∙ ap (after_packing number (length old)) (one f ∙ ap becomes ((λ i. packs keeping (telling (sym shown i)) (sym moment i) s) ∙ sym step)) ∙ packing-is (length old) mid)
+        (hands Nothing r mid s_now old new on)
+
+    -- ---- the message that it takes up
+
+    module _ (first : List ℕ × List ℕ) (waits : first_message s.input ≡ Some first) where
+      abbrev pub message : List ℕ
+      message = first.0
+
+      pub message-is : message_of s ≡ message
+      message-is = ap (λ (o : Option (List ℕ × List ℕ)). unwrap_or (option_map (λ f. f.0) o) []) waits
+
+      abbrev pub clocks_as : ℕ → Option DsoHead → Clocks
+      clocks_as t None = s.clocks
+      clocks_as t (Some head) = (heard head t s).clocks
+
+      pub taken-is : (t : ℕ) (o : Option DsoHead) → head_of message ≡ o → taken_up t s ≡ record s { input = first.1; clocks = clocks_as t o }
+      taken-is t o head =
+          (λ i. record s { input = unwrap_or (option_map (λ (f : List ℕ × List ℕ). f.1) (waits i)) s.input; clocks = clocks_as t (head_of (unwrap_or (option_map (λ (f : List ℕ × List ℕ). f.0) (waits i)) [])) })
+          ∙ ap (λ c. record s { input = first.1; clocks = clocks_as t c }) head
+
+      pub request-is : (r : Request) → request_of s ≡ Some r → request_in message s.established ≡ r
+      request-is r is = some_same (request_in message s.established) r (sym (ap (λ (o : Option (List ℕ × List ℕ)). option_map (λ m. request_in m s.established) (option_map (λ f. f.0) o)) waits) ∙ is)
+        where
+          some_same : (a b : Request) → Some a ≡ Some b → a ≡ b
+          some_same a b e = cc
+
+      abbrev pub left : KeptSession
+      left = without_first first.1 s
+
+      -- what the reaction to it makes of the hub
+      abbrev pub after_message : KeptHub
+      after_message = giving.reacted message number (in_session number (without_first first.1) k)
+
+      headless : head_of message ≡ None → after_message ≡ becomes (ended_with keeping ends.Short (taken_up (now k) s))
+      headless head =
+          ap (giving.reacted message number) (one (without_first first.1))
+          ∙ ap (head_as (becomes left) number message) head
+          ∙ further (ended_with keeping ends.Short) left
+          ∙ ap (λ u. becomes (ended_with keeping ends.Short u)) (sym (taken-is (now k) None head))
+
+      pub with_head : (head : DsoHead) → head_of message ≡ Some head → after_message ≡ by_reaction (server_reaction head s.established) number message (becomes (taken_up (now k) s))
+      with_head head whole =
+          ap (giving.reacted message number) (one (without_first first.1))
+          ∙ ap (head_as (becomes left) number message) whole
+          ∙ ap (session_as (becomes left) number message head) (found left)
+          ∙ ap (by_reaction (server_reaction head s.established) number message) (further (heard head (now k)) left ∙ ap becomes (sym (taken-is (now k) (Some head) whole)))
+
+      -- by its reaction
+      acts-itself : (r : Reaction) (t : KeptSession) → request_for r message ≡ requests.Itself → by_reaction r number message (becomes t) ≡ becomes (by_itself keeping r k.timers (now k) message t)
+      acts-itself (reactions.Answer rcode) t is = further (by_itself keeping (reactions.Answer rcode) k.timers (now k) message) t
+      acts-itself reactions.Grant t is = further (by_itself keeping reactions.Grant k.timers (now k) message) t
+      acts-itself (reactions.Abort reason) t is = further (by_itself keeping (reactions.Abort reason) k.timers (now k) message) t
+      acts-itself reactions.Unsubscribe t is = further (by_itself keeping reactions.Unsubscribe k.timers (now k) message) t
+      acts-itself reactions.NotImplemented t is = further (by_itself keeping reactions.NotImplemented k.timers (now k) message) t
+      acts-itself reactions.Subscribe t is = cc
+      acts-itself reactions.Reconfirm t is = cc
+      acts-itself reactions.Update t is = cc
+
+      abbrev answers_subscribe : Option Question → KeptSession → KeptSession
+      answers_subscribe question t = answered keeping (telling (records_now k)) (now k) (id_of message) question (has_home k question) t
+
+      acts-subscribe : (r : Reaction) (t : KeptSession) (question : Option Question) → request_for r message ≡ requests.Subscribe question → by_reaction r number message (becomes t) ≡ becomes (answers_subscribe question t)
+      acts-subscribe reactions.Subscribe t question is =
+          further (answers_subscribe (question_of (primary_data message))) t ∙ ap (λ q. becomes (answers_subscribe q t)) (same_question (question_of (primary_data message)) question is)
+        where
+          same_question : (a b : Option Question) → requests.Subscribe a ≡ requests.Subscribe b → a ≡ b
+          same_question a b e = cc
+      acts-subscribe (reactions.Answer rcode) t question is = cc
+      acts-subscribe reactions.Grant t question is = cc
+      acts-subscribe (reactions.Abort reason) t question is = cc
+      acts-subscribe reactions.Unsubscribe t question is = cc
+      acts-subscribe reactions.NotImplemented t question is = cc
+      acts-subscribe reactions.Reconfirm t question is = cc
+      acts-subscribe reactions.Update t question is = cc
+
+      abbrev confirms : Bool → KeptSession → KeptSession
+      confirms good t = cond good t (ended_with keeping (ends.BadData reconfirm_tlv) t)
+
+      acts-reconfirm : AreAtHome (state_now k) → (r : Reaction) (t : KeptSession) (rr : Option Rr) → request_for r message ≡ requests.Reconfirm rr → by_reaction r number message (becomes t) ≡ becomes (confirms (is_some rr) t)
+      acts-reconfirm home reactions.Reconfirm t rr is = by (reconfirm_of (primary_data message)) ∙ ap (λ (o : Option Rr). becomes (confirms (is_some o) t)) (same_record (reconfirm_of (primary_data message)) rr is)
+        where
+          same_record : (a b : Option Rr) → requests.Reconfirm a ≡ requests.Reconfirm b → a ≡ b
+          same_record a b e = cc
+
+          by : (o : Option Rr) → record_as (becomes t) number o ≡ becomes (confirms (is_some o) t)
+          by None = further (ended_with keeping (ends.BadData reconfirm_tlv)) t
+          by (Some found) = ap (key_as (becomes t)) (no_key (state_now k) found home.links)
+      acts-reconfirm home (reactions.Answer rcode) t rr is = cc
+      acts-reconfirm home reactions.Grant t rr is = cc
+      acts-reconfirm home (reactions.Abort reason) t rr is = cc
+      acts-reconfirm home reactions.Unsubscribe t rr is = cc
+      acts-reconfirm home reactions.NotImplemented t rr is = cc
+      acts-reconfirm home reactions.Subscribe t rr is = cc
+      acts-reconfirm home reactions.Update t rr is = cc
+
+      abbrev pub request_as : Option DsoHead → Request
+      request_as None = requests.Itself
+      request_as (Some head) = request_for (server_reaction head s.established) message
+
+      abbrev reacted_as : List ℕ → Option DsoHead → KeptSession
+      reacted_as m None = ended_with keeping ends.Short (taken_up (now k) s)
+      reacted_as m (Some head) = by_itself keeping (server_reaction head s.established) k.timers (now k) m (taken_up (now k) s)
+
+      itself-is : request_of s ≡ Some requests.Itself → after_message ≡ becomes (reacted k.timers (now k) s)
+      itself-is is = by (head_of message) refl (request-is requests.Itself is) ∙ sym (ap (λ m. becomes (reacted_as m (head_of m))) message-is)
+        where
+          by : (o : Option DsoHead) → head_of message ≡ o → request_as o ≡ requests.Itself → after_message ≡ becomes (reacted_as message o)
+          by None head is = headless head
+          by (Some h) head is = with_head h head ∙ acts-itself (server_reaction h s.established) (taken_up (now k) s) is
+
+      subscribe-is : (question : Option Question) → request_of s ≡ Some (requests.Subscribe question) → after_message ≡ becomes (subscribed_by question (has_home k question) (records_now k) (now k) s)
+      subscribe-is question is = by (head_of message) refl (request-is (requests.Subscribe question) is)
+          ∙ ap (λ m. becomes (answered keeping (telling (records_now k)) (now k) (id_of m) question (has_home k question) (taken_up (now k) s))) (sym message-is)
+        where
+          by : (o : Option DsoHead) → head_of message ≡ o → request_as o ≡ requests.Subscribe question → after_message ≡ becomes (answers_subscribe question (taken_up (now k) s))
+          by None head is = cc
+          by (Some h) head is = with_head h head ∙ acts-subscribe (server_reaction h s.established) (taken_up (now k) s) question is
+
+      reconfirm-is : AreAtHome (state_now k) → (rr : Option Rr) → request_of s ≡ Some (requests.Reconfirm rr) → after_message ≡ becomes (reconfirmed (is_some rr) (now k) s)
+      reconfirm-is home rr is = by (head_of message) refl (request-is (requests.Reconfirm rr) is)
+        where
+          by : (o : Option DsoHead) → head_of message ≡ o → request_as o ≡ requests.Reconfirm rr → after_message ≡ becomes (confirms (is_some rr) (taken_up (now k) s))
+          by None head is = cc
+          by (Some h) head is = with_head h head ∙ acts-reconfirm home (server_reaction h s.established) (taken_up (now k) s) rr is
+
+      message-gave : (r : Given) (old new : List ℕ) (mid s_now : KeptSession) → after_message ≡ becomes mid → HandsOn mid (given_after mid.standing) r old new s_now → Gave (give k number (length old)) r old new (becomes s_now)
+      message-gave r old new mid s_now is on =
+          gave-as (give k number (length old)) (copies_or (given_after mid.standing) number (length old) mid (becomes mid)) r old new (becomes s_now)
+          (give-live (length old) (Some first) waits ∙ ap (after_reaction number (length old)) is ∙ reaction-is (length old) mid)
+          (hands (given_after mid.standing) r mid s_now old new on)
+
+    pub waiting : (r : Request) → request_of s ≡ Some r → (first : List ℕ × List ℕ) × (first_message s.input ≡ Some first)
+    waiting r is = by (first_message s.input) is
+      where
+        by : (o : Option (List ℕ × List ℕ)) → option_map (λ message. request_in message s.established) (option_map (λ (f : List ℕ × List ℕ). f.0) o) ≡ Some r → (first : List ℕ × List ℕ) × (o ≡ Some first)
+        by None e = cc
+        by (Some f) e = (f, refl)
+
+    pub itself-gave : (timers : Timers) (t : ℕ) (r : Given) (old new : List ℕ) (mid s_now : KeptSession) → request_of s ≡ Some requests.Itself → k.timers ≡ timers → t ≡ now k → mid ≡ reacted timers t s → HandsOn mid (given_after mid.standing) r old new s_now
+        → Gave (give k number (length old)) r old new (becomes s_now)
+    itself-gave timers t r old new mid s_now is granted moment step on =
+        let (first, waits) = waiting requests.Itself is in
+        message-gave first waits r old new mid s_now (itself-is first waits is ∙ (λ i. becomes (reacted (granted i) (sym moment i) s)) ∙ sym (ap becomes step)) on
+
+    pub subscribe-gave : (question : Option Question) (has : Bool) (rows : RecordSet) (t : ℕ) (r : Given) (old new : List ℕ) (mid s_now : KeptSession) → request_of s ≡ Some (requests.Subscribe question) → has ≡ has_home k question → rows ≡ records_now k → t ≡ now k
+        → mid ≡ subscribed_by question has rows t s → HandsOn mid (given_after mid.standing) r old new s_now → Gave (give k number (length old)) r old new (becomes s_now)
+    subscribe-gave question has rows t r old new mid s_now is home shown moment step on =
+        let (first, waits) = waiting (requests.Subscribe question) is in
+        message-gave first waits r old new mid s_now (subscribe-is first waits question is ∙ (λ i. becomes (subscribed_by question (sym home i) (sym shown i) (sym moment i) s)) ∙ sym (ap becomes step)) on
+
+    pub reconfirm-gave : AreAtHome (state_now k) → (rr : Option Rr) (t : ℕ) (r : Given) (old new : List ℕ) (mid s_now : KeptSession) → request_of s ≡ Some (requests.Reconfirm rr) → t ≡ now k → mid ≡ reconfirmed (is_some rr) t s → HandsOn mid (given_after mid.standing) r old new s_now
+        → Gave (give k number (length old)) r old new (becomes s_now)
+    reconfirm-gave home rr t r old new mid s_now is moment step on =
+        let (first, waits) = waiting (requests.Reconfirm rr) is in
+        message-gave first waits r old new mid s_now (reconfirm-is first waits home rr is ∙ (λ i. becomes (reconfirmed (is_some rr) (sym moment i) s)) ∙ sym (ap becomes step)) on

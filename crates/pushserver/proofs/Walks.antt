@@ -1,0 +1,305 @@
+-- One walk through the calls, for each property of hubs that the few steps keep of which the calls are made.
+--     Step Good hub f      a step of one session, where the messages that it is for are good
+--     Entering Good hub entry      an entry that may be made
+--     holds-update, holds-hear, holds-moment, holds-connect      what holds with an entry and without
+--     Walks Good number P R      the steps keep P, and what is P before an entry is R behind it
+--     walks-give      so `give` leads from P to R
+--     IsKept Good P      all steps keep P
+--     keeps-called, keeps-calls      so each call keeps it, and any calls do
+use Rattle.std.proofs.Common.{◌≡◌, ℕ, ◌+◌, Bool, true, false, cond, not, ◌&&◌, List, [], ◌∷◌, ◌++◌, length, Option, Some, None, Ok, Err, Result, refl}
+use Rattle.std.specs.Prelude.{nat_lt}
+use Rattle.std.specs.List.{AllByRecursion}
+use Rattle.push_base.specs.Cases.{is_empty}
+use Rattle.push_base.specs.Limits.{max_number}
+use Rattle.rrset.specs.Header.{id_of}
+use Rattle.rrset.specs.declared.record.Key.{Key}
+use Rattle.rrset.specs.declared.record.Hearing.{Hearing}
+use Rattle.rrset.specs.declared.record.Rr.{Rr}
+use Rattle.dnswire.specs.Reading.{hearing_of}
+use Rattle.dnswire.specs.declared.message.HearFault.{HearFault}
+use Rattle.dnswire.specs.declared.message.Update.{Update}
+use Rattle.dsotlv.specs.Messages.{first_message, head_of, primary_data}
+use Rattle.dsotlv.specs.Notices.{question_of, reconfirm_of}
+use Rattle.dsotlv.specs.TlvKinds.{reconfirm_tlv}
+use Rattle.dsotlv.specs.declared.message.DsoHead.{DsoHead}
+use Rattle.dsosession.specs.Reactions.{server_reaction}
+use Rattle.dsosession.specs.declared.session.EndReason.{EndReason}
+use Rattle.dsosession.specs.declared.session.EndReason.TheVariants as ends
+use Rattle.dsosession.specs.declared.session.Reaction.{Reaction}
+use Rattle.dsosession.specs.declared.session.Reaction.TheVariants as reactions
+use Rattle.history.specs.States.{verdict, accepts, reconfirm_key}
+use Rattle.history.specs.declared.entry.Entry.{Entry}
+use Rattle.history.specs.declared.entry.Entry.TheVariants as entries
+use Rattle.dsotlv.specs.Answers.{answer_to_update}
+use Rattle.pushsession.specs.Sessions.{SessionOf, new_session, copied, timed, ended_with, answers, stopped}
+use Rattle.pushsession.specs.Subscribing.{answered, packs}
+use Rattle.pushsession.specs.Reactions.{heard, by_itself}
+use Rattle.pushsession.specs.declared.standing.Standing.{Standing}
+use Rattle.pushsession.specs.declared.standing.Standing.TheVariants.{Live, AskedToStop, Stopped, Ended}
+use Rattle.pushserver.specs.declared.given.Given.{Given}
+use Rattle.pushserver.specs.declared.given.Given.TheVariants.{Worked, Nothing}
+use Rattle.pushserver.specs.declared.given.Heard.{Heard}
+use Rattle.pushserver.specs.declared.given.Heard.TheVariants.{Entered, Ignored}
+use Rattle.pushserver.specs.declared.given.Why.TheVariants as whys
+use Rattle.pushserver.specs.Hubs.{SessionKind, HubOf, newest, now, state_now, keeps_now, tells_now, session_of, each_session, in_session, entered, can_enter, update, hear, why_not, moment, max_sessions, connect, take_octets, stop, end_session}
+use Rattle.pushserver.specs.Giving.{has_home, reconfirms, reacts_itself, by_reaction, reacted, copies_or, given_after, after_reaction, after_packing, without_first, works, by_standing, give}
+use Rattle.pushserver.proofs.hub_steps.Cases.{enters_update, update_as, enters_moment, key_as, record_as, session_as, head_as, copies_as, found_as, works_as, stops_as, output_as, give_as}
+use Rattle.pushserver.specs.Calls.{HubCall, updates as updating, hears, moves, connects, takes, gives, stops, ends as ending, called, after_calls}
+
+-- ---- the steps
+
+-- any message may come
+abbrev pub AnyMessage : List ℕ → Type 0
+AnyMessage message = Unit {0}
+
+-- what a call does to one session, apart from the octets that come in
+pub data Step {A Q M : Type 0} {kind : SessionKind A Q M} (Good : List ℕ → Type 0) (hub : HubOf kind) : (SessionOf A Q M → SessionOf A Q M) → Type 0 where
+  hears_head : (head : DsoHead) → Step Good hub (heard head (now hub))
+  reacts : (reaction : Reaction) (head : DsoHead) (established : Bool) → server_reaction head established ≡ reaction → (message : List ℕ) → Step Good hub (by_itself (keeps_now hub) reaction hub.timers (now hub) message)
+  answers_subscribe : (message : List ℕ) → Good message
+      → Step Good hub (answered (keeps_now hub) (tells_now hub) (now hub) (id_of message) (question_of (primary_data message)) (has_home hub (question_of (primary_data message))))
+  answers_update : (before : HubOf kind) (message : List ℕ) → Step Good hub (answers (keeps_now hub) false (now hub) (answer_to_update (id_of message) (update before message).0))
+  packs_names : Step Good hub (packs (keeps_now hub) (tells_now hub) (now hub))
+  writes_stop : (rcode delay : ℕ) → Step Good hub (stopped (keeps_now hub) rcode delay (now hub))
+  ends_with : (reason : EndReason) → Step Good hub (ended_with (keeps_now hub) reason)
+  copies_front : (room : ℕ) → Step Good hub (copied room)
+
+-- why an entry is made
+pub data Entering {A Q M : Type 0} {kind : SessionKind A Q M} (Good : List ℕ → Type 0) (hub : HubOf kind) : Entry → Type 0 where
+  by_update : (message : List ℕ) (u : Update) → Good message → verdict (state_now hub) message ≡ Ok u → Entering Good hub (entries.Update u)
+  by_hearing : (link : ℕ) (hearing : Hearing) → accepts (state_now hub) (entries.Heard link hearing) ≡ true → Entering Good hub (entries.Heard link hearing)
+  by_moment : (t : ℕ) → Entering Good hub (entries.Moment t)
+  by_reconfirm : (link : ℕ) (key : Key) → accepts (state_now hub) (entries.Reconfirm link key) ≡ true → Entering Good hub (entries.Reconfirm link key)
+
+-- ---- the calls that make entries
+
+-- R holds with any entry that may be made
+abbrev pub WithAnyEntry : {A Q M : Type 0} {kind : SessionKind A Q M} → (List ℕ → Type 0) → (HubOf kind → Type 0) → HubOf kind → Type 0
+WithAnyEntry Good R hub = (entry : Entry) → Entering Good hub entry → R (entered entry hub)
+
+module _ {A Q M : Type 0} {kind : SessionKind A Q M} (Good : List ℕ → Type 0) (R : HubOf kind → Type 0) (hub : HubOf kind) (enters : WithAnyEntry Good R hub) (stays : R hub) where
+  pub holds-update : (message : List ℕ) → Good message → R (update hub message).1
+  holds-update message good = by (verdict (state_now hub) message) refl
+    where
+      entering : (u : Update) → verdict (state_now hub) message ≡ Ok u → (b : Bool) → R (enters_update hub u b).1
+      entering u is true = enters (entries.Update u) (by_update message u good is)
+      entering u is false = stays
+
+      by : (r : Result Update ℕ) → verdict (state_now hub) message ≡ r → R (update_as hub r).1
+      by (Err code) is = stays
+      by (Ok u) is = entering u is (can_enter hub (entries.Update u))
+
+  -- by whether the hearing is accepted, and whether the journal has room
+  abbrev enters_hearing : ℕ → Hearing → Bool → Bool → Option Heard × HubOf kind
+  enters_hearing link hearing accepted room = cond (not accepted) (Some (Ignored whys.Nothing), hub) (cond room (Some Entered, entered (entries.Heard link hearing) hub) (None, hub))
+
+  abbrev hear_as : ℕ → Result Hearing HearFault → Option Heard × HubOf kind
+  hear_as link (Err fault) = (Some (Ignored (why_not fault)), hub)
+  hear_as link (Ok hearing) = enters_hearing link hearing (accepts (state_now hub) (entries.Heard link hearing)) (can_enter hub (entries.Heard link hearing))
+
+  pub holds-hear : (link : ℕ) (datagram : List ℕ) → R (hear hub link datagram).1
+  holds-hear link datagram = by (hearing_of datagram)
+    where
+      entering : (hearing : Hearing) (a : Bool) → accepts (state_now hub) (entries.Heard link hearing) ≡ a → (b : Bool) → R (enters_hearing link hearing a b).1
+      entering hearing false is b = stays
+      entering hearing true is true = enters (entries.Heard link hearing) (by_hearing link hearing is)
+      entering hearing true is false = stays
+
+      by : (r : Result Hearing HearFault) → R (hear_as link r).1
+      by (Err fault) = stays
+      by (Ok hearing) = entering hearing (accepts (state_now hub) (entries.Heard link hearing)) refl (can_enter hub (entries.Heard link hearing))
+
+  pub holds-moment : ((later : HubOf kind) (point t : ℕ) → R later → R (each_session (timed (kind.keeps point) t) later)) → (t : ℕ) → R (moment hub t).1
+  holds-moment times t = by (nat_lt (now hub) t) (can_enter hub (entries.Moment t))
+    where
+      by : (later room : Bool) → R (cond (not later) (false, hub) (enters_moment hub t room)).1
+      by false room = stays
+      by true true = times (entered (entries.Moment t) hub) (newest hub) t (enters (entries.Moment t) (by_moment t))
+      by true false = stays
+
+-- ---- a session comes
+
+-- the hub with a new session
+abbrev pub with_new : {A Q M : Type 0} {kind : SessionKind A Q M} → HubOf kind → HubOf kind
+with_new hub = record hub { sessions = hub.sessions ++ (hub.made, new_session (keeps_now hub) (now hub)) ∷ []; made = hub.made + 1 }
+
+pub holds-connect : {A Q M : Type 0} {kind : SessionKind A Q M} (R : HubOf kind → Type 0) (hub : HubOf kind) → R (with_new hub) → R hub → R (connect hub).1
+holds-connect {kind = kind} R hub makes stays = by (nat_lt (length hub.sessions) max_sessions && nat_lt hub.made max_number)
+  where
+    by : (b : Bool) → R (cond {A = Option ℕ × HubOf kind} b (Some hub.made, with_new hub) (None, hub)).1
+    by true = makes
+    by false = stays
+
+-- ---- `give`
+
+pub record Walks {A Q M : Type 0} {kind : SessionKind A Q M} (Good : List ℕ → Type 0) (number : ℕ) (P R : HubOf kind → Type 0) : Type 0 where
+  -- a message that a session takes up is good, and what follows it is left
+  pub reads : (hub : HubOf kind) (session : SessionOf A Q M) (found : List ℕ × List ℕ) → session_of hub number ≡ Some session → first_message session.input ≡ Some found → P hub → Good found.0
+  pub takes_up : (hub : HubOf kind) (session : SessionOf A Q M) (found : List ℕ × List ℕ) → session_of hub number ≡ Some session → first_message session.input ≡ Some found → P hub → P (in_session number (without_first found.1) hub)
+  pub changes : (hub : HubOf kind) (f : SessionOf A Q M → SessionOf A Q M) → Step Good hub f → P hub → P (in_session number f hub)
+  -- at most one entry is made
+  pub enters : (hub : HubOf kind) (entry : Entry) → Entering Good hub entry → P hub → R (entered entry hub)
+  pub enters_none : (hub : HubOf kind) → P hub → R hub
+  pub changes_behind : (hub : HubOf kind) (f : SessionOf A Q M → SessionOf A Q M) → Step Good hub f → R hub → R (in_session number f hub)
+
+module _ {A Q M : Type 0} {kind : SessionKind A Q M} (Good : List ℕ → Type 0) (number : ℕ) (P R : HubOf kind → Type 0) (w : Walks Good number P R) where
+  -- a step without an entry
+  steps : (hub : HubOf kind) (f : SessionOf A Q M → SessionOf A Q M) → Step Good hub f → P hub → R (in_session number f hub)
+  steps hub f step h = w.enters_none (in_session number f hub) (w.changes hub f step h)
+
+  pub walks-update : (hub : HubOf kind) (message : List ℕ) → Good message → P hub → R (update hub message).1
+  walks-update hub message good h = holds-update Good R hub (λ entry by. w.enters hub entry by h) (w.enters_none hub h) message good
+
+  walks-reconfirms : (hub : HubOf kind) (message : List ℕ) → P hub → R (reconfirms number message hub)
+  walks-reconfirms hub message h = by (reconfirm_of (primary_data message))
+    where
+      by_room : (found : ℕ × Key) (a : Bool) → accepts (state_now hub) (entries.Reconfirm found.0 found.1) ≡ a → (b : Bool) → R (cond (a && b) (entered (entries.Reconfirm found.0 found.1) hub) hub)
+      by_room found true is true = w.enters hub (entries.Reconfirm found.0 found.1) (by_reconfirm found.0 found.1 is) h
+      by_room found true is false = w.enters_none hub h
+      by_room found false is b = w.enters_none hub h
+
+      by_key : (o : Option (ℕ × Key)) → R (key_as hub o)
+      by_key None = w.enters_none hub h
+      by_key (Some found) = by_room found (accepts (state_now hub) (entries.Reconfirm found.0 found.1)) refl (can_enter hub (entries.Reconfirm found.0 found.1))
+
+      by : (o : Option Rr) → R (record_as hub number o)
+      by None = steps hub (ended_with (keeps_now hub) (ends.BadData reconfirm_tlv)) (ends_with (ends.BadData reconfirm_tlv)) h
+      by (Some rr) = by_key (reconfirm_key (state_now hub) rr)
+
+  itself : (hub : HubOf kind) (message : List ℕ) (head : DsoHead) (established : Bool) (reaction : Reaction) → server_reaction head established ≡ reaction → P hub → R (reacts_itself reaction number message hub)
+  itself hub message head established reaction is h = steps hub (by_itself (keeps_now hub) reaction hub.timers (now hub) message) (reacts reaction head established is message) h
+
+  walks-reaction : (hub : HubOf kind) (message : List ℕ) (head : DsoHead) (established : Bool) (reaction : Reaction) → server_reaction head established ≡ reaction → Good message → P hub → R (by_reaction reaction number message hub)
+  walks-reaction hub message head established reactions.Subscribe is good h =
+      let question = question_of (primary_data message) in
+      steps hub (answered (keeps_now hub) (tells_now hub) (now hub) (id_of message) question (has_home hub question)) (answers_subscribe message good) h
+  walks-reaction hub message head established reactions.Reconfirm is good h = walks-reconfirms hub message h
+  walks-reaction hub message head established reactions.Update is good h =
+      let judged = update hub message in
+      w.changes_behind judged.1 (answers (keeps_now judged.1) false (now judged.1) (answer_to_update (id_of message) judged.0)) (answers_update hub message) (walks-update hub message good h)
+  walks-reaction hub message head established (reactions.Answer rcode) is good h = itself hub message head established (reactions.Answer rcode) is h
+  walks-reaction hub message head established reactions.Grant is good h = itself hub message head established reactions.Grant is h
+  walks-reaction hub message head established (reactions.Abort reason) is good h = itself hub message head established (reactions.Abort reason) is h
+  walks-reaction hub message head established reactions.Unsubscribe is good h = itself hub message head established reactions.Unsubscribe is h
+  walks-reaction hub message head established reactions.NotImplemented is good h = itself hub message head established reactions.NotImplemented is h
+
+  pub walks-reacted : (hub : HubOf kind) (message : List ℕ) → Good message → P hub → R (reacted message number hub)
+  walks-reacted hub message good h = by (head_of message)
+    where
+      by_session : (head : DsoHead) (o : Option (SessionOf A Q M)) → R (session_as hub number message head o)
+      by_session head None = w.enters_none hub h
+      by_session head (Some session) =
+          walks-reaction (in_session number (heard head (now hub)) hub) message head session.established (server_reaction head session.established) refl good (w.changes hub (heard head (now hub)) (hears_head head) h)
+
+      by : (o : Option DsoHead) → R (head_as hub number message o)
+      by None = steps hub (ended_with (keeps_now hub) ends.Short) (ends_with ends.Short) h
+      by (Some head) = by_session head (session_of hub number)
+
+  walks-copies_or : (given : Given) (room : ℕ) (session : SessionOf A Q M) (hub : HubOf kind) → R hub → R (copies_or given number room session hub).hub
+  walks-copies_or given room session hub h = by (is_empty session.output)
+    where
+      by : (b : Bool) → R (copies_as hub number room session given b).hub
+      by true = h
+      by false = w.changes_behind hub (copied room) (copies_front room) h
+
+  walks-found : (room : ℕ) (none : Given) (given : Standing → Given) (hub : HubOf kind) → R hub → (o : Option (SessionOf A Q M)) → R (found_as hub number room none given o).hub
+  walks-found room none given hub h None = h
+  walks-found room none given hub h (Some session) = walks-copies_or (given session.standing) room session hub h
+
+  pub walks-after_reaction : (room : ℕ) (hub : HubOf kind) → R hub → R (after_reaction number room hub).hub
+  walks-after_reaction room hub h = walks-found room Worked given_after hub h (session_of hub number)
+
+  walks-after_packing : (room : ℕ) (hub : HubOf kind) → R hub → R (after_packing number room hub).hub
+  walks-after_packing room hub h = walks-found room Nothing (λ standing. Nothing) hub h (session_of hub number)
+
+  walks-works : (hub : HubOf kind) (room : ℕ) (session : SessionOf A Q M) → session_of hub number ≡ Some session → P hub → R (works number room session hub).hub
+  walks-works hub room session there h = by (first_message session.input) refl
+    where
+      by : (o : Option (List ℕ × List ℕ)) → first_message session.input ≡ o → R (works_as hub number room o).hub
+      by (Some found) is =
+          let later = in_session number (without_first found.1) hub in
+          walks-after_reaction room (reacted found.0 number later) (walks-reacted later found.0 (w.reads hub session found there is h) (w.takes_up hub session found there is h))
+      by None is =
+          let f = packs (keeps_now hub) (tells_now hub) (now hub) in
+          walks-after_packing room (in_session number f hub) (steps hub f packs_names h)
+
+  walks-by_standing : (hub : HubOf kind) (room : ℕ) (session : SessionOf A Q M) → session_of hub number ≡ Some session → (standing : Standing) → P hub → R (by_standing standing number room session hub).hub
+  walks-by_standing hub room session there (Ended reason) h = w.enters_none hub h
+  walks-by_standing hub room session there (Stopped since) h = w.enters_none hub h
+  walks-by_standing hub room session there Live h = walks-works hub room session there h
+  walks-by_standing hub room session there (AskedToStop rcode delay) h = by session.established
+    where
+      by : (b : Bool) → R (stops_as hub number room rcode delay b).hub
+      by true =
+          let f = stopped (keeps_now hub) rcode delay (now hub) in
+          walks-after_reaction room (in_session number f hub) (steps hub f (writes_stop rcode delay) h)
+      by false = steps hub (ended_with (keeps_now hub) ends.Stopped) (ends_with ends.Stopped) h
+
+  pub walks-give : (hub : HubOf kind) (room : ℕ) → P hub → R (give hub number room).hub
+  walks-give hub room h = by (session_of hub number) refl
+    where
+      by_output : (session : SessionOf A Q M) → session_of hub number ≡ Some session → (b : Bool) → R (output_as hub number room session b).hub
+      by_output session there false = steps hub (copied room) (copies_front room) h
+      by_output session there true = walks-by_standing hub room session there session.standing h
+
+      by : (o : Option (SessionOf A Q M)) → session_of hub number ≡ o → R (give_as hub number room o).hub
+      by None is = w.enters_none hub h
+      by (Some session) is = by_output session is (is_empty session.output)
+
+-- ---- all calls
+
+pub record IsKept {A Q M : Type 0} {kind : SessionKind A Q M} (Good : List ℕ → Type 0) (P : HubOf kind → Type 0) : Type 0 where
+  pub reads : (hub : HubOf kind) (number : ℕ) (session : SessionOf A Q M) (found : List ℕ × List ℕ) → session_of hub number ≡ Some session → first_message session.input ≡ Some found → P hub → Good found.0
+  pub takes_up : (hub : HubOf kind) (number : ℕ) (session : SessionOf A Q M) (found : List ℕ × List ℕ) → session_of hub number ≡ Some session → first_message session.input ≡ Some found → P hub
+      → P (in_session number (without_first found.1) hub)
+  pub changes : (hub : HubOf kind) (number : ℕ) (f : SessionOf A Q M → SessionOf A Q M) → Step Good hub f → P hub → P (in_session number f hub)
+  pub enters : (hub : HubOf kind) (entry : Entry) → Entering Good hub entry → P hub → P (entered entry hub)
+  -- time passes
+  pub times : (hub : HubOf kind) (point t : ℕ) → P hub → P (each_session (timed (kind.keeps point) t) hub)
+  -- octets come in, and a stop is asked for
+  pub takes_in : (hub : HubOf kind) (number : ℕ) (piece : List ℕ) → Good piece → P hub → P (take_octets hub number piece)
+  pub asks_stop : (hub : HubOf kind) (number rcode delay : ℕ) → P hub → P (stop hub number rcode delay)
+  -- a session is made, and one goes
+  pub makes : (hub : HubOf kind) → P hub → P (with_new hub)
+  pub drops : (hub : HubOf kind) (number : ℕ) → P hub → P (end_session hub number)
+
+-- what is brought is good
+abbrev pub BringsGood : (List ℕ → Type 0) → HubCall → Type 0
+BringsGood Good (updating message) = Good message
+BringsGood Good (takes number piece) = Good piece
+BringsGood Good _ = Unit {0}
+
+module _ {A Q M : Type 0} {kind : SessionKind A Q M} (Good : List ℕ → Type 0) (P : HubOf kind → Type 0) (k : IsKept Good P) where
+  pub walks_alone : (number : ℕ) → Walks Good number P P
+  walks_alone number = record {
+    reads = λ hub session found there is h. k.reads hub number session found there is h;
+    takes_up = λ hub session found there is h. k.takes_up hub number session found there is h;
+    changes = λ hub f step h. k.changes hub number f step h;
+    enters = k.enters;
+    enters_none = λ hub h. h;
+    changes_behind = λ hub f step h. k.changes hub number f step h;
+  }
+
+  pub keeps-called : (call : HubCall) (hub : HubOf kind) → BringsGood Good call → P hub → P (called call hub)
+  keeps-called (updating message) hub good h = holds-update Good P hub (λ entry by. k.enters hub entry by h) h message good
+  keeps-called (hears link datagram) hub good h = holds-hear Good P hub (λ entry by. k.enters hub entry by h) h link datagram
+  keeps-called (moves t) hub good h = holds-moment Good P hub (λ entry by. k.enters hub entry by h) h k.times t
+  keeps-called connects hub good h = holds-connect P hub (k.makes hub h) h
+  keeps-called (takes number piece) hub good h = k.takes_in hub number piece good h
+  keeps-called (gives number room) hub good h = walks-give Good number P P (walks_alone number) hub room h
+  keeps-called (stops number rcode delay) hub good h = k.asks_stop hub number rcode delay h
+  keeps-called (ending number) hub good h = k.drops hub number h
+
+  pub keeps-calls : (calls : List HubCall) (hub : HubOf kind) → AllByRecursion (BringsGood Good) calls → P hub → P (after_calls calls hub)
+  keeps-calls [] hub good h = h
+  keeps-calls (call ∷ calls) hub good h = keeps-calls calls (called call hub) good.1 (keeps-called call hub good.0 h)
+
+-- any messages may be brought
+pub bring_any : (calls : List HubCall) → AllByRecursion (BringsGood AnyMessage) calls
+bring_any [] = tt
+bring_any (call ∷ calls) = (by call, bring_any calls)
+  where
+    by : (call : HubCall) → BringsGood AnyMessage call
+    by (updating message) = tt
+    by (takes number piece) = tt
+    by _ = tt

@@ -1,0 +1,163 @@
+-- The reaction to a message, on the hub that is kept and on the plain one.
+--     IsQuiet number hub      nothing of the session waits to be written
+--     reacted-stands
+use Rattle.std.proofs.Common.{◌≡◌, ℕ, Bool, true, false, List, [], Option, Some, None, Result, Ok, Err, sym, ◌∙◌, ap, subst, refl, arith}
+use Rattle.std.specs.Prelude.{option_map, position}
+use Rattle.dnsname.specs.Names.{Labels, same_name, home}
+use Rattle.rrset.specs.Header.{id_of}
+use Rattle.rrset.specs.declared.record.Key.{Key}
+use Rattle.rrset.specs.declared.record.Rr.{Rr}
+use Rattle.dnswire.specs.declared.message.Update.{Update}
+use Rattle.dsotlv.specs.Messages.{head_of, primary_data}
+use Rattle.dsotlv.specs.Notices.{question_of, reconfirm_of}
+use Rattle.dsotlv.specs.TlvKinds.{reconfirm_tlv}
+use Rattle.dsotlv.specs.declared.message.DsoHead.{DsoHead}
+use Rattle.dsosession.specs.Reactions.{server_reaction}
+use Rattle.dsosession.specs.declared.session.EndReason.{EndReason}
+use Rattle.dsosession.specs.declared.session.EndReason.TheVariants as ends
+use Rattle.dsosession.specs.declared.session.Reaction.{Reaction}
+use Rattle.dsosession.specs.declared.session.Reaction.TheVariants as reactions
+use Rattle.history.specs.States.{State, home_names, key_heard, reconfirm_key, verdict}
+use Rattle.history.specs.declared.entry.Entry.{Entry}
+use Rattle.history.specs.declared.entry.Entry.TheVariants as entries
+use Rattle.history.specs.declared.entry.Home.TheVariants as homes
+use Rattle.history.proofs.ShownAtHome.{zone_home, home_of-zones}
+use Rattle.pushsession.specs.Kept.{KeptSession, keeping, telling}
+use Rattle.dsotlv.specs.Answers.{answer_to_update}
+use Rattle.pushsession.specs.Sessions.{ended_with, answers}
+use Rattle.pushsession.specs.Subscribing.{answered}
+use Rattle.pushsession.specs.Reactions.{heard, by_itself}
+use Rattle.pushserver.specs.Sessions.{Hub, Session, plain_keeps, plain_tells}
+use Rattle.pushserver.specs.Hubs.{Numbered, session_in, in_sessions, newest, now, state_now, records_now, session_of, in_session, entered, can_enter, update}
+use Rattle.pushserver.specs.Giving.{ends_as, has_home, subscribes, reconfirms, updates, reacts_itself, by_reaction, reacted}
+use Rattle.pushserver.specs.Rule.{KeptHub, StandsFor}
+use Rattle.pushserver.specs.Calls.{AreOctets}
+use Rattle.pushserver.specs.Simulation.{BothAnswer}
+use Rattle.pushserver.proofs.SessionLists.{found-all, found-in}
+use Rattle.pushserver.proofs.session_steps.Standing.{ended-keeps}
+use Rattle.pushserver.proofs.session_steps.Saying.{answers-keeps, heard-keeps}
+use Rattle.pushserver.proofs.session_steps.Reactions.{by_itself-keeps}
+use Rattle.pushserver.proofs.session_steps.Octets.{question-named}
+use Rattle.pushserver.proofs.session_steps.Accepting.{answered-keeps}
+use Rattle.pushserver.proofs.told_rows.HubTells.{hub_told}
+use Rattle.pushserver.proofs.hub_steps.Standing.{kept_of, Stands, with_kept, in-stands, found-stands, FoundBoth, both_found}
+use Rattle.pushserver.proofs.hub_steps.Cases.{enters_update, update_as, key_as, record_as, session_as, head_as}
+use Rattle.pushserver.proofs.hub_steps.Entering.{plain_noted}
+use Rattle.pushserver.proofs.hub_steps.Calls.{tells-now, update-stands}
+
+-- ---- nothing waits to be written
+
+abbrev pub IsQuiet : ℕ → Hub → Type 0
+IsQuiet number hub = (p : Session) → session_of hub number ≡ Some p → p.output ≡ []
+
+-- it is so still where the output is left
+pub quiet-later : (number : ℕ) (g : Session → Session) → ((p : Session) → (g p).output ≡ p.output) → (hub later : Hub) → session_of later number ≡ option_map g (session_of hub number) → IsQuiet number hub → IsQuiet number later
+quiet-later number g leaves hub later found quiet p is = by (session_of hub number) refl (sym found ∙ is)
+  where
+    by : (o : Option Session) → session_of hub number ≡ o → option_map g o ≡ Some p → p.output ≡ []
+    by None before e = absurd cc
+    by (Some q) before e = let same : g q ≡ p = cc in ap (λ (r : Session). r.output) (sym same) ∙ leaves q ∙ quiet q before
+
+quiet-updated : (number : ℕ) (hub : Hub) (message : List ℕ) → IsQuiet number hub → IsQuiet number (update hub message).1
+quiet-updated number hub message quiet = by (verdict (state_now hub) message)
+  where
+    later : (entry : Entry) → IsQuiet number (entered entry hub)
+    later entry = quiet-later number (plain_noted hub entry) (λ p. refl) hub (entered entry hub) (found-all (plain_noted hub entry) number hub.sessions) quiet
+
+    by_room : (u : Update) (b : Bool) → IsQuiet number (enters_update hub u b).1
+    by_room u true = later (entries.Update u)
+    by_room u false = quiet
+
+    by : (r : Result Update ℕ) → IsQuiet number (update_as hub r).1
+    by (Err code) = quiet
+    by (Ok u) = by_room u (can_enter hub (entries.Update u))
+
+-- ---- a record that is reconfirmed
+
+-- no zone's record has a key at a link
+pub no_key : (state : State) (rr : Rr) → state.links ≡ [] → reconfirm_key state rr ≡ None
+no_key state rr none = ap (key_heard state rr) (home_of-zones state none rr.owner) ∙ by (home (home_names state) rr.owner)
+  where
+    zone : (o : Option ℕ) → key_heard state rr (option_map (λ i. homes.Zone i) o) ≡ None
+    zone None = refl
+    zone (Some i) = refl
+
+    by : (o : Option Labels) → key_heard state rr (zone_home state.zones o) ≡ None
+    by None = refl
+    by (Some h) = zone (position (λ z. same_name z.apex h) state.zones)
+
+-- ---- an update
+
+-- the answer to an update, on the hubs that it left
+answered-stands : (number id : ℕ) (k : ℕ × KeptHub) (p : ℕ × Hub) → IsQuiet number p.1 → BothAnswer k p
+    → StandsFor (in_session number (answers keeping false (now k.1) (answer_to_update id k.0)) k.1) (in_session number (answers (plain_keeps (newest p.1)) false (now p.1) (answer_to_update id p.0)) p.1)
+answered-stands number id k p quiet both =
+    subst (λ (code : ℕ). StandsFor (in_session number (answers keeping false (now k.1) (answer_to_update id code)) k.1) (in_session number says p.1)) (sym both.0)
+    (with_kept (λ k. StandsFor (in_session number (answers keeping false (now k) (answer_to_update id p.0)) k) (in_session number says p.1)) k.1 p.1 both.1
+    (found-stands p.1 k.1.sessions (answers keeping false (now p.1) (answer_to_update id p.0)) says number
+    (λ s r found pair. answers-keeps p.1 (newest p.1) false (now p.1) (answer_to_update id p.0) s r (quiet r.1 found) (omega arith) pair)))
+  where
+    says : Session → Session
+    says session = answers (plain_keeps (newest p.1)) false (now p.1) (answer_to_update id p.0) session
+
+-- ---- each reaction
+
+module _ (number : ℕ) (hub : Hub) (ks : Numbered KeptSession) (h : Stands hub ks) where
+  abbrev khub : KeptHub
+  khub = kept_of hub ks
+
+  pub ends-stands : (reason : EndReason) → StandsFor (ends_as number reason khub) (ends_as number reason hub)
+  ends-stands reason = in-stands hub ks (ended_with keeping reason) (ended_with (plain_keeps (newest hub)) reason) number (ended-keeps hub (newest hub) reason) h
+
+  reconfirms-stands : (message : List ℕ) → StandsFor (reconfirms number message khub) (reconfirms number message hub)
+  reconfirms-stands message = by (reconfirm_of (primary_data message))
+    where
+      by : (o : Option Rr) → StandsFor (record_as khub number o) (record_as hub number o)
+      by None = ends-stands (ends.BadData reconfirm_tlv)
+      by (Some rr) = subst (λ (o : Option (ℕ × Key)). StandsFor (key_as khub o) (key_as hub o)) (sym (no_key (state_now hub) rr (tells-now hub ks h).home.links)) h
+
+  module _ (quiet : IsQuiet number hub) where
+    itself-stands : (reaction : Reaction) (message : List ℕ) → StandsFor (reacts_itself reaction number message khub) (reacts_itself reaction number message hub)
+    itself-stands reaction message =
+        found-stands hub ks (by_itself keeping reaction hub.timers (now hub) message) (by_itself (plain_keeps (newest hub)) reaction hub.timers (now hub) message) number
+        (λ k p found s. by_itself-keeps hub (newest hub) reaction hub.timers (now hub) message k p (quiet p.1 found) s) h
+
+    subscribes-stands : (message : List ℕ) → AreOctets message → StandsFor (subscribes number message khub) (subscribes number message hub)
+    subscribes-stands message octets =
+        let question = question_of (primary_data message) in
+        found-stands hub ks (answered keeping (telling (records_now hub)) (now hub) (id_of message) question (has_home hub question))
+        (answered (plain_keeps (newest hub)) (plain_tells hub.start hub.history) (now hub) (id_of message) question (has_home hub question)) number
+        (λ k p found s. answered-keeps hub (newest hub) (now hub) (id_of message) question k p (quiet p.1 found) (hub_told hub h.states) (λ q. question-named message q octets) s) h
+
+    updates-stands : (message : List ℕ) → AreOctets message → StandsFor (updates number message khub) (updates number message hub)
+    updates-stands message octets = answered-stands number (id_of message) (update khub message) (update hub message) (quiet-updated number hub message quiet) (update-stands hub ks message octets h)
+
+    reaction-stands : (reaction : Reaction) (message : List ℕ) → AreOctets message → StandsFor (by_reaction reaction number message khub) (by_reaction reaction number message hub)
+    reaction-stands reactions.Subscribe message octets = subscribes-stands message octets
+    reaction-stands reactions.Reconfirm message octets = reconfirms-stands message
+    reaction-stands reactions.Update message octets = updates-stands message octets
+    reaction-stands (reactions.Answer rcode) message octets = itself-stands (reactions.Answer rcode) message
+    reaction-stands reactions.Grant message octets = itself-stands reactions.Grant message
+    reaction-stands (reactions.Abort reason) message octets = itself-stands (reactions.Abort reason) message
+    reaction-stands reactions.Unsubscribe message octets = itself-stands reactions.Unsubscribe message
+    reaction-stands reactions.NotImplemented message octets = itself-stands reactions.NotImplemented message
+
+-- ---- a message
+
+pub reacted-stands : (number : ℕ) (hub : Hub) (ks : Numbered KeptSession) (message : List ℕ) → IsQuiet number hub → AreOctets message → Stands hub ks → StandsFor (reacted message number (kept_of hub ks)) (reacted message number hub)
+reacted-stands number hub ks message quiet octets h = by (head_of message)
+  where
+    by_session : (head : DsoHead) (s : Option KeptSession) (p : Option Session) → FoundBoth hub number s p → StandsFor (session_as (kept_of hub ks) number message head s) (session_as hub number message head p)
+    by_session head None None both = h
+    by_session head None (Some p) both = absurd both
+    by_session head (Some s) None both = absurd both
+    by_session head (Some s) (Some p) both =
+        let f = heard head (now hub) in
+        let later = in_session number (heard head (now hub)) hub in
+        subst (λ b. StandsFor (by_reaction (server_reaction head b) number message (in_session number (heard head (now hub)) (kept_of hub ks))) (session_as hub number message head (Some p))) (sym both.established)
+        (reaction-stands number later (in_sessions number (heard head (now hub)) ks) (in-stands hub ks (heard head (now hub)) f number (heard-keeps hub head (now hub)) h)
+        (quiet-later number f (λ p. refl) hub later (found-in number f hub.sessions) quiet) (server_reaction head p.established) message octets)
+
+    by : (o : Option DsoHead) → StandsFor (head_as (kept_of hub ks) number message o) (head_as hub number message o)
+    by None = ends-stands number hub ks h ends.Short
+    by (Some head) = by_session head (session_in number ks) (session_in number hub.sessions) (both_found hub number ks hub.sessions h.sessions)

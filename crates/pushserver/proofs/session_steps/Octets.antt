@@ -1,0 +1,79 @@
+-- The octets of a message are those of the stream that it waits in, and its data are among its own.
+--     rest_is, first_octets      what follows the first whole message; the message
+--     question-named      the question in its data has a name
+use Rattle.std.proofs.Common.{◌≡◌, ℕ, ◌+◌, ◌-◌, ◌<◌, zero, suc, Bool, true, false, cond, List, [], ◌∷◌, length, drop, Option, Some, None, Result, Ok, Err, refl, sym, ap, subst}
+use Rattle.std.specs.Prelude.{nat_lt, slice_range, ◌==◌, IsTrue}
+use Rattle.std.proofs.lemmas.List.Elements.{All-from_recursion}
+use Rattle.push_base.specs.Cases.{◌>>=◌}
+use Rattle.dnsname.specs.Names.{is_name}
+use Rattle.rrset.specs.Header.{two_octets}
+use Rattle.rrset.specs.declared.record.Question.{Question}
+use Rattle.dsotlv.specs.Messages.{first_message, tlvs_from, data_of_first, primary_data}
+use Rattle.dsotlv.specs.Notices.{question_of}
+use Rattle.dsotlv.specs.declared.message.DsoFault.{DsoFault}
+use Rattle.dsotlv.specs.declared.message.DsoFault.TheVariants.{Tlv as TlvAt}
+use Rattle.dsotlv.specs.declared.message.Tlv.{Tlv}
+use Rattle.dsotlv.proofs.QuestionLaws.{question_spelled}
+use Rattle.pushserver.specs.Calls.{AreOctets}
+use Rattle.pushserver.proofs.session_steps.Lists.{all-take, all-drop}
+use Rattle.pushserver.proofs.told_rows.Entered.{are_below}
+
+slice-octets : (octets : List ℕ) (from to : ℕ) → AreOctets octets → AreOctets (slice_range octets from to)
+slice-octets octets from to all = all-take (λ o. nat_lt o 256) (to - from) (drop from octets) (all-drop (λ o. nat_lt o 256) from octets all)
+
+-- ---- the first whole message
+
+pub rest_is : (stream : List ℕ) (found : List ℕ × List ℕ) → first_message stream ≡ Some found → found.1 ≡ drop (2 + two_octets stream 0) stream
+rest_is stream found is = by (nat_lt (length stream) (2 + two_octets stream 0)) is
+  where
+    whole : List ℕ × List ℕ
+    whole = (slice_range stream 2 (2 + two_octets stream 0), drop (2 + two_octets stream 0) stream)
+
+    by : (b : Bool) → cond b None (Some whole) ≡ Some found → found.1 ≡ whole.1
+    by true e = absurd cc
+    by false e = let same : whole ≡ found = cc in ap (λ x. x.1) (sym same)
+
+pub first_octets : (stream : List ℕ) (found : List ℕ × List ℕ) → first_message stream ≡ Some found → AreOctets stream → AreOctets found.0
+first_octets stream found is octets = by (nat_lt (length stream) (2 + n)) is
+  where
+    n : ℕ
+    n = two_octets stream 0
+
+    by : (b : Bool) → cond {A = Option (List ℕ × List ℕ)} b None (Some (slice_range stream 2 (2 + n), drop (2 + n) stream)) ≡ Some found → AreOctets found.0
+    by true e = absurd cc
+    by false e = let same : (slice_range stream 2 (2 + n), drop (2 + n) stream) ≡ found = cc in subst AreOctets (ap (λ x. x.0) same) (slice-octets stream 2 (2 + n) octets)
+
+-- ---- its data
+
+abbrev data_in : Result (List Tlv) DsoFault → List ℕ
+data_in r = elim r as (λ _. List ℕ) [ Err fault ↦ [] | Ok tlvs ↦ data_of_first tlvs ]
+
+tlvs-octets : (more : ℕ) (message : List ℕ) (at : ℕ) → AreOctets message → AreOctets (data_in (tlvs_from more message at))
+tlvs-octets zero message at octets = by (at == length message)
+  where
+    by : (b : Bool) → AreOctets (data_in (cond b (Ok []) (Err (TlvAt at))))
+    by true = refl
+    by false = refl
+tlvs-octets (suc more) message at octets = by (at == length message) (nat_lt (length message) (at + 4)) (nat_lt (length message) (at + 4 + two_octets message (at + 2))) (tlvs_from more message (at + 4 + two_octets message (at + 2)))
+  where
+    by : (a b c : Bool) (rest : Result (List Tlv) DsoFault) → AreOctets (data_in (elim a as (λ _. Result (List Tlv) DsoFault) [
+      | true ↦ Ok []
+      | false ↦ elim b as (λ _. Result (List Tlv) DsoFault) [
+        | true ↦ Err (TlvAt at)
+        | false ↦ elim c as (λ _. Result (List Tlv) DsoFault) [
+          | true ↦ Err (TlvAt at)
+          | false ↦ rest >>= λ others. Ok ((record { kind = two_octets message at; octets = slice_range message (at + 4) (at + 4 + two_octets message (at + 2)) }) ∷ others)
+        ]
+      ]
+    ]))
+    by true b c rest = refl
+    by false true c rest = refl
+    by false false true rest = refl
+    by false false false (Err fault) = refl
+    by false false false (Ok others) = slice-octets message (at + 4) (at + 4 + two_octets message (at + 2)) octets
+
+data-octets : (message : List ℕ) → AreOctets message → AreOctets (primary_data message)
+data-octets message octets = tlvs-octets (length message) message 12 octets
+
+pub question-named : (message : List ℕ) (question : Question) → AreOctets message → question_of (primary_data message) ≡ Some question → IsTrue (is_name question.name)
+question-named message question octets read = (question_spelled (primary_data message) question (All-from_recursion (λ o. o < 256) (primary_data message) (are_below (primary_data message) (data-octets message octets))) read).name

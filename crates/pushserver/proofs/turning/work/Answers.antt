@@ -1,0 +1,32 @@
+-- A session that goes on: it reacts to its first message, or packs a PUSH.
+use Rattle.std.proofs.Common.{Some, sym, ap, ◌∙◌}
+use Rattle.pushsession.specs.declared.request.Request.{Request}
+use Rattle.pushserver.specs.Giving.{given_after}
+use Rattle.pushserver.proofs.SessionTurns.{HandsOn, moment-is, can_be_told, packed-gave, itself-gave, subscribe-gave, reconfirm-gave}
+use Rattle.pushserver.proofs.turning.work.Goals as goal
+use Rattle.pushserver.proofs.turning.work.Goals.{in-Itself, in-Reconfirm, in-Subscribe+in_ok-subscribe-in-Subscribe}
+
+pub returns-in_default-clause-ok : goal.returns-in_default-clause-ok
+returns-in_default-clause-ok c = λ kept number seat.
+    packed-gave number kept c.args.session.now seat.there seat.apart c.requires.live c.requires.silent c.args.index.now.rows c.now-now.result c.hand_on.result c.args.buf.now c.hand_on.new.buf c.pack.new.self c.hand_on.new.session
+    (sym c.in_ok-request.ensures.request ∙ c.in_default.is) seat.rows_is (moment-is kept c.args.points.now.past c.now-now.result seat.past_is c.now-now.ensures) c.pack.ensures
+    (record { given_is = c.hand_on.ensures.given; octets = c.hand_on.ensures.octets; session = c.hand_on.ensures.session })
+
+pub subscribe-requires-clause-told : goal.subscribe-requires-clause-told
+subscribe-requires-clause-told c = can_be_told c.in-Subscribe.question c.has_home-has_home.result c.args.index.now.rows c.requires.told
+
+pub returns-clause-ok : goal.returns-clause-ok
+returns-clause-ok c = λ kept number seat.
+    let on : HandsOn c.match-request.session (given_after c.match-request.session.standing) c.after_reaction.result c.args.buf.now c.after_reaction.new.buf c.after_reaction.new.session = record { given_is = c.after_reaction.ensures.given; octets = c.after_reaction.ensures.octets; session = c.after_reaction.ensures.session } in
+    let moment = moment-is kept c.args.points.now.past c.now-now.result seat.past_is c.now-now.ensures in
+    elim c.match-request.branch [
+      | in-Itself w ↦
+          itself-gave number kept c.args.session.now seat.there seat.apart c.requires.live c.requires.silent c.args.timers c.now-now.result c.after_reaction.result c.args.buf.now c.after_reaction.new.buf c.match-request.session c.after_reaction.new.session
+          (sym c.in_ok-request.ensures.request ∙ c.in-Some.is ∙ ap (λ (r : Request). Some r) w.in-Itself.is) seat.timers_is moment (w.session-is ∙ w.react.ensures) on
+      | in-Reconfirm w ↦
+          reconfirm-gave number kept c.args.session.now seat.there seat.apart c.requires.live c.requires.silent seat.home w.in-Reconfirm.rr c.now-now.result c.after_reaction.result c.args.buf.now c.after_reaction.new.buf c.match-request.session c.after_reaction.new.session
+          (sym c.in_ok-request.ensures.request ∙ c.in-Some.is ∙ ap (λ (r : Request). Some r) w.in-Reconfirm.is) moment (w.session-is ∙ w.reconfirm.ensures) on
+      | in-Subscribe+in_ok-subscribe-in-Subscribe w ↦
+          subscribe-gave number kept c.args.session.now seat.there seat.apart c.requires.live c.requires.silent w.in-Subscribe.question w.has_home-has_home.result c.args.index.now.rows c.now-now.result c.after_reaction.result c.args.buf.now c.after_reaction.new.buf c.match-request.session c.after_reaction.new.session
+          (sym c.in_ok-request.ensures.request ∙ c.in-Some.is ∙ ap (λ (r : Request). Some r) w.in-Subscribe.is) (w.has_home-has_home.ensures kept seat.past_is) seat.rows_is moment (w.session-is ∙ w.in_ok-subscribe-in-Subscribe.ensures.ok) on
+    ]

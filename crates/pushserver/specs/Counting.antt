@@ -1,0 +1,22 @@
+-- What the calls of a hub add to its entries, and what `give` hands on.
+--     MayAddChange, MayAddMoment      at most one entry of the group more, and no other
+--     octets_of given      how many octets were copied
+use Rattle.std.specs.Prelude.{◌≡◌, ◌⊎◌, ℕ, ◌+◌}
+use Rattle.history.specs.Totals.{totals}
+use Rattle.pushserver.specs.Hubs.{SessionKind, HubOf}
+use Rattle.pushserver.specs.declared.given.Given.{Given}
+use Rattle.pushserver.specs.declared.given.Given.TheVariants.{Bytes}
+
+-- no session is made, and at most one change
+abbrev pub MayAddChange : {A Q M : Type 0} {kind : SessionKind A Q M} → HubOf kind → HubOf kind → Type 0
+MayAddChange old new = (new.made ≡ old.made)
+    × ((totals new.history ≡ totals old.history) ⊎ (totals new.history ≡ record (totals old.history) { changes = (totals old.history).changes + 1 }))
+
+-- no session is made, and at most one moment
+abbrev pub MayAddMoment : {A Q M : Type 0} {kind : SessionKind A Q M} → HubOf kind → HubOf kind → Type 0
+MayAddMoment old new = (new.made ≡ old.made)
+    × ((totals new.history ≡ totals old.history) ⊎ (totals new.history ≡ record (totals old.history) { moments = (totals old.history).moments + 1 }))
+
+abbrev pub octets_of : Given → ℕ
+octets_of (Bytes count) = count
+octets_of _ = 0

@@ -1,0 +1,193 @@
+//! Sessions with their numbers.
+
+ghost use Rattle.std.specs.Prelude.{◌≡◌, ◌==◌, ◌++◌, ◌∷◌, [], false, None, Some, filter, length, not, position, IfOk, MatchOption, OnOk, OnErr};
+ghost use Rattle.std.specs.Borrow.{sem};
+ghost use Rattle.std.specs.List.{list_any};
+ghost use Rattle.pushsession.specs.Sessions.{noted, timed};
+ghost use Rattle.pushsession.specs.Kept.{keeping, taken_back};
+ghost use Rattle.pushserver.specs.Hubs.{all_sessions, session_in, without_session};
+ghost use Rattle.pushserver.specs.Lending.{LendsSession};
+ghost use Rattle.pushserver.specs.Seats.{AreApart, WaitBefore};
+
+use pushsession::{NoMemory, PushSession};
+use rrset::{Changed, Table};
+use std::alloc::Global;
+use std::marker::Model;
+
+/// The most sessions at a time; this project's own.
+pub const MAX_SESSIONS: usize = 64;
+
+/// Sessions with their numbers, in the order in which they were connected. No two have one number.
+#[derive(Debug, Drop)]
+pub(crate) struct Sessions {
+    seats: Vec<(u64, PushSession)>,
+}
+
+impl Model for Sessions {
+    ghost use Rattle.pushsession.specs.Kept.{KeptSession};
+    ghost use Rattle.pushserver.specs.Hubs.{Numbered};
+    ghost use Rattle.pushserver.specs.Seats.{AreApart};
+
+    ghost Value = { Numbered KeptSession };
+
+    ghost view = { λ s. s.seats.items };
+
+    ghost invariant = { λ s. AreApart s.seats.items };
+}
+
+/// Where the session of a number stands.
+fn place_of(seats: &[(u64, PushSession)], number: u64) -> Option<usize>
+    ensures { result ≡ position (λ e. e.0 == number) seats.now }
+{
+    seats.iter().position(|entry| entry.0 == number)
+}
+
+/// Each session notes what an entry is about to change, as far as there is memory.
+fn note_all(
+    seats: &mut [(u64, PushSession)],
+    changed: &[Changed],
+    index: &Table,
+    point: u64,
+) -> Result<(), NoMemory>
+    ensures ok { OnOk result (seats.new ≡ all_sessions (noted keeping changed.now index.now.rows point) seats.old) }
+    ensures err { OnErr result (all_sessions (taken_back point) seats.new ≡ all_sessions (taken_back point) seats.old) }
+{
+    'seats: for place in 0..seats.len() {
+        seats[place].1.note(changed, index, point)?;
+    }
+    Ok(())
+}
+
+/// Takes out the names that wait since a point or a later one.
+fn take_back_all(seats: &mut [(u64, PushSession)], point: u64)
+    ensures { seats.new ≡ all_sessions (taken_back point) seats.old }
+{
+    'seats: for place in 0..seats.len() {
+        seats[place].1.take_back(point);
+    }
+}
+
+/// Each session notes what an entry is about to change at a point, or none does.
+fn note_or_none(
+    seats: &mut [(u64, PushSession)],
+    changed: &[Changed],
+    index: &Table,
+    point: u64,
+) -> Result<(), NoMemory>
+    requires { WaitBefore point seats.old }
+    ensures ok { OnOk result (seats.new ≡ all_sessions (noted keeping changed.now index.now.rows point) seats.old) }
+    ensures err { OnErr result (seats.new ≡ seats.old) }
+{
+    match note_all(seats, changed, index, point) {
+        Ok(()) => Ok(()),
+        Err(_) => {
+            take_back_all(seats, point);
+            Err(NoMemory)
+        }
+    }
+}
+
+/// It is a moment for each session, in milliseconds.
+fn time_all(seats: &mut [(u64, PushSession)], at: u64)
+    ensures { seats.new ≡ all_sessions (timed keeping at) seats.old }
+{
+    'seats: for place in 0..seats.len() {
+        seats[place].1.moment(at);
+    }
+}
+
+/// The sessions without that of a number.
+fn without(seats: &mut Vec<(u64, PushSession)>, number: u64)
+    ensures { seats.new.items ≡ filter (λ e. not (e.0 == number)) seats.old.items }
+{
+    seats.retain(|entry| entry.0 != number);
+}
+
+impl Sessions {
+    /// No sessions.
+    pub(crate) fn new(alloc: Global) -> Sessions
+        ensures { result ≡ [] }
+    {
+        Sessions {
+            seats: Vec::new(alloc),
+        }
+    }
+
+    /// The allocator of all that is kept.
+    pub(crate) fn allocator(&self) -> Global {
+        *self.seats.allocator()
+    }
+
+    /// How many there are.
+    pub(crate) fn len(&self) -> usize
+        ensures { result ≡ length self.now }
+    {
+        self.seats.len()
+    }
+
+    /// The session of a number.
+    pub(crate) fn get(&self, number: u64) -> Option<&PushSession>
+        ensures { MatchOption result (session_in number self.now ≡ None) (λ session. session_in number self.now ≡ Some session.now) }
+    {
+        match place_of(&self.seats, number) {
+            Some(place) => Some(&self.seats[place].1),
+            None => None,
+        }
+    }
+
+    /// The session of a number, which may change: what it becomes stands in its place.
+    pub(crate) fn get_mut(&mut self, number: u64) -> Option<&mut PushSession>
+        ensures* lends { sem 𝓛 (LendsSession self.entry number result) }
+        ensures value { MatchOption result (session_in number self.old ≡ None) (λ session. session_in number self.old ≡ Some session.now) }
+        ensures apart { AreApart self.old }
+    {
+        match place_of(&self.seats, number) {
+            Some(place) => Some(&mut self.seats[place].1),
+            None => None,
+        }
+    }
+
+    /// One more session, with a number that none has.
+    pub(crate) fn push(&mut self, number: u64, session: PushSession) -> Result<(), NoMemory>
+        requires { list_any (λ e. e.0 == number) self.old ≡ false }
+        ensures ok { OnOk result (self.new ≡ self.old ++ (number, session) ∷ []) }
+        ensures err { OnErr result (self.new ≡ self.old) }
+    {
+        Ok(self.seats.push((number, session))?)
+    }
+
+    /// The session of a number goes.
+    pub(crate) fn remove(&mut self, number: u64)
+        ensures { self.new ≡ without_session number self.old }
+    {
+        without(&mut self.seats, number);
+    }
+
+    /// Each session notes what an entry is about to change at a point, or none does (RFC 8765, 6.3).
+    pub(crate) fn note(
+        &mut self,
+        changed: &[Changed],
+        index: &Table,
+        point: u64,
+    ) -> Result<(), NoMemory>
+        requires { WaitBefore point self.old }
+        ensures ok { OnOk result (self.new ≡ all_sessions (noted keeping changed.now index.now.rows point) self.old) }
+        ensures err { OnErr result (self.new ≡ self.old) }
+    {
+        note_or_none(&mut self.seats, changed, index, point)
+    }
+
+    /// Takes out the names that wait since a point or a later one, where the entry at the point wasn't made.
+    pub(crate) fn take_back(&mut self, point: u64)
+        ensures { self.new ≡ all_sessions (taken_back point) self.old }
+    {
+        take_back_all(&mut self.seats, point);
+    }
+
+    /// It is a moment for each session, in milliseconds (RFC 8490, 6.4 to 6.6).
+    pub(crate) fn moment(&mut self, at: u64)
+        ensures { self.new ≡ all_sessions (timed keeping at) self.old }
+    {
+        time_all(&mut self.seats, at);
+    }
+}

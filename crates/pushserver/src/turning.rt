@@ -1,0 +1,154 @@
+//! What one call of `give` does for a session (RFC 8490, 5; RFC 8765, 6).
+
+ghost use Rattle.std.specs.Prelude.{◌≡◌, ◌++◌, [], ℕ, drop, if◌then◌else◌, length, min, take, IfOk, OnErr};
+ghost use Rattle.push_base.specs.Cases.{is_empty};
+ghost use Rattle.coalesce.specs.Waiting.{CanBePacked};
+ghost use Rattle.pushsession.specs.Sessions.{copied, ended_with, stopped};
+ghost use Rattle.pushsession.specs.Kept.{keeping};
+ghost use Rattle.dsosession.specs.declared.session.EndReason.TheVariants as ends;
+ghost use Rattle.pushserver.specs.Giving.{given_after, has_home};
+ghost use Rattle.pushserver.specs.KeptHubs.{IsSeated, Turns, WantsMemoryFor};
+ghost use Rattle.pushserver.specs.Rows.{AreTold};
+ghost use Rattle.pushserver.specs.Rule.{KeptHub};
+ghost use Rattle.pushserver.specs.declared.given.Given.TheVariants.{Bytes};
+ghost use Rattle.pushsession.specs.declared.standing.Standing.TheVariants.{Live};
+
+use crate::given::Given;
+use crate::reading::read_message;
+use dnswire::Update;
+use dsosession::session::{EndReason, Timers};
+use history::Points;
+use pushsession::{NoMemory, PushSession, Request, Standing};
+use rrset::{Question, Table};
+use std::alloc::Global;
+
+/// What a session's turn came to.
+#[derive(Debug, Drop)]
+pub(crate) enum Turn {
+    /// This was done.
+    Did(Given),
+    /// Nothing yet: its first message is to be judged as an update (RFC 2136, 3). None where it can't be read as one.
+    Judge(Option<Update>),
+}
+
+/// Hands on the front of a session's output that fits; where there is none, `otherwise` was done.
+pub(crate) fn hand_on(session: &mut PushSession, buf: &mut [u8], otherwise: Given) -> Given
+    ensures given { result ≡ (if is_empty session.old.output then otherwise else Bytes (min (length buf.old) (length session.old.output))) }
+    ensures octets { buf.new ≡ take (length buf.old) session.old.output ++ drop (length session.old.output) buf.old }
+    ensures session { session.new ≡ copied (length buf.old) session.old }
+{
+    let has_output = session.has_output();
+    let count = session.copy(buf);
+    if has_output {
+        Given::Bytes(count)
+    } else {
+        otherwise
+    }
+}
+
+/// What was done where a session reacted without octets.
+fn given_after(standing: Standing) -> Given
+    ensures { result ≡ given_after standing }
+{
+    match standing {
+        Standing::Ended(reason) => Given::End(reason),
+        Standing::Live | Standing::AskedToStop(_, _) | Standing::Stopped(_) => Given::Worked,
+    }
+}
+
+/// The octets that a reaction wrote, or else what it did.
+pub(crate) fn after_reaction(session: &mut PushSession, buf: &mut [u8]) -> Given
+    ensures given { result ≡ (if is_empty session.old.output then given_after session.old.standing else Bytes (min (length buf.old) (length session.old.output))) }
+    ensures octets { buf.new ≡ take (length buf.old) session.old.output ++ drop (length session.old.output) buf.old }
+    ensures session { session.new ≡ copied (length buf.old) session.old }
+{
+    let otherwise = given_after(session.standing());
+    hand_on(session, buf, otherwise)
+}
+
+/// A session that was asked to stop writes its Retry Delay, or ends where it isn't established (RFC 8490, 6.6.1).
+fn stop(session: &mut PushSession, rcode: u8, delay: u32, now: u64)
+    requires { session.old.output ≡ [] }
+    ensures { session.new ≡ (if session.old.established then stopped keeping rcode delay now session.old else ended_with keeping ends.Stopped session.old) }
+{
+    if session.established() {
+        session.write_stop(rcode, delay, now);
+    } else {
+        session.end(EndReason::Stopped);
+    }
+}
+
+/// Whether the name of a question has a home.
+fn has_home(points: &Points, question: &Option<Question>) -> bool
+    ensures { (kept : KeptHub) → record { start = kept.start; history = kept.history } ≡ points.now.past → result ≡ has_home kept question.now }
+{
+    match question {
+        Some(question) => points.homes().home(&question.name).is_some(),
+        None => false,
+    }
+}
+
+/// A session without output that goes on: it reacts to a whole message, or packs a PUSH (RFC 8765, 6.3). Where memory
+/// runs out nothing changes.
+fn work(
+    session: &mut PushSession,
+    alloc: Global,
+    points: &Points,
+    index: &Table,
+    timers: Timers,
+    buf: &mut [u8],
+) -> Result<Turn, NoMemory>
+    requires live { session.old.standing ≡ Live }
+    requires silent { session.old.output ≡ [] }
+    requires told { AreTold index.now.rows }
+    requires packable { CanBePacked index.now.rows session.old.queue }
+    ensures ok { IfOk result (λ turn. (kept : KeptHub) (number : ℕ) → IsSeated kept number session.old points.now.past timers index.now.rows → Turns kept number turn buf.old buf.new session.old session.new) }
+    ensures err { OnErr result (session.new ≡ session.old) }
+    ensures memory { OnErr result (WantsMemoryFor session.old) }
+{
+    let now = points.now();
+    let Some(request) = session.request(alloc)? else {
+        session.pack(index, now);
+        return Ok(Turn::Did(hand_on(session, buf, Given::Nothing)));
+    };
+    match request {
+        Request::Update => return Ok(Turn::Judge(read_message(alloc, session.message())?)),
+        Request::Itself => session.react(timers, now),
+        Request::Reconfirm(rr) => session.reconfirm(rr, now),
+        Request::Subscribe(question) => {
+            let has_home = has_home(points, &question);
+            session.subscribe(question, has_home, index, now)?;
+        }
+    }
+    Ok(Turn::Did(after_reaction(session, buf)))
+}
+
+/// One piece of work for a session, in its order: octets of its output that wait, its stop, the reaction to one whole
+/// message, or a PUSH of what has changed. Where memory runs out nothing changes.
+pub(crate) fn take_turn(
+    session: &mut PushSession,
+    alloc: Global,
+    points: &Points,
+    index: &Table,
+    timers: Timers,
+    buf: &mut [u8],
+) -> Result<Turn, NoMemory>
+    requires told { AreTold index.now.rows }
+    requires packable { CanBePacked index.now.rows session.old.queue }
+    ensures ok { IfOk result (λ turn. (kept : KeptHub) (number : ℕ) → IsSeated kept number session.old points.now.past timers index.now.rows → Turns kept number turn buf.old buf.new session.old session.new) }
+    ensures err { OnErr result (session.new ≡ session.old) }
+    ensures memory { OnErr result (WantsMemoryFor session.old) }
+{
+    if session.has_output() {
+        return Ok(Turn::Did(Given::Bytes(session.copy(buf))));
+    }
+    match session.standing() {
+        Standing::Ended(reason) => Ok(Turn::Did(Given::End(reason))),
+        Standing::Stopped(_) => Ok(Turn::Did(Given::Ending)),
+        Standing::AskedToStop(rcode, delay) => {
+            stop(session, rcode, delay, points.now());
+            Ok(Turn::Did(after_reaction(session, buf)))
+        }
+        Standing::Live => work(session, alloc, points, index, timers, buf),
+    }
+}

@@ -1,0 +1,54 @@
+-- How a session reacts to a message for which it needs nothing of the server (RFC 8490, 5; RFC 8765, 6).
+--     heard      a message restarts the timers
+--     granted, unsubscribed      a Keepalive is granted; an ID goes with its question
+--     by_itself      what a reaction does
+--     ends_short, ends_reconfirm, answers_update      a message without a whole header; a RECONFIRM of no record; an update that was judged
+use Rattle.std.specs.Prelude.{ℕ, true, false, List}
+use Rattle.std.specs.Int.{w16, from_be_bytes}
+use Rattle.rrset.specs.Header.{id_of}
+use Rattle.dsotlv.specs.Messages.{primary_data}
+use Rattle.dsotlv.specs.Answers.{answer_to, answer_to_update, grant_to, not_implemented}
+use Rattle.dsotlv.specs.TlvKinds.{reconfirm_tlv}
+use Rattle.dsotlv.specs.declared.message.DsoHead.{DsoHead}
+use Rattle.dsosession.specs.Reactions.{is_keepalive}
+use Rattle.dsosession.specs.Timing.{server_spoke}
+use Rattle.dsosession.specs.declared.session.EndReason.TheVariants as ends
+use Rattle.dsosession.specs.declared.session.Timers.{Timers}
+use Rattle.dsosession.specs.declared.session.Reaction.{Reaction}
+use Rattle.dsosession.specs.declared.session.Reaction.TheVariants.{Answer, Grant, Abort, Subscribe, Unsubscribe, Reconfirm, Update, NotImplemented}
+use Rattle.pushsession.specs.Sessions.{SessionOf, Keeps, answers, ended_with}
+
+-- a message with a whole header restarts the timers (RFC 8490, 6.3)
+abbrev pub heard : {A Q M : Type 0} → DsoHead → ℕ → SessionOf A Q M → SessionOf A Q M
+heard head now session = record session { clocks = server_spoke (is_keepalive head) now session.clocks }
+
+-- the answer establishes the session, and the server's numbers hold from it on (RFC 8490, 5.1 and 7.1)
+abbrev pub granted : {A Q M : Type 0} → Timers → SessionOf A Q M → SessionOf A Q M
+granted timers session = record session { established = true; clocks = record session.clocks { timers = timers } }
+
+-- an ID goes with its question; an unknown ID is ignored (RFC 8765, 6.4)
+abbrev pub unsubscribed : {A Q M : Type 0} → Keeps A Q M → ℕ → SessionOf A Q M → SessionOf A Q M
+unsubscribed keeps id session = record session { subscriptions = keeps.without_id id session.subscriptions }
+
+-- a SUBSCRIBE, a RECONFIRM and an update need the server, and change nothing by themselves
+abbrev pub by_itself : {A Q M : Type 0} → Keeps A Q M → Reaction → Timers → ℕ → List ℕ → SessionOf A Q M → SessionOf A Q M
+by_itself keeps (Answer rcode) timers now message session = answers keeps false now (answer_to (id_of message) rcode) session
+by_itself keeps Grant timers now message session = granted timers (answers keeps true now (grant_to (id_of message) timers.inactivity timers.keepalive) session)
+by_itself keeps (Abort reason) timers now message session = ended_with keeps reason session
+by_itself keeps Unsubscribe timers now message session = unsubscribed keeps (from_be_bytes w16 (primary_data message)) session
+by_itself keeps NotImplemented timers now message session = answers keeps false now (not_implemented message) session
+by_itself keeps Subscribe timers now message session = session
+by_itself keeps Reconfirm timers now message session = session
+by_itself keeps Update timers now message session = session
+
+-- a message without a whole header ends the session (RFC 8490, 5.4)
+abbrev pub ends_short : {A Q M : Type 0} → Keeps A Q M → SessionOf A Q M → SessionOf A Q M
+ends_short keeps session = ended_with keeps ends.Short session
+
+-- a RECONFIRM whose data is no record does (RFC 8765, 6.5)
+abbrev pub ends_reconfirm : {A Q M : Type 0} → Keeps A Q M → SessionOf A Q M → SessionOf A Q M
+ends_reconfirm keeps session = ended_with keeps (ends.BadData reconfirm_tlv) session
+
+-- the answer to an update has its ID, and the RCODE that it got (RFC 2136, 3.8)
+abbrev pub answers_update : {A Q M : Type 0} → Keeps A Q M → ℕ → List ℕ → ℕ → SessionOf A Q M → SessionOf A Q M
+answers_update keeps now message rcode session = answers keeps false now (answer_to_update (id_of message) rcode) session

@@ -1,0 +1,142 @@
+-- One session of the server (RFC 8490, 6; RFC 8765, 6): the rules that hold whatever it keeps of its questions, of the names that
+-- wait to be told, and of what it wrote. The plain session and the session as it is kept both have them.
+--     SessionOf      a session
+--     Keeps      what the rules ask of what a session keeps
+--     new_session, room_of, takes, copied      connected; octets come in; octets of the output are handed on
+--     asked_to_stop, due, timed, ended_with      how a session comes to its end
+--     touched, noted      an entry changes keys, and their names wait
+--     says, answers, stopped      a message is written; with the names that wait then; the Retry Delay
+use Rattle.std.specs.Prelude.{ℕ, ◌-◌, Bool, true, false, cond, List, [], ◌++◌, map, length, take, drop, filter, fold, Option, Some, None, if◌then◌else◌}
+use Rattle.push_base.specs.Limits.{max_input}
+use Rattle.dnsname.specs.Names.{Labels}
+use Rattle.rrset.specs.RecordSet.{RecordSet}
+use Rattle.rrset.specs.declared.record.Key.{Key}
+use Rattle.rrset.specs.declared.record.Question.{Question}
+use Rattle.rrset.specs.declared.record.Changed.{Changed}
+use Rattle.dsotlv.specs.Messages.{frame}
+use Rattle.dsotlv.specs.Answers.{stop_message}
+use Rattle.dsosession.specs.Timing.{Clocks, server_start, server_spoke, server_ends, has_passed, stop_time}
+use Rattle.dsosession.specs.declared.session.EndReason.{EndReason}
+use Rattle.dsosession.specs.declared.session.EndReason.TheVariants as ends
+use Rattle.pushsession.specs.declared.standing.Standing.{Standing}
+use Rattle.pushsession.specs.declared.standing.Standing.TheVariants.{Live, AskedToStop, Stopped, Ended}
+
+-- its questions, the names that wait, its timers, whether it is established (RFC 8490, 5.1) and goes on, the octets that came and
+-- those that wait to go, and the messages that it made
+pub record SessionOf (Asked Queue Messages : Type 0) : Type 0 where
+  pub subscriptions : Asked
+  pub queue : Queue
+  pub clocks : Clocks
+  pub established : Bool
+  pub standing : Standing
+  pub input : List ℕ
+  pub output : List ℕ
+  pub made : Messages
+
+pub record Keeps (Asked Queue Messages : Type 0) : Type 0 where
+  -- no questions; how many; whether an ID is in use; the ID of a question; whether one asks for a key
+  pub no_questions : Asked
+  pub count : Asked → ℕ
+  pub has_id : ℕ → Asked → Bool
+  pub id_of : Question → Asked → Option ℕ
+  pub wants : Asked → Key → Bool
+  -- one more question with its ID, whose first answer ends behind so many octets of the output; without that of an ID
+  pub with_question : ℕ → Question → ℕ → Asked → Asked
+  pub without_id : ℕ → Asked → Asked
+  -- no names; a name waits since a point, when these were the records; a name waits no longer
+  pub no_names : Queue
+  pub with_name : ℕ → RecordSet → Queue → Labels → Queue
+  pub without_name : Labels → Queue → Queue
+  -- no messages; one more, made while these names waited and these questions were asked; the octets of all, and so many more
+  pub no_messages : Messages
+  pub with_message : List ℕ → Queue → Asked → Messages → Messages
+  pub end_behind : ℕ → Messages → ℕ
+
+-- ---- it is connected; octets come and go
+
+abbrev pub new_session : {A Q M : Type 0} → Keeps A Q M → ℕ → SessionOf A Q M
+new_session keeps now = record {
+  subscriptions = keeps.no_questions;
+  queue = keeps.no_names;
+  clocks = server_start now;
+  established = false;
+  standing = Live;
+  input = [];
+  output = [];
+  made = keeps.no_messages;
+}
+
+-- an ended or stopped session takes nothing more
+abbrev pub is_open : Standing → Bool
+is_open Live = true
+is_open (AskedToStop rcode delay) = true
+is_open (Stopped since) = false
+is_open (Ended reason) = false
+
+-- how many octets of a piece go into its input
+abbrev pub room_of : {A Q M : Type 0} → SessionOf A Q M → ℕ
+room_of session = cond (is_open session.standing) (max_input - length session.input) 0
+
+abbrev pub takes : {A Q M : Type 0} → List ℕ → SessionOf A Q M → SessionOf A Q M
+takes piece session = record session { input = session.input ++ take (room_of session) piece }
+
+-- the front of the output that fits is handed on
+abbrev pub copied : {A Q M : Type 0} → ℕ → SessionOf A Q M → SessionOf A Q M
+copied room session = record session { output = drop room session.output }
+
+-- ---- its end
+
+-- a stop is asked for in place of an earlier one; an ended or stopped session is left as it is (RFC 8490, 6.6.1)
+abbrev pub asked_to_stop : {A Q M : Type 0} → ℕ → ℕ → SessionOf A Q M → SessionOf A Q M
+asked_to_stop rcode delay session = cond (is_open session.standing) (record session { standing = AskedToStop rcode delay }) session
+
+-- it asks for nothing more, and no name waits
+abbrev pub cleared : {A Q M : Type 0} → Keeps A Q M → Standing → SessionOf A Q M → SessionOf A Q M
+cleared keeps standing session = record session { subscriptions = keeps.no_questions; queue = keeps.no_names; standing = standing }
+
+abbrev pub ended_with : {A Q M : Type 0} → Keeps A Q M → EndReason → SessionOf A Q M → SessionOf A Q M
+ended_with keeps reason session = cleared keeps (Ended reason) session
+
+abbrev pub ended_where : {A Q M : Type 0} → Keeps A Q M → Option EndReason → SessionOf A Q M → SessionOf A Q M
+ended_where keeps None session = session
+ended_where keeps (Some reason) session = ended_with keeps reason session
+
+-- why a session with so many questions ends at a moment: a stopped one after 5,000 milliseconds (RFC 8490, 6.6.1), and one that goes on by its timers (RFC 8490, 6.4 and 6.5)
+abbrev pub due_as : Standing → Clocks → ℕ → ℕ → Option EndReason
+due_as (Ended reason) clocks questions t = None
+due_as (Stopped since) clocks questions t = if has_passed stop_time since t then Some ends.Stopped else None
+due_as _ clocks questions t = server_ends clocks t questions
+
+abbrev pub due : {A Q M : Type 0} → Keeps A Q M → ℕ → SessionOf A Q M → Option EndReason
+due keeps t session = due_as session.standing session.clocks (keeps.count session.subscriptions) t
+
+abbrev pub timed : {A Q M : Type 0} → Keeps A Q M → ℕ → SessionOf A Q M → SessionOf A Q M
+timed keeps t session = ended_where keeps (due keeps t session) session
+
+-- ---- names wait
+
+-- the names at which a key that a question asks for is shown otherwise
+abbrev pub touched : {A Q M : Type 0} → Keeps A Q M → A → List Changed → List Labels
+touched keeps subscriptions changed = map (λ c. c.key.owner) (filter (λ c. keeps.wants subscriptions c.key) changed)
+
+-- an entry at a point, before which these were the records, changes these keys: each name that it touches waits
+abbrev pub noted : {A Q M : Type 0} → Keeps A Q M → List Changed → RecordSet → ℕ → SessionOf A Q M → SessionOf A Q M
+noted keeps changed rows point session = record session { queue = fold (keeps.with_name point rows) session.queue (touched keeps session.subscriptions changed) }
+
+-- ---- messages are written
+
+-- a message behind its length goes behind the output, and restarts the timers (RFC 7766, 8; RFC 8490, 6.3); it is made while these names wait
+abbrev pub says : {A Q M : Type 0} → Keeps A Q M → Bool → ℕ → List ℕ → Q → SessionOf A Q M → SessionOf A Q M
+says keeps is_keepalive now message waiting session = record session {
+  output = session.output ++ frame message;
+  made = keeps.with_message message waiting session.subscriptions session.made;
+  clocks = server_spoke is_keepalive now session.clocks;
+}
+
+-- a message made while the names wait that do so now
+abbrev pub answers : {A Q M : Type 0} → Keeps A Q M → Bool → ℕ → List ℕ → SessionOf A Q M → SessionOf A Q M
+answers keeps is_keepalive now message session = says keeps is_keepalive now message session.queue session
+
+-- the Retry Delay is written (RFC 8490, 6.6.1)
+abbrev pub stopped : {A Q M : Type 0} → Keeps A Q M → ℕ → ℕ → ℕ → SessionOf A Q M → SessionOf A Q M
+stopped keeps rcode delay now session = cleared keeps (Stopped now) (answers keeps false now (stop_message rcode delay) session)

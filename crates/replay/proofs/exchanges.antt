@@ -1,0 +1,5 @@
+-- Octets to a session and back, call by call.
+pub mod Walks
+pub mod Emitting
+pub mod Taking
+pub mod Rounds

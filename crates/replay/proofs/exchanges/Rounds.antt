@@ -1,0 +1,119 @@
+-- An exchange, round by round.
+use Rattle.std.proofs.Common.{◌≡◌, ℕ, suc, ◌≤◌, ◌==◌, ◌||◌, Bool, true, false, List, [], ◌++◌, length, take, drop, min, Option, Some, None, sym, ◌∙◌, ap, subst, refl, arith, eq-eqb, ne_eqb, ◌<◌}
+use Rattle.std.specs.Prelude.{nat_le}
+use Rattle.std.proofs.lemmas.Bool.{leb-true, leb-false}
+use Rattle.pushserver.specs.Sessions.{Session, Hub}
+use Rattle.dsosession.specs.declared.session.EndReason.{EndReason}
+use Rattle.pushsession.specs.Sessions.{room_of}
+use Rattle.pushserver.specs.Hubs.{session_of, taken_by, take_octets}
+use Rattle.pushserver.specs.Rule.{KeptHub, StandsFor}
+use Rattle.replay.specs.PassedOctets.{Emitted, Exchanged, emitted, exchanged, nothing_emitted, enough}
+use Rattle.replay.specs.KeptExchanges.{Emits, IsEmitted, IsExchanged, Exchanges}
+use Rattle.replay.proofs.exchanges.Taking.{take-front}
+
+-- rounds so far lead to the whole
+pub record IsRound (whole : Exchanged) (number turns : ℕ) (kept : KeptHub) (rest : List ℕ) (answer : List ℕ) : Type 0 where
+  pub hub : Hub
+  pub stands : StandsFor kept hub
+  pub same : whole ≡ exchanged turns number rest hub answer
+
+unfoldable pub Rounds : KeptHub → ℕ → List ℕ → ℕ → KeptHub → List ℕ → List ℕ → Type 0
+Rounds start number sent turns kept rest answer = (hub : Hub) → StandsFor start hub → IsRound (exchanged enough number sent hub []) number turns kept rest answer
+
+pub rounds-begin : (start : KeptHub) (number : ℕ) (sent : List ℕ) → Rounds start number sent enough start sent []
+unfolding Rounds
+rounds-begin start number sent hub stands = record { hub = hub; stands = stands; same = refl }
+
+abbrev pub Takes : KeptHub → ℕ → List ℕ → ℕ → KeptHub → Type 0
+Takes kept number piece count later = (hub : Hub) → StandsFor kept hub → (count ≡ taken_by hub number piece) × StandsFor later (take_octets hub number piece)
+
+module _ (whole : Exchanged) (number left count : ℕ) (rest : List ℕ) (kept between later : KeptHub) (answer now : List ℕ) (over : Option EndReason)
+    (r : IsRound whole number (suc left) kept rest answer) (takes : Takes kept number rest count between) (made : (hub : Hub) → StandsFor between hub → IsEmitted (emitted enough number enough (nothing_emitted hub [])) answer later now over) where
+  abbrev taken : (count ≡ taken_by r.hub number rest) × StandsFor between (take_octets r.hub number rest)
+  taken = takes r.hub r.stands
+
+  abbrev fed : ℕ → Emitted
+  fed k = emitted enough number enough (nothing_emitted (take_octets r.hub number (take k rest)) [])
+
+  given : IsEmitted (fed count) answer later now over
+  given = subst (λ (h : Hub). IsEmitted (emitted enough number enough (nothing_emitted h [])) answer later now over)
+      (sym (take-front kept r.hub number rest r.stands) ∙ ap (λ k. take_octets r.hub number (take k rest)) (sym taken.0))
+      (made (take_octets r.hub number rest) taken.1)
+
+  abbrev after : ℕ → Bool → Exchanged
+  after k b = elim b as (λ _. Exchanged) [
+    | true ↦ record { hub = (fed k).hub; octets = answer ++ (fed k).octets; over = (fed k).over }
+    | false ↦ exchanged left number (drop k rest) (fed k).hub (answer ++ (fed k).octets)
+  ]
+
+  rounded : (b : Bool) → (count == 0 || count == length rest) ≡ b → whole ≡ after count b
+  rounded b e = r.same ∙ ap (λ k. after k (k == 0 || k == length rest)) (sym taken.0) ∙ ap (after count) e
+
+  within : count ≤ length rest
+  within = subst (λ n. n ≤ length rest) (sym taken.0) (fits (session_of r.hub number))
+    where
+      least : (m n : ℕ) → min m n ≤ m
+      least m n = omega arith
+
+      fits : (o : Option Session) → (elim o as (λ _. ℕ) [ None ↦ 0 | Some session ↦ min (length rest) (room_of session) ]) ≤ length rest
+      fits None = omega arith
+      fits (Some session) = least (length rest) (room_of session)
+
+  -- all that had room went in
+  same_test : (b : Bool) → nat_le (length rest) count ≡ b → (count == length rest) ≡ b
+  same_test true e = subst (λ (n : ℕ). (n == length rest) ≡ true) (both count (length rest) within (leb-true (length rest) count e)) (eq-eqb (length rest) (length rest) refl)
+    where
+      both : (m n : ℕ) → m ≤ n → n ≤ m → n ≡ m
+      both m n h i = omega arith
+  same_test false e = ne_eqb count (length rest) (apart count (length rest) (leb-false (length rest) count e))
+    where
+      apart : (m n : ℕ) → m < n → m ≡ n → ⊥
+      apart m n h e = omega arith
+
+  tested : (b : Bool) → (count == 0 || nat_le (length rest) count) ≡ b → (count == 0 || count == length rest) ≡ b
+  tested b e = ap (λ t. count == 0 || t) (same_test (nat_le (length rest) count) refl) ∙ e
+
+  pub round-last : (count == 0 || nat_le (length rest) count) ≡ true → IsExchanged whole later now over
+  round-last e =
+      let is = sym (rounded true (tested true e)) in
+      record {
+        end_told = given.end_told ∙ ap (λ (x : Exchanged). x.over) is;
+        written = given.written ∙ ap (λ (x : Exchanged). x.octets) is;
+        stands = subst (λ (x : Exchanged). StandsFor later x.hub) is given.stands;
+      }
+
+  pub round-more : (count == 0 || nat_le (length rest) count) ≡ false → IsRound whole number left later (drop count rest) now
+  round-more e = record {
+    hub = (fed count).hub;
+    stands = given.stands;
+    same = rounded false (tested false e) ∙ ap (exchanged left number (drop count rest) (fed count).hub) (sym given.written);
+  }
+
+pub rounds-used_up : (whole : Exchanged) (number : ℕ) (kept : KeptHub) (rest answer : List ℕ) → IsRound whole number 0 kept rest answer → IsExchanged whole kept answer None
+rounds-used_up whole number kept rest answer r = record {
+  end_told = ap (λ (x : Exchanged). x.over) (sym r.same);
+  written = ap (λ (x : Exchanged). x.octets) (sym r.same);
+  stands = subst (λ (x : Exchanged). StandsFor kept x.hub) (sym r.same) r.stands;
+}
+
+-- ---- the same of all hubs that are stood for
+
+pub exchanges-last : (start kept between later : KeptHub) (number left count : ℕ) (sent rest answer now : List ℕ) (over : Option EndReason)
+    → Rounds start number sent (suc left) kept rest answer → Takes kept number rest count between → Emits between number answer later now over
+    → (count == 0 || nat_le (length rest) count) ≡ true → Exchanges start number sent later now over
+unfolding Rounds Emits Exchanges
+exchanges-last start kept between later number left count sent rest answer now over r takes made is hub stands =
+    round-last (exchanged enough number sent hub []) number left count rest kept between later answer now over (r hub stands) takes made is
+
+pub rounds-more : (start kept between later : KeptHub) (number left count : ℕ) (sent rest answer now : List ℕ) (over : Option EndReason)
+    → Rounds start number sent (suc left) kept rest answer → Takes kept number rest count between → Emits between number answer later now over
+    → (count == 0 || nat_le (length rest) count) ≡ false → Rounds start number sent left later (drop count rest) now
+unfolding Rounds Emits
+rounds-more start kept between later number left count sent rest answer now over r takes made is hub stands =
+    round-more (exchanged enough number sent hub []) number left count rest kept between later answer now over (r hub stands) takes made is
+
+pub exchanges-used_up : (start kept : KeptHub) (number left : ℕ) (sent rest answer : List ℕ) → left ≡ 0 → Rounds start number sent left kept rest answer → Exchanges start number sent kept answer None
+unfolding Rounds Exchanges
+exchanges-used_up start kept number left sent rest answer none r hub stands =
+    let whole = exchanged enough number sent hub [] in
+    rounds-used_up whole number kept rest answer (subst (λ (n : ℕ). IsRound whole number n kept rest answer) none (r hub stands))

@@ -1,0 +1,6 @@
+-- A peer that sends its octets in pieces, in lines of a script.
+pub mod OtherLines
+pub mod PieceLines
+pub mod SentPieces
+pub mod WorkedPieces
+pub mod Placing

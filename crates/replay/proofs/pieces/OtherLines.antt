@@ -1,0 +1,552 @@
+-- The lines of others leave a peer's session as it is, or make the history longer.
+--     IsApart world      the world has no clients, and its peers' sessions are apart and made before the next one
+--     apart-start, apart-lines, apart-placed      it is so of a script's start world, behind built lines, and with one peer more
+--     peer-stays, peer-stays-lines      a line of others leaves a peer the session that it has; so do several
+--     others-leave      they leave that session as it is, or the history has become longer
+use Rattle.std.proofs.Common.{◌≡◌, ◌⊎◌, inl, inr, ℕ, ◌+◌, ◌<◌, ◌≤◌, ◌==◌, Bool, true, false, cond, not, ◌&&◌, List, [], ◌∷◌, ◌++◌, filter, find, fold, length, Option, Some, None, option_map, codes, refl, sym, ◌∙◌, ap, subst, true≢false, arith}
+use Rattle.std.specs.Prelude.{nat_lt}
+use Rattle.std.specs.List.{AllByRecursion, list_all}
+use Rattle.std.specs.Option.{option_or}
+use Rattle.std.specs.Str.{bytes_eq}
+use Rattle.std.proofs.lemmas.List.Folds.{find-append}
+use Rattle.std.proofs.lemmas.Slice.Eq.{bytes_eq-Decides}
+use Rattle.push_base.specs.Limits.{max_number}
+use Rattle.dnsname.proofs.Decisions.{and_true}
+use Rattle.rrset.proofs.Places.{all_filter}
+use Rattle.dsotlv.proofs.Results.{same_found}
+use Rattle.dsosession.specs.declared.session.EndReason.{EndReason}
+use Rattle.history.specs.declared.entry.Entry.{Entry}
+use Rattle.history.specs.declared.entry.Entry.TheVariants as entries
+use Rattle.pushclient.specs.Clients.{closed_as}
+use Rattle.pushclient.specs.Steps as steps
+use Rattle.pushserver.specs.Sessions.{Session, Hub, Giving}
+use Rattle.pushserver.specs.Hubs as hubs
+use Rattle.pushserver.specs.Hubs.{now, keeps_now, session_of, in_session, entered, can_enter, connect, max_sessions, taken_by, take_octets, end_session}
+use Rattle.pushsession.specs.Sessions.{new_session, takes, asked_to_stop}
+use Rattle.pushserver.specs.Giving.{give}
+use Rattle.pushserver.specs.Calls.{updates, moves}
+use Rattle.pushserver.specs.Laws.{LeavesSession}
+use Rattle.pushserver.proofs.OtherSessions.{stays, in_session-stays, give_changes_one_session}
+use Rattle.pushserver.proofs.SessionLists.{other-number, found-left}
+use Rattle.pushserver.proofs.hub_steps.Cases.{enters_moment, moment_as}
+use Rattle.pushserver.proofs.Walks.{AnyMessage, IsKept, keeps-called, holds-update, with_new}
+use Rattle.replay.specs.Lines.{Word, ScriptLine, silent, timers, zone, at_moment, update, cut, send, stop, point}
+use Rattle.replay.specs.World.{Seat, World, start_world, seat_of, with_seat, number_in, session_number, hub_without, cut_connection, cut_peer}
+use Rattle.replay.specs.PassedOctets.{Exchanged, exchanged, enough}
+use Rattle.replay.specs.TextWords.{by_history}
+use Rattle.replay.specs.Text.{Printed, cut_where, close_lines, timed as clients_timed, exchanges, session_of_word, line_does, world_after}
+use Rattle.replay.specs.Pieces.{is_of_others, placed}
+use Rattle.replay.proofs.rest.AtRest.{At, Longer, StaysLonger}
+use Rattle.replay.proofs.worlds.BuiltWorlds.{IsBuiltLine}
+use Rattle.replay.proofs.worlds.Keeping.{any-parts, keeps-exchanged, exchanged-keeps}
+use Rattle.replay.proofs.rest.Turning.{grows}
+use Rattle.replay.proofs.worlds.Longer.{stays-longer, longer-lines}
+use Rattle.replay.proofs.serving.NewPeer.{by_connected, by_number}
+
+abbrev Peers : Type 0
+Peers = List (Word × ℕ)
+
+-- each number differs from all behind it
+abbrev pub ApartNumbers : List (Word × ℕ) → Type 0
+ApartNumbers [] = Unit {0}
+ApartNumbers (e ∷ es) = AllByRecursion (λ f. e.1 ≡ f.1 → ⊥) es × ApartNumbers es
+
+-- the world has no clients, and its peers' numbers are apart and below that of the next session
+pub record IsApart (world : World) : Type 0 where
+  pub seats : world.seats ≡ []
+  pub below : AllByRecursion (λ e. e.1 < world.hub.made) world.peers
+  pub apart : ApartNumbers world.peers
+
+-- ---- tests
+
+not_so : (b : Bool) → (b ≡ true → ⊥) → b ≡ false
+not_so true h = absurd (h refl)
+not_so false h = refl
+
+not_true : (b : Bool) → not b ≡ true → b ≡ false
+not_true true h = absurd (true≢false (sym h))
+not_true false h = refl
+
+-- one word is not two that differ
+one_word : (k v w : Word) → bytes_eq v w ≡ false → bytes_eq k v ≡ true → bytes_eq k w ≡ true → ⊥
+one_word k v w other first second = true≢false (sym ((bytes_eq-Decides v w).1 (sym ((bytes_eq-Decides k v).0 first) ∙ (bytes_eq-Decides k w).0 second)) ∙ other)
+
+-- what is sought is found among those that are kept
+module _ {K X : Type 0} (test keep : K → Bool) (keeps : (k : K) → test k ≡ true → keep k ≡ true) where
+  found-filter : (es : List (K × X)) → find (λ (e : K × X). test e.0) (filter (λ (e : K × X). keep e.0) es) ≡ find (λ (e : K × X). test e.0) es
+  found-filter [] = refl
+  found-filter (e ∷ es) = by (test e.0) refl (keep e.0) refl (found-filter es)
+    where
+      sought : List (K × X) → Option (K × X)
+      sought xs = find (λ (x : K × X). test x.0) xs
+
+      left : List (K × X)
+      left = filter (λ (x : K × X). keep x.0) es
+
+      by : (t : Bool) → test e.0 ≡ t → (k : Bool) → keep e.0 ≡ k → sought left ≡ sought es → sought (cond k (e ∷ left) left) ≡ cond t (Some e) (sought es)
+      by true is true kept h = ap (λ b. cond b (Some e) (sought left)) is
+      by true is false kept h = absurd (true≢false (sym (keeps e.0 is) ∙ kept))
+      by false is true kept h = ap (λ b. cond b (Some e) (sought left)) is ∙ h
+      by false is false kept h = h
+
+-- what is found stays so with more behind
+found-more : {X Y : Type 0} (p : X → Bool) (f : X → Y) (xs ys : List X) (y : Y) → option_map f (find p xs) ≡ Some y → option_map f (find p (xs ++ ys)) ≡ Some y
+found-more {X} {Y} p f xs ys y is = ap (option_map f) (find-append p xs ys) ∙ by (find p xs) is
+  where
+    by : (o : Option X) → option_map f o ≡ Some y → option_map f (option_or o (find p ys)) ≡ Some y
+    by (Some x) is = is
+    by None is = absurd cc
+
+-- ---- peers
+
+-- what holds of all numbers holds of a peer's
+number-all : (P : ℕ → Type 0) (w : Word) (peers : Peers) (n : ℕ) → AllByRecursion (λ e. P e.1) peers → number_in peers w ≡ Some n → P n
+number-all P w [] n all is = absurd cc
+number-all P w (e ∷ es) n all is = by (bytes_eq e.0 w) is (number-all P w es n all.1)
+  where
+    by : (b : Bool) → option_map (λ (x : Word × ℕ). x.1) (cond b (Some e) (find (λ (x : Word × ℕ). bytes_eq x.0 w) es)) ≡ Some n → (number_in es w ≡ Some n → P n) → P n
+    by true is rest = subst P (same_found e.1 n is) all.0
+    by false is rest = rest is
+
+-- two peers have two numbers
+numbers-apart : (v w : Word) (peers : Peers) (m n : ℕ) → bytes_eq v w ≡ false → ApartNumbers peers → number_in peers v ≡ Some m → number_in peers w ≡ Some n → m ≡ n → ⊥
+numbers-apart v w [] m n other apart first second same = absurd cc
+numbers-apart v w (e ∷ es) m n other apart first second same = by (bytes_eq e.0 v) refl (bytes_eq e.0 w) refl first second (λ f s. numbers-apart v w es m n other apart.1 f s same)
+  where
+    found : Bool → Word → Option ℕ
+    found b u = option_map (λ (x : Word × ℕ). x.1) (cond b (Some e) (find (λ (x : Word × ℕ). bytes_eq x.0 u) es))
+
+    by : (a : Bool) → bytes_eq e.0 v ≡ a → (b : Bool) → bytes_eq e.0 w ≡ b → found a v ≡ Some m → found b w ≡ Some n → (number_in es v ≡ Some m → number_in es w ≡ Some n → ⊥) → ⊥
+    by true is_v true is_w f s rest = one_word e.0 v w other is_v is_w
+    by true is_v false is_w f s rest = number-all (λ k. e.1 ≡ k → ⊥) w es n apart.0 s (same_found e.1 m f ∙ same)
+    by false is_v true is_w f s rest = number-all (λ k. e.1 ≡ k → ⊥) v es m apart.0 f (same_found e.1 n s ∙ sym same)
+    by false is_v false is_w f s rest = rest f s
+
+below-later : (m n : ℕ) (peers : Peers) → m ≤ n → AllByRecursion (λ e. e.1 < m) peers → AllByRecursion (λ e. e.1 < n) peers
+below-later m n [] le all = tt
+below-later m n (e ∷ es) le all = (later e.1 all.0, below-later m n es le all.1)
+  where
+    later : (k : ℕ) → k < m → k < n
+    later k l = omega (arith, l, le)
+
+below-append : (w : Word) (n : ℕ) (peers : Peers) → AllByRecursion (λ e. e.1 < n) peers → AllByRecursion (λ e. e.1 < n + 1) (peers ++ (w, n) ∷ [])
+below-append w n [] all = (omega arith, tt)
+below-append w n (e ∷ es) all = (later e.1 all.0, below-append w n es all.1)
+  where
+    later : (k : ℕ) → k < n → k < n + 1
+    later k l = omega (arith, l)
+
+apart-append : (w : Word) (n : ℕ) (peers : Peers) → AllByRecursion (λ e. e.1 < n) peers → ApartNumbers peers → ApartNumbers (peers ++ (w, n) ∷ [])
+apart-append w n [] all apart = (tt, tt)
+apart-append w n (e ∷ es) all apart = (one es apart.0, apart-append w n es all.1 apart.1)
+  where
+    less : (k : ℕ) → k < n → k ≡ n → ⊥
+    less k l same = omega (arith, l, same)
+
+    one : (xs : Peers) → AllByRecursion (λ f. e.1 ≡ f.1 → ⊥) xs → AllByRecursion (λ f. e.1 ≡ f.1 → ⊥) (xs ++ (w, n) ∷ [])
+    one [] h = (less e.1 all.0, tt)
+    one (x ∷ xs) h = (h.0, one xs h.1)
+
+apart-filter : (p : Word × ℕ → Bool) (peers : Peers) → ApartNumbers peers → ApartNumbers (filter p peers)
+apart-filter p [] apart = tt
+apart-filter p (e ∷ es) apart = by (p e) (apart-filter p es apart.1)
+  where
+    by : (b : Bool) → ApartNumbers (filter p es) → ApartNumbers (cond b (e ∷ filter p es) (filter p es))
+    by true rest = (all_filter (λ (f : Word × ℕ). e.1 ≡ f.1 → ⊥) p es apart.0, rest)
+    by false rest = rest
+
+-- ---- the number of the next session never falls
+
+-- it is at least so many
+abbrev MadeFrom : ℕ → Hub → Type 0
+MadeFrom n hub = n ≤ hub.made
+
+made-kept : (n : ℕ) → IsKept AnyMessage (MadeFrom n)
+made-kept n = record {
+  reads = λ hub number session found there is h. tt;
+  takes_up = λ hub number session found there is h. h;
+  changes = λ hub number f step h. h;
+  enters = λ hub entry by h. h;
+  times = λ hub point t h. h;
+  takes_in = λ hub number piece any h. h;
+  asks_stop = λ hub number rcode delay h. h;
+  makes = λ hub h. one_more hub.made h;
+  drops = λ hub number h. h;
+}
+  where
+    one_more : (m : ℕ) → n ≤ m → n ≤ m + 1
+    one_more m h = omega (arith, h)
+
+itself : (n : ℕ) → n ≤ n
+itself n = omega arith
+
+-- ---- a world that is apart
+
+apart-hub : (world : World) (hub : Hub) → world.hub.made ≤ hub.made → IsApart world → IsApart (record world { hub = hub })
+apart-hub world hub le a = record { seats = a.seats; below = below-later world.hub.made hub.made world.peers le a.below; apart = a.apart }
+
+made-without : (hub : Hub) (o : Option ℕ) → hub.made ≤ (hub_without o hub).made
+made-without hub None = itself hub.made
+made-without hub (Some number) = itself hub.made
+
+apart-cut : (w : Word) (world : World) → IsApart world → IsApart (cut_peer w world)
+apart-cut w world a = record {
+  seats = a.seats;
+  below = all_filter (λ (e : Word × ℕ). e.1 < (hub_without (session_number world w) world.hub).made) (λ (e : Word × ℕ). not (bytes_eq e.0 w)) world.peers
+      (below-later world.hub.made (hub_without (session_number world w) world.hub).made world.peers (made-without world.hub (session_number world w)) a.below);
+  apart = apart-filter (λ e. not (bytes_eq e.0 w)) world.peers a.apart;
+}
+
+-- the world with one peer more
+abbrev with_peer : Word → World → World
+with_peer w world = record world { hub = with_new world.hub; peers = world.peers ++ (w, world.hub.made) ∷ [] }
+
+apart-more : (w : Word) (world : World) → IsApart world → IsApart (with_peer w world)
+apart-more w world a = record { seats = a.seats; below = below-append w world.hub.made world.peers a.below; apart = apart-append w world.hub.made world.peers a.below a.apart }
+
+-- a call that may make a session: it is made, or it isn't
+abbrev made_or_not : Hub → Bool → Option ℕ × Hub
+made_or_not hub b = cond b (Some hub.made, with_new hub) (None, hub)
+
+abbrev has_room : Hub → Bool
+has_room hub = nat_lt (length hub.sessions) max_sessions && nat_lt hub.made max_number
+
+-- ---- what lines do in a world without clients
+
+module _ (world : World) where
+  abbrev by_seats : ℕ → List Seat → World
+  by_seats t seats = (let r = hubs.moment world.hub t in (fold (clients_timed (now r.1)) (record world { hub = r.1 }, cond r.0 (codes "full" ∷ []) []) seats).0)
+
+  moment-does : (t : ℕ) → world.seats ≡ [] → (line_does by_history (at_moment t) world).0 ≡ record world { hub = (hubs.moment world.hub t).1 }
+  moment-does t none = ap (by_seats t) none
+
+  abbrev cut_by : Word → List Seat → World
+  cut_by w seats = elim (find (λ (s : Seat). bytes_eq s.word w) seats) as (λ _. World) [ None ↦ cut_peer w world | Some seat ↦ cut_connection seat world ]
+
+  cut-does : (w : Word) → world.seats ≡ [] → (line_does by_history (cut w) world).0 ≡ cut_peer w world
+  cut-does w none = ap (cut_by w) none
+
+  abbrev stopped : ℕ → ℕ → Option ℕ → World
+  stopped rcode delay o = elim o as (λ _. World) [ None ↦ world | Some number ↦ record world { hub = hubs.stop world.hub number rcode delay } ]
+
+  abbrev stop_by : Word → ℕ → ℕ → List Seat → World
+  stop_by w rcode delay seats = stopped rcode delay (elim (find (λ (s : Seat). bytes_eq s.word w) seats) as (λ _. Option ℕ) [ Some seat ↦ seat.session | None ↦ session_number world w ])
+
+  stop-does : (w : Word) (rcode delay : ℕ) → world.seats ≡ [] → (line_does by_history (stop w rcode delay) world).0 ≡ stopped rcode delay (session_number world w)
+  stop-does w rcode delay none = ap (stop_by w rcode delay) none
+
+-- ---- each built line leaves a world apart
+
+apart-exchanges : (w : Word) (number : ℕ) (octets : List ℕ) (world : World) → IsApart world → IsApart (exchanges w number octets world).0
+apart-exchanges w number octets world a = by x.over
+  where
+    x : Exchanged
+    x = exchanged enough number octets world.hub []
+
+    later : World
+    later = record world { hub = x.hub }
+
+    behind : IsApart later
+    behind = apart-hub world x.hub (exchanged-keeps AnyMessage (MadeFrom world.hub.made) (made-kept world.hub.made) any-parts enough number octets world.hub [] tt (itself world.hub.made)) a
+
+    by : (o : Option EndReason) → IsApart (elim o as (λ _. World) [ None ↦ later | Some reason ↦ cut_peer w later ])
+    by None = behind
+    by (Some reason) = apart-cut w later behind
+
+apart-sends : (w : Word) (octets : List ℕ) (world : World) → IsApart world → IsApart (line_does by_history (send w octets) world).0
+apart-sends w octets world a = by (session_number world w)
+  where
+    by_room : (b : Bool) → IsApart (by_connected world w octets (made_or_not world.hub b)).0
+    by_room true = apart-exchanges w world.hub.made octets (with_peer w world) (apart-more w world a)
+    by_room false = a
+
+    by : (o : Option ℕ) → IsApart (by_number world w octets o).0
+    by (Some number) = apart-exchanges w number octets world a
+    by None = by_room (has_room world.hub)
+
+apart-line : (line : ScriptLine) (world : World) → IsBuiltLine line → IsApart world → IsApart (line_does by_history line world).0
+apart-line silent world is a = a
+apart-line (timers i k) world is a = a
+apart-line (zone apex serial mode) world is a = a
+apart-line (at_moment t) world is a =
+    subst IsApart (sym (moment-does world t a.seats))
+    (apart-hub world (hubs.moment world.hub t).1 (keeps-called AnyMessage (MadeFrom world.hub.made) (made-kept world.hub.made) (moves t) world.hub tt (itself world.hub.made)) a)
+apart-line (update message) world is a =
+    apart-hub world (hubs.update world.hub message).1 (keeps-called AnyMessage (MadeFrom world.hub.made) (made-kept world.hub.made) (updates message) world.hub tt (itself world.hub.made)) a
+apart-line (cut w) world is a = subst IsApart (sym (cut-does world w a.seats)) (apart-cut w world a)
+apart-line (send w octets) world is a = apart-sends w octets world a
+apart-line (stop w rcode delay) world is a = subst IsApart (sym (stop-does world w rcode delay a.seats)) (by (session_number world w))
+  where
+    by : (o : Option ℕ) → IsApart (stopped world rcode delay o)
+    by None = a
+    by (Some number) = apart-hub world (hubs.stop world.hub number rcode delay) (itself world.hub.made) a
+apart-line point world is a = a
+apart-line _ world is a = absurd cc
+
+pub apart-lines : (lines : List ScriptLine) (world : World) → AllByRecursion IsBuiltLine lines → IsApart world → IsApart (world_after lines world)
+apart-lines [] world built a = a
+apart-lines (line ∷ lines) world built a = apart-lines lines (line_does by_history line world).0 built.1 (apart-line line world built.0 a)
+
+pub apart-start : (script : List ScriptLine) → IsApart (start_world script)
+apart-start script = record { seats = refl; below = tt; apart = tt }
+
+pub apart-placed : (w : Word) (earlier world : World) (number : ℕ) → placed w earlier ≡ Some (number, world) → IsApart earlier → IsApart world
+apart-placed w earlier world number is a = by (session_number earlier w) is
+  where
+    by_made : Option ℕ × Hub → Option (ℕ × World)
+    by_made r = option_map (λ n. (n, record earlier { hub = r.1; peers = earlier.peers ++ (w, n) ∷ [] })) r.0
+
+    at_place : ℕ → World → Option (ℕ × World)
+    at_place n there = Some (n, there)
+
+    moved : (n : ℕ) (there : World) → at_place n there ≡ at_place number world → IsApart there → IsApart world
+    moved n there same h = subst (λ (p : ℕ × World). IsApart p.1) (same_found (n, there) (number, world) same) h
+
+    by_room : (b : Bool) → by_made (made_or_not earlier.hub b) ≡ at_place number world → IsApart world
+    by_room true same = moved earlier.hub.made (with_peer w earlier) same (apart-more w earlier a)
+    by_room false same = absurd cc
+
+    by : (o : Option ℕ) → elim o as (λ _. Option (ℕ × World)) [ Some n ↦ Some (n, earlier) | None ↦ by_made (connect earlier.hub) ] ≡ at_place number world → IsApart world
+    by (Some n) same = moved n earlier same a
+    by None same = by_room (has_room earlier.hub) same
+
+-- ---- a peer keeps its session
+
+peers-cut_where : (ls : List (List ℕ)) (seat : Seat) (world : World) → (cut_where ls seat world).peers ≡ world.peers
+peers-cut_where [] seat world = refl
+peers-cut_where (l ∷ ls) seat world = refl
+
+peers-timed : (t : ℕ) (seats : List Seat) (p : Printed) → (fold (clients_timed t) p seats).0.peers ≡ p.0.peers
+peers-timed t [] p = refl
+peers-timed t (seat ∷ seats) p =
+    let later = record seat { client = steps.moment seat.client t } in
+    peers-timed t seats (clients_timed t p seat) ∙ peers-cut_where (close_lines seat.word (closed_as later.client)) later (with_seat later p.0)
+
+module _ (w : Word) (number : ℕ) where
+  abbrev Has : World → Type 0
+  Has world = session_number world w ≡ Some number
+
+  has-cut : (v : Word) (world : World) → bytes_eq v w ≡ false → Has world → Has (cut_peer v world)
+  has-cut v world other known = ap (option_map (λ (e : Word × ℕ). e.1)) (found-filter (λ k. bytes_eq k w) (λ k. not (bytes_eq k v)) left world.peers) ∙ known
+    where
+      left : (k : Word) → bytes_eq k w ≡ true → not (bytes_eq k v) ≡ true
+      left k is = ap not (not_so (bytes_eq k v) (λ y. one_word k v w other y is))
+
+  has-more : (v : Word) (n : ℕ) (world : World) → Has world → number_in (world.peers ++ (v, n) ∷ []) w ≡ Some number
+  has-more v n world known = found-more (λ (e : Word × ℕ). bytes_eq e.0 w) (λ (e : Word × ℕ). e.1) world.peers ((v, n) ∷ []) number known
+
+  has-exchanges : (v : Word) (m : ℕ) (octets : List ℕ) (world : World) → bytes_eq v w ≡ false → Has world → Has (exchanges v m octets world).0
+  has-exchanges v m octets world other known = by x.over
+    where
+      x : Exchanged
+      x = exchanged enough m octets world.hub []
+
+      later : World
+      later = record world { hub = x.hub }
+
+      by : (o : Option EndReason) → Has (elim o as (λ _. World) [ None ↦ later | Some reason ↦ cut_peer v later ])
+      by None = known
+      by (Some reason) = has-cut v later other known
+
+  has-sends : (v : Word) (octets : List ℕ) (world : World) → bytes_eq v w ≡ false → Has world → Has (line_does by_history (send v octets) world).0
+  has-sends v octets world other known = by (session_number world v)
+    where
+      by_room : (b : Bool) → Has (by_connected world v octets (made_or_not world.hub b)).0
+      by_room true = has-exchanges v world.hub.made octets (with_peer v world) other (has-more v world.hub.made world known)
+      by_room false = known
+
+      by : (o : Option ℕ) → Has (by_number world v octets o).0
+      by (Some m) = has-exchanges v m octets world other known
+      by None = by_room (has_room world.hub)
+
+  has-cuts : (v : Word) (world : World) → bytes_eq v w ≡ false → Has world → Has (line_does by_history (cut v) world).0
+  has-cuts v world other known = by (seat_of world v)
+    where
+      by : (o : Option Seat) → Has (elim o as (λ _. World) [ None ↦ cut_peer v world | Some seat ↦ cut_connection seat world ])
+      by None = has-cut v world other known
+      by (Some seat) = known
+
+  has-stops : (v : Word) (rcode delay : ℕ) (world : World) → Has world → Has (line_does by_history (stop v rcode delay) world).0
+  has-stops v rcode delay world known = by (session_of_word world v)
+    where
+      by : (o : Option ℕ) → Has (elim o as (λ _. World) [ None ↦ world | Some m ↦ record world { hub = hubs.stop world.hub m rcode delay } ])
+      by None = known
+      by (Some m) = known
+
+pub peer-stays : (w : Word) (number : ℕ) (line : ScriptLine) (world : World) → IsBuiltLine line → is_of_others w line ≡ true → session_number world w ≡ Some number
+    → session_number (line_does by_history line world).0 w ≡ Some number
+peer-stays w number silent world is others known = known
+peer-stays w number (timers i k) world is others known = known
+peer-stays w number (zone apex serial mode) world is others known = known
+peer-stays w number (at_moment t) world is others known =
+    let r = hubs.moment world.hub t in
+    ap (λ peers. number_in peers w) (peers-timed (now r.1) world.seats (record world { hub = r.1 }, cond r.0 (codes "full" ∷ []) [])) ∙ known
+peer-stays w number (update message) world is others known = known
+peer-stays w number (cut v) world is others known = has-cuts w number v world (not_true (bytes_eq v w) others) known
+peer-stays w number (send v octets) world is others known = has-sends w number v octets world (not_true (bytes_eq v w) others) known
+peer-stays w number (stop v rcode delay) world is others known = has-stops w number v rcode delay world known
+peer-stays w number point world is others known = known
+peer-stays w number _ world is others known = absurd cc
+
+pub peer-stays-lines : (w : Word) (number : ℕ) (lines : List ScriptLine) (world : World) → AllByRecursion IsBuiltLine lines → list_all (is_of_others w) lines ≡ true → session_number world w ≡ Some number
+    → session_number (world_after lines world) w ≡ Some number
+peer-stays-lines w number [] world built others known = known
+peer-stays-lines w number (line ∷ lines) world built others known =
+    let both = and_true (is_of_others w line) (list_all (is_of_others w) lines) others in
+    peer-stays-lines w number lines (line_does by_history line world).0 built.1 both.1 (peer-stays w number line world built.0 both.0 known)
+
+-- ---- what is done elsewhere leaves the session, or the history grows
+
+module _ (hub : Hub) (number : ℕ) (s : Session) where
+  abbrev Leaves : Hub → Type 0
+  Leaves later = At hub number later s ⊎ Longer hub later
+
+  at-stays : (later last : Hub) → At hub number later s → LeavesSession later last number → At hub number last s
+  at-stays later last at l = record {
+    is = λ i. record {
+      start = (l.start ∙ ap (λ (h : Hub). h.start) at.is) i;
+      timers = (l.timers ∙ ap (λ (h : Hub). h.timers) at.is) i;
+      history = (l.history ∙ ap (λ (h : Hub). h.history) at.is) i;
+      sessions = last.sessions;
+      made = last.made;
+    };
+    there = l.session ∙ at.there;
+  }
+
+  -- other sessions come or go
+  at-others : (later : Hub) (sessions : List (ℕ × Session)) (made : ℕ) → At hub number later s → option_map (λ (e : ℕ × Session). e.1) (find (λ (e : ℕ × Session). e.0 == number) sessions) ≡ Some s
+      → At hub number (record later { sessions = sessions; made = made }) s
+  at-others later sessions made at there = record { is = ap (λ (h : Hub). record h { sessions = sessions; made = made }) at.is; there = there }
+
+  -- an entry goes to the end of the history
+  entered-longer : (later last : Hub) (entry : Entry) → At hub number later s → last.history ≡ later.history ++ entry ∷ [] → Longer hub last
+  entered-longer later last entry at more = subst (λ (history : List Entry). length hub.history < length history) (sym (more ∙ ap (λ (h : Hub). h.history ++ entry ∷ []) at.is)) (grows hub.history entry)
+
+  leaves-moment : (later : Hub) (t : ℕ) → At hub number later s → Leaves (hubs.moment later t).1
+  leaves-moment later t at = by (not (nat_lt (now later) t))
+    where
+      entering : (b : Bool) → Leaves (enters_moment later t b).1
+      entering true = inr (entered-longer later (enters_moment later t true).1 (entries.Moment t) at refl)
+      entering false = inl at
+
+      by : (early : Bool) → Leaves (moment_as later t early).1
+      by true = inl at
+      by false = entering (can_enter later (entries.Moment t))
+
+  leaves-update : (later : Hub) (message : List ℕ) → At hub number later s → Leaves (hubs.update later message).1
+  leaves-update later message at = holds-update AnyMessage Leaves later (λ entry by. inr (entered-longer later (entered entry later) entry at refl)) (inl at) message tt
+
+  leaves-more : (later : Hub) → Leaves later → Leaves (with_new later)
+  leaves-more later (inl at) =
+      let one = (later.made, new_session (keeps_now later) (now later)) ∷ [] in
+      inl (at-others later (later.sessions ++ one) (later.made + 1) at (found-more (λ (e : ℕ × Session). e.0 == number) (λ (e : ℕ × Session). e.1) later.sessions one s at.there))
+  leaves-more later (inr longer) = inr longer
+
+  -- ---- in a session of another number
+
+  module _ (m : ℕ) (apart : number ≡ m → ⊥) where
+    leaves-in_session : (f : Session → Session) (later : Hub) → Leaves later → Leaves (in_session m f later)
+    leaves-in_session f later (inl at) = inl (at-stays later (in_session m f later) at (in_session-stays number m apart f later later (stays number m apart later)))
+    leaves-in_session f later (inr longer) = inr longer
+
+    leaves-end : (later : Hub) → Leaves later → Leaves (end_session later m)
+    leaves-end later (inl at) =
+        inl (at-others later (end_session later m).sessions later.made at (found-left m number later.sessions ∙ ap (λ c. cond c None (session_of later number)) (other-number number m apart) ∙ at.there))
+    leaves-end later (inr longer) = inr longer
+
+    leaves-give : (later : Hub) (room : ℕ) → Leaves later → Leaves (give later m room).hub
+    leaves-give later room (inl at) = by (give_changes_one_session later m number room apart)
+      where
+        g : Giving
+        g = give later m room
+
+        by : LeavesSession later g.hub number ⊎ ((entry : Entry) × LeavesSession (entered entry later) g.hub number) → Leaves g.hub
+        by (inl same) = inl (at-stays later g.hub at same)
+        by (inr (entry, same)) = inr (entered-longer later g.hub entry at same.history)
+    leaves-give later room (inr longer) = (let kept : StaysLonger hub = stays-longer hub in inr (kept.give later m room longer))
+
+    leaves-exchanged : (turns : ℕ) (octets : List ℕ) (later : Hub) (so_far : List ℕ) → Leaves later → Leaves (exchanged turns m octets later so_far).hub
+    leaves-exchanged turns octets later so_far h = keeps-exchanged Leaves m leaves-give AnyMessage any-parts (λ last piece any l. leaves-in_session (takes piece) last l) turns octets later so_far tt h
+
+  -- ---- lines of others
+
+  module _ (w : Word) where
+    -- another peer's session has another number
+    other-session : (v : Word) (m : ℕ) (world : World) → bytes_eq v w ≡ false → ApartNumbers world.peers → session_number world w ≡ Some number → session_number world v ≡ Some m → number ≡ m → ⊥
+    other-session v m world other apart known is same = numbers-apart v w world.peers m number other apart is known (sym same)
+
+    leaves-cut : (v : Word) (world : World) → bytes_eq v w ≡ false → ApartNumbers world.peers → session_number world w ≡ Some number → Leaves world.hub → Leaves (cut_peer v world).hub
+    leaves-cut v world other apart known h = by (session_number world v) refl
+      where
+        by : (o : Option ℕ) → session_number world v ≡ o → Leaves (hub_without o world.hub)
+        by None is = h
+        by (Some m) is = leaves-end m (other-session v m world other apart known is) world.hub h
+
+    leaves-exchanges : (v : Word) (m : ℕ) (octets : List ℕ) (world : World) → bytes_eq v w ≡ false → ApartNumbers world.peers → session_number world w ≡ Some number → (number ≡ m → ⊥) → Leaves world.hub
+        → Leaves (exchanges v m octets world).0.hub
+    leaves-exchanges v m octets world other apart known differs h = by x.over
+      where
+        x : Exchanged
+        x = exchanged enough m octets world.hub []
+
+        later : World
+        later = record world { hub = x.hub }
+
+        behind : Leaves later.hub
+        behind = leaves-exchanged m differs enough octets world.hub [] h
+
+        by : (o : Option EndReason) → Leaves (elim o as (λ _. World) [ None ↦ later | Some reason ↦ cut_peer v later ]).hub
+        by None = behind
+        by (Some reason) = leaves-cut v later other apart known behind
+
+    leaves-sends : (v : Word) (octets : List ℕ) (world : World) → bytes_eq v w ≡ false → IsApart world → session_number world w ≡ Some number → Leaves world.hub → Leaves (line_does by_history (send v octets) world).0.hub
+    leaves-sends v octets world other a known h = by (session_number world v) refl
+      where
+        below : number < world.hub.made
+        below = number-all (λ n. n < world.hub.made) w world.peers number a.below known
+
+        is_new : (n : ℕ) → number < n → number ≡ n → ⊥
+        is_new n l same = omega (arith, l, same)
+
+        by_room : (b : Bool) → Leaves (by_connected world v octets (made_or_not world.hub b)).0.hub
+        by_room true =
+            leaves-exchanges v world.hub.made octets (with_peer v world) other (apart-more v world a).apart (has-more w number v world.hub.made world known) (is_new world.hub.made below)
+            (leaves-more world.hub h)
+        by_room false = h
+
+        by : (o : Option ℕ) → session_number world v ≡ o → Leaves (by_number world v octets o).0.hub
+        by (Some m) is = leaves-exchanges v m octets world other a.apart known (other-session v m world other a.apart known is) h
+        by None is = by_room (has_room world.hub)
+
+    leaves-line : (line : ScriptLine) (world : World) → IsBuiltLine line → is_of_others w line ≡ true → IsApart world → session_number world w ≡ Some number → At hub number world.hub s
+        → Leaves (line_does by_history line world).0.hub
+    leaves-line silent world is others a known at = inl at
+    leaves-line (timers i k) world is others a known at = inl at
+    leaves-line (zone apex serial mode) world is others a known at = inl at
+    leaves-line (at_moment t) world is others a known at = subst (λ (later : World). Leaves later.hub) (sym (moment-does world t a.seats)) (leaves-moment world.hub t at)
+    leaves-line (update message) world is others a known at = leaves-update world.hub message at
+    leaves-line (cut v) world is others a known at =
+        subst (λ (later : World). Leaves later.hub) (sym (cut-does world v a.seats)) (leaves-cut v world (not_true (bytes_eq v w) others) a.apart known (inl at))
+    leaves-line (send v octets) world is others a known at = leaves-sends v octets world (not_true (bytes_eq v w) others) a known (inl at)
+    leaves-line (stop v rcode delay) world is others a known at = subst (λ (later : World). Leaves later.hub) (sym (stop-does world v rcode delay a.seats)) (by (session_number world v) refl)
+      where
+        by : (o : Option ℕ) → session_number world v ≡ o → Leaves (stopped world rcode delay o).hub
+        by None same = inl at
+        by (Some m) same = leaves-in_session m (other-session v m world (not_true (bytes_eq v w) others) a.apart known same) (asked_to_stop rcode delay) world.hub (inl at)
+    leaves-line point world is others a known at = inl at
+    leaves-line _ world is others a known at = absurd cc
+
+pub others-leave : (hub : Hub) (number : ℕ) (s : Session) (w : Word) (lines : List ScriptLine) (world : World) → AllByRecursion IsBuiltLine lines → list_all (is_of_others w) lines ≡ true → IsApart world
+    → session_number world w ≡ Some number → At hub number world.hub s → At hub number (world_after lines world).hub s ⊎ Longer hub (world_after lines world).hub
+others-leave hub number s w [] world built others a known at = inl at
+others-leave hub number s w (line ∷ lines) world built others a known at =
+    let both = and_true (is_of_others w line) (list_all (is_of_others w) lines) others in
+    by (λ left. others-leave hub number s w lines (line_does by_history line world).0 built.1 both.1 (apart-line line world built.0 a) (peer-stays w number line world built.0 both.0 known) left)
+    (leaves-line hub number s w line world built.0 both.0 a known at)
+  where
+    one : World
+    one = (line_does by_history line world).0
+
+    by : (At hub number one.hub s → Leaves hub number s (world_after lines one).hub) → Leaves hub number s one.hub → Leaves hub number s (world_after lines one).hub
+    by rest (inl left) = rest left
+    by rest (inr longer) = inr (longer-lines hub lines one built.1 longer)

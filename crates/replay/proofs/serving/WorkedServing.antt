@@ -1,0 +1,44 @@
+-- The promise to who subscribes has scripts of which it speaks: one with a zone and a peer that asks for its SOA.
+use Rattle.std.proofs.Common.{ℕ, true, List, [], ◌∷◌, ◌++◌, drop, Some, codes, refl, arith}
+use Rattle.push_base.specs.Hexadecimal.{hex}
+use Rattle.dnsname.specs.Text.{name}
+use Rattle.replay.specs.Lines.{zone}
+use Rattle.replay.specs.BuiltScripts.{first_later}
+use Rattle.replay.specs.Serving.{Asked, AsksFirst}
+
+abbrev pub frame_sent : List ℕ
+frame_sent = hex (codes "002100013000000000000000000000400011076578616d706c6503636f6d0000060001")
+
+abbrev script : List ℕ
+script = codes "zone example.com. 1 open" ++ 10 ∷ (codes "send p 002100013000000000000000000000400011076578616d706c6503636f6d0000060001" ++ 10 ∷ [])
+
+abbrev asked : Asked
+asked = record {
+  before = zone (name (codes "example.com.")) 1 true ∷ [];
+  word = codes "p";
+  octets = frame_sent;
+  message = drop 2 frame_sent;
+  question = record { name = name (codes "example.com."); kind = 6; class = 1 };
+  behind = [];
+}
+
+asks : AsksFirst script asked
+unfolding first_later
+asks = record {
+  built = refl;
+  read = refl;
+  new_peer = refl;
+  seat = refl;
+  found = refl;
+  acceptable = record {
+    head = record { id = 1; flags = 0x3000; zero_counts = true; tlvs_good = true; primary = Some (64, 17) };
+    whole = refl;
+    reaction = refl;
+    spelled = refl;
+    new_id = refl;
+    new_question = refl;
+    class = refl;
+    home = refl;
+    room = omega arith;
+  };
+}

@@ -1,0 +1,83 @@
+-- The text of a script in parts, what holds of the hub between two lines of a script that is built, and its reply.
+--     printed-append, lines-append      what is printed, and its text, part by part
+--     after-append, each-behind      the world behind two parts, and what holds of each line of the latter
+--     from-between, bounded-between      between two lines: the hub's start and its sessions' numbers, and the bounds of its state
+--     bounded-connected      a session more leaves the state
+--     reply-is      the reply of a built script
+use Rattle.std.proofs.Common.{◌≡◌, ℕ, Bool, true, false, cond, ◌&&◌, List, [], ◌∷◌, ◌++◌, length, Option, Some, None, Ok, ◌∙◌, ap, sym, subst, refl, append_assoc}
+use Rattle.std.specs.Prelude.{nat_lt}
+use Rattle.std.specs.List.{AllByRecursion}
+use Rattle.push_base.specs.Limits.{max_number}
+use Rattle.coalesce.proofs.Packing.{each-front}
+use Rattle.pushserver.specs.Sessions.{Hub}
+use Rattle.pushserver.specs.Hubs.{state_now, connect, max_sessions}
+use Rattle.pushserver.proofs.Walks.{with_new}
+use Rattle.replay.specs.Lines.{ScriptLine}
+use Rattle.replay.specs.Scripts.{script_of}
+use Rattle.replay.specs.World.{World, start_world}
+use Rattle.replay.specs.TextWords.{by_history}
+use Rattle.replay.specs.Text.{ended_lines, line_does, printed_by, text_of_script, world_after}
+use Rattle.replay.specs.BuiltScripts.{first_later, reply_at, reply_to_script}
+use Rattle.replay.proofs.worlds.BuiltHeads.{built-script}
+use Rattle.replay.proofs.worlds.BuiltWorlds.{IsBuiltLine}
+use Rattle.replay.proofs.worlds.Numbers.{IsFrom, from-lines}
+use Rattle.replay.proofs.replies.BuiltReplies.{told}
+use Rattle.replay.proofs.turns.ZoneSizes.{IsBounded, bounded-state}
+
+-- ---- parts of a text
+
+-- the text of lines is that of the first and that of the rest
+pub lines-append : (xs ys : List (List ℕ)) → ended_lines (xs ++ ys) ≡ ended_lines xs ++ ended_lines ys
+lines-append [] ys = refl
+lines-append (x ∷ xs) ys = ap (λ (rest : List ℕ). (x ++ 10 ∷ []) ++ rest) (lines-append xs ys) ∙ sym (append_assoc (x ++ 10 ∷ []) (ended_lines xs) (ended_lines ys))
+
+-- so is what they print
+pub printed-append : (before behind : List ScriptLine) (world : World) → printed_by by_history (before ++ behind) world ≡ printed_by by_history before world ++ printed_by by_history behind (world_after before world)
+printed-append [] behind world = refl
+printed-append (l ∷ ls) behind world =
+    let one = line_does by_history l world in
+    ap (λ (rest : List (List ℕ)). one.1 ++ rest) (printed-append ls behind one.0)
+    ∙ sym (append_assoc one.1 (printed_by by_history ls one.0) (printed_by by_history behind (world_after ls one.0)))
+
+-- the world behind both parts
+pub after-append : (before behind : List ScriptLine) (world : World) → world_after (before ++ behind) world ≡ world_after behind (world_after before world)
+after-append [] behind world = refl
+after-append (l ∷ ls) behind world = after-append ls behind (line_does by_history l world).0
+
+-- what holds of each holds of those behind
+pub each-behind : {X : Type 0} (P : X → Type 0) (xs ys : List X) → AllByRecursion P (xs ++ ys) → AllByRecursion P ys
+each-behind P [] ys all = all
+each-behind P (x ∷ xs) ys all = each-behind P xs ys all.1
+
+-- ---- between two lines of a built script
+
+abbrev pub world_between : List ScriptLine → List ScriptLine → World
+world_between before behind = world_after before (start_world (before ++ behind))
+
+module _ (script : List ℕ) (before behind : List ScriptLine) (built : first_later script ≡ None) (read : script_of script ≡ Ok (before ++ behind)) where
+  pub from-between : IsFrom (start_world (before ++ behind)).hub.start (world_between before behind).hub
+  from-between =
+      let all = built-script script (before ++ behind) built read in
+      from-lines (start_world (before ++ behind)).hub.start before (start_world (before ++ behind)) (each-front IsBuiltLine before behind all.0) (record { begins = refl; below = tt })
+
+  pub bounded-between : IsBounded (state_now (world_between before behind).hub)
+  bounded-between =
+      let hub = (world_between before behind).hub in
+      bounded-state hub.start hub.history (subst IsBounded (sym from-between.begins) (built-script script (before ++ behind) built read).1)
+
+-- a session more leaves the state
+pub bounded-connected : (hub : Hub) → IsBounded (state_now hub) → IsBounded (state_now (connect hub).1)
+bounded-connected hub bounded = by (nat_lt (length hub.sessions) max_sessions && nat_lt hub.made max_number)
+  where
+    by : (b : Bool) → IsBounded (state_now (cond {A = Option ℕ × Hub} b (Some hub.made, with_new hub) (None, hub)).1)
+    by true = bounded
+    by false = bounded
+
+-- ---- the reply
+
+pub reply-is : (script : List ℕ) (lines : List ScriptLine) (text : List ℕ) → first_later script ≡ None → script_of script ≡ Ok lines → text_of_script lines ≡ text → reply_to_script script ≡ record { status = 0; text = text }
+unfolding reply_to_script
+reply-is script lines text built read is =
+    ap (λ (f : Option ℕ). reply_at f script) built
+    ∙ ap (λ (p : ℕ × List ℕ). record { status = p.0; text = p.1 }) (ap told read)
+    ∙ ap (λ (t : List ℕ). record { status = 0; text = t }) is

@@ -1,0 +1,124 @@
+-- Scripts whose lines are built: each line is of such a kind, and the state with which it starts is within the bounds.
+--     built-script      the law
+use Rattle.std.proofs.Common.{◌≡◌, ℕ, ◌+◌, ◌≤◌, ◌<◌, Bool, true, false, cond, ◌&&◌, List, [], ◌∷◌, ◌++◌, filter, fold, length, Option, Some, None, Result, Ok, Err, nat_le, refl, sym, ◌∙◌, ap, subst, arith, length-append}
+use Rattle.std.specs.Prelude.{is_none, nat_lt, unwrap_or}
+use Rattle.std.specs.List.{AllByRecursion}
+use Rattle.std.proofs.lemmas.Bool.Decides.{nat_tests}
+use Rattle.std.proofs.lemmas.List.Elements.{filter-append}
+use Rattle.dnsname.specs.Names.{Labels, octets}
+use Rattle.rrset.proofs.Sets.{both_true}
+use Rattle.coalesce.proofs.ReadBack.{each-append}
+use Rattle.zoneupdate.specs.Zones.{ZoneState, new_zone}
+use Rattle.history.specs.Homes.{NamedHome, home_fault}
+use Rattle.history.specs.declared.entry.HomeFault.{HomeFault}
+use Rattle.history.specs.declared.entry.HomeFault.TheVariants.{Many, Long}
+use Rattle.replay.specs.Lines.{Word, ScriptLine, silent, timers, zone, at_moment, update, cut, send, stop, point}
+use Rattle.replay.specs.Scripts.{Known, nothing_known, fits, allowed, with_line, lines_from, lines_read, client_words, script_of}
+use Rattle.replay.specs.World.{Head, empty_head, with_head_line, start_world}
+use Rattle.replay.specs.BuiltScripts.{is_built, first_unbuilt, first_later}
+use Rattle.replay.proofs.worlds.BuiltWorlds.{IsBuiltLine}
+use Rattle.replay.proofs.lines.SentOctets.{done, lines_or}
+use Rattle.replay.proofs.turns.StartSizes.{new_zone-small}
+use Rattle.replay.proofs.turns.ZoneSizes.{IsSmall, IsBounded}
+
+abbrev pub is_zone : NamedHome → Bool
+is_zone h = cond h.1 false true
+
+-- the head has a zone for each that is known, and its state is within the bounds
+pub record HeadIs (known : Known) (head : Head) : Type 0 where
+  pub count : length head.start.zones ≡ length (filter is_zone known.homes)
+  pub bounded : IsBounded head.start
+
+some_is : (a b : Known) → Some a ≡ Some b → a ≡ b
+some_is a b e = ap (λ o. unwrap_or o a) e
+
+is_allowed : (b : Bool) (k later : Known) → allowed b k ≡ Some later → (b ≡ true) × (k ≡ later)
+is_allowed true k later e = (refl, some_is k later e)
+is_allowed false k later e = absurd cc
+
+free : (b c : Bool) (rest : Option HomeFault) → is_none (cond b (Some Many) (cond c (Some Long) rest)) ≡ true → (b ≡ false) × (c ≡ false)
+free true c rest h = absurd cc
+free false true rest h = absurd cc
+free false false rest h = (refl, refl)
+
+few_below : (n : ℕ) → nat_le 16 n ≡ false → n < 16
+few_below n h = grind (arith, nat_tests)
+
+short_below : (n : ℕ) → nat_lt 200 n ≡ false → n ≤ 255
+short_below n h = grind (arith, nat_tests)
+
+-- a further zone
+zone-turn : (known : Known) (head : Head) (apex : Labels) (serial : ℕ) (mode : Bool) → is_none (home_fault known.homes (apex, false)) ≡ true → HeadIs known head
+    → HeadIs (record known { homes = known.homes ++ (apex, false) ∷ [] }) (with_head_line head (zone apex serial mode))
+zone-turn known head apex serial mode none h =
+    let no_fault = free (nat_le 16 (length (filter is_zone known.homes))) (nat_lt 200 (length (octets apex))) _ none in
+    let few : length (filter is_zone known.homes) < 16 = few_below (length (filter is_zone known.homes)) no_fault.0 in
+    let short : length (octets apex) ≤ 255 = short_below (length (octets apex)) no_fault.1 in
+    let z : ZoneState = new_zone apex serial mode in
+    let longer : length (head.start.zones ++ z ∷ []) ≡ length head.start.zones + 1 = length-append head.start.zones (z ∷ []) in
+    let more : length (filter is_zone (known.homes ++ (apex, false) ∷ [])) ≡ length (filter is_zone known.homes) + 1 =
+    ap length (filter-append is_zone known.homes ((apex, false) ∷ [])) ∙ length-append (filter is_zone known.homes) ((apex, false) ∷ []) in
+    let same = h.count in
+    record {
+      count = longer ∙ ap (λ n. n + 1) same ∙ sym more;
+      bounded = record {
+        links = h.bounded.links;
+        few = sum _ _ _ longer same few;
+        small = each-append (λ (y : ZoneState). IsSmall y.rows) head.start.zones (z ∷ []) h.bounded.small (new_zone-small apex serial mode short, tt);
+      };
+    }
+  where
+    sum : (whole n m : ℕ) → whole ≡ n + 1 → n ≡ m → m < 16 → whole ≤ 16
+    sum whole n m e f g = omega arith
+
+-- a further line
+turn : (all : List Word) (known later : Known) (head : Head) (line : ScriptLine) → is_built line ≡ true → fits all known line ≡ Some later → HeadIs known head → HeadIs later (with_head_line head line)
+turn all known later head silent is fit h = subst (λ k. HeadIs k head) (some_is known later fit) h
+turn all known later head (timers i k) is fit h = subst (λ n. HeadIs n (with_head_line head (timers i k))) (is_allowed _ _ later fit).1 (record { count = h.count; bounded = h.bounded })
+turn all known later head (zone apex serial mode) is fit h =
+    let a = is_allowed (known.in_head && is_none (home_fault known.homes (apex, false))) (record known { homes = known.homes ++ (apex, false) ∷ [] }) later fit in
+    subst (λ n. HeadIs n (with_head_line head (zone apex serial mode))) a.1 (zone-turn known head apex serial mode (both_true known.in_head (is_none (home_fault known.homes (apex, false))) a.0).1 h)
+turn all known later head (at_moment t) is fit h = subst (λ n. HeadIs n head) (some_is _ later fit) (record { count = h.count; bounded = h.bounded })
+turn all known later head (update o) is fit h = subst (λ n. HeadIs n head) (some_is _ later fit) (record { count = h.count; bounded = h.bounded })
+turn all known later head (cut w) is fit h = subst (λ n. HeadIs n head) (is_allowed _ _ later fit).1 (record { count = h.count; bounded = h.bounded })
+turn all known later head (send w o) is fit h = subst (λ n. HeadIs n head) (is_allowed _ _ later fit).1 (record { count = h.count; bounded = h.bounded })
+turn all known later head (stop w r d) is fit h = subst (λ n. HeadIs n head) (is_allowed _ _ later fit).1 (record { count = h.count; bounded = h.bounded })
+turn all known later head point is fit h = subst (λ n. HeadIs n head) (some_is _ later fit) (record { count = h.count; bounded = h.bounded })
+turn all known later head _ is fit h = absurd cc
+
+-- ---- all lines
+
+abbrev pub AreBuilt : Head → List ScriptLine → Type 0
+AreBuilt head lines = AllByRecursion IsBuiltLine lines × IsBounded (fold with_head_line head lines).start
+
+abbrev Goes : List Word → List (Option ScriptLine) → Type 0
+Goes all os = (known : Known) (n : ℕ) (lines : List ScriptLine) (head : Head) → first_unbuilt all known n os ≡ None → lines_from all known n os ≡ done lines → HeadIs known head → AreBuilt head lines
+
+step : (all : List Word) (line : ScriptLine) (os : List (Option ScriptLine)) → Goes all os → Goes all (Some line ∷ os)
+step all line os rest known n lines head built read h = by (is_built line) refl (fits all known line) refl built read
+  where
+    behind : (later : Known) → is_built line ≡ true → fits all known line ≡ Some later → first_unbuilt all later (n + 1) os ≡ None
+        → (r : Result (List ScriptLine) ℕ) → lines_from all later (n + 1) os ≡ r → with_line line r ≡ done lines → AreBuilt head lines
+    behind later is fit none (Err m) e f = absurd cc
+    behind later is fit none (Ok more) e f =
+        let others = rest later (n + 1) more (with_head_line head line) none e (turn all known later head line is fit h) in
+        subst (AreBuilt head) (ap (lines_or []) f) ((is, others.0), others.1)
+
+    by : (b : Bool) → is_built line ≡ b → (o : Option Known) → fits all known line ≡ o
+        → (elim b as (λ _. Option ℕ) [ false ↦ Some n | true ↦ elim o as (λ _. Option ℕ) [ None ↦ Some n | Some later ↦ first_unbuilt all later (n + 1) os ] ]) ≡ None
+        → (elim o as (λ _. Result (List ScriptLine) ℕ) [ None ↦ Err n | Some later ↦ with_line line (lines_from all later (n + 1) os) ]) ≡ done lines → AreBuilt head lines
+    by false is o fit e f = absurd cc
+    by true is None fit e f = absurd cc
+    by true is (Some later) fit e f = behind later is fit e (lines_from all later (n + 1) os) refl f
+
+goes : (all : List Word) (os : List (Option ScriptLine)) → Goes all os
+goes all [] known n lines head built read h = subst (AreBuilt head) (ap (lines_or []) read) (tt, h.bounded)
+goes all (None ∷ os) known n lines head built read h = absurd cc
+goes all (Some line ∷ os) known n lines head built read h = step all line os (goes all os) known n lines head built read h
+
+empty-is : HeadIs nothing_known empty_head
+empty-is = record { count = refl; bounded = record { links = refl; few = omega arith; small = tt } }
+
+pub built-script : (text : List ℕ) (lines : List ScriptLine) → first_later text ≡ None → script_of text ≡ Ok lines → AllByRecursion IsBuiltLine lines × IsBounded (start_world lines).hub.start
+unfolding first_later
+built-script text lines built read = goes (client_words (lines_read text)) (lines_read text) nothing_known 1 lines empty_head built read empty-is

@@ -1,0 +1,186 @@
+-- In a script that is built, each session's input holds octets.
+--     octets-kept      the steps of which calls are made keep octets in all inputs
+--     octets-lines, octets-connected      so they stand there between lines, and with one session more
+use Rattle.std.proofs.Common.{◌≡◌, ℕ, ◌+◌, ◌-◌, ◌*◌, ◌<◌, Bool, true, false, cond, ◌&&◌, not, List, [], ◌∷◌, ◌++◌, map, length, take, drop, find, Option, Some, None, option_map, Ok, nat_lt, refl, sym, ◌∙◌, ap, subst, arith}
+use Rattle.std.specs.Prelude.{◌==◌, slice_range}
+use Rattle.std.specs.List.{All, AllByRecursion, list_all}
+use Rattle.std.specs.Char.{is_ascii_hexdigit}
+use Rattle.std.proofs.lemmas.Bool.{ltb-true}
+use Rattle.std.proofs.lemmas.Bool.Decides.{nat_tests}
+use Rattle.std.proofs.lemmas.List.Elements.{All-nil, All-cons, All-append, All-take, All-drop}
+use Rattle.push_base.specs.Hexadecimal.{first_other, digit_value, octets_of_digits, octets_or_fault, hex_octets}
+use Rattle.push_base.proofs.HexLaws.{digits_all}
+use Rattle.rrset.specs.Header.{two_octets}
+use Rattle.rrset.proofs.Places.{all_filter}
+use Rattle.dnsname.proofs.Decisions.{and_true}
+use Rattle.coalesce.proofs.Packing.{each-front}
+use Rattle.coalesce.proofs.ReadBack.{each-append}
+use Rattle.dsotlv.specs.Laws.{AreOctets}
+use Rattle.dsotlv.specs.Messages.{first_message}
+use Rattle.dsotlv.proofs.Results.{same_found}
+use Rattle.dsosession.specs.declared.session.EndReason.{EndReason}
+use Rattle.pushsession.specs.declared.standing.Standing.TheVariants.{AskedToStop}
+use Rattle.pushsession.specs.Sessions.{is_open, new_session, room_of, takes, asked_to_stop, due, ended_where, timed}
+use Rattle.pushserver.specs.Sessions.{Session, Hub, plain_keeps}
+use Rattle.pushserver.specs.Hubs.{now, keeps_now, session_of, in_session, connect}
+use Rattle.pushserver.specs.Giving.{without_first}
+use Rattle.pushserver.specs.Calls.{connects}
+use Rattle.pushserver.proofs.Walks.{Step, IsKept, keeps-called}
+use Rattle.pushserver.proofs.hub_steps.Pairs.{all-weaken}
+use Rattle.pushserver.proofs.session_steps.Lists.{found-each}
+use Rattle.replay.specs.Lines.{ScriptLine, octets_written}
+use Rattle.replay.specs.Scripts.{script_of}
+use Rattle.replay.specs.World.{start_world}
+use Rattle.replay.specs.Text.{world_after}
+use Rattle.replay.specs.BuiltScripts.{first_later}
+use Rattle.replay.proofs.worlds.BuiltHeads.{built-script}
+use Rattle.replay.proofs.worlds.BuiltWorlds.{IsBuiltLine, keeps-lines}
+use Rattle.replay.proofs.worlds.StepInputs.{step-input}
+use Rattle.replay.proofs.worlds.Keeping.{InParts}
+use Rattle.replay.proofs.lines.SentOctets.{sent_by, some_octets, written-by, sends-pass}
+
+abbrev IsOctet : ℕ → Type 0
+IsOctet o = o < 256
+
+abbrev are_octets : List ℕ → Bool
+are_octets octets = list_all (λ o. nat_lt o 256) octets
+
+-- ---- a word stands for octets
+
+small_digit : (c : ℕ) → is_ascii_hexdigit c ≡ true → digit_value c < 16
+small_digit c h = grind (arith, nat_tests)
+
+small_octet : (c d : ℕ) → is_ascii_hexdigit c ≡ true → is_ascii_hexdigit d ≡ true → nat_lt (16 * digit_value c + digit_value d) 256 ≡ true
+small_octet c d h k = by (digit_value c) (digit_value d) (small_digit c h) (small_digit d k)
+  where
+    by : (n m : ℕ) → n < 16 → m < 16 → nat_lt (16 * n + m) 256 ≡ true
+    by n m h k = grind (arith, nat_tests)
+
+both : (a b : Bool) → a ≡ true → b ≡ true → (a && b) ≡ true
+both true b h k = k
+both false b h k = absurd cc
+
+-- what digits are read as
+digits_octets : (text octets : List ℕ) → AllByRecursion (λ c. is_ascii_hexdigit c ≡ true) text → octets_of_digits text ≡ Some octets → are_octets octets ≡ true
+digits_octets [] octets h e = ap are_octets (some_octets octets [] (sym e))
+digits_octets (c ∷ []) octets h e = absurd cc
+digits_octets (c ∷ d ∷ text) octets h e = by (octets_of_digits text) (λ os is. digits_octets text os h.1.1 is) e
+  where
+    o : ℕ
+    o = 16 * digit_value c + digit_value d
+
+    by : (r : Option (List ℕ)) → ((os : List ℕ) → r ≡ Some os → are_octets os ≡ true) → option_map (λ os. o ∷ os) r ≡ Some octets → are_octets octets ≡ true
+    by None rest e = absurd cc
+    by (Some os) rest e = subst (λ (os : List ℕ). are_octets os ≡ true) (some_octets (o ∷ os) octets e) (both (nat_lt o 256) (are_octets os) (small_octet c d h.0 h.1.0) (rest os refl))
+
+read_octets : (text octets : List ℕ) → hex_octets text ≡ Ok octets → are_octets octets ≡ true
+read_octets text octets e = by (first_other text) refl (octets_of_digits text) refl e
+  where
+    same : (a b : List ℕ) → octets_or_fault None (Some a) ≡ Ok b → Some a ≡ Some b
+    same a b e = cc
+
+    by : (place : Option ℕ) → first_other text ≡ place → (r : Option (List ℕ)) → octets_of_digits text ≡ r → octets_or_fault place r ≡ Ok octets → are_octets octets ≡ true
+    by (Some place) there r is e = absurd cc
+    by None there None is e = absurd cc
+    by None there (Some os) is e = digits_octets text octets (digits_all text there) (is ∙ same os octets e)
+
+written_octets : (h octets : List ℕ) → octets_written h ≡ Some octets → are_octets octets ≡ true
+written_octets h octets e = written-by (λ (o : List ℕ). are_octets o ≡ true) h octets refl (λ o small read. read_octets h o read) e
+
+-- ---- what lines bring
+
+pub all_octets : (octets : List ℕ) → are_octets octets ≡ true → AreOctets octets
+all_octets [] h = All-nil IsOctet
+all_octets (o ∷ os) h = let parts = and_true (nat_lt o 256) (are_octets os) h in All-cons IsOctet o os (ltb-true o 256 parts.0) (all_octets os parts.1)
+
+octets-sent : (text : List ℕ) (lines : List ScriptLine) → script_of text ≡ Ok lines → AllByRecursion (λ line. AreOctets (sent_by line)) lines
+octets-sent text lines read =
+    all-weaken (λ (line : ScriptLine). are_octets (sent_by line) ≡ true) (λ (line : ScriptLine). AreOctets (sent_by line)) (λ line h. all_octets (sent_by line) h) lines
+    (sends-pass are_octets written_octets text lines read)
+
+-- ---- what sessions hold
+
+abbrev HasInput : ℕ × Session → Type 0
+HasInput e = AreOctets e.1.input
+
+abbrev pub HoldsOctets : Hub → Type 0
+HoldsOctets hub = AllByRecursion HasInput hub.sessions
+
+map_octets : (f : ℕ × Session → Session) → ((e : ℕ × Session) → HasInput e → AreOctets (f e).input) → (sessions : List (ℕ × Session)) → AllByRecursion HasInput sessions → AllByRecursion HasInput (map (λ e. (e.0, f e)) sessions)
+map_octets f step [] all = tt
+map_octets f step (e ∷ es) all = (step e all.0, map_octets f step es all.1)
+
+one_octets : (number : ℕ) (f : Session → Session) → ((s : Session) → AreOctets s.input → AreOctets (f s).input) → (hub : Hub) → HoldsOctets hub → HoldsOctets (in_session number f hub)
+one_octets number f step hub h = map_octets (λ e. cond (e.0 == number) (f e.1) e.1) (λ e i. by (e.0 == number) e.1 i) hub.sessions h
+  where
+    by : (b : Bool) (s : Session) → AreOctets s.input → AreOctets (cond b (f s) s).input
+    by true s i = step s i
+    by false s i = i
+
+pub found_octets : (hub : Hub) (number : ℕ) (session : Session) → session_of hub number ≡ Some session → HoldsOctets hub → AreOctets session.input
+found_octets hub number session there h = by (find (λ (e : ℕ × Session). e.0 == number) hub.sessions) refl there
+  where
+    by : (o : Option (ℕ × Session)) → find (λ (e : ℕ × Session). e.0 == number) hub.sessions ≡ o → option_map (λ (e : ℕ × Session). e.1) o ≡ Some session → AreOctets session.input
+    by None is there = absurd cc
+    by (Some e) is there = subst (λ (s : Session). AreOctets s.input) (same_found e.1 session there) (found-each HasInput (λ (e : ℕ × Session). e.0 == number) hub.sessions e h is).0
+
+takes_octets : (piece : List ℕ) → AreOctets piece → (s : Session) → AreOctets s.input → AreOctets (takes piece s).input
+takes_octets piece q s i = All-append IsOctet s.input (take (room_of s) piece) i (All-take IsOctet (room_of s) piece q)
+
+-- what a call does to a session leaves its input
+step_octets : {hub : Hub} (f : Session → Session) → Step AreOctets hub f → (s : Session) → AreOctets s.input → AreOctets (f s).input
+step_octets f step s i = subst AreOctets (sym (step-input f step s)) i
+
+-- a first message is one of octets
+first_octets : (input : List ℕ) (found : List ℕ × List ℕ) → first_message input ≡ Some found → AreOctets input → AreOctets found.0 × AreOctets found.1
+first_octets input found is all = by (nat_lt (length input) (2 + two_octets input 0)) is
+  where
+    first : List ℕ × List ℕ
+    first = (slice_range input 2 (2 + two_octets input 0), drop (2 + two_octets input 0) input)
+
+    both : AreOctets first.0 × AreOctets first.1
+    both = (All-take IsOctet (2 + two_octets input 0 - 2) (drop 2 input) (All-drop IsOctet 2 input all), All-drop IsOctet (2 + two_octets input 0) input all)
+
+    by : (b : Bool) → cond b None (Some first) ≡ Some found → AreOctets found.0 × AreOctets found.1
+    by true e = absurd cc
+    by false e = subst (λ (p : List ℕ × List ℕ). AreOctets p.0 × AreOctets p.1) (same_found first found e) both
+
+pub octets-kept : IsKept AreOctets HoldsOctets
+octets-kept = record {
+  reads = λ hub number session found there is h. (first_octets session.input found is (found_octets hub number session there h)).0;
+  takes_up = λ hub number session found there is h. one_octets number (without_first found.1) (λ s i. (first_octets session.input found is (found_octets hub number session there h)).1) hub h;
+  changes = λ hub number f step h. one_octets number f (step_octets f step) hub h;
+  enters = λ hub entry by h. map_octets _ (λ e i. i) hub.sessions h;
+  times = λ hub point t h. map_octets _ (λ e i. timed_octets point t e.1 i) hub.sessions h;
+  takes_in = λ hub number piece q h. one_octets number (takes piece) (takes_octets piece q) hub h;
+  asks_stop = λ hub number rcode delay h. one_octets number (asked_to_stop rcode delay) (λ s i. stop_octets rcode delay s i) hub h;
+  makes = λ hub h. each-append HasInput hub.sessions ((hub.made, new_session (keeps_now hub) (now hub)) ∷ []) h (All-nil IsOctet, tt);
+  drops = λ hub number h. all_filter HasInput (λ e. not (e.0 == number)) hub.sessions h;
+}
+  where
+    timed_octets : (point t : ℕ) (s : Session) → AreOctets s.input → AreOctets (timed (plain_keeps point) t s).input
+    timed_octets point t s i = by (due (plain_keeps point) t s)
+      where
+        by : (o : Option EndReason) → AreOctets (ended_where (plain_keeps point) o s).input
+        by None = i
+        by (Some reason) = i
+
+    stop_octets : (rcode delay : ℕ) (s : Session) → AreOctets s.input → AreOctets (asked_to_stop rcode delay s).input
+    stop_octets rcode delay s i = by (is_open s.standing)
+      where
+        by : (b : Bool) → AreOctets (cond b (record s { standing = AskedToStop rcode delay }) s).input
+        by true = i
+        by false = i
+
+pub octets-parts : InParts AreOctets
+octets-parts = record { front = All-take IsOctet; rest = All-drop IsOctet }
+
+pub octets-lines : (text : List ℕ) (before behind : List ScriptLine) → first_later text ≡ None → script_of text ≡ Ok (before ++ behind)
+    → AllByRecursion (λ e. All (λ o. o < 256) e.1.input) (world_after before (start_world (before ++ behind))).hub.sessions
+octets-lines text before behind built read =
+    let lines = built-script text (before ++ behind) built read in
+    let sent = octets-sent text (before ++ behind) read in
+    keeps-lines AreOctets HoldsOctets octets-kept octets-parts before (start_world (before ++ behind)) (each-front IsBuiltLine before behind lines.0) (each-front (λ (line : ScriptLine). AreOctets (sent_by line)) before behind sent) tt
+
+pub octets-connected : (hub : Hub) → AllByRecursion (λ e. All (λ o. o < 256) e.1.input) hub.sessions → AllByRecursion (λ e. All (λ o. o < 256) e.1.input) (connect hub).1.sessions
+octets-connected hub h = keeps-called AreOctets HoldsOctets octets-kept connects hub tt h

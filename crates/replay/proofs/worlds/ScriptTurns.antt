@@ -1,0 +1,46 @@
+-- The lines that events print, one by one.
+--     text_from world events      the text from there on
+--     turn      one event more
+use Rattle.std.proofs.Common.{◌≡◌, ℕ, ◌+◌, ◌<◌, List, [], ◌∷◌, ◌++◌, length, drop, get_or, sym, ◌∙◌, ap, refl, append_assoc}
+use Rattle.std.proofs.lemmas.List.{at_drop_more}
+use Rattle.replay.specs.World.{World}
+use Rattle.replay.specs.TextWords.{by_history}
+use Rattle.replay.specs.Text.{ended_lines, printed_by, line_does}
+use Rattle.replay.specs.declared.line.Event.{Event}
+use Rattle.replay.specs.declared.world.World as program
+use Rattle.replay.specs.KeptLines.{event_said}
+use Rattle.replay.specs.KeptScripts.{events_said}
+use Rattle.replay.specs.KeptWorlds.{IsWorld, Acts, Does}
+
+-- the text from a world on
+abbrev pub text_from : World → List Event → List ℕ
+text_from world happened = ended_lines (printed_by by_history (events_said happened) world)
+
+-- what was written, and the text from here, in a world that is stood for
+pub record IsWritten (kept : program.World) (text : List ℕ) (happened : List Event) (whole : List ℕ) : Type 0 where
+  pub world : World
+  pub stands : IsWorld kept world
+  pub said : text ++ text_from world happened ≡ whole
+
+ended-append : (first rest : List (List ℕ)) → ended_lines (first ++ rest) ≡ ended_lines first ++ ended_lines rest
+ended-append [] rest = refl
+ended-append (l ∷ first) rest = ap (λ t. (l ++ 10 ∷ []) ++ t) (ended-append first rest) ∙ sym (append_assoc (l ++ 10 ∷ []) (ended_lines first) (ended_lines rest))
+
+-- one event more
+pub turn : (before after : program.World) (happened : List Event) (i : ℕ) (e : Event) (text line now whole : List ℕ) → i < length happened → e ≡ get_or happened i e
+    → IsWritten before text (drop i happened) whole → Does (line_does by_history (event_said e)) before line after → now ≡ text ++ line → IsWritten after now (drop (i + 1) happened) whole
+unfolding Acts
+turn before after happened i e text line now whole within is w does now_is =
+    let printed = line_does by_history (event_said e) w.world in
+    let p = does w.world w.stands in
+    let rest = drop (i + 1) happened in
+    record {
+      world = printed.0;
+      stands = p.stands;
+      said = ap (λ t. t ++ text_from printed.0 rest) (now_is ∙ ap (λ l. text ++ l) p.text)
+          ∙ append_assoc text (ended_lines printed.1) (text_from printed.0 rest)
+          ∙ ap (λ t. text ++ t) (sym (ended-append printed.1 (printed_by by_history (events_said rest) printed.0)))
+          ∙ ap (λ (f : Event). text ++ text_from w.world (f ∷ rest)) is
+          ∙ ap (λ t. text ++ t) (sym (at_drop_more (text_from w.world) happened i e within))
+          ∙ w.said;
+    }

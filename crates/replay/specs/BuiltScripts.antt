@@ -1,0 +1,55 @@
+-- Which scripts are built, and what a script is answered.
+--     is_built line      the lines that are built so far
+--     first_later octets      the number of the first line that isn't built
+--     reply_to_script octets      the status and the text for the octets that were read
+use Rattle.std.specs.Prelude.{ℕ, ◌+◌, Bool, true, false, Some, None, List, [], ◌∷◌, ◌++◌, take, drop, codes}
+use Rattle.std.specs.declared.option.Option.{Option}
+use Rattle.std.specs.Fmt.{decimal}
+use Rattle.replay.specs.Lines.{Word, ScriptLine, silent, timers, zone, at_moment, update, cut, send, stop, point}
+use Rattle.replay.specs.Scripts.{Known, nothing_known, fits, client_words, lines_read, max_script}
+use Rattle.replay.specs.Text.{text_of}
+use Rattle.replay.specs.Reply.{Reply, line}
+
+-- of the octets of a source, those that are read: all, or one more than a script may have
+unfoldable pub front_read : List ℕ → List ℕ
+front_read octets = take (max_script + 1) octets
+
+-- those that are left
+unfoldable pub left_behind : List ℕ → List ℕ
+left_behind octets = drop (max_script + 1) octets
+
+-- the lines that are built so far: lines that say nothing, timers, zones, moments, updates, points, and what peers send, are asked to stop, and are cut
+abbrev pub is_built : ScriptLine → Bool
+is_built silent = true
+is_built (timers i k) = true
+is_built (zone apex serial mode) = true
+is_built (at_moment t) = true
+is_built (update message) = true
+is_built (cut w) = true
+is_built (send w octets) = true
+is_built (stop w rcode delay) = true
+is_built point = true
+is_built _ = false
+
+-- the number of the first line that isn't built or may not stand there, from a number on
+abbrev pub first_unbuilt : List Word → Known → ℕ → List (Option ScriptLine) → Option ℕ
+first_unbuilt all known n [] = None
+first_unbuilt all known n (None ∷ lines) = Some n
+first_unbuilt all known n (Some line ∷ lines) = elim (is_built line) [
+  | false ↦ Some n
+  | true ↦ elim (fits all known line) [ None ↦ Some n | Some known_then ↦ first_unbuilt all known_then (n + 1) lines ]
+]
+
+unfoldable pub first_later : List ℕ → Option ℕ
+first_later octets = let lines = lines_read octets in first_unbuilt (client_words lines) nothing_known 1 lines
+
+abbrev pub later : ℕ → List ℕ
+later number = line (codes "later " ++ decimal number)
+
+abbrev pub reply_at : Option ℕ → List ℕ → Reply
+reply_at None octets = record { status = (text_of octets).0; text = (text_of octets).1 }
+reply_at (Some number) octets = record { status = 8; text = later number }
+
+-- the text of the script, or the first line that isn't built
+unfoldable pub reply_to_script : List ℕ → Reply
+reply_to_script octets = reply_at (first_later octets) octets

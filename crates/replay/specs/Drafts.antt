@@ -1,0 +1,96 @@
+-- A further line behind those of a script, and the lines that are left.
+--     Taken, taken_of draft      the head and the events so far
+--     known_of taken      what the lines so far have made
+--     may_stand all known line      whether a line is built and may stand there
+--     is_peers all event      whether the word of an event's peer is no client's
+--     GrowsBy taken line later      the head and the events with a further line
+--     TakesLine all draft line later taken      the line is taken where it may stand there
+--     lines_left too_long text      the lines of what is left of a script
+--     client_in line, has_client w clients      the client that a line names, and whether one of the clients has a word
+use Rattle.std.specs.Prelude.{◌≡◌, ℕ, Bool, true, false, ◌&&◌, ◌==◌, List, [], ◌∷◌, ◌++◌, map, length, Option, Some, None, is_some, string_bytes, if◌then◌else◌}
+use Rattle.std.specs.List.{list_any}
+use Rattle.std.specs.Str.{bytes_eq}
+use Rattle.std.specs.declared.alloc.Global.{Global}
+use Rattle.std.specs.declared.string.String.{String}
+use Rattle.push_base.specs.Optional.{◌>>=◌}
+use Rattle.dsosession.specs.declared.session.Timers.{Timers}
+use Rattle.zoneupdate.specs.Zones.{ZoneState, new_zone}
+use Rattle.history.specs.States.{State}
+use Rattle.history.specs.Keeping.{HomesKept, state_of, named_homes}
+use Rattle.replay.specs.Lines.{Word, ScriptLine, line_of}
+use Rattle.replay.specs.Scripts.{Known, fits, is_peer, client_word, lines_in, last_is_outside}
+use Rattle.replay.specs.declared.line.ZoneLine.{ZoneLine}
+use Rattle.replay.specs.declared.line.Event.{Event}
+use Rattle.replay.specs.declared.line.Event.TheVariants as events
+use Rattle.replay.specs.declared.line.Line.{Line}
+use Rattle.replay.specs.declared.line.Line.TheVariants as lines
+use Rattle.replay.specs.declared.script.Draft.{Draft}
+use Rattle.replay.specs.KeptLines.{said}
+use Rattle.replay.specs.BuiltScripts.{is_built}
+
+-- the head and the events so far; no timers where no line has named them
+pub record Taken : Type 0 where
+  pub timers : Option Timers
+  pub homes : HomesKept
+  pub events : List Event
+
+abbrev pub taken_of : Draft → Taken
+taken_of draft = record { timers = draft.timers; homes = draft.homes; events = draft.events.items }
+
+-- what the lines so far have made
+abbrev pub known_of : Taken → Known
+known_of taken = record { in_head = length taken.events == 0; has_timers = is_some taken.timers; homes = named_homes taken.homes; links = []; clients = [] }
+
+-- the line is built, and may stand there
+abbrev pub may_stand : List Word → Known → ScriptLine → Bool
+may_stand all known line = is_built line && is_some (fits all known line)
+
+-- an event's peer, if it has one, is no client
+abbrev pub is_peers : List Word → Event → Bool
+is_peers all (events.Send s) = is_peer all (string_bytes s.word)
+is_peers all (events.Stop s) = is_peer all (string_bytes s.word)
+is_peers all (events.Cut c) = is_peer all (string_bytes c.word)
+is_peers all _ = true
+
+-- ---- a line that is taken
+
+abbrev pub with_zone : State → ZoneState → State
+with_zone state zone = record state { zones = state.zones ++ zone ∷ [] }
+
+-- a further zone
+pub record HasZone (homes : HomesKept) (line : ZoneLine) (homes_then : HomesKept) : Type 0 where
+  pub state : state_of homes_then ≡ with_zone (state_of homes) (new_zone line.apex line.serial line.writable)
+  pub named : named_homes homes_then ≡ named_homes homes ++ (line.apex, false) ∷ []
+
+-- the head and the events with a further line
+abbrev pub GrowsBy : Taken → Line → Taken → Type 0
+GrowsBy taken lines.Silent later = later ≡ taken
+GrowsBy taken (lines.Timers t) later = later ≡ record taken { timers = Some t }
+GrowsBy taken (lines.Zone z) later = HasZone taken.homes z later.homes × (later ≡ record taken { homes = later.homes })
+GrowsBy taken (lines.Event e) later = later ≡ record taken { events = taken.events ++ e ∷ [] }
+
+-- the line was taken, which may stand there, or wasn't, which may not
+abbrev pub TakesLine : List Word → Draft → Line → Draft → Bool → Type 0
+TakesLine all draft line later true = (may_stand all (known_of (taken_of draft)) (said line) ≡ true) × GrowsBy (taken_of draft) line (taken_of later)
+TakesLine all draft line later false = may_stand all (known_of (taken_of draft)) (said line) ≡ false
+
+-- ---- the lines that are left
+
+-- the lines of the rest of a script, the last of which is outside where the script is too long
+abbrev pub lines_left : Bool → List ℕ → List (Option ScriptLine)
+lines_left too_long text = if too_long then last_is_outside (map line_of (lines_in text)) else map line_of (lines_in text)
+
+-- the word of the client, or of the lone one, that a line names
+abbrev pub client_in : List ℕ → Option Word
+client_in line = line_of line >>= client_word
+
+abbrev pub in_list : Option Word → List Word
+in_list None = []
+in_list (Some w) = w ∷ []
+
+-- whether a client has a word, and whether one of them has
+abbrev pub is_client_of : Word → String Global → Bool
+is_client_of w client = bytes_eq w (string_bytes client)
+
+abbrev pub has_client : Word → List (String Global) → Bool
+has_client w clients = list_any (is_client_of w) clients

@@ -1,0 +1,114 @@
+-- The words of a script's text.
+--     spaced words      words with a space between each two
+--     end_words, close_words, why_words      reasons
+--     show_at records world seat question      what `show` tells behind the question
+use Rattle.std.specs.Prelude.{ℕ, Bool, true, List, [], ◌∷◌, length, Option, Some, None, nat_lt, codes, decimal, if◌then◌else◌}
+use Rattle.std.specs.List.{join_with_byte}
+use Rattle.push_base.specs.Hexadecimal.{hex_text}
+use Rattle.push_base.specs.Cases.{is_empty}
+use Rattle.dnsname.specs.Text.{name_text}
+use Rattle.rrset.specs.RecordSet.{RecordSet}
+use Rattle.rrset.specs.declared.record.Key.{Key}
+use Rattle.rrset.specs.declared.record.Shown.{Shown}
+use Rattle.rrset.specs.declared.record.Question.{Question}
+use Rattle.dsosession.specs.declared.session.EndReason.{EndReason}
+use Rattle.dsosession.specs.declared.session.EndReason.TheVariants as ends
+use Rattle.dsosession.specs.declared.session.CloseReason.{CloseReason}
+use Rattle.dsosession.specs.declared.session.CloseReason.TheVariants as closes
+use Rattle.pushserver.specs.declared.given.Why.{Why}
+use Rattle.pushserver.specs.declared.given.Why.TheVariants as whys
+use Rattle.pushserver.specs.Sessions.{Note, Hub}
+use Rattle.pushserver.specs.Hubs.{session_of}
+use Rattle.pushserver.specs.ToldMessages.{records_noted}
+use Rattle.pushclient.specs.Clients.{Held, off, asked_only, refused_with, set_held, held}
+use Rattle.replay.specs.World.{Seat, World, last_note, filled_of}
+
+abbrev pub spaced : List (List ℕ) → List ℕ
+spaced words = join_with_byte 32 words
+
+abbrev pub end_words : EndReason → List ℕ
+end_words ends.Short = codes "short"
+end_words ends.Answer = codes "answer"
+end_words ends.Counts = codes "counts"
+end_words ends.Tlvs = codes "tlvs"
+end_words ends.Early = codes "early"
+end_words (ends.Misuse kind) = spaced (codes "misuse" ∷ decimal kind ∷ [])
+end_words (ends.BadData kind) = spaced (codes "data" ∷ decimal kind ∷ [])
+end_words (ends.Unknown kind) = spaced (codes "type" ∷ decimal kind ∷ [])
+end_words (ends.IdInUse id) = spaced (codes "id" ∷ decimal id ∷ [])
+end_words (ends.Twice id) = spaced (codes "twice" ∷ decimal id ∷ [])
+end_words ends.Silent = codes "silent"
+end_words ends.Idle = codes "idle"
+end_words ends.Stopped = codes "stopped"
+end_words (ends.Behind point) = spaced (codes "behind" ∷ decimal point ∷ [])
+end_words ends.Gone = codes "gone"
+
+abbrev pub close_words : CloseReason → List ℕ
+close_words closes.Short = codes "short"
+close_words closes.Opcode = codes "opcode"
+close_words closes.Counts = codes "counts"
+close_words closes.Tlvs = codes "tlvs"
+close_words closes.Early = codes "early"
+close_words closes.Idle = codes "idle"
+close_words (closes.Stranger id) = spaced (codes "stranger" ∷ decimal id ∷ [])
+close_words (closes.Misuse kind) = spaced (codes "misuse" ∷ decimal kind ∷ [])
+close_words (closes.BadData kind) = spaced (codes "data" ∷ decimal kind ∷ [])
+close_words (closes.Unknown kind) = spaced (codes "type" ∷ decimal kind ∷ [])
+close_words (closes.Interval ms) = spaced (codes "interval" ∷ decimal ms ∷ [])
+close_words (closes.Kept rcode) = spaced (codes "kept" ∷ decimal rcode ∷ [])
+close_words (closes.Delay ms rcode) = spaced (codes "delay" ∷ decimal ms ∷ decimal rcode ∷ [])
+
+abbrev pub why_words : Why → List ℕ
+why_words whys.Long = codes "long"
+why_words whys.Short = codes "short"
+why_words whys.Query = codes "query"
+why_words whys.Coded = codes "coded"
+why_words (whys.Unreadable place) = spaced (codes "unreadable" ∷ decimal place ∷ [])
+why_words whys.Nothing = codes "nothing"
+
+-- octets in hexadecimal, and - for none
+abbrev pub octets_text : List ℕ → List ℕ
+octets_text octets = if is_empty octets then codes "-" else hex_text octets
+
+abbrev pub record_line : Key × Shown → List ℕ
+record_line e = spaced (codes "rr" ∷ name_text e.1.owner ∷ decimal e.1.ttl ∷ decimal e.0.class ∷ decimal e.0.kind ∷ octets_text e.1.rdata ∷ [])
+
+-- what show tells: a state with its words, and the records that follow
+abbrev pub ShowTold : Type 0
+ShowTold = List ℕ × RecordSet
+
+abbrev pub with_records : List ℕ → RecordSet → ShowTold
+with_records state set = (spaced (state ∷ decimal (length set) ∷ []), set)
+
+-- the records of the history at the point that the last whole frame's note gives for the name
+abbrev pub records_told : Hub → Option Note → Question → RecordSet
+records_told hub None question = []
+records_told hub (Some note) question = records_noted hub note question
+
+-- Which records a held question shows: those of the history, or the set that the notices taken since the answer lead to.
+abbrev pub HeldRecords : Type 0
+HeldRecords = Hub → Seat → Question → RecordSet → RecordSet
+
+abbrev pub is_filling : Seat → ℕ → Bool
+is_filling seat id = elim (filled_of seat id) [ None ↦ true | Some n ↦ nat_lt seat.reached n ]
+
+abbrev pub note_in : Hub → Seat → Option Note
+note_in hub seat = elim seat.session [ None ↦ None | Some number ↦ elim (session_of hub number) [ None ↦ None | Some session ↦ last_note seat session ] ]
+
+abbrev pub by_history : HeldRecords
+by_history hub seat question set = records_told hub (note_in hub seat) question
+
+abbrev pub by_notices : HeldRecords
+by_notices hub seat question set = set
+
+abbrev pub told_of : HeldRecords → Held → Hub → Seat → Question → ShowTold
+told_of records off hub seat question = (codes "off", [])
+told_of records asked_only hub seat question = (codes "asked", [])
+told_of records (refused_with rcode) hub seat question = (spaced (codes "refused" ∷ decimal rcode ∷ []), [])
+told_of records (set_held id set) hub seat question =
+    if seat.is_lone then with_records (codes "answered") set
+    else if is_filling seat id then (codes "filling", [])
+    else with_records (codes "held") (records hub seat question set)
+
+abbrev pub show_at : HeldRecords → World → Seat → Question → ShowTold
+show_at records world seat question = told_of records (held seat.client question) world.hub seat question

@@ -1,0 +1,88 @@
+//! The words of a script's clients, which its peers do not have.
+
+ghost use Rattle.std.specs.Prelude.{◌≡◌, ◌++◌, map, option_map, IfOk, OnOk, string_bytes};
+ghost use Rattle.replay.specs.Scripts.{client_words, lines_read, is_among};
+ghost use Rattle.replay.specs.Drafts.{client_in, in_list, is_peers, is_client_of, has_client};
+
+use crate::line::Event;
+use crate::line_words::plain_word;
+use crate::text_lines::{is_outside, is_too_long, split_line};
+use push_base::NoMemory;
+use std::alloc::Global;
+
+/// The words of all clients that a script has, in the order of their lines.
+pub(crate) fn client_words(alloc: Global, octets: &[u8]) -> Result<Vec<String>, NoMemory>
+    ensures { IfOk result (λ words. map (λ w. string_bytes w) words.items ≡ client_words (lines_read octets.now)) }
+{
+    let too_long = is_too_long(octets);
+    let mut words = Vec::new(alloc);
+    let mut rest = octets;
+    'lines: while !rest.is_empty() {
+        let (line, after) = split_line(rest);
+        if is_outside(after, too_long) {
+            return Ok(words);
+        }
+        add_client(alloc, line, &mut words)?;
+        rest = after;
+    }
+    Ok(words)
+}
+
+// Adds the word of the client that a line names, if it names one.
+fn add_client(alloc: Global, line: &[u8], words: &mut Vec<String>) -> Result<(), NoMemory>
+    ensures { OnOk result (map (λ w. string_bytes w) words.new.items ≡ map (λ w. string_bytes w) words.old.items ++ in_list (client_in line.now)) }
+{
+    match client_in(alloc, line)? {
+        Some(word) => {
+            words.push(word)?;
+            Ok(())
+        }
+        None => Ok(()),
+    }
+}
+
+// The word of the client, or of the lone one, that a line names.
+fn client_in(alloc: Global, line: &[u8]) -> Result<Option<String>, NoMemory>
+    ensures { IfOk result (λ found. option_map (λ w. string_bytes w) found ≡ client_in line.now) }
+{
+    match line.strip_prefix(b"client ".as_slice()) {
+        Some(word) => plain_word(alloc, word),
+        None => match line.strip_prefix(b"lone ".as_slice()) {
+            Some(word) => plain_word(alloc, word),
+            None => Ok(None),
+        },
+    }
+}
+
+/// Whether the word of an event's peer, if it has one, is none of those of the clients.
+pub(crate) fn is_peers(clients: &[String], event: &Event) -> bool
+    ensures { result ≡ is_peers (map (λ w. string_bytes w) clients.now) event.now }
+{
+    match event {
+        Event::Update(_) | Event::Point | Event::At(_) => true,
+        Event::Send(sent) => !has_client(clients, sent.word.as_bytes()),
+        Event::Stop(stopping) => !has_client(clients, stopping.word.as_bytes()),
+        Event::Cut(cutting) => !has_client(clients, cutting.word.as_bytes()),
+    }
+}
+
+// Whether one of the clients has that word.
+#[tactic(auto, using(crate::proofs::lines::ClientLines::any_client))]
+fn has_client(clients: &[String], name: &[u8]) -> bool
+    ensures { result ≡ is_among (map (λ w. string_bytes w) clients.now) name.now }
+{
+    is_any_client(clients, name)
+}
+
+fn is_any_client(clients: &[String], name: &[u8]) -> bool
+    ensures { result ≡ has_client name.now clients.now }
+{
+    clients.iter().any(|client| is_client(client, name))
+}
+
+// Whether a client has that word.
+fn is_client(client: &String, name: &[u8]) -> bool
+    ensures { result ≡ is_client_of name.now client.now }
+{
+    name == client.as_bytes()
+}

@@ -1,0 +1,238 @@
+//! The lines that events print.
+
+ghost use Rattle.std.specs.Prelude.{◌≡◌, ◌++◌, ◌∷◌, [], codes, decimal, IfOk, string_bytes};
+ghost use Rattle.replay.specs.TextWords.{by_history, end_words, octets_text};
+ghost use Rattle.replay.specs.Text.{cuts, exchanges, line_does, moments, printing, sends, stops, updates};
+ghost use Rattle.pushserver.specs.Hubs.{newest, now};
+ghost use Rattle.replay.specs.KeptLines.{event_said};
+ghost use Rattle.replay.specs.KeptWorlds.{Does};
+
+use crate::exchanging::{Exchanged, exchange};
+use crate::line::Event;
+use crate::world::{Peer, World};
+use dsosession::session::EndReason;
+use push_base::{NoMemory, hex_text};
+use pushserver::{ConnectFault, HubFault};
+use std::alloc::Global;
+
+/// What an event prints, each line with its end.
+pub fn event_line(alloc: Global, world: &mut World, event: &Event) -> Result<String, NoMemory>
+    ensures { IfOk result (λ text. Does (line_does by_history (event_said event.now)) world.old (string_bytes text) world.new) }
+{
+    match event {
+        Event::Update(message) => update_line(alloc, world, message.as_slice()),
+        Event::Send(sent) => {
+            send_lines(alloc, world, sent.word.as_str(), sent.octets.as_slice())
+        }
+        Event::Point => point_line(alloc, world),
+        Event::At(moment) => moment_lines(alloc, world, *moment),
+        Event::Stop(stopping) => {
+            let word = stopping.word.as_str();
+            stop_line(alloc, world, word, stopping.rcode, stopping.delay)
+        }
+        Event::Cut(cutting) => cut_line(alloc, world, cutting.word.as_str()),
+    }
+}
+
+// An update message comes.
+fn update_line(alloc: Global, world: &mut World, message: &[u8]) -> Result<String, NoMemory>
+    ensures { IfOk result (λ text. Does (updates message.now) world.old (string_bytes text) world.new) }
+{
+    match world.hub.update(message) {
+        Ok(code) => update_text(alloc, code),
+        Err(HubFault::NoMemory) => Err(NoMemory),
+        Err(HubFault::Full) => unreachable!(),
+    }
+}
+
+// The newest point and the moment are asked for.
+fn point_line(alloc: Global, world: &mut World) -> Result<String, NoMemory>
+    ensures { IfOk result (λ text. Does (λ plain. printing (codes "point" ∷ decimal (newest plain.hub) ∷ decimal (now plain.hub) ∷ []) plain) world.old (string_bytes text) world.new) }
+{
+    point_text(alloc, world.hub.point(), world.hub.now())
+}
+
+// A moment comes.
+fn moment_lines(alloc: Global, world: &mut World, moment: u64) -> Result<String, NoMemory>
+    ensures { IfOk result (λ text. Does (moments moment) world.old (string_bytes text) world.new) }
+{
+    match world.hub.moment(moment) {
+        Ok(()) => Ok(String::new(alloc)),
+        Err(HubFault::Full) => full_text(alloc),
+        Err(HubFault::NoMemory) => Err(NoMemory),
+    }
+}
+
+// The session of a peer is asked to stop.
+fn stop_line(
+    alloc: Global,
+    world: &mut World,
+    word: &str,
+    rcode: u8,
+    delay: u32,
+) -> Result<String, NoMemory>
+    ensures { IfOk result (λ text. Does (stops word.now rcode delay) world.old (string_bytes text) world.new) }
+{
+    world.stop(word, rcode, delay);
+    stop_text(alloc, word)
+}
+
+// The connection of a peer is cut.
+fn cut_line(alloc: Global, world: &mut World, word: &str) -> Result<String, NoMemory>
+    ensures { IfOk result (λ text. Does (cuts word.now) world.old (string_bytes text) world.new) }
+{
+    world.cut(word);
+    cut_text(alloc, word)
+}
+
+// A peer sends octets: to its session, or to a new one where it has none.
+fn send_lines(
+    alloc: Global,
+    world: &mut World,
+    word: &str,
+    octets: &[u8],
+) -> Result<String, NoMemory>
+    ensures { IfOk result (λ text. Does (sends word.now octets.now) world.old (string_bytes text) world.new) }
+{
+    if let Some(session) = world.session(word) {
+        return exchange_lines(alloc, world, word, session, octets);
+    }
+    match world.hub.connect() {
+        Ok(session) => {
+            let peer = Peer {
+                word: String::from_str(alloc, word)?,
+                session,
+            };
+            world.peers.push(peer)?;
+            exchange_lines(alloc, world, word, session, octets)
+        }
+        Err(ConnectFault::NoSeat) => noseat_text(alloc, word),
+        Err(ConnectFault::NoMemory) => Err(NoMemory),
+    }
+}
+
+// Octets go to the session of a peer, and what comes back is told, and the end of the session, which cuts the peer.
+fn exchange_lines(
+    alloc: Global,
+    world: &mut World,
+    word: &str,
+    session: u64,
+    octets: &[u8],
+) -> Result<String, NoMemory>
+    ensures { IfOk result (λ text. Does (exchanges word.now session octets.now) world.old (string_bytes text) world.new) }
+{
+    let Exchanged { octets, over } = exchange(alloc, &mut world.hub, session, octets)?;
+    let text = bytes_line(alloc, word, octets.as_slice())?;
+    match over {
+        None => Ok(text),
+        Some(reason) => {
+            world.cut(word);
+            ended_text(alloc, text, word, reason)
+        }
+    }
+}
+
+// The line of the octets that come back.
+fn bytes_line(alloc: Global, word: &str, octets: &[u8]) -> Result<String, NoMemory>
+    ensures { IfOk result (λ text. string_bytes text ≡ codes "bytes " ++ (word.now ++ 32 ∷ (octets_text octets.now ++ 10 ∷ []))) }
+{
+    let digits = octets_text(alloc, octets)?;
+    bytes_text(alloc, word, digits.as_str())
+}
+
+// A text, and the line of an end behind it.
+fn ended_text(
+    alloc: Global,
+    mut text: String,
+    word: &str,
+    reason: EndReason,
+) -> Result<String, NoMemory>
+    ensures { IfOk result (λ told. string_bytes told ≡ string_bytes text ++ (codes "end " ++ (word.now ++ 32 ∷ (end_words reason ++ 10 ∷ [])))) }
+{
+    let words = end_words(alloc, reason)?;
+    let end = end_text(alloc, word, words.as_str())?;
+    text.push_str(end.as_str())?;
+    Ok(text)
+}
+
+fn update_text(alloc: Global, code: u8) -> Result<String, NoMemory>
+    ensures { IfOk result (λ text. string_bytes text ≡ codes "update " ++ (decimal code ++ 10 ∷ [])) }
+{
+    format!(in alloc; "update {code}\n")
+}
+
+fn point_text(alloc: Global, point: u64, moment: u64) -> Result<String, NoMemory>
+    ensures { IfOk result (λ text. string_bytes text ≡ codes "point " ++ (decimal point ++ 32 ∷ (decimal moment ++ 10 ∷ []))) }
+{
+    format!(in alloc; "point {point} {moment}\n")
+}
+
+fn full_text(alloc: Global) -> Result<String, NoMemory>
+    ensures { IfOk result (λ text. string_bytes text ≡ codes "full" ++ 10 ∷ []) }
+{
+    format!(in alloc; "full\n")
+}
+
+fn stop_text(alloc: Global, word: &str) -> Result<String, NoMemory>
+    ensures { IfOk result (λ text. string_bytes text ≡ codes "stop " ++ (word.now ++ 10 ∷ [])) }
+{
+    format!(in alloc; "stop {word}\n")
+}
+
+fn cut_text(alloc: Global, word: &str) -> Result<String, NoMemory>
+    ensures { IfOk result (λ text. string_bytes text ≡ codes "cut " ++ (word.now ++ 10 ∷ [])) }
+{
+    format!(in alloc; "cut {word}\n")
+}
+
+fn noseat_text(alloc: Global, word: &str) -> Result<String, NoMemory>
+    ensures { IfOk result (λ text. string_bytes text ≡ codes "noseat " ++ (word.now ++ 10 ∷ [])) }
+{
+    format!(in alloc; "noseat {word}\n")
+}
+
+// Octets in hexadecimal, and `-` for none.
+fn octets_text(alloc: Global, octets: &[u8]) -> Result<String, NoMemory>
+    ensures { IfOk result (λ text. string_bytes text ≡ octets_text octets.now) }
+{
+    if octets.is_empty() {
+        format!(in alloc; "-")
+    } else {
+        hex_text(alloc, octets)
+    }
+}
+
+fn bytes_text(alloc: Global, word: &str, digits: &str) -> Result<String, NoMemory>
+    ensures { IfOk result (λ text. string_bytes text ≡ codes "bytes " ++ (word.now ++ 32 ∷ (digits.now ++ 10 ∷ []))) }
+{
+    format!(in alloc; "bytes {word} {digits}\n")
+}
+
+fn end_text(alloc: Global, word: &str, words: &str) -> Result<String, NoMemory>
+    ensures { IfOk result (λ text. string_bytes text ≡ codes "end " ++ (word.now ++ 32 ∷ (words.now ++ 10 ∷ []))) }
+{
+    format!(in alloc; "end {word} {words}\n")
+}
+
+// The words of the reason of an end.
+fn end_words(alloc: Global, reason: EndReason) -> Result<String, NoMemory>
+    ensures { IfOk result (λ text. string_bytes text ≡ end_words reason) }
+{
+    match reason {
+        EndReason::Short => format!(in alloc; "short"),
+        EndReason::Answer => format!(in alloc; "answer"),
+        EndReason::Counts => format!(in alloc; "counts"),
+        EndReason::Tlvs => format!(in alloc; "tlvs"),
+        EndReason::Early => format!(in alloc; "early"),
+        EndReason::Misuse(kind) => format!(in alloc; "misuse {kind}"),
+        EndReason::BadData(kind) => format!(in alloc; "data {kind}"),
+        EndReason::Unknown(kind) => format!(in alloc; "type {kind}"),
+        EndReason::IdInUse(id) => format!(in alloc; "id {id}"),
+        EndReason::Twice(id) => format!(in alloc; "twice {id}"),
+        EndReason::Silent => format!(in alloc; "silent"),
+        EndReason::Idle => format!(in alloc; "idle"),
+        EndReason::Stopped => format!(in alloc; "stopped"),
+        EndReason::Behind(point) => format!(in alloc; "behind {point}"),
+        EndReason::Gone => format!(in alloc; "gone"),
+    }
+}

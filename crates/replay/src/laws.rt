@@ -1,0 +1,10 @@
+//! Laws of the worlds that scripts tell of.
+
+ghost use Rattle.std.specs.Prelude.{ℕ, List};
+ghost use Rattle.replay.specs.Cuts.{AnswersEveryCutIn};
+
+/// Between any two lines of a script that is built, a session at rest answers the whole messages in its octets one after
+/// the other, in whatever pieces they come, as long as no entry is made (RFC 7766, 8; RFC 8490, 5.4).
+pub fn sessions_answer_every_cut()
+    ensures { (script : List ℕ) → AnswersEveryCutIn script }
+{}

@@ -1,0 +1,358 @@
+//! The lines of a script that are built.
+
+ghost use Rattle.std.specs.Prelude.{◌≡◌, ◌≤◌, false, ◌∷◌, [], IfOk, IfSome, IfNone, None, position, ◌==◌, ◌<◌, option_map, length};
+ghost use Rattle.replay.specs.Lines.{cut, send, update, timers_line, zone_line, at_line, stop_line, of_word, of_octets, of_word_and_octets, line_of};
+ghost use Rattle.replay.specs.KeptLines.{said, IsSound, words_in, one_in, two_in, three_in, understood, begins_silent, kind_of, said_behind};
+
+use crate::line_words::{
+    moment_of_word, name_of_word, number_of_word, octets_of_word, plain_word, rcode_of_word,
+    writable_of_word,
+};
+use dnsname::name::{Name, Octets};
+use dsosession::session::Timers;
+use dsosession::times::LEAST_KEEPALIVE;
+use push_base::NoMemory;
+use std::alloc::Global;
+
+/// A zone line: the apex, the serial, and whether the zone may be written.
+#[derive(Debug, Drop)]
+pub struct ZoneLine {
+    /// The zone's own name.
+    pub apex: Name,
+    /// The SOA's serial (RFC 1035, 3.3.13).
+    pub serial: u32,
+    /// Whether updates may change it.
+    pub writable: bool,
+}
+
+/// The octets that a peer sends, and the peer's word.
+#[derive(Debug, Drop)]
+pub struct Sent {
+    /// The peer's word.
+    pub word: String,
+    /// What it sends: messages behind their lengths, or any part of that (RFC 7766, 8).
+    pub octets: Octets,
+}
+
+/// The word of a peer whose session is asked to stop, the RCODE that it is told, and for how long it is to stay away,
+/// in milliseconds (RFC 8490, 6.6.1).
+#[derive(Debug, Drop)]
+pub struct Stopping {
+    /// The peer's word.
+    pub word: String,
+    /// The RCODE that it is told, at most 15.
+    pub rcode: u8,
+    /// The Retry Delay, in milliseconds.
+    pub delay: u32,
+}
+
+/// The word of a peer whose connection is cut.
+#[derive(Debug, Drop)]
+pub struct Cutting {
+    /// The peer's word.
+    pub word: String,
+}
+
+/// What happens.
+#[derive(Debug, Drop)]
+pub enum Event {
+    /// An update message comes (RFC 2136, 2).
+    Update(Octets),
+    /// A peer sends octets.
+    Send(Sent),
+    /// The newest point and the moment are asked for.
+    Point,
+    /// It is a moment, in milliseconds since the start.
+    At(u64),
+    /// A peer's session is asked to stop (RFC 8490, 6.6.1).
+    Stop(Stopping),
+    /// A peer's connection is cut.
+    Cut(Cutting),
+}
+
+/// A line of a script that is built.
+#[derive(Debug, Drop)]
+pub enum Line {
+    /// It says nothing.
+    Silent,
+    /// What the server grants to a Keepalive (RFC 8490, 7.1).
+    Timers(Timers),
+    /// A zone.
+    Zone(ZoneLine),
+    /// Something happens.
+    Event(Event),
+}
+
+// The kinds of lines that say something and are built.
+#[derive(Clone, Copy)]
+enum Kind {
+    Timers,
+    Zone,
+    At,
+    Update,
+    Cut,
+    Send,
+    Stop,
+    Point,
+    Other,
+}
+
+/// What a line says, if it is built.
+pub(crate) fn read_line(alloc: Global, line: &[u8]) -> Result<Option<Line>, NoMemory>
+    ensures exact { IfOk result (λ found. option_map (λ l. said l) found ≡ understood (line_of line.now)) }
+    ensures sound { IfOk result (λ found. IfSome found IsSound) }
+{
+    match line {
+        [] => Ok(Some(Line::Silent)),
+        [b'#', comment @ ..] => Ok(comment_line(comment)),
+        _ => speaking_line(alloc, line),
+    }
+}
+
+// A line that begins with `#`, by what follows: it says nothing, and is UTF-8.
+fn comment_line(comment: &[u8]) -> Option<Line>
+    ensures exact { option_map (λ l. said l) result ≡ understood (line_of (35 ∷ comment.now)) }
+    ensures sound { IfSome result IsSound }
+{
+    match str::from_utf8(comment) {
+        Ok(_) => Some(Line::Silent),
+        Err(_) => None,
+    }
+}
+
+// What a line says that neither is empty nor begins with `#`.
+fn speaking_line(alloc: Global, line: &[u8]) -> Result<Option<Line>, NoMemory>
+    requires { begins_silent line.now ≡ false }
+    ensures exact { IfOk result (λ found. option_map (λ l. said l) found ≡ understood (line_of line.now)) }
+    ensures sound { IfOk result (λ found. IfSome found IsSound) }
+{
+    match split_word(line) {
+        Some((word, rest)) => longer_line(alloc, kind_of(word), rest),
+        None => Ok(single_word(kind_of(line))),
+    }
+}
+
+// The kind of a line by its first word.
+fn kind_of(word: &[u8]) -> Kind
+    ensures { result ≡ kind_of word.now }
+{
+    if word == b"timers".as_slice() {
+        Kind::Timers
+    } else if word == b"zone".as_slice() {
+        Kind::Zone
+    } else if word == b"at".as_slice() {
+        Kind::At
+    } else if word == b"update".as_slice() {
+        Kind::Update
+    } else if word == b"cut".as_slice() {
+        Kind::Cut
+    } else if word == b"send".as_slice() {
+        Kind::Send
+    } else if word == b"stop".as_slice() {
+        Kind::Stop
+    } else if word == b"point".as_slice() {
+        Kind::Point
+    } else {
+        Kind::Other
+    }
+}
+
+// What a line of this kind says with nothing behind its first word.
+fn single_word(kind: Kind) -> Option<Line>
+    ensures exact { option_map (λ l. said l) result ≡ said_behind kind [] }
+    ensures sound { IfSome result IsSound }
+{
+    match kind {
+        Kind::Point => Some(Line::Event(Event::Point)),
+        Kind::Timers | Kind::Zone | Kind::At | Kind::Update => None,
+        Kind::Cut | Kind::Send | Kind::Stop | Kind::Other => None,
+    }
+}
+
+// What a line of this kind says with that text behind its first word.
+fn longer_line(alloc: Global, kind: Kind, text: &[u8]) -> Result<Option<Line>, NoMemory>
+    ensures exact { IfOk result (λ found. option_map (λ l. said l) found ≡ said_behind kind (words_in text.now)) }
+    ensures sound { IfOk result (λ found. IfSome found IsSound) }
+{
+    match kind {
+        Kind::Timers => Ok(timers_line(text)),
+        Kind::Zone => zone_line(alloc, text),
+        Kind::At => Ok(at_line(text)),
+        Kind::Update => update_line(alloc, text),
+        Kind::Cut => cut_line(alloc, text),
+        Kind::Send => send_line(alloc, text),
+        Kind::Stop => stop_line(alloc, text),
+        Kind::Point | Kind::Other => Ok(None),
+    }
+}
+
+// What follows the first word of a line of timers: the time without activity after which a session ends, and the
+// interval of Keepalives, in milliseconds (RFC 8490, 6.2), which is 10 seconds or more.
+fn timers_line(text: &[u8]) -> Option<Line>
+    ensures exact { option_map (λ l. said l) result ≡ timers_line (words_in text.now) }
+    ensures sound { IfSome result IsSound }
+{
+    let (inactivity, keepalive) = two_words(text)?;
+    let inactivity = number_of_word(inactivity)?;
+    let keepalive = number_of_word(keepalive)?;
+    if keepalive < LEAST_KEEPALIVE {
+        return None;
+    }
+    Some(Line::Timers(Timers {
+        inactivity,
+        keepalive,
+    }))
+}
+
+// What follows the first word of a zone line: the apex, the serial, and `open` or `shut`.
+fn zone_line(alloc: Global, text: &[u8]) -> Result<Option<Line>, NoMemory>
+    ensures exact { IfOk result (λ found. option_map (λ l. said l) found ≡ zone_line (words_in text.now)) }
+    ensures sound { IfOk result (λ found. IfSome found IsSound) }
+{
+    let Some((apex, serial, mode)) = three_words(text) else {
+        return Ok(None);
+    };
+    let Some(apex) = name_of_word(alloc, apex)? else {
+        return Ok(None);
+    };
+    let Some(serial) = number_of_word(serial) else {
+        return Ok(None);
+    };
+    let Some(writable) = writable_of_word(mode) else {
+        return Ok(None);
+    };
+    Ok(Some(Line::Zone(ZoneLine {
+        apex,
+        serial,
+        writable,
+    })))
+}
+
+// What follows the first word of a line with a moment: the moment, in milliseconds.
+fn at_line(text: &[u8]) -> Option<Line>
+    ensures exact { option_map (λ l. said l) result ≡ at_line (words_in text.now) }
+    ensures sound { IfSome result IsSound }
+{
+    let moment = moment_of_word(one_word(text)?)?;
+    Some(Line::Event(Event::At(moment)))
+}
+
+// What follows the first word of an update line: the octets of the message.
+fn update_line(alloc: Global, text: &[u8]) -> Result<Option<Line>, NoMemory>
+    ensures exact { IfOk result (λ found. option_map (λ l. said l) found ≡ of_octets update (words_in text.now)) }
+    ensures sound { IfOk result (λ found. IfSome found IsSound) }
+{
+    let Some(octets) = one_word(text) else {
+        return Ok(None);
+    };
+    let Some(octets) = octets_of_word(alloc, octets)? else {
+        return Ok(None);
+    };
+    Ok(Some(Line::Event(Event::Update(octets))))
+}
+
+// What follows the first word of a line that cuts a connection: the peer's word.
+fn cut_line(alloc: Global, text: &[u8]) -> Result<Option<Line>, NoMemory>
+    ensures exact { IfOk result (λ found. option_map (λ l. said l) found ≡ of_word cut (words_in text.now)) }
+    ensures sound { IfOk result (λ found. IfSome found IsSound) }
+{
+    let Some(word) = one_word(text) else {
+        return Ok(None);
+    };
+    let Some(word) = plain_word(alloc, word)? else {
+        return Ok(None);
+    };
+    Ok(Some(Line::Event(Event::Cut(Cutting { word }))))
+}
+
+// What follows the first word of a send line: the peer's word, and the octets.
+fn send_line(alloc: Global, text: &[u8]) -> Result<Option<Line>, NoMemory>
+    ensures exact { IfOk result (λ found. option_map (λ l. said l) found ≡ of_word_and_octets send (words_in text.now)) }
+    ensures sound { IfOk result (λ found. IfSome found IsSound) }
+{
+    let Some((word, octets)) = two_words(text) else {
+        return Ok(None);
+    };
+    let Some(word) = plain_word(alloc, word)? else {
+        return Ok(None);
+    };
+    let Some(octets) = octets_of_word(alloc, octets)? else {
+        return Ok(None);
+    };
+    Ok(Some(Line::Event(Event::Send(Sent { word, octets }))))
+}
+
+// What follows the first word of a line that ends a session: the peer's word, the RCODE, and the delay.
+fn stop_line(alloc: Global, text: &[u8]) -> Result<Option<Line>, NoMemory>
+    ensures exact { IfOk result (λ found. option_map (λ l. said l) found ≡ stop_line (words_in text.now)) }
+    ensures sound { IfOk result (λ found. IfSome found IsSound) }
+{
+    let Some((word, rcode, delay)) = three_words(text) else {
+        return Ok(None);
+    };
+    let Some(word) = plain_word(alloc, word)? else {
+        return Ok(None);
+    };
+    let Some(rcode) = rcode_of_word(rcode) else {
+        return Ok(None);
+    };
+    let Some(delay) = number_of_word(delay) else {
+        return Ok(None);
+    };
+    Ok(Some(Line::Event(Event::Stop(Stopping { word, rcode, delay }))))
+}
+
+// The words of a text that has three.
+fn three_words(text: &[u8]) -> Option<(&[u8], &[u8], &[u8])>
+    ensures found { IfSome result (λ words. words_in text.now ≡ words.0.now ∷ words.1.now ∷ words.2.now ∷ []) }
+    ensures none { IfNone result (three_in (words_in text.now) ≡ None) }
+{
+    let (first, rest) = split_word(text)?;
+    let (second, third) = split_word(rest)?;
+    match space_in(third) {
+        Some(_) => None,
+        None => Some((first, second, third)),
+    }
+}
+
+// The words of a text that has two.
+fn two_words(text: &[u8]) -> Option<(&[u8], &[u8])>
+    ensures found { IfSome result (λ words. words_in text.now ≡ words.0.now ∷ words.1.now ∷ []) }
+    ensures none { IfNone result (two_in (words_in text.now) ≡ None) }
+{
+    let (first, second) = split_word(text)?;
+    match space_in(second) {
+        Some(_) => None,
+        None => Some((first, second)),
+    }
+}
+
+// The word of a text that has one.
+fn one_word(text: &[u8]) -> Option<&[u8]>
+    ensures found { IfSome result (λ word. words_in text.now ≡ word.now ∷ []) }
+    ensures none { IfNone result (one_in (words_in text.now) ≡ None) }
+{
+    match space_in(text) {
+        Some(_) => None,
+        None => Some(text),
+    }
+}
+
+// The first word of a text, and what follows its space.
+fn split_word(text: &[u8]) -> Option<(&[u8], &[u8])>
+    ensures found { IfSome result (λ parts. words_in text.now ≡ parts.0.now ∷ words_in parts.1.now) }
+    ensures none { IfNone result (words_in text.now ≡ text.now ∷ []) }
+{
+    match space_in(text) {
+        Some(end) => Some((&text[..end], &text[end + 1..])),
+        None => None,
+    }
+}
+
+// The place of the first space.
+fn space_in(text: &[u8]) -> Option<usize>
+    ensures place { result ≡ position (λ octet. octet == 32) text.now }
+    ensures within { IfSome result (λ end. end < length text.now) }
+{
+    text.iter().position(|octet| *octet == b' ')
+}

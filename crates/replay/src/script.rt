@@ -1,0 +1,175 @@
+//! Scripts whose lines are built.
+
+ghost use Rattle.std.specs.Prelude.{◌≡◌, ◌==◌, List, length, IfOk, map, string_bytes, unwrap_or};
+ghost use Rattle.dsosession.specs.Timing.{default_timers};
+ghost use Rattle.replay.specs.Lines.{Word};
+ghost use Rattle.replay.specs.declared.line.Line.TheVariants as lines;
+ghost use Rattle.replay.specs.KeptScripts.{ReadsAs};
+ghost use Rattle.replay.specs.Drafts.{TakesLine};
+
+use crate::clients::{client_words, is_peers};
+use crate::line::{Event, Line, ZoneLine, read_line};
+use crate::text_lines::{is_outside, is_too_long, split_line};
+use dsosession::session::Timers;
+use dsosession::times::DEFAULT_TIMER;
+use history::Homes;
+use history::entry::HomeFault;
+use push_base::NoMemory;
+use std::alloc::Global;
+use zoneupdate::{Zone, ZoneFault};
+
+/// A script whose lines are built: the timers of the server, its zones, and then what happens.
+#[derive(Debug, Drop)]
+pub struct Script {
+    /// What the server grants to a Keepalive (RFC 8490, 7.1).
+    pub timers: Timers,
+    /// The zones.
+    pub homes: Homes,
+    /// What happens, in order.
+    pub events: Vec<Event>,
+}
+
+/// What was read of a script: all of it, or the number of the first line that isn't built.
+#[derive(Debug, Drop)]
+pub enum ReadScript {
+    /// Each line is built, and stands where it may.
+    Built(Script),
+    /// The first line that isn't built, or may not stand where it does, counted from 1.
+    Later(usize),
+}
+
+// What was read of a script so far; no timers where no line has said them.
+#[derive(Drop)]
+struct Draft {
+    timers: Option<Timers>,
+    homes: Homes,
+    events: Vec<Event>,
+}
+
+/// Reads a script: all of it where each line is built, and else the number of the first line that isn't built or
+/// may not stand where it does, counted from 1. The zones may then stand side by side, and no peer has the word of a
+/// client.
+pub fn read_script_lines(alloc: Global, octets: &[u8]) -> Result<ReadScript, NoMemory>
+    ensures { IfOk result (λ read. ReadsAs octets.now read) }
+{
+    let clients = client_words(alloc, octets)?;
+    let too_long = is_too_long(octets);
+    let mut draft = Draft {
+        timers: None,
+        homes: Homes::new(alloc),
+        events: Vec::new(alloc),
+    };
+    let mut number = 0;
+    let mut rest = octets;
+    'lines: while !rest.is_empty() {
+        let (text, after) = split_line(rest);
+        number += 1;
+        if is_outside(after, too_long) {
+            return Ok(ReadScript::Later(number));
+        }
+        let Some(line) = read_line(alloc, text)? else {
+            return Ok(ReadScript::Later(number));
+        };
+        if !draft.take(alloc, line, &clients)? {
+            return Ok(ReadScript::Later(number));
+        }
+        rest = after;
+    }
+    Ok(ReadScript::Built(draft.finish()))
+}
+
+impl Draft {
+    // Takes a further line, where it may stand behind those before it, in a script that has clients of these words.
+    fn take(&mut self, alloc: Global, line: Line, clients: &[String]) -> Result<bool, NoMemory>
+        ensures { IfOk result (λ taken. TakesLine (map (λ w. string_bytes w) clients.now) self.old line self.new taken) }
+    {
+        match line {
+            Line::Silent => Ok(true),
+            Line::Timers(timers) => Ok(self.take_timers(timers)),
+            Line::Zone(zone) => self.take_zone(alloc, zone),
+            Line::Event(event) => self.take_event(event, clients),
+        }
+    }
+
+    // Takes the timers: before all events, and once.
+    fn take_timers(&mut self, timers: Timers) -> bool
+        ensures { (all : List Word) → TakesLine all self.old (lines.Timers timers) self.new result }
+    {
+        if !self.is_in_head() {
+            return false;
+        }
+        if self.timers.is_some() {
+            return false;
+        }
+        self.timers = Some(timers);
+        true
+    }
+
+    // Takes a further zone: before all events, and where it may stand beside the zones before it.
+    fn take_zone(&mut self, alloc: Global, line: ZoneLine) -> Result<bool, NoMemory>
+        ensures { (all : List Word) → IfOk result (λ taken. TakesLine all self.old (lines.Zone line) self.new taken) }
+    {
+        if !self.is_in_head() {
+            return Ok(false);
+        }
+        let zone = match Zone::new(alloc, line.apex, line.serial, line.writable) {
+            Ok(zone) => zone,
+            Err(ZoneFault::TooLong) => return Ok(false),
+            Err(ZoneFault::NoMemory) => return Err(NoMemory),
+        };
+        match self.homes.add_zone(zone) {
+            Ok(()) => Ok(true),
+            Err(HomeFault::NoMemory) => Err(NoMemory),
+            Err(HomeFault::Clash(_)) => Ok(false),
+            Err(HomeFault::Many | HomeFault::Long | HomeFault::Local) => Ok(false),
+        }
+    }
+
+    // Whether no event came before.
+    fn is_in_head(&self) -> bool
+        ensures { result ≡ (length self.now.events.items == 0) }
+    {
+        self.events.is_empty()
+    }
+
+    // Takes a further event, if its peer's word, where it has one, is no client's.
+    fn take_event(&mut self, event: Event, clients: &[String]) -> Result<bool, NoMemory>
+        ensures { IfOk result (λ taken. TakesLine (map (λ w. string_bytes w) clients.now) self.old (lines.Event event) self.new taken) }
+    {
+        if !is_peers(clients, &event) {
+            return Ok(false);
+        }
+        self.events.push(event)?;
+        Ok(true)
+    }
+
+    // The script whose lines were all taken.
+    fn finish(self) -> Script
+        ensures timers { result.timers ≡ unwrap_or self.timers default_timers }
+        ensures homes { result.homes ≡ self.homes }
+        ensures events { result.events.items ≡ self.events.items }
+    {
+        let Draft {
+            timers,
+            homes,
+            events,
+        } = self;
+        Script {
+            timers: timers_or_default(timers),
+            homes,
+            events,
+        }
+    }
+}
+
+fn timers_or_default(timers: Option<Timers>) -> Timers
+    ensures { result ≡ unwrap_or timers default_timers }
+{
+    match timers {
+        Some(timers) => timers,
+        None => Timers {
+            inactivity: DEFAULT_TIMER,
+            keepalive: DEFAULT_TIMER,
+        },
+    }
+}

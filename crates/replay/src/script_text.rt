@@ -1,0 +1,33 @@
+//! The text of a script.
+
+ghost use Rattle.std.specs.Prelude.{◌≡◌, IfOk, string_bytes};
+ghost use Rattle.history.specs.Keeping.{state_of};
+ghost use Rattle.history.specs.Plans.{IsStart};
+ghost use Rattle.replay.specs.TextWords.{by_history};
+ghost use Rattle.replay.specs.Text.{ended_lines, printed_by};
+ghost use Rattle.replay.specs.KeptScripts.{events_said, world_at_start};
+
+use crate::event_lines::event_line;
+use crate::script::Script;
+use crate::world::World;
+use push_base::NoMemory;
+use std::alloc::Global;
+
+/// The text of a script whose lines are built: what its events print, one behind another.
+pub fn script_text(alloc: Global, script: Script) -> Result<String, NoMemory>
+    requires { IsStart (state_of script.homes) }
+    ensures { IfOk result (λ text. string_bytes text ≡ ended_lines (printed_by by_history (events_said script.events.items) (world_at_start script))) }
+{
+    let Script {
+        timers,
+        homes,
+        events,
+    } = script;
+    let mut world = World::new(alloc, homes, timers)?;
+    let mut text = String::new(alloc);
+    'events: for event in &events {
+        let line = event_line(alloc, &mut world, event)?;
+        text.push_str(line.as_str())?;
+    }
+    Ok(text)
+}

@@ -1,0 +1,90 @@
+//! What a run keeps: a hub, and peers with their sessions.
+
+ghost use Rattle.std.specs.Prelude.{◌≡◌, [], IfOk};
+ghost use Rattle.history.specs.Keeping.{state_of};
+ghost use Rattle.history.specs.Plans.{IsStart};
+ghost use Rattle.replay.specs.World.{World as Plain, world_of, cut_peer, number_in, session_number, without};
+ghost use Rattle.replay.specs.Text.{asked_to_stop};
+ghost use Rattle.replay.specs.KeptWorlds.{IsWorld, named};
+
+use dsosession::session::Timers;
+use history::Homes;
+use push_base::NoMemory;
+use pushserver::Hub;
+use std::alloc::Global;
+
+/// A peer that sends octets as they are: its word, and the number of its session.
+#[derive(Drop)]
+pub struct Peer {
+    /// Its word in the script.
+    pub word: String,
+    /// The number of its session in the hub.
+    pub session: u64,
+}
+
+/// The hub, and the peers that have a session.
+#[derive(Drop)]
+pub struct World {
+    /// The history and the sessions.
+    pub hub: Hub,
+    /// The peers, in the order in which they were connected.
+    pub peers: Vec<Peer>,
+}
+
+// The number of the session of a word.
+fn session_of(peers: &[Peer], word: &str) -> Option<u64>
+    ensures { result ≡ number_in (named peers.now) word.now }
+{
+    'peers: for peer in peers {
+        if peer.word.as_str() == word {
+            return Some(peer.session);
+        }
+    }
+    None
+}
+
+// Takes out the peers with that word.
+fn take_out(peers: &mut Vec<Peer>, word: &str)
+    ensures { named peers.new.items ≡ without word.now (named peers.old.items) }
+{
+    peers.retain(|peer| peer.word.as_str() != word);
+}
+
+impl World {
+    /// The world with which a script starts: these homes and timers, and no peers.
+    pub fn new(alloc: Global, homes: Homes, timers: Timers) -> Result<World, NoMemory>
+        requires { IsStart (state_of homes) }
+        ensures { IfOk result (λ kept. IsWorld kept (world_of (record { timers = timers; start = state_of homes; links = [] }))) }
+    {
+        Ok(World {
+            hub: Hub::new(homes, timers)?,
+            peers: Vec::new(alloc),
+        })
+    }
+
+    /// The number of the session of a peer.
+    pub fn session(&self, word: &str) -> Option<u64>
+        ensures { result ≡ number_in (named self.now.peers.items) word.now }
+    {
+        session_of(&self.peers, word)
+    }
+
+    /// The connection of a peer is cut: its session goes, and its word has none any more.
+    pub fn cut(&mut self, word: &str)
+        ensures { (world : Plain) → IsWorld self.old world → IsWorld self.new (cut_peer word.now world) }
+    {
+        if let Some(session) = self.session(word) {
+            self.hub.end(session);
+        }
+        take_out(&mut self.peers, word);
+    }
+
+    /// The session of a peer is asked to stop, if it has one.
+    pub fn stop(&mut self, word: &str, rcode: u8, delay: u32)
+        ensures { (world : Plain) → IsWorld self.old world → IsWorld self.new (asked_to_stop (session_number world word.now) rcode delay world) }
+    {
+        if let Some(session) = self.session(word) {
+            self.hub.stop(session, rcode, delay);
+        }
+    }
+}
