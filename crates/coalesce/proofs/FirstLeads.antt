@@ -88,9 +88,9 @@ is_wanted question asked other (inr (id, among)) k h = or_right (matches questio
 
 anew_leads_any : (question : Question) (asked : Asked) (there old : RecordSet) (other : Question) → InOrder there → list_all shows_its_key there ≡ true → InOrder old
     → TakesAll (removed_by (RemoveClass (lower question.name) in_class)) old → IsAskedWith question asked other
-    → applied_all (all_anew (lower question.name) (wanted_with question asked there)) other (matching other old) ≡ matching other there
+    → applied_all (all_anew (lower question.name) (wanted_with question (λ key. wants key asked) there)) other (matching other old) ≡ matching other there
 anew_leads_any question asked there old other h own g all among =
-    anew_leads (lower question.name) other old (wanted_with question asked there) g (in_order-only (λ k. matches question k || wants k asked) there h) (own-only (λ k. matches question k || wants k asked) there own) all
+    anew_leads (lower question.name) other old (wanted_with question (λ key. wants key asked) there) g (in_order-only (λ k. matches question k || wants k asked) there h) (own-only (λ k. matches question k || wants k asked) there own) all
     ∙ matching-only (λ k. matches question k || wants k asked) other (is_wanted question asked other among) there
 
 -- ---- each question
@@ -104,7 +104,7 @@ first_fills_the_new question asked rows waiting one = by (differs asked rows wai
     is : Side one.0 there
     is = side one.0 there one.1
 
-    by : (b : Bool) → applied_all (told_first b question asked there) question [] ≡ matching question there
+    by : (b : Bool) → applied_all (told_first b question (λ key. wants key asked) there) question [] ≡ matching question there
     by true = anew_leads_any question asked there [] question is.order is.own tt (λ k some. cc) (inl refl)
     by false = additions_fill question there is.order is.own
 
@@ -113,14 +113,14 @@ first_anew_leads_from_any question asked rows waiting old other one before chang
     let there = at_name question.name rows in
     let is = side one.0 there one.1 in
     let was = side question.name old before in
-    ap (λ b. applied_all (told_first b question asked there) other (matching other old)) changed
+    ap (λ b. applied_all (told_first b question (λ key. wants key asked) there) other (matching other old)) changed
     ∙ anew_leads_any question asked there old other is.order is.own was.order (takes_side question.name question.name old (same_itself question.name) was) among
 
 pub first_adds_nothing_known : FirstAddsNothingKnown
 first_adds_nothing_known question asked rows waiting other one same =
     let there = at_name question.name rows in
     let is = side one.0 there one.1 in
-    ap (λ b. applied_all (told_first b question asked there) other (matching other there)) same
+    ap (λ b. applied_all (told_first b question (λ key. wants key asked) there) other (matching other there)) same
     ∙ additions_known question other there is.order is.own
 
 -- names that are one have the same records
@@ -149,7 +149,7 @@ first_leads_the_others question asked rows (Some w) id other one waits among = b
     was : Side w.name w.old
     was = side w.name w.old waits.1
 
-    by : (b : Bool) → is_changed asked rows w ≡ b → applied_all (told_first b question asked there) other (matching other w.old) ≡ matching other there
+    by : (b : Bool) → is_changed asked rows w ≡ b → applied_all (told_first b question (λ key. wants key asked) there) other (matching other w.old) ≡ matching other there
     by true changed = anew_leads_any question asked there w.old other is.order is.own was.order (takes_side w.name question.name w.old waits.0 was) (inr (id, among))
     by false same =
         ap (applied_all (additions (matching question there)) other) (sent_is_now asked rows question.name w id other waits.0 among same)
@@ -178,7 +178,7 @@ own_of n name (e ∷ es) own class named =
 
 pub first_leaves_other_names : FirstLeavesOtherNames
 first_leaves_other_names question asked rows waiting other set one apart =
-    all_leave other question.name (told_first (differs asked rows waiting) question asked there) (matching other set) (not-true (same_name other.name question.name) apart) (by (differs asked rows waiting)) (named-matching other set)
+    all_leave other question.name (told_first (differs asked rows waiting) question (λ key. wants key asked) there) (matching other set) (not-true (same_name other.name question.name) apart) (by (differs asked rows waiting)) (named-matching other set)
   where
     there : RecordSet
     there = at_name question.name rows
@@ -189,10 +189,10 @@ first_leaves_other_names question asked rows waiting other set one apart =
     own : list_all (is_own question.name) there ≡ true
     own = own_of one.0 question.name there is.own (side-of one.0 there is) (all_pass (λ e. same_name question.name e.0.owner) rows)
 
-    by : (b : Bool) → list_all (speaks_of question.name) (told_first b question asked there) ≡ true
+    by : (b : Bool) → list_all (speaks_of question.name) (told_first b question (λ key. wants key asked) there) ≡ true
     by true =
-        and_from (same_name question.name (lower question.name)) (list_all (speaks_of question.name) (additions (wanted_with question asked there))) (same_name-lower question.name question.name ∙ same_itself question.name)
-        (additions_speak question.name (wanted_with question asked there) (all-filter (is_own question.name) (λ e. matches question e.0 || wants e.0 asked) there own))
+        and_from (same_name question.name (lower question.name)) (list_all (speaks_of question.name) (additions (wanted_with question (λ key. wants key asked) there))) (same_name-lower question.name question.name ∙ same_itself question.name)
+        (additions_speak question.name (wanted_with question (λ key. wants key asked) there) (all-filter (is_own question.name) (λ e. matches question e.0 || wants e.0 asked) there own))
     by false = additions_speak question.name (matching question there) (all-filter (is_own question.name) (λ e. matches question e.0) there own)
 
 -- ---- the message
@@ -208,9 +208,9 @@ first_fits_one_message question asked rows waiting named one can = by (differs a
     there : RecordSet
     there = at_name question.name rows
 
-    by : (b : Bool) → length (push_message (told_first b question asked there)) ≤ max_net_message
+    by : (b : Bool) → length (push_message (told_first b question (λ key. wants key asked) there)) ≤ max_net_message
     by true =
-        let part = wanted_with question asked there in
+        let part = wanted_with question (λ key. wants key asked) there in
         let small = part_small one.0 (λ k. matches question k || wants k asked) there one.1 can in
         let name = ((is_name-Decides question.name).0 named).size in
         omega (arith, small, name, length-lower question.name, size_of-all_anew (lower question.name) part, length-push_message (all_anew (lower question.name) part))
@@ -219,7 +219,7 @@ first_fits_one_message question asked rows waiting named one can = by (differs a
         omega (arith, small, size_of-additions (matching question there), length-push_message (additions (matching question there)))
 
 pub first_is_read_back : FirstIsReadBack
-first_is_read_back question asked rows waiting named one can some = written_are_read_back (told_first (differs asked rows waiting) question asked there) (by (differs asked rows waiting)) some
+first_is_read_back question asked rows waiting named one can some = written_are_read_back (told_first (differs asked rows waiting) question (λ key. wants key asked) there) (by (differs asked rows waiting)) some
   where
     there : RecordSet
     there = at_name question.name rows
@@ -227,10 +227,10 @@ first_is_read_back question asked rows waiting named one can some = written_are_
     is : Side one.0 there
     is = side one.0 there one.1
 
-    by : (b : Bool) → AreWritten (told_first b question asked there)
+    by : (b : Bool) → AreWritten (told_first b question (λ key. wants key asked) there)
     by true =
-        anew_written one.0 (lower question.name) (wanted_with question asked there) ((is_name-Decides (lower question.name)).1 (IsName-lower question.name ((is_name-Decides question.name).0 named)))
-        (side_can_be_added one.0 (wanted_with question asked there) (side-only one.0 (λ k. matches question k || wants k asked) there is) ((parts_stay_sides one.0 (λ k. matches question k || wants k asked) there one.1).1 can))
+        anew_written one.0 (lower question.name) (wanted_with question (λ key. wants key asked) there) ((is_name-Decides (lower question.name)).1 (IsName-lower question.name ((is_name-Decides question.name).0 named)))
+        (side_can_be_added one.0 (wanted_with question (λ key. wants key asked) there) (side-only one.0 (λ k. matches question k || wants k asked) there is) ((parts_stay_sides one.0 (λ k. matches question k || wants k asked) there one.1).1 can))
     by false =
         additions_written one.0 (matching question there)
         (side_can_be_added one.0 (matching question there) (side-only one.0 (matches question) there is) ((parts_stay_sides one.0 (matches question) there one.1).1 can))

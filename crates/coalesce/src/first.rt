@@ -6,6 +6,7 @@ ghost use Rattle.dnsname.specs.Names.{lower};
 ghost use Rattle.rrset.specs.Kinds.{in_class};
 ghost use Rattle.dsotlv.specs.Notices.{notice_octets};
 ghost use Rattle.dsotlv.specs.declared.message.Notice.TheVariants.{RemoveClass};
+ghost use Rattle.subscr.specs.Asked.{wants};
 ghost use Rattle.coalesce.specs.FirstAnswers.{told_first};
 ghost use Rattle.coalesce.specs.Laws.{can_be_sent};
 ghost use Rattle.coalesce.specs.Net.{additions, all_anew, push_frame, max_net_frame};
@@ -88,8 +89,8 @@ pub(crate) fn append_first<'a>(
     requires side { IsOneSide rows.now }
     requires sent { IsTrue (can_be_sent rows.now) }
     requires room { max_net_frame ≤ frame_octets - length out.old }
-    ensures written { out.new ≡ out.old ++ push_frame (told_first changed question.now questions.now rows.now) }
-    ensures size { result ≡ length (push_frame (told_first changed question.now questions.now rows.now)) }
+    ensures written { out.new ≡ out.old ++ push_frame (told_first changed question.now (λ key. wants key questions.now) rows.now) }
+    ensures size { result ≡ length (push_frame (told_first changed question.now (λ key. wants key questions.now) rows.now)) }
 {
     if changed {
         let wanted = Side::matching_or_asked(rows, question, questions);

@@ -122,7 +122,7 @@ impl<'a> Side<'a> {
         questions: &'a Subscriptions,
     ) -> Self
         requires { IsOneSide rows.now }
-        ensures { result ≡ wanted_with question.now questions.now rows.now }
+        ensures { result ≡ wanted_with question.now (λ key. wants key questions.now) rows.now }
     {
         Side {
             rows,

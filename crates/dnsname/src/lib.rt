@@ -7,8 +7,11 @@ pub mod name;
 mod part;
 mod plain;
 mod print;
+mod suffix;
 mod text;
 
 pub use name::{Name, NameFault, TextFault};
+pub use part::MAX_NAME;
 pub use plain::plain_name_end;
 pub use push_base::NoMemory;
+pub use suffix::spelled_ends_in;

@@ -15,6 +15,7 @@ use crate::message::name_octets;
 use crate::part::MAX_NAME;
 use crate::plain::plain_end;
 use crate::print::octets_text;
+use crate::suffix::spelled_ends_in;
 use crate::text::text_octets;
 pub use push_base::Octets;
 use std::alloc::{AllocError, AllocFailed, Global};
@@ -241,12 +242,7 @@ impl Name {
         // The same as a test of the names.
         ensures exact { result ≡ ends_in self.now suffix.now }
     {
-        let mut rest = self.octets.as_slice();
-        'labels: while rest.len() > suffix.octets.len() {
-            let length = rest[0] as usize;
-            (_, rest) = rest.split_at(length + 1);
-        }
-        rest.eq_ignore_ascii_case(&suffix.octets)
+        spelled_ends_in(&self.octets, &suffix.octets)
     }
 
     /// The name's text: its labels, each with a dot after it, or a dot alone.

@@ -30,6 +30,7 @@ pub(crate) fn plain_end(octets: &[u8], at: usize) -> Result<usize, NameFault>
 /// The place after the name without pointers that stands at a place, or its fault. Takes no memory.
 pub fn plain_name_end(octets: &[u8], at: usize) -> Result<usize, NameFault>
     ensures name { IfOk result (λ after. (name : Labels) × (plain_name_at octets.now at ≡ Ok (name, after))) }
+    ensures spelled { IfOk result (λ after. (name : Labels) × SpellsPlainNameAt octets.now at name after) }
     ensures fault { IfErr result (λ fault. plain_name_at octets.now at ≡ Err fault) }
     ensures within { IfOk result (λ after. after ≤ length octets.now) }
 {

@@ -1,7 +1,6 @@
 -- Why and when a session of the server ends, from the moments of its two tests.
 use Rattle.std.proofs.Common.{◌≡◌, ◌<◌, ◌≤◌, ℕ, Bool, true, false, ◌||◌, Option, Some, None, IsSome, IfSome, nat_le, sym, ◌∙◌, ap, refl, arith, rules}
 use Rattle.push_base.specs.Limits.{max_number}
-use Rattle.dsosession.specs.declared.session.Timers.{Timers}
 use Rattle.dsosession.specs.Timing.{Clocks, is_silent, is_idle, reason_of}
 use Rattle.dsosession.specs.SessionStates.{IsDeadline, has_come}
 
@@ -32,10 +31,6 @@ module _ (clocks : Clocks) (subscriptions : ℕ) where
   )
 
 -- a session's deadline is the earlier of two moments
-module _ (timers : Timers) (last_message last_other subscriptions : ℕ) where
-  abbrev clocks : Clocks
-  clocks = record { timers = timers; last_message = last_message; last_other = last_other }
-
-  pub earlier-is_deadline : (silent idle end : Option ℕ) → IfSome end (λ moment. moment ≤ max_number) → ((now : ℕ) → now ≤ max_number → has_come silent now ≡ is_silent clocks now) → ((now : ℕ) → now ≤ max_number → has_come idle now ≡ is_idle clocks now subscriptions) → ((now : ℕ) → has_come end now ≡ (has_come silent now || has_come idle now)) → IsDeadline clocks subscriptions end
-  earlier-is_deadline silent idle end told of_silent of_idle comes =
-      is_deadline clocks subscriptions end told (λ now small. comes now ∙ ap (λ b. b || has_come idle now) (of_silent now small) ∙ ap (λ b. is_silent clocks now || b) (of_idle now small))
+pub earlier-is_deadline : (clocks : Clocks) (subscriptions : ℕ) (silent idle end : Option ℕ) → IfSome end (λ moment. moment ≤ max_number) → ((now : ℕ) → now ≤ max_number → has_come silent now ≡ is_silent clocks now) → ((now : ℕ) → now ≤ max_number → has_come idle now ≡ is_idle clocks now subscriptions) → ((now : ℕ) → has_come end now ≡ (has_come silent now || has_come idle now)) → IsDeadline clocks subscriptions end
+earlier-is_deadline clocks subscriptions silent idle end told of_silent of_idle comes =
+    is_deadline clocks subscriptions end told (λ now small. comes now ∙ ap (λ b. b || has_come idle now) (of_silent now small) ∙ ap (λ b. is_silent clocks now || b) (of_idle now small))

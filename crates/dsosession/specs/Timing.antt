@@ -1,8 +1,9 @@
 -- The timers of both ends; all numbers are milliseconds (after RFC 8490, 6).
---     server_start, server_spoke, server_ends      from the connection on; after a message; why the session ends
+--     new_clocks, restarted      of either end: from the connection on; after a message
+--     server_ends      why the session of a server ends
 --     infinite, least_keepalive, least_idle, stop_time      spans
 --     is_silent, is_idle, reason_of      the two reasons, and which one counts
---     client_start, client_spoke, client_due      the same of the client; what is due
+--     is_inactive, is_quiet, client_due      the timers of a client, and what is due there
 use Rattle.std.specs.Prelude.{ℕ, ◌+◌, ◌*◌, Bool, not, ◌&&◌, max, Option, Some, None, nat_le, ◌==◌, if◌then◌else◌}
 use Rattle.dsosession.specs.declared.times.TheConstants as times
 use Rattle.dsosession.specs.declared.session.Timers.{Timers}
@@ -21,18 +22,12 @@ pub record Clocks : Type 0 where
 abbrev pub default_timers : Timers
 default_timers = record { inactivity = times.DEFAULT_TIMER; keepalive = times.DEFAULT_TIMER }
 
-abbrev pub server_start : ℕ → Clocks
-server_start now = record { timers = default_timers; last_message = now; last_other = now }
-
-abbrev pub client_start : ℕ → Clocks
-client_start now = record { timers = default_timers; last_message = now; last_other = now }
+abbrev pub new_clocks : ℕ → Clocks
+new_clocks now = record { timers = default_timers; last_message = now; last_other = now }
 
 -- a message was reacted to or written (RFC 8490, 6.3)
-abbrev pub server_spoke : Bool → ℕ → Clocks → Clocks
-server_spoke is_keepalive now clocks = record clocks { last_message = now; last_other = if is_keepalive then clocks.last_other else now }
-
-abbrev pub client_spoke : Bool → ℕ → Clocks → Clocks
-client_spoke is_keepalive now clocks = server_spoke is_keepalive now clocks
+abbrev pub restarted : Bool → ℕ → Clocks → Clocks
+restarted is_keepalive now clocks = record clocks { last_message = now; last_other = if is_keepalive then clocks.last_other else now }
 
 -- a timer that never ends (RFC 8490, 6.4.2 and 6.5.2)
 abbrev pub infinite : ℕ
@@ -71,9 +66,20 @@ reason_of silent idle = if silent then Some Silent else if idle then Some Idle e
 abbrev pub server_ends : Clocks → ℕ → ℕ → Option EndReason
 server_ends clocks now subscriptions = reason_of (is_silent clocks now) (is_idle clocks now subscriptions)
 
--- a client that asks for nothing closes; one that has been silent sends a Keepalive (RFC 8490, 6.4 and 6.5)
+-- so much as a timer has passed since a moment; an infinite one never does (RFC 8490, 6.4.2 and 6.5.2)
+abbrev pub has_run_out : ℕ → ℕ → ℕ → Bool
+has_run_out timer since now = not (timer == infinite) && has_passed timer since now
+
+-- no message but Keepalives passed for the inactivity timeout (RFC 8490, 6.4.1); no message at all for the keepalive interval (RFC 8490, 6.5.1)
+abbrev pub is_inactive : Clocks → ℕ → Bool
+is_inactive clocks now = has_run_out clocks.timers.inactivity clocks.last_other now
+
+abbrev pub is_quiet : Clocks → ℕ → Bool
+is_quiet clocks now = has_run_out clocks.timers.keepalive clocks.last_message now
+
+-- a client that asks for nothing closes; one that has been quiet sends a Keepalive (RFC 8490, 6.4 and 6.5)
 abbrev pub client_due : Clocks → ℕ → Bool → Bool → Due
 client_due clocks now active keepalive_out =
-    if not active && not (clocks.timers.inactivity == infinite) && has_passed clocks.timers.inactivity clocks.last_other now then dues.Idle
-    else if not keepalive_out && not (clocks.timers.keepalive == infinite) && has_passed clocks.timers.keepalive clocks.last_message now then dues.Keepalive
+    if not active && is_inactive clocks now then dues.Idle
+    else if not keepalive_out && is_quiet clocks now then dues.Keepalive
     else dues.Nothing

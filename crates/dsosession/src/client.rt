@@ -2,22 +2,18 @@
 
 ghost use Rattle.std.specs.Prelude.{◌≡◌, true, false};
 ghost use Rattle.dsosession.specs.Reactions.{client_reaction, may_be_keepalive};
-ghost use Rattle.dsosession.specs.Timing.{client_start, client_spoke, client_due};
+ghost use Rattle.dsosession.specs.Timing.{new_clocks, restarted, client_due};
 
 use crate::reaction::{client_reaction, may_be_keepalive};
 use crate::session::{ClientReaction, Due, Timers};
-use crate::timing::{default_timers, has_run_out};
+use crate::state::SessionState;
 use dsotlv::DsoHead;
 use std::marker::Model;
 
-/// The client's end of a session: its timers, the moments of the last message and of the last one that is no
-/// Keepalive, and whether the session is established (RFC 8490, 5.1 and 6). All moments are milliseconds of one clock.
+/// The client's end of a session (RFC 8490, 5.1 and 6). All moments are milliseconds of one clock.
 #[derive(Clone, Copy, Debug)]
 pub struct ClientSession {
-    timers: Timers,
-    last_message: u64,
-    last_other: u64,
-    established: bool,
+    state: SessionState,
 }
 
 impl Model for ClientSession {
@@ -25,21 +21,18 @@ impl Model for ClientSession {
 
     ghost Value = { SessionState };
 
-    ghost view = { λ s. record { clocks = record { timers = s.timers; last_message = s.last_message; last_other = s.last_other }; established = s.established } };
+    ghost view = { λ s. s.state };
 
-    ghost inverse = { λ s. record { timers = s.clocks.timers; last_message = s.clocks.last_message; last_other = s.clocks.last_other; established = s.established } };
+    ghost inverse = { λ s. record { state = s } };
 }
 
 impl ClientSession {
     /// A session whose connection was made at a moment.
     pub fn new(now: u64) -> Self
-        ensures { result ≡ record { clocks = client_start now; established = false } }
+        ensures { result ≡ record { clocks = new_clocks now; established = false } }
     {
         ClientSession {
-            timers: default_timers(),
-            last_message: now,
-            last_other: now,
-            established: false,
+            state: SessionState::new(now),
         }
     }
 
@@ -48,9 +41,9 @@ impl ClientSession {
     /// to another request than a Keepalive call `wrote(false, now)` besides.
     pub fn react(&mut self, head: &DsoHead, now: u64) -> ClientReaction
         ensures reaction { result ≡ client_reaction head.now self.old.established }
-        ensures clocks { self.new ≡ record self.old { clocks = client_spoke (may_be_keepalive head.now) now self.old.clocks } }
+        ensures clocks { self.new ≡ record self.old { clocks = restarted (may_be_keepalive head.now) now self.old.clocks } }
     {
-        let reaction = client_reaction(head, self.established);
+        let reaction = client_reaction(head, self.established());
         self.wrote(may_be_keepalive(head), now);
         reaction
     }
@@ -58,12 +51,9 @@ impl ClientSession {
     /// Says that the client wrote a message, a Keepalive or another, or took the answer to one. It restarts the timers
     /// (RFC 8490, 6.3).
     pub fn wrote(&mut self, keepalive: bool, now: u64)
-        ensures { self.new ≡ record self.old { clocks = client_spoke keepalive now self.old.clocks } }
+        ensures { self.new ≡ record self.old { clocks = restarted keepalive now self.old.clocks } }
     {
-        self.last_message = now;
-        if !keepalive {
-            self.last_other = now;
-        }
+        self.state.restart(keepalive, now);
     }
 
     /// From here on the timers are those of a Keepalive that the server sent (RFC 8490, 7.1). How short they are isn't
@@ -71,7 +61,7 @@ impl ClientSession {
     pub fn adopt(&mut self, timers: Timers)
         ensures { self.new ≡ record self.old { clocks = record self.old.clocks { timers = timers } } }
     {
-        self.timers = timers;
+        self.state.set_timers(timers);
     }
 
     /// What is due at a moment, where the client asks something or not, and a Keepalive of its own waits for its
@@ -79,10 +69,10 @@ impl ClientSession {
     pub fn moment(&self, now: u64, active: bool, keepalive_out: bool) -> Due
         ensures { result ≡ client_due self.now.clocks now active keepalive_out }
     {
-        if !active && has_run_out(self.timers.inactivity, self.last_other, now) {
+        if !active && self.state.is_inactive(now) {
             return Due::Idle;
         }
-        if !keepalive_out && has_run_out(self.timers.keepalive, self.last_message, now) {
+        if !keepalive_out && self.state.is_quiet(now) {
             return Due::Keepalive;
         }
         Due::Nothing
@@ -92,13 +82,13 @@ impl ClientSession {
     pub fn establish(&mut self)
         ensures { self.new ≡ record self.old { established = true } }
     {
-        self.established = true;
+        self.state.establish();
     }
 
     /// Whether the session is established (RFC 8490, 5.1).
     pub fn established(&self) -> bool
         ensures { result ≡ self.now.established }
     {
-        self.established
+        self.state.established()
     }
 }

@@ -1,12 +1,12 @@
-//! When the timers of a session have run out where no message passes (RFC 8490, 6).
+//! Moments, and whether they have come (RFC 8490, 6).
 
-ghost use Rattle.std.specs.Prelude.{◌≡◌, ◌≤◌, IfSome, ◌+◌, ◌*◌, ◌||◌, ◌&&◌, ◌==◌, ℕ, max, not};
+ghost use Rattle.std.specs.Prelude.{◌≡◌, ◌≤◌, IfSome, ◌||◌, ◌&&◌, ◌==◌, ℕ, not};
 ghost use Rattle.push_base.specs.Limits.{max_number};
-ghost use Rattle.dsosession.specs.Timing.{infinite, has_passed, is_silent, is_idle, reason_of, default_timers};
+ghost use Rattle.dsosession.specs.Timing.{infinite, has_passed, has_run_out, reason_of, default_timers};
 ghost use Rattle.dsosession.specs.SessionStates.{has_come};
 
 use crate::session::{EndReason, Timers};
-use crate::times::{DEFAULT_TIMER, INFINITE, LEAST_IDLE};
+use crate::times::{DEFAULT_TIMER, INFINITE};
 
 /// The timers until a Keepalive says otherwise, in milliseconds (RFC 8490, 6.2).
 pub(crate) fn default_timers() -> Timers
@@ -20,7 +20,7 @@ pub(crate) fn default_timers() -> Timers
 
 /// The moment at which a span has passed since another one; none where the timer is infinite, or the moment lies
 /// beyond all moments.
-fn end_of(timer: u32, span: u64, since: u64) -> Option<u64>
+pub(crate) fn end_of(timer: u32, span: u64, since: u64) -> Option<u64>
     ensures { (now : ℕ) → now ≤ max_number → has_come result now ≡ (not (timer == infinite) && has_passed span since now) }
 {
     if timer == INFINITE {
@@ -31,31 +31,9 @@ fn end_of(timer: u32, span: u64, since: u64) -> Option<u64>
 
 /// Whether so much as a timer has passed since a moment; an infinite one never does (RFC 8490, 6.4.1 and 6.5.1).
 pub(crate) fn has_run_out(timer: u32, since: u64, now: u64) -> bool
-    ensures { result ≡ (not (timer == infinite) && has_passed timer since now) }
+    ensures { result ≡ has_run_out timer since now }
 {
     has_come(end_of(timer, u64::from(timer), since), now)
-}
-
-/// The moment from which a session is silent (RFC 8490, 6.5.1).
-pub(crate) fn silent_from(timers: Timers, last_message: u64) -> Option<u64>
-    ensures { (last_other now : ℕ) → now ≤ max_number → has_come result now ≡ is_silent (record { timers = timers; last_message = last_message; last_other = last_other }) now }
-{
-    end_of(
-        timers.keepalive,
-        2 * u64::from(timers.keepalive),
-        last_message,
-    )
-}
-
-/// The moment from which a session with so many subscriptions is idle (RFC 8490, 6.4.1).
-pub(crate) fn idle_from(timers: Timers, last_other: u64, subscriptions: usize) -> Option<u64>
-    ensures { (last_message now : ℕ) → now ≤ max_number → has_come result now ≡ is_idle (record { timers = timers; last_message = last_message; last_other = last_other }) now subscriptions }
-{
-    if subscriptions != 0 {
-        return None;
-    }
-    let span = (2 * u64::from(timers.inactivity)).max(LEAST_IDLE);
-    end_of(timers.inactivity, span, last_other)
 }
 
 /// Why a session ends that is silent or idle or both; none where it is neither.

@@ -56,6 +56,16 @@ fn first_end(octets: &[u8]) -> Option<usize>
     Some(LENGTH + size)
 }
 
+/// Copies the front of octets that fits, and gives its length.
+pub fn copy_front(octets: &[u8], buf: &mut [u8]) -> usize
+    ensures count { result ≡ min (length buf.old) (length octets.now) }
+    ensures octets { buf.new ≡ take (length buf.old) octets.now ++ drop (length octets.now) buf.old }
+{
+    let count = buf.len().min(octets.len());
+    buf[..count].copy_from_slice(&octets[..count]);
+    count
+}
+
 impl Framer {
     /// No octets yet.
     pub fn new(alloc: Global) -> Result<Self, NoMemory>

@@ -24,7 +24,7 @@ ghost use Rattle.dsotlv.specs.Messages.{head_of, dso_of, frame, messages_in, dso
 ghost use Rattle.dsotlv.specs.Notices.{notices_of, question_of, reconfirm_of, notice_octets, applied_all};
 ghost use Rattle.rrset.specs.RecordSet.{set_of};
 
-pub use framer::{Framer, LENGTH, MAX_FRAME};
+pub use framer::{Framer, LENGTH, MAX_FRAME, copy_front};
 pub use header::{head, primary_data};
 pub use message::{
     DsoFault, DsoHead, DsoMessage, Notice, Notices, PushFault, Tlv, Tlvs, WriteDsoFault,

@@ -1,1 +1,6 @@
 pub mod Translations
+pub mod Suffixes
+pub mod Changed
+pub mod Shown
+pub mod OneKey
+pub mod Tests

@@ -1,3 +1,4 @@
 pub mod Translation
+pub mod Names
 pub mod Laws
 pub mod Worked

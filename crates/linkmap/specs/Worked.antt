@@ -1,7 +1,10 @@
 -- Words for worked rows: the laws of translation as tests, and records to try them on.
 --     heard_is_shown domain rr, each_is_shown_by_itself domain rr other      the two laws
 --     records owners      pointers to names, an address, and rdata that doesn't fit
-use Rattle.std.specs.Prelude.{Bool, true, false, not, ◌||◌, ◌&&◌, List, [], ◌∷◌, map, flat_map, Option, Some, None, codes}
+--     lan, at_link, at_domain      a domain of 17 octets, and records of the name h on its link and under it
+--     long_name n suffix      a name of 193 + n octets and those of its last labels
+use Rattle.std.specs.Prelude.{ℕ, Bool, true, false, not, ◌||◌, ◌&&◌, List, [], ◌∷◌, map, flat_map, Option, Some, None, codes}
+use Rattle.std.specs.List.{repeat}
 use Rattle.push_base.specs.Hexadecimal.{hex}
 use Rattle.dnsname.specs.Names.{Labels, octets}
 use Rattle.dnsname.specs.Text.{name}
@@ -34,3 +37,15 @@ records_of owner = record_of owner ∷ record (record_of owner) { kind = ptr_kin
 
 abbrev pub records : List Labels → List Rr
 records owners = flat_map records_of owners
+
+abbrev pub lan : Labels
+lan = name (codes "lan.example.com.")
+
+abbrev pub at_link : ℕ → List ℕ → Rr
+at_link kind rdata = record { owner = name (codes "h.local."); class = in_class; kind = kind; ttl = 120; rdata = rdata }
+
+abbrev pub at_domain : ℕ → List ℕ → Rr
+at_domain kind rdata = record { owner = name (codes "h.lan.example.com."); class = in_class; kind = kind; ttl = 120; rdata = rdata }
+
+abbrev pub long_name : ℕ → Labels → Labels
+long_name n suffix = repeat n (97 ∷ []) ∷ repeat 63 (97 ∷ []) ∷ repeat 63 (97 ∷ []) ∷ repeat 63 (97 ∷ []) ∷ suffix

@@ -1,12 +1,22 @@
-//! Translation between a link and its domain (RFC 8766, 5.5). The code is a stand-in: only the definitions count here.
+//! Translation between a link and its domain (RFC 8766, 5.5).
 #![tactic(auto)]
 
-ghost use Rattle.std.specs.Prelude.{◌≡◌, false, codes, Some, None, option_map, option_and_then};
+mod inside;
+pub mod laws;
+mod names;
+mod translation;
+
+ghost use Rattle.std.specs.Prelude.{◌≡◌, ◌++◌, ◌∷◌, [], true, false, codes, Some, None, is_some, option_map, option_and_then};
+ghost use Rattle.std.specs.List.{list_all, list_any, repeat};
 ghost use Rattle.push_base.specs.Hexadecimal.{hex};
+ghost use Rattle.dnsname.specs.Names.{octets};
 ghost use Rattle.dnsname.specs.Text.{name};
 ghost use Rattle.rrset.specs.Records.{key_of};
 ghost use Rattle.rrset.specs.declared.record.Rr.{Rr};
-ghost use Rattle.linkmap.specs.Translation.{is_usable, shown_as, heard_as, renamed};
+ghost use Rattle.linkmap.specs.Translation.{is_usable, shown_as, heard_as, local, renamed};
+ghost use Rattle.linkmap.specs.Worked.{lan, at_link, at_domain, long_name};
+
+pub use translation::{back, show, usable};
 
 /// Examples of what is shown under a domain.
 pub fn worked_rows()
@@ -19,4 +29,34 @@ pub fn worked_rows()
     ensures heard_is_shown { let lan = name (codes "lan.example.com.") in let rr : Rr = record { owner = name (codes "h.Lan.example.com."); class = 1; kind = 12; ttl = 0; rdata = hex (codes "0161034c414e076578616d706c6503636f6d00") } in
         option_map key_of (option_and_then (shown_as lan) (heard_as lan rr)) ≡ Some (key_of rr) }
     ensures not_usable { is_usable (name (codes "lan.example.com.")) (record { owner = name (codes "h.local."); class = 1; kind = 12; ttl = 120; rdata = hex (codes "0161036c616e076578616d706c6503636f6d00") }) ≡ false }
+{}
+
+/// Examples of which records of a link are used.
+pub fn used_rows()
+    ensures pointer { is_usable lan (at_link 12 (hex (codes "0161056c6f63616c00"))) ≡ true }
+    ensures hidden_address { is_usable lan (at_link 1 (hex (codes "a9fe0102"))) ≡ true }
+    ensures other_class { is_usable lan (record (at_link 1 (hex (codes "c0000201"))) { class = 3 }) ≡ false }
+    ensures kinds { list_all (λ kind. is_usable lan (at_link kind [])) (16 ∷ 46 ∷ 48 ∷ []) ≡ true }
+    ensures other_kinds { list_any (λ kind. is_usable lan (at_link kind [])) (0 ∷ 41 ∷ 47 ∷ 249 ∷ 255 ∷ []) ≡ false }
+    ensures other_owner { is_usable lan (record (at_link 16 []) { owner = name (codes "h.com.") }) ≡ false }
+    ensures longest_owner { is_usable lan (record (at_link 16 []) { owner = long_name 45 local }) ≡ true }
+    ensures longer_owner { is_usable lan (record (at_link 16 []) { owner = long_name 46 local }) ≡ false }
+{}
+
+/// Examples of addresses at the borders of those that aren't shown.
+pub fn address_rows()
+    ensures first { shown_as lan (at_link 28 (hex (codes "fe800000000000000000000000000001"))) ≡ None }
+    ensures last { shown_as lan (at_link 28 (hex (codes "febf0000000000000000000000000001"))) ≡ None }
+    ensures before { is_some (shown_as lan (at_link 28 (hex (codes "fe7f0000000000000000000000000001")))) ≡ true }
+    ensures behind { is_some (shown_as lan (at_link 28 (hex (codes "fec00000000000000000000000000001")))) ≡ true }
+    ensures behind_v4 { is_some (shown_as lan (at_link 1 (hex (codes "a9ff0102")))) ≡ true }
+{}
+
+/// Examples of records of a domain as which nothing is heard.
+pub fn unheard_rows()
+    ensures name_of_a_link { heard_as lan (at_domain 12 (octets (name (codes "x.local.")))) ≡ None }
+    ensures second_name_of_a_link { heard_as lan (at_domain 6 (octets (name (codes "ns.com.")) ++ octets (name (codes "h.local.")) ++ repeat 20 (0 ∷ []))) ≡ None }
+    ensures hidden_address { heard_as lan (at_domain 1 (hex (codes "a9fe0102"))) ≡ None }
+    ensures longest_owner { is_some (heard_as (name (codes "a.")) (record (at_domain 16 []) { owner = long_name 55 (name (codes "a.")) })) ≡ true }
+    ensures longer_owner { heard_as (name (codes "a.")) (record (at_domain 16 []) { owner = long_name 56 (name (codes "a.")) }) ≡ None }
 {}

@@ -1,70 +1,25 @@
 -- Calls that take wishes out, and what is told of a question: the kept client's and the plain one's.
-use Rattle.std.proofs.Common.{◌≡◌, ℕ, Bool, true, false, cond, not, ◌&&◌, ◌==◌, List, [], ◌∷◌, ◌++◌, map, append_assoc, Option, Some, None, refl, sym, ap, subst, ◌∙◌}
+use Rattle.std.proofs.Common.{◌≡◌, ℕ, ◌+◌, ◌≤◌, arith, length, Bool, true, false, cond, not, ◌&&◌, List, [], ◌∷◌, ◌++◌, map, Option, Some, None, refl, sym, ap, subst, ◌∙◌}
 use Rattle.std.specs.Prelude.{if◌then◌else◌, find, filter, option_map, is_some, fold}
-use Rattle.std.specs.List.{IsDistinct, AllByRecursion}
-use Rattle.std.proofs.lemmas.Bool.{eqb-true, eq-eqb}
-use Rattle.dnsname.specs.Names.{same_name}
-use Rattle.dnsname.proofs.Decisions.{and_true, same_name-Decides}
+use Rattle.std.specs.List.{IsDistinct}
+use Rattle.push_base.specs.Limits.{max_questions}
+use Rattle.dnsname.proofs.Decisions.{and_true}
 use Rattle.rrset.specs.Records.{same_question}
 use Rattle.rrset.specs.RecordSet.{RecordSet}
 use Rattle.rrset.specs.declared.record.Question.{Question}
-use Rattle.rrset.proofs.SameQuestions.{one_question}
 use Rattle.dsosession.specs.declared.session.CloseReason.{CloseReason}
 use Rattle.dsotlv.specs.Notices.{applied_all}
 use Rattle.mirror.specs.Held.{Held as Sets, is_of, set_of, ended}
 use Rattle.pushclient.specs.Clients.{Client, Connection, Wish, RequestState, not_asked, unanswered, refused, answered, new_client, new_connection, asks, connected, cut, drops, unsubscribe, unasked, wish_for, without_wish, id_of, id_asked, Held, off, held, held_as, is_connected}
-use Rattle.pushclient.specs.Rule.{KeptClient, StandsFor, BothAnswer, without_told, set_told, is_answered_for, dropped_wish, IsRightlyDropped, question_of}
+use Rattle.pushclient.specs.Rule.{KeptClient, StandsFor, BothAnswer, without_told, set_told, is_answered_for, dropped_wish}
 use Rattle.pushclient.specs.Steps.{is_answered}
 use Rattle.pushclient.specs.Kept.{ended_on, asked_wanted, kept_ask, kept_connected, kept_cut, kept_drop, kept_unsubscribe, kept_id_of, kept_held, kept_held_as}
-use Rattle.pushclient.proofs.Standing.{find_map, filter_map, ask_stands, asks_questions}
-
--- ---- questions that are one
-
-same_back : (a b : Question) → same_question a b ≡ true → same_question b a ≡ true
-same_back a b h =
-    let f = and_true (same_name a.name b.name && a.kind == b.kind) (a.class == b.class) h in
-    let p = and_true (same_name a.name b.name) (a.kind == b.kind) f.0 in
-    let names : same_name b.name a.name ≡ true = (same_name-Decides b.name a.name).1 (sym ((same_name-Decides a.name b.name).0 p.0)) in
-    let kinds : (b.kind == a.kind) ≡ true = eq-eqb b.kind a.kind (sym (eqb-true a.kind b.kind p.1)) in
-    let classes : (b.class == a.class) ≡ true = eq-eqb b.class a.class (sym (eqb-true a.class b.class f.1)) in
-    rw (names, kinds, classes) refl
-
-pub same_as : (a b w : Question) → same_question a b ≡ true → same_question w a ≡ same_question w b
-same_as a b w h = by (same_question w a) (same_question w b) refl refl
-  where
-    by : (x y : Bool) → same_question w a ≡ x → same_question w b ≡ y → x ≡ y
-    by true true e f = refl
-    by false false e f = refl
-    by true false e f = let other : same_question w b ≡ true = one_question w b a e (same_back a b h) in absurd cc
-    by false true e f = let other : same_question w a ≡ true = one_question w a b f h in absurd cc
-
-pub not_back : (a b : Question) → same_question a b ≡ false → same_question b a ≡ false
-not_back a b h = by (same_question b a) refl
-  where
-    by : (t : Bool) → same_question b a ≡ t → t ≡ false
-    by true e = let other : same_question a b ≡ true = same_back b a e in absurd cc
-    by false e = refl
-
--- two that are not one have no third in common
-pub not_both : (q x y : Question) → same_question q x ≡ false → same_question y x ≡ true → same_question y q ≡ false
-not_both q x y h first = by (same_question y q) refl
-  where
-    by : (t : Bool) → same_question y q ≡ t → t ≡ false
-    by true e = let other : same_question q x ≡ true = one_question q x y (same_back y q e) (same_back y x first) in absurd cc
-    by false e = refl
+use Rattle.pushclient.specs.SoundClients.{question_of}
+use Rattle.pushclient.proofs.SoundWishes.{same_as, not_both, some_is, find_holds, found_own}
+use Rattle.pushclient.proofs.SoundCalls.{new_sound, one_more_sound, fresh_client, fresh_sound, few_wanted, questions_left, drops_sound, cut_sound}
+use Rattle.pushclient.proofs.Standing.{StandsIfSound, find_map, filter_map, ask_stands}
 
 -- ---- lists
-
-pub some_is : {A : Type 0} (x y : A) → Some x ≡ Some y → x ≡ y
-some_is x y e = cc
-
-pub find_holds : {A : Type 0} (p : A → Bool) (xs : List A) (y : A) → find p xs ≡ Some y → p y ≡ true
-find_holds p [] y e = absurd cc
-find_holds p (x ∷ xs) y e = by (p x) refl e (find_holds p xs y)
-  where
-    by : (b : Bool) → p x ≡ b → cond b (Some x) (find p xs) ≡ Some y → (find p xs ≡ Some y → p y ≡ true) → p y ≡ true
-    by true is e rest = subst (λ z. p z ≡ true) (some_is x y e) is
-    by false is e rest = rest e
 
 pub off_and : (t : Bool) → (t && false) ≡ false
 off_and true = refl
@@ -158,67 +113,6 @@ drops_at p w id (Some c) = by c.closed
     by (Some reason) = refl
     by None = refl
 
--- ---- questions that are all different
-
-all_questions : (P : Question → Type 0) (p : Wish → Bool) (ws : List Wish) → AllByRecursion P (map question_of ws) → AllByRecursion P (map question_of (filter p ws))
-all_questions P p [] all = tt
-all_questions P p (w ∷ ws) all = by (p w) (all_questions P p ws all.1)
-  where
-    by : (b : Bool) → AllByRecursion P (map question_of (filter p ws)) → AllByRecursion P (map question_of (cond b (w ∷ filter p ws) (filter p ws)))
-    by true rest = (all.0, rest)
-    by false rest = rest
-
-pub apart_left : (p : Wish → Bool) (ws : List Wish) → IsDistinct same_question (map question_of ws) → IsDistinct same_question (map question_of (filter p ws))
-unfolding IsDistinct
-apart_left p [] h = tt
-apart_left p (w ∷ ws) h = by (p w) (all_questions (λ y. same_question w.question y ≡ false) p ws h.0) (apart_left p ws h.1)
-  where
-    by : (b : Bool) → AllByRecursion (λ y. same_question w.question y ≡ false) (map question_of (filter p ws)) → IsDistinct same_question (map question_of (filter p ws)) → IsDistinct same_question (map question_of (cond b (w ∷ filter p ws) (filter p ws)))
-    by true first rest = (first, rest)
-    by false first rest = rest
-
-all_front : (P : Question → Type 0) (xs ys : List Question) → AllByRecursion P (xs ++ ys) → AllByRecursion P xs
-all_front P [] ys all = tt
-all_front P (x ∷ xs) ys all = (all.0, all_front P xs ys all.1)
-
-apart_front : (xs ys : List Question) → IsDistinct same_question (xs ++ ys) → IsDistinct same_question xs
-unfolding IsDistinct
-apart_front [] ys h = tt
-apart_front (x ∷ xs) ys h = (all_front (λ y. same_question x y ≡ false) xs ys h.0, apart_front xs ys h.1)
-
-pub dropped_left : (p : Wish → Bool) (ws : List Wish) → AllByRecursion IsRightlyDropped ws → AllByRecursion IsRightlyDropped (filter p ws)
-dropped_left p [] all = tt
-dropped_left p (w ∷ ws) all = by (p w) (dropped_left p ws all.1)
-  where
-    by : (b : Bool) → AllByRecursion IsRightlyDropped (filter p ws) → AllByRecursion IsRightlyDropped (cond b (w ∷ filter p ws) (filter p ws))
-    by true rest = (all.0, rest)
-    by false rest = rest
-
-questions_dropped : (q : Question) (ws : List Wish) → map question_of (map (dropped_wish q) ws) ≡ map question_of ws
-questions_dropped q [] = refl
-questions_dropped q (w ∷ ws) = by (same_question w.question q) (questions_dropped q ws)
-  where
-    by : (b : Bool) → map question_of (map (dropped_wish q) ws) ≡ map question_of ws → question_of (cond b (record w { wanted = false }) w) ∷ map question_of (map (dropped_wish q) ws) ≡ w.question ∷ map question_of ws
-    by true rest = ap (λ l. w.question ∷ l) rest
-    by false rest = ap (λ l. w.question ∷ l) rest
-
--- where a question is asked, no other wish asks it
-none_dropped : (q u : Question) (ws : List Wish) → same_question u q ≡ true → AllByRecursion (λ y. same_question u y ≡ false) (map question_of ws) → map (dropped_wish q) ws ≡ ws
-none_dropped q u [] h all = refl
-none_dropped q u (w ∷ ws) h all =
-    let other : same_question w.question q ≡ false = sym (same_as u q w.question h) ∙ not_back u w.question all.0 in
-    ap (λ (t : Bool). cond t (record w { wanted = false }) w ∷ map (dropped_wish q) ws) other ∙ ap (λ (l : List Wish). w ∷ l) (none_dropped q u ws h all.1)
-
-rightly_dropped : (q : Question) (w : Wish) (ws : List Wish) → find (λ v. same_question v.question q) ws ≡ Some w → is_answered w.standing ≡ false → IsDistinct same_question (map question_of ws) → AllByRecursion IsRightlyDropped ws → AllByRecursion IsRightlyDropped (map (dropped_wish q) ws)
-unfolding IsDistinct
-rightly_dropped q w [] found h apart all = tt
-rightly_dropped q w (v ∷ ws) found h apart all = by (same_question v.question q) refl found (λ e. rightly_dropped q w ws e h apart.1 all.1)
-  where
-    by : (b : Bool) → same_question v.question q ≡ b → cond b (Some v) (find (λ v. same_question v.question q) ws) ≡ Some w → (find (λ v. same_question v.question q) ws ≡ Some w → AllByRecursion IsRightlyDropped (map (dropped_wish q) ws))
-        → AllByRecursion IsRightlyDropped (cond b (record v { wanted = false }) v ∷ map (dropped_wish q) ws)
-    by true is e rest = (λ f. ap (λ (z : Wish). is_answered z.standing) (some_is v w e) ∙ h, subst (AllByRecursion IsRightlyDropped) (sym (none_dropped q v.question ws is apart.0)) all.1)
-    by false is e rest = (all.0, rest e)
-
 -- ---- what is cut
 
 cut_wishes : (ws : List Wish) → map (λ w. unasked w.question) (filter (λ w. w.wanted) (map without_told ws)) ≡ map without_told (map unasked (map (λ w. w.question) (filter (λ w. w.wanted) ws)))
@@ -235,72 +129,58 @@ none_answered : (x : Question) (qs : List Question) → find (is_answered_for x)
 none_answered x [] = refl
 none_answered x (q ∷ qs) = none_answered x qs
 
-nothing_apart : IsDistinct same_question []
-unfolding IsDistinct
-nothing_apart = tt
-
-asked_stands : (ws : List Wish) (k : KeptClient) (p : Client) → StandsFor k p → IsDistinct same_question (map question_of p.wishes ++ map question_of (filter (λ w. w.wanted) ws))
+asked_stands : (ws : List Wish) (k : KeptClient) (p : Client) → StandsFor k p → length p.wishes + length (map question_of (filter (λ w. w.wanted) ws)) ≤ max_questions → IsDistinct same_question (map question_of p.wishes ++ map question_of (filter (λ w. w.wanted) ws))
     → StandsFor (asked_wanted (map without_told ws) k) (fold asks p (map question_of (filter (λ w. w.wanted) ws)))
-asked_stands [] k p s apart = s
-asked_stands (w ∷ ws) k p s apart = by w.wanted (asked_stands ws) apart
+asked_stands [] k p s room apart = s
+asked_stands (w ∷ ws) k p s room apart = by w.wanted (asked_stands ws) room apart
   where
-    by : (b : Bool) → ((k : KeptClient) (p : Client) → StandsFor k p → IsDistinct same_question (map question_of p.wishes ++ map question_of (filter (λ w. w.wanted) ws)) → StandsFor (asked_wanted (map without_told ws) k) (fold asks p (map question_of (filter (λ v. v.wanted) ws))))
+    by : (b : Bool) → ((k : KeptClient) (p : Client) → StandsFor k p → length p.wishes + length (map question_of (filter (λ w. w.wanted) ws)) ≤ max_questions → IsDistinct same_question (map question_of p.wishes ++ map question_of (filter (λ w. w.wanted) ws))
+        → StandsFor (asked_wanted (map without_told ws) k) (fold asks p (map question_of (filter (λ v. v.wanted) ws))))
+        → length p.wishes + length (map question_of (cond b (w ∷ filter (λ v. v.wanted) ws) (filter (λ v. v.wanted) ws))) ≤ max_questions
         → IsDistinct same_question (map question_of p.wishes ++ map question_of (cond b (w ∷ filter (λ v. v.wanted) ws) (filter (λ v. v.wanted) ws)))
         → StandsFor (asked_wanted (map without_told ws) (cond b (kept_ask w.question k) k)) (fold asks p (map question_of (cond b (w ∷ filter (λ v. v.wanted) ws) (filter (λ v. v.wanted) ws))))
-    by true rest apart =
-        let qs = map question_of (filter (λ v. v.wanted) ws) in
-        let grouped : IsDistinct same_question ((map question_of p.wishes ++ w.question ∷ []) ++ qs) = subst (IsDistinct same_question) (sym (append_assoc (map question_of p.wishes) (w.question ∷ []) qs)) apart in
-        rest (kept_ask w.question k) (asks p w.question) (ask_stands k p s w.question (apart_front _ qs grouped))
-        (subst (λ (l : List Question). IsDistinct same_question (l ++ qs)) (sym (asks_questions p w.question)) grouped)
-    by false rest apart = rest k p s apart
-
-apart_cut : (qs : List Question) → map question_of (map unasked qs) ≡ qs
-apart_cut [] = refl
-apart_cut (q ∷ qs) = ap (λ l. q ∷ l) (apart_cut qs)
-
-dropped_cut : (qs : List Question) → AllByRecursion IsRightlyDropped (map unasked qs)
-dropped_cut [] = tt
-dropped_cut (q ∷ qs) = (λ e. refl, dropped_cut qs)
+    by true rest room apart =
+        let more = one_more_sound p s.sound w.question (map question_of (filter (λ v. v.wanted) ws)) room apart in
+        rest (kept_ask w.question k) (asks p w.question) (ask_stands k p s w.question more.0) more.1 more.2
+    by false rest room apart = rest k p s room apart
 
 pub new_stands : StandsFor (record { wishes = []; connection = None; now = 0; sets = [] }) new_client
-new_stands = record { wishes = refl; connection = refl; now = refl; sets = λ x. refl; questions = nothing_apart; dropped = tt }
+new_stands = record { wishes = refl; connection = refl; now = refl; sets = λ x. refl; sound = new_sound }
 
 module _ (k : KeptClient) (p : Client) (s : StandsFor k p) where
   pub connected_stands : (t : ℕ) → StandsFor (kept_connected t k) (connected t p)
   connected_stands t =
       let fresh : KeptClient = record { wishes = []; connection = Some (new_connection t); now = t; sets = [] } in
       subst (λ (ws : List Wish). StandsFor (asked_wanted ws fresh) (connected t p)) (sym s.wishes)
-      (asked_stands p.wishes fresh (record { wishes = []; connection = Some (new_connection t); now = t }) (record { wishes = refl; connection = refl; now = refl; sets = λ x. refl; questions = nothing_apart; dropped = tt })
-      (apart_left (λ w. w.wanted) p.wishes s.questions))
+      (asked_stands p.wishes fresh (fresh_client t) (record { wishes = refl; connection = refl; now = refl; sets = λ x. refl; sound = fresh_sound t })
+      (omega (arith, few_wanted p s.sound)) (questions_left (λ w. w.wanted) p.wishes s.sound.questions))
 
   pub found_told : (q : Question) → find (λ w. same_question w.question q) k.wishes ≡ option_map without_told (wish_for p q)
   found_told q = ap (find (λ w. same_question w.question q)) s.wishes ∙ find_map (λ w. same_question w.question q) without_told p.wishes
 
   -- a wish for the question goes, and its set
   gone_stands : (q : Question) (w : Wish) → same_question w.question q ≡ true → (x y : Option Connection) → x ≡ y
-      → StandsFor (record k { wishes = without_wish q k.wishes; connection = x; sets = ended q k.sets }) (record p { wishes = without_wish w.question p.wishes; connection = y })
-  gone_stands q w h x y same = subst (λ (ws : List Wish). StandsFor (record k { wishes = without_wish q k.wishes; connection = x; sets = ended q k.sets }) (record p { wishes = ws; connection = y })) (sym (without_same w.question q h p.wishes)) (record {
+      → StandsIfSound (record k { wishes = without_wish q k.wishes; connection = x; sets = ended q k.sets }) (record p { wishes = without_wish w.question p.wishes; connection = y })
+  gone_stands q w h x y same = subst (λ (ws : List Wish). StandsIfSound (record k { wishes = without_wish q k.wishes; connection = x; sets = ended q k.sets }) (record p { wishes = ws; connection = y })) (sym (without_same w.question q h p.wishes)) (λ sound. record {
     wishes = ap (without_wish q) s.wishes ∙ filter_map (λ w. not (same_question w.question q)) without_told p.wishes;
     connection = same;
     now = s.now;
     sets = sets_left q k.sets p.wishes s.sets;
-    questions = apart_left (λ w. not (same_question w.question q)) p.wishes s.questions;
-    dropped = dropped_left (λ w. not (same_question w.question q)) p.wishes s.dropped;
+    sound = sound;
   })
 
-  drop_stands : (q : Question) (w : Wish) → same_question w.question q ≡ true → wish_for p q ≡ Some w → (standing : RequestState) → w.standing ≡ standing → StandsFor (kept_drop q standing k) (drops standing w p)
-  drop_stands q w h found (answered id) is = subst (StandsFor (kept_drop q (answered id) k)) (sym (drops_at p w id p.connection))
+  drop_stands : (q : Question) (w : Wish) → same_question w.question q ≡ true → (standing : RequestState) → StandsIfSound (kept_drop q standing k) (drops standing w p)
+  drop_stands q w h (answered id) = subst (StandsIfSound (kept_drop q (answered id) k)) (sym (drops_at p w id p.connection))
       (gone_stands q w h _ _ (ap (λ t. ended_on id t k.connection) s.now ∙ ap (ended_on id p.now) s.connection))
-  drop_stands q w h found (unanswered id) is = subst (λ (ws : List Wish). StandsFor (kept_drop q (unanswered id) k) (record p { wishes = ws })) (sym (dropped_same w.question q h p.wishes)) (record {
+  drop_stands q w h (unanswered id) = subst (λ (ws : List Wish). StandsIfSound (kept_drop q (unanswered id) k) (record p { wishes = ws })) (sym (dropped_same w.question q h p.wishes)) (λ sound. record {
     wishes = ap (map (dropped_wish q)) s.wishes ∙ dropped_told q p.wishes;
     connection = s.connection;
     now = s.now;
     sets = λ x. s.sets x ∙ sym (sets_dropped x q p.wishes);
-    questions = subst (IsDistinct same_question) (sym (questions_dropped q p.wishes)) s.questions;
-    dropped = rightly_dropped q w p.wishes found (ap is_answered is) s.questions s.dropped;
+    sound = sound;
   })
-  drop_stands q w h found not_asked is = gone_stands q w h _ _ s.connection
-  drop_stands q w h found (refused rcode) is = gone_stands q w h _ _ s.connection
+  drop_stands q w h not_asked = gone_stands q w h _ _ s.connection
+  drop_stands q w h (refused rcode) = gone_stands q w h _ _ s.connection
 
   abbrev unsubscribed_kept : Question → Option Wish → Bool × KeptClient
   unsubscribed_kept q o = elim o [ None ↦ (false, k) | Some wish ↦ if wish.wanted then (true, kept_drop q wish.standing k) else (false, k) ]
@@ -312,7 +192,7 @@ module _ (k : KeptClient) (p : Client) (s : StandsFor k p) where
   unsubscribe_stands q = subst (λ (o : Option Wish). BothAnswer (unsubscribed_kept q o) (unsubscribed_plain (wish_for p q))) (sym (found_told q)) (by (wish_for p q) refl)
     where
       tested : (t : Bool) (w : Wish) → same_question w.question q ≡ true → wish_for p q ≡ Some w → BothAnswer {X = Bool} (if t then (true, kept_drop q w.standing k) else (false, k)) (if t then (true, drops w.standing w p) else (false, p))
-      tested true w h e = (refl, drop_stands q w h e w.standing refl)
+      tested true w h e = (refl, drop_stands q w h w.standing (drops_sound p s.sound w (found_own (λ v. same_question v.question q) p.wishes w s.sound.questions e) w.standing refl))
       tested false w h e = (refl, s)
 
       by : (u : Option Wish) → wish_for p q ≡ u → BothAnswer (unsubscribed_kept q (option_map without_told u)) (unsubscribed_plain u)
@@ -358,6 +238,5 @@ module _ (k : KeptClient) (p : Client) (s : StandsFor k p) where
     connection = refl;
     now = s.now;
     sets = λ x. sym (ap (option_map set_told) (none_answered x (map (λ w. w.question) (filter (λ w. w.wanted) p.wishes))));
-    questions = subst (IsDistinct same_question) (sym (apart_cut (map question_of (filter (λ w. w.wanted) p.wishes)))) (apart_left (λ w. w.wanted) p.wishes s.questions);
-    dropped = dropped_cut (map question_of (filter (λ w. w.wanted) p.wishes));
+    sound = cut_sound p s.sound;
   }

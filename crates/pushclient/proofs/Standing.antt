@@ -1,8 +1,7 @@
 -- What each call does to the client that is kept is what it does to the plain one that it stands for.
 use Rattle.std.proofs.Common.{◌≡◌, ℕ, append-nil, Bool, true, false, cond, ◌&&◌, ◌||◌, List, [], ◌∷◌, ◌++◌, length, map, Option, Some, None, refl, sym, ap, subst, ◌∙◌}
 use Rattle.std.specs.Prelude.{if◌then◌else◌, find, filter, option_map, option_to_list, is_some, nat_le}
-use Rattle.std.specs.List.{list_any, flat_map, IsDistinct, AllByRecursion}
-use Rattle.rrset.specs.Records.{same_question}
+use Rattle.std.specs.List.{list_any, flat_map}
 use Rattle.rrset.specs.declared.record.Rr.{Rr}
 use Rattle.rrset.specs.declared.record.Question.{Question}
 use Rattle.dsosession.specs.Timing.{client_due}
@@ -10,9 +9,11 @@ use Rattle.dsosession.specs.declared.session.Due.{Due}
 use Rattle.dsosession.specs.declared.session.Due.TheVariants as dues
 use Rattle.dsosession.specs.declared.session.CloseReason.{CloseReason}
 use Rattle.pushclient.specs.Clients.{Client, Connection, Wish, RequestState, free_id, id_after, id_in_use, unanswered, writes, subscribe_message, reconfirm_message, with_connection, asks, reconfirm, take_octets, give_octets, room_of, output_of, closed_as}
-use Rattle.pushclient.specs.Rule.{KeptClient, StandsFor, without_told, set_told, is_answered_for, IsRightlyDropped, question_of}
+use Rattle.pushclient.specs.Rule.{KeptClient, StandsFor, without_told, set_told, is_answered_for}
 use Rattle.pushclient.specs.Steps.{is_active, keepalive_message, does, moment}
+use Rattle.pushclient.specs.SoundClients.{IsSound}
 use Rattle.pushclient.specs.Kept.{asked_on, reconfirmed_on, taken_on, room_on, given_on, output_on, closed_on, done_on, timed_on, kept_ask, kept_reconfirm, kept_take, kept_give, kept_moment}
+use Rattle.pushclient.proofs.SoundCalls.{reconfirm_sound, taken_sound, given_sound, moment_sound}
 
 -- ---- lists
 
@@ -39,10 +40,6 @@ find_behind p (x ∷ xs) y h = ap (λ (o : Option _). cond (p x) (Some x) o) (fi
 pub map_behind : {A B : Type 0} (f : A → B) (xs : List A) (y : A) → map f (xs ++ y ∷ []) ≡ map f xs ++ f y ∷ []
 map_behind f [] y = refl
 map_behind f (x ∷ xs) y = ap (λ l. f x ∷ l) (map_behind f xs y)
-
-pub all_behind : {A : Type 0} (P : A → Type 0) (xs : List A) (y : A) → AllByRecursion P xs → P y → AllByRecursion P (xs ++ y ∷ [])
-all_behind P [] y all last = (last, tt)
-all_behind P (x ∷ xs) y all last = (all.0, all_behind P xs y all.1 last)
 
 -- ---- what of wishes doesn't look at notices
 
@@ -78,9 +75,6 @@ unanswered_at ws q now x (Some c) = by c.closed
     by : (y : Option CloseReason) → is_answered_for x (asked_wish q (asked_on ws q now (Some (record c { closed = y }))).0) ≡ false
     by (Some reason) = refl
     by None = refl
-
-pub asks_questions : (p : Client) (q : Question) → map question_of (asks p q).wishes ≡ map question_of p.wishes ++ q ∷ []
-asks_questions p q = ap (λ (c : Client). map question_of c.wishes) (asks_at p q p.connection) ∙ map_behind question_of p.wishes (asked_wish q (asked_on p.wishes q p.now p.connection).0)
 
 reconfirm_at : (p : Client) (rr : Rr) (x : Option Connection) → ◌≡◌ {A = Bool × Client} (reconfirm (record p { connection = x }) rr) ((reconfirmed_on rr p.now x).0, record p { connection = (reconfirmed_on rr p.now x).1 })
 reconfirm_at p rr None = refl
@@ -157,13 +151,17 @@ timed_told ws t (Some c) = by c.closed
 
 -- ---- each call
 
+-- what a call leaves stands for the plain client, as that is sound
+abbrev pub StandsIfSound : KeptClient → Client → Type 0
+StandsIfSound kept plain = IsSound plain → StandsFor kept plain
+
 module _ (k : KeptClient) (p : Client) (s : StandsFor k p) where
   -- another connection at another moment
-  elsewhere : (x y : Option Connection) (t : ℕ) → x ≡ y → StandsFor (record k { connection = x; now = t }) (record p { connection = y; now = t })
-  elsewhere x y t same = record { wishes = s.wishes; connection = same; now = refl; sets = s.sets; questions = s.questions; dropped = s.dropped }
+  elsewhere : (x y : Option Connection) (t : ℕ) → x ≡ y → StandsIfSound (record k { connection = x; now = t }) (record p { connection = y; now = t })
+  elsewhere x y t same sound = record { wishes = s.wishes; connection = same; now = refl; sets = s.sets; sound = sound }
 
-  elsewhere_now : (x y : Option Connection) → x ≡ y → StandsFor (record k { connection = x }) (record p { connection = y })
-  elsewhere_now x y same = record { wishes = s.wishes; connection = same; now = s.now; sets = s.sets; questions = s.questions; dropped = s.dropped }
+  elsewhere_now : (x y : Option Connection) → x ≡ y → StandsIfSound (record k { connection = x }) (record p { connection = y })
+  elsewhere_now x y same sound = record { wishes = s.wishes; connection = same; now = s.now; sets = s.sets; sound = sound }
 
   on_both : {X : Type 0} (f : ℕ → Option Connection → X) → f k.now k.connection ≡ f p.now p.connection
   on_both f = ap (λ t. f t k.connection) s.now ∙ ap (f p.now) s.connection
@@ -172,17 +170,17 @@ module _ (k : KeptClient) (p : Client) (s : StandsFor k p) where
   reconfirm_stands rr =
       let is = reconfirm_at p rr p.connection in (
         on_both (λ t x. (reconfirmed_on rr t x).0) ∙ sym (ap (λ r. r.0) is),
-        subst (StandsFor (kept_reconfirm k rr).1) (sym (ap (λ r. r.1) is)) (elsewhere_now _ _ (on_both (λ t x. (reconfirmed_on rr t x).1))),
+        subst (StandsIfSound (kept_reconfirm k rr).1) (sym (ap (λ r. r.1) is)) (elsewhere_now _ _ (on_both (λ t x. (reconfirmed_on rr t x).1))) (reconfirm_sound rr p s.sound),
       )
 
   pub take_stands : (piece : List ℕ) → StandsFor (kept_take piece k) (take_octets piece p)
-  take_stands piece = subst (StandsFor (kept_take piece k)) (sym (take_at p piece p.connection)) (elsewhere_now _ _ (ap (taken_on piece) s.connection))
+  take_stands piece = subst (StandsIfSound (kept_take piece k)) (sym (take_at p piece p.connection)) (elsewhere_now _ _ (ap (taken_on piece) s.connection)) (taken_sound piece p s.sound)
 
   pub room_stands : room_on k.connection ≡ room_of p
   room_stands = ap room_on s.connection ∙ sym (room_at p p.connection)
 
   pub give_stands : (n : ℕ) → StandsFor (kept_give n k) (give_octets n p)
-  give_stands n = subst (StandsFor (kept_give n k)) (sym (give_at p n p.connection)) (elsewhere_now _ _ (ap (given_on n) s.connection))
+  give_stands n = subst (StandsIfSound (kept_give n k)) (sym (give_at p n p.connection)) (elsewhere_now _ _ (ap (given_on n) s.connection)) (given_sound n p s.sound)
 
   pub output_stands : output_on k.connection ≡ output_of p
   output_stands = ap output_on s.connection ∙ sym (output_at p p.connection)
@@ -191,20 +189,19 @@ module _ (k : KeptClient) (p : Client) (s : StandsFor k p) where
   closed_stands = ap closed_on s.connection ∙ sym (closed_at p p.connection)
 
   pub moment_stands : (t : ℕ) → StandsFor (kept_moment k t) (moment p t)
-  moment_stands t = subst (StandsFor (kept_moment k t)) (sym (moment_at p t p.connection))
-      (elsewhere _ _ t (ap (λ (ws : List Wish). timed_on ws t k.connection) s.wishes ∙ timed_told p.wishes t k.connection ∙ ap (timed_on p.wishes t) s.connection))
+  moment_stands t = subst (StandsIfSound (kept_moment k t)) (sym (moment_at p t p.connection))
+      (elsewhere _ _ t (ap (λ (ws : List Wish). timed_on ws t k.connection) s.wishes ∙ timed_told p.wishes t k.connection ∙ ap (timed_on p.wishes t) s.connection)) (moment_sound t p s.sound)
 
   -- a wish more, without an answer
-  pub ask_stands : (q : Question) → IsDistinct same_question (map question_of p.wishes ++ q ∷ []) → StandsFor (kept_ask q k) (asks p q)
-  ask_stands q apart =
+  pub ask_stands : (q : Question) → StandsIfSound (kept_ask q k) (asks p q)
+  ask_stands q =
       let same : asked_on k.wishes q k.now k.connection ≡ asked_on p.wishes q p.now p.connection =
       ap (λ (ws : List Wish). asked_on ws q k.now k.connection) s.wishes ∙ asked_told p.wishes q k.now k.connection ∙ on_both (asked_on p.wishes q) in
       let wish = asked_wish q (asked_on p.wishes q p.now p.connection).0 in
-      subst (StandsFor (kept_ask q k)) (sym (asks_at p q p.connection)) (record {
+      subst (StandsIfSound (kept_ask q k)) (sym (asks_at p q p.connection)) (λ sound. record {
         wishes = ap (λ (r : RequestState × Option Connection). k.wishes ++ asked_wish q r.0 ∷ []) same ∙ ap (λ (ws : List Wish). ws ++ wish ∷ []) s.wishes ∙ sym (map_behind without_told p.wishes wish);
         connection = ap (λ (r : RequestState × Option Connection). r.1) same;
         now = s.now;
         sets = λ x. s.sets x ∙ sym (ap (option_map set_told) (find_behind (is_answered_for x) p.wishes wish (unanswered_at p.wishes q p.now x p.connection)));
-        questions = subst (IsDistinct same_question) (sym (map_behind question_of p.wishes wish)) apart;
-        dropped = all_behind IsRightlyDropped p.wishes wish s.dropped (λ e. absurd cc);
+        sound = sound;
       })

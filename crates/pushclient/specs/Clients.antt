@@ -17,7 +17,7 @@ use Rattle.dsotlv.specs.Messages.{frame, tlv_octets, dso_flags}
 use Rattle.dsotlv.specs.Notices.{applied_all}
 use Rattle.dsotlv.specs.declared.message.Notice.{Notice}
 use Rattle.dsotlv.specs.TlvKinds.{subscribe_tlv, unsubscribe_tlv, reconfirm_tlv}
-use Rattle.dsosession.specs.Timing.{Clocks, client_start, client_spoke}
+use Rattle.dsosession.specs.Timing.{Clocks, new_clocks, restarted}
 use Rattle.dsosession.specs.declared.session.CloseReason.{CloseReason}
 use Rattle.pushclient.specs.declared.client.Asked.{Asked}
 use Rattle.pushclient.specs.declared.client.Asked.TheVariants as asked
@@ -29,7 +29,7 @@ pub data RequestState : Type 0 where
   refused : ℕ → RequestState
   answered : ℕ → RequestState
 
--- a question; one that was dropped before its answer isn't wanted any more
+-- a question, and the notices taken since its answer; one that was dropped before its answer isn't wanted any more
 pub record Wish : Type 0 where
   pub question : Question
   pub wanted : Bool
@@ -54,7 +54,7 @@ abbrev pub new_client : Client
 new_client = record { wishes = []; connection = None; now = 0 }
 
 abbrev pub new_connection : ℕ → Connection
-new_connection now = record { last_id = 0; established = false; clocks = client_start now; keepalive_out = None; input = []; output = []; closed = None }
+new_connection now = record { last_id = 0; established = false; clocks = new_clocks now; keepalive_out = None; input = []; output = []; closed = None }
 
 abbrev pub id_in_use : RequestState → List ℕ
 id_in_use (unanswered id) = id ∷ []
@@ -80,7 +80,7 @@ next_id wishes connection = free_id 1025 (ids_in_use wishes connection) (id_afte
 
 -- a message behind its length goes to the output; it restarts the timers (RFC 7766, 8; RFC 8490, 6.3)
 abbrev pub writes : Bool → ℕ → List ℕ → Connection → Connection
-writes is_keepalive now message connection = record connection { output = connection.output ++ frame message; clocks = client_spoke is_keepalive now connection.clocks }
+writes is_keepalive now message connection = record connection { output = connection.output ++ frame message; clocks = restarted is_keepalive now connection.clocks }
 
 abbrev pub question_octets : Question → List ℕ
 question_octets q = octets q.name ++ to_be_bytes w16 q.kind ++ to_be_bytes w16 q.class

@@ -2,13 +2,16 @@
 --     told_once      a message with one TLV that is no answer
 --     asked_on, ended_on, reconfirmed_on, taken_on, given_on, timed_on      what it does to a connection that may be there
 --     kept_..      the call, on the client that is kept
-use Rattle.std.specs.Prelude.{◌≡◌, ℕ, ◌-◌, Bool, true, false, cond, ◌&&◌, List, [], ◌∷◌, ◌++◌, length, map, filter, find, take, drop, Option, Some, None, is_some, nat_le, if◌then◌else◌}
+--     untold kept      the client that is kept, as a plain one that was told nothing
+--     sets_after step wishes sets      what a step does to the sets
+use Rattle.std.specs.Prelude.{◌≡◌, ℕ, ◌-◌, Bool, true, false, cond, ◌&&◌, List, [], ◌∷◌, ◌++◌, length, map, filter, find, take, drop, Option, Some, None, is_some, nat_le, ◌==◌, if◌then◌else◌}
 use Rattle.std.specs.Int.{w16, to_be_bytes}
 use Rattle.std.specs.List.{list_any}
 use Rattle.push_base.specs.Limits.{max_input, max_questions}
 use Rattle.dnsname.specs.Names.{octets}
 use Rattle.rrset.specs.Records.{same_question}
 use Rattle.rrset.specs.RecordSet.{RecordSet}
+use Rattle.rrset.specs.Rcodes.{noerror}
 use Rattle.rrset.specs.declared.record.Rr.{Rr}
 use Rattle.rrset.specs.declared.record.Question.{Question}
 use Rattle.dsotlv.specs.declared.message.DsoMessage.{DsoMessage}
@@ -17,14 +20,16 @@ use Rattle.dsosession.specs.declared.session.Due.{Due}
 use Rattle.dsosession.specs.declared.session.Due.TheVariants as dues
 use Rattle.dsosession.specs.declared.session.CloseReason.{CloseReason}
 use Rattle.dsosession.specs.declared.session.CloseReason.TheVariants as closes
-use Rattle.mirror.specs.Held.{ended, set_of}
+use Rattle.mirror.specs.Held.{Held as Sets, applied_to, begun, ended, set_of}
 use Rattle.pushclient.specs.declared.client.Asked.{Asked}
 use Rattle.pushclient.specs.declared.client.Held.{Held as Told}
 use Rattle.pushclient.specs.declared.client.Held.TheVariants as tolds
 use Rattle.pushclient.specs.declared.client.Asked.TheVariants as asked
-use Rattle.pushclient.specs.Clients.{Connection, Wish, RequestState, not_asked, unanswered, refused, answered, id_asked, Held, off, asked_only, refused_with, set_held, next_id, new_connection, unasked, without_wish, writes, subscribe_message, unsubscribe_message, reconfirm_message}
-use Rattle.pushclient.specs.Steps.{is_active, keepalive_message}
-use Rattle.pushclient.specs.Rule.{KeptClient, dropped_wish}
+use Rattle.pushclient.specs.declared.client.Step.{Step}
+use Rattle.pushclient.specs.declared.client.Step.TheVariants as steps
+use Rattle.pushclient.specs.Clients.{Client, Connection, Wish, RequestState, not_asked, unanswered, refused, answered, id_asked, Held, off, asked_only, refused_with, set_held, next_id, new_connection, unasked, without_wish, writes, subscribe_message, unsubscribe_message, reconfirm_message}
+use Rattle.pushclient.specs.Steps.{is_active, is_unanswered, keepalive_message, step}
+use Rattle.pushclient.specs.Rule.{KeptClient, dropped_wish, without_told}
 
 abbrev pub told_once : ℕ → ℕ → List ℕ → DsoMessage
 told_once id kind data' = record { id = id; response = false; rcode = 0; tlvs = (record { kind = kind; octets = data' }) ∷ [] }
@@ -129,6 +134,31 @@ kept_give n kept = record kept { connection = given_on n kept.connection }
 
 abbrev pub kept_moment : KeptClient → ℕ → KeptClient
 kept_moment kept t = record kept { now = t; connection = timed_on kept.wishes t kept.connection }
+
+-- the client that is kept, as a plain one that was told nothing
+abbrev pub untold : KeptClient → Client
+untold kept = record { wishes = kept.wishes; connection = kept.connection; now = kept.now }
+
+-- the answer NOERROR to a wanted question begins its set, and a PUSH changes all (RFC 8765, 6.2.2 and 6.3)
+abbrev pub sets_after : Step → List Wish → Sets → Sets
+sets_after (steps.Answered id rcode) wishes sets = elim (find (λ w. is_unanswered id w.standing) wishes) [
+  | None ↦ sets
+  | Some wish ↦ if rcode == noerror && wish.wanted then begun wish.question sets else sets
+]
+sets_after (steps.Pushed notices) wishes sets = applied_to notices sets
+sets_after _ wishes sets = sets
+
+-- a step is that of the plain client, and the sets follow
+abbrev pub kept_step : KeptClient → Step × KeptClient
+kept_step kept = let r : Step × Client = step (untold kept) in (
+  r.0,
+  record {
+    wishes = map without_told r.1.wishes;
+    connection = r.1.connection;
+    now = r.1.now;
+    sets = sets_after r.0 kept.wishes kept.sets;
+  },
+)
 
 abbrev pub closed_on : Option Connection → Option CloseReason
 closed_on None = None

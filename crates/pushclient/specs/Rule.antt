@@ -6,7 +6,6 @@
 --     StandsFor kept plain      each set kept is what the notices taken since the answer lead to
 --     BothAnswer      one answer, and what is kept stands for the plain client
 use Rattle.std.specs.Prelude.{◌≡◌, ℕ, Bool, false, cond, ◌&&◌, List, [], map, find, Option, option_map}
-use Rattle.std.specs.List.{IsDistinct, AllByRecursion}
 use Rattle.rrset.specs.Records.{same_question}
 use Rattle.rrset.specs.RecordSet.{RecordSet}
 use Rattle.rrset.specs.declared.record.Question.{Question}
@@ -16,6 +15,7 @@ use Rattle.pushclient.specs.declared.wish.Standing.{Standing}
 use Rattle.pushclient.specs.declared.wish.Standing.TheVariants as standings
 use Rattle.pushclient.specs.Clients.{Client, Connection, Wish, RequestState, not_asked, unanswered, refused, answered}
 use Rattle.pushclient.specs.Steps.{is_answered}
+use Rattle.pushclient.specs.SoundClients.{IsSound}
 
 abbrev pub standing_of : Standing → RequestState
 standing_of standings.NotAsked = not_asked
@@ -48,21 +48,13 @@ set_told w = (w.question, applied_all w.notices w.question [])
 abbrev pub is_answered_for : Question → Wish → Bool
 is_answered_for question w = is_answered w.standing && same_question w.question question
 
--- what was dropped and is a wish yet has no answer
-abbrev pub IsRightlyDropped : Wish → Type 0
-IsRightlyDropped w = w.wanted ≡ false → is_answered w.standing ≡ false
-
-abbrev pub question_of : Wish → Question
-question_of w = w.question
-
--- each set kept is that of an answered wish; no question is there twice
+-- each set kept is that of an answered wish
 pub record StandsFor (kept : KeptClient) (plain : Client) : Type 0 where
   pub wishes : kept.wishes ≡ map without_told plain.wishes
   pub connection : kept.connection ≡ plain.connection
   pub now : kept.now ≡ plain.now
   pub sets : (question : Question) → find (is_of question) kept.sets ≡ option_map set_told (find (is_answered_for question) plain.wishes)
-  pub questions : IsDistinct same_question (map question_of plain.wishes)
-  pub dropped : AllByRecursion IsRightlyDropped plain.wishes
+  pub sound : IsSound plain
 
 -- one answer, and what is kept stands for the plain client
 abbrev pub BothAnswer : {X : Type 0} → X × KeptClient → X × Client → Type 0

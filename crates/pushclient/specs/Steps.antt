@@ -1,6 +1,6 @@
 -- The client's reaction to one message, and what is due at a moment (RFC 8490, 5 to 7; RFC 8765, 6).
 --     step client      one whole message is reacted to
---     moment client now      the client at a later moment
+--     moment client now      the client at a moment
 use Rattle.std.specs.Prelude.{ℕ, Bool, true, false, not, ◌&&◌, cond, List, [], ◌∷◌, ◌++◌, map, length, take, drop, find, Option, Some, None, Ok, Err, is_some, nat_lt, ◌==◌, if◌then◌else◌}
 use Rattle.std.specs.Int.{w32, from_be_bytes}
 use Rattle.std.specs.List.{list_any}
@@ -15,7 +15,7 @@ use Rattle.dsotlv.specs.declared.message.DsoHead.{DsoHead}
 use Rattle.dsotlv.specs.declared.message.Notice.{Notice}
 use Rattle.dsotlv.specs.TlvKinds.{keepalive_tlv, push_tlv}
 use Rattle.dsosession.specs.Reactions.{client_reaction, is_keepalive}
-use Rattle.dsosession.specs.Timing.{default_timers, least_keepalive, client_spoke, client_due}
+use Rattle.dsosession.specs.Timing.{default_timers, least_keepalive, restarted, client_due}
 use Rattle.dsosession.specs.declared.session.CloseReason.{CloseReason}
 use Rattle.dsosession.specs.declared.session.CloseReason.TheVariants as closes
 use Rattle.dsosession.specs.declared.session.ClientReaction.{ClientReaction}
@@ -113,7 +113,7 @@ abbrev pub reacted : List ℕ → Connection → Client → Step × Client
 reacted message c client = elim (head_of message) [
   | None ↦ closes_as closes.Short client
   | Some head ↦ by_reaction (client_reaction head c.established) message (id_of message) (rcode_of (flags_of message))
-      (in_connection (λ d. record d { clocks = client_spoke (counts_as_keepalive client head) client.now d.clocks }) client)
+      (in_connection (λ d. record d { clocks = restarted (counts_as_keepalive client head) client.now d.clocks }) client)
 ]
 
 -- one whole message, or what keeps the client from one

@@ -1,20 +1,34 @@
 //! The connection of a client.
 
-ghost use Rattle.std.specs.Prelude.{◌≡◌, ◌-◌, ◌++◌, ◌==◌, ◌&&◌, None, Some, true, false, IfOk, OnOk, OnErr, cond, drop, is_some, length, min, nat_le, take};
+ghost use Rattle.std.specs.Prelude.{◌≡◌, ◌-◌, ◌++◌, ◌==◌, ◌&&◌, None, Some, true, false, if◌then◌else◌, IfOk, IsSome, OnOk, OnErr, cond, drop, is_some, length, min, nat_le, option_map, take};
 ghost use Rattle.std.specs.List.{list_any};
 ghost use Rattle.push_base.specs.Limits.{max_input};
 ghost use Rattle.pushclient.specs.Clients.{free_id, id_after, ids_in_use, new_connection, next_id, reconfirm_message, subscribe_message, unsubscribe_message, writes};
-ghost use Rattle.dsosession.specs.Timing.{client_due};
+ghost use Rattle.rrset.specs.Header.{is_response};
+ghost use Rattle.rrset.specs.Rcodes.{dsotypeni};
+ghost use Rattle.dsotlv.specs.Answers.{answer_to};
+ghost use Rattle.dsotlv.specs.Messages.{first_message};
+ghost use Rattle.dsosession.specs.Reactions.{client_reaction, is_keepalive};
+ghost use Rattle.dsosession.specs.Timing.{client_due, restarted};
+ghost use Rattle.pushclient.specs.Hearing.{adopted_on, closed_by, heard, is_keepalive_of, other_answer_on, taken_up};
 ghost use Rattle.pushclient.specs.Kept.{done_on};
 ghost use Rattle.pushclient.specs.Steps.{is_active, keepalive_message};
 
 use crate::NoMemory;
-use crate::octets::{append_keepalive, append_reconfirm, append_subscribe, append_unsubscribe};
+use crate::client::Step;
+use crate::octets::{
+    append_keepalive, append_reconfirm, append_subscribe, append_typeless, append_unsubscribe,
+};
+use crate::told::{Answer, Told, told_of};
 use crate::wish::Wish;
 use crate::wishes::{are_active, use_id};
 use dsosession::ClientSession;
-use dsosession::session::{CloseReason, Due};
-use dsotlv::Framer;
+use dsosession::session::{ClientReaction, CloseReason, Due, Timers};
+use dsosession::times::LEAST_KEEPALIVE;
+use dsotlv::kinds::KEEPALIVE;
+use dsotlv::{DsoHead, Framer, copy_front, head};
+use rrset::header::is_response;
+use rrset::rcodes::NOERROR;
 use rrset::record::{Question, Rr};
 use std::alloc::Global;
 use std::marker::Model;
@@ -42,21 +56,24 @@ impl Model for Connection {
 /// The most IDs that are in use: one of each wish, and a Keepalive's.
 const MOST_IDS: u16 = 1_025;
 
-/// Copies the front of the octets that fits, and gives its length.
-fn copy_front(octets: &[u8], buf: &mut [u8]) -> usize
-    ensures count { result ≡ min (length buf.old) (length octets.now) }
-    ensures octets { buf.new ≡ take (length buf.old) octets.now ++ drop (length octets.now) buf.old }
-{
-    let count = buf.len().min(octets.len());
-    buf[..count].copy_from_slice(&octets[..count]);
-    count
-}
-
 /// The ID after another; 65,535 is followed by 1.
 fn id_after(id: u16) -> u16
     ensures { result ≡ id_after id }
 {
     if id == u16::MAX { 1 } else { id + 1 }
+}
+
+/// What the client does with a message, which restarts the timers: the keepalive timer alone, where it is a Keepalive or
+/// the answer to the client's own (RFC 8490, 6.3).
+fn reacted(session: &mut ClientSession, head: &DsoHead, is_own: bool, now: u64) -> ClientReaction
+    ensures reaction { result ≡ client_reaction head.now session.old.established }
+    ensures session { session.new ≡ record session.old { clocks = restarted (if is_response head.now.flags then is_own else is_keepalive head.now) now session.old.clocks } }
+{
+    let reaction = session.react(head, now);
+    if is_response(head.flags) && !is_own {
+        session.wrote(false, now);
+    }
+    reaction
 }
 
 impl Connection {
@@ -196,5 +213,132 @@ impl Connection {
         let count = copy_front(&self.output, buf);
         self.output.drain(..count);
         count
+    }
+
+    /// Whether this is the ID of the Keepalive that waits for its answer.
+    fn is_keepalive_of(&self, id: u16) -> bool
+        ensures { result ≡ is_keepalive_of id self.now }
+    {
+        self.keepalive_out == Some(id)
+    }
+
+    /// What a message tells, and the session behind it.
+    fn heard(&self, message: &[u8], now: u64) -> Result<(Told, ClientSession), NoMemory>
+        ensures { IfOk result (λ h. h ≡ heard now self.now message.now) }
+    {
+        let mut session = self.session;
+        let Some(head) = head(message) else {
+            return Ok((Told::Close(CloseReason::Short), session));
+        };
+        let reaction = reacted(&mut session, &head, self.is_keepalive_of(head.id), now);
+        let told = told_of(*self.output.allocator(), &head, reaction, message)?;
+        Ok((told, session))
+    }
+
+    /// What the first message tells, where it is whole, and the session behind it.
+    pub(crate) fn hear(&self, now: u64) -> Result<Option<(Told, ClientSession)>, NoMemory>
+        ensures { IfOk result (λ h. h ≡ option_map (λ f. heard now self.now f.0) (first_message self.now.input)) }
+    {
+        match self.input.next() {
+            Some(message) => Ok(Some(self.heard(message, now)?)),
+            None => Ok(None),
+        }
+    }
+
+    /// Takes out the first message, which leaves the session so.
+    pub(crate) fn take_up(&mut self, session: ClientSession)
+        requires { IsSome (first_message self.old.input) }
+        ensures { self.new ≡ taken_up session self.old }
+    {
+        self.input.drop_first();
+        self.session = session;
+    }
+
+    /// Closes.
+    pub(crate) fn close(&mut self, reason: CloseReason) -> Step
+        ensures step { result ≡ (closed_by reason self.old).0 }
+        ensures closed { self.new ≡ (closed_by reason self.old).1 }
+    {
+        self.closed = Some(reason);
+        Step::Closed(reason)
+    }
+
+    /// Takes up the two timers of a Keepalive, where it has them and the interval isn't under ten seconds (RFC 8490, 6.5.2
+    /// and 7.1).
+    pub(crate) fn adopt(&mut self, timers: Option<(u32, u32)>) -> Step
+        ensures step { result ≡ (adopted_on timers self.old).0 }
+        ensures adopted { self.new ≡ (adopted_on timers self.old).1 }
+    {
+        let Some((inactivity, keepalive)) = timers else {
+            return self.close(CloseReason::BadData(KEEPALIVE));
+        };
+        if keepalive < LEAST_KEEPALIVE {
+            return self.close(CloseReason::Interval(keepalive));
+        }
+        self.session.adopt(Timers {
+            inactivity,
+            keepalive,
+        });
+        self.session.establish();
+        Step::Kept(inactivity, keepalive)
+    }
+
+    /// Takes an answer that is to no wish: it must be to the client's Keepalive (RFC 8490, 5.4.1 and 7.1).
+    pub(crate) fn take_other(&mut self, answer: Answer) -> Step
+        ensures step { result ≡ (other_answer_on answer self.old).0 }
+        ensures taken { self.new ≡ (other_answer_on answer self.old).1 }
+    {
+        if !self.is_keepalive_of(answer.id) {
+            return self.close(CloseReason::Stranger(answer.id));
+        }
+        if answer.rcode != NOERROR {
+            return self.close(CloseReason::Kept(answer.rcode));
+        }
+        self.keepalive_out = None;
+        self.adopt(answer.timers)
+    }
+
+    /// Takes up the first message, a request whose kind isn't known, and answers so (RFC 8490, 5.4.5).
+    pub(crate) fn answer_typeless(
+        &mut self,
+        id: u16,
+        session: ClientSession,
+        now: u64,
+    ) -> Result<(), NoMemory>
+        requires { IsSome (first_message self.old.input) }
+        ensures ok { OnOk result (self.new ≡ writes false now (answer_to id dsotypeni) (taken_up session self.old)) }
+        ensures err { OnErr result (self.new ≡ self.old) }
+    {
+        append_typeless(*self.output.allocator(), id, &mut self.output)?;
+        self.take_up(session);
+        self.session.wrote(false, now);
+        Ok(())
+    }
+
+    /// Takes up the first message, which establishes the session (RFC 8765, 6.2.2).
+    pub(crate) fn establish(&mut self, session: ClientSession)
+        requires { IsSome (first_message self.old.input) }
+        ensures { self.new ≡ record (taken_up session self.old) { established = true } }
+    {
+        self.take_up(session);
+        self.session.establish();
+    }
+
+    /// Takes up the first message, which says NOERROR to a question that was dropped, and ends its subscription at once
+    /// (RFC 8765, 6.4).
+    pub(crate) fn end_dropped(
+        &mut self,
+        id: u16,
+        session: ClientSession,
+        now: u64,
+    ) -> Result<(), NoMemory>
+        requires { IsSome (first_message self.old.input) }
+        ensures ok { OnOk result (self.new ≡ writes false now (unsubscribe_message id) (record (taken_up session self.old) { established = true })) }
+        ensures err { OnErr result (self.new ≡ self.old) }
+    {
+        append_unsubscribe(*self.output.allocator(), id, &mut self.output)?;
+        self.establish(session);
+        self.session.wrote(false, now);
+        Ok(())
     }
 }

@@ -2,12 +2,13 @@
 
 ghost use Rattle.std.specs.Prelude.{◌≡◌, ◌++◌, [], None, IfOk, OnOk, OnErr, drop, length, min, take};
 ghost use Rattle.pushclient.specs.Kept.{HoldsAs, asked_wanted, closed_on, kept_ask, kept_ask_first, kept_connected, kept_cut, kept_drop, kept_give, kept_held, kept_id_of, kept_moment, kept_reconfirm, kept_subscribe, kept_take, kept_unsubscribe, output_on, room_on};
+ghost use Rattle.pushclient.specs.Hearing.{kept_heard};
 ghost use Rattle.pushclient.specs.Rule.{standing_of};
 
-use crate::client::{Asked, Held};
+use crate::client::{Asked, Held, Step};
 use crate::connection::Connection;
 use crate::wish::{Standing, Wish, copied};
-use crate::{NoMemory, opened, wishes};
+use crate::{NoMemory, opened, reacting, wishes};
 use dsosession::session::CloseReason;
 use mirror::Mirror;
 use push_base::limits::MAX_QUESTIONS;
@@ -107,6 +108,20 @@ impl Keeping {
         opened::moment(&mut self.connection, &self.wishes, now)?;
         self.moment = now;
         Ok(())
+    }
+
+    /// Reacts to one whole message, where one is there and the connection is open. Where memory runs out nothing changes.
+    pub(crate) fn step(&mut self) -> Result<Step, NoMemory>
+        ensures told { IfOk result (λ told. told ≡ (kept_heard self.old).0) }
+        ensures ok { OnOk result (self.new ≡ (kept_heard self.old).1) }
+        ensures err { OnErr result (self.new ≡ self.old) }
+    {
+        reacting::step(
+            &mut self.connection,
+            &mut self.wishes,
+            &mut self.mirror,
+            self.moment,
+        )
     }
 
     /// Asks the questions of all wishes that are wanted.

@@ -15,30 +15,31 @@ use Rattle.push_base.specs.Limits.{max_number}
 use Rattle.rrset.specs.declared.record.Key.{Key}
 use Rattle.rrset.specs.declared.record.Rr.{Rr}
 use Rattle.dnswire.specs.declared.message.Update.{Update}
-use Rattle.dsotlv.specs.Messages.{first_message, head_of, primary_data}
-use Rattle.dsotlv.specs.Notices.{reconfirm_of}
+use Rattle.dsotlv.specs.Messages.{first_message, head_of}
 use Rattle.dsotlv.specs.declared.message.DsoHead.{DsoHead}
 use Rattle.dsosession.specs.Reactions.{server_reaction}
 use Rattle.dsosession.specs.declared.session.Reaction.{Reaction}
-use Rattle.dsosession.specs.declared.session.Reaction.TheVariants as reactions
 use Rattle.history.specs.States.{accepts, reconfirm_key, verdict}
 use Rattle.history.specs.Totals.{is_change, is_hearing, is_moment, totals}
 use Rattle.history.specs.declared.entry.Entry.{Entry}
 use Rattle.history.specs.declared.entry.Entry.TheVariants as entries
 use Rattle.pushsession.specs.Kept.{KeptSession}
 use Rattle.pushsession.specs.Sessions.{SessionOf}
+use Rattle.pushsession.specs.Reactions.{request_for}
+use Rattle.pushsession.specs.declared.request.Request.{Request}
+use Rattle.pushsession.specs.declared.request.Request.TheVariants as requests
 use Rattle.pushsession.specs.declared.standing.Standing.{Standing}
 use Rattle.pushsession.specs.declared.standing.Standing.TheVariants.{Live, AskedToStop, Stopped, Ended}
 use Rattle.pushserver.specs.Counting.{MayAddChange, MayAddMoment, octets_of}
-use Rattle.pushserver.specs.Giving.{by_reaction, reacted, after_reaction, by_standing, given_after, give}
+use Rattle.pushserver.specs.Giving.{reconfirms, by_request, reacted, after_reaction, by_standing, given_after, give}
 use Rattle.pushserver.specs.Hubs.{Numbered, SessionKind, HubOf, now, state_now, session_of, entered, can_enter, update, moment, connect, max_sessions}
-use Rattle.pushserver.specs.Rule.{KeptHub}
-use Rattle.pushserver.specs.Seats.{AreApart, AreBelow}
+use Rattle.pushserver.specs.KeptHubs.{KeptHub}
+use Rattle.pushserver.specs.NumberedSessions.{AreApart, AreBelow}
 use Rattle.pushserver.specs.declared.given.Given.{Given}
 use Rattle.pushserver.specs.declared.given.Given.TheVariants.{Worked, Nothing}
 use Rattle.pushserver.proofs.SessionLists.{same-number}
 use Rattle.pushserver.proofs.Walks.{with_new}
-use Rattle.pushserver.proofs.hub_steps.Cases.{enters_update, update_as, enters_moment, moment_as, key_as, record_as, session_as, head_as, copies_as, found_as, works_as, stops_as, output_as, give_as}
+use Rattle.pushserver.proofs.hub_steps.Cases.{enters_update, update_as, enters_moment, moment_as, key_as, session_as, head_as, copies_as, found_as, works_as, output_as, give_as}
 
 -- ---- one entry more
 
@@ -78,8 +79,8 @@ module _ {A Q M : Type 0} {kind : SessionKind A Q M} (number room : ℕ) where
       by (Err code) = (refl, inl refl)
       by (Ok u) = by_room u (can_enter hub (entries.Update u))
 
-  adds-reconfirm : (hub : HubOf kind) (message : List ℕ) → MayAddChange hub (record_as hub number (reconfirm_of (primary_data message)))
-  adds-reconfirm hub message = by (reconfirm_of (primary_data message))
+  adds-reconfirm : (hub : HubOf kind) (found : Option Rr) → MayAddChange hub (reconfirms found number hub)
+  adds-reconfirm hub = by
     where
       by_room : (found : ℕ × Key) (b : Bool) → MayAddChange hub (cond b (entered (entries.Reconfirm found.0 found.1) hub) hub)
       by_room found true = (refl, inr (more_change hub.history (entries.Reconfirm found.0 found.1) refl refl refl))
@@ -89,26 +90,22 @@ module _ {A Q M : Type 0} {kind : SessionKind A Q M} (number room : ℕ) where
       by_key None = (refl, inl refl)
       by_key (Some found) = by_room found (accepts (state_now hub) (entries.Reconfirm found.0 found.1) && can_enter hub (entries.Reconfirm found.0 found.1))
 
-      by : (o : Option Rr) → MayAddChange hub (record_as hub number o)
+      by : (o : Option Rr) → MayAddChange hub (reconfirms o number hub)
       by None = (refl, inl refl)
       by (Some rr) = by_key (reconfirm_key (state_now hub) rr)
 
-  adds-reaction : (hub : HubOf kind) (message : List ℕ) (r : Reaction) → MayAddChange hub (by_reaction r number message hub)
-  adds-reaction hub message reactions.Update = adds-update hub message
-  adds-reaction hub message reactions.Reconfirm = adds-reconfirm hub message
-  adds-reaction hub message reactions.Subscribe = (refl, inl refl)
-  adds-reaction hub message (reactions.Answer rcode) = (refl, inl refl)
-  adds-reaction hub message reactions.Grant = (refl, inl refl)
-  adds-reaction hub message (reactions.Abort reason) = (refl, inl refl)
-  adds-reaction hub message reactions.Unsubscribe = (refl, inl refl)
-  adds-reaction hub message reactions.NotImplemented = (refl, inl refl)
+  adds-request : (hub : HubOf kind) (message : List ℕ) (r : Reaction) (q : Request) → MayAddChange hub (by_request q r number message hub)
+  adds-request hub message r requests.Update = adds-update hub message
+  adds-request hub message r (requests.Reconfirm rr) = adds-reconfirm hub rr
+  adds-request hub message r (requests.Subscribe question) = (refl, inl refl)
+  adds-request hub message r requests.Itself = (refl, inl refl)
 
   adds-message : (hub : HubOf kind) (message : List ℕ) → MayAddChange hub (reacted message number hub)
   adds-message hub message = by (head_of message)
     where
       by_session : (head : DsoHead) (o : Option (SessionOf A Q M)) → MayAddChange hub (session_as hub number message head o)
       by_session head None = (refl, inl refl)
-      by_session head (Some session) = adds-reaction _ message (server_reaction head session.established)
+      by_session head (Some session) = adds-request _ message (server_reaction head session.established) (request_for (server_reaction head session.established) message)
 
       by : (o : Option DsoHead) → MayAddChange hub (head_as hub number message o)
       by None = (refl, inl refl)
@@ -134,11 +131,7 @@ module _ {A Q M : Type 0} {kind : SessionKind A Q M} (number room : ℕ) where
   adds-standing hub session (Ended reason) = (refl, inl refl)
   adds-standing hub session (Stopped since) = (refl, inl refl)
   adds-standing hub session Live = adds-works hub (first_message session.input)
-  adds-standing hub session (AskedToStop rcode delay) = by session.established
-    where
-      by : (b : Bool) → MayAddChange hub (stops_as hub number room rcode delay b).hub
-      by true = adds-after hub _ (refl, inl refl)
-      by false = (refl, inl refl)
+  adds-standing hub session (AskedToStop rcode delay) = adds-after hub _ (refl, inl refl)
 
   pub give-adds : (hub : HubOf kind) → MayAddChange hub (give hub number room).hub
   give-adds hub = by (session_of hub number)
@@ -172,11 +165,7 @@ module _ {A Q M : Type 0} {kind : SessionKind A Q M} (number room : ℕ) where
       by : (o : Option (List ℕ × List ℕ)) → octets_of (works_as hub number room o).given ≤ room
       by None = within-found _ Nothing (λ standing. Nothing) refl (λ s. refl) _
       by (Some found) = within-after _
-  within-standing hub session (AskedToStop rcode delay) = by session.established
-    where
-      by : (b : Bool) → octets_of (stops_as hub number room rcode delay b).given ≤ room
-      by true = within-after _
-      by false = omega arith
+  within-standing hub session (AskedToStop rcode delay) = within-after _
 
   pub give-within : (hub : HubOf kind) → octets_of (give hub number room).given ≤ room
   give-within hub = by (session_of hub number)
@@ -203,16 +192,16 @@ moment-adds hub t = by (not (nat_lt (now hub) t))
 -- ---- a session is made
 
 abbrev connect_as : {A Q M : Type 0} {kind : SessionKind A Q M} → HubOf kind → Bool → Option ℕ × HubOf kind
-connect_as hub b = cond b (Some hub.made, with_new hub) (None, hub)
+connect_as hub b = cond b (Some hub.numbers_given, with_new hub) (None, hub)
 
-pub connect-counts : {A Q M : Type 0} {kind : SessionKind A Q M} (hub : HubOf kind) (number : ℕ) → (connect hub).0 ≡ Some number → (number ≡ hub.made) × ((connect hub).1.made ≡ hub.made + 1) × ((connect hub).1.history ≡ hub.history)
-connect-counts hub number = by (nat_lt (length hub.sessions) max_sessions && nat_lt hub.made max_number)
+pub connect-counts : {A Q M : Type 0} {kind : SessionKind A Q M} (hub : HubOf kind) (number : ℕ) → (connect hub).0 ≡ Some number → (number ≡ hub.numbers_given) × ((connect hub).1.numbers_given ≡ hub.numbers_given + 1) × ((connect hub).1.history ≡ hub.history)
+connect-counts hub number = by (nat_lt (length hub.sessions) max_sessions && nat_lt hub.numbers_given max_number)
   where
     same_some : (a b : ℕ) → Some a ≡ Some b → a ≡ b
     same_some a b e = cc
 
-    by : (b : Bool) → (connect_as hub b).0 ≡ Some number → (number ≡ hub.made) × ((connect_as hub b).1.made ≡ hub.made + 1) × ((connect_as hub b).1.history ≡ hub.history)
-    by true e = (sym (same_some hub.made number e), refl, refl)
+    by : (b : Bool) → (connect_as hub b).0 ≡ Some number → (number ≡ hub.numbers_given) × ((connect_as hub b).1.numbers_given ≡ hub.numbers_given + 1) × ((connect_as hub b).1.history ≡ hub.history)
+    by true e = (sym (same_some hub.numbers_given number e), refl, refl)
     by false e = cc
 
 -- as many sessions as there are were made
@@ -246,10 +235,10 @@ fewer_than-made made xs apart below =
 no_less : (a b : ℕ) → nat_lt a b ≡ false → b ≤ a
 no_less a b is = nltb→le a b (subst (λ c. T (not c)) (sym is) tt)
 
-pub connect-many : (k : KeptHub) → AreApart k.sessions → AreBelow k.made k.sessions → (connect k).0 ≡ None → max_sessions ≤ k.made
-connect-many k apart below = by (nat_lt (length k.sessions) max_sessions) (nat_lt k.made max_number) refl refl
+pub connect-many : (k : KeptHub) → AreApart k.sessions → AreBelow k.numbers_given k.sessions → (connect k).0 ≡ None → max_sessions ≤ k.numbers_given
+connect-many k apart below = by (nat_lt (length k.sessions) max_sessions) (nat_lt k.numbers_given max_number) refl refl
   where
-    by : (a b : Bool) → nat_lt (length k.sessions) max_sessions ≡ a → nat_lt k.made max_number ≡ b → (connect_as k (a && b)).0 ≡ None → max_sessions ≤ k.made
+    by : (a b : Bool) → nat_lt (length k.sessions) max_sessions ≡ a → nat_lt k.numbers_given max_number ≡ b → (connect_as k (a && b)).0 ≡ None → max_sessions ≤ k.numbers_given
     by true true few more e = cc
-    by false b few more e = let many = no_less (length k.sessions) max_sessions few in omega (arith, fewer_than-made k.made k.sessions apart below, many)
-    by true false few more e = let many = no_less k.made max_number more in omega (arith, many)
+    by false b few more e = let many = no_less (length k.sessions) max_sessions few in omega (arith, fewer_than-made k.numbers_given k.sessions apart below, many)
+    by true false few more e = let many = no_less k.numbers_given max_number more in omega (arith, many)

@@ -11,7 +11,7 @@ use Rattle.rrset.specs.declared.record.Question.{Question}
 use Rattle.rrset.proofs.Sets.{both_true}
 use Rattle.coalesce.proofs.Sides.{matching-only}
 use Rattle.history.proofs.Present.{matching-at_name}
-use Rattle.pushserver.specs.Sessions.{Subscription, asks_for, wanted}
+use Rattle.pushserver.specs.PlainHubs.{Subscription, asks_for, wanted}
 use Rattle.pushserver.proofs.hub_steps.Pairs.{all-weaken}
 
 abbrev pub IsAsked : List Subscription → Question → Type 0

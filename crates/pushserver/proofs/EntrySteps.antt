@@ -32,7 +32,7 @@ use Rattle.history.proofs.UnitedParts.{united}
 use Rattle.history.specs.States.{update_in}
 use Rattle.pushsession.specs.Sessions.{timed}
 use Rattle.pushsession.specs.Kept.{KeptSession, keeping}
-use Rattle.pushserver.specs.Rule.{KeptHub}
+use Rattle.pushserver.specs.KeptHubs.{KeptHub}
 use Rattle.pushserver.specs.Hubs.{Numbered, all_sessions, entered, can_enter, update, moment}
 use Rattle.pushserver.proofs.hub_steps.Cases.{enters_update, update_as, enters_moment, moment_as}
 

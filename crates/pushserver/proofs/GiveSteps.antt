@@ -6,25 +6,24 @@ use Rattle.dnswire.specs.declared.message.Update.{Update}
 use Rattle.dsotlv.specs.Messages.{first_message, head_of}
 use Rattle.dsotlv.specs.declared.message.DsoHead.{DsoHead}
 use Rattle.dsosession.specs.Reactions.{server_reaction}
-use Rattle.dsosession.specs.declared.session.Reaction.{Reaction}
-use Rattle.dsosession.specs.declared.session.Reaction.TheVariants as reactions
 use Rattle.pushsession.specs.Kept.{KeptSession}
 use Rattle.pushsession.specs.declared.request.Request.{Request}
 use Rattle.pushsession.specs.Sessions.{room_of}
-use Rattle.pushsession.specs.Requests.{request_for, request_in}
+use Rattle.pushsession.specs.Reactions.{TakesMemory, request_for}
+use Rattle.pushsession.specs.Requests.{request_in}
 use Rattle.pushsession.specs.declared.request.Request.TheVariants as requests
-use Rattle.pushserver.specs.Sessions.{Hub}
-use Rattle.pushserver.specs.Laws.{MayWantMemory, ReadsData}
+use Rattle.pushserver.specs.PlainHubs.{Hub}
+use Rattle.pushserver.specs.Laws.{MayWantMemory}
 use Rattle.pushserver.specs.Hubs.{Numbered, session_in, in_sessions, taken_by}
 use Rattle.pushserver.specs.Giving.{give}
-use Rattle.pushserver.specs.Rule.{KeptHub, StandsFor}
-use Rattle.pushserver.specs.KeptHubs.{kept_of, IsSound, IsSeated, IsToJudge, Gave, Turns, TakesMemory, WantsMemory}
-use Rattle.pushserver.specs.Seats.{AreApart}
+use Rattle.pushserver.specs.KeptHubs.{KeptHub, StandsFor}
+use Rattle.pushserver.specs.Keeping.{kept_of, IsSound, IsSeated, IsToJudge, Gave, Turns, WantsMemory}
+use Rattle.pushserver.specs.NumberedSessions.{AreApart}
 use Rattle.pushserver.specs.declared.given.Given.{Given}
 use Rattle.pushserver.specs.declared.keeping.Keeping.{Keeping}
 use Rattle.pushserver.specs.declared.turning.Turn.{Turn}
 use Rattle.pushserver.specs.declared.turning.Turn.TheVariants as turnings
-use Rattle.pushserver.proofs.SeatLists.{alike, itself}
+use Rattle.pushserver.proofs.NumberedSessions.{alike, itself}
 use Rattle.pushserver.proofs.Wanting.{may-want}
 
 pub on_some : {A : Type 0} {P : Type 0} (r : Option A) (x : A) → r ≡ Some x → OnSome r P → P
@@ -96,16 +95,6 @@ taken-none k number piece there = sym (ap (taken_as piece) there)
 
 -- ---- where memory is wanted
 
-reads-data : (r : Reaction) (message : List ℕ) → TakesMemory (Some (request_for r message)) → ReadsData r
-reads-data reactions.Subscribe message takes = tt
-reads-data reactions.Reconfirm message takes = tt
-reads-data reactions.Update message takes = tt
-reads-data (reactions.Answer rcode) message takes = absurd takes
-reads-data reactions.Grant message takes = absurd takes
-reads-data (reactions.Abort reason) message takes = absurd takes
-reads-data reactions.Unsubscribe message takes = absurd takes
-reads-data reactions.NotImplemented message takes = absurd takes
-
 -- what is kept wants memory only where the plain hub may
 pub wants-plain : (k : KeptHub) (hub : Hub) (number : ℕ) → WantsMemory number k.sessions → StandsFor k hub → MayWantMemory hub number
 wants-plain k hub number wanted stands = by (first_message s.input) refl wanted.wants.reads
@@ -116,7 +105,7 @@ wants-plain k hub number wanted stands = by (first_message s.input) refl wanted.
     by_head : (found : List ℕ × List ℕ) → first_message s.input ≡ Some found → (o : Option DsoHead) → head_of found.0 ≡ o
         → TakesMemory (Some (elim o as (λ _. Request) [ None ↦ requests.Itself | Some head ↦ request_for (server_reaction head s.established) found.0 ])) → MayWantMemory hub number
     by_head found waits None whole takes = absurd takes
-    by_head found waits (Some head) whole takes = may-want k hub number s found head stands wanted.there wanted.wants.live wanted.wants.silent waits whole (reads-data (server_reaction head s.established) found.0 takes)
+    by_head found waits (Some head) whole takes = may-want k hub number s found head stands wanted.there wanted.wants.live wanted.wants.silent waits whole takes
 
     by : (o : Option (List ℕ × List ℕ)) → first_message s.input ≡ o → TakesMemory (option_map (λ message. request_in message s.established) (option_map (λ (f : List ℕ × List ℕ). f.0) o)) → MayWantMemory hub number
     by None waits takes = absurd takes

@@ -4,13 +4,13 @@
 use Rattle.std.proofs.Common.{◌≡◌, ℕ, Bool, List, ◌++◌, length, drop, Option, sym, ap, subst, ◌∙◌}
 use Rattle.pushserver.specs.declared.given.Given.{Given}
 use Rattle.pushserver.specs.declared.keeping.Keeping.{Keeping}
-use Rattle.pushserver.specs.Sessions.{Hub}
-use Rattle.pushserver.specs.Hubs.{records_now, update, moment, connect, taken_by, take_octets, stop, end_session}
+use Rattle.pushserver.specs.PlainHubs.{Hub}
+use Rattle.pushserver.specs.Hubs.{records_now, update, moment, connect, taken_by, take_octets, stop, disconnect}
 use Rattle.pushserver.specs.Giving.{give}
-use Rattle.pushserver.specs.Rule.{KeptHub, StandsFor}
-use Rattle.pushserver.specs.Calls.{AreOctets}
+use Rattle.pushserver.specs.KeptHubs.{KeptHub, StandsFor}
+use Rattle.dsotlv.specs.Laws.{AreOctets}
 use Rattle.pushserver.specs.Simulation.{BothAnswer}
-use Rattle.pushserver.specs.KeptHubs.{Gave, IsHub, kept_of}
+use Rattle.pushserver.specs.Keeping.{Gave, IsHub, kept_of}
 use Rattle.pushserver.proofs.hub_steps.Calls.{updates_stand, moments_stand, connects_stand, takes_stand, stops_stand, ends_stand}
 use Rattle.pushserver.proofs.hub_steps.Giving.{gives_stand}
 
@@ -51,8 +51,8 @@ take-stands k later number piece count octets count_is is hub stands =
 pub stop-stands : (k later : KeptHub) (number rcode delay : ℕ) → later ≡ stop k number rcode delay → (hub : Hub) → StandsFor k hub → StandsFor later (stop hub number rcode delay)
 stop-stands k later number rcode delay is hub stands = stays (stop k number rcode delay) later is (stop hub number rcode delay) (stops_stand k hub number rcode delay stands)
 
-pub end-stands : (k later : KeptHub) (number : ℕ) → later ≡ end_session k number → (hub : Hub) → StandsFor k hub → StandsFor later (end_session hub number)
-end-stands k later number is hub stands = stays (end_session k number) later is (end_session hub number) (ends_stand k hub number stands)
+pub end-stands : (k later : KeptHub) (number : ℕ) → later ≡ disconnect k number → (hub : Hub) → StandsFor k hub → StandsFor later (disconnect hub number)
+end-stands k later number is hub stands = stays (disconnect k number) later is (disconnect hub number) (ends_stand k hub number stands)
 
 -- one call of give
 pub give-stands : (k later : KeptHub) (number : ℕ) (old new : List ℕ) (given : Given) → Gave (give k number (length old)) given old new later

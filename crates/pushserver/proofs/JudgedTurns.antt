@@ -9,22 +9,22 @@ use Rattle.dsotlv.specs.Messages.{first_message, head_of}
 use Rattle.dsotlv.specs.declared.message.DsoHead.{DsoHead}
 use Rattle.coalesce.specs.Waiting.{WaitingName}
 use Rattle.dsosession.specs.Reactions.{server_reaction}
-use Rattle.dsosession.specs.declared.session.Reaction.{Reaction}
-use Rattle.dsosession.specs.declared.session.Reaction.TheVariants as reactions
 use Rattle.history.specs.States.{verdict}
 use Rattle.history.specs.declared.entry.Entry.{Entry}
 use Rattle.history.specs.declared.entry.Entry.TheVariants as entries
 use Rattle.dsotlv.specs.Answers.{answer_to_update}
 use Rattle.pushsession.specs.Sessions.{noted, answers}
 use Rattle.pushsession.specs.Kept.{KeptSession, keeping}
-use Rattle.pushsession.specs.Requests.{message_of, taken_up, request_for, request_of, updated}
+use Rattle.pushsession.specs.Requests.{message_of, taken_up, request_of, updated}
+use Rattle.pushsession.specs.Reactions.{request_for}
+use Rattle.pushsession.specs.declared.request.Request.{Request}
 use Rattle.pushsession.specs.declared.request.Request.TheVariants as requests
 use Rattle.pushsession.specs.declared.standing.Standing.TheVariants.{Live}
 use Rattle.pushserver.specs.Hubs.{Numbered, session_in, in_sessions, all_sessions, newest, now, state_now, records_now, in_session, entered, can_enter, update}
-use Rattle.pushserver.specs.Giving.{given_after, after_reaction, copies_or, by_reaction, updates, give}
-use Rattle.pushserver.specs.Rule.{KeptHub}
-use Rattle.pushserver.specs.KeptHubs.{Gave, entry_changes}
-use Rattle.pushserver.specs.Seats.{AreApart}
+use Rattle.pushserver.specs.Giving.{given_after, after_reaction, copies_or, by_request, updates, give}
+use Rattle.pushserver.specs.KeptHubs.{KeptHub}
+use Rattle.pushserver.specs.Keeping.{Gave, entry_changes}
+use Rattle.pushserver.specs.NumberedSessions.{AreApart}
 use Rattle.pushserver.specs.declared.given.Given.{Given}
 use Rattle.pushserver.proofs.SessionLists.{found-all, in-fused}
 use Rattle.pushserver.proofs.hub_steps.Cases.{enters_update, update_as}
@@ -75,16 +75,6 @@ update-in number f turned k message = by (verdict (state_now k) message)
 
 -- ---- the answer
 
-is_update : (r : Reaction) (message : List ℕ) → request_for r message ≡ requests.Update → r ≡ reactions.Update
-is_update reactions.Update message e = refl
-is_update (reactions.Answer rcode) message e = cc
-is_update reactions.Grant message e = cc
-is_update (reactions.Abort reason) message e = cc
-is_update reactions.Unsubscribe message e = cc
-is_update reactions.NotImplemented message e = cc
-is_update reactions.Subscribe message e = cc
-is_update reactions.Reconfirm message e = cc
-
 module _ (number : ℕ) (k : KeptHub) (s : KeptSession) (there : session_in number k.sessions ≡ Some s) (apart : AreApart k.sessions) (live : s.standing ≡ Live) (silent : s.output ≡ []) (first : List ℕ × List ℕ) (waits : first_message s.input ≡ Some first) where
   -- the message leaves the input, and restarts the timers
   abbrev lifted : DsoHead → KeptSession → KeptSession
@@ -105,7 +95,7 @@ module _ (number : ℕ) (k : KeptHub) (s : KeptSession) (there : session_in numb
       → turns.after_message number k s there apart live silent first waits ≡ in_session number (λ x. answers_to judged.1 judged.0 (lifted head x)) judged.1
   message-is head whole is =
       turns.with_head number k s there apart live silent first waits head whole
-      ∙ ap (λ (r : Reaction). by_reaction r number first.0 (turns.becomes number k s there apart (taken_up (now k) s))) (is_update (server_reaction head s.established) first.0 is)
+      ∙ ap (λ (q : Request). by_request q (server_reaction head s.established) number first.0 (turns.becomes number k s there apart (taken_up (now k) s))) is
       ∙ ap (updates number first.0) (ap (turns.becomes number k s there apart) (turns.taken-is number k s there apart live silent first waits (now k) (Some head) whole) ∙ sym (turns.one number k s there apart (lifted head)))
       ∙ updates-is head
 

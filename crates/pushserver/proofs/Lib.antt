@@ -10,7 +10,7 @@ pub mod Observed
 pub mod Subscribing
 pub mod Wanting
 pub mod Walks
-pub mod SeatLists
+pub mod NumberedSessions
 pub mod Noting
 pub mod SessionTurns
 pub mod JudgedTurns

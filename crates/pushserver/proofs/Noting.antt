@@ -11,7 +11,7 @@ use Rattle.coalesce.specs.Waiting.{WaitingName, waits, with_copy, before_point}
 use Rattle.pushsession.specs.Sessions.{noted, touched}
 use Rattle.pushsession.specs.Kept.{KeptSession, keeping, taken_back}
 use Rattle.pushserver.specs.Hubs.{Numbered, all_sessions}
-use Rattle.pushserver.specs.Seats.{WaitBefore}
+use Rattle.pushserver.specs.NumberedSessions.{WaitBefore}
 
 not_below : (point : ℕ) → ltb point point ≡ false
 not_below point = grind arith

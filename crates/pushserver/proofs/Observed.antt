@@ -1,24 +1,24 @@
 -- What is seen of what is kept is seen of the plain hub.
-use Rattle.std.proofs.Common.{◌≡◌, ℕ, suc, ◌<◌, Bool, true, false, cond, min, List, [], ◌∷◌, map, length, get_or, Option, Some, None, is_some, refl, sym, ap, ◌∙◌, lt-ltb, arith}
-use Rattle.std.specs.Prelude.{MatchOption, find, option_map, unwrap_or, ◌==◌, nat_lt}
-use Rattle.std.specs.List.{list_all}
+use Rattle.std.proofs.Common.{◌≡◌, ℕ, suc, ◌<◌, Bool, true, false, cond, min, List, [], ◌∷◌, map, length, get_or, Option, Some, None, is_some, refl, sym, ap, ◌∙◌, arith}
+use Rattle.std.specs.Prelude.{MatchOption, find, option_map, unwrap_or, ◌==◌}
+use Rattle.std.proofs.lemmas.List.Elements.{All-nil, All-cons}
 use Rattle.push_base.specs.Limits.{max_number}
 use Rattle.dnsname.specs.Names.{Labels, same_name}
+use Rattle.dsotlv.specs.Laws.{AreOctets}
 use Rattle.coalesce.specs.Waiting.{WaitingName, is_named, since}
-use Rattle.zoneupdate.proofs.Filters.{and-both}
 use Rattle.history.proofs.Together.{same_name-turned}
 use Rattle.pushsession.specs.Kept.{KeptSession, filled_of}
-use Rattle.pushserver.specs.Sessions.{Hub, Session, Subscription, Queue, point_in, subscription_of}
+use Rattle.pushserver.specs.PlainHubs.{Hub, Session, Subscription, Queue, point_in, subscription_of}
 use Rattle.pushserver.specs.Hubs.{newest, session_of}
 use Rattle.pushserver.specs.Observing as observing
-use Rattle.pushserver.specs.Observing.{filled_for, filled_in, told_of, told_in}
-use Rattle.pushserver.specs.Rule.{KeptHub, StandsFor, filled_kept}
-use Rattle.pushserver.proofs.hub_steps.Standing.{FoundBoth, both_found}
+use Rattle.pushserver.specs.Observing.{filled_in, told_of, told_in}
+use Rattle.pushserver.specs.KeptHubs.{KeptHub, StandsFor, filled_kept}
+use Rattle.pushserver.proofs.hub_steps.Standing.{FoundBoth, both_found, fitting}
 
 -- ---- one session
 
 both : (k : KeptHub) (hub : Hub) (number : ℕ) → StandsFor k hub → FoundBoth hub number (session_of k number) (session_of hub number)
-both k hub number stands = both_found hub number k.sessions hub.sessions stands.sessions
+both k hub number stands = both_found hub number k.sessions hub.sessions (fitting stands)
 
 live-both : (hub : Hub) (number : ℕ) (o : Option KeptSession) (q : Option Session) → FoundBoth hub number o q → is_some o ≡ is_some q
 live-both hub number None None b = refl
@@ -53,7 +53,7 @@ filled-both : (hub : Hub) (number id : ℕ) (o : Option KeptSession) (q : Option
 filled-both hub number id None None b = refl
 filled-both hub number id None (Some p) b = absurd b
 filled-both hub number id (Some s) None b = absurd b
-filled-both hub number id (Some s) (Some p) b = ap (filled_of id) b.filled ∙ filled-kept id p.subscriptions
+filled-both hub number id (Some s) (Some p) b = ap (filled_of id) b.stands.filled ∙ filled-kept id p.subscriptions
 
 pub filled-seen : (k : KeptHub) (hub : Hub) (number id : ℕ) (o : Option KeptSession) (r : Option ℕ) → session_of k number ≡ o → r ≡ filled_kept_in id o → StandsFor k hub → r ≡ filled_in hub number id
 filled-seen k hub number id o r at is stands = is ∙ ap (filled_kept_in id) (sym at) ∙ filled-both hub number id (session_of k number) (session_of hub number) (both k hub number stands)
@@ -80,7 +80,7 @@ told-both : (hub : Hub) (number newest : ℕ) (name : Labels) (o : Option KeptSe
 told-both hub number newest name None None b = refl
 told-both hub number newest name None (Some p) b = absurd b
 told-both hub number newest name (Some s) None b = absurd b
-told-both hub number newest name (Some s) (Some p) b = ap (λ o. unwrap_or o newest) (since-kept name s.queue ∙ ap (λ (q : Queue). point_in q name) b.queue)
+told-both hub number newest name (Some s) (Some p) b = ap (λ o. unwrap_or o newest) (since-kept name s.queue ∙ ap (λ (q : Queue). point_in q name) b.stands.queue)
 
 pub told-seen : (k : KeptHub) (hub : Hub) (number point : ℕ) (name : Labels) (o : Option KeptSession) (r : ℕ) → point ≡ newest k → session_of k number ≡ o → r ≡ told_kept_in point name o → StandsFor k hub → r ≡ told_in hub number name
 told-seen k hub number point name o r newest_is at is stands =
@@ -89,6 +89,6 @@ told-seen k hub number point name o r newest_is at is stands =
 
 -- ---- octets
 
-pub are_octets : (xs : List ℕ) → ((i : ℕ) → i < length xs → get_or xs i 0 < 256) → list_all (λ o. nat_lt o 256) xs ≡ true
-are_octets [] below = refl
-are_octets (x ∷ xs) below = and-both (nat_lt x 256) (list_all (λ o. nat_lt o 256) xs) (lt-ltb x 256 (below 0 (omega arith))) (are_octets xs (λ i h. below (suc i) (omega (arith, h))))
+pub are_octets : (xs : List ℕ) → ((i : ℕ) → i < length xs → get_or xs i 0 < 256) → AreOctets xs
+are_octets [] below = All-nil (λ o. o < 256)
+are_octets (x ∷ xs) below = All-cons (λ o. o < 256) x xs (below 0 (omega arith)) (are_octets xs (λ i h. below (suc i) (omega (arith, h))))

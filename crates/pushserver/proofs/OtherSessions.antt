@@ -6,7 +6,7 @@ use Rattle.std.specs.Prelude.{option_map}
 use Rattle.pushsession.specs.Sessions.{noted}
 use Rattle.rrset.specs.RecordSet.{changes}
 use Rattle.history.specs.declared.entry.Entry.{Entry}
-use Rattle.pushserver.specs.Sessions.{Session, Hub, Queue}
+use Rattle.pushserver.specs.PlainHubs.{Session, Hub, Queue}
 use Rattle.pushserver.specs.Hubs.{newest, keeps_now, records_now, session_of, in_session, entered, update}
 use Rattle.pushserver.specs.Laws.{LeavesSession, GiveChangesOneSession}
 use Rattle.pushserver.proofs.SessionLists.{found-all, found-elsewhere}
@@ -21,11 +21,11 @@ module _ (other number : ℕ) (apart : other ≡ number → ⊥) where
   LeavesOther hub later = StaysOther hub later ⊎ ((entry : Entry) × StaysOther (entered entry hub) later)
 
   pub stays : (hub : Hub) → StaysOther hub hub
-  stays hub = record { start = refl; timers = refl; history = refl; made = refl; session = refl }
+  stays hub = record { start = refl; timers = refl; history = refl; numbers_given = refl; session = refl }
 
   -- a change of one session leaves the other
   pub in_session-stays : (f : Session → Session) (hub later : Hub) → StaysOther hub later → StaysOther hub (in_session number f later)
-  in_session-stays f hub later s = record { start = s.start; timers = s.timers; history = s.history; made = s.made; session = found-elsewhere number f other apart later.sessions ∙ s.session }
+  in_session-stays f hub later s = record { start = s.start; timers = s.timers; history = s.history; numbers_given = s.numbers_given; session = found-elsewhere number f other apart later.sessions ∙ s.session }
 
   in_session-leaves : (f : Session → Session) (hub later : Hub) → LeavesOther hub later → LeavesOther hub (in_session number f later)
   in_session-leaves f hub later (inl s) = inl (in_session-stays f hub later s)
@@ -41,7 +41,7 @@ module _ (other number : ℕ) (apart : other ≡ number → ⊥) where
     start = s.start;
     timers = s.timers;
     history = ap (λ (h : List Entry). h ++ entry ∷ []) s.history;
-    made = s.made;
+    numbers_given = s.numbers_given;
     session =
         found-all (by_entry entry later) other later.sessions
         ∙ (λ i. option_map (by_entry entry (record hub { start = s.start i; history = s.history i })) (s.session i))

@@ -11,8 +11,7 @@ use Rattle.rrset.specs.Header.{id_of}
 use Rattle.rrset.specs.RecordSet.{RecordSet}
 use Rattle.rrset.specs.declared.record.Rr.{Rr}
 use Rattle.rrset.specs.declared.record.Question.{Question}
-use Rattle.dsotlv.specs.Messages.{first_message, head_of, primary_data}
-use Rattle.dsotlv.specs.Notices.{question_of, reconfirm_of}
+use Rattle.dsotlv.specs.Messages.{first_message, head_of}
 use Rattle.dsotlv.specs.TlvKinds.{reconfirm_tlv}
 use Rattle.dsotlv.specs.declared.message.DsoHead.{DsoHead}
 use Rattle.dsosession.specs.Reactions.{server_reaction}
@@ -21,30 +20,29 @@ use Rattle.dsosession.specs.declared.session.EndReason.{EndReason}
 use Rattle.dsosession.specs.declared.session.EndReason.TheVariants as ends
 use Rattle.dsosession.specs.declared.session.Timers.{Timers}
 use Rattle.dsosession.specs.declared.session.Reaction.{Reaction}
-use Rattle.dsosession.specs.declared.session.Reaction.TheVariants as reactions
 use Rattle.history.specs.Keeping.{Past, state_now as past_state}
 use Rattle.history.specs.Standing.{AreAtHome}
-use Rattle.pushsession.specs.Sessions.{copied, ended_with, stopped}
+use Rattle.pushsession.specs.Sessions.{copied, ended_with, stopped, without_first}
 use Rattle.pushsession.specs.Subscribing.{answered, packs}
-use Rattle.pushsession.specs.Reactions.{heard, by_itself}
+use Rattle.pushsession.specs.Reactions.{request_for, heard, by_itself}
 use Rattle.pushsession.specs.Kept.{KeptSession, keeping, telling}
-use Rattle.pushsession.specs.Requests.{CanBeTold, message_of, taken_up, request_for, request_in, request_of, reacted, subscribed_by, reconfirmed}
+use Rattle.pushsession.specs.Requests.{CanBeTold, message_of, taken_up, request_in, request_of, reacted, subscribed_by, reconfirmed}
 use Rattle.pushsession.specs.declared.request.Request.{Request}
 use Rattle.pushsession.specs.declared.request.Request.TheVariants as requests
 use Rattle.pushsession.specs.declared.standing.Standing.{Standing}
 use Rattle.pushsession.specs.declared.standing.Standing.TheVariants.{Live, AskedToStop, Stopped, Ended}
 use Rattle.pushserver.specs.Hubs.{Numbered, session_in, now, state_now, records_now, in_session}
 use Rattle.pushserver.specs.Giving as giving
-use Rattle.pushserver.specs.Giving.{has_home, by_reaction, did, copies, copies_or, given_after, after_reaction, after_packing, without_first, give}
-use Rattle.pushserver.specs.Rule.{KeptHub, KeptGiving}
-use Rattle.pushserver.specs.KeptHubs.{Gave}
+use Rattle.pushserver.specs.Giving.{has_home, reconfirms, by_request, by_reaction, did, copies, copies_or, given_after, after_reaction, after_packing, give}
+use Rattle.pushserver.specs.KeptHubs.{KeptHub, KeptGiving}
+use Rattle.pushserver.specs.Keeping.{Gave}
 use Rattle.pushserver.specs.Rows.{AreTold}
-use Rattle.pushserver.specs.Seats.{AreApart}
+use Rattle.pushserver.specs.NumberedSessions.{AreApart}
 use Rattle.pushserver.specs.declared.given.Given.{Given}
 use Rattle.pushserver.specs.declared.given.Given.TheVariants.{Bytes, Worked, Nothing, Ending, End}
 use Rattle.pushserver.proofs.SessionLists.{found-in, in-fused}
-use Rattle.pushserver.proofs.SeatLists.{alike, itself}
-use Rattle.pushserver.proofs.hub_steps.Cases.{record_as, session_as, head_as, found_as, works_as, stops_as, output_as, give_as, key_as}
+use Rattle.pushserver.proofs.NumberedSessions.{alike, itself}
+use Rattle.pushserver.proofs.hub_steps.Cases.{session_as, head_as, found_as, works_as, output_as, give_as, key_as}
 use Rattle.pushserver.proofs.hub_steps.Reacting.{no_key}
 
 nothing_in : (xs : List ℕ) → is_empty xs ≡ true → xs ≡ []
@@ -167,24 +165,14 @@ module _ (number : ℕ) (k : KeptHub) (s : KeptSession) (there : session_in numb
   stopped-gave since old output is = gave-as (give k number (length old)) (did Ending k) Ending old old (becomes s) (give-standing (length old) (Stopped since) output is) (did-gave Ending old)
 
   -- a stop that was asked for
-  abbrev pub stops : ℕ → ℕ → ℕ → KeptSession
-  stops rcode delay t = cond s.established (stopped keeping rcode delay t s) (ended_with keeping ends.Stopped s)
+  stop-is : (room rcode delay : ℕ) → is_empty s.output ≡ true → s.standing ≡ AskedToStop rcode delay → give k number room ≡ after_reaction number room (becomes (stopped keeping rcode delay (now k) s))
+  stop-is room rcode delay output is = give-standing room (AskedToStop rcode delay) output is ∙ ap (after_reaction number room) (one (stopped keeping rcode delay (now k)))
 
-  stop-is : (room rcode delay : ℕ) → is_empty s.output ≡ true → s.standing ≡ AskedToStop rcode delay → give k number room ≡ after_reaction number room (becomes (stops rcode delay (now k)))
-  stop-is room rcode delay output is = give-standing room (AskedToStop rcode delay) output is ∙ by s.established
-    where
-      by : (b : Bool) → stops_as k number room rcode delay b ≡ after_reaction number room (becomes (cond b (stopped keeping rcode delay (now k) s) (ended_with keeping ends.Stopped s)))
-      by true = ap (after_reaction number room) (one (stopped keeping rcode delay (now k)))
-      by false =
-          let t = ended_with keeping ends.Stopped s in
-          ap (did (End ends.Stopped)) (one (ended_with keeping ends.Stopped))
-          ∙ sym (reaction-is room t ∙ ap (λ b. cond b (did (End ends.Stopped) (becomes t)) (copies number room t (becomes t))) output)
-
-  pub stop-gave : (rcode delay t : ℕ) (r : Given) (old new : List ℕ) (mid s_now : KeptSession) → is_empty s.output ≡ true → s.standing ≡ AskedToStop rcode delay → t ≡ now k → mid ≡ stops rcode delay t → HandsOn mid (given_after mid.standing) r old new s_now
+  pub stop-gave : (rcode delay t : ℕ) (r : Given) (old new : List ℕ) (mid s_now : KeptSession) → is_empty s.output ≡ true → s.standing ≡ AskedToStop rcode delay → t ≡ now k → mid ≡ stopped keeping rcode delay t s → HandsOn mid (given_after mid.standing) r old new s_now
       → Gave (give k number (length old)) r old new (becomes s_now)
   stop-gave rcode delay t r old new mid s_now output is moment step on =
       gave-as (give k number (length old)) (copies_or (given_after mid.standing) number (length old) mid (becomes mid)) r old new (becomes s_now)
-      (stop-is (length old) rcode delay output is ∙ ap (λ n. after_reaction number (length old) (becomes (stops rcode delay n))) (sym moment) ∙ ap (λ m. after_reaction number (length old) (becomes m)) (sym step) ∙ reaction-is (length old) mid)
+      (stop-is (length old) rcode delay output is ∙ ap (λ n. after_reaction number (length old) (becomes (stopped keeping rcode delay n s))) (sym moment) ∙ ap (λ m. after_reaction number (length old) (becomes m)) (sym step) ∙ reaction-is (length old) mid)
       (hands (given_after mid.standing) r mid s_now old new on)
 
   -- ---- it goes on, without output
@@ -252,53 +240,25 @@ module _ (number : ℕ) (k : KeptHub) (s : KeptSession) (there : session_in numb
           ∙ ap (session_as (becomes left) number message head) (found left)
           ∙ ap (by_reaction (server_reaction head s.established) number message) (further (heard head (now k)) left ∙ ap becomes (sym (taken-is (now k) (Some head) whole)))
 
-      -- by its reaction
+      -- by what is needed for it
       acts-itself : (r : Reaction) (t : KeptSession) → request_for r message ≡ requests.Itself → by_reaction r number message (becomes t) ≡ becomes (by_itself keeping r k.timers (now k) message t)
-      acts-itself (reactions.Answer rcode) t is = further (by_itself keeping (reactions.Answer rcode) k.timers (now k) message) t
-      acts-itself reactions.Grant t is = further (by_itself keeping reactions.Grant k.timers (now k) message) t
-      acts-itself (reactions.Abort reason) t is = further (by_itself keeping (reactions.Abort reason) k.timers (now k) message) t
-      acts-itself reactions.Unsubscribe t is = further (by_itself keeping reactions.Unsubscribe k.timers (now k) message) t
-      acts-itself reactions.NotImplemented t is = further (by_itself keeping reactions.NotImplemented k.timers (now k) message) t
-      acts-itself reactions.Subscribe t is = cc
-      acts-itself reactions.Reconfirm t is = cc
-      acts-itself reactions.Update t is = cc
+      acts-itself r t is = ap (λ q. by_request q r number message (becomes t)) is ∙ further (by_itself keeping r k.timers (now k) message) t
 
       abbrev answers_subscribe : Option Question → KeptSession → KeptSession
       answers_subscribe question t = answered keeping (telling (records_now k)) (now k) (id_of message) question (has_home k question) t
 
       acts-subscribe : (r : Reaction) (t : KeptSession) (question : Option Question) → request_for r message ≡ requests.Subscribe question → by_reaction r number message (becomes t) ≡ becomes (answers_subscribe question t)
-      acts-subscribe reactions.Subscribe t question is =
-          further (answers_subscribe (question_of (primary_data message))) t ∙ ap (λ q. becomes (answers_subscribe q t)) (same_question (question_of (primary_data message)) question is)
-        where
-          same_question : (a b : Option Question) → requests.Subscribe a ≡ requests.Subscribe b → a ≡ b
-          same_question a b e = cc
-      acts-subscribe (reactions.Answer rcode) t question is = cc
-      acts-subscribe reactions.Grant t question is = cc
-      acts-subscribe (reactions.Abort reason) t question is = cc
-      acts-subscribe reactions.Unsubscribe t question is = cc
-      acts-subscribe reactions.NotImplemented t question is = cc
-      acts-subscribe reactions.Reconfirm t question is = cc
-      acts-subscribe reactions.Update t question is = cc
+      acts-subscribe r t question is = ap (λ q. by_request q r number message (becomes t)) is ∙ further (answers_subscribe question) t
 
       abbrev confirms : Bool → KeptSession → KeptSession
       confirms good t = cond good t (ended_with keeping (ends.BadData reconfirm_tlv) t)
 
       acts-reconfirm : AreAtHome (state_now k) → (r : Reaction) (t : KeptSession) (rr : Option Rr) → request_for r message ≡ requests.Reconfirm rr → by_reaction r number message (becomes t) ≡ becomes (confirms (is_some rr) t)
-      acts-reconfirm home reactions.Reconfirm t rr is = by (reconfirm_of (primary_data message)) ∙ ap (λ (o : Option Rr). becomes (confirms (is_some o) t)) (same_record (reconfirm_of (primary_data message)) rr is)
+      acts-reconfirm home r t rr is = ap (λ q. by_request q r number message (becomes t)) is ∙ by rr
         where
-          same_record : (a b : Option Rr) → requests.Reconfirm a ≡ requests.Reconfirm b → a ≡ b
-          same_record a b e = cc
-
-          by : (o : Option Rr) → record_as (becomes t) number o ≡ becomes (confirms (is_some o) t)
+          by : (o : Option Rr) → reconfirms o number (becomes t) ≡ becomes (confirms (is_some o) t)
           by None = further (ended_with keeping (ends.BadData reconfirm_tlv)) t
           by (Some found) = ap (key_as (becomes t)) (no_key (state_now k) found home.links)
-      acts-reconfirm home (reactions.Answer rcode) t rr is = cc
-      acts-reconfirm home reactions.Grant t rr is = cc
-      acts-reconfirm home (reactions.Abort reason) t rr is = cc
-      acts-reconfirm home reactions.Unsubscribe t rr is = cc
-      acts-reconfirm home reactions.NotImplemented t rr is = cc
-      acts-reconfirm home reactions.Subscribe t rr is = cc
-      acts-reconfirm home reactions.Update t rr is = cc
 
       abbrev pub request_as : Option DsoHead → Request
       request_as None = requests.Itself

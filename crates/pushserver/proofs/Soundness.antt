@@ -12,39 +12,42 @@ use Rattle.history.specs.Standing.{AreAtHome}
 use Rattle.history.specs.States.{state_at}
 use Rattle.history.specs.declared.entry.Entry.{Entry}
 use Rattle.pushsession.specs.Kept.{KeptSession}
-use Rattle.pushserver.specs.Sessions.{Hub, Session}
+use Rattle.pushserver.specs.PlainHubs.{Hub, Session}
 use Rattle.pushserver.specs.Hubs.{Numbered, newest, state_now}
 use Rattle.pushserver.specs.Rows.{AreTold}
-use Rattle.pushserver.specs.Rule.{KeptHub, ArePast, SessionStandsFor, StandsFor}
-use Rattle.pushserver.specs.Seats.{AreApart, AreBelow, WaitBefore}
-use Rattle.pushserver.specs.KeptHubs.{IsHub, IsSound, kept_of}
+use Rattle.pushserver.specs.KeptHubs.{KeptHub, StandsFor}
+use Rattle.pushserver.specs.NumberedSessions.{AreApart, AreBelow, WaitBefore}
+use Rattle.pushserver.specs.Keeping.{IsHub, IsSound, kept_of}
 use Rattle.pushserver.specs.declared.keeping.Keeping.{Keeping}
+use Rattle.pushserver.specs.SoundHubs.{ArePast}
+use Rattle.pushserver.proofs.session_steps.Parts.{SessionFits}
+use Rattle.pushserver.proofs.hub_steps.Standing.{fitting}
 use Rattle.pushserver.proofs.told_rows.HubTells.{hubs_tell}
 
-numbers-apart : (hub : Hub) (n m : ℕ) (ks : Numbered KeptSession) (ps : Numbered Session) → n ≡ m → AllZip (SessionStandsFor hub) ks ps → AllByRecursion (λ y. (m == y.0) ≡ false) ps → AllByRecursion (λ y. (n == y.0) ≡ false) ks
+numbers-apart : (hub : Hub) (n m : ℕ) (ks : Numbered KeptSession) (ps : Numbered Session) → n ≡ m → AllZip (SessionFits hub) ks ps → AllByRecursion (λ y. (m == y.0) ≡ false) ps → AllByRecursion (λ y. (n == y.0) ≡ false) ks
 numbers-apart hub n m [] ps same zip all = tt
 numbers-apart hub n m (k ∷ ks) [] same zip all = absurd zip
-numbers-apart hub n m (k ∷ ks) (p ∷ ps) same zip all = ((λ i. same i == zip.0.number i) ∙ all.0, numbers-apart hub n m ks ps same zip.1 all.1)
+numbers-apart hub n m (k ∷ ks) (p ∷ ps) same zip all = ((λ i. same i == zip.0.stands.number i) ∙ all.0, numbers-apart hub n m ks ps same zip.1 all.1)
 
-are_apart : (hub : Hub) (ks : Numbered KeptSession) (ps : Numbered Session) → AllZip (SessionStandsFor hub) ks ps → IsDistinct (λ d e. d.0 == e.0) ps → AreApart ks
+are_apart : (hub : Hub) (ks : Numbered KeptSession) (ps : Numbered Session) → AllZip (SessionFits hub) ks ps → IsDistinct (λ d e. d.0 == e.0) ps → AreApart ks
 unfolding IsDistinct
 are_apart hub [] ps zip once = tt
 are_apart hub (k ∷ ks) [] zip once = absurd zip
-are_apart hub (k ∷ ks) (p ∷ ps) zip once = (numbers-apart hub k.0 p.0 ks ps zip.0.number zip.1 once.0, are_apart hub ks ps zip.1 once.1)
+are_apart hub (k ∷ ks) (p ∷ ps) zip once = (numbers-apart hub k.0 p.0 ks ps zip.0.stands.number zip.1 once.0, are_apart hub ks ps zip.1 once.1)
 
-are_below : (hub : Hub) (ks : Numbered KeptSession) (ps : Numbered Session) → AllZip (SessionStandsFor hub) ks ps → AreBelow hub.made ks
+are_below : (hub : Hub) (ks : Numbered KeptSession) (ps : Numbered Session) → AllZip (SessionFits hub) ks ps → AreBelow hub.numbers_given ks
 are_below hub [] ps zip = tt
 are_below hub (k ∷ ks) [] zip = absurd zip
-are_below hub (k ∷ ks) (p ∷ ps) zip = (zip.0.below, are_below hub ks ps zip.1)
+are_below hub (k ∷ ks) (p ∷ ps) zip = (subst (λ n. n < hub.numbers_given) (sym zip.0.stands.number) zip.0.sound.below, are_below hub ks ps zip.1)
 
 waiting-past : (point : ℕ) (ws : List WaitingName) → ArePast point (map (λ w. (w.name, w.point)) ws) → AllByRecursion (λ w. w.point < point) ws
 waiting-past point [] all = tt
 waiting-past point (w ∷ ws) all = (all.0, waiting-past point ws all.1)
 
-wait_before : (hub : Hub) (ks : Numbered KeptSession) (ps : Numbered Session) → AllZip (SessionStandsFor hub) ks ps → WaitBefore (newest hub) ks
+wait_before : (hub : Hub) (ks : Numbered KeptSession) (ps : Numbered Session) → AllZip (SessionFits hub) ks ps → WaitBefore (newest hub) ks
 wait_before hub [] ps zip = tt
 wait_before hub (k ∷ ks) [] zip = absurd zip
-wait_before hub (k ∷ ks) (p ∷ ps) zip = (waiting-past (newest hub) k.1.queue (subst (ArePast (newest hub)) (sym zip.0.queue) zip.0.points), wait_before hub ks ps zip.1)
+wait_before hub (k ∷ ks) (p ∷ ps) zip = (waiting-past (newest hub) k.1.queue (subst (ArePast (newest hub)) (sym zip.0.stands.queue) zip.0.sound.points), wait_before hub ks ps zip.1)
 
 -- the state of what is kept is that of the plain hub
 same_state : (k : KeptHub) (hub : Hub) → StandsFor k hub → state_now hub ≡ state_now k
@@ -55,11 +58,11 @@ sound keeping is =
     let k = kept_of keeping in
     let told = hubs_tell (kept_of keeping) is.hub is.stands in
     record {
-      apart = are_apart is.hub keeping.sessions is.hub.sessions is.stands.sessions is.stands.numbers;
+      apart = are_apart is.hub keeping.sessions is.hub.sessions (fitting is.stands) is.stands.sound.numbers;
       index = is.index;
-      home = subst AreAtHome (same_state (kept_of keeping) is.hub is.stands) (is.stands.states (newest is.hub) (omega arith)).home;
-      below = subst (λ n. AreBelow n keeping.sessions) (sym is.stands.made) (are_below is.hub keeping.sessions is.hub.sessions is.stands.sessions);
-      waiting = subst (λ (h : List Entry). WaitBefore (length h) keeping.sessions) (sym is.stands.history) (wait_before is.hub keeping.sessions is.hub.sessions is.stands.sessions);
+      home = subst AreAtHome (same_state (kept_of keeping) is.hub is.stands) (is.stands.sound.states (newest is.hub) (omega arith)).home;
+      below = subst (λ n. AreBelow n keeping.sessions) (sym is.stands.numbers_given) (are_below is.hub keeping.sessions is.hub.sessions (fitting is.stands));
+      waiting = subst (λ (h : List Entry). WaitBefore (length h) keeping.sessions) (sym is.stands.history) (wait_before is.hub keeping.sessions is.hub.sessions (fitting is.stands));
       told = subst AreTold (sym is.index) told.0;
       packable = λ number session at. subst (λ (rows : RecordSet). CanBePacked rows session.queue) (sym is.index) (told.1 number session at);
     }

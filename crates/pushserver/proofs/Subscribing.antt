@@ -22,7 +22,7 @@ use Rattle.dsosession.specs.declared.session.EndReason.TheVariants as ends
 use Rattle.pushsession.specs.Sessions.{SessionOf, Keeps}
 use Rattle.pushsession.specs.Subscribing.{Verdict, Refuse, Abort, Accept, verdict_on, is_served, subscribed, says_first_answer, first_answer_size, accepts, decided, answered}
 use Rattle.pushsession.specs.Reactions.{heard}
-use Rattle.pushserver.specs.Sessions.{Hub, Session, Subscription, first_answer}
+use Rattle.pushserver.specs.PlainHubs.{Hub, Session, Subscription, first_answer}
 use Rattle.pushserver.specs.Hubs.{now, keeps_now, tells_now, session_of, in_session}
 use Rattle.pushserver.specs.Giving.{has_home, by_reaction, reacted}
 use Rattle.pushserver.specs.Laws.{IsAcceptable, SubscribeIsAnswered}

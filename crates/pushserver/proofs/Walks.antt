@@ -31,7 +31,7 @@ use Rattle.history.specs.States.{verdict, accepts, reconfirm_key}
 use Rattle.history.specs.declared.entry.Entry.{Entry}
 use Rattle.history.specs.declared.entry.Entry.TheVariants as entries
 use Rattle.dsotlv.specs.Answers.{answer_to_update}
-use Rattle.pushsession.specs.Sessions.{SessionOf, new_session, copied, timed, ended_with, answers, stopped}
+use Rattle.pushsession.specs.Sessions.{SessionOf, new_session, copied, timed, ended_with, answers, stopped, without_first}
 use Rattle.pushsession.specs.Subscribing.{answered, packs}
 use Rattle.pushsession.specs.Reactions.{heard, by_itself}
 use Rattle.pushsession.specs.declared.standing.Standing.{Standing}
@@ -41,9 +41,9 @@ use Rattle.pushserver.specs.declared.given.Given.TheVariants.{Worked, Nothing}
 use Rattle.pushserver.specs.declared.given.Heard.{Heard}
 use Rattle.pushserver.specs.declared.given.Heard.TheVariants.{Entered, Ignored}
 use Rattle.pushserver.specs.declared.given.Why.TheVariants as whys
-use Rattle.pushserver.specs.Hubs.{SessionKind, HubOf, newest, now, state_now, keeps_now, tells_now, session_of, each_session, in_session, entered, can_enter, update, hear, why_not, moment, max_sessions, connect, take_octets, stop, end_session}
-use Rattle.pushserver.specs.Giving.{has_home, reconfirms, reacts_itself, by_reaction, reacted, copies_or, given_after, after_reaction, after_packing, without_first, works, by_standing, give}
-use Rattle.pushserver.proofs.hub_steps.Cases.{enters_update, update_as, enters_moment, key_as, record_as, session_as, head_as, copies_as, found_as, works_as, stops_as, output_as, give_as}
+use Rattle.pushserver.specs.Hubs.{SessionKind, HubOf, newest, now, state_now, keeps_now, tells_now, session_of, each_session, in_session, entered, can_enter, update, hear, why_not, moment, max_sessions, connect, take_octets, stop, disconnect}
+use Rattle.pushserver.specs.Giving.{has_home, reconfirms, reacts_itself, by_reaction, reacted, copies_or, given_after, after_reaction, after_packing, works, by_standing, give}
+use Rattle.pushserver.proofs.hub_steps.Cases.{enters_update, update_as, enters_moment, key_as, session_as, head_as, copies_as, found_as, works_as, output_as, give_as}
 use Rattle.pushserver.specs.Calls.{HubCall, updates as updating, hears, moves, connects, takes, gives, stops, ends as ending, called, after_calls}
 
 -- ---- the steps
@@ -60,7 +60,7 @@ pub data Step {A Q M : Type 0} {kind : SessionKind A Q M} (Good : List ℕ → T
       → Step Good hub (answered (keeps_now hub) (tells_now hub) (now hub) (id_of message) (question_of (primary_data message)) (has_home hub (question_of (primary_data message))))
   answers_update : (before : HubOf kind) (message : List ℕ) → Step Good hub (answers (keeps_now hub) false (now hub) (answer_to_update (id_of message) (update before message).0))
   packs_names : Step Good hub (packs (keeps_now hub) (tells_now hub) (now hub))
-  writes_stop : (rcode delay : ℕ) → Step Good hub (stopped (keeps_now hub) rcode delay (now hub))
+  comes_to_stop : (rcode delay : ℕ) → Step Good hub (stopped (keeps_now hub) rcode delay (now hub))
   ends_with : (reason : EndReason) → Step Good hub (ended_with (keeps_now hub) reason)
   copies_front : (room : ℕ) → Step Good hub (copied room)
 
@@ -121,12 +121,12 @@ module _ {A Q M : Type 0} {kind : SessionKind A Q M} (Good : List ℕ → Type 0
 
 -- the hub with a new session
 abbrev pub with_new : {A Q M : Type 0} {kind : SessionKind A Q M} → HubOf kind → HubOf kind
-with_new hub = record hub { sessions = hub.sessions ++ (hub.made, new_session (keeps_now hub) (now hub)) ∷ []; made = hub.made + 1 }
+with_new hub = record hub { sessions = hub.sessions ++ (hub.numbers_given, new_session (keeps_now hub) (now hub)) ∷ []; numbers_given = hub.numbers_given + 1 }
 
 pub holds-connect : {A Q M : Type 0} {kind : SessionKind A Q M} (R : HubOf kind → Type 0) (hub : HubOf kind) → R (with_new hub) → R hub → R (connect hub).1
-holds-connect {kind = kind} R hub makes stays = by (nat_lt (length hub.sessions) max_sessions && nat_lt hub.made max_number)
+holds-connect {kind = kind} R hub makes stays = by (nat_lt (length hub.sessions) max_sessions && nat_lt hub.numbers_given max_number)
   where
-    by : (b : Bool) → R (cond {A = Option ℕ × HubOf kind} b (Some hub.made, with_new hub) (None, hub)).1
+    by : (b : Bool) → R (cond {A = Option ℕ × HubOf kind} b (Some hub.numbers_given, with_new hub) (None, hub)).1
     by true = makes
     by false = stays
 
@@ -150,8 +150,8 @@ module _ {A Q M : Type 0} {kind : SessionKind A Q M} (Good : List ℕ → Type 0
   pub walks-update : (hub : HubOf kind) (message : List ℕ) → Good message → P hub → R (update hub message).1
   walks-update hub message good h = holds-update Good R hub (λ entry by. w.enters hub entry by h) (w.enters_none hub h) message good
 
-  walks-reconfirms : (hub : HubOf kind) (message : List ℕ) → P hub → R (reconfirms number message hub)
-  walks-reconfirms hub message h = by (reconfirm_of (primary_data message))
+  walks-reconfirms : (hub : HubOf kind) (rr : Option Rr) → P hub → R (reconfirms rr number hub)
+  walks-reconfirms hub rr h = by rr
     where
       by_room : (found : ℕ × Key) (a : Bool) → accepts (state_now hub) (entries.Reconfirm found.0 found.1) ≡ a → (b : Bool) → R (cond (a && b) (entered (entries.Reconfirm found.0 found.1) hub) hub)
       by_room found true is true = w.enters hub (entries.Reconfirm found.0 found.1) (by_reconfirm found.0 found.1 is) h
@@ -162,7 +162,7 @@ module _ {A Q M : Type 0} {kind : SessionKind A Q M} (Good : List ℕ → Type 0
       by_key None = w.enters_none hub h
       by_key (Some found) = by_room found (accepts (state_now hub) (entries.Reconfirm found.0 found.1)) refl (can_enter hub (entries.Reconfirm found.0 found.1))
 
-      by : (o : Option Rr) → R (record_as hub number o)
+      by : (o : Option Rr) → R (reconfirms o number hub)
       by None = steps hub (ended_with (keeps_now hub) (ends.BadData reconfirm_tlv)) (ends_with (ends.BadData reconfirm_tlv)) h
       by (Some rr) = by_key (reconfirm_key (state_now hub) rr)
 
@@ -173,7 +173,7 @@ module _ {A Q M : Type 0} {kind : SessionKind A Q M} (Good : List ℕ → Type 0
   walks-reaction hub message head established reactions.Subscribe is good h =
       let question = question_of (primary_data message) in
       steps hub (answered (keeps_now hub) (tells_now hub) (now hub) (id_of message) question (has_home hub question)) (answers_subscribe message good) h
-  walks-reaction hub message head established reactions.Reconfirm is good h = walks-reconfirms hub message h
+  walks-reaction hub message head established reactions.Reconfirm is good h = walks-reconfirms hub (reconfirm_of (primary_data message)) h
   walks-reaction hub message head established reactions.Update is good h =
       let judged = update hub message in
       w.changes_behind judged.1 (answers (keeps_now judged.1) false (now judged.1) (answer_to_update (id_of message) judged.0)) (answers_update hub message) (walks-update hub message good h)
@@ -227,13 +227,9 @@ module _ {A Q M : Type 0} {kind : SessionKind A Q M} (Good : List ℕ → Type 0
   walks-by_standing hub room session there (Ended reason) h = w.enters_none hub h
   walks-by_standing hub room session there (Stopped since) h = w.enters_none hub h
   walks-by_standing hub room session there Live h = walks-works hub room session there h
-  walks-by_standing hub room session there (AskedToStop rcode delay) h = by session.established
-    where
-      by : (b : Bool) → R (stops_as hub number room rcode delay b).hub
-      by true =
-          let f = stopped (keeps_now hub) rcode delay (now hub) in
-          walks-after_reaction room (in_session number f hub) (steps hub f (writes_stop rcode delay) h)
-      by false = steps hub (ended_with (keeps_now hub) ends.Stopped) (ends_with ends.Stopped) h
+  walks-by_standing hub room session there (AskedToStop rcode delay) h =
+      let f = stopped (keeps_now hub) rcode delay (now hub) in
+      walks-after_reaction room (in_session number f hub) (steps hub f (comes_to_stop rcode delay) h)
 
   pub walks-give : (hub : HubOf kind) (room : ℕ) → P hub → R (give hub number room).hub
   walks-give hub room h = by (session_of hub number) refl
@@ -261,7 +257,7 @@ pub record IsKept {A Q M : Type 0} {kind : SessionKind A Q M} (Good : List ℕ �
   pub asks_stop : (hub : HubOf kind) (number rcode delay : ℕ) → P hub → P (stop hub number rcode delay)
   -- a session is made, and one goes
   pub makes : (hub : HubOf kind) → P hub → P (with_new hub)
-  pub drops : (hub : HubOf kind) (number : ℕ) → P hub → P (end_session hub number)
+  pub drops : (hub : HubOf kind) (number : ℕ) → P hub → P (disconnect hub number)
 
 -- what is brought is good
 abbrev pub BringsGood : (List ℕ → Type 0) → HubCall → Type 0

@@ -5,18 +5,19 @@ use Rattle.dsotlv.specs.Messages.{first_message, head_of}
 use Rattle.dsotlv.specs.declared.message.DsoHead.{DsoHead}
 use Rattle.dsosession.specs.Reactions.{server_reaction}
 use Rattle.pushsession.specs.Kept.{KeptSession}
+use Rattle.pushsession.specs.Reactions.{TakesMemory, request_for}
 use Rattle.pushsession.specs.declared.standing.Standing.TheVariants.{Live}
-use Rattle.pushserver.specs.Sessions.{Hub, Session}
+use Rattle.pushserver.specs.PlainHubs.{Hub, Session}
 use Rattle.pushserver.specs.Hubs.{session_of}
-use Rattle.pushserver.specs.Laws.{MayWantMemory, ReadsData}
-use Rattle.pushserver.specs.Rule.{KeptHub, StandsFor}
-use Rattle.pushserver.proofs.hub_steps.Standing.{FoundBoth, both_found}
+use Rattle.pushserver.specs.Laws.{MayWantMemory}
+use Rattle.pushserver.specs.KeptHubs.{KeptHub, StandsFor}
+use Rattle.pushserver.proofs.hub_steps.Standing.{FoundBoth, both_found, fitting}
 
 -- the plain session is as the kept one that wants memory
 pub may-want : (k : KeptHub) (hub : Hub) (number : ℕ) (s : KeptSession) (found : List ℕ × List ℕ) (head : DsoHead) → StandsFor k hub → session_of k number ≡ Some s → s.standing ≡ Live → s.output ≡ []
-    → first_message s.input ≡ Some found → head_of found.0 ≡ Some head → ReadsData (server_reaction head s.established) → MayWantMemory hub number
-may-want k hub number s found head stands there live silent waits whole reads =
-    by (session_of hub number) refl (subst (λ (o : Option KeptSession). FoundBoth hub number o (session_of hub number)) there (both_found hub number k.sessions hub.sessions stands.sessions))
+    → first_message s.input ≡ Some found → head_of found.0 ≡ Some head → TakesMemory (Some (request_for (server_reaction head s.established) found.0)) → MayWantMemory hub number
+may-want k hub number s found head stands there live silent waits whole takes =
+    by (session_of hub number) refl (subst (λ (o : Option KeptSession). FoundBoth hub number o (session_of hub number)) there (both_found hub number k.sessions hub.sessions (fitting stands)))
   where
     by : (o : Option Session) → session_of hub number ≡ o → FoundBoth hub number (Some s) o → MayWantMemory hub number
     by None at both = absurd both
@@ -25,9 +26,9 @@ may-want k hub number s found head stands there live silent waits whole reads =
       found = found;
       head = head;
       there = at;
-      live = sym both.standing ∙ live;
-      silent = sym both.output ∙ silent;
-      waits = ap first_message (sym both.input) ∙ waits;
+      live = sym both.stands.standing ∙ live;
+      silent = sym both.stands.output ∙ silent;
+      waits = ap first_message (sym both.stands.input) ∙ waits;
       whole = whole;
-      reads = subst (λ e. ReadsData (server_reaction head e)) both.established reads;
+      takes = subst (λ e. TakesMemory (Some (request_for (server_reaction head e) found.0))) both.stands.established takes;
     }

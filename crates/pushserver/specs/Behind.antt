@@ -5,7 +5,7 @@ use Rattle.std.specs.Prelude.{ℕ, not, ◌&&◌, [], ◌∷◌, drop, min, Opti
 use Rattle.dsosession.specs.declared.session.EndReason.TheVariants.{Behind}
 use Rattle.history.specs.States.{entry_size, journal_has_room}
 use Rattle.history.specs.declared.entry.Entry.{Entry}
-use Rattle.pushserver.specs.Sessions.{Hub, Session, Queue, plain_keeps}
+use Rattle.pushserver.specs.PlainHubs.{Hub, Session, Queue, plain_keeps}
 use Rattle.pushserver.specs.Hubs.{newest, each_session, entered}
 use Rattle.pushsession.specs.Sessions.{is_open, ended_with}
 

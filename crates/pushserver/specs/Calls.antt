@@ -1,10 +1,10 @@
 -- Calls of the hub as data.
 --     HubCall, called      the calls; the hub after one
 --     after_calls      the hub after several
---     AreOctets, BringsOctets      numbers below 256; what comes as octets are octets
-use Rattle.std.specs.Prelude.{ℕ, List, fold, nat_lt, IsTrue}
-use Rattle.std.specs.List.{list_all}
-use Rattle.pushserver.specs.Hubs.{SessionKind, HubOf, update, hear, moment, connect, take_octets, stop, end_session}
+--     BringsOctets      what comes as octets are octets
+use Rattle.std.specs.Prelude.{ℕ, List, fold}
+use Rattle.dsotlv.specs.Laws.{AreOctets}
+use Rattle.pushserver.specs.Hubs.{SessionKind, HubOf, update, hear, moment, connect, take_octets, stop, disconnect}
 use Rattle.pushserver.specs.Giving.{give}
 
 pub data HubCall : Type 0 where
@@ -25,14 +25,11 @@ called connects hub = (connect hub).1
 called (takes number piece) hub = take_octets hub number piece
 called (gives number room) hub = (give hub number room).hub
 called (stops number rcode delay) hub = stop hub number rcode delay
-called (ends number) hub = end_session hub number
+called (ends number) hub = disconnect hub number
 
 -- one after the other
 abbrev pub after_calls : {A Q M : Type 0} {kind : SessionKind A Q M} → List HubCall → HubOf kind → HubOf kind
 after_calls calls hub = fold (λ h c. called c h) hub calls
-
-abbrev pub AreOctets : List ℕ → Type 0
-AreOctets octets = IsTrue (list_all (λ o. nat_lt o 256) octets)
 
 -- what comes as octets are octets
 abbrev pub BringsOctets : HubCall → Type 0

@@ -9,12 +9,12 @@ use Rattle.pushserver.specs.declared.given.Given.TheVariants.{Bytes}
 
 -- no session is made, and at most one change
 abbrev pub MayAddChange : {A Q M : Type 0} {kind : SessionKind A Q M} → HubOf kind → HubOf kind → Type 0
-MayAddChange old new = (new.made ≡ old.made)
+MayAddChange old new = (new.numbers_given ≡ old.numbers_given)
     × ((totals new.history ≡ totals old.history) ⊎ (totals new.history ≡ record (totals old.history) { changes = (totals old.history).changes + 1 }))
 
 -- no session is made, and at most one moment
 abbrev pub MayAddMoment : {A Q M : Type 0} {kind : SessionKind A Q M} → HubOf kind → HubOf kind → Type 0
-MayAddMoment old new = (new.made ≡ old.made)
+MayAddMoment old new = (new.numbers_given ≡ old.numbers_given)
     × ((totals new.history ≡ totals old.history) ⊎ (totals new.history ≡ record (totals old.history) { moments = (totals old.history).moments + 1 }))
 
 abbrev pub octets_of : Given → ℕ

@@ -5,20 +5,21 @@ use Rattle.std.specs.Prelude.{ℕ, Bool, true, false, ◌&&◌, List, [], length
 use Rattle.push_base.specs.Cases.{is_empty}
 use Rattle.rrset.specs.Header.{id_of}
 use Rattle.rrset.specs.declared.record.Question.{Question}
-use Rattle.dsotlv.specs.Messages.{first_message, head_of, primary_data}
-use Rattle.dsotlv.specs.Notices.{question_of, reconfirm_of}
+use Rattle.rrset.specs.declared.record.Rr.{Rr}
+use Rattle.dsotlv.specs.Messages.{first_message, head_of}
 use Rattle.dsosession.specs.Reactions.{server_reaction}
 use Rattle.dsosession.specs.declared.session.EndReason.{EndReason}
 use Rattle.dsosession.specs.declared.session.EndReason.TheVariants as ends
 use Rattle.dsosession.specs.declared.session.Reaction.{Reaction}
-use Rattle.dsosession.specs.declared.session.Reaction.TheVariants.{Answer, Grant, Abort, Subscribe, Unsubscribe, Reconfirm, Update, NotImplemented}
 use Rattle.history.specs.States.{home_of, reconfirm_key, accepts}
 use Rattle.history.specs.declared.entry.Entry.TheVariants as entries
+use Rattle.pushsession.specs.declared.request.Request.{Request}
+use Rattle.pushsession.specs.declared.request.Request.TheVariants as requests
 use Rattle.pushsession.specs.declared.standing.Standing.{Standing}
 use Rattle.pushsession.specs.declared.standing.Standing.TheVariants.{Live, AskedToStop, Stopped, Ended}
-use Rattle.pushsession.specs.Sessions.{SessionOf, copied, ended_with, stopped}
+use Rattle.pushsession.specs.Sessions.{SessionOf, copied, ended_with, stopped, without_first}
 use Rattle.pushsession.specs.Subscribing.{answered, packs}
-use Rattle.pushsession.specs.Reactions.{heard, by_itself, ends_short, ends_reconfirm, answers_update}
+use Rattle.pushsession.specs.Reactions.{heard, by_itself, ends_short, ends_reconfirm, answers_update, request_for}
 use Rattle.pushserver.specs.declared.given.Given.{Given}
 use Rattle.pushserver.specs.declared.given.Given.TheVariants.{Bytes, Worked, Nothing, Ending, End}
 use Rattle.pushserver.specs.Hubs.{SessionKind, HubOf, now, state_now, keeps_now, tells_now, session_of, in_session, entered, can_enter, update}
@@ -33,19 +34,15 @@ abbrev pub has_home : {A Q M : Type 0} {kind : SessionKind A Q M} → HubOf kind
 has_home hub None = false
 has_home hub (Some question) = is_some (home_of (state_now hub) question.name)
 
-abbrev pub subscribes : {A Q M : Type 0} {kind : SessionKind A Q M} → ℕ → List ℕ → HubOf kind → HubOf kind
-subscribes number message hub =
-    let question = question_of (primary_data message) in
-    in_session number (answered (keeps_now hub) (tells_now hub) (now hub) (id_of message) question (has_home hub question)) hub
+abbrev pub subscribes : {A Q M : Type 0} {kind : SessionKind A Q M} → Option Question → ℕ → List ℕ → HubOf kind → HubOf kind
+subscribes question number message hub = in_session number (answered (keeps_now hub) (tells_now hub) (now hub) (id_of message) question (has_home hub question)) hub
 
 -- a record that a link shows is reconfirmed, where the journal has room; any other is ignored (RFC 8765, 6.5)
-abbrev pub reconfirms : {A Q M : Type 0} {kind : SessionKind A Q M} → ℕ → List ℕ → HubOf kind → HubOf kind
-reconfirms number message hub = elim (reconfirm_of (primary_data message)) [
-  | None ↦ in_session number (ends_reconfirm (keeps_now hub)) hub
-  | Some rr ↦ elim (reconfirm_key (state_now hub) rr) [
-    | None ↦ hub
-    | Some found ↦ (let entry = entries.Reconfirm found.0 found.1 in if accepts (state_now hub) entry && can_enter hub entry then entered entry hub else hub)
-  ]
+abbrev pub reconfirms : {A Q M : Type 0} {kind : SessionKind A Q M} → Option Rr → ℕ → HubOf kind → HubOf kind
+reconfirms None number hub = in_session number (ends_reconfirm (keeps_now hub)) hub
+reconfirms (Some rr) number hub = elim (reconfirm_key (state_now hub) rr) [
+  | None ↦ hub
+  | Some found ↦ (let entry = entries.Reconfirm found.0 found.1 in if accepts (state_now hub) entry && can_enter hub entry then entered entry hub else hub)
 ]
 
 -- an update is judged, and the answer has its RCODE (RFC 2136, 3.8); it is written after the entry
@@ -54,18 +51,19 @@ updates number message hub =
     let judged = update hub message in
     in_session number (answers_update (keeps_now judged.1) (now judged.1) message judged.0) judged.1
 
+-- a message for which nothing is needed
 abbrev pub reacts_itself : {A Q M : Type 0} {kind : SessionKind A Q M} → Reaction → ℕ → List ℕ → HubOf kind → HubOf kind
 reacts_itself reaction number message hub = in_session number (by_itself (keeps_now hub) reaction hub.timers (now hub) message) hub
 
+-- by what is needed for the message with this reaction
+abbrev pub by_request : {A Q M : Type 0} {kind : SessionKind A Q M} → Request → Reaction → ℕ → List ℕ → HubOf kind → HubOf kind
+by_request (requests.Subscribe question) reaction number message hub = subscribes question number message hub
+by_request (requests.Reconfirm rr) reaction number message hub = reconfirms rr number hub
+by_request requests.Update reaction number message hub = updates number message hub
+by_request requests.Itself reaction number message hub = reacts_itself reaction number message hub
+
 abbrev pub by_reaction : {A Q M : Type 0} {kind : SessionKind A Q M} → Reaction → ℕ → List ℕ → HubOf kind → HubOf kind
-by_reaction Subscribe number message hub = subscribes number message hub
-by_reaction Reconfirm number message hub = reconfirms number message hub
-by_reaction Update number message hub = updates number message hub
-by_reaction (Answer rcode) number message hub = reacts_itself (Answer rcode) number message hub
-by_reaction Grant number message hub = reacts_itself Grant number message hub
-by_reaction (Abort reason) number message hub = reacts_itself (Abort reason) number message hub
-by_reaction Unsubscribe number message hub = reacts_itself Unsubscribe number message hub
-by_reaction NotImplemented number message hub = reacts_itself NotImplemented number message hub
+by_reaction reaction number message hub = by_request (request_for reaction message) reaction number message hub
 
 -- a message that is reacted to restarts the timers, and then its line applies
 abbrev pub reacted : {A Q M : Type 0} {kind : SessionKind A Q M} → List ℕ → ℕ → HubOf kind → HubOf kind
@@ -106,9 +104,6 @@ after_reaction number room hub = elim (session_of hub number) [ None ↦ did Wor
 abbrev pub after_packing : {A Q M : Type 0} {kind : SessionKind A Q M} → ℕ → ℕ → HubOf kind → GivingOf kind
 after_packing number room hub = elim (session_of hub number) [ None ↦ did Nothing hub | Some session ↦ copies_or Nothing number room session hub ]
 
-abbrev pub without_first : {A Q M : Type 0} → List ℕ → SessionOf A Q M → SessionOf A Q M
-without_first rest session = record session { input = rest }
-
 -- a live session without output: a whole message waits, or the queue packs a PUSH, or nothing is to be said
 abbrev pub works : {A Q M : Type 0} {kind : SessionKind A Q M} → ℕ → ℕ → SessionOf A Q M → HubOf kind → GivingOf kind
 works number room session hub = elim (first_message session.input) [
@@ -118,9 +113,7 @@ works number room session hub = elim (first_message session.input) [
 
 abbrev pub by_standing : {A Q M : Type 0} {kind : SessionKind A Q M} → Standing → ℕ → ℕ → SessionOf A Q M → HubOf kind → GivingOf kind
 by_standing (Ended reason) number room session hub = did (End reason) hub
-by_standing (AskedToStop rcode delay) number room session hub =
-    if session.established then after_reaction number room (in_session number (stopped (keeps_now hub) rcode delay (now hub)) hub)
-    else did (End ends.Stopped) (ends_as number ends.Stopped hub)
+by_standing (AskedToStop rcode delay) number room session hub = after_reaction number room (in_session number (stopped (keeps_now hub) rcode delay (now hub)) hub)
 by_standing (Stopped since) number room session hub = did Ending hub
 by_standing Live number room session hub = works number room session hub
 

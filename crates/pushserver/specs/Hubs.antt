@@ -4,7 +4,7 @@
 --     Numbered, session_in, in_sessions, all_sessions      sessions with their numbers
 --     newest, state_now, now, records_now      the newest point, and the state and the records there
 --     entered entry hub      the hub after an entry
---     update, hear, moment, connect, take_octets, stop, end_session      the calls beside `give`
+--     update, hear, moment, connect, take_octets, stop, disconnect      the calls beside `give`
 use Rattle.std.specs.Prelude.{ℕ, ◌+◌, Bool, true, false, not, ◌&&◌, cond, List, [], ◌∷◌, ◌++◌, map, length, filter, find, min, Option, Some, None, Ok, Err, nat_lt, ◌==◌, option_map, if◌then◌else◌}
 use Rattle.push_base.specs.Limits.{max_number}
 use Rattle.dnsname.specs.Reading.{place_of}
@@ -32,16 +32,16 @@ pub record SessionKind (Asked Queue Messages : Type 0) : Type 0 where
   pub keeps : ℕ → Keeps Asked Queue Messages
   pub tells : State → List Entry → Tells Asked Queue
 
--- the homes at first, what is granted to a Keepalive, the entries since, the sessions with their numbers, and how many were ever made
+-- the homes at first, what is granted to a Keepalive, the entries since, the sessions with their numbers, and how many numbers were given to sessions
 pub record HubOf {A Q M : Type 0} (kind : SessionKind A Q M) : Type 0 where
   pub start : State
   pub timers : Timers
   pub history : List Entry
   pub sessions : List (ℕ × SessionOf A Q M)
-  pub made : ℕ
+  pub numbers_given : ℕ
 
 abbrev pub empty_hub : {A Q M : Type 0} (kind : SessionKind A Q M) → State → Timers → HubOf kind
-empty_hub kind start timers = record { start = start; timers = timers; history = []; sessions = []; made = 0 }
+empty_hub kind start timers = record { start = start; timers = timers; history = []; sessions = []; numbers_given = 0 }
 
 -- ---- sessions with their numbers
 
@@ -147,8 +147,8 @@ max_sessions = sessions.MAX_SESSIONS
 
 -- the number of a new session, counted from 0; none where too many live or the numbers are used up
 abbrev pub connect : {A Q M : Type 0} {kind : SessionKind A Q M} → HubOf kind → Option ℕ × HubOf kind
-connect hub = if nat_lt (length hub.sessions) max_sessions && nat_lt hub.made max_number
-    then (Some hub.made, record hub { sessions = hub.sessions ++ (hub.made, new_session (keeps_now hub) (now hub)) ∷ []; made = hub.made + 1 })
+connect hub = if nat_lt (length hub.sessions) max_sessions && nat_lt hub.numbers_given max_number
+    then (Some hub.numbers_given, record hub { sessions = hub.sessions ++ (hub.numbers_given, new_session (keeps_now hub) (now hub)) ∷ []; numbers_given = hub.numbers_given + 1 })
     else (None, hub)
 
 -- how many octets of a piece a session takes
@@ -161,5 +161,5 @@ take_octets hub number piece = in_session number (takes piece) hub
 abbrev pub stop : {A Q M : Type 0} {kind : SessionKind A Q M} → HubOf kind → ℕ → ℕ → ℕ → HubOf kind
 stop hub number rcode delay = in_session number (asked_to_stop rcode delay) hub
 
-abbrev pub end_session : {A Q M : Type 0} {kind : SessionKind A Q M} → HubOf kind → ℕ → HubOf kind
-end_session hub number = record hub { sessions = without_session number hub.sessions }
+abbrev pub disconnect : {A Q M : Type 0} {kind : SessionKind A Q M} → HubOf kind → ℕ → HubOf kind
+disconnect hub number = record hub { sessions = without_session number hub.sessions }

@@ -1,104 +1,64 @@
--- The hub as it is kept, and what its private calls rest on.
---     kept_of keeping      the hub that its parts are
---     IsSound keeping, IsHub keeping      what holds of them between calls; they stand for a plain hub
---     entry_changes entry kept      the keys that an entry changes
---     Gave giving given before after kept      what a call of `give` answered and left
---     IsSeated kept number session past timers rows      the session stands in a hub of such parts
---     IsToJudge number found sessions, Turns      an update is to be judged; what a session's turn came to
---     WantsMemory number sessions      where memory may be wanted
-use Rattle.std.specs.Prelude.{◌≡◌, ℕ, List, [], ◌∷◌, ◌++◌, drop, length, Option, Some, None, ok_or}
-use Rattle.rrset.specs.RecordSet.{RecordSet, changes}
-use Rattle.rrset.specs.Rcodes.{formerr}
-use Rattle.rrset.specs.declared.record.Changed.{Changed}
-use Rattle.dnswire.specs.declared.message.Update.{Update}
-use Rattle.coalesce.specs.Waiting.{CanBePacked}
-use Rattle.dsosession.specs.declared.session.Timers.{Timers}
-use Rattle.history.specs.Keeping.{Past}
-use Rattle.history.specs.Standing.{AreAtHome}
-use Rattle.history.specs.States.{update_in}
-use Rattle.history.specs.declared.entry.Entry.{Entry}
-use Rattle.pushsession.specs.Kept.{KeptSession}
-use Rattle.pushsession.specs.Requests.{message_of, request_of}
-use Rattle.pushsession.specs.declared.request.Request.{Request}
-use Rattle.pushsession.specs.declared.request.Request.TheVariants as requests
-use Rattle.pushsession.specs.declared.standing.Standing.TheVariants.{Live}
-use Rattle.pushserver.specs.Hubs.{Numbered, session_in, newest, state_now, records_now, in_session}
-use Rattle.pushserver.specs.Giving.{give}
-use Rattle.pushserver.specs.Sessions.{Hub}
-use Rattle.pushserver.specs.Rule.{KeptHub, KeptGiving, StandsFor}
-use Rattle.pushserver.specs.Rows.{AreTold}
-use Rattle.pushserver.specs.Seats.{AreApart, AreBelow, WaitBefore}
-use Rattle.pushserver.specs.declared.given.Given.{Given}
-use Rattle.pushserver.specs.declared.keeping.Keeping.{Keeping}
-use Rattle.pushserver.specs.declared.turning.Turn.{Turn}
-use Rattle.pushserver.specs.declared.turning.Turn.TheVariants as turns
+-- What the server keeps, and the plain hub that it stands for.
+--     kept, KeptHub      its sessions as they are kept; the hub
+--     StandsFor kept hub      what is kept is what the plain hub's history tells
+use Rattle.std.specs.Prelude.{◌≡◌, ℕ, List, map, length, min}
+use Rattle.std.specs.List.{AllByRecursion, AllZip}
+use Rattle.push_base.specs.Limits.{max_number}
+use Rattle.rrset.specs.RecordSet.{at_name}
+use Rattle.subscr.specs.Asked.{Asked}
+use Rattle.coalesce.specs.Waiting.{WaitingName}
+use Rattle.history.specs.States.{records_at}
+use Rattle.pushsession.specs.Kept.{KeptSession, KeptQuestions, Filled, keeping, telling}
+use Rattle.pushserver.specs.PlainHubs.{Hub, Session, Subscription, Queue, written}
+use Rattle.pushserver.specs.SoundHubs.{IsSoundHub}
+use Rattle.pushserver.specs.Hubs.{SessionKind, HubOf}
+use Rattle.pushserver.specs.Giving.{GivingOf}
 
-abbrev pub kept_of : Keeping → KeptHub
-kept_of keeping = record { start = keeping.points.past.start; timers = keeping.timers; history = keeping.points.past.history; sessions = keeping.sessions; made = keeping.made }
+-- what is kept of its sessions, and what is told to them
+abbrev pub kept : SessionKind KeptQuestions (List WaitingName) ℕ
+kept = record { keeps = λ newest. keeping; tells = λ start history. telling (records_at start history (length history)) }
 
--- no number twice, and all were given out; the table has all records, each at home; names wait since the past, and can be told
-pub record IsSound (keeping : Keeping) : Type 0 where
-  pub apart : AreApart keeping.sessions
-  pub index : keeping.index.rows ≡ records_now (kept_of keeping)
-  pub home : AreAtHome (state_now (kept_of keeping))
-  pub below : AreBelow keeping.made keeping.sessions
-  pub waiting : WaitBefore (newest (kept_of keeping)) keeping.sessions
-  pub told : AreTold keeping.index.rows
-  pub packable : (number : ℕ) (session : KeptSession) → session_in number keeping.sessions ≡ Some session → CanBePacked keeping.index.rows session.queue
+abbrev pub KeptHub : Type 0
+KeptHub = HubOf kept
 
--- the table has all records, and there is a plain hub for which the parts stand
-pub record IsHub (keeping : Keeping) : Type 0 where
-  pub index : keeping.index.rows ≡ records_now (kept_of keeping)
-  pub hub : Hub
-  pub stands : StandsFor (kept_of keeping) hub
+abbrev pub KeptGiving : Type 0
+KeptGiving = GivingOf kept
 
-abbrev pub entry_changes : Entry → KeptHub → List Changed
-entry_changes entry kept = changes (records_now kept) (records_now (record kept { history = kept.history ++ entry ∷ [] }))
+-- the questions with their IDs
+abbrev pub asked_of : List Subscription → Asked
+asked_of subscriptions = map (λ s. (s.id, s.question)) subscriptions
 
--- what was done, and octets in front of what was there
-pub record Gave (giving : KeptGiving) (given : Given) (before after : List ℕ) (kept : KeptHub) : Type 0 where
-  pub given_is : given ≡ giving.given
-  pub octets : after ≡ giving.octets ++ drop (length giving.octets) before
-  pub hub : kept ≡ giving.hub
+-- octets are counted up to the last number
+abbrev pub filled_kept : List Subscription → Filled
+filled_kept subscriptions = map (λ s. (s.id, min s.filled max_number)) subscriptions
 
--- the session has this number in a hub with this past, what is granted, and these records
-pub record IsSeated (kept : KeptHub) (number : ℕ) (session : KeptSession) (past : Past) (timers : Timers) (rows : RecordSet) : Type 0 where
-  pub there : session_in number kept.sessions ≡ Some session
-  pub apart : AreApart kept.sessions
-  pub past_is : record { start = kept.start; history = kept.history } ≡ past
-  pub timers_is : kept.timers ≡ timers
-  pub rows_is : rows ≡ records_now kept
-  pub home : AreAtHome (state_now kept)
+-- the names that wait with their points
+abbrev pub queue_of : List WaitingName → Queue
+queue_of waiting = map (λ w. (w.name, w.point)) waiting
 
--- the session of this number goes on without output, and its first message is an update that reads so
-pub record IsToJudge (number : ℕ) (found : Option Update) (sessions : Numbered KeptSession) : Type 0 where
-  pub session : KeptSession
-  pub there : session_in number sessions ≡ Some session
-  pub live : session.standing ≡ Live
-  pub silent : session.output ≡ []
-  pub request : request_of session ≡ Some requests.Update
-  pub reads : update_in (message_of session) ≡ ok_or found formerr
+-- a name that waits has the records that it had at its point
+abbrev pub IsCopy : Hub → WaitingName → Type 0
+IsCopy hub w = w.old ≡ at_name w.name (records_at hub.start hub.history w.point)
 
--- what the call gives, with the session as it is then; or the session is as before, and an update is to be judged
-abbrev pub Turns : KeptHub → ℕ → Turn → List ℕ → List ℕ → KeptSession → KeptSession → Type 0
-Turns kept number (turns.Did given) octets octets_now session session_now = Gave (give kept number (length octets)) given octets octets_now (in_session number (λ _. session_now) kept)
-Turns kept number (turns.Judge found) octets octets_now session session_now = (octets_now ≡ octets) × (session_now ≡ session) × IsToJudge number found kept.sessions
+-- a session is kept as the plain one
+pub record SessionStandsFor (hub : Hub) (kept : ℕ × KeptSession) (plain : ℕ × Session) : Type 0 where
+  pub number : kept.0 ≡ plain.0
+  pub asked : kept.1.subscriptions.asked ≡ asked_of plain.1.subscriptions
+  pub filled : kept.1.subscriptions.filled ≡ filled_kept plain.1.subscriptions
+  pub queue : queue_of kept.1.queue ≡ plain.1.queue
+  pub copies : AllByRecursion (IsCopy hub) kept.1.queue
+  pub clocks : kept.1.clocks ≡ plain.1.clocks
+  pub established : kept.1.established ≡ plain.1.established
+  pub standing : kept.1.standing ≡ plain.1.standing
+  pub input : kept.1.input ≡ plain.1.input
+  pub output : kept.1.output ≡ plain.1.output
+  pub written : kept.1.made ≡ min (written plain.1) max_number
 
--- a question, a record or an update is read for the message that waits
-abbrev pub TakesMemory : Option Request → Type 0
-TakesMemory (Some (requests.Subscribe question)) = Unit {0}
-TakesMemory (Some (requests.Reconfirm rr)) = Unit {0}
-TakesMemory (Some requests.Update) = Unit {0}
-TakesMemory (Some requests.Itself) = ⊥
-TakesMemory None = ⊥
-
--- a session goes on, without output, and memory is taken for its reaction
-pub record WantsMemoryFor (session : KeptSession) : Type 0 where
-  pub live : session.standing ≡ Live
-  pub silent : session.output ≡ []
-  pub reads : TakesMemory (request_of session)
-
-pub record WantsMemory (number : ℕ) (sessions : Numbered KeptSession) : Type 0 where
-  pub session : KeptSession
-  pub there : session_in number sessions ≡ Some session
-  pub wants : WantsMemoryFor session
+-- the plain hub is sound and has the same history, and each session is kept as its own
+pub record StandsFor (kept : KeptHub) (hub : Hub) : Type 0 where
+  pub sound : IsSoundHub hub
+  pub timers : kept.timers ≡ hub.timers
+  pub numbers_given : kept.numbers_given ≡ hub.numbers_given
+  pub start : kept.start ≡ hub.start
+  pub history : kept.history ≡ hub.history
+  pub sessions : AllZip (SessionStandsFor hub) kept.sessions hub.sessions

@@ -17,17 +17,17 @@ use Rattle.dsotlv.specs.Notices.{question_of}
 use Rattle.dsotlv.specs.declared.message.DsoHead.{DsoHead}
 use Rattle.coalesce.specs.Net.{push_frame}
 use Rattle.dsosession.specs.Reactions.{server_reaction}
-use Rattle.dsosession.specs.declared.session.Reaction.{Reaction}
-use Rattle.dsosession.specs.declared.session.Reaction.TheVariants.{Subscribe, Reconfirm, Update}
+use Rattle.dsosession.specs.declared.session.Reaction.TheVariants.{Subscribe}
 use Rattle.history.specs.States.{home_of}
 use Rattle.history.specs.declared.entry.Entry.{Entry}
 use Rattle.pushserver.specs.declared.given.Given.TheVariants.{Nothing}
 use Rattle.pushsession.specs.declared.standing.Standing.TheVariants.{Live}
+use Rattle.pushsession.specs.Reactions.{TakesMemory, request_for}
 use Rattle.pushsession.specs.Subscribing.{is_served}
-use Rattle.pushserver.specs.Sessions.{Hub, Session, sent, first_answer, wanted, subscription_of, subscription_for}
-use Rattle.pushserver.specs.Hubs.{state_now, records_now, session_of, entered, update, hear, moment, connect, take_octets, stop, end_session}
+use Rattle.pushserver.specs.PlainHubs.{Hub, Session, sent, first_answer, wanted, subscription_of, subscription_for}
+use Rattle.pushserver.specs.Hubs.{state_now, records_now, session_of, entered, update, hear, moment, connect, take_octets, stop, disconnect}
 use Rattle.pushserver.specs.Giving.{give, reacted}
-use Rattle.pushserver.specs.Rule.{KeptHub, StandsFor}
+use Rattle.pushserver.specs.SoundHubs.{IsSoundHub}
 use Rattle.pushserver.specs.ToldMessages.{TellsHistory, set_after}
 
 -- a live session without output, without a whole message that waits, and with all records of its names sent
@@ -36,12 +36,12 @@ IsAllTold hub session = (session.standing ≡ Live) × (session.output ≡ []) �
     × AllByRecursion (λ s. sent hub session s.question.name ≡ wanted session.subscriptions (at_name s.question.name (records_now hub))) session.subscriptions
 
 abbrev pub NothingWhereAllIsTold : Type 0
-NothingWhereAllIsTold = (kept : KeptHub) (hub : Hub) (number room : ℕ) (session : Session) → StandsFor kept hub → session_of hub number ≡ Some session
+NothingWhereAllIsTold = (hub : Hub) (number room : ℕ) (session : Session) → IsSoundHub hub → session_of hub number ≡ Some session
     → (IsAllTold hub session → (give hub number room).given ≡ Nothing) × ((give hub number room).given ≡ Nothing → IsAllTold hub session)
 
 -- where nothing is said to a session that was told what the history says, its messages lead each question to what it matches now
 abbrev pub NothingMeansAllIsShown : Type 0
-NothingMeansAllIsShown = (kept : KeptHub) (hub : Hub) (number room : ℕ) (session : Session) → StandsFor kept hub → session_of hub number ≡ Some session → TellsHistory hub session
+NothingMeansAllIsShown = (hub : Hub) (number room : ℕ) (session : Session) → IsSoundHub hub → session_of hub number ≡ Some session → TellsHistory hub session
     → (give hub number room).given ≡ Nothing → AllByRecursion (λ s. set_after session.made s ≡ matching s.question (records_now hub)) session.subscriptions
 
 -- a later hub has the same history, and the same session of this number
@@ -49,7 +49,7 @@ pub record LeavesSession (hub later : Hub) (number : ℕ) : Type 0 where
   pub start : later.start ≡ hub.start
   pub timers : later.timers ≡ hub.timers
   pub history : later.history ≡ hub.history
-  pub made : later.made ≡ hub.made
+  pub numbers_given : later.numbers_given ≡ hub.numbers_given
   pub session : session_of later number ≡ session_of hub number
 
 -- another session is as it was, or, where an entry is made, as that entry leaves it: at most one is made
@@ -61,12 +61,12 @@ GiveChangesOneSession = (hub : Hub) (number other room : ℕ) → (other ≡ num
 abbrev pub KeepsOutput : Hub → Hub → ℕ → Type 0
 KeepsOutput hub later number = (before : Session) → session_of hub number ≡ Some before → option_map (λ s. s.output) (session_of later number) ≡ Some before.output
 
--- of the calls beside `give`, none changes an output, and `end_session` alone takes a session away
+-- of the calls beside `give`, none changes an output, and `disconnect` alone takes a session away
 abbrev pub OtherCallsKeepOutputs : Type 0
 OtherCallsKeepOutputs = (hub : Hub) (number other : ℕ) (octets : List ℕ) (n m : ℕ)
     → KeepsOutput hub (update hub octets).1 number × KeepsOutput hub (hear hub n octets).1 number × KeepsOutput hub (moment hub n).1 number
     × KeepsOutput hub (connect hub).1 number × KeepsOutput hub (take_octets hub other octets) number × KeepsOutput hub (stop hub other n m) number
-    × ((number ≡ other → ⊥) → KeepsOutput hub (end_session hub other) number)
+    × ((number ≡ other → ⊥) → KeepsOutput hub (disconnect hub other) number)
 
 -- a SUBSCRIBE that none of the tests refuses: its question is read, ID and question are new, the class is IN or ANY, the name has a home, and there is room (RFC 8765, 6.2)
 pub record IsAcceptable (hub : Hub) (session : Session) (message : List ℕ) (question : Question) : Type 0 where
@@ -86,14 +86,7 @@ SubscribeIsAnswered = (hub : Hub) (number : ℕ) (session : Session) (message : 
     → option_map (λ s. s.output) (session_of (reacted message number hub) number)
     ≡ Some (session.output ++ (frame (answer_to (id_of message) noerror) ++ push_frame (first_answer hub session question)))
 
--- the reaction to a SUBSCRIBE, a RECONFIRM or an update: a question, a record or an update is read for it
-abbrev pub ReadsData : Reaction → Type 0
-ReadsData Subscribe = Unit {0}
-ReadsData Reconfirm = Unit {0}
-ReadsData Update = Unit {0}
-ReadsData _ = ⊥
-
--- memory may be wanted only where such a message is reacted to: the session goes on, without output, and the message waits whole (RFC 8765, 6.2 and 6.5; RFC 2136, 3)
+-- memory may be wanted only where a SUBSCRIBE, a RECONFIRM or an update is reacted to: the session goes on, without output, and the message waits whole (RFC 8765, 6.2 and 6.5; RFC 2136, 3)
 pub record MayWantMemory (hub : Hub) (number : ℕ) : Type 0 where
   pub session : Session
   pub found : List ℕ × List ℕ
@@ -103,4 +96,4 @@ pub record MayWantMemory (hub : Hub) (number : ℕ) : Type 0 where
   pub silent : session.output ≡ []
   pub waits : first_message session.input ≡ Some found
   pub whole : head_of found.0 ≡ Some head
-  pub reads : ReadsData (server_reaction head session.established)
+  pub takes : TakesMemory (Some (request_for (server_reaction head session.established) found.0))

@@ -4,7 +4,7 @@
 use Rattle.std.specs.Prelude.{ℕ, min, Option, Some, None, option_map}
 use Rattle.push_base.specs.Limits.{max_number}
 use Rattle.dnsname.specs.Names.{Labels}
-use Rattle.pushserver.specs.Sessions.{Hub, Session, note_of, told, subscription_of}
+use Rattle.pushserver.specs.PlainHubs.{Hub, Session, note_of, told, subscription_of}
 use Rattle.pushserver.specs.Hubs.{newest, session_of}
 
 -- they are counted up to the last number

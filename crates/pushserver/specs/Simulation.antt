@@ -1,5 +1,4 @@
 -- What the calls do to the hub that is kept is what they do to the plain hub that it stands for.
---     SessionKeeps hub f g      a step of the kept session is this step of the plain one
 --     UpdatesStand, MomentsStand, ConnectsStand, TakesStand, StopsStand, EndsStand, GivesStand      each call
 --     HubsTell      what is told of records can be told
 --     CountsStand      both count alike
@@ -7,15 +6,12 @@ use Rattle.std.specs.Prelude.{◌≡◌, ℕ, List, Some}
 use Rattle.coalesce.specs.Waiting.{CanBePacked}
 use Rattle.history.specs.Totals.{totals}
 use Rattle.pushsession.specs.Kept.{KeptSession}
-use Rattle.pushserver.specs.Calls.{AreOctets}
-use Rattle.pushserver.specs.Sessions.{Session, Hub, Giving}
-use Rattle.pushserver.specs.Hubs.{session_of, records_now, update, moment, connect, taken_by, take_octets, stop, end_session}
+use Rattle.dsotlv.specs.Laws.{AreOctets}
+use Rattle.pushserver.specs.PlainHubs.{Hub, Giving}
+use Rattle.pushserver.specs.Hubs.{session_of, records_now, update, moment, connect, taken_by, take_octets, stop, disconnect}
 use Rattle.pushserver.specs.Giving.{give}
-use Rattle.pushserver.specs.Rule.{KeptHub, KeptGiving, SessionStandsFor, StandsFor}
+use Rattle.pushserver.specs.KeptHubs.{KeptHub, KeptGiving, StandsFor}
 use Rattle.pushserver.specs.Rows.{AreTold}
-
-abbrev pub SessionKeeps : Hub → (KeptSession → KeptSession) → (Session → Session) → Type 0
-SessionKeeps hub f g = (k : ℕ × KeptSession) (p : ℕ × Session) → SessionStandsFor hub k p → SessionStandsFor hub (k.0, f k.1) (p.0, g p.1)
 
 -- one answer, and the kept hub stands for the plain one
 abbrev pub BothAnswer : {X : Type 0} → X × KeptHub → X × Hub → Type 0
@@ -38,7 +34,7 @@ abbrev pub StopsStand : Type 0
 StopsStand = (k : KeptHub) (hub : Hub) (number rcode delay : ℕ) → StandsFor k hub → StandsFor (stop k number rcode delay) (stop hub number rcode delay)
 
 abbrev pub EndsStand : Type 0
-EndsStand = (k : KeptHub) (hub : Hub) (number : ℕ) → StandsFor k hub → StandsFor (end_session k number) (end_session hub number)
+EndsStand = (k : KeptHub) (hub : Hub) (number : ℕ) → StandsFor k hub → StandsFor (disconnect k number) (disconnect hub number)
 
 pub record BothGive (k : KeptGiving) (p : Giving) : Type 0 where
   pub octets : k.octets ≡ p.octets
@@ -55,4 +51,4 @@ HubsTell = (k : KeptHub) (hub : Hub) → StandsFor k hub
 
 -- as many entries of each group, and as many sessions ever made
 abbrev pub CountsStand : Type 0
-CountsStand = (k : KeptHub) (hub : Hub) → StandsFor k hub → (totals k.history ≡ totals hub.history) × (k.made ≡ hub.made)
+CountsStand = (k : KeptHub) (hub : Hub) → StandsFor k hub → (totals k.history ≡ totals hub.history) × (k.numbers_given ≡ hub.numbers_given)

@@ -17,7 +17,7 @@ use Rattle.dsotlv.specs.declared.message.Tlv.{Tlv}
 use Rattle.dsotlv.specs.declared.message.Notice.{Notice}
 use Rattle.dsotlv.specs.TlvKinds.{push_tlv}
 use Rattle.history.specs.States.{records_at}
-use Rattle.pushserver.specs.Sessions.{Hub, Session, Subscription, Made, Note, told, note_of, octets_made, written, sent}
+use Rattle.pushserver.specs.PlainHubs.{Hub, Session, Subscription, Made, Note, told, note_of, size_of_made, written, sent}
 use Rattle.pushserver.specs.Hubs.{newest}
 
 -- the notices of a PUSH; of any other message none
@@ -50,7 +50,7 @@ records_noted hub note question = matching question (records_at hub.start hub.hi
 
 -- The last of some messages is right: each subscription that was active then, and whose first answer is among them, has its records at the note's point.
 abbrev pub IsRightAfter : Hub → List Made → Made → Type 0
-IsRightAfter hub before m = AllByRecursion (λ s. s.filled ≤ octets_made (before ++ m ∷ []) → set_after (before ++ m ∷ []) s ≡ records_noted hub m.note s.question) m.subscribed
+IsRightAfter hub before m = AllByRecursion (λ s. s.filled ≤ size_of_made (before ++ m ∷ []) → set_after (before ++ m ∷ []) s ≡ records_noted hub m.note s.question) m.subscribed
 
 -- each message is right after those before it
 abbrev pub EachIsRight : Hub → List Made → List Made → Type 0

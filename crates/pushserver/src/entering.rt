@@ -4,7 +4,7 @@ ghost use Rattle.std.specs.Prelude.{◌≡◌, ◌++◌, ◌∷◌, [], true, On
 ghost use Rattle.history.specs.Keeping.{IsHeld};
 ghost use Rattle.history.specs.States.{entry_size, journal_has_room};
 ghost use Rattle.pushserver.specs.Hubs.{can_enter, entered, records_now};
-ghost use Rattle.pushserver.specs.KeptHubs.{IsSound, entry_changes, kept_of};
+ghost use Rattle.pushserver.specs.Keeping.{IsSound, entry_changes, kept_of};
 
 use crate::keeping::Keeping;
 use history::entry::Entry;

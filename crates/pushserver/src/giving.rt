@@ -3,7 +3,7 @@
 ghost use Rattle.std.specs.Prelude.{◌≡◌, length, IfOk, OnErr};
 ghost use Rattle.pushserver.specs.Hubs.{records_now};
 ghost use Rattle.pushserver.specs.Giving.{give};
-ghost use Rattle.pushserver.specs.KeptHubs.{Gave, IsSound, IsToJudge, WantsMemory, kept_of};
+ghost use Rattle.pushserver.specs.Keeping.{Gave, IsSound, IsToJudge, WantsMemory, kept_of};
 
 use crate::given::Given;
 use crate::keeping::Keeping;

@@ -5,10 +5,10 @@ ghost use Rattle.history.specs.Keeping.{state_of};
 ghost use Rattle.history.specs.Plans.{IsStart};
 ghost use Rattle.pushserver.specs.Counting.{MayAddChange, MayAddMoment, octets_of};
 ghost use Rattle.pushserver.specs.Giving.{give};
-ghost use Rattle.pushserver.specs.Hubs.{connect, empty_hub, end_session, max_sessions, moment, stop, take_octets, taken_by, update};
+ghost use Rattle.pushserver.specs.Hubs.{connect, empty_hub, disconnect, max_sessions, moment, stop, take_octets, taken_by, update};
 ghost use Rattle.pushserver.specs.Laws.{MayWantMemory};
-ghost use Rattle.pushserver.specs.Rule.{StandsFor, kept};
-ghost use Rattle.pushserver.specs.Sessions.{Hub as Plain, new_hub};
+ghost use Rattle.pushserver.specs.KeptHubs.{StandsFor, kept};
+ghost use Rattle.pushserver.specs.PlainHubs.{Hub as Plain, new_hub};
 
 use crate::fault::{ConnectFault, HubFault};
 use crate::given::Given;
@@ -26,8 +26,8 @@ pub struct Hub {
 }
 
 impl Model for Hub {
-    ghost use Rattle.pushserver.specs.KeptHubs.{IsHub, kept_of};
-    ghost use Rattle.pushserver.specs.Rule.{KeptHub};
+    ghost use Rattle.pushserver.specs.Keeping.{IsHub, kept_of};
+    ghost use Rattle.pushserver.specs.KeptHubs.{KeptHub};
 
     ghost Value = { KeptHub };
 
@@ -86,10 +86,10 @@ impl Hub {
         ensures err { OnErr result ((hub : Plain) → StandsFor self.old hub → StandsFor self.new hub) }
         ensures kept { IfOk result (λ number. ((connect self.old).0 ≡ Some number) × (self.new ≡ (connect self.old).1)) }
         ensures same { OnErr result (self.new ≡ self.old) }
-        ensures seat { IsErrOf result ConnectFault.NoMemory → (connect self.old).0 ≡ Some self.old.made }
+        ensures seat { IsErrOf result ConnectFault.NoMemory → (connect self.old).0 ≡ Some self.old.numbers_given }
         ensures seats { IsErrOf result ConnectFault.NoSeat → (connect self.old).0 ≡ None }
-        ensures counts { IfOk result (λ number. (number ≡ self.old.made) × (self.new.made ≡ self.old.made + 1) × (self.new.history ≡ self.old.history)) }
-        ensures many { IsErrOf result ConnectFault.NoSeat → max_sessions ≤ self.old.made }
+        ensures counts { IfOk result (λ number. (number ≡ self.old.numbers_given) × (self.new.numbers_given ≡ self.old.numbers_given + 1) × (self.new.history ≡ self.old.history)) }
+        ensures many { IsErrOf result ConnectFault.NoSeat → max_sessions ≤ self.old.numbers_given }
     {
         let Some(number) = self.keeping.connect()? else {
             return Err(ConnectFault::NoSeat);
@@ -125,8 +125,8 @@ impl Hub {
 
     /// A session's connection is gone: the session goes with its number.
     pub fn end(&mut self, session: u64)
-        ensures hub { (hub : Plain) → StandsFor self.old hub → StandsFor self.new (end_session hub session) }
-        ensures kept { self.new ≡ end_session self.old session }
+        ensures hub { (hub : Plain) → StandsFor self.old hub → StandsFor self.new (disconnect hub session) }
+        ensures kept { self.new ≡ disconnect self.old session }
     {
         self.keeping.end(session);
     }

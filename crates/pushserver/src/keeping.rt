@@ -8,9 +8,9 @@ ghost use Rattle.history.specs.Keeping.{state_of};
 ghost use Rattle.history.specs.Plans.{IsStart};
 ghost use Rattle.history.specs.Standing.{AreAtHome};
 ghost use Rattle.history.specs.States.{update_in};
-ghost use Rattle.pushserver.specs.Hubs.{connect, empty_hub, end_session, moment, records_now, stop, take_octets, taken_by, update};
-ghost use Rattle.pushserver.specs.Rule.{kept};
-ghost use Rattle.pushserver.specs.KeptHubs.{IsSound, kept_of};
+ghost use Rattle.pushserver.specs.Hubs.{connect, empty_hub, disconnect, moment, records_now, stop, take_octets, taken_by, update};
+ghost use Rattle.pushserver.specs.KeptHubs.{kept};
+ghost use Rattle.pushserver.specs.Keeping.{IsSound, kept_of};
 
 use crate::reading::read_message;
 use crate::sessions::{MAX_SESSIONS, Sessions};
@@ -30,7 +30,7 @@ pub(crate) struct Keeping {
     pub(crate) timers: Timers,
     pub(crate) index: Table,
     pub(crate) sessions: Sessions,
-    pub(crate) made: u64,
+    pub(crate) numbers_given: u64,
 }
 
 impl Keeping {
@@ -51,7 +51,7 @@ impl Keeping {
             timers,
             index,
             sessions: Sessions::new(alloc),
-            made: 0,
+            numbers_given: 0,
         })
     }
 
@@ -134,23 +134,23 @@ impl Keeping {
         ensures number { IfOk result (λ number. number ≡ (connect (kept_of self.old)).0) }
         ensures hub { IfOk result (λ number. kept_of self.new ≡ (connect (kept_of self.old)).1) }
         ensures err { OnErr result (kept_of self.new ≡ kept_of self.old) }
-        ensures seat { OnErr result ((connect (kept_of self.old)).0 ≡ Some self.old.made) }
+        ensures seat { OnErr result ((connect (kept_of self.old)).0 ≡ Some self.old.numbers_given) }
         ensures index { self.new.index.rows ≡ records_now (kept_of self.new) }
     {
-        if self.sessions.len() >= MAX_SESSIONS || self.made == u64::MAX {
+        if self.sessions.len() >= MAX_SESSIONS || self.numbers_given == u64::MAX {
             return Ok(None);
         }
-        let number = self.made;
+        let number = self.numbers_given;
         let session = PushSession::new(self.allocator(), self.points.now())?;
         self.sessions.push(number, session)?;
-        self.made = number + 1;
+        self.numbers_given = number + 1;
         Ok(Some(number))
     }
 
     /// The session of a number goes.
     pub(crate) fn end(&mut self, number: u64)
         requires { IsSound self.old }
-        ensures hub { kept_of self.new ≡ end_session (kept_of self.old) number }
+        ensures hub { kept_of self.new ≡ disconnect (kept_of self.old) number }
         ensures index { self.new.index.rows ≡ records_now (kept_of self.new) }
     {
         self.sessions.remove(number);

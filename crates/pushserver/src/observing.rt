@@ -3,9 +3,9 @@
 ghost use Rattle.std.specs.Prelude.{◌≡◌, is_some};
 ghost use Rattle.history.specs.Totals.{totals};
 ghost use Rattle.pushserver.specs.Hubs.{newest, now, session_of};
-ghost use Rattle.pushserver.specs.Sessions.{Hub as Plain};
+ghost use Rattle.pushserver.specs.PlainHubs.{Hub as Plain};
 ghost use Rattle.pushserver.specs.Observing.{filled_in, told_in};
-ghost use Rattle.pushserver.specs.Rule.{StandsFor};
+ghost use Rattle.pushserver.specs.KeptHubs.{StandsFor};
 
 use crate::hub::Hub;
 use dnsname::Name;
@@ -38,10 +38,10 @@ impl Hub {
 
     /// How many sessions were ever connected.
     pub fn made(&self) -> u64
-        ensures hub { (hub : Plain) → StandsFor self.now hub → result ≡ hub.made }
-        ensures kept { result ≡ self.now.made }
+        ensures hub { (hub : Plain) → StandsFor self.now hub → result ≡ hub.numbers_given }
+        ensures kept { result ≡ self.now.numbers_given }
     {
-        self.keeping.made
+        self.keeping.numbers_given
     }
 
     /// Whether there is a session of a number.

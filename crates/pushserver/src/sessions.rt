@@ -7,7 +7,7 @@ ghost use Rattle.pushsession.specs.Sessions.{noted, timed};
 ghost use Rattle.pushsession.specs.Kept.{keeping, taken_back};
 ghost use Rattle.pushserver.specs.Hubs.{all_sessions, session_in, without_session};
 ghost use Rattle.pushserver.specs.Lending.{LendsSession};
-ghost use Rattle.pushserver.specs.Seats.{AreApart, WaitBefore};
+ghost use Rattle.pushserver.specs.NumberedSessions.{AreApart, WaitBefore};
 
 use pushsession::{NoMemory, PushSession};
 use rrset::{Changed, Table};
@@ -20,87 +20,87 @@ pub const MAX_SESSIONS: usize = 64;
 /// Sessions with their numbers, in the order in which they were connected. No two have one number.
 #[derive(Debug, Drop)]
 pub(crate) struct Sessions {
-    seats: Vec<(u64, PushSession)>,
+    numbered: Vec<(u64, PushSession)>,
 }
 
 impl Model for Sessions {
     ghost use Rattle.pushsession.specs.Kept.{KeptSession};
     ghost use Rattle.pushserver.specs.Hubs.{Numbered};
-    ghost use Rattle.pushserver.specs.Seats.{AreApart};
+    ghost use Rattle.pushserver.specs.NumberedSessions.{AreApart};
 
     ghost Value = { Numbered KeptSession };
 
-    ghost view = { λ s. s.seats.items };
+    ghost view = { λ s. s.numbered.items };
 
-    ghost invariant = { λ s. AreApart s.seats.items };
+    ghost invariant = { λ s. AreApart s.numbered.items };
 }
 
 /// Where the session of a number stands.
-fn place_of(seats: &[(u64, PushSession)], number: u64) -> Option<usize>
-    ensures { result ≡ position (λ e. e.0 == number) seats.now }
+fn place_of(numbered: &[(u64, PushSession)], number: u64) -> Option<usize>
+    ensures { result ≡ position (λ e. e.0 == number) numbered.now }
 {
-    seats.iter().position(|entry| entry.0 == number)
+    numbered.iter().position(|entry| entry.0 == number)
 }
 
 /// Each session notes what an entry is about to change, as far as there is memory.
 fn note_all(
-    seats: &mut [(u64, PushSession)],
+    numbered: &mut [(u64, PushSession)],
     changed: &[Changed],
     index: &Table,
     point: u64,
 ) -> Result<(), NoMemory>
-    ensures ok { OnOk result (seats.new ≡ all_sessions (noted keeping changed.now index.now.rows point) seats.old) }
-    ensures err { OnErr result (all_sessions (taken_back point) seats.new ≡ all_sessions (taken_back point) seats.old) }
+    ensures ok { OnOk result (numbered.new ≡ all_sessions (noted keeping changed.now index.now.rows point) numbered.old) }
+    ensures err { OnErr result (all_sessions (taken_back point) numbered.new ≡ all_sessions (taken_back point) numbered.old) }
 {
-    'seats: for place in 0..seats.len() {
-        seats[place].1.note(changed, index, point)?;
+    'numbered: for place in 0..numbered.len() {
+        numbered[place].1.note(changed, index, point)?;
     }
     Ok(())
 }
 
 /// Takes out the names that wait since a point or a later one.
-fn take_back_all(seats: &mut [(u64, PushSession)], point: u64)
-    ensures { seats.new ≡ all_sessions (taken_back point) seats.old }
+fn take_back_all(numbered: &mut [(u64, PushSession)], point: u64)
+    ensures { numbered.new ≡ all_sessions (taken_back point) numbered.old }
 {
-    'seats: for place in 0..seats.len() {
-        seats[place].1.take_back(point);
+    'numbered: for place in 0..numbered.len() {
+        numbered[place].1.take_back(point);
     }
 }
 
 /// Each session notes what an entry is about to change at a point, or none does.
 fn note_or_none(
-    seats: &mut [(u64, PushSession)],
+    numbered: &mut [(u64, PushSession)],
     changed: &[Changed],
     index: &Table,
     point: u64,
 ) -> Result<(), NoMemory>
-    requires { WaitBefore point seats.old }
-    ensures ok { OnOk result (seats.new ≡ all_sessions (noted keeping changed.now index.now.rows point) seats.old) }
-    ensures err { OnErr result (seats.new ≡ seats.old) }
+    requires { WaitBefore point numbered.old }
+    ensures ok { OnOk result (numbered.new ≡ all_sessions (noted keeping changed.now index.now.rows point) numbered.old) }
+    ensures err { OnErr result (numbered.new ≡ numbered.old) }
 {
-    match note_all(seats, changed, index, point) {
+    match note_all(numbered, changed, index, point) {
         Ok(()) => Ok(()),
         Err(_) => {
-            take_back_all(seats, point);
+            take_back_all(numbered, point);
             Err(NoMemory)
         }
     }
 }
 
 /// It is a moment for each session, in milliseconds.
-fn time_all(seats: &mut [(u64, PushSession)], at: u64)
-    ensures { seats.new ≡ all_sessions (timed keeping at) seats.old }
+fn time_all(numbered: &mut [(u64, PushSession)], at: u64)
+    ensures { numbered.new ≡ all_sessions (timed keeping at) numbered.old }
 {
-    'seats: for place in 0..seats.len() {
-        seats[place].1.moment(at);
+    'numbered: for place in 0..numbered.len() {
+        numbered[place].1.moment(at);
     }
 }
 
 /// The sessions without that of a number.
-fn without(seats: &mut Vec<(u64, PushSession)>, number: u64)
-    ensures { seats.new.items ≡ filter (λ e. not (e.0 == number)) seats.old.items }
+fn without(numbered: &mut Vec<(u64, PushSession)>, number: u64)
+    ensures { numbered.new.items ≡ filter (λ e. not (e.0 == number)) numbered.old.items }
 {
-    seats.retain(|entry| entry.0 != number);
+    numbered.retain(|entry| entry.0 != number);
 }
 
 impl Sessions {
@@ -109,28 +109,28 @@ impl Sessions {
         ensures { result ≡ [] }
     {
         Sessions {
-            seats: Vec::new(alloc),
+            numbered: Vec::new(alloc),
         }
     }
 
     /// The allocator of all that is kept.
     pub(crate) fn allocator(&self) -> Global {
-        *self.seats.allocator()
+        *self.numbered.allocator()
     }
 
     /// How many there are.
     pub(crate) fn len(&self) -> usize
         ensures { result ≡ length self.now }
     {
-        self.seats.len()
+        self.numbered.len()
     }
 
     /// The session of a number.
     pub(crate) fn get(&self, number: u64) -> Option<&PushSession>
         ensures { MatchOption result (session_in number self.now ≡ None) (λ session. session_in number self.now ≡ Some session.now) }
     {
-        match place_of(&self.seats, number) {
-            Some(place) => Some(&self.seats[place].1),
+        match place_of(&self.numbered, number) {
+            Some(place) => Some(&self.numbered[place].1),
             None => None,
         }
     }
@@ -141,8 +141,8 @@ impl Sessions {
         ensures value { MatchOption result (session_in number self.old ≡ None) (λ session. session_in number self.old ≡ Some session.now) }
         ensures apart { AreApart self.old }
     {
-        match place_of(&self.seats, number) {
-            Some(place) => Some(&mut self.seats[place].1),
+        match place_of(&self.numbered, number) {
+            Some(place) => Some(&mut self.numbered[place].1),
             None => None,
         }
     }
@@ -153,14 +153,14 @@ impl Sessions {
         ensures ok { OnOk result (self.new ≡ self.old ++ (number, session) ∷ []) }
         ensures err { OnErr result (self.new ≡ self.old) }
     {
-        Ok(self.seats.push((number, session))?)
+        Ok(self.numbered.push((number, session))?)
     }
 
     /// The session of a number goes.
     pub(crate) fn remove(&mut self, number: u64)
         ensures { self.new ≡ without_session number self.old }
     {
-        without(&mut self.seats, number);
+        without(&mut self.numbered, number);
     }
 
     /// Each session notes what an entry is about to change at a point, or none does (RFC 8765, 6.3).
@@ -174,20 +174,20 @@ impl Sessions {
         ensures ok { OnOk result (self.new ≡ all_sessions (noted keeping changed.now index.now.rows point) self.old) }
         ensures err { OnErr result (self.new ≡ self.old) }
     {
-        note_or_none(&mut self.seats, changed, index, point)
+        note_or_none(&mut self.numbered, changed, index, point)
     }
 
     /// Takes out the names that wait since a point or a later one, where the entry at the point wasn't made.
     pub(crate) fn take_back(&mut self, point: u64)
         ensures { self.new ≡ all_sessions (taken_back point) self.old }
     {
-        take_back_all(&mut self.seats, point);
+        take_back_all(&mut self.numbered, point);
     }
 
     /// It is a moment for each session, in milliseconds (RFC 8490, 6.4 to 6.6).
     pub(crate) fn moment(&mut self, at: u64)
         ensures { self.new ≡ all_sessions (timed keeping at) self.old }
     {
-        time_all(&mut self.seats, at);
+        time_all(&mut self.numbered, at);
     }
 }

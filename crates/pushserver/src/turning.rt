@@ -3,13 +3,12 @@
 ghost use Rattle.std.specs.Prelude.{◌≡◌, ◌++◌, [], ℕ, drop, if◌then◌else◌, length, min, take, IfOk, OnErr};
 ghost use Rattle.push_base.specs.Cases.{is_empty};
 ghost use Rattle.coalesce.specs.Waiting.{CanBePacked};
-ghost use Rattle.pushsession.specs.Sessions.{copied, ended_with, stopped};
+ghost use Rattle.pushsession.specs.Sessions.{copied, stopped};
 ghost use Rattle.pushsession.specs.Kept.{keeping};
-ghost use Rattle.dsosession.specs.declared.session.EndReason.TheVariants as ends;
 ghost use Rattle.pushserver.specs.Giving.{given_after, has_home};
-ghost use Rattle.pushserver.specs.KeptHubs.{IsSeated, Turns, WantsMemoryFor};
+ghost use Rattle.pushserver.specs.Keeping.{IsSeated, Turns, WantsMemoryFor};
 ghost use Rattle.pushserver.specs.Rows.{AreTold};
-ghost use Rattle.pushserver.specs.Rule.{KeptHub};
+ghost use Rattle.pushserver.specs.KeptHubs.{KeptHub};
 ghost use Rattle.pushserver.specs.declared.given.Given.TheVariants.{Bytes};
 ghost use Rattle.pushsession.specs.declared.standing.Standing.TheVariants.{Live};
 
@@ -69,7 +68,7 @@ pub(crate) fn after_reaction(session: &mut PushSession, buf: &mut [u8]) -> Given
 /// A session that was asked to stop writes its Retry Delay, or ends where it isn't established (RFC 8490, 6.6.1).
 fn stop(session: &mut PushSession, rcode: u8, delay: u32, now: u64)
     requires { session.old.output ≡ [] }
-    ensures { session.new ≡ (if session.old.established then stopped keeping rcode delay now session.old else ended_with keeping ends.Stopped session.old) }
+    ensures { session.new ≡ stopped keeping rcode delay now session.old }
 {
     if session.established() {
         session.write_stop(rcode, delay, now);

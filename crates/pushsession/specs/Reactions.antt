@@ -1,26 +1,59 @@
--- How a session reacts to a message for which it needs nothing of the server (RFC 8490, 5; RFC 8765, 6).
+-- How a session reacts to a message (RFC 8490, 5; RFC 8765, 6).
+--     request_for      which reactions need the server, and what each needs
+--     IsRead, TakesMemory      whether something is read for it
 --     heard      a message restarts the timers
 --     granted, unsubscribed      a Keepalive is granted; an ID goes with its question
---     by_itself      what a reaction does
+--     by_itself      what a reaction does for which nothing is needed
 --     ends_short, ends_reconfirm, answers_update      a message without a whole header; a RECONFIRM of no record; an update that was judged
-use Rattle.std.specs.Prelude.{ℕ, true, false, List}
+use Rattle.std.specs.Prelude.{ℕ, true, false, List, Option, Some, None}
 use Rattle.std.specs.Int.{w16, from_be_bytes}
 use Rattle.rrset.specs.Header.{id_of}
 use Rattle.dsotlv.specs.Messages.{primary_data}
+use Rattle.dsotlv.specs.Notices.{question_of, reconfirm_of}
 use Rattle.dsotlv.specs.Answers.{answer_to, answer_to_update, grant_to, not_implemented}
 use Rattle.dsotlv.specs.TlvKinds.{reconfirm_tlv}
 use Rattle.dsotlv.specs.declared.message.DsoHead.{DsoHead}
 use Rattle.dsosession.specs.Reactions.{is_keepalive}
-use Rattle.dsosession.specs.Timing.{server_spoke}
+use Rattle.dsosession.specs.Timing.{restarted}
 use Rattle.dsosession.specs.declared.session.EndReason.TheVariants as ends
 use Rattle.dsosession.specs.declared.session.Timers.{Timers}
 use Rattle.dsosession.specs.declared.session.Reaction.{Reaction}
 use Rattle.dsosession.specs.declared.session.Reaction.TheVariants.{Answer, Grant, Abort, Subscribe, Unsubscribe, Reconfirm, Update, NotImplemented}
+use Rattle.pushsession.specs.declared.request.Request.{Request}
+use Rattle.pushsession.specs.declared.request.Request.TheVariants as requests
 use Rattle.pushsession.specs.Sessions.{SessionOf, Keeps, answers, ended_with}
+
+-- ---- what is needed of the server
+
+-- a question's home and records (RFC 8765, 6.2); the reconfirming of a record (RFC 8765, 6.5); the judging of an update (RFC 2136, 3)
+abbrev pub request_for : Reaction → List ℕ → Request
+request_for Subscribe message = requests.Subscribe (question_of (primary_data message))
+request_for Reconfirm message = requests.Reconfirm (reconfirm_of (primary_data message))
+request_for Update message = requests.Update
+request_for (Answer rcode) message = requests.Itself
+request_for Grant message = requests.Itself
+request_for (Abort reason) message = requests.Itself
+request_for Unsubscribe message = requests.Itself
+request_for NotImplemented message = requests.Itself
+
+-- a question and a record are read from the message's data
+abbrev pub IsRead : Option Request → Type 0
+IsRead (Some (requests.Subscribe question)) = Unit {0}
+IsRead (Some (requests.Reconfirm rr)) = Unit {0}
+IsRead (Some requests.Itself) = ⊥
+IsRead (Some requests.Update) = ⊥
+IsRead None = ⊥
+
+-- memory is taken for these, and for an update
+abbrev pub TakesMemory : Option Request → Type 0
+TakesMemory (Some requests.Update) = Unit {0}
+TakesMemory request = IsRead request
+
+-- ---- what a session does by itself
 
 -- a message with a whole header restarts the timers (RFC 8490, 6.3)
 abbrev pub heard : {A Q M : Type 0} → DsoHead → ℕ → SessionOf A Q M → SessionOf A Q M
-heard head now session = record session { clocks = server_spoke (is_keepalive head) now session.clocks }
+heard head now session = record session { clocks = restarted (is_keepalive head) now session.clocks }
 
 -- the answer establishes the session, and the server's numbers hold from it on (RFC 8490, 5.1 and 7.1)
 abbrev pub granted : {A Q M : Type 0} → Timers → SessionOf A Q M → SessionOf A Q M
@@ -30,7 +63,7 @@ granted timers session = record session { established = true; clocks = record se
 abbrev pub unsubscribed : {A Q M : Type 0} → Keeps A Q M → ℕ → SessionOf A Q M → SessionOf A Q M
 unsubscribed keeps id session = record session { subscriptions = keeps.without_id id session.subscriptions }
 
--- a SUBSCRIBE, a RECONFIRM and an update need the server, and change nothing by themselves
+-- what needs the server changes nothing by itself
 abbrev pub by_itself : {A Q M : Type 0} → Keeps A Q M → Reaction → Timers → ℕ → List ℕ → SessionOf A Q M → SessionOf A Q M
 by_itself keeps (Answer rcode) timers now message session = answers keeps false now (answer_to (id_of message) rcode) session
 by_itself keeps Grant timers now message session = granted timers (answers keeps true now (grant_to (id_of message) timers.inactivity timers.keepalive) session)

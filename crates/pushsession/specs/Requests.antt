@@ -2,23 +2,20 @@
 --     first_waiting, message_of, rest_of      the first whole message, if one waits; what is behind it
 --     taken_up now      it leaves the input, and restarts the timers
 --     request_in, request_of      what is needed for a message; for the first one
---     IsRead request      whether it is one whose data is read
 --     reacted, subscribed_by, updated, reconfirmed      the first message is reacted to
 --     CanBeTold      records as nets are made of
 use Rattle.std.specs.Prelude.{ℕ, Bool, true, List, [], Option, Some, None, option_map, unwrap_or, IsTrue, if◌then◌else◌}
 use Rattle.rrset.specs.Header.{id_of}
 use Rattle.rrset.specs.RecordSet.{RecordSet, at_name}
 use Rattle.rrset.specs.declared.record.Question.{Question}
-use Rattle.dsotlv.specs.Messages.{first_message, head_of, primary_data}
-use Rattle.dsotlv.specs.Notices.{question_of, reconfirm_of}
+use Rattle.dsotlv.specs.Messages.{first_message, head_of}
 use Rattle.coalesce.specs.Laws.{can_be_sent}
 use Rattle.coalesce.specs.Sides.{IsOneSide}
 use Rattle.dsosession.specs.Reactions.{server_reaction}
 use Rattle.dsosession.specs.declared.session.Timers.{Timers}
-use Rattle.dsosession.specs.declared.session.Reaction.{Reaction}
-use Rattle.dsosession.specs.declared.session.Reaction.TheVariants.{Answer, Grant, Abort, Subscribe, Unsubscribe, Reconfirm, Update, NotImplemented}
+use Rattle.pushsession.specs.Sessions.{without_first}
 use Rattle.pushsession.specs.Subscribing.{answered}
-use Rattle.pushsession.specs.Reactions.{heard, by_itself, ends_short, ends_reconfirm, answers_update}
+use Rattle.pushsession.specs.Reactions.{heard, by_itself, ends_short, ends_reconfirm, answers_update, request_for}
 use Rattle.pushsession.specs.Kept.{KeptSession, keeping, telling}
 use Rattle.pushsession.specs.declared.request.Request.{Request}
 use Rattle.pushsession.specs.declared.request.Request.TheVariants as requests
@@ -38,23 +35,11 @@ rest_of input = unwrap_or (option_map (λ found. found.1) (first_message input))
 
 -- the first message leaves the input; with a whole header it restarts the timers (RFC 8490, 6.3)
 abbrev pub taken_up : ℕ → KeptSession → KeptSession
-taken_up now session = record session {
-  input = rest_of session.input;
+taken_up now session = record (without_first (rest_of session.input) session) {
   clocks = elim (head_of (message_of session)) [ None ↦ session.clocks | Some head ↦ (heard head now session).clocks ];
 }
 
 -- ---- what is needed for it
-
--- a question's home and records (RFC 8765, 6.2); the reconfirming of a record (RFC 8765, 6.5); the judging of an update (RFC 2136, 3)
-abbrev pub request_for : Reaction → List ℕ → Request
-request_for Subscribe message = requests.Subscribe (question_of (primary_data message))
-request_for Reconfirm message = requests.Reconfirm (reconfirm_of (primary_data message))
-request_for Update message = requests.Update
-request_for (Answer rcode) message = requests.Itself
-request_for Grant message = requests.Itself
-request_for (Abort reason) message = requests.Itself
-request_for Unsubscribe message = requests.Itself
-request_for NotImplemented message = requests.Itself
 
 abbrev pub request_in : List ℕ → Bool → Request
 request_in message established = elim (head_of message) [
@@ -64,14 +49,6 @@ request_in message established = elim (head_of message) [
 
 abbrev pub request_of : KeptSession → Option Request
 request_of session = option_map (λ message. request_in message session.established) (first_waiting session)
-
--- a question and a record are read from the message's data
-abbrev pub IsRead : Option Request → Type 0
-IsRead (Some (requests.Subscribe question)) = Unit {0}
-IsRead (Some (requests.Reconfirm rr)) = Unit {0}
-IsRead (Some requests.Itself) = ⊥
-IsRead (Some requests.Update) = ⊥
-IsRead None = ⊥
 
 -- ---- what each call makes of it
 

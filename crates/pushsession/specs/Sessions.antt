@@ -2,10 +2,11 @@
 -- wait to be told, and of what it wrote. The plain session and the session as it is kept both have them.
 --     SessionOf      a session
 --     Keeps      what the rules ask of what a session keeps
---     new_session, room_of, takes, copied      connected; octets come in; octets of the output are handed on
+--     new_session, room_of, takes, without_first, copied      connected; octets come in; the first message leaves; octets of the output are handed on
 --     asked_to_stop, due, timed, ended_with      how a session comes to its end
 --     touched, noted      an entry changes keys, and their names wait
---     says, answers, stopped      a message is written; with the names that wait then; the Retry Delay
+--     says, answers      a message is written; with the names that wait then
+--     says_stop, stopped      the Retry Delay; what a session does that was asked to stop
 use Rattle.std.specs.Prelude.{ℕ, ◌-◌, Bool, true, false, cond, List, [], ◌++◌, map, length, take, drop, filter, fold, Option, Some, None, if◌then◌else◌}
 use Rattle.push_base.specs.Limits.{max_input}
 use Rattle.dnsname.specs.Names.{Labels}
@@ -15,7 +16,7 @@ use Rattle.rrset.specs.declared.record.Question.{Question}
 use Rattle.rrset.specs.declared.record.Changed.{Changed}
 use Rattle.dsotlv.specs.Messages.{frame}
 use Rattle.dsotlv.specs.Answers.{stop_message}
-use Rattle.dsosession.specs.Timing.{Clocks, server_start, server_spoke, server_ends, has_passed, stop_time}
+use Rattle.dsosession.specs.Timing.{Clocks, new_clocks, restarted, server_ends, has_passed, stop_time}
 use Rattle.dsosession.specs.declared.session.EndReason.{EndReason}
 use Rattle.dsosession.specs.declared.session.EndReason.TheVariants as ends
 use Rattle.pushsession.specs.declared.standing.Standing.{Standing}
@@ -58,7 +59,7 @@ abbrev pub new_session : {A Q M : Type 0} → Keeps A Q M → ℕ → SessionOf 
 new_session keeps now = record {
   subscriptions = keeps.no_questions;
   queue = keeps.no_names;
-  clocks = server_start now;
+  clocks = new_clocks now;
   established = false;
   standing = Live;
   input = [];
@@ -79,6 +80,10 @@ room_of session = cond (is_open session.standing) (max_input - length session.in
 
 abbrev pub takes : {A Q M : Type 0} → List ℕ → SessionOf A Q M → SessionOf A Q M
 takes piece session = record session { input = session.input ++ take (room_of session) piece }
+
+-- its first message is taken up, and this is what stood behind it
+abbrev pub without_first : {A Q M : Type 0} → List ℕ → SessionOf A Q M → SessionOf A Q M
+without_first rest session = record session { input = rest }
 
 -- the front of the output that fits is handed on
 abbrev pub copied : {A Q M : Type 0} → ℕ → SessionOf A Q M → SessionOf A Q M
@@ -130,13 +135,17 @@ abbrev pub says : {A Q M : Type 0} → Keeps A Q M → Bool → ℕ → List ℕ
 says keeps is_keepalive now message waiting session = record session {
   output = session.output ++ frame message;
   made = keeps.with_message message waiting session.subscriptions session.made;
-  clocks = server_spoke is_keepalive now session.clocks;
+  clocks = restarted is_keepalive now session.clocks;
 }
 
 -- a message made while the names wait that do so now
 abbrev pub answers : {A Q M : Type 0} → Keeps A Q M → Bool → ℕ → List ℕ → SessionOf A Q M → SessionOf A Q M
 answers keeps is_keepalive now message session = says keeps is_keepalive now message session.queue session
 
--- the Retry Delay is written (RFC 8490, 6.6.1)
+-- the Retry Delay is written, and the session waits for its end
+abbrev pub says_stop : {A Q M : Type 0} → Keeps A Q M → ℕ → ℕ → ℕ → SessionOf A Q M → SessionOf A Q M
+says_stop keeps rcode delay now session = cleared keeps (Stopped now) (answers keeps false now (stop_message rcode delay) session)
+
+-- a session that was asked to stop says so, and one that isn't established ends at once (RFC 8490, 6.6.1)
 abbrev pub stopped : {A Q M : Type 0} → Keeps A Q M → ℕ → ℕ → ℕ → SessionOf A Q M → SessionOf A Q M
-stopped keeps rcode delay now session = cleared keeps (Stopped now) (answers keeps false now (stop_message rcode delay) session)
+stopped keeps rcode delay now session = if session.established then says_stop keeps rcode delay now session else ended_with keeps ends.Stopped session

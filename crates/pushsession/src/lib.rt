@@ -13,8 +13,6 @@ pub mod standing;
 mod streams;
 mod subscribing;
 mod taking;
-#[cfg(test)]
-mod tests;
 
 ghost use Rattle.std.specs.Prelude.{◌≡◌, ◌++◌, [], ◌∷◌, true, false, codes, None, Some};
 ghost use Rattle.push_base.specs.Hexadecimal.{hex};

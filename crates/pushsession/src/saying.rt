@@ -3,7 +3,7 @@
 ghost use Rattle.std.specs.Prelude.{◌≡◌, ◌+◌, ◌<◌, ◌≤◌, ◌^◌, ◌++◌, [], length};
 ghost use Rattle.coalesce.specs.Sides.{frame_octets};
 ghost use Rattle.coalesce.specs.Waiting.{CanBePacked};
-ghost use Rattle.pushsession.specs.Sessions.{answers, stopped};
+ghost use Rattle.pushsession.specs.Sessions.{answers, says_stop};
 ghost use Rattle.pushsession.specs.Subscribing.{packs};
 ghost use Rattle.pushsession.specs.Kept.{keeping, telling};
 
@@ -31,7 +31,7 @@ impl PushSession {
     /// 6.6.1).
     pub fn write_stop(&mut self, rcode: u8, delay: u32, now: u64)
         requires { self.old.output ≡ [] }
-        ensures { self.new ≡ stopped keeping rcode delay now self.old }
+        ensures { self.new ≡ says_stop keeping rcode delay now self.old }
     {
         let header = header(0, REQUEST + u16::from(rcode));
         self.say(false, now, &header, &retry_delay(delay));

@@ -4,16 +4,7 @@ ghost use Rattle.std.specs.Prelude.{◌≡◌, ◌++◌, drop, length, min, take
 ghost use Rattle.pushsession.specs.Sessions.{copied, room_of, takes};
 
 use crate::session::PushSession;
-
-/// Copies the front of the octets that fits, and gives its length.
-fn copy_front(octets: &[u8], buf: &mut [u8]) -> usize
-    ensures count { result ≡ min (length buf.old) (length octets.now) }
-    ensures octets { buf.new ≡ take (length buf.old) octets.now ++ drop (length octets.now) buf.old }
-{
-    let count = buf.len().min(octets.len());
-    buf[..count].copy_from_slice(&octets[..count]);
-    count
-}
+use dsotlv::copy_front;
 
 impl PushSession {
     /// Takes the longest front of a piece of the input for which there is room, and gives its length (RFC 7766, 8). A

@@ -17,14 +17,14 @@ use Rattle.history.specs.declared.entry.Entry.{Entry}
 use Rattle.coalesce.proofs.ReadBack.{each-append}
 use Rattle.pushsession.specs.Sessions.{says, answers}
 use Rattle.pushsession.specs.Subscribing.{subscribed, says_first_answer, first_answer_size, accepts}
-use Rattle.pushserver.specs.Sessions.{Hub, Session, Subscription, Made, note_of, written, first_answer, plain_keeps}
+use Rattle.pushserver.specs.PlainHubs.{Hub, Session, Subscription, Made, note_of, written, first_answer, plain_keeps}
 use Rattle.pushserver.specs.Hubs.{newest, now, keeps_now, tells_now}
 use Rattle.rrset.proofs.Distinct.{or_false, distinct_push}
 use Rattle.pushserver.proofs.hub_steps.Pairs.{all-weaken}
 use Rattle.pushserver.proofs.session_steps.Lists.{each-both}
 use Rattle.pushserver.specs.ToldMessages.{set_after, notices_in}
 use Rattle.pushserver.proofs.told_rows.HubTells.{StatesTell}
-use Rattle.pushtelling.proofs.Messages.{LeadsTo, LeadsIfFilled, noted_records, each_right-append, set_after-append, set_after-quiet, set_after-answer, octets_made-append}
+use Rattle.pushtelling.proofs.Messages.{LeadsTo, LeadsIfFilled, noted_records, each_right-append, set_after-append, set_after-quiet, set_after-answer, size_of_made-append}
 use Rattle.pushtelling.proofs.Notes.{told-left, notes-says}
 use Rattle.pushtelling.proofs.Tells.{Tells, Almost, almost-left, tells-says, made_now, IsReadBack}
 use Rattle.pushtelling.proofs.Quiet.{answer-itself, answer-other, other_flags}
@@ -135,7 +135,7 @@ module _ (hub : Hub) (session : Session) (id : ℕ) (question : Question) where
               (all-weaken (LeadsTo hub.start hub.history (session.made ++ answered (n ∷ ns) ∷ []) (before hub session question)) (LeadsIfFilled hub.start hub.history (session.made ++ answered (n ∷ ns) ∷ []) (before hub session question))
               (λ s e filled. e) session.subscriptions (quiet-others (answered (n ∷ ns)) refl)) (
                 λ filled. absurd (too_early (written session) (length (frame answer)) (size_of_push (n ∷ ns)) (frame-positive (push_message (n ∷ ns)))
-                    (subst (λ k. written session + (length (frame answer) + size_of_push (n ∷ ns)) ≤ k) (octets_made-append session.made (answered (n ∷ ns))) filled)),
+                    (subst (λ k. written session + (length (frame answer) + size_of_push (n ∷ ns)) ≤ k) (size_of_made-append session.made (answered (n ∷ ns))) filled)),
                 tt,
               ));
           notes = notes-says session.made (answered (n ∷ ns)) (note_of (newest hub) (taken (n ∷ ns))) h.most.notes (told-left (stays hub session question) (stays-alike hub session question) (newest hub) session.queue h.most.points);
@@ -165,7 +165,7 @@ module _ (hub : Hub) (session : Session) (id : ℕ) (question : Question) where
         m = made_now hub.start hub.history (behind (n ∷ ns)) (push_message (n ∷ ns))
 
         grown : written (behind (n ∷ ns)) ≡ written session + length (frame answer)
-        grown = octets_made-append session.made (answered (n ∷ ns))
+        grown = size_of_made-append session.made (answered (n ∷ ns))
 
         pushed : (s : Subscription) → set_after ((session.made ++ answered (n ∷ ns) ∷ []) ++ m ∷ []) s ≡ applied_all (first_answer hub session question) s.question (set_after (session.made ++ answered (n ∷ ns) ∷ []) s)
         pushed s = set_after-append (session.made ++ answered (n ∷ ns) ∷ []) m s (other_flags (push_message (n ∷ ns)) s.id refl) ∙ ap (λ all. applied_all all s.question (set_after (session.made ++ answered (n ∷ ns) ∷ []) s)) (read ∙ sym some)

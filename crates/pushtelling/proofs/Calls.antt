@@ -6,13 +6,13 @@ use Rattle.history.proofs.Starts.{home-start}
 use Rattle.history.specs.States.{State, records_at}
 use Rattle.pushserver.specs.Calls.{HubCall, updates, takes, after_calls, BringsOctets}
 use Rattle.pushserver.specs.Hubs.{newest}
-use Rattle.pushserver.specs.Sessions.{Hub, Session, Subscription, told, note_of, new_hub, sent}
+use Rattle.pushserver.specs.PlainHubs.{Hub, Session, Subscription, told, note_of, new_hub, sent}
 use Rattle.pushserver.specs.ToldMessages.{TellsHistory, set_after}
 use Rattle.pushserver.proofs.AskedFor.{IsAsked, all_asked, matching-sent}
 use Rattle.pushserver.proofs.Walks.{AnyMessage, BringsGood, bring_any, keeps-calls}
 use Rattle.pushserver.proofs.hub_steps.Pairs.{all-weaken}
 use Rattle.pushserver.proofs.session_steps.Lists.{each-both}
-use Rattle.pushserver.proofs.told_rows.Entered.{AreBelow, are_below}
+use Rattle.dsotlv.specs.Laws.{AreOctets}
 use Rattle.pushserver.proofs.told_rows.Hubs.{new_tells}
 use Rattle.pushserver.proofs.told_rows.Updated.{start-tellable}
 use Rattle.pushtelling.specs.Laws.{IsStartOfZones, SessionsTellTheHistory, MessagesStay}
@@ -21,10 +21,10 @@ use Rattle.pushtelling.proofs.Hubs.{HubTells, hub_keeps}
 use Rattle.pushtelling.proofs.Messages.{LeadsTo, each_right-hub}
 use Rattle.pushtelling.proofs.Tells.{Tells}
 
-brings-below : (call : HubCall) → BringsOctets call → BringsGood AreBelow call
-brings-below (updates message) octets = are_below message octets
-brings-below (takes number piece) octets = are_below piece octets
-brings-below _ octets = tt
+brings-good : (call : HubCall) → BringsOctets call → BringsGood AreOctets call
+brings-good (updates message) octets = octets
+brings-good (takes number piece) octets = octets
+brings-good _ octets = tt
 
 pub new-hub : (start : State) (timers : Timers) → IsStartOfZones start → HubTells (new_hub start timers)
 new-hub start timers is = record { states = new_tells start timers (start-tellable start is.begins (home-start start is.links is.together is.begins) is.names); sessions = tt }
@@ -46,8 +46,8 @@ tells_history hub session h = record {
 pub sessions_tell : SessionsTellTheHistory
 sessions_tell start timers calls is octets =
     let hub = after_calls calls (new_hub start timers) in
-    let below = all-weaken BringsOctets (BringsGood AreBelow) brings-below calls octets in
-    let keeps = keeps-calls AreBelow HubTells hub_keeps calls (new_hub start timers) below (new-hub start timers is) in
+    let good = all-weaken BringsOctets (BringsGood AreOctets) brings-good calls octets in
+    let keeps = keeps-calls AreOctets HubTells hub_keeps calls (new_hub start timers) good (new-hub start timers is) in
     all-weaken (λ (e : ℕ × Session). Tells hub.start hub.history e.1) (λ (e : ℕ × Session). TellsHistory hub e.1) (λ e t. tells_history hub e.1 t) hub.sessions keeps.sessions
 
 -- what was told stays

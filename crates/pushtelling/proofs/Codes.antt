@@ -18,7 +18,7 @@ use Rattle.zoneupdate.specs.Zones.{ZoneState, is_inside, set_at}
 use Rattle.zoneupdate.specs.Updates.{with_counted_ttl, prerequisite_refusal, change_refusal, accepted_or, sets_agree, rows_after, is_within_limits, judged}
 use Rattle.history.specs.States.{State, home_names, zone_of, with_rows, zone_asked, zone_for, updated, update_in, verdict}
 use Rattle.history.specs.declared.entry.Entry.TheVariants as entries
-use Rattle.pushserver.specs.Sessions.{Hub}
+use Rattle.pushserver.specs.PlainHubs.{Hub}
 use Rattle.pushserver.specs.Hubs.{state_now, can_enter, entered, update}
 
 abbrev pub SmallErr : {A : Type 0} → Result A ℕ → Type 0

@@ -7,7 +7,7 @@ use Rattle.rrset.specs.RecordSet.{matching, changes}
 use Rattle.rrset.specs.declared.record.Question.{Question}
 use Rattle.history.specs.States.{State, records_at}
 use Rattle.history.specs.declared.entry.Entry.{Entry}
-use Rattle.pushserver.specs.Sessions.{Session, point_in, enqueued}
+use Rattle.pushserver.specs.PlainHubs.{Session, point_in, enqueued}
 use Rattle.pushserver.proofs.AskedFor.{IsAsked, matching-sent}
 use Rattle.pushserver.proofs.Queues.{touched_by, sent-entered}
 use Rattle.pushtelling.proofs.Messages.{noted_records}

@@ -14,19 +14,20 @@ use Rattle.dsotlv.specs.Notices.{question_of}
 use Rattle.dsotlv.specs.declared.message.Notice.{Notice}
 use Rattle.coalesce.specs.Net.{push_message}
 use Rattle.dsosession.specs.declared.session.EndReason.{EndReason}
+use Rattle.dsosession.specs.declared.session.EndReason.TheVariants as ends
 use Rattle.dsosession.specs.declared.session.Reaction.{Reaction}
 use Rattle.dsosession.specs.declared.session.Reaction.TheVariants.{Answer, Grant, Abort, Subscribe, Unsubscribe, Reconfirm, Update, NotImplemented}
 use Rattle.history.specs.declared.entry.Entry.{Entry}
-use Rattle.pushsession.specs.Sessions.{new_session, takes, copied, is_open, asked_to_stop, ended_with, due, ended_where, timed, says, answers}
+use Rattle.pushsession.specs.Sessions.{new_session, takes, copied, is_open, asked_to_stop, ended_with, due, ended_where, timed, says, answers, says_stop, without_first}
 use Rattle.pushsession.specs.Subscribing.{Verdict, says_notices, says_first_answer, decided, answered}
 use Rattle.pushsession.specs.Reactions.{heard, by_itself}
 use Rattle.pushsession.specs.declared.standing.Standing.TheVariants.{AskedToStop}
-use Rattle.pushserver.specs.Sessions.{Hub, Session, Queue, plain_keeps}
-use Rattle.pushserver.specs.Hubs.{session_in, newest, now, keeps_now, tells_now, session_of, each_session, in_session, update, end_session}
-use Rattle.pushserver.specs.Giving.{has_home, without_first}
+use Rattle.pushserver.specs.PlainHubs.{Hub, Session, Queue, plain_keeps}
+use Rattle.pushserver.specs.Hubs.{session_in, newest, now, keeps_now, tells_now, session_of, each_session, in_session, update, disconnect}
+use Rattle.pushserver.specs.Giving.{has_home}
 use Rattle.pushserver.proofs.SessionLists.{found-changed, found-last, found-left, other-number}
 use Rattle.pushserver.proofs.Subscribing.{verdict-holds}
-use Rattle.pushserver.proofs.Walks.{AnyMessage, Step, hears_head, reacts, answers_subscribe, answers_update, packs_names, writes_stop, ends_with, copies_front, IsKept, with_new}
+use Rattle.pushserver.proofs.Walks.{AnyMessage, Step, hears_head, reacts, answers_subscribe, answers_update, packs_names, comes_to_stop, ends_with, copies_front, IsKept, with_new}
 use Rattle.pushtelling.specs.Laws.{Grows}
 use Rattle.pushtelling.proofs.Tells.{by_entry}
 
@@ -82,7 +83,11 @@ grows-step hub (answers_update before message) session = grows-says (newest hub)
 grows-step hub packs_names session =
     let pack = (tells_now hub).packed session.subscriptions session.queue in
     grows-notices (newest hub) (now hub) pack.0 (record session { queue = pack.1 })
-grows-step hub (writes_stop rcode delay) session = grows-says (newest hub) (now hub) false (stop_message rcode delay) session.queue session
+grows-step hub (comes_to_stop rcode delay) session = by session.established
+  where
+    by : (b : Bool) → Grows session (cond b (says_stop (keeps_now hub) rcode delay (now hub) session) (ended_with (keeps_now hub) ends.Stopped session))
+    by true = grows-says (newest hub) (now hub) false (stop_message rcode delay) session.queue session
+    by false = grows-none session (ended_with (keeps_now hub) ends.Stopped session) refl
 grows-step hub (ends_with reason) session = grows-none session (ended_with (keeps_now hub) reason session) refl
 grows-step hub (copies_front room) session = grows-none session (copied room session) refl
 
@@ -103,8 +108,8 @@ abbrev Was : Hub → ℕ → Session → Type 0
 Was hub number after = (before : Session) × (session_of hub number ≡ Some before) × Grows before after
 
 pub record Follows (hub later : Hub) : Type 0 where
-  pub made : hub.made ≤ later.made
-  pub each : (number : ℕ) (after : Session) → number < hub.made → session_of later number ≡ Some after → Was hub number after
+  pub made : hub.numbers_given ≤ later.numbers_given
+  pub each : (number : ℕ) (after : Session) → number < hub.numbers_given → session_of later number ≡ Some after → Was hub number after
 
 pub follows-itself : (hub : Hub) → Follows hub hub
 follows-itself hub = record { made = omega arith; each = λ number after low found. (after, found, grows-none after after refl) }
@@ -112,13 +117,13 @@ follows-itself hub = record { made = omega arith; each = λ number after low fou
 module _ (hub : Hub) where
   -- sessions that grow, with any history
   changed : (g : ℕ → Session → Session) → ((n : ℕ) (s : Session) → Grows s (g n s)) → (later : Hub) (history : List Entry) → Follows hub later
-      → Follows hub (record { start = later.start; timers = later.timers; history = history; sessions = map (λ e. (e.0, g e.0 e.1)) later.sessions; made = later.made })
+      → Follows hub (record { start = later.start; timers = later.timers; history = history; sessions = map (λ e. (e.0, g e.0 e.1)) later.sessions; numbers_given = later.numbers_given })
   changed g grows later history h = record {
     made = h.made;
     each = λ number after low found. by number after low (session_in number later.sessions) refl (sym (found-changed g number later.sessions) ∙ found);
   }
     where
-      by : (number : ℕ) (after : Session) → number < hub.made → (o : Option Session) → session_in number later.sessions ≡ o → option_map (g number) o ≡ Some after → Was hub number after
+      by : (number : ℕ) (after : Session) → number < hub.numbers_given → (o : Option Session) → session_in number later.sessions ≡ o → option_map (g number) o ≡ Some after → Was hub number after
       by number after low None there is = absurd cc
       by number after low (Some s) there is =
           let same : g number s ≡ after = cc in
@@ -135,7 +140,7 @@ module _ (hub : Hub) where
   makes : (later : Hub) → Follows hub later → Follows hub (with_new later)
   makes later h = record {
     made = let low = h.made in omega (arith, low);
-    each = λ number after low found. h.each number after low (by number low (session_of later number) (sym (found-last number later.sessions (later.made, new)) ∙ found));
+    each = λ number after low found. h.each number after low (by number low (session_of later number) (sym (found-last number later.sessions (later.numbers_given, new)) ∙ found));
   }
     where
       new : Session
@@ -145,12 +150,12 @@ module _ (hub : Hub) where
       none None = refl
       none (Some s) = refl
 
-      by : {after : Session} (number : ℕ) → number < hub.made → (o : Option Session) → option_or o (cond (later.made == number) (Some new) None) ≡ Some after → o ≡ Some after
+      by : {after : Session} (number : ℕ) → number < hub.numbers_given → (o : Option Session) → option_or o (cond (later.numbers_given == number) (Some new) None) ≡ Some after → o ≡ Some after
       by number low o is =
           let within = h.made in
-          none o ∙ sym (ap (λ (b : Bool). option_or o (cond b (Some new) None)) (other-number later.made number (λ e. omega (arith, e, low, within)))) ∙ is
+          none o ∙ sym (ap (λ (b : Bool). option_or o (cond b (Some new) None)) (other-number later.numbers_given number (λ e. omega (arith, e, low, within)))) ∙ is
 
-  drops : (later : Hub) (gone : ℕ) → Follows hub later → Follows hub (end_session later gone)
+  drops : (later : Hub) (gone : ℕ) → Follows hub later → Follows hub (disconnect later gone)
   drops later gone h = record {
     made = h.made;
     each = λ number after low found. h.each number after low (by (number == gone) (session_of later number) (sym (found-left gone number later.sessions) ∙ found));

@@ -1,27 +1,24 @@
 -- That each session tells the history is kept by every call.
 --     HubTells hub      each session tells the history, and each state can be told
-use Rattle.std.proofs.Common.{◌≡◌, ℕ, ◌+◌, ◌<◌, Bool, true, false, cond, not, List, [], ◌∷◌, ◌++◌, length, take, drop, zero, suc, Option, Some, None, ◌∙◌, ap, subst, sym, refl, arith}
-use Rattle.std.specs.Prelude.{nat_lt, slice_range, ◌==◌}
+use Rattle.std.proofs.Common.{◌≡◌, ℕ, ◌<◌, Bool, true, false, cond, not, List, [], ◌∷◌, ◌++◌, take, zero, suc, Some, ◌∙◌, ap, sym, refl, arith}
+use Rattle.std.specs.Prelude.{◌==◌}
 use Rattle.std.specs.List.{AllByRecursion}
-use Rattle.dnsname.proofs.Standing.{below-take}
-use Rattle.rrset.specs.Header.{two_octets}
+use Rattle.std.proofs.lemmas.List.Elements.{All-append, All-take}
 use Rattle.coalesce.proofs.ReadBack.{each-append}
 use Rattle.dsotlv.specs.Messages.{first_message}
 use Rattle.history.specs.States.{State, LinkState, link_meets}
 use Rattle.history.specs.declared.entry.Entry.{Entry}
-use Rattle.pushsession.specs.Sessions.{new_session, room_of, takes, is_open, asked_to_stop, timed}
+use Rattle.pushsession.specs.Sessions.{new_session, room_of, takes, is_open, asked_to_stop, timed, without_first}
 use Rattle.pushsession.specs.declared.standing.Standing.TheVariants.{AskedToStop}
-use Rattle.pushserver.specs.Sessions.{Hub, Session, plain_keeps}
+use Rattle.pushserver.specs.PlainHubs.{Hub, Session, plain_keeps}
 use Rattle.pushserver.specs.Hubs.{newest, now, state_now, keeps_now, session_of, each_session, in_session, entered, stop}
-use Rattle.pushserver.specs.Giving.{without_first}
 use Rattle.pushserver.proofs.SessionLists.{found-one, each-changed}
 use Rattle.pushserver.proofs.Walks.{Entering, by_update, by_hearing, by_moment, by_reconfirm, IsKept}
 use Rattle.rrset.proofs.Places.{all_filter}
-use Rattle.pushserver.proofs.session_steps.Lists.{each-drop}
-use Rattle.pushserver.proofs.told_rows.Entered.{AreBelow, range_below}
+use Rattle.dsotlv.specs.Laws.{AreOctets}
+use Rattle.pushserver.proofs.session_steps.Octets.{first_octets, rest_octets}
 use Rattle.pushserver.proofs.told_rows.HubTells.{StatesTell}
 use Rattle.pushserver.proofs.told_rows.Hubs.{update_tells, moment_tells}
-use Rattle.pushtelling.proofs.Data.{octets-of}
 use Rattle.pushtelling.proofs.Steps.{tells-step, tells-timed}
 use Rattle.pushtelling.proofs.Tells.{Tells, by_entry, tells-entered, tells-new, tells-input}
 
@@ -49,23 +46,10 @@ hub-in_session hub number f keeps h = record {
 
 -- ---- a message that is taken up
 
-below-parts : (input : List ℕ) (found : List ℕ × List ℕ) → AreBelow input → first_message input ≡ Some found → AreBelow found.0 × AreBelow found.1
-below-parts input found below is = by (nat_lt (length input) (2 + two_octets input 0)) is
-  where
-    front : List ℕ
-    front = slice_range input 2 (2 + two_octets input 0)
-
-    rest : List ℕ
-    rest = drop (2 + two_octets input 0) input
-
-    by : (b : Bool) → ◌≡◌ {A = Option (List ℕ × List ℕ)} (cond b None (Some (front, rest))) (Some found) → AreBelow found.0 × AreBelow found.1
-    by true e = absurd cc
-    by false e =
-        let same : (front, rest) ≡ found = cc in
-        subst (λ (p : List ℕ × List ℕ). AreBelow p.0 × AreBelow p.1) same (range_below input below 2 (2 + two_octets input 0), each-drop (λ o. o < 256) (2 + two_octets input 0) input below)
-
-below-found : (hub : Hub) (number : ℕ) (session : Session) (found : List ℕ × List ℕ) → session_of hub number ≡ Some session → first_message session.input ≡ Some found → HubTells hub → AreBelow found.0 × AreBelow found.1
-below-found hub number session found there is h = below-parts session.input found (found-one (Tells hub.start hub.history) number hub.sessions session there h.sessions).octets is
+octets-found : (hub : Hub) (number : ℕ) (session : Session) (found : List ℕ × List ℕ) → session_of hub number ≡ Some session → first_message session.input ≡ Some found → HubTells hub → AreOctets found.0 × AreOctets found.1
+octets-found hub number session found there is h =
+    let input = (found-one (Tells hub.start hub.history) number hub.sessions session there h.sessions).octets in
+    (first_octets session.input found is input, rest_octets session.input found is input)
 
 -- ---- entries, where there are no links
 
@@ -82,8 +66,8 @@ hub-entered hub entry states h = record {
   sessions = each-changed (Tells hub.start hub.history) (Tells hub.start (hub.history ++ entry ∷ [])) (λ n. by_entry hub.start hub.history entry) (λ n s t. tells-entered hub.start hub.history entry s t) hub.sessions h.sessions;
 }
 
-hub-enters : (hub : Hub) {entry : Entry} → Entering AreBelow hub entry → HubTells hub → HubTells (entered entry hub)
-hub-enters hub (by_update message u octets is) h = hub-entered hub _ (update_tells hub message u h.states (octets-of message octets) is) h
+hub-enters : (hub : Hub) {entry : Entry} → Entering AreOctets hub entry → HubTells hub → HubTells (entered entry hub)
+hub-enters hub (by_update message u octets is) h = hub-entered hub _ (update_tells hub message u h.states octets is) h
 hub-enters hub (by_moment t) h = hub-entered hub _ (moment_tells hub t h.states) h
 hub-enters hub (by_hearing link hearing is) h = let none = unmet (state_now hub) link _ (h.states (newest hub) (omega arith)).home.links in let clash : false ≡ true = sym none ∙ is in absurd cc
 hub-enters hub (by_reconfirm link key is) h = let none = unmet (state_now hub) link _ (h.states (newest hub) (omega arith)).home.links in let clash : false ≡ true = sym none ∙ is in absurd cc
@@ -97,19 +81,19 @@ hub-asks_stop hub number rcode delay h = hub-in_session hub number (asked_to_sto
     by s t true = t
     by s t false = t
 
-pub hub_keeps : IsKept AreBelow HubTells
+pub hub_keeps : IsKept AreOctets HubTells
 hub_keeps = record {
-  reads = λ hub number session found there is h. (below-found hub number session found there is h).0;
-  takes_up = λ hub number session found there is h. hub-in_session hub number (without_first found.1) (λ s t. tells-input hub.start hub.history s found.1 (below-found hub number session found there is h).1 t) h;
+  reads = λ hub number session found there is h. (octets-found hub number session found there is h).0;
+  takes_up = λ hub number session found there is h. hub-in_session hub number (without_first found.1) (λ s t. tells-input hub.start hub.history s found.1 (octets-found hub number session found there is h).1 t) h;
   changes = λ hub number f step h. hub-in_session hub number f (λ s t. tells-step hub h.states step s t) h;
   enters = λ hub entry by h. hub-enters hub by h;
   times = λ hub point t h. hub-each hub (timed (plain_keeps point) t) (λ s tells. tells-timed hub.start hub.history point t s tells) h;
   takes_in = λ hub number piece octets h. hub-in_session hub number (takes piece)
-      (λ s t. tells-input hub.start hub.history s (s.input ++ take (room_of s) piece) (each-append (λ o. o < 256) s.input (take (room_of s) piece) t.octets (below-take (room_of s) piece octets)) t) h;
+      (λ s t. tells-input hub.start hub.history s (s.input ++ take (room_of s) piece) (All-append (λ o. o < 256) s.input (take (room_of s) piece) t.octets (All-take (λ o. o < 256) (room_of s) piece octets)) t) h;
   asks_stop = hub-asks_stop;
   makes = λ hub h. record {
     states = h.states;
-    sessions = each-append (λ (e : ℕ × Session). Tells hub.start hub.history e.1) hub.sessions ((hub.made, new_session (keeps_now hub) (now hub)) ∷ []) h.sessions (tells-new hub.start hub.history (newest hub) (now hub), tt);
+    sessions = each-append (λ (e : ℕ × Session). Tells hub.start hub.history e.1) hub.sessions ((hub.numbers_given, new_session (keeps_now hub) (now hub)) ∷ []) h.sessions (tells-new hub.start hub.history (newest hub) (now hub), tt);
   };
   drops = λ hub number h. record { states = h.states; sessions = all_filter (λ (e : ℕ × Session). Tells hub.start hub.history e.1) (λ (e : ℕ × Session). not (e.0 == number)) hub.sessions h.sessions };
 }

@@ -5,7 +5,7 @@ use Rattle.std.proofs.Common.{◌≡◌, List, [], ◌∷◌, ◌++◌, sym, ◌
 use Rattle.std.specs.List.{AllByRecursion}
 use Rattle.std.proofs.Math.Nat.{le_trans}
 use Rattle.std.proofs.lemmas.List.{append-nil, append_assoc}
-use Rattle.pushserver.specs.Sessions.{Hub, Session, Made, Note}
+use Rattle.pushserver.specs.PlainHubs.{Hub, Session, Made, Note}
 use Rattle.pushserver.specs.ToldMessages.{TellsHistory, EachIsRight, IsRightAfter, IsNoEarlier, NotesRise}
 use Rattle.pushserver.proofs.hub_steps.Pairs.{all-weaken}
 

@@ -2,13 +2,12 @@
 --     before, after      the note before and after it
 --     leads, leads-itself      each subscriber to what is noted after it
 --     first_is_read      the notices are read from their message
-use Rattle.std.proofs.Common.{◌≡◌, ℕ, ◌≤◌, Bool, true, false, cond, not, ◌||◌, List, [], ◌∷◌, map, length, suc, Option, Some, None, IsTrue, sym, ◌∙◌, ap, subst, refl, arith, Ok}
+use Rattle.std.proofs.Common.{◌≡◌, ℕ, ◌≤◌, Bool, true, false, cond, not, List, [], ◌∷◌, length, suc, Option, Some, None, IsTrue, sym, ◌∙◌, ap, subst, refl, arith, Ok}
 use Rattle.std.specs.Prelude.{unwrap_or, flat_map}
 use Rattle.std.specs.List.{AllByRecursion, Contains}
 use Rattle.std.specs.Str.{bytes_eq}
 use Rattle.push_base.specs.Cases.{is_empty}
 use Rattle.dnsname.specs.Names.{Labels, same_name, octets, lower, is_name}
-use Rattle.rrset.specs.Kinds.{in_class}
 use Rattle.rrset.specs.Records.{matches}
 use Rattle.rrset.specs.RecordSet.{RecordSet, only, at_name, matching, same_rows}
 use Rattle.rrset.specs.declared.record.Key.{Key}
@@ -17,23 +16,23 @@ use Rattle.zoneupdate.proofs.Owners.{same_name-itself}
 use Rattle.history.proofs.Together.{same_name-turned}
 use Rattle.dsotlv.specs.Notices.{applied_all, notice_octets, notices_of}
 use Rattle.dsotlv.specs.declared.message.Notice.{Notice}
-use Rattle.dsotlv.specs.declared.message.Notice.TheVariants.{RemoveClass}
-use Rattle.subscr.specs.Asked.{Asked, wants}
+use Rattle.subscr.specs.Asked.{wants}
 use Rattle.coalesce.specs.Laws.{is_side, can_be_sent}
-use Rattle.coalesce.specs.Net.{additions, push_message, max_net_message}
+use Rattle.coalesce.specs.Net.{push_message, max_net_message}
 use Rattle.coalesce.specs.Waiting.{WaitingName}
-use Rattle.coalesce.specs.FirstAnswers.{first_notices}
+use Rattle.coalesce.specs.FirstAnswers.{first_notices, told_first}
 use Rattle.coalesce.proofs.FirstLeads.{first_fills_the_new, first_leads_the_others, first_leaves_other_names, first_fits_one_message, first_is_read_back}
-use Rattle.coalesce.proofs.KindsOf.{any-map}
 use Rattle.coalesce.proofs.SameNames.{same_name-swapped, same_name-joined}
 use Rattle.coalesce.proofs.Sides.{matching-only}
 use Rattle.history.specs.States.{state_at, records_at}
 use Rattle.history.proofs.Present.{matching-at_name}
-use Rattle.pushserver.specs.Sessions.{Hub, Session, Subscription, Note, told, note_of, point_in, asks_for, leaves_queue, first_answer}
+use Rattle.pushserver.specs.PlainHubs.{Hub, Session, Subscription, Note, told, note_of, point_in, asks_for, leaves_queue, first_answer}
 use Rattle.pushserver.specs.Hubs.{newest, records_now}
 use Rattle.pushserver.proofs.AskedFor.{matches-name}
 use Rattle.pushserver.proofs.hub_steps.Pairs.{all-weaken}
 use Rattle.pushserver.proofs.Queues.{point_in-same, same_name-octets}
+use Rattle.pushserver.specs.KeptHubs.{asked_of}
+use Rattle.pushserver.proofs.session_steps.Nets.{asked-alike}
 use Rattle.pushserver.proofs.told_rows.HubTells.{StatesTell}
 use Rattle.pushserver.proofs.told_rows.Told.{tellable-told}
 use Rattle.pushtelling.proofs.Messages.{noted_records}
@@ -49,27 +48,20 @@ side-at hub states point low name = tellable-told (state_at hub.start hub.histor
 
 -- ---- what the subscriptions ask
 
-abbrev pub asked_by : List Subscription → Asked
-asked_by subscriptions = map (λ s. (s.id, s.question)) subscriptions
-
 abbrev pub IsAmong : List Subscription → Subscription → Type 0
-IsAmong subscriptions s = Contains (asked_by subscriptions) (s.id, s.question)
+IsAmong subscriptions s = Contains (asked_of subscriptions) (s.id, s.question)
 
 contains-more : {X : Type 0} (y : X) (xs : List X) (x : X) → Contains xs x → Contains (y ∷ xs) x
 contains-more y xs x at = (suc at.0, omega (arith, at.1), at.2)
 
 pub all_among : (subscriptions : List Subscription) → AllByRecursion (IsAmong subscriptions) subscriptions
 all_among [] = tt
-all_among (s ∷ ss) = ((0, omega arith, refl), all-weaken (IsAmong ss) (IsAmong (s ∷ ss)) (λ t among. contains-more (s.id, s.question) (asked_by ss) (t.id, t.question) among) ss (all_among ss))
+all_among (s ∷ ss) = ((0, omega arith, refl), all-weaken (IsAmong ss) (IsAmong (s ∷ ss)) (λ t among. contains-more (s.id, s.question) (asked_of ss) (t.id, t.question) among) ss (all_among ss))
 
-asks-wants : (subscriptions : List Subscription) (key : Key) → asks_for subscriptions key ≡ wants key (asked_by subscriptions)
-asks-wants subscriptions key = sym (any-map (λ (e : ℕ × Question). matches e.1 key) (λ (s : Subscription). (s.id, s.question)) subscriptions)
+asks-wants : (subscriptions : List Subscription) (key : Key) → asks_for subscriptions key ≡ wants key (asked_of subscriptions)
+asks-wants subscriptions key = sym (asked-alike subscriptions key)
 
 -- ---- the notices, as they are made of what was sent
-
-other_way : {X : Type 0} (b : Bool) (x y : X) → cond b x y ≡ cond (not b) y x
-other_way true x y = refl
-other_way false x y = refl
 
 module _ (hub : Hub) (session : Session) (question : Question) where
   abbrev pub before : Note
@@ -85,17 +77,13 @@ module _ (hub : Hub) (session : Session) (question : Question) where
   abbrev pub waiting : Option WaitingName
   waiting = Some (record { name = question.name; point = told before question.name; old = old })
 
-  abbrev form : (Key → Bool) → List Notice
-  form p = cond (same_rows (only p old) (only p there)) (additions (matching question there)) (RemoveClass (lower question.name) in_class ∷ additions (only (λ key. matches question key || p key) there))
-
   abbrev pub notices : List Notice
-  notices = first_notices question (asked_by session.subscriptions) (records_now hub) waiting
+  notices = first_notices question (asked_of session.subscriptions) (records_now hub) waiting
 
   pub first-is : first_answer hub session question ≡ notices
-  first-is =
-      (λ i. form (λ key. asks-wants session.subscriptions key i))
-      ∙ other_way (same_rows (only (λ key. wants key (asked_by session.subscriptions)) old) (only (λ key. wants key (asked_by session.subscriptions)) there)) (additions (matching question there))
-      (RemoveClass (lower question.name) in_class ∷ additions (only (λ key. matches question key || wants key (asked_by session.subscriptions)) there))
+  first-is = λ i.
+      let wanted : Key → Bool = (λ key. asks-wants session.subscriptions key i) in
+      told_first (not (same_rows (only wanted old) (only wanted there))) question wanted there
 
   -- ---- the note after it
 
@@ -126,20 +114,20 @@ module _ (hub : Hub) (session : Session) (question : Question) where
     named other same set = matching-only (λ key. same_name question.name key.owner) other (λ key m. same_name-joined question.name other.name key.owner (same_name-swapped other.name question.name same) (matches-name other key m)) set
 
     -- a subscriber to the name has what is there now
-    leads-there : (id : ℕ) (other : Question) → Contains (asked_by session.subscriptions) (id, other) → same_name other.name question.name ≡ true
+    leads-there : (id : ℕ) (other : Question) → Contains (asked_of session.subscriptions) (id, other) → same_name other.name question.name ≡ true
         → applied_all (first_answer hub session question) other (noted_records hub.start hub.history before other) ≡ matching other (records_now hub)
     leads-there id other among same =
         ap (λ ns. applied_all ns other (noted_records hub.start hub.history before other)) first-is
         ∙ ap (λ set. applied_all notices other set)
         (ap (λ o. matching other (records_at hub.start hub.history (unwrap_or o (newest hub)))) (point_in-same other.name question.name session.queue same) ∙ sym (named other same (records_at hub.start hub.history (told before question.name))))
-        ∙ first_leads_the_others question (asked_by session.subscriptions) (records_now hub) waiting id other (question.name, now-side) (same_name-itself question.name, old-side) among
+        ∙ first_leads_the_others question (asked_of session.subscriptions) (records_now hub) waiting id other (question.name, now-side) (same_name-itself question.name, old-side) among
         ∙ named other same (records_now hub)
 
     -- the new subscriber has it, too
     leads-new : applied_all (first_answer hub session question) question [] ≡ matching question (records_now hub)
     leads-new =
         ap (λ ns. applied_all ns question []) first-is
-        ∙ first_fills_the_new question (asked_by session.subscriptions) (records_now hub) waiting (question.name, now-side)
+        ∙ first_fills_the_new question (asked_of session.subscriptions) (records_now hub) waiting (question.name, now-side)
         ∙ matching-at_name question (records_now hub)
 
     -- a subscriber to another name has what it had
@@ -147,10 +135,10 @@ module _ (hub : Hub) (session : Session) (question : Question) where
         → applied_all (first_answer hub session question) other (noted_records hub.start hub.history before other) ≡ noted_records hub.start hub.history before other
     leads-away other differ =
         ap (λ ns. applied_all ns other (noted_records hub.start hub.history before other)) first-is
-        ∙ first_leaves_other_names question (asked_by session.subscriptions) (records_now hub) waiting other (records_at hub.start hub.history (told before other.name)) (question.name, now-side) (ap not differ)
+        ∙ first_leaves_other_names question (asked_of session.subscriptions) (records_now hub) waiting other (records_at hub.start hub.history (told before other.name)) (question.name, now-side) (ap not differ)
 
     -- all of the subscribers are led to the note after it
-    pub leads : (id : ℕ) (other : Question) → Contains (asked_by session.subscriptions) (id, other)
+    pub leads : (id : ℕ) (other : Question) → Contains (asked_of session.subscriptions) (id, other)
         → applied_all (first_answer hub session question) other (noted_records hub.start hub.history before other) ≡ noted_records hub.start hub.history after other
     leads id other among = by (same_name question.name other.name) refl
       where
@@ -171,5 +159,5 @@ module _ (hub : Hub) (session : Session) (question : Question) where
         let same : notices ≡ n ∷ ns = sym first-is ∙ e in
         push_read (n ∷ ns)
         (subst (λ (all : List Notice). notices_of (flat_map notice_octets all) ≡ Ok all) same
-        (first_is_read_back question (asked_by session.subscriptions) (records_now hub) waiting is (question.name, now-side) now-sent (subst (λ (all : List Notice). IsTrue (not (is_empty all))) (sym same) refl)))
-        (subst (λ (all : List Notice). length (push_message all) ≤ max_net_message) same (first_fits_one_message question (asked_by session.subscriptions) (records_now hub) waiting is (question.name, now-side) now-sent))
+        (first_is_read_back question (asked_of session.subscriptions) (records_now hub) waiting is (question.name, now-side) now-sent (subst (λ (all : List Notice). IsTrue (not (is_empty all))) (sym same) refl)))
+        (subst (λ (all : List Notice). length (push_message all) ≤ max_net_message) same (first_fits_one_message question (asked_of session.subscriptions) (records_now hub) waiting is (question.name, now-side) now-sent))

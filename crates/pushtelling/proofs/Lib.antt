@@ -3,7 +3,6 @@ pub mod Notes
 pub mod Entries
 pub mod Tells
 pub mod Quiet
-pub mod Data
 pub mod Reading
 pub mod Joining
 pub mod Leading

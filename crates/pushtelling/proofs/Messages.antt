@@ -13,7 +13,7 @@ use Rattle.dsotlv.specs.Notices.{applied, applied_all}
 use Rattle.history.specs.States.{State, records_at}
 use Rattle.history.specs.declared.entry.Entry.{Entry}
 use Rattle.history.proofs.LongerHistory.{records_at-append}
-use Rattle.pushserver.specs.Sessions.{Hub, Subscription, Made, Note, told, made_octets, octets_made}
+use Rattle.pushserver.specs.PlainHubs.{Hub, Subscription, Made, Note, told, frame_of, size_of_made}
 use Rattle.pushserver.proofs.hub_steps.Pairs.{all-weaken}
 use Rattle.pushserver.specs.ToldMessages.{is_answer_to, notices_in, and_notices, notices_since, set_after, EachIsRight}
 
@@ -25,7 +25,7 @@ abbrev pub LeadsTo : State → List Entry → List Made → Note → Subscriptio
 LeadsTo start history made note s = set_after made s ≡ noted_records start history note s.question
 
 abbrev pub LeadsIfFilled : State → List Entry → List Made → Note → Subscription → Type 0
-LeadsIfFilled start history made note s = s.filled ≤ octets_made made → LeadsTo start history made note s
+LeadsIfFilled start history made note s = s.filled ≤ size_of_made made → LeadsTo start history made note s
 
 abbrev pub IsRightAt : State → List Entry → List Made → Made → Type 0
 IsRightAt start history before m = AllByRecursion (LeadsIfFilled start history (before ++ m ∷ []) m.note) m.subscribed
@@ -63,8 +63,8 @@ set_after-quiet made m s other none = set_after-append made m s other ∙ ap (λ
 pub set_after-answer : (made : List Made) (m : Made) (s : Subscription) → is_answer_to s.id m ≡ true → set_after (made ++ m ∷ []) s ≡ []
 set_after-answer made m s it = ap (λ ns. applied_all ns s.question []) (notices_since-answer s.id made m it)
 
-pub octets_made-append : (made : List Made) (m : Made) → octets_made (made ++ m ∷ []) ≡ octets_made made + length (made_octets m)
-octets_made-append made m = sum_by-append (λ (x : Made). length (made_octets x)) made (m ∷ []) ∙ ap (λ n. octets_made made + n) (omega arith)
+pub size_of_made-append : (made : List Made) (m : Made) → size_of_made (made ++ m ∷ []) ≡ size_of_made made + length (frame_of m)
+size_of_made-append made m = sum_by-append (λ (x : Made). length (frame_of x)) made (m ∷ []) ∙ ap (λ n. size_of_made made + n) (omega arith)
 
 -- ---- each message is right
 

@@ -6,7 +6,7 @@ use Rattle.std.specs.Option.{option_or}
 use Rattle.std.proofs.Math.Nat.{le_trans}
 use Rattle.std.proofs.lemmas.List.{append_assoc, map-append}
 use Rattle.dnsname.specs.Names.{Labels, same_name}
-use Rattle.pushserver.specs.Sessions.{Made, Note, Queue, told, point_in, enqueued}
+use Rattle.pushserver.specs.PlainHubs.{Made, Note, Queue, told, point_in, enqueued}
 use Rattle.pushserver.specs.ToldMessages.{IsNoEarlier, NotesRise}
 use Rattle.pushserver.proofs.Queues.{point_in-queued}
 

@@ -18,8 +18,8 @@ use Rattle.coalesce.proofs.Packing.{packed_fits_one_message}
 use Rattle.coalesce.proofs.PackedNames.{packed_leads, packed_is_read_back}
 use Rattle.history.specs.States.{records_at}
 use Rattle.pushsession.specs.Subscribing.{says_notices, packs}
-use Rattle.pushserver.specs.Sessions.{Hub, Session, Subscription, Queue, Note, told, note_of, point_in, asks_for, wanted, written, sent, stays_queued}
-use Rattle.pushserver.specs.Sessions.{nets_of as nets_from}
+use Rattle.pushserver.specs.PlainHubs.{Hub, Session, Subscription, Queue, Note, told, note_of, point_in, asks_for, wanted, written, sent, stays_queued}
+use Rattle.pushserver.specs.PlainHubs.{nets_of as nets_from}
 use Rattle.pushserver.specs.Hubs.{newest, now, keeps_now, tells_now, records_now}
 use Rattle.pushserver.proofs.AskedFor.{IsAsked, all_asked, matching-sent}
 use Rattle.pushserver.proofs.hub_steps.Pairs.{all-weaken}

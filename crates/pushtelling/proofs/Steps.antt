@@ -2,11 +2,10 @@
 --     QuietAnswer reaction      an answer that it gives has no notices, and grants no SUBSCRIBE
 --     tells-step      each step
 --     tells-timed      time passes
-use Rattle.std.proofs.Common.{◌≡◌, ℕ, ◌<◌, Bool, true, false, cond, not, ◌&&◌, List, [], ◌∷◌, Option, Some, None, is_some, IsTrue, subst, sym, ◌∙◌, refl}
+use Rattle.std.proofs.Common.{◌≡◌, ℕ, Bool, true, false, cond, not, ◌&&◌, List, [], ◌∷◌, Option, Some, None, is_some, IsTrue, subst, sym, ◌∙◌, refl}
 use Rattle.std.specs.Prelude.{option_map, ◌==◌}
 use Rattle.std.specs.Int.{w16, from_be_bytes}
 use Rattle.std.specs.List.{AllByRecursion}
-use Rattle.std.proofs.lemmas.List.Elements.{All-from_recursion}
 use Rattle.push_base.specs.Cases.{chosen}
 use Rattle.dnsname.specs.Names.{is_name}
 use Rattle.rrset.specs.Header.{id_of, is_response, opcode_of, update_opcode}
@@ -18,7 +17,6 @@ use Rattle.dsotlv.specs.Messages.{dso_opcode, primary_data}
 use Rattle.dsotlv.specs.Notices.{question_of}
 use Rattle.dsotlv.specs.TlvKinds.{keepalive_tlv, retry_delay_tlv, padding_tlv, subscribe_tlv, push_tlv, unsubscribe_tlv, reconfirm_tlv}
 use Rattle.dsotlv.specs.declared.message.DsoHead.{DsoHead}
-use Rattle.dsotlv.proofs.QuestionLaws.{question_spelled}
 use Rattle.dsosession.specs.Reactions.{server_reaction, dso_reaction, primary_reaction, answer_or_end}
 use Rattle.dsosession.specs.declared.session.EndReason.{EndReason}
 use Rattle.dsosession.specs.declared.session.EndReason.TheVariants as ends
@@ -26,22 +24,23 @@ use Rattle.dsosession.specs.declared.session.Reaction.{Reaction}
 use Rattle.dsosession.specs.declared.session.Reaction.TheVariants.{Answer, Grant, Abort, Subscribe, Unsubscribe, Reconfirm, Update, NotImplemented}
 use Rattle.history.specs.States.{State}
 use Rattle.history.specs.declared.entry.Entry.{Entry}
-use Rattle.pushsession.specs.Sessions.{answers, due, ended_where, timed}
+use Rattle.pushsession.specs.Sessions.{answers, due, ended_with, ended_where, says_stop, timed}
 use Rattle.pushsession.specs.Subscribing.{Verdict, decided, answered}
 use Rattle.pushsession.specs.Reactions.{by_itself}
 use Rattle.pushsession.specs.declared.standing.Standing.TheVariants.{Stopped, Ended}
-use Rattle.pushserver.specs.Sessions.{Hub, Session, Subscription, subscription_for, plain_keeps}
+use Rattle.pushserver.specs.PlainHubs.{Hub, Session, Subscription, subscription_for, plain_keeps}
 use Rattle.pushserver.specs.Hubs.{now, keeps_now, tells_now, update}
 use Rattle.pushserver.specs.Giving.{has_home}
 use Rattle.pushserver.proofs.Subscribing.{verdict-holds}
 use Rattle.rrset.proofs.Distinct.{any_found}
 use Rattle.pushserver.proofs.session_steps.Lists.{some-find}
-use Rattle.pushserver.proofs.Walks.{Step, hears_head, reacts, answers_subscribe, answers_update, packs_names, writes_stop, ends_with, copies_front}
-use Rattle.pushserver.proofs.told_rows.Entered.{AreBelow}
+use Rattle.pushserver.proofs.Walks.{Step, hears_head, reacts, answers_subscribe, answers_update, packs_names, comes_to_stop, ends_with, copies_front}
+use Rattle.dsotlv.specs.Laws.{AreOctets}
+use Rattle.dsotlv.proofs.Numbers.{two_below}
+use Rattle.pushserver.proofs.session_steps.Octets.{question-named}
 use Rattle.pushserver.proofs.told_rows.HubTells.{StatesTell}
 use Rattle.pushtelling.proofs.Tells.{Tells, IsQuiet, tells-says_quiet, tells-fewer, tells-cleared}
 use Rattle.pushtelling.proofs.Quiet.{quiet-formerr, quiet-dsotypeni, quiet-refusal_formerr, quiet-refusal_refused, quiet-refusal_notauth, quiet-grant, quiet-stop, quiet-update, quiet-not_implemented}
-use Rattle.pushtelling.proofs.Data.{id-small, data-below}
 use Rattle.pushtelling.proofs.Leading.{first_is_read}
 use Rattle.pushtelling.proofs.Accepting.{tells-accepts}
 use Rattle.pushtelling.proofs.Pushing.{tells-packs}
@@ -144,7 +143,7 @@ module _ (hub : Hub) where
   tells-by_itself Update quiet message session t = t
 
   module _ (states : StatesTell hub) where
-    tells-answered : (message : List ℕ) → AreBelow message → (session : Session) → TellsNow session
+    tells-answered : (message : List ℕ) → AreOctets message → (session : Session) → TellsNow session
         → TellsNow (answered (keeps_now hub) (tells_now hub) (now hub) (id_of message) (question_of (primary_data message)) (has_home hub (question_of (primary_data message))) session)
     tells-answered message octets session t =
         verdict-holds (keeps_now hub) id question (has_home hub question) session.subscriptions (λ (v : Verdict). TellsNow (decided (keeps_now hub) (tells_now hub) (now hub) id v session))
@@ -152,7 +151,7 @@ module _ (hub : Hub) where
         (tells-answers false (refusal_to id notauth) (quiet-refusal_notauth id) session t)
         (tells-answers false (refusal_to id refused) (quiet-refusal_refused id) session t)
         (λ reason. tells-cleared hub.start hub.history session 0 (Ended reason) t)
-        (λ q read new_id new_question. tells-accepts hub session id q states (id-small message octets)
+        (λ q read new_id new_question. tells-accepts hub session id q states (two_below message 0 octets)
         (sym (some-find (λ (s : Subscription). s.id == id) session.subscriptions) ∙ new_id)
         (any_found (λ (s : Subscription). same_question s.question q) session.subscriptions (unfound (subscription_for session.subscriptions q) new_question))
         t (λ n ns e. first_is_read hub session q states t.most.points (named q read) n ns e))
@@ -164,13 +163,13 @@ module _ (hub : Hub) where
         question = question_of (primary_data message)
 
         named : (q : Question) → question ≡ Some q → IsTrue (is_name q.name)
-        named q read = (question_spelled (primary_data message) q (All-from_recursion (λ o. o < 256) (primary_data message) (data-below message octets)) read).name
+        named q read = question-named message q octets read
 
         unfound : (o : Option Subscription) → option_map (λ (s : Subscription). s.id) o ≡ None → o ≡ None
         unfound None e = refl
         unfound (Some s) e = absurd cc
 
-    pub tells-step : {f : Session → Session} → Step AreBelow hub f → (session : Session) → TellsNow session → TellsNow (f session)
+    pub tells-step : {f : Session → Session} → Step AreOctets hub f → (session : Session) → TellsNow session → TellsNow (f session)
     tells-step (hears_head head) session t = t
     tells-step (reacts reaction head established is message) session t = tells-by_itself reaction (subst QuietAnswer is (quiet-reaction head established)) message session t
     tells-step (answers_subscribe message octets) session t = tells-answered message octets session t
@@ -178,9 +177,13 @@ module _ (hub : Hub) where
         let code = (update before message).0 in
         tells-answers false (answer_to_update (id_of message) code) (quiet-update (id_of message) code (codes_are_small before message)) session t
     tells-step packs_names session t = tells-packs hub session states t
-    tells-step (writes_stop rcode delay) session t =
-        tells-cleared hub.start hub.history (answers (keeps_now hub) false (now hub) (stop_message rcode delay) session) 0 (Stopped (now hub))
-        (tells-answers false (stop_message rcode delay) (quiet-stop rcode delay) session t)
+    tells-step (comes_to_stop rcode delay) session t = by session.established
+      where
+        by : (b : Bool) → TellsNow (cond b (says_stop (keeps_now hub) rcode delay (now hub) session) (ended_with (keeps_now hub) ends.Stopped session))
+        by true =
+            tells-cleared hub.start hub.history (answers (keeps_now hub) false (now hub) (stop_message rcode delay) session) 0 (Stopped (now hub))
+            (tells-answers false (stop_message rcode delay) (quiet-stop rcode delay) session t)
+        by false = tells-cleared hub.start hub.history session 0 (Ended ends.Stopped) t
     tells-step (ends_with reason) session t = tells-cleared hub.start hub.history session 0 (Ended reason) t
     tells-step (copies_front room) session t = t
 

@@ -22,16 +22,17 @@ use Rattle.pushsession.specs.declared.standing.Standing.{Standing}
 use Rattle.rrset.proofs.Distinct.{distinct_filter}
 use Rattle.rrset.proofs.Places.{all_filter}
 use Rattle.pushsession.specs.Sessions.{noted, new_session, cleared, answers}
-use Rattle.pushserver.specs.Sessions.{Session, Subscription, Queue, Made, told, note_of, octets_made, plain_keeps, written}
+use Rattle.pushserver.specs.PlainHubs.{Session, Subscription, Queue, Made, told, note_of, size_of_made, plain_keeps, written}
 use Rattle.pushserver.proofs.AskedFor.{IsAsked, all_asked}
 use Rattle.pushserver.proofs.Queues.{touched_by}
 use Rattle.pushserver.proofs.hub_steps.Pairs.{all-weaken}
 use Rattle.pushserver.proofs.hub_steps.Queued.{points-fold, names-fold}
 use Rattle.pushserver.proofs.session_steps.Names.{AreApart}
 use Rattle.pushserver.proofs.session_steps.Lists.{each-both, each-map}
-use Rattle.pushserver.proofs.told_rows.Entered.{AreBelow}
+use Rattle.std.proofs.lemmas.List.Elements.{All-nil}
+use Rattle.dsotlv.specs.Laws.{AreOctets}
 use Rattle.pushserver.specs.ToldMessages.{NotesRise, IsNoEarlier, notices_in}
-use Rattle.pushtelling.proofs.Messages.{LeadsTo, LeadsIfFilled, EachIsRightAt, each_right-append, each_right-later, set_after-quiet, octets_made-append}
+use Rattle.pushtelling.proofs.Messages.{LeadsTo, LeadsIfFilled, EachIsRightAt, each_right-append, each_right-later, set_after-quiet, size_of_made-append}
 use Rattle.pushtelling.proofs.Notes.{NotesRise-later, NotesRise-below, notes-says, told-below, told-entered, AnswersAlike, left_by, told-left}
 use Rattle.pushtelling.proofs.Entries.{noted-entered}
 
@@ -54,8 +55,8 @@ pub record TellsOf (start : State) (history : List Entry) (subscriptions : List 
   pub most : AlmostOf start history subscriptions queue made
   -- all messages together lead to the records at the points now
   pub all : AllByRecursion (LeadsTo start history made (record { queue = queue; newest = length history })) subscriptions
-  pub whole : AllByRecursion (λ s. s.filled ≤ octets_made made) subscriptions
-  pub octets : AreBelow input
+  pub whole : AllByRecursion (λ s. s.filled ≤ size_of_made made) subscriptions
+  pub octets : AreOctets input
 
 -- of a session they speak of no more than this
 abbrev pub Almost : State → List Entry → Session → Type 0
@@ -111,7 +112,7 @@ abbrev pub made_now : State → List Entry → Session → List ℕ → Made
 made_now start history session message = record { message = message; note = note_of (length history) session; subscribed = session.subscriptions }
 
 -- A message that leads each subscription to what is noted now, after all but that.
-pub tells-says : (start : State) (history : List Entry) (session : Session) (keepalive : Bool) (t : ℕ) (message : List ℕ) → Almost start history session → AreBelow session.input
+pub tells-says : (start : State) (history : List Entry) (session : Session) (keepalive : Bool) (t : ℕ) (message : List ℕ) → Almost start history session → AreOctets session.input
     → AllByRecursion (λ s. s.filled ≤ written session + length (frame message)) session.subscriptions
     → AllByRecursion (LeadsTo start history (session.made ++ made_now start history session message ∷ []) (note_of (length history) session)) session.subscriptions
     → Tells start history (answers (plain_keeps (length history)) keepalive t message session)
@@ -128,8 +129,8 @@ tells-says start history session keepalive t message h octets filled leads =
         asked = h.asked;
       };
       all = leads;
-      whole = all-weaken (λ (s : Subscription). s.filled ≤ written session + length (frame message)) (λ (s : Subscription). s.filled ≤ octets_made made)
-          (λ s low. subst (λ n. s.filled ≤ n) (sym (octets_made-append session.made new)) low) session.subscriptions filled;
+      whole = all-weaken (λ (s : Subscription). s.filled ≤ written session + length (frame message)) (λ (s : Subscription). s.filled ≤ size_of_made made)
+          (λ s low. subst (λ n. s.filled ≤ n) (sym (size_of_made-append session.made new)) low) session.subscriptions filled;
       octets = octets;
     }
 
@@ -210,8 +211,8 @@ tells-cleared start history session point standing h = record {
 -- a new session tells any history
 pub tells-new : (start : State) (history : List Entry) (point t : ℕ) → Tells start history (new_session (plain_keeps point) t)
 unfolding IsDistinct
-tells-new start history point t = record { most = record { each = tt; notes = tt; names = tt; points = tt; asked = none_asked }; all = tt; whole = tt; octets = tt }
+tells-new start history point t = record { most = record { each = tt; notes = tt; names = tt; points = tt; asked = none_asked }; all = tt; whole = tt; octets = All-nil (λ o. o < 256) }
 
 -- octets come in
-pub tells-input : (start : State) (history : List Entry) (session : Session) (input : List ℕ) → AreBelow input → Tells start history session → Tells start history (record session { input = input })
+pub tells-input : (start : State) (history : List Entry) (session : Session) (input : List ℕ) → AreOctets input → Tells start history session → Tells start history (record session { input = input })
 tells-input start history session input octets h = record { most = h.most; all = h.all; whole = h.whole; octets = octets }

@@ -9,7 +9,7 @@ use Rattle.dsosession.specs.declared.session.Timers.{Timers}
 use Rattle.history.specs.Plans.{IsStart, may_stand_together}
 use Rattle.history.specs.Standing.{named_zones}
 use Rattle.history.specs.States.{State}
-use Rattle.pushserver.specs.Sessions.{Hub, Session, Made, new_hub}
+use Rattle.pushserver.specs.PlainHubs.{Hub, Session, Made, new_hub}
 use Rattle.pushserver.specs.Hubs.{session_of}
 use Rattle.pushserver.specs.Calls.{HubCall, after_calls, BringsOctets}
 use Rattle.pushserver.specs.ToldMessages.{TellsHistory}
@@ -32,5 +32,5 @@ Grows before after = (more : List Made) × (after.made ≡ before.made ++ more)
 
 -- a session whose number was given before the calls was there then, and each message with its note stays in its place
 abbrev pub MessagesStay : Type 0
-MessagesStay = (hub : Hub) (calls : List HubCall) (number : ℕ) (after : Session) → number < hub.made → session_of (after_calls calls hub) number ≡ Some after
+MessagesStay = (hub : Hub) (calls : List HubCall) (number : ℕ) (after : Session) → number < hub.numbers_given → session_of (after_calls calls hub) number ≡ Some after
     → (before : Session) × (session_of hub number ≡ Some before) × Grows before after

@@ -9,7 +9,7 @@ use Rattle.dsotlv.specs.TlvKinds.{keepalive_tlv}
 use Rattle.dsosession.specs.Timing.{default_timers}
 use Rattle.zoneupdate.specs.Zones.{new_zone}
 use Rattle.history.specs.States.{State}
-use Rattle.pushserver.specs.Sessions.{Session, new_hub}
+use Rattle.pushserver.specs.PlainHubs.{Session, new_hub}
 use Rattle.pushserver.specs.Hubs.{session_of}
 use Rattle.pushserver.specs.Calls.{HubCall, connects, takes, gives, updates, after_calls}
 use Rattle.pushserver.specs.ToldMessages.{notices_in, set_after}

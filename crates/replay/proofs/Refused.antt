@@ -1,76 +1,318 @@
--- Worlds from which a step would end the session or close the client: the rule on what is under way refuses each, by computation.
-use Rattle.std.proofs.Common.{◌≡◌, ℕ, Bool, List, [], ◌∷◌, codes, refl, true, false}
-use Rattle.std.specs.Prelude.{Some, ◌++◌, flat_map}
+-- Worlds of one client from which a step would end the session, close the client, or leave it with other records than are
+-- told: the rule on what is under way refuses each, by the one sentence that is named, by computation. All others hold there.
+use Rattle.std.proofs.Common.{◌≡◌, ℕ, Bool, List, [], ◌∷◌, ◌++◌, map, codes, refl, true, false}
+use Rattle.std.specs.Prelude.{Option, Some, None, flat_map}
 use Rattle.rrset.specs.Header.{answer_octets}
+use Rattle.rrset.specs.RecordSet.{matching}
+use Rattle.rrset.specs.declared.record.Question.{Question}
 use Rattle.dnsname.specs.Text.{name}
 use Rattle.dsotlv.specs.Messages.{frame, tlv_octets}
 use Rattle.dsotlv.specs.TlvKinds.{push_tlv}
+use Rattle.dsotlv.specs.declared.message.Notice.{Notice}
+use Rattle.dsotlv.specs.declared.message.Notice.TheVariants as notices
+use Rattle.coalesce.specs.Net.{additions}
 use Rattle.dsosession.specs.Timing.{default_timers}
-use Rattle.pushsession.specs.declared.standing.Standing.TheVariants.{Stopped}
+use Rattle.dsosession.specs.declared.session.EndReason.TheVariants.{Gone}
+use Rattle.history.specs.States.{records_at}
+use Rattle.history.specs.Worked.{start, added_address}
+use Rattle.history.specs.declared.entry.Entry.TheVariants.{Moment}
+use Rattle.pushsession.specs.declared.standing.Standing.{Standing}
+use Rattle.pushsession.specs.declared.standing.Standing.TheVariants.{Live, Stopped, Ended}
 use Rattle.pushsession.specs.Sessions.{new_session}
-use Rattle.pushserver.specs.Sessions.{Session, plain_keeps, Made, Subscription, made_octets}
-use Rattle.pushclient.specs.Clients.{Wish, RequestState, unanswered, answered, new_client, new_connection, subscribe_message, unsubscribe_message}
-use Rattle.pushclient.specs.Steps.{keepalive_message}
-use Rattle.replay.specs.World.{new_seat}
-use Rattle.replay.specs.Worked.{flight_of}
+use Rattle.pushserver.specs.PlainHubs.{Session, plain_keeps, Made, Subscription, Queue, frame_of, size_of_made, Hub, new_hub}
+use Rattle.pushclient.specs.Clients.{Wish, RequestState, not_asked, unanswered, refused, answered, new_client, new_connection}
+use Rattle.inflight.specs.Messages.{ClientMessage, subscribes, unsubscribes, requests_keepalive, message_octets, Flying, made_of}
+use Rattle.replay.specs.World.{World, Seat, new_seat}
+use Rattle.replay.specs.Worked.{Observed, unmet_in}
+use Rattle.pushclient.specs.ServerMessages.{ServerMessage, accepts, refuses, grants, tells, delays}
 
-abbrev pub asked_as : RequestState → Wish
-asked_as standing = record { question = record { name = name (codes "a.example.com."); kind = 1; class = 1 }; wanted = true; standing = standing; notices = [] }
+-- a client and its session: what each knows, and the messages that were taken, that come down, and that go up
+pub record Scene : Type 0 where
+  pub hub : Hub
+  pub standing : Standing
+  pub established : Bool
+  pub subscriptions : List Subscription
+  pub queue : Queue
+  pub wishes : List Wish
+  pub last_id : ℕ
+  pub keepalive_out : Option ℕ
+  pub client_established : Bool
+  pub taken : List Flying
+  pub flying : List Flying
+  -- octets that are no message of the server
+  pub strange : List Made
+  pub ups : List ClientMessage
+  pub told : List (ℕ × ℕ)
+  pub start : ℕ
+  pub shown : List (Question × ℕ)
 
-abbrev pub made_of : List ℕ → Made
-made_of message = record { message = message; note = record { queue = []; newest = 0 }; subscribed = [] }
+-- both ends are established, and nothing was asked
+abbrev pub idle : Scene
+idle = record {
+  hub = new_hub start default_timers;
+  standing = Live;
+  established = true;
+  subscriptions = [];
+  queue = [];
+  wishes = [];
+  last_id = 0;
+  keepalive_out = None;
+  client_established = true;
+  taken = [];
+  flying = [];
+  strange = [];
+  ups = [];
+  told = [];
+  start = 0;
+  shown = [];
+}
 
--- both ends are established as told; some messages were made, of which the client took none, and some went up
-abbrev pub holds_between : Bool → Session → List Wish → List Made → List (List ℕ) → Bool
-holds_between client_established session wishes made up = flight_of default_timers
-    (record session { made = made })
-    (record new_client { wishes = wishes })
-    (record (new_connection 0) { established = client_established })
-    (record (new_seat (codes "c") false) { session = Some 0; up_wire = flat_map frame up; down_wire = flat_map made_octets made })
+-- neither end is
+abbrev pub begun : Scene
+begun = record idle { established = false; client_established = false }
 
-abbrev pub begun : Session
-begun = new_session (plain_keeps 0) 0
+abbrev pub stopped : Scene
+stopped = record idle { standing = Stopped 0 }
 
-abbrev pub established : Session
-established = record begun { established = true }
+abbrev pub ended : Scene
+ended = record idle { standing = Ended Gone }
 
-abbrev pub accepted : Made
-accepted = made_of (answer_octets 7 0xb000)
+abbrev pub session_in : Scene → Session
+session_in s = record (new_session (plain_keeps 0) 0) {
+  subscriptions = s.subscriptions;
+  queue = s.queue;
+  established = s.established;
+  standing = s.standing;
+  made = map (made_of default_timers) (s.taken ++ s.flying) ++ s.strange;
+}
 
-abbrev pub active : Subscription
-active = record { id = 7; question = (asked_as (unanswered 7)).question; filled = 14 }
+abbrev pub seat_in : Scene → Seat
+seat_in s = record (new_seat (codes "c") false) {
+  client = record new_client { wishes = s.wishes; connection = Some (record (new_connection 0) { last_id = s.last_id; established = s.client_established; keepalive_out = s.keepalive_out }) };
+  session = Some 0;
+  up_wire = flat_map (λ m. frame (message_octets m)) s.ups;
+  down_wire = flat_map frame_of (map (made_of default_timers) s.flying ++ s.strange);
+  reached = size_of_made (map (made_of default_timers) s.taken);
+  filled = s.told;
+}
 
--- what is asked for goes up, is taken, and is answered
-pub asks : holds_between false begun (asked_as (unanswered 7) ∷ []) [] (subscribe_message 7 active.question ∷ []) ≡ true
+abbrev pub world_in : Scene → World
+world_in s = record { hub = record s.hub { sessions = (0, session_in s) ∷ []; numbers_given = 1 }; links = []; seats = seat_in s ∷ []; peers = [] }
+
+abbrev pub observed_in : Scene → Observed
+observed_in s = record { points = map (λ p. (codes "c", p.0, p.1)) s.shown; starts = (codes "c", s.start) ∷ [] }
+
+-- the sentences that aren't so
+abbrev pub unmet_at : Scene → List (List ℕ)
+unmet_at s = unmet_in (observed_in s) (world_in s)
+
+-- ---- words
+
+abbrev pub address : Question
+address = record { name = name (codes "a.example.com."); kind = 1; class = 1 }
+
+-- a question without a home
+abbrev pub elsewhere : Question
+elsewhere = record { name = name (codes "x.other."); kind = 1; class = 1 }
+
+abbrev pub wish : Question → RequestState → Wish
+wish question standing = record { question = question; wanted = true; standing = standing; notices = [] }
+
+abbrev pub active : ℕ → ℕ → Subscription
+active id filled = record { id = id; question = address; filled = filled }
+
+-- a message made at a point
+abbrev pub at_point : ℕ → ServerMessage → List Subscription → Flying
+at_point point says subscribed = record { says = says; note = record { queue = []; newest = point }; subscribed = subscribed }
+
+abbrev pub down : ServerMessage → List Subscription → Flying
+down = at_point 0
+
+abbrev pub something : ServerMessage
+something = tells (notices.RemoveAll address.name ∷ [])
+
+-- a history of one entry: a moment; the address
+abbrev pub one_moment : Hub
+one_moment = record idle.hub { history = Moment 1 ∷ [] }
+
+abbrev pub one_address : Hub
+one_address = record idle.hub { history = added_address ∷ [] }
+
+abbrev pub its_notices : List Notice
+its_notices = additions (matching address (records_at start (added_address ∷ []) 1))
+
+-- the subscription is held, and the answer was all that was made
+abbrev pub holding : ℕ → Scene → Scene
+holding id s = record s {
+  subscriptions = active id 14 ∷ [];
+  wishes = wish address (answered id) ∷ [];
+  taken = down (accepts id) (active id 14 ∷ []) ∷ [];
+  told = (id, 14) ∷ [];
+}
+
+-- ---- what holds
+
+-- what is asked for goes up, is taken, is answered, and is held
+pub asks : unmet_at (record begun { wishes = wish address (unanswered 7) ∷ []; ups = subscribes 7 address ∷ [] }) ≡ []
 asks = refl
 
-pub is_answered : holds_between false (record established { subscriptions = active ∷ [] }) (asked_as (unanswered 7) ∷ []) (accepted ∷ []) [] ≡ true
+pub is_answered : unmet_at (record begun {
+  established = true;
+  subscriptions = active 7 14 ∷ [];
+  wishes = wish address (unanswered 7) ∷ [];
+  flying = down (accepts 7) (active 7 14 ∷ []) ∷ [];
+  told = (7, 14) ∷ [];
+}) ≡ []
 is_answered = refl
 
--- UNSUBSCRIBE goes up before the session is established
-pub early : holds_between false begun [] [] (unsubscribe_message 5 ∷ []) ≡ false
-early = refl
+pub holds_a_set : unmet_at (holding 7 idle) ≡ []
+holds_a_set = refl
 
--- a stopped session answers what nobody waits for
-pub stray : holds_between true (record established { standing = Stopped 0 }) [] (accepted ∷ []) [] ≡ false
-stray = refl
+-- ---- what is refused
 
--- a PUSH without data comes down
-pub garbage : holds_between true established [] (made_of (answer_octets 0 0x3000 ++ tlv_octets (record { kind = push_tlv; octets = [] })) ∷ []) [] ≡ false
-garbage = refl
+-- before the session is established only refusals come down
 
--- an answer comes down to a question that isn't active
-pub lost : holds_between true established (asked_as (unanswered 7) ∷ []) (accepted ∷ []) [] ≡ false
-lost = refl
+pub told_early : unmet_at (record begun { flying = down something [] ∷ [] }) ≡ codes "speaks" ∷ []
+told_early = refl
 
--- an ID of more than two octets
-pub unnumbered : holds_between false begun (asked_as (unanswered 65536) ∷ []) [] (subscribe_message 65536 active.question ∷ []) ≡ false
-unnumbered = refl
+pub accepted_early : unmet_at (record begun {
+  standing = Ended Gone;
+  wishes = wish address (unanswered 3) ∷ [];
+  flying = down (accepts 3) (active 3 14 ∷ []) ∷ [];
+  told = (3, 14) ∷ [];
+}) ≡ codes "speaks" ∷ []
+accepted_early = refl
 
--- one ID for two requests
-pub twins : holds_between false begun (asked_as (unanswered 7) ∷ record (asked_as (unanswered 7)) { question = record active.question { kind = 2 } } ∷ []) [] (subscribe_message 7 active.question ∷ keepalive_message 7 ∷ []) ≡ false
+pub granted_early : unmet_at (record begun { keepalive_out = Some 7; flying = down (grants 7) [] ∷ [] }) ≡ codes "speaks" ∷ []
+granted_early = refl
+
+pub told_before_the_answer : unmet_at (record begun {
+  wishes = wish address (unanswered 3) ∷ [];
+  flying = down something [] ∷ [];
+  ups = subscribes 3 address ∷ [];
+}) ≡ codes "speaks" ∷ []
+told_before_the_answer = refl
+
+-- what is held was answered
+pub held_early : unmet_at (holding 1 begun) ≡ codes "begun" ∷ []
+held_early = refl
+
+pub queued_early : unmet_at (record (holding 1 begun) { queue = (address.name, 0) ∷ [] }) ≡ codes "begun" ∷ []
+queued_early = refl
+
+-- an answer of another kind than its request
+pub keepalive_refused : unmet_at (record idle { keepalive_out = Some 1; flying = down (refuses 1) [] ∷ [] }) ≡ codes "fits" ∷ []
+keepalive_refused = refl
+
+pub keepalive_accepted : unmet_at (record ended { keepalive_out = Some 4; flying = down (accepts 4) [] ∷ [] }) ≡ codes "fits" ∷ []
+keepalive_accepted = refl
+
+pub question_granted : unmet_at (record idle { wishes = wish elsewhere (unanswered 3) ∷ []; flying = down (grants 3) [] ∷ [] }) ≡ codes "fits" ∷ []
+question_granted = refl
+
+-- a message that was made without a subscription which the client holds, or will by then; or with another end of its answer
+pub told_without_it : unmet_at (record (holding 1 stopped) { subscriptions = []; flying = down something [] ∷ [] }) ≡ codes "seen" ∷ []
+told_without_it = refl
+
+pub accepted_without_it : unmet_at (record ended { wishes = wish address (unanswered 1) ∷ []; flying = down (accepts 1) [] ∷ [] }) ≡ codes "seen" ∷ []
+accepted_without_it = refl
+
+pub other_end : unmet_at (record stopped {
+  wishes = wish address (unanswered 2) ∷ [];
+  flying = down (accepts 2) (active 2 14 ∷ []) ∷ [];
+  told = (2, 8) ∷ [];
+}) ≡ codes "seen" ∷ []
+other_end = refl
+
+-- an active subscription of which another end was told
+pub untold_end : unmet_at (record (holding 1 idle) {
+  hub = one_address;
+  subscriptions = active 1 61 ∷ [];
+  wishes = record (wish address (answered 1)) { notices = its_notices } ∷ [];
+  taken = down (accepts 1) (active 1 14 ∷ []) ∷ at_point 1 (tells its_notices) (active 1 14 ∷ []) ∷ [];
+  keepalive_out = Some 2;
+  ups = requests_keepalive 2 ∷ [];
+}) ≡ codes "told" ∷ []
+untold_end = refl
+
+-- a first answer that ends inside a message
+pub broken_end : unmet_at (record stopped {
+  hub = one_address;
+  wishes = wish address (answered 2) ∷ [];
+  taken = down (accepts 2) (active 2 20 ∷ []) ∷ [];
+  flying = at_point 1 (tells its_notices) (active 2 20 ∷ []) ∷ [];
+  told = (2, 20) ∷ [];
+}) ≡ codes "ends" ∷ []
+broken_end = refl
+
+-- an ID beyond all IDs
+pub last_too_great : unmet_at (record idle { last_id = 65536 }) ≡ codes "last" ∷ []
+last_too_great = refl
+
+-- a question with a home that was refused; one that isn't asked on an open connection
+pub refused_at_home : unmet_at (record idle { wishes = wish address (refused 9) ∷ [] }) ≡ codes "homeless" ∷ []
+refused_at_home = refl
+
+pub unasked : unmet_at (record idle { wishes = wish address not_asked ∷ [] }) ≡ codes "asked" ∷ []
+unasked = refl
+
+-- a client whose session the hub doesn't have
+pub gone : unmet_in (observed_in idle) (record (world_in (holding 2 idle)) { hub = record idle.hub { numbers_given = 1 } }) ≡ codes "numbers all" ∷ codes "there" ∷ []
+gone = refl
+
+-- a note gives an earlier point than a line has shown, or than that of connecting
+pub shown_later : unmet_at (record (holding 1 idle) { hub = one_moment; shown = (address, 1) ∷ [] }) ≡ codes "shown_before" ∷ []
+shown_later = refl
+
+pub earlier_note : unmet_at (record begun {
+  hub = one_moment;
+  wishes = wish elsewhere (unanswered 1) ∷ [];
+  flying = down (refuses 1) [] ∷ [];
+  start = 1;
+  shown = (elsewhere, 1) ∷ [];
+}) ≡ codes "since" ∷ []
+earlier_note = refl
+
+-- the Retry Delay of a session that goes on
+pub delayed_early : unmet_at (record idle { flying = down (delays 0 7000) [] ∷ [] }) ≡ codes "no_delay" ∷ []
+delayed_early = refl
+
+-- one ID for two requests; one request that is refused twice
+pub twins : unmet_at (record idle {
+  wishes = wish elsewhere (unanswered 1) ∷ [];
+  keepalive_out = Some 1;
+  flying = down (refuses 1) [] ∷ [];
+  ups = subscribes 1 elsewhere ∷ [];
+}) ≡ codes "distinct" ∷ []
 twins = refl
 
--- UNSUBSCRIBE of a subscription that the client still holds
-pub let_go : holds_between true (record established { subscriptions = active ∷ [] }) (asked_as (answered 7) ∷ []) [] (unsubscribe_message 7 ∷ []) ≡ false
+pub refused_twice : unmet_at (record ended {
+  wishes = record (wish elsewhere (unanswered 1)) { wanted = false } ∷ [];
+  flying = down (refuses 1) [] ∷ down (refuses 1) [] ∷ [];
+}) ≡ codes "awaited" ∷ []
+refused_twice = refl
+
+-- UNSUBSCRIBE goes up before the session is established, and of a subscription that the client still holds
+pub early : unmet_at (record begun { ups = unsubscribes 5 ∷ [] }) ≡ codes "let_go" ∷ codes "accepted" ∷ []
+early = refl
+
+pub let_go : unmet_at (record (holding 7 idle) { ups = unsubscribes 7 ∷ [] }) ≡ codes "let_go" ∷ []
 let_go = refl
+
+-- a stopped session answers what nobody waits for
+pub stray : unmet_at (record stopped { flying = down (accepts 7) [] ∷ [] }) ≡ codes "fits" ∷ codes "awaited" ∷ []
+stray = refl
+
+-- an answer comes down to a question that isn't active
+pub lost : unmet_at (record idle { wishes = wish address (unanswered 7) ∷ []; flying = down (accepts 7) [] ∷ [] }) ≡ codes "seen" ∷ codes "answers" ∷ []
+lost = refl
+
+-- a PUSH without data comes down
+pub garbage : unmet_at (record idle {
+  strange = (record { message = answer_octets 0 0x3000 ++ tlv_octets (record { kind = push_tlv; octets = [] }); note = record { queue = []; newest = 0 }; subscribed = [] }) ∷ [];
+}) ≡ codes "made" ∷ codes "whole_down" ∷ []
+garbage = refl
+
+-- an ID of more than two octets
+pub unnumbered : unmet_at (record begun { wishes = wish address (unanswered 65536) ∷ []; ups = subscribes 65536 address ∷ [] }) ≡ codes "ids" ∷ codes "once" ∷ codes "requests" ∷ codes "accepted" ∷ []
+unnumbered = refl

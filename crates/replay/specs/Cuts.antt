@@ -10,9 +10,10 @@ use Rattle.dsotlv.specs.Messages.{first_message, messages_in}
 use Rattle.pushsession.specs.declared.standing.Standing.{Standing}
 use Rattle.pushsession.specs.declared.standing.Standing.TheVariants.{Live}
 use Rattle.pushserver.specs.declared.given.Given.TheVariants.{End}
-use Rattle.pushserver.specs.Sessions.{Session, Hub}
+use Rattle.pushserver.specs.PlainHubs.{Session, Hub}
 use Rattle.pushserver.specs.Hubs.{session_of, connect}
-use Rattle.pushserver.specs.Giving.{reacted, after_reaction, without_first}
+use Rattle.pushsession.specs.Sessions.{without_first}
+use Rattle.pushserver.specs.Giving.{reacted, after_reaction}
 use Rattle.replay.specs.Lines.{ScriptLine}
 use Rattle.replay.specs.Scripts.{script_of}
 use Rattle.replay.specs.World.{start_world}

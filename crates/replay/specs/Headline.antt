@@ -2,13 +2,16 @@
 --     EveryScriptKeepsPromises      no `held` line goes back, and after a settle each shows the newest records
 --     EveryScriptTellsOneText      what is held is what the notices taken lead to
 --     HoldsAfterEachLine      after each line, of each connected client, what is under way fits
+--     HoldsTheHistory      where it fits, the client holds the history at the points of the notes that came with it
 --     EverySettleEmptiesBothWays      a settle that prints its line alone leaves nothing under way
 --     NoMessageEnds      no message of a hub's client ends its session, and none of the hub but Retry Delay closes the client
 --     EveryCutGivesOneOutput      a peer is sent the same, however its octets are cut
 --     EndsStandFor kept clients world      the hub and the clients that ran a script
-use Rattle.std.specs.Prelude.{◌≡◌, ℕ, ◌+◌, Bool, true, false, not, List, [], ◌∷◌, ◌++◌, map, length, Some, None, option_map, Ok, IsTrue, IsSome, codes, decimal, if◌then◌else◌}
-use Rattle.std.specs.List.{list_any, AllByRecursion, AllZip}
+use Rattle.std.specs.Prelude.{◌≡◌, ℕ, ◌+◌, ◌≤◌, ◌<◌, Bool, true, false, not, ◌||◌, List, [], ◌∷◌, ◌++◌, map, length, filter_map, Option, Some, None, is_none, option_map, Ok, IsTrue, IsSome, codes, decimal, if◌then◌else◌}
+use Rattle.std.specs.List.{list_any, AllByRecursion, AllZip, IsDistinct}
 use Rattle.std.specs.Str.{bytes_eq}
+use Rattle.push_base.specs.Limits.{max_input}
+use Rattle.dnsname.specs.Names.{Labels}
 use Rattle.rrset.specs.RecordSet.{RecordSet, matching}
 use Rattle.rrset.specs.declared.record.Question.{Question}
 use Rattle.dsotlv.specs.Messages.{first_message}
@@ -18,24 +21,29 @@ use Rattle.dsosession.specs.declared.session.EndReason.TheVariants as ends
 use Rattle.dsosession.specs.declared.session.CloseReason.{CloseReason}
 use Rattle.dsosession.specs.declared.session.CloseReason.TheVariants as closes
 use Rattle.history.specs.States.{home_of}
+use Rattle.pushsession.specs.Sessions.{is_open}
 use Rattle.pushsession.specs.Subscribing.{is_served}
-use Rattle.pushserver.specs.Sessions.{Session, Made, octets_made, subscription_of, Hub}
-use Rattle.pushserver.specs.Hubs.{state_now, records_now, session_of}
+use Rattle.pushserver.specs.PlainHubs.{Session, Made, size_of_made, Hub, told, note_of, sent}
+use Rattle.pushserver.specs.Hubs.{newest, state_now, records_now, session_of}
 use Rattle.pushserver.specs.declared.given.Given.TheVariants.{Nothing}
 use Rattle.pushserver.specs.Giving.{give}
-use Rattle.pushserver.specs.ToldMessages.{TellsHistory}
-use Rattle.pushserver.specs.Rule.{KeptHub, StandsFor}
-use Rattle.pushclient.specs.Clients.{Client, Connection, Wish, answered, wish_for, held, Held, set_held}
+use Rattle.pushserver.specs.ToldMessages.{TellsHistory, notices_since, records_noted}
+use Rattle.pushserver.specs.KeptHubs.{KeptHub, StandsFor}
+use Rattle.pushclient.specs.Clients.{Client, Connection, Wish, unanswered, answered, wish_for, held, Held, set_held}
 use Rattle.mirror.specs.Held.{set_of}
 use Rattle.pushclient.specs.Rule.{KeptClient, without_told}
+use Rattle.inflight.specs.Messages.{Flying, made_of, accepts_id}
+use Rattle.inflight.specs.Ends.{ends_of, going_up, going_down, told_end}
+use Rattle.inflight.specs.Flight.{AreSoundWishes, InFlight, FirstAnswersEnd}
 use Rattle.replay.specs.Lines.{Word, ScriptLine, show, settle}
 use Rattle.replay.specs.Scripts.{script_of}
-use Rattle.replay.specs.World.{World, Seat, seat_of, start_world, filled_of, last_of}
+use Rattle.replay.specs.World.{World, Seat, seat_of, start_world, last_of}
 use Rattle.replay.specs.TextWords.{by_history, show_at, with_records, is_filling, records_told, record_line, spaced, end_words, close_words}
 use Rattle.replay.specs.Text.{line_does, world_after, text_of_script, text_by_notices}
 use Rattle.replay.specs.Cuts.{AnswersEveryCutNow}
-use Rattle.replay.specs.Flight.{subscribed_at_last, InFlight, ends_of, going_up, going_down}
-use Rattle.replay.specs.HeldPoints.{NeverEarlier, settled_from, settles_alone}
+use Rattle.replay.specs.PassedOctets.{max_wire}
+use Rattle.replay.specs.HeldPoints.{NeverEarlier, held_points_from, settled_from, settles_alone}
+use Rattle.pushclient.specs.SoundClients.{count_of}
 
 abbrev pub is_wanted : Client → Question → Bool
 is_wanted client question = elim (wish_for client question) [ None ↦ false | Some w ↦ w.wanted ]
@@ -63,32 +71,116 @@ EveryScriptKeepsPromises = (text : List ℕ) (script : List ScriptLine) → scri
 abbrev pub EveryScriptTellsOneText : Type 0
 EveryScriptTellsOneText = (text : List ℕ) (script : List ScriptLine) → script_of text ≡ Ok script → text_of_script script ≡ text_by_notices script
 
--- the number that was told of the first answer of an answered question
-abbrev pub FilledIsTold : List Made → Seat → Wish → Type 0
-FilledIsTold taken seat w = (id : ℕ) → w.standing ≡ answered id → filled_of seat id ≡ option_map (λ s. s.filled) (subscription_of (subscribed_at_last taken) id)
-
 -- once the first answer has arrived, the notices taken lead to the records that the history has at the note's point on the last message taken
 abbrev pub HoldsHistory : Hub → List Made → Seat → Wish → Type 0
 HoldsHistory hub taken seat w = (id : ℕ) → w.standing ≡ answered id → IsTrue (not (is_filling seat id))
     → applied_all w.notices w.question [] ≡ records_told hub (option_map (λ m. m.note) (last_of taken)) w.question
 
--- between two lines: what is under way fits, the octets that have reached the client are counted, and no whole message waits at it
-pub record ConnectionHolds (hub : Hub) (seat : Seat) (session : Session) (c : Connection) : Type 0 where
-  pub flight : InFlight (ends_of hub.timers session seat.client c) (going_up session c seat.up_wire) (going_down session c seat.down_wire)
+-- ---- after each line, of each client of the hub
+
+-- the points that `held` lines have shown of each question
+abbrev pub ShownPoints : Type 0
+ShownPoints = Question → List ℕ
+
+-- none is greater than this one of its question
+abbrev pub ShowsNoLater : ShownPoints → (Question → ℕ) → Type 0
+ShowsNoLater shown point = (question : Question) → AllByRecursion (λ p. p ≤ point question) (shown question)
+
+-- the point that the last message taken gives for a question, and where none was taken that of connecting
+abbrev pub point_taken : ℕ → List Made → Question → ℕ
+point_taken start taken question = elim (last_of taken) [ None ↦ start | Some m ↦ told m.note question.name ]
+
+-- no wire and no input holds more than it may
+pub record AreWithinBounds (seat : Seat) (session : Session) (c : Connection) : Type 0 where
+  pub up_wire : length seat.up_wire ≤ max_wire
+  pub down_wire : length seat.down_wire ≤ max_wire
+  pub client_input : length c.input ≤ max_input
+  pub session_input : length session.input ≤ max_input
+
+-- between two lines: what is under way fits, the octets that have reached the client are counted, no whole message waits at it, and it is not closed
+pub record ConnectionHolds (hub : Hub) (shown : ShownPoints) (seat : Seat) (session : Session) (c : Connection) : Type 0 where
+  pub flight : InFlight (ends_of hub seat.filled session seat.client c) (going_up session c seat.up_wire) (going_down session c seat.down_wire)
   pub history : TellsHistory hub session
-  pub reached : seat.reached ≡ octets_made flight.taken + length c.input
+  pub ends : FirstAnswersEnd session
+  pub reached : seat.reached ≡ size_of_made flight.taken + length c.input
   pub waits : first_message c.input ≡ None
-  pub filled : AllByRecursion (FilledIsTold flight.taken seat) seat.client.wishes
-  pub holds : AllByRecursion (HoldsHistory hub flight.taken seat) seat.client.wishes
+  pub unclosed : c.closed ≡ None
+  pub bounds : AreWithinBounds seat session c
+  -- the newest point when it was opened: no note gives an earlier one, and no greater one was shown before a message was taken
+  pub start : ℕ
+  pub since : AllByRecursion (λ n. (name : Labels) → start ≤ told n name) (map (λ m. m.note) session.made ++ note_of (newest hub) session ∷ [])
+  pub shown_before : ShowsNoLater shown (point_taken start flight.taken)
 
-abbrev pub ClientHolds : Hub → Seat → Type 0
-ClientHolds hub seat = (number : ℕ) (session : Session) (c : Connection) → seat.session ≡ Some number → session_of hub number ≡ Some session → seat.client.connection ≡ Some c → ConnectionHolds hub seat session c
+-- without a connection nothing is on the wires and nothing was told
+pub record IsUnconnected (hub : Hub) (shown : ShownPoints) (seat : Seat) : Type 0 where
+  pub client : IsTrue (seat.is_lone || is_none seat.client.connection)
+  pub wishes : IsTrue (not seat.is_lone) → AreSoundWishes seat.client.wishes
+  pub up_wire : seat.up_wire ≡ []
+  pub down_wire : seat.down_wire ≡ []
+  pub reached : seat.reached ≡ 0
+  pub filled : seat.filled ≡ []
+  pub shown_before : ShowsNoLater shown (λ question. newest hub)
 
-abbrev pub WorldHolds : World → Type 0
-WorldHolds world = AllByRecursion (ClientHolds world.hub) world.seats
+-- a seat with a session, which the hub has, has a connection
+pub record IsConnected (hub : Hub) (shown : ShownPoints) (seat : Seat) (number : ℕ) : Type 0 where
+  pub lone : seat.is_lone ≡ false
+  pub session : Session
+  pub connection : Connection
+  pub there : session_of hub number ≡ Some session
+  pub connected : seat.client.connection ≡ Some connection
+  pub holds : ConnectionHolds hub shown seat session connection
+
+abbrev pub SeatHolds : Hub → (Word → ShownPoints) → Seat → Type 0
+SeatHolds hub shown seat = elim seat.session as (λ _. Type 0) [ None ↦ IsUnconnected hub (shown seat.word) seat | Some number ↦ IsConnected hub (shown seat.word) seat number ]
+
+-- the numbers of the sessions of clients and peers
+abbrev pub numbers_of : World → List ℕ
+numbers_of world = filter_map (λ s. s.session) world.seats ++ map (λ p. p.1) world.peers
+
+-- each session of the hub is that of one client or peer, whose word no other one has
+pub record NumbersFit (world : World) : Type 0 where
+  pub distinct : (number : ℕ) → count_of number (numbers_of world) ≤ 1
+  pub below : AllByRecursion (λ number. number < world.hub.numbers_given) (numbers_of world)
+  pub all : (number : ℕ) → count_of number (map (λ e. e.0) world.hub.sessions) ≡ count_of number (numbers_of world)
+  pub words : IsDistinct bytes_eq (map (λ s. s.word) world.seats ++ map (λ p. p.0) world.peers)
+
+pub record WorldHolds (shown : Word → ShownPoints) (world : World) : Type 0 where
+  pub numbers : NumbersFit world
+  pub seats : AllByRecursion (SeatHolds world.hub shown) world.seats
+
+-- after some lines of a script
+abbrev pub HoldsAfter : List ScriptLine → World → Type 0
+HoldsAfter lines world = WorldHolds (λ w question. held_points_from w question lines world) (world_after lines world)
 
 abbrev pub HoldsAfterEachLine : Type 0
-HoldsAfterEachLine = (text : List ℕ) (script before after : List ScriptLine) → script_of text ≡ Ok script → script ≡ before ++ after → WorldHolds (world_after before (start_world script))
+HoldsAfterEachLine = (text : List ℕ) (script before after : List ScriptLine) → script_of text ≡ Ok script → script ≡ before ++ after → HoldsAfter before (start_world script)
+
+-- ---- what follows where a connection holds
+
+-- what a wish is held by once some further messages are taken, if it waits for one of their answers or is held already
+abbrev pub will_hold : List Flying → Wish → Option ℕ
+will_hold more w = elim w.standing [ answered id ↦ Some id | unanswered id ↦ if list_any (λ f. accepts_id id f.says) more then Some id else None | _ ↦ None ]
+
+-- the set of a question once these messages were taken, if its first answer is among them
+abbrev pub HoldsThen : List (ℕ × ℕ) → List Made → ℕ → Question → RecordSet → Type 0
+HoldsThen filled taken id question set = (n : ℕ) → told_end filled id ≡ Some n → n ≤ size_of_made taken → applied_all (notices_since id taken) question [] ≡ set
+
+-- after each further message the client holds the records at its note's point, and after all of them what counts as sent
+pub record HoldsAlong (hub : Hub) (seat : Seat) (session : Session) (taken : List Made) (flying : List Flying) : Type 0 where
+  pub each : (front back : List Flying) (f : Flying) → flying ≡ front ++ f ∷ back
+      → AllByRecursion (λ w. (id : ℕ) → will_hold (front ++ f ∷ []) w ≡ Some id
+      → HoldsThen seat.filled (taken ++ map (made_of hub.timers) (front ++ f ∷ [])) id w.question (records_noted hub f.note w.question)) seat.client.wishes
+  pub all : IsTrue (is_open session.standing)
+      → AllByRecursion (λ w. (id : ℕ) → will_hold flying w ≡ Some id → HoldsThen seat.filled session.made id w.question (matching w.question (sent hub session w.question.name))) seat.client.wishes
+
+-- what the client holds is the history at the points of the notes that came with it
+pub record WhatIsHeld (hub : Hub) (seat : Seat) (session : Session) (taken : List Made) (flying : List Flying) : Type 0 where
+  pub last : AllByRecursion (HoldsHistory hub taken seat) seat.client.wishes
+  pub along : HoldsAlong hub seat session taken flying
+
+abbrev pub HoldsTheHistory : Type 0
+HoldsTheHistory = (hub : Hub) (shown : ShownPoints) (seat : Seat) (session : Session) (c : Connection) (holds : ConnectionHolds hub shown seat session c)
+    → WhatIsHeld hub seat session holds.flight.taken holds.flight.flying
 
 -- nothing is under way, and the session has nothing to say
 pub record IsQuiet (hub : Hub) (seat : Seat) (number : ℕ) (session : Session) (c : Connection) : Type 0 where

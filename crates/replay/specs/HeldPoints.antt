@@ -7,7 +7,7 @@ use Rattle.std.specs.List.Sorted.{IsNonDecreasing}
 use Rattle.std.specs.Str.{bytes_eq}
 use Rattle.rrset.specs.Records.{same_question}
 use Rattle.rrset.specs.declared.record.Question.{Question}
-use Rattle.pushserver.specs.Sessions.{Note, told}
+use Rattle.pushserver.specs.PlainHubs.{Note, told}
 use Rattle.pushclient.specs.Clients.{Held, set_held, held, is_connected}
 use Rattle.replay.specs.Lines.{Word, ScriptLine, silent, settle, point, show}
 use Rattle.replay.specs.World.{Seat, World, seat_of, start_world}

@@ -4,7 +4,7 @@
 --     HasPrinted kept known text printed      this text was printed, and what is kept stands for the world behind it
 --     Acts act .., Does act before text after      so it is of the act, whatever world is stood for
 use Rattle.std.specs.Prelude.{◌≡◌, ℕ, List, [], map, string_bytes}
-use Rattle.pushserver.specs.Rule.{KeptHub, StandsFor}
+use Rattle.pushserver.specs.KeptHubs.{KeptHub, StandsFor}
 use Rattle.replay.specs.Lines.{Word}
 use Rattle.replay.specs.World.{World}
 use Rattle.replay.specs.Text.{Printed, ended_lines}

@@ -158,8 +158,9 @@ abbrev pub show_line : List Word → Option ScriptLine
 show_line (w ∷ n ∷ k ∷ c ∷ []) = word w >>= λ p. question n k c >>= λ q. Some (show p q n)
 show_line _ = None
 
-abbrev pub by_first_word : Word → List Word → Option ScriptLine
-by_first_word w rest = chosen (
+-- what a line says whose first word is this one, for each word that may be first
+abbrev pub lines_by : Word → List Word → List (Bool × Option ScriptLine)
+lines_by w rest =
     (is w (codes "timers"), timers_line rest)
     ∷ (is w (codes "zone"), zone_line rest)
     ∷ (is w (codes "link"), link_line rest)
@@ -183,7 +184,10 @@ by_first_word w rest = chosen (
     ∷ (is w (codes "stop"), stop_line rest)
     ∷ (is w (codes "point"), alone point rest)
     ∷ (is w (codes "show"), show_line rest)
-    ∷ []) None
+    ∷ []
+
+abbrev pub by_first_word : Word → List Word → Option ScriptLine
+by_first_word w rest = chosen (lines_by w rest) None
 
 abbrev pub of_words : List Word → Option ScriptLine
 of_words [] = None

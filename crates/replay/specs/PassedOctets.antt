@@ -3,7 +3,7 @@
 use Rattle.std.specs.Prelude.{ℕ, zero, suc, ◌+◌, ◌-◌, ◌^◌, Bool, true, false, not, ◌&&◌, ◌||◌, List, [], ◌++◌, length, take, drop, min, Option, Some, None, is_some, nat_lt, ◌==◌, if◌then◌else◌}
 use Rattle.dsosession.specs.declared.session.EndReason.{EndReason}
 use Rattle.pushserver.specs.declared.given.Given.TheVariants.{Bytes, Worked, Nothing, Ending, End}
-use Rattle.pushserver.specs.Sessions.{Subscription, Hub, Giving}
+use Rattle.pushserver.specs.PlainHubs.{Subscription, Hub, Giving}
 use Rattle.pushserver.specs.Hubs.{session_of, taken_by, take_octets}
 use Rattle.pushserver.specs.Giving.{give}
 use Rattle.pushclient.specs.declared.client.Step.TheVariants.{Waiting, Closed}

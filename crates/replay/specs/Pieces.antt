@@ -3,18 +3,17 @@
 --     SendsPieces script sent      the script is built, these are its lines, no entry is made, and the session goes on
 --     TellsInTurn sent told      what is told of each piece answers the messages that it completes
 --     pieces_reply sent told      the status and the text, where this is told
-use Rattle.std.specs.Prelude.{◌≡◌, ℕ, Bool, true, not, List, [], ◌∷◌, ◌++◌, map, take, length, flat_map, codes, Option, Some, None, Ok, option_map}
+use Rattle.std.specs.Prelude.{◌≡◌, ℕ, Bool, true, not, List, [], ◌∷◌, ◌++◌, map, take, length, flat_map, codes, Some, None, Ok}
 use Rattle.std.specs.List.{concat, list_all, AllByRecursion}
 use Rattle.std.specs.Str.{bytes_eq}
 use Rattle.dsotlv.specs.Messages.{messages_in}
 use Rattle.pushsession.specs.declared.standing.Standing.TheVariants.{Live}
-use Rattle.pushserver.specs.Sessions.{Session, Hub}
-use Rattle.pushserver.specs.Hubs.{connect}
+use Rattle.pushserver.specs.PlainHubs.{Session, Hub}
 use Rattle.replay.specs.Lines.{Word, ScriptLine, cut, send, stop}
 use Rattle.replay.specs.Scripts.{script_of}
-use Rattle.replay.specs.World.{World, start_world, session_number}
+use Rattle.replay.specs.World.{World, start_world}
 use Rattle.replay.specs.TextWords.{spaced, octets_text, by_history}
-use Rattle.replay.specs.Text.{ended_lines, line_does, printed_by, world_after}
+use Rattle.replay.specs.Text.{ended_lines, placed, line_does, printed_by, world_after}
 use Rattle.replay.specs.Cuts.{IsAtRest, ArePassable, answers_to, standing_of}
 use Rattle.replay.specs.Reply.{Reply}
 use Rattle.replay.specs.BuiltScripts.{first_later}
@@ -59,13 +58,6 @@ world_then sent = world_after sent.before (world_start sent)
 
 abbrev pub world_behind : SentInPieces → World
 world_behind sent = world_after (lines_sent sent) (world_then sent)
-
--- the number of a peer's session, and the world with it: the session that it has, or else a new one
-abbrev pub placed : Word → World → Option (ℕ × World)
-placed w world = elim (session_number world w) [
-  | Some number ↦ Some (number, world)
-  | None ↦ option_map (λ number. (number, record world { hub = (connect world.hub).1; peers = world.peers ++ (w, number) ∷ [] })) (connect world.hub).0
-]
 
 -- what the session answers to the whole messages in its input and the first pieces, and the hub after them
 abbrev pub answered_to_first : ℕ → SentInPieces → List ℕ × Hub

@@ -10,7 +10,7 @@ use Rattle.rrset.specs.Rcodes.{noerror}
 use Rattle.rrset.specs.declared.record.Question.{Question}
 use Rattle.dsotlv.specs.Messages.{frame, first_message}
 use Rattle.coalesce.specs.Net.{push_frame}
-use Rattle.pushserver.specs.Sessions.{Session, Hub, first_answer}
+use Rattle.pushserver.specs.PlainHubs.{Session, Hub, first_answer}
 use Rattle.pushserver.specs.Hubs.{now, keeps_now, connect}
 use Rattle.dsotlv.specs.Answers.{answer_to}
 use Rattle.pushsession.specs.Sessions.{new_session}

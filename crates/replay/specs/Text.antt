@@ -1,7 +1,7 @@
 -- The text of a script.
 --     line_does line world      the world after a line, and the lines that it prints
 --     text_of text      what is written for the octets of a script
-use Rattle.std.specs.Prelude.{ℕ, Bool, true, false, cond, List, [], ◌∷◌, ◌++◌, map, length, flat_map, fold, position, Option, Some, None, Ok, Err, codes, decimal, unwrap_or, if◌then◌else◌}
+use Rattle.std.specs.Prelude.{ℕ, Bool, true, false, cond, List, [], ◌∷◌, ◌++◌, map, length, flat_map, fold, position, Option, Some, None, Ok, Err, option_map, codes, decimal, unwrap_or, if◌then◌else◌}
 use Rattle.std.specs.Str.{bytes_eq}
 use Rattle.rrset.specs.declared.record.Question.{Question}
 use Rattle.rrset.specs.declared.record.Rr.{Rr}
@@ -143,13 +143,17 @@ exchanges w number octets world =
     let later = record world { hub = x.hub } in
     (elim x.over [ None ↦ later | Some reason ↦ cut_peer w later ], spaced (codes "bytes" ∷ w ∷ octets_text x.octets ∷ []) ∷ ending)
 
+-- the number of a peer's session, and the world with it: the session that it has, or else a new one
+abbrev pub placed : Word → World → Option (ℕ × World)
+placed w world = elim (session_number world w) [
+  | Some number ↦ Some (number, world)
+  | None ↦ option_map (λ number. (number, record world { hub = (connect world.hub).1; peers = world.peers ++ (w, number) ∷ [] })) (connect world.hub).0
+]
+
 abbrev pub sends : Word → List ℕ → World → Printed
-sends w octets world = elim (session_number world w) [
-  | Some number ↦ exchanges w number octets world
-  | None ↦ (let r = connect world.hub in elim r.0 [
-    | None ↦ printing (codes "noseat" ∷ w ∷ []) world
-    | Some number ↦ exchanges w number octets (record world { hub = r.1; peers = world.peers ++ (w, number) ∷ [] })
-  ])
+sends w octets world = elim (placed w world) [
+  | None ↦ printing (codes "noseat" ∷ w ∷ []) world
+  | Some place ↦ exchanges w place.0 octets place.1
 ]
 
 -- octets to a lone client, and what it has to send

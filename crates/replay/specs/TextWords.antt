@@ -17,7 +17,7 @@ use Rattle.dsosession.specs.declared.session.CloseReason.{CloseReason}
 use Rattle.dsosession.specs.declared.session.CloseReason.TheVariants as closes
 use Rattle.pushserver.specs.declared.given.Why.{Why}
 use Rattle.pushserver.specs.declared.given.Why.TheVariants as whys
-use Rattle.pushserver.specs.Sessions.{Note, Hub}
+use Rattle.pushserver.specs.PlainHubs.{Note, Hub}
 use Rattle.pushserver.specs.Hubs.{session_of}
 use Rattle.pushserver.specs.ToldMessages.{records_noted}
 use Rattle.pushclient.specs.Clients.{Held, off, asked_only, refused_with, set_held, held}

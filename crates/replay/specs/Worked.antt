@@ -1,115 +1,42 @@
 -- Words for worked rows: the rules on what is under way as tests, after each line of a script.
---     holds_throughout script      after each line, of each connected client of the hub
-use Rattle.std.specs.Prelude.{ℕ, ◌-◌, Bool, true, false, not, ◌&&◌, ◌||◌, List, [], ◌∷◌, ◌++◌, map, length, drop, count_by, flat_map, Option, Some, None, Ok, Err, is_some, nat_le, ◌==◌, filter_map, option_map, codes, if◌then◌else◌}
-use Rattle.std.specs.Int.{w16, w32, from_be_bytes}
+--     unmet_in so_far world      which sentences of a world aren't so, by name
+--     holds_throughout script      after each line, of each client of the hub, all are
+use Rattle.std.specs.Prelude.{ℕ, ◌+◌, ◌-◌, Bool, true, false, not, ◌&&◌, ◌||◌, List, [], ◌∷◌, ◌++◌, map, length, drop, find, count_by, flat_map, Option, Some, None, Ok, Err, is_some, is_none, nat_le, nat_lt, ◌==◌, filter_map, codes, if◌then◌else◌}
 use Rattle.std.specs.List.{list_any, list_all, starts_with}
 use Rattle.std.specs.Str.{bytes_eq}
 use Rattle.push_base.specs.Cases.{is_empty}
-use Rattle.push_base.specs.Limits.{max_questions}
-use Rattle.rrset.specs.Header.{id_of, flags_of, is_response, rcode_of}
-use Rattle.rrset.specs.Records.{same_question}
+use Rattle.push_base.specs.Limits.{max_input}
 use Rattle.rrset.specs.RecordSet.{same_rows, matching}
 use Rattle.rrset.specs.declared.record.Question.{Question}
-use Rattle.dsotlv.specs.TlvKinds.{keepalive_tlv, subscribe_tlv, unsubscribe_tlv, reconfirm_tlv}
-use Rattle.dsotlv.specs.Messages.{messages_in, head_of, primary_data}
-use Rattle.dsotlv.specs.Notices.{question_of, reconfirm_of, notice_octets, notices_of}
-use Rattle.pushserver.specs.Sessions.{Session, Made, Note, told, note_of, made_octets, octets_made, written, Hub, sent}
+use Rattle.dsotlv.specs.Messages.{messages_in, first_message}
+use Rattle.pushserver.specs.PlainHubs.{Session, Made, Note, told, note_of, size_of_made, written, Hub, sent}
 use Rattle.pushserver.specs.Hubs.{newest, session_of}
 use Rattle.pushserver.specs.declared.given.Given.TheVariants.{Nothing}
 use Rattle.pushserver.specs.Giving.{give}
-use Rattle.pushserver.specs.ToldMessages.{set_after, records_noted, notices_since, is_answer_to}
-use Rattle.pushclient.specs.Clients.{Client, Connection, Wish, answered}
+use Rattle.pushserver.specs.ToldMessages.{set_after, records_noted}
+use Rattle.pushclient.specs.Clients.{Connection, is_connected}
 use Rattle.history.specs.States.{home_of}
 use Rattle.pushsession.specs.Sessions.{is_open}
 use Rattle.pushsession.specs.Subscribing.{is_served}
 use Rattle.pushserver.specs.Hubs.{state_now, records_now}
 use Rattle.dsosession.specs.declared.session.Timers.{Timers}
-use Rattle.replay.specs.Lines.{Word, ScriptLine, ask, settle}
-use Rattle.replay.specs.HeldPoints.{held_points, settles_alone, leaves_settled}
-use Rattle.replay.specs.Headline.{is_wanted}
+use Rattle.inflight.specs.Messages.{flying_octets}
+use Rattle.inflight.specs.Ends.{ends_of, going_up, going_down}
+use Rattle.inflight.specs.Worked.{client_message, server_message, flying_of, unmet, unmet_together, unmet_of_wishes, count_together, none_twice, first_answers_end}
+use Rattle.replay.specs.Lines.{Word, ScriptLine, ask, settle, show, open_connection}
+use Rattle.replay.specs.HeldPoints.{held_points, point_at, settles_alone, leaves_settled}
+use Rattle.replay.specs.Headline.{is_wanted, numbers_of, point_taken}
 use Rattle.replay.specs.World.{seat_of}
 use Rattle.replay.specs.TextWords.{ShowTold, show_at, with_records}
 use Rattle.replay.specs.Scripts.{script_of}
 use Rattle.replay.specs.World.{Seat, World, start_world, whole_within}
+use Rattle.replay.specs.PassedOctets.{max_wire}
 use Rattle.replay.specs.TextWords.{by_history}
 use Rattle.replay.specs.Text.{line_does, text_of_script, text_by_notices}
-use Rattle.replay.specs.Flight.{BothEnds, going_up, going_down, unsubscribed_id, is_let_go, count_of, is_requested, is_active_answer, was_active, ClientMessage, subscribes, unsubscribes, reconfirms, requests_keepalive, request_id, answer_id, unanswered_ids, is_answered_as, is_active_as, unsubscribes_id, all_taken_up, ids_and_questions, answer_comes_first, ends_of, server_octets, ServerMessage, accepts, refuses, grants, tells, delays, used_ids, is_id, is_question}
-
--- the message that a client wrote, by its first TLV
-abbrev pub client_message : List ℕ → Option ClientMessage
-client_message message = elim (head_of message) [
-  | None ↦ None
-  | Some head ↦ elim head.primary [
-    | None ↦ None
-    | Some primary ↦
-        if primary.0 == subscribe_tlv then option_map (λ q. subscribes head.id q) (question_of (primary_data message))
-        else if primary.0 == unsubscribe_tlv then Some (unsubscribes (from_be_bytes w16 (primary_data message)))
-        else if primary.0 == reconfirm_tlv then option_map (λ rr. reconfirms rr) (reconfirm_of (primary_data message))
-        else if primary.0 == keepalive_tlv then Some (requests_keepalive head.id) else None
-  ]
-]
-
-abbrev pub same_numbers : List ℕ → List ℕ → Bool
-same_numbers xs ys = list_all (λ n. count_of n xs == count_of n ys) (xs ++ ys)
-
-abbrev pub is_held_active : Session → Wish → Bool
-is_held_active session w = elim w.standing [ answered id ↦ list_any (is_active_as id w.question) session.subscriptions | _ ↦ true ]
-
-abbrev pub upward_holds : Timers → Session → Client → Connection → List (List ℕ) → List Made → Bool
-upward_holds timers session client c messages flying =
-    let ups = filter_map client_message messages in
-    length ups == length messages
-    && same_numbers (unanswered_ids (ends_of timers session client c)) (filter_map request_id ups ++ filter_map answer_id flying)
-    && list_all (is_held_active session) client.wishes
-    && list_all (λ s. list_any (is_answered_as s.id s.question) client.wishes || list_any (is_answer_to s.id) flying || list_any (unsubscribes_id s.id) ups) session.subscriptions
-    && is_some (all_taken_up session.established (ids_and_questions session.subscriptions) ups)
-    && list_all (is_requested (ends_of timers session client c)) ups
-    && list_all (is_active_answer (ends_of timers session client c)) flying
-    && list_all (is_let_go (ends_of timers session client c) flying) (filter_map unsubscribed_id ups)
-    && list_all (λ id. nat_le (count_of id (filter_map unsubscribed_id ups)) 1) (filter_map unsubscribed_id ups)
-
-abbrev pub took_notices : List Made → Wish → Bool
-took_notices taken w = elim w.standing [ answered id ↦ bytes_eq (flat_map notice_octets w.notices) (flat_map notice_octets (notices_since id taken)) | _ ↦ true ]
-
--- the message that the server made, by its flags and its first TLV
-abbrev pub server_message : List ℕ → Option ServerMessage
-server_message message =
-    if is_response (flags_of message) then
-    (if length message == 12 then Some (accepts (id_of message))
-    else if rcode_of (flags_of message) == 0 then Some (grants (id_of message)) else Some (refuses (id_of message)))
-    else if length message == 20 then Some (delays (rcode_of (flags_of message)) (from_be_bytes w32 (primary_data message)))
-    else elim (notices_of (primary_data message)) [ Err fault ↦ None | Ok notices ↦ Some (tells notices) ]
-
-abbrev pub is_from_server : Timers → Made → Bool
-is_from_server timers m = nat_le (length m.message) 65535 && (elim (server_message m.message) [ None ↦ false | Some s ↦ bytes_eq m.message (server_octets timers s) ])
-
-abbrev pub is_sound_client : BothEnds → Bool
-is_sound_client e =
-    nat_le (length e.wishes) max_questions
-    && list_all (λ w. count_by (λ v. same_question v.question w.question) e.wishes == 1) e.wishes
-    && list_all (λ w. is_question w.question) e.wishes
-    && list_all is_id (used_ids e)
-    && list_all (λ id. nat_le (count_of id (used_ids e)) 1) (used_ids e)
-
-abbrev pub flight_of : Timers → Session → Client → Connection → Seat → Bool
-flight_of timers session client c seat =
-    let taken = whole_within (seat.reached - length c.input) session.made in
-    let flying = drop (length taken) session.made in
-    let up = messages_in (session.input ++ seat.up_wire ++ c.output) in
-    octets_made taken == seat.reached - length c.input
-    && bytes_eq (c.input ++ seat.down_wire ++ session.output) (flat_map made_octets flying)
-    && list_all (took_notices taken) client.wishes
-    && (not c.established || session.established)
-    && (not session.established || c.established || answer_comes_first flying)
-    && is_empty up.1
-    && list_all (was_active taken) client.wishes
-    && list_all (λ id. nat_le (count_of id (filter_map answer_id flying)) (count_of id (unanswered_ids (ends_of timers session client c)))) (filter_map answer_id flying)
-    && list_all (is_from_server timers) flying
-    && is_sound_client (ends_of timers session client c)
-    && (not (is_open session.standing) || upward_holds timers session client c up.0 flying)
+use Rattle.pushclient.specs.ServerMessages.{server_octets}
 
 abbrev pub is_right_after : Hub → List Made → Made → Bool
-is_right_after hub before m = list_all (λ s. not (nat_le s.filled (octets_made (before ++ m ∷ []))) || same_rows (set_after (before ++ m ∷ []) s) (records_noted hub m.note s.question)) m.subscribed
+is_right_after hub before m = list_all (λ s. not (nat_le s.filled (size_of_made (before ++ m ∷ []))) || same_rows (set_after (before ++ m ∷ []) s) (records_noted hub m.note s.question)) m.subscribed
 
 abbrev pub each_is_right : Hub → List Made → List Made → Bool
 each_is_right hub before [] = true
@@ -120,28 +47,107 @@ points_rise q [] = true
 points_rise q (n ∷ []) = true
 points_rise q (n ∷ m ∷ notes) = nat_le (told n q.name) (told m q.name) && points_rise q (m ∷ notes)
 
-abbrev pub tells_history : Hub → Session → Bool
-tells_history hub session =
-    each_is_right hub [] session.made
-    && list_all (λ s. same_rows (set_after session.made s) (matching s.question (sent hub session s.question.name))) session.subscriptions
-    && list_all (λ s. points_rise s.question (map (λ m. m.note) session.made ++ note_of (newest hub) session ∷ [])) session.subscriptions
-    && list_all (λ s. nat_le s.filled (written session)) session.subscriptions
+abbrev pub unmet_of_history : Hub → Session → List (List ℕ)
+unmet_of_history hub session = unmet (
+    (codes "each", each_is_right hub [] session.made)
+    ∷ (codes "all", list_all (λ s. same_rows (set_after session.made s) (matching s.question (sent hub session s.question.name))) session.subscriptions)
+    ∷ (codes "notes", list_all (λ s. points_rise s.question (map (λ m. m.note) session.made ++ note_of (newest hub) session ∷ [])) session.subscriptions)
+    ∷ (codes "whole", list_all (λ s. nat_le s.filled (written session)) session.subscriptions)
+    ∷ (codes "ends", first_answers_end session)
+    ∷ [])
 
-abbrev pub seat_holds : Hub → Seat → Bool
-seat_holds hub seat = elim seat.session [
-  | None ↦ true
-  | Some number ↦ elim (session_of hub number) [ None ↦ false | Some session ↦ elim seat.client.connection [ None ↦ false | Some c ↦ flight_of hub.timers session seat.client c seat ] ]
+-- What lines have shown so far: the points of each client and question; and the newest point when each client was connected, the last one first.
+pub record Observed : Type 0 where
+  pub points : List (Word × Question × ℕ)
+  pub starts : List (Word × ℕ)
+
+abbrev pub start_of : Observed → Word → ℕ
+start_of so_far w = elim (find (λ s. bytes_eq s.0 w) so_far.starts) [ None ↦ 0 | Some s ↦ s.1 ]
+
+abbrev pub point_shown : Word → Question → Option ℕ → List (Word × Question × ℕ)
+point_shown w question None = []
+point_shown w question (Some p) = (w, question, p) ∷ []
+
+abbrev pub connecting : Word → World → List (Word × ℕ)
+connecting w world = elim (seat_of world w) [ None ↦ [] | Some seat ↦ if is_connected seat.client then [] else (w, newest world.hub) ∷ [] ]
+
+abbrev pub observed_line : ScriptLine → World → Observed → Observed
+observed_line (show w question written) world so_far = record so_far { points = so_far.points ++ point_shown w question (point_at world w question) }
+observed_line (open_connection w) world so_far = record so_far { starts = connecting w world ++ so_far.starts }
+observed_line _ world so_far = so_far
+
+-- each point of a client that was shown is at most this one of its question
+abbrev pub shows_no_later : Observed → Word → (Question → ℕ) → Bool
+shows_no_later so_far w point = list_all (λ p. not (bytes_eq p.0 w) || nat_le p.2 (point p.1)) so_far.points
+
+abbrev pub is_since : ℕ → Note → Bool
+is_since start n = nat_le start n.newest && list_all (λ e. nat_le start e.1) n.queue
+
+abbrev pub is_from_server : Timers → Made → Bool
+is_from_server timers m = elim (server_message m.message) [ None ↦ false | Some s ↦ bytes_eq m.message (server_octets timers s) ]
+
+abbrev pub is_within_bounds : Seat → Session → Connection → Bool
+is_within_bounds seat session c = nat_le (length seat.up_wire) max_wire && nat_le (length seat.down_wire) max_wire && nat_le (length c.input) max_input && nat_le (length session.input) max_input
+
+abbrev pub unmet_of_connection : Observed → Hub → Seat → Session → Connection → List (List ℕ)
+unmet_of_connection so_far hub seat session c =
+    let taken = whole_within (seat.reached - length c.input) session.made in
+    let rest = drop (length taken) session.made in
+    let flying = filter_map flying_of rest in
+    let up = messages_in (going_up session c seat.up_wire) in
+    let ups = filter_map client_message up.0 in
+    let start = start_of so_far seat.word in
+    unmet_together (ends_of hub seat.filled session seat.client c) taken flying ups ++ unmet (
+    (codes "made", list_all (is_from_server hub.timers) rest)
+    ∷ (codes "whole_down", bytes_eq (going_down session c seat.down_wire) (flying_octets hub.timers flying))
+    ∷ (codes "whole_up", not (is_open session.standing) || (is_empty up.1 && length ups == length up.0))
+    ∷ (codes "reached", size_of_made taken + length c.input == seat.reached)
+    ∷ (codes "waits", is_none (first_message c.input))
+    ∷ (codes "unclosed", is_none c.closed)
+    ∷ (codes "bounds", is_within_bounds seat session c)
+    ∷ (codes "since", list_all (is_since start) (map (λ m. m.note) session.made ++ note_of (newest hub) session ∷ []))
+    ∷ (codes "shown_before", shows_no_later so_far seat.word (point_taken start taken))
+    ∷ [])
+
+abbrev pub unmet_unconnected : Observed → Hub → Seat → List (List ℕ)
+unmet_unconnected so_far hub seat = (if seat.is_lone then [] else unmet_of_wishes seat.client.wishes) ++ unmet (
+    (codes "client", seat.is_lone || is_none seat.client.connection)
+    ∷ (codes "wires", is_empty seat.up_wire && is_empty seat.down_wire && seat.reached == 0 && is_empty seat.filled)
+    ∷ (codes "shown_before", shows_no_later so_far seat.word (λ question. newest hub))
+    ∷ [])
+
+abbrev pub unmet_of_seat : Observed → Hub → Seat → List (List ℕ)
+unmet_of_seat so_far hub seat = elim seat.session [
+  | None ↦ unmet_unconnected so_far hub seat
+  | Some number ↦ elim (session_of hub number) [
+    | None ↦ codes "there" ∷ []
+    | Some session ↦ elim seat.client.connection [ None ↦ codes "connected" ∷ [] | Some c ↦ unmet_of_connection so_far hub seat session c ]
+  ]
 ]
 
-abbrev pub world_holds : World → Bool
-world_holds world = list_all (λ e. tells_history world.hub e.1) world.hub.sessions && list_all (seat_holds world.hub) world.seats
+abbrev pub unmet_of_numbers : World → List (List ℕ)
+unmet_of_numbers world =
+    let words = map (λ s. s.word) world.seats ++ map (λ p. p.0) world.peers in
+    unmet (
+    (codes "numbers distinct", none_twice (numbers_of world))
+    ∷ (codes "numbers below", list_all (λ n. nat_lt n world.hub.numbers_given) (numbers_of world))
+    ∷ (codes "numbers all", count_together (numbers_of world) (map (λ e. e.0) world.hub.sessions) [])
+    ∷ (codes "words", list_all (λ w. count_by (bytes_eq w) words == 1) words)
+    ∷ [])
 
-abbrev pub holds_from : List ScriptLine → World → Bool
-holds_from [] world = world_holds world
-holds_from (line ∷ lines) world = world_holds world && holds_from lines (line_does by_history line world).0
+-- which sentences of a world aren't so, by name
+abbrev pub unmet_in : Observed → World → List (List ℕ)
+unmet_in so_far world = unmet_of_numbers world ++ flat_map (λ e. unmet_of_history world.hub e.1) world.hub.sessions ++ flat_map (unmet_of_seat so_far world.hub) world.seats
+
+abbrev pub holds_from : List ScriptLine → World → Observed → Bool
+holds_from [] world so_far = is_empty (unmet_in so_far world)
+holds_from (line ∷ lines) world so_far = is_empty (unmet_in so_far world) && holds_from lines (line_does by_history line world).0 (observed_line line world so_far)
+
+abbrev pub nothing_observed : Observed
+nothing_observed = record { points = []; starts = [] }
 
 abbrev pub holds_throughout : List ℕ → Bool
-holds_throughout text = elim (script_of text) [ Err n ↦ false | Ok script ↦ holds_from script (start_world script) ]
+holds_throughout text = elim (script_of text) [ Err n ↦ false | Ok script ↦ holds_from script (start_world script) nothing_observed ]
 
 -- both ways of telling what is held give one text
 abbrev pub tells_one_text : List ℕ → Bool

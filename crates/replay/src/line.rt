@@ -1,6 +1,6 @@
 //! The lines of a script that are built.
 
-ghost use Rattle.std.specs.Prelude.{◌≡◌, ◌≤◌, false, ◌∷◌, [], IfOk, IfSome, IfNone, None, position, ◌==◌, ◌<◌, option_map, length};
+ghost use Rattle.std.specs.Prelude.{◌≡◌, false, ◌∷◌, [], IfOk, IfSome, IfNone, None, position, ◌==◌, ◌<◌, option_map, length};
 ghost use Rattle.replay.specs.Lines.{cut, send, update, timers_line, zone_line, at_line, stop_line, of_word, of_octets, of_word_and_octets, line_of};
 ghost use Rattle.replay.specs.KeptLines.{said, IsSound, words_in, one_in, two_in, three_in, understood, begins_silent, kind_of, said_behind};
 

@@ -1,6 +1,6 @@
 //! The text is handed to the sink.
 
-ghost use Rattle.std.specs.Prelude.{◌≡◌, ◌⊎◌, ◌≤◌, ℕ, OnOk, OnErr};
+ghost use Rattle.std.specs.Prelude.{◌≡◌, ◌⊎◌, ◌≤◌, OnOk, OnErr};
 ghost use Rattle.std.specs.Io.KnownBytes.{append_known};
 ghost use Rattle.push_base.specs.Causes.{HasCause, Rose};
 ghost use Rattle.replay.specs.Reply.{IsFrontOf, Took};

@@ -9,7 +9,7 @@ pub mod Apart
 pub mod LowerNames
 pub mod Differences
 pub mod Shapes
-pub mod LowerCase
+pub mod ChangedNames
 pub mod Expanding
 pub mod Places
 pub mod LowerOrder
@@ -18,3 +18,4 @@ pub mod Rows
 pub mod Retaining
 pub mod Distinct
 pub mod SameQuestions
+pub mod ReadBack

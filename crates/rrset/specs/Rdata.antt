@@ -2,10 +2,11 @@
 --     shape kind      the parts of a kind's rdata
 --     shape_fits kind rdata      plain rdata has the shape of its kind
 --     rdata_names, with_names, lowered_rdata      the names inside; rdata with other names; with its names in lower case
+--     with_suffix old new name      a name with other last labels, where that makes a name
 --     rdata_at kind message at end      the rdata between two places, names expanded, or the place of the fault
-use Rattle.std.specs.Prelude.{ℕ, zero, suc, ◌+◌, Bool, true, false, List, [], ◌∷◌, length, take, drop, Option, Some, None, Result, Ok, Err, nat_lt, ◌==◌, flat_map, is_ok, slice_range, if◌then◌else◌}
+use Rattle.std.specs.Prelude.{ℕ, zero, suc, ◌+◌, Bool, true, false, List, [], ◌∷◌, length, take, drop, Option, Some, None, Result, Ok, Err, nat_lt, nat_le, ◌&&◌, ◌==◌, flat_map, is_ok, slice_range, if◌then◌else◌}
 use Rattle.push_base.specs.Cases.{chosen, ◌>>=◌}
-use Rattle.dnsname.specs.Names.{Labels, octets, lower}
+use Rattle.dnsname.specs.Names.{Labels, max_name, octets, lower, ends_in, swapped_suffix}
 use Rattle.dnsname.specs.Reading.{name_up_to, plain_name_at, place_of}
 use Rattle.dnsname.specs.declared.name.NameFault.{NameFault}
 use Rattle.rrset.specs.Kinds.{a_kind, ns_kind, cname_kind, soa_kind, ptr_kind, mx_kind, txt_kind, aaaa_kind, srv_kind}
@@ -80,6 +81,10 @@ field_with f (named name) = named (f name)
 -- each name inside replaced; rdata that doesn't fit is taken as it is
 abbrev pub with_names : (Labels → Labels) → ℕ → List ℕ → List ℕ
 with_names f kind rdata = elim (rdata_fields kind rdata) [ Err p ↦ rdata | Ok fields ↦ flat_map (λ field. field_octets (field_with f field)) fields ]
+
+-- a name with new in the place of the last labels old, where it ends in them and that makes a name (RFC 1035, 2.3.4); any other as it is
+abbrev pub with_suffix : Labels → Labels → Labels → Labels
+with_suffix old new name = if ends_in name old && nat_le (length (octets (swapped_suffix name old new))) max_name then swapped_suffix name old new else name
 
 abbrev pub lowered_rdata : ℕ → List ℕ → List ℕ
 lowered_rdata kind rdata = with_names lower kind rdata

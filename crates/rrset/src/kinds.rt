@@ -1,5 +1,8 @@
 //! Kinds (the TYPE of a record), by their numbers (RFC 1035, 3.2.2 and 3.2.3; RFC 2782; RFC 3596).
 
+ghost use Rattle.std.specs.Prelude.{◌≡◌};
+ghost use Rattle.rrset.specs.Kinds.{is_meta};
+
 /// An address (RFC 1035, 3.4.1).
 pub const A: u16 = 1;
 /// A server of the zone (RFC 1035, 3.3.11).
@@ -26,3 +29,10 @@ pub const NSEC: u16 = 47;
 pub const FIRST_META: u16 = 249;
 /// Every kind, in a question (RFC 1035, 3.2.3).
 pub const ANY: u16 = 255;
+
+/// Whether a kind is meta: no zone and no link holds records of it (RFC 6895, 3.1; the list is this project's own).
+pub fn is_meta(kind: u16) -> bool
+    ensures { result ≡ is_meta kind }
+{
+    kind == 0 || kind == OPT || (FIRST_META <= kind && kind <= ANY)
+}

@@ -6,13 +6,13 @@ mod comparing;
 pub mod header;
 pub mod kinds;
 mod lists;
-mod lowering;
 mod matching;
 mod order;
 pub mod rcodes;
 mod reading;
 pub mod record;
-mod shape;
+mod renaming;
+pub mod shape;
 mod table;
 
 ghost use Rattle.std.specs.Prelude.{◌≡◌, [], ◌∷◌, true, false, codes, Some, None, Ok, Err, length};
@@ -29,6 +29,7 @@ pub use reading::{RdataFault, read_rdata};
 pub use record::{
     Changed, HeardRr, HeardRrs, Hearing, Key, NoMemory, Question, Questions, Rr, Rrs, Shown,
 };
+pub use renaming::{NameChange, with_names};
 pub use shape::shape_fits;
 pub use table::Table;
 

@@ -10,7 +10,7 @@ use dnsname::plain_name_end;
 
 /// A part of a shape.
 #[derive(Clone, Copy)]
-pub(crate) enum ShapePart {
+pub enum ShapePart {
     /// So many octets.
     Octets(usize),
     /// A name.
@@ -34,7 +34,7 @@ static AUTHORITY: [ShapePart; 3] = [ShapePart::Name, ShapePart::Name, ShapePart:
 static TEXTS: [ShapePart; 1] = [ShapePart::Strings];
 
 /// The parts of a kind's rdata. A kind without a shape is opaque.
-pub(crate) fn shape(kind: u16) -> Option<&'static [ShapePart]>
+pub fn shape(kind: u16) -> Option<&'static [ShapePart]>
     ensures { MatchOption result (shape kind ≡ None) (λ parts. shape kind ≡ Some (map part_of parts.now)) }
 {
     match kind {
@@ -65,7 +65,7 @@ pub(crate) fn are_strings(octets: &[u8]) -> bool
 }
 
 /// The place after a part that begins at a place of plain rdata.
-pub(crate) fn part_end(part: ShapePart, rdata: &[u8], place: usize) -> Option<usize>
+pub fn part_end(part: ShapePart, rdata: &[u8], place: usize) -> Option<usize>
     requires { place ≤ length rdata.now }
     ensures end { result ≡ part_end part rdata.now place }
     ensures within { IfSome result (λ after. after ≤ length rdata.now) }

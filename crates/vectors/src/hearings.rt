@@ -1,6 +1,6 @@
 //! What the datagrams of a link say (RFC 6762, 6, 10 and 18).
 
-use crate::shown::record_text;
+use crate::shown::{is_text, record_text};
 use crate::spaced_octets;
 use dnswire::{HearFault, read_hearing};
 use push_base::NoMemory;
@@ -10,7 +10,7 @@ use std::test::Fail;
 
 /// What a case shows, the datagram, and what it says: records as owner, TTL, class, kind and rdata, or the
 /// fault.
-const CASES: [(&str, &str, &str); 28] = [
+const CASES: &[(&str, &str, &str)] = &[
     (
         "a printer's services, names in rdata without pointers",
         "0000 8400 0000 0005 0000 0001 045f697070 045f746370 056c6f63616c 00 000c 0001 00001194 \
@@ -145,7 +145,7 @@ const CASES: [(&str, &str, &str); 28] = [
 ];
 
 /// Datagrams of so many octets of 0, and their fault (RFC 6762, 17).
-const SIZES: [(usize, &str); 2] = [(9000, "Query"), (9001, "Long")];
+const SIZES: &[(usize, &str)] = &[(9000, "Query"), (9001, "Long")];
 
 /// Records, those with the cache-flush bit marked.
 fn heard_text(alloc: Global, rrs: &[HeardRr]) -> Result<String, NoMemory> {
@@ -168,18 +168,27 @@ fn outcome(alloc: Global, datagram: &[u8]) -> Result<String, NoMemory> {
     }
 }
 
+/// Whether a datagram says what it is to say.
+fn is_heard_so(alloc: Global, case: &(&str, &str, &str)) -> Result<(), Fail> {
+    let octets = spaced_octets(alloc, case.1)?;
+    let text = outcome(alloc, octets.as_slice())?;
+    is_text(case.0, text.as_str(), case.2)
+}
+
+/// Whether so many octets of 0 are what they are to be.
+fn is_heard_at(alloc: Global, size: usize, gives: &str) -> Result<(), Fail> {
+    let octets = vec![in alloc; 0; size]?;
+    let text = outcome(alloc, &octets)?;
+    is_text("octets of 0", text.as_str(), gives)
+}
+
 #[test]
 fn datagrams_are_heard(rt: HostRuntime) -> Result<(), Fail> {
-    let alloc = rt.alloc();
-    'cases: for (shows, datagram, gives) in CASES {
-        let octets = spaced_octets(alloc, datagram)?;
-        let text = outcome(alloc, octets.as_slice())?;
-        assert_eq!(rt; text.as_str(), gives, "{shows}");
+    'cases: for case in CASES {
+        is_heard_so(rt.alloc(), case)?;
     }
-    'sizes: for (size, gives) in SIZES {
-        let octets = vec![in alloc; 0; size]?;
-        let text = outcome(alloc, &octets)?;
-        assert_eq!(rt; text.as_str(), gives, "{size} octets");
+    'sizes: for case in SIZES {
+        is_heard_at(rt.alloc(), case.0, case.1)?;
     }
     Ok(())
 }

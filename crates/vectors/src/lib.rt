@@ -1,41 +1,23 @@
-//! Octets of messages, each with what it says or with the place of its fault, and what the calls of the crates below
-//! give, as tests of them.
+//! Octets of names and of messages, each with what they say or with the place of their fault, as tests of the readers
+//! and the writers.
 #![tactic(auto)]
 
 #[cfg(test)]
-mod asked;
-#[cfg(test)]
-mod client_sessions;
-#[cfg(test)]
 mod hearings;
 #[cfg(test)]
-mod histories;
-#[cfg(test)]
-mod made;
-#[cfg(test)]
 mod names;
-#[cfg(test)]
-mod nets;
 #[cfg(test)]
 mod notices;
 #[cfg(test)]
 mod outside;
 #[cfg(test)]
-mod queues;
-#[cfg(test)]
 mod rdata;
 #[cfg(test)]
 mod session_messages;
 #[cfg(test)]
-mod sessions;
-#[cfg(test)]
 mod shown;
 #[cfg(test)]
-mod sides;
-#[cfg(test)]
 mod streams;
-#[cfg(test)]
-mod tables;
 #[cfg(test)]
 mod updates;
 

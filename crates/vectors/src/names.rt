@@ -1,7 +1,9 @@
 //! Names in messages, names without pointers and texts of names (RFC 1035, 2.3.4, 3.1, 4.1.4 and 5.1).
 
+use crate::shown::{holds, is_text};
 use crate::spaced_octets;
 use dnsname::{Name, NameFault, NoMemory};
+use push_base::hex_text;
 use std::alloc::Global;
 use std::test::Fail;
 
@@ -35,7 +37,7 @@ type Case = (
     (&'static str, usize),
 );
 
-const CASES: [Case; 30] = [
+const CASES: &[Case] = &[
     (
         "a name as it stands",
         MESSAGE,
@@ -261,72 +263,112 @@ fn outcome(
     }
 }
 
+/// Whether a reading gives a text and a place.
+fn is_read_so(
+    alloc: Global,
+    shows: &str,
+    read: Result<(Name, usize), NameFault>,
+    gives: (&str, usize),
+) -> Result<(), Fail> {
+    let (text, place) = outcome(alloc, read)?;
+    is_text(shows, text.as_str(), gives.0)?;
+    holds(shows, place == gives.1)
+}
+
+/// Whether both readings of a case give what they are to give.
+fn are_read_so(alloc: Global, case: &Case) -> Result<(), Fail> {
+    let octets = spaced_octets(alloc, case.1)?;
+    let message = octets.as_slice();
+    is_read_so(alloc, case.0, Name::read(alloc, message, case.2), case.3)?;
+    is_read_so(
+        alloc,
+        case.0,
+        Name::read_plain(alloc, message, case.2),
+        case.4,
+    )
+}
+
 #[test]
 fn names_are_read(rt: HostRuntime) -> Result<(), Fail> {
-    let alloc = rt.alloc();
-    'cases: for (shows, message, at, read, plain) in CASES {
-        let octets = spaced_octets(alloc, message)?;
-        let (text, place) = outcome(alloc, Name::read(alloc, octets.as_slice(), at))?;
-        assert_eq!(rt; (text.as_str(), place), read, "{shows}");
-        let (text, place) = outcome(alloc, Name::read_plain(alloc, octets.as_slice(), at))?;
-        assert_eq!(rt; (text.as_str(), place), plain, "plain: {shows}");
+    'cases: for case in CASES {
+        are_read_so(rt.alloc(), case)?;
     }
     Ok(())
 }
 
-/// A name's text, its octets, and the text that it has.
-const TEXTS: [(&str, &[u8], &str); 2] = [
+/// A name's text, its octets in hexadecimal, and the text that it has.
+const TEXTS: &[(&str, &str, &str)] = &[
     (
         "a\\.b\\\\\\007\\065.Example.",
-        b"\x06a.b\\\x07A\x07Example\0",
+        "06612e625c0741074578616d706c6500",
         "a\\.b\\\\\\007A.Example.",
     ),
-    (".", b"\0", "."),
+    (".", "00", "."),
 ];
+
+/// Whether the name of a text has these octets, and is written so.
+fn is_name(alloc: Global, case: &(&str, &str, &str)) -> Result<(), Fail> {
+    let name = Name::from_text(alloc, case.0)?;
+    is_text(case.0, hex_text(alloc, name.octets())?.as_str(), case.1)?;
+    is_text(case.0, name.text()?.as_str(), case.2)
+}
 
 #[test]
 fn texts_are_read_and_written(rt: HostRuntime) -> Result<(), Fail> {
-    'texts: for (text, octets, written) in TEXTS {
-        let name = Name::from_text(rt.alloc(), text)?;
-        assert_eq!(rt; name.octets(), octets);
-        assert_eq!(rt; name.text()?.as_str(), written);
+    'texts: for case in TEXTS {
+        is_name(rt.alloc(), case)?;
     }
     Ok(())
 }
 
 /// A name, a suffix of it and another one; the name in lower case, and with the other one in place of the suffix.
-const SUFFIXES: [(&str, &str, &str, &[u8], &[u8]); 1] = [(
+const SUFFIXES: &[[&str; 5]] = &[[
     "Printer.local.",
     "LOCAL.",
     "example.com.",
-    b"\x07printer\x05local\0",
-    b"\x07Printer\x07example\x03com\0",
-)];
+    "printer.local.",
+    "Printer.example.com.",
+]];
 
-/// The octets of a name's copy with another suffix, or none where it would be too long.
-fn with_suffix(alloc: Global, name: &Name, old: &Name, new: &Name) -> Result<Vec<u8>, NoMemory> {
-    let mut out = Vec::new(alloc);
+/// The text of a name's copy with another suffix, or none where it hasn't the old one or would be too long.
+fn with_suffix(alloc: Global, name: &Name, old: &Name, new: &Name) -> Result<String, NoMemory> {
     if !name.ends_in(old) {
-        return Ok(out);
+        return Ok(String::new(alloc));
     }
-    if let Some(swapped) = name.swap_suffix(old, new)? {
-        swapped.copy()?.write_to(&mut out)?;
+    if old.same(new) {
+        return Ok(String::new(alloc));
     }
-    Ok(out)
+    match name.swap_suffix(old, new)? {
+        Some(swapped) => swapped.copy()?.text(),
+        None => Ok(String::new(alloc)),
+    }
+}
+
+/// The same of texts.
+fn swapped(alloc: Global, name: &str, old: &str, new: &str) -> Result<String, Fail> {
+    let name = Name::from_text(alloc, name)?;
+    let old = Name::from_text(alloc, old)?;
+    let new = Name::from_text(alloc, new)?;
+    Ok(with_suffix(alloc, &name, &old, &new)?)
+}
+
+/// The text of a text's name in lower case.
+fn lowered(alloc: Global, text: &str) -> Result<String, Fail> {
+    let name = Name::from_text(alloc, text)?;
+    Ok(name.lower()?.text()?)
+}
+
+/// Whether a name is in lower case and with another suffix what it is to be.
+fn is_swapped_so(alloc: Global, case: &[&str; 5]) -> Result<(), Fail> {
+    is_text(case[0], lowered(alloc, case[0])?.as_str(), case[3])?;
+    let text = swapped(alloc, case[0], case[1], case[2])?;
+    is_text(case[0], text.as_str(), case[4])
 }
 
 #[test]
 fn suffixes_are_swapped(rt: HostRuntime) -> Result<(), Fail> {
-    'names: for (name, old, new, lower, swapped) in SUFFIXES {
-        let name = Name::from_text(rt.alloc(), name)?;
-        let old = Name::from_text(rt.alloc(), old)?;
-        let new = Name::from_text(rt.alloc(), new)?;
-        assert!(rt; !old.same(&new));
-        assert_eq!(rt; name.lower()?.octets(), lower);
-        assert_eq!(rt;
-            with_suffix(rt.alloc(), &name, &old, &new)?.as_slice(),
-            swapped
-        );
+    'names: for case in SUFFIXES {
+        is_swapped_so(rt.alloc(), case)?;
     }
     Ok(())
 }

@@ -3,15 +3,17 @@
 ghost use Rattle.std.specs.Prelude.{◌≡◌, true};
 ghost use Rattle.dsotlv.specs.Giving.{FitsARecord};
 
-use crate::shown::record_text;
+use crate::shown::{holds, is_text, record_text};
 use crate::spaced_octets;
+use dnsname::Name;
 use dsotlv::{Notice, PushFault, read_push, read_reconfirm, write_notice};
 use push_base::{NoMemory, Octets, hex_text};
+use rrset::Rr;
 use std::alloc::Global;
 use std::test::Fail;
 
 /// What a case shows, the data of a PUSH, and its notices. The notices are written as these octets.
-const NOTICES: [(&str, &str, &str); 12] = [
+const NOTICES: &[(&str, &str, &str)] = &[
     (
         "an address is added",
         "0161076578616d706c6503636f6d00 0001 0001 0000003c 0004 c0000201",
@@ -81,7 +83,7 @@ const NOTICES: [(&str, &str, &str); 12] = [
 ];
 
 /// What a case shows, the data of a PUSH, and its notices, which are written otherwise, or the fault.
-const DATA: [(&str, &str, &str); 29] = [
+const DATA: &[(&str, &str, &str)] = &[
     (
         "all records of a name, whatever the kind",
         "00 0001 00ff fffffffe 0000",
@@ -198,7 +200,7 @@ const DATA: [(&str, &str, &str); 29] = [
 ];
 
 /// What a case shows, the data of a RECONFIRM, and its record.
-const RECONFIRMS: [(&str, &str, &str); 10] = [
+const RECONFIRMS: &[(&str, &str, &str)] = &[
     (
         "an address",
         "0168 036c616e076578616d706c6503636f6d00 0001 0001 c0000201",
@@ -223,33 +225,50 @@ const RECONFIRMS: [(&str, &str, &str); 10] = [
     ("half a class", "00 0001 00", "none"),
 ];
 
+/// A word, a name and numbers.
+fn words(alloc: Global, word: &str, name: &Name, numbers: &[u32]) -> Result<String, NoMemory> {
+    let name = name.text()?;
+    let mut text = format!(in alloc; "{word} {name}")?;
+    'numbers: for number in numbers {
+        let part = format!(in alloc; " {number}")?;
+        text.push_str(&part)?;
+    }
+    Ok(text)
+}
+
+/// The record that a notice adds.
+fn added_text(alloc: Global, rr: &Rr) -> Result<String, NoMemory> {
+    let record = record_text(alloc, rr)?;
+    format!(in alloc; "add {record}")
+}
+
+/// The record that a notice removes.
+fn removed_text(alloc: Global, rr: &Rr) -> Result<String, NoMemory> {
+    let key = words(
+        alloc,
+        "remove",
+        &rr.owner,
+        &[rr.class.into(), rr.kind.into()],
+    )?;
+    let rdata = hex_text(alloc, rr.rdata.as_slice())?;
+    format!(in alloc; "{key} [{rdata}]")
+}
+
 fn notice_text(alloc: Global, notice: &Notice) -> Result<String, NoMemory> {
     match notice {
-        Notice::Add(rr) => {
-            let record = record_text(alloc, rr)?;
-            format!(in alloc; "add {record}")
-        }
-        Notice::RemoveOne(rr) => {
-            let owner = rr.owner.text()?;
-            let rdata = hex_text(alloc, rr.rdata.as_slice())?;
-            format!(in alloc; "remove {owner} {} {} [{rdata}]", rr.class, rr.kind)
-        }
+        Notice::Add(rr) => added_text(alloc, rr),
+        Notice::RemoveOne(rr) => removed_text(alloc, rr),
         Notice::RemoveSet(name, class, kind) => {
-            let name = name.text()?;
-            format!(in alloc; "remove set {name} {class} {kind}")
+            words(
+                alloc,
+                "remove set",
+                name,
+                &[(*class).into(), (*kind).into()],
+            )
         }
-        Notice::RemoveClass(name, class) => {
-            let name = name.text()?;
-            format!(in alloc; "remove class {name} {class}")
-        }
-        Notice::RemoveAll(name) => {
-            let name = name.text()?;
-            format!(in alloc; "remove all {name}")
-        }
-        Notice::Odd(name, ttl) => {
-            let name = name.text()?;
-            format!(in alloc; "odd {name} {ttl}")
-        }
+        Notice::RemoveClass(name, class) => words(alloc, "remove class", name, &[(*class).into()]),
+        Notice::RemoveAll(name) => words(alloc, "remove all", name, &[]),
+        Notice::Odd(name, ttl) => words(alloc, "odd", name, &[*ttl]),
     }
 }
 
@@ -305,31 +324,43 @@ fn reconfirmed(alloc: Global, data: &[u8]) -> Result<String, NoMemory> {
     }
 }
 
+/// Whether the data of a PUSH says what it is to say.
+fn is_read_so(alloc: Global, case: &(&str, &str, &str)) -> Result<(), Fail> {
+    let octets = spaced_octets(alloc, case.1)?;
+    let text = outcome(alloc, octets.as_slice())?;
+    is_text(case.0, text.as_str(), case.2)
+}
+
+/// Whether the notices that data is are written as they stand there.
+fn is_written_so(alloc: Global, case: &(&str, &str, &str)) -> Result<(), Fail> {
+    let octets = spaced_octets(alloc, case.1)?;
+    let written = rewritten(alloc, octets.as_slice())?;
+    holds(case.0, written.as_slice() == octets.as_slice())
+}
+
 #[test]
 fn notices_are_read_and_written(rt: HostRuntime) -> Result<(), Fail> {
-    let alloc = rt.alloc();
-    'notices: for (shows, data, gives) in NOTICES {
-        let octets = spaced_octets(alloc, data)?;
-        let text = outcome(alloc, octets.as_slice())?;
-        assert_eq!(rt; text.as_str(), gives, "{shows}");
-        let written = rewritten(alloc, octets.as_slice())?;
-        assert_eq!(rt; written.as_slice(), octets.as_slice(), "{shows}");
+    'notices: for case in NOTICES {
+        is_read_so(rt.alloc(), case)?;
+        is_written_so(rt.alloc(), case)?;
     }
-    'data: for (shows, data, gives) in DATA {
-        let octets = spaced_octets(alloc, data)?;
-        let text = outcome(alloc, octets.as_slice())?;
-        assert_eq!(rt; text.as_str(), gives, "{shows}");
+    'data: for case in DATA {
+        is_read_so(rt.alloc(), case)?;
     }
     Ok(())
 }
 
+/// Whether the data of a RECONFIRM is the record that it is to be.
+fn is_record(alloc: Global, case: &(&str, &str, &str)) -> Result<(), Fail> {
+    let octets = spaced_octets(alloc, case.1)?;
+    let text = reconfirmed(alloc, octets.as_slice())?;
+    is_text(case.0, text.as_str(), case.2)
+}
+
 #[test]
 fn reconfirmed_records_are_read(rt: HostRuntime) -> Result<(), Fail> {
-    let alloc = rt.alloc();
-    'records: for (shows, data, gives) in RECONFIRMS {
-        let octets = spaced_octets(alloc, data)?;
-        let text = reconfirmed(alloc, octets.as_slice())?;
-        assert_eq!(rt; text.as_str(), gives, "{shows}");
+    'records: for case in RECONFIRMS {
+        is_record(rt.alloc(), case)?;
     }
     Ok(())
 }

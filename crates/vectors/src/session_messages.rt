@@ -1,6 +1,6 @@
 //! Messages of DNS Stateful Operations and the questions of SUBSCRIBE (RFC 8490, 5.4; RFC 8765, 6.2).
 
-use crate::shown::question_text;
+use crate::shown::{holds, is_text, question_text};
 use crate::spaced_octets;
 use dsotlv::{
     DsoFault, DsoMessage, Tlv, Tlvs, WriteDsoFault, head, read_dso, read_question, write_dso,
@@ -10,7 +10,7 @@ use std::alloc::Global;
 use std::test::Fail;
 
 /// What a case shows, the message, its head, and what it says or its fault.
-const MESSAGES: [(&str, &str, &str, &str); 22] = [
+const MESSAGES: &[(&str, &str, &str, &str)] = &[
     (
         "a SUBSCRIBE",
         "0001 3000 0000 0000 0000 0000 0040 0011 076578616d706c6503636f6d00 0006 0001",
@@ -140,7 +140,7 @@ const MESSAGES: [(&str, &str, &str, &str); 22] = [
 ];
 
 /// What a case shows, the data of a SUBSCRIBE, and its name, kind and class.
-const QUESTIONS: [(&str, &str, &str); 11] = [
+const QUESTIONS: &[(&str, &str, &str)] = &[
     (
         "a question",
         "076578616d706c6503636f6d00 0006 0001",
@@ -188,7 +188,7 @@ type Written = (
     &'static str,
 );
 
-const WRITTEN: [Written; 6] = [
+const WRITTEN: &[Written] = &[
     (
         "an answer without a TLV",
         1,
@@ -253,7 +253,7 @@ const WRITTEN: [Written; 6] = [
 ];
 
 /// Octets of a TLV's data, and what comes of a message with it.
-const SIZES: [(usize, Result<usize, WriteDsoFault>); 2] = [
+const SIZES: &[(usize, Result<usize, WriteDsoFault>)] = &[
     (65_519, Ok(65_537)),
     (65_520, Err(WriteDsoFault::Long)),
 ];
@@ -336,42 +336,62 @@ fn size_written(alloc: Global, size: usize) -> Result<usize, WriteDsoFault> {
     Ok(out.len())
 }
 
+/// Whether a message's head shows, and the message says, what they are to.
+fn is_read_so(alloc: Global, case: &(&str, &str, &str, &str)) -> Result<(), Fail> {
+    let octets = spaced_octets(alloc, case.1)?;
+    is_text(
+        case.0,
+        head_text(alloc, octets.as_slice())?.as_str(),
+        case.2,
+    )?;
+    is_text(case.0, outcome(alloc, octets.as_slice())?.as_str(), case.3)
+}
+
+/// Whether data asks what it is to ask.
+fn is_asked_so(alloc: Global, case: &(&str, &str, &str)) -> Result<(), Fail> {
+    let octets = spaced_octets(alloc, case.1)?;
+    is_text(case.0, asked(alloc, octets.as_slice())?.as_str(), case.2)
+}
+
 #[test]
 fn messages_are_read(rt: HostRuntime) -> Result<(), Fail> {
-    let alloc = rt.alloc();
-    'messages: for (shows, message, head, gives) in MESSAGES {
-        let octets = spaced_octets(alloc, message)?;
-        let seen = head_text(alloc, octets.as_slice())?;
-        let text = outcome(alloc, octets.as_slice())?;
-        assert_eq!(rt; (seen.as_str(), text.as_str()), (head, gives), "{shows}");
+    'messages: for case in MESSAGES {
+        is_read_so(rt.alloc(), case)?;
     }
-    'questions: for (shows, data, gives) in QUESTIONS {
-        let octets = spaced_octets(alloc, data)?;
-        let text = asked(alloc, octets.as_slice())?;
-        assert_eq!(rt; text.as_str(), gives, "{shows}");
+    'questions: for case in QUESTIONS {
+        is_asked_so(rt.alloc(), case)?;
     }
     Ok(())
 }
 
+/// The octets of a case's message. None has an RCODE above 15.
+fn octets_written(alloc: Global, case: &Written) -> Result<Vec<u8>, Fail> {
+    let tlvs = tlvs_of(alloc, case.4)?;
+    let message = DsoMessage {
+        id: case.1,
+        response: case.2,
+        rcode: case.3.min(15),
+        tlvs,
+    };
+    let mut out = Vec::new(alloc);
+    write_dso(&message, &mut out)?;
+    Ok(out)
+}
+
+/// Whether a case's message is written as it is to be.
+fn is_written_so(alloc: Global, case: &Written) -> Result<(), Fail> {
+    let octets = spaced_octets(alloc, case.5)?;
+    let written = octets_written(alloc, case)?;
+    holds(case.0, written.as_slice() == octets.as_slice())
+}
+
 #[test]
 fn messages_are_written(rt: HostRuntime) -> Result<(), Fail> {
-    let alloc = rt.alloc();
-    'written: for (shows, id, response, rcode, parts, gives) in WRITTEN {
-        assert!(rt; rcode < 16);
-        let tlvs = tlvs_of(alloc, parts)?;
-        let message = DsoMessage {
-            id,
-            response,
-            rcode,
-            tlvs,
-        };
-        let mut out = Vec::new(alloc);
-        write_dso(&message, &mut out)?;
-        let octets = spaced_octets(alloc, gives)?;
-        assert_eq!(rt; out.as_slice(), octets.as_slice(), "{shows}");
+    'written: for case in WRITTEN {
+        is_written_so(rt.alloc(), case)?;
     }
-    'sizes: for (size, gives) in SIZES {
-        assert_eq!(rt; size_written(alloc, size), gives, "{size} octets");
+    'sizes: for case in SIZES {
+        holds("octets of data", size_written(rt.alloc(), case.0) == case.1)?;
     }
     Ok(())
 }

@@ -1,5 +1,6 @@
 //! Streams of messages behind their lengths, in pieces (RFC 7766, 8).
 
+use crate::shown::is_text;
 use dsotlv::Framer;
 use push_base::NoMemory;
 use std::alloc::Global;
@@ -44,8 +45,8 @@ fn messages_of(alloc: Global, sizes: &[usize]) -> Result<String, Fail> {
 
 #[test]
 fn pieces_give_messages(rt: HostRuntime) -> Result<(), Fail> {
-    for (sizes, wanted) in CASES {
-        assert_eq!(rt; messages_of(rt.alloc(), sizes)?.as_str(), *wanted);
+    'cases: for (sizes, wanted) in CASES {
+        is_text(wanted, messages_of(rt.alloc(), sizes)?.as_str(), wanted)?;
     }
     Ok(())
 }

@@ -2,7 +2,7 @@
 
 ghost use Rattle.std.specs.Prelude.{◌≤◌, length};
 
-use crate::shown::{question_text, record_text};
+use crate::shown::{holds, is_text, question_text, record_text};
 use crate::spaced_octets;
 use dnswire::{Update, WireFault, read_update, write_answer};
 use push_base::NoMemory;
@@ -12,7 +12,7 @@ use std::test::Fail;
 
 /// What a case shows, the message, and what it says: the ID, zones as name, kind and class, prerequisites and
 /// changes as owner, TTL, class, kind and rdata, or the fault.
-const CASES: [(&str, &str, &str); 36] = [
+const CASES: &[(&str, &str, &str)] = &[
     (
         "an address is added",
         "0001 2800 0001 0000 0001 0000 076578616d706c6503636f6d00 0006 0001 0161c00c 0001 0001 \
@@ -222,7 +222,7 @@ const CASES: [(&str, &str, &str); 36] = [
 ];
 
 /// IDs and flags, and the whole answers with them.
-const ANSWERS: [(u16, u16, &str); 3] = [
+const ANSWERS: &[(u16, u16, &str)] = &[
     (1, 0xa800, "0001 a800 0000 0000 0000 0000"),
     (9, 0x8104, "0009 8104 0000 0000 0000 0000"),
     (65534, 0xa809, "fffe a809 0000 0000 0000 0000"),
@@ -262,18 +262,30 @@ fn outcome(alloc: Global, message: &[u8]) -> Result<String, NoMemory>
     }
 }
 
+/// Whether a message says what it is to say. Each has a whole header.
+fn is_read_so(alloc: Global, case: &(&str, &str, &str)) -> Result<(), Fail> {
+    let octets = spaced_octets(alloc, case.1)?;
+    if octets.len() < 12 {
+        return holds("a whole header", false);
+    }
+    let text = outcome(alloc, octets.as_slice())?;
+    is_text(case.0, text.as_str(), case.2)
+}
+
+/// Whether the answer with an ID and flags has these octets.
+fn is_answered_so(alloc: Global, case: &(u16, u16, &str)) -> Result<(), Fail> {
+    let octets = spaced_octets(alloc, case.2)?;
+    let answer = write_answer(case.0, case.1);
+    holds(case.2, answer.as_slice() == octets.as_slice())
+}
+
 #[test]
 fn updates_are_read(rt: HostRuntime) -> Result<(), Fail> {
-    let alloc = rt.alloc();
-    'cases: for (shows, message, gives) in CASES {
-        let octets = spaced_octets(alloc, message)?;
-        assert!(rt; octets.len() >= 12);
-        let text = outcome(alloc, octets.as_slice())?;
-        assert_eq!(rt; text.as_str(), gives, "{shows}");
+    'cases: for case in CASES {
+        is_read_so(rt.alloc(), case)?;
     }
-    'answers: for (id, flags, answer) in ANSWERS {
-        let octets = spaced_octets(alloc, answer)?;
-        assert_eq!(rt; write_answer(id, flags).as_slice(), octets.as_slice());
+    'answers: for case in ANSWERS {
+        is_answered_so(rt.alloc(), case)?;
     }
     Ok(())
 }

@@ -3,7 +3,6 @@
 ghost use Rattle.std.specs.Prelude.{◌≡◌, List, Bool, map};
 ghost use Rattle.push_base.specs.Cases.{first_refused};
 ghost use Rattle.dnsname.specs.Names.{Labels};
-ghost use Rattle.rrset.specs.Kinds.{is_meta};
 ghost use Rattle.rrset.specs.RecordSet.{RecordSet};
 ghost use Rattle.zoneupdate.specs.Updates.{change_refusal, with_counted_ttl};
 ghost use Rattle.zoneupdate.specs.Keeping.{IsUnder};
@@ -13,15 +12,9 @@ use crate::plan::Under;
 use crate::refusing::{first_refusal, is_empty, is_inside};
 use dnsname::Name;
 use rrset::classes::{ANY, IN, NONE};
+use rrset::kinds::is_meta;
 use rrset::rcodes::{FORMERR, NOTZONE};
 use rrset::{Rr, Rrs, kinds};
-
-/// Whether no zone holds records of a kind.
-fn is_meta(kind: u16) -> bool
-    ensures { result ≡ is_meta kind }
-{
-    (kind == 0) | (kind == kinds::OPT) | ((kinds::FIRST_META <= kind) & (kind <= kinds::ANY))
-}
 
 /// The RCODE that a change is refused with.
 fn refusal(apex: &Name, under: &Under, rr: &Rr) -> Option<u8>

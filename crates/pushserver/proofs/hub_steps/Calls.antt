@@ -6,7 +6,7 @@ use Rattle.std.proofs.lemmas.List.{length-append}
 use Rattle.std.proofs.lemmas.List.Sums.{length-filter, count_by-le-length}
 use Rattle.std.proofs.lemmas.Slice.Zip.{AllZip-long}
 use Rattle.std.specs.Prelude.{nat_lt, min, ◌==◌}
-use Rattle.std.specs.List.{AllZip, list_any}
+use Rattle.std.specs.List.{AllZip, AllByRecursion, list_any}
 use Rattle.push_base.specs.Limits.{max_input, max_number}
 use Rattle.rrset.proofs.Distinct.{distinct_push, distinct_filter}
 use Rattle.dnswire.specs.declared.message.Update.{Update}
@@ -14,22 +14,23 @@ use Rattle.history.specs.States.{verdict}
 use Rattle.history.specs.declared.entry.Entry.TheVariants as entries
 use Rattle.pushsession.specs.Kept.{KeptSession, keeping}
 use Rattle.pushsession.specs.Sessions.{is_open, room_of, new_session, takes, asked_to_stop, timed}
-use Rattle.pushserver.specs.Sessions.{Hub, Session, plain_keeps}
-use Rattle.pushserver.specs.Hubs.{Numbered, session_in, without_session, newest, now, state_now, entered, can_enter, update, moment, connect, take_octets, stop, end_session, max_sessions}
+use Rattle.pushserver.specs.PlainHubs.{Hub, Session, plain_keeps}
+use Rattle.pushserver.specs.Hubs.{Numbered, session_in, without_session, newest, now, state_now, entered, can_enter, update, moment, connect, take_octets, stop, disconnect, max_sessions}
 use Rattle.pushserver.specs.Rows.{IsTellable}
-use Rattle.pushserver.specs.Rule.{KeptHub, SessionStandsFor, StandsFor}
-use Rattle.pushserver.specs.Calls.{AreOctets}
+use Rattle.pushserver.specs.KeptHubs.{KeptHub, StandsFor}
+use Rattle.pushserver.specs.SoundHubs.{IsSoundSession}
+use Rattle.dsotlv.specs.Laws.{AreOctets}
 use Rattle.pushserver.specs.Simulation.{BothAnswer, UpdatesStand, MomentsStand, ConnectsStand, TakesStand, StopsStand, EndsStand}
-use Rattle.pushserver.proofs.session_steps.Parts.{of_parts, asks_nothing, none_waits, reads_nothing, writes_nothing}
+use Rattle.pushserver.proofs.session_steps.Parts.{SessionFits, of_parts, asks_nothing, none_waits, reads_nothing, writes_nothing}
 use Rattle.pushserver.proofs.session_steps.Standing.{takes-keeps, asked-keeps, timed-keeps}
 use Rattle.pushserver.proofs.told_rows.Updated.{update-tellable, moment-tellable}
 use Rattle.pushserver.proofs.hub_steps.Pairs.{zip-all, zip-push, zip-filter}
-use Rattle.pushserver.proofs.hub_steps.Standing.{kept_of, Stands, with_kept, with_sessions-stands, each-stands, in-stands, session-moved, FoundBoth, both_found}
+use Rattle.pushserver.proofs.hub_steps.Standing.{kept_of, Stands, with_kept, fitting, fits-stand, fits-sound, with_sessions-stands, each-stands, in-stands, session-moved, FoundBoth, both_found}
 use Rattle.pushserver.proofs.hub_steps.Cases.{enters_update, update_as, enters_moment, moment_as}
 use Rattle.pushserver.proofs.hub_steps.Entering.{entered-stands}
 
 pub tells-now : (hub : Hub) (ks : Numbered KeptSession) → Stands hub ks → IsTellable (state_now hub)
-tells-now hub ks h = h.states (newest hub) (omega arith)
+tells-now hub ks h = h.sound.states (newest hub) (omega arith)
 
 -- ---- `update`
 
@@ -76,48 +77,56 @@ new_plain hub = new_session (plain_keeps (newest hub)) (now hub)
 abbrev pub new_kept : Hub → KeptSession
 new_kept hub = new_session keeping (now hub)
 
-new-stands : (hub : Hub) (sessions : Numbered Session) → SessionStandsFor (record hub { sessions = sessions; made = hub.made + 1 }) (hub.made, new_kept hub) (hub.made, new_plain hub)
-new-stands hub sessions = of_parts (record hub { sessions = sessions; made = hub.made + 1 }) (hub.made, new_kept hub) (hub.made, new_plain hub) refl (omega arith) asks_nothing none_waits reads_nothing writes_nothing refl refl refl
+new-stands : (hub : Hub) (sessions : Numbered Session) → SessionFits (record hub { sessions = sessions; numbers_given = hub.numbers_given + 1 }) (hub.numbers_given, new_kept hub) (hub.numbers_given, new_plain hub)
+new-stands hub sessions = of_parts (record hub { sessions = sessions; numbers_given = hub.numbers_given + 1 }) (hub.numbers_given, new_kept hub) (hub.numbers_given, new_plain hub) refl (omega arith) asks_nothing none_waits reads_nothing writes_nothing refl refl refl
 
 -- the numbers of sessions are below that of the next
-none-next : (hub : Hub) (ks : Numbered KeptSession) (ps : Numbered Session) → AllZip (SessionStandsFor hub) ks ps → list_any (λ (p : ℕ × Session). p.0 == hub.made) ps ≡ false
-none-next hub [] [] h = refl
-none-next hub [] (p ∷ ps) h = absurd h
-none-next hub (k ∷ ks) [] h = absurd h
-none-next hub (k ∷ ks) (p ∷ ps) h = λ i. apart h.0.number h.0.below i || none-next hub ks ps h.1 i
+none-next : (hub : Hub) (ps : Numbered Session) → AllByRecursion (IsSoundSession hub) ps → list_any (λ (p : ℕ × Session). p.0 == hub.numbers_given) ps ≡ false
+none-next hub [] h = refl
+none-next hub (p ∷ ps) h = λ i. apart h.0.below i || none-next hub ps h.1 i
   where
-    apart : k.0 ≡ p.0 → k.0 < hub.made → (p.0 == hub.made) ≡ false
-    apart same low = grind (arith, same, low)
+    apart : p.0 < hub.numbers_given → (p.0 == hub.numbers_given) ≡ false
+    apart low = grind (arith, low)
 
 abbrev joined : Hub → Hub
-joined hub = record hub { sessions = hub.sessions ++ (hub.made, new_plain hub) ∷ []; made = hub.made + 1 }
+joined hub = record hub { sessions = hub.sessions ++ (hub.numbers_given, new_plain hub) ∷ []; numbers_given = hub.numbers_given + 1 }
 
-joined-stands : (hub : Hub) (ks : Numbered KeptSession) → nat_lt (length hub.sessions) max_sessions ≡ true → Stands hub ks → Stands (joined hub) (ks ++ (hub.made, new_kept hub) ∷ [])
+joined-stands : (hub : Hub) (ks : Numbered KeptSession) → nat_lt (length hub.sessions) max_sessions ≡ true → Stands hub ks → Stands (joined hub) (ks ++ (hub.numbers_given, new_kept hub) ∷ [])
 joined-stands hub ks room h = record {
+  sound = record {
+    begins = h.sound.begins;
+    links = h.sound.links;
+    states = h.sound.states;
+    sessions = fits-sound (joined hub) later (joined hub).sessions fit;
+    numbers = distinct_push (λ (d e : ℕ × Session). d.0 == e.0) hub.sessions (hub.numbers_given, new_plain hub) h.sound.numbers (none-next hub hub.sessions h.sound.sessions);
+    few = let few = ltb-true (length hub.sessions) max_sessions room in let more = length-append hub.sessions ((hub.numbers_given, new_plain hub) ∷ []) in omega (arith, few, more);
+  };
   timers = refl;
-  made = refl;
-  begins = h.begins;
-  links = h.links;
+  numbers_given = refl;
   start = refl;
   history = refl;
-  states = h.states;
-  sessions = zip-push (SessionStandsFor (joined hub)) ks hub.sessions (hub.made, new_kept hub) (hub.made, new_plain hub)
-      (zip-all (SessionStandsFor hub) (SessionStandsFor (joined hub)) (session-moved hub (joined hub).sessions (hub.made + 1) (omega arith)) ks hub.sessions h.sessions)
-      (new-stands hub (joined hub).sessions);
-  numbers = distinct_push (λ (d e : ℕ × Session). d.0 == e.0) hub.sessions (hub.made, new_plain hub) h.numbers (none-next hub ks hub.sessions h.sessions);
-  seats = let few = ltb-true (length hub.sessions) max_sessions room in let more = length-append hub.sessions ((hub.made, new_plain hub) ∷ []) in omega (arith, few, more);
+  sessions = fits-stand (joined hub) later (joined hub).sessions fit;
 }
+  where
+    later : Numbered KeptSession
+    later = ks ++ (hub.numbers_given, new_kept hub) ∷ []
+
+    fit : AllZip (SessionFits (joined hub)) later (joined hub).sessions
+    fit =
+        zip-push (SessionFits (joined hub)) ks hub.sessions (hub.numbers_given, new_kept hub) (hub.numbers_given, new_plain hub)
+        (zip-all (SessionFits hub) (SessionFits (joined hub)) (session-moved hub (joined hub).sessions (hub.numbers_given + 1) (omega arith)) ks hub.sessions (fitting h))
+        (new-stands hub (joined hub).sessions)
 
 connect-stands : (hub : Hub) (ks : Numbered KeptSession) → Stands hub ks → BothAnswer (connect (kept_of hub ks)) (connect hub)
 connect-stands hub ks h =
-    subst (λ n. BothAnswer (cond {A = Option ℕ × KeptHub} (nat_lt n max_sessions && nat_lt hub.made max_number) (Some hub.made, later) (None, kept_of hub ks)) (connect hub)) (AllZip-long (SessionStandsFor hub) ks hub.sessions h.sessions)
-    (by (nat_lt (length hub.sessions) max_sessions) refl (nat_lt hub.made max_number))
+    subst (λ n. BothAnswer (cond {A = Option ℕ × KeptHub} (nat_lt n max_sessions && nat_lt hub.numbers_given max_number) (Some hub.numbers_given, later) (None, kept_of hub ks)) (connect hub)) (AllZip-long (SessionFits hub) ks hub.sessions (fitting h))
+    (by (nat_lt (length hub.sessions) max_sessions) refl (nat_lt hub.numbers_given max_number))
   where
     later : KeptHub
-    later = kept_of (joined hub) (ks ++ (hub.made, new_kept hub) ∷ [])
+    later = kept_of (joined hub) (ks ++ (hub.numbers_given, new_kept hub) ∷ [])
 
     by : (a : Bool) → nat_lt (length hub.sessions) max_sessions ≡ a → (b : Bool)
-        → BothAnswer (cond {A = Option ℕ × KeptHub} (a && b) (Some hub.made, later) (None, kept_of hub ks)) (cond {A = Option ℕ × Hub} (a && b) (Some hub.made, joined hub) (None, hub))
+        → BothAnswer (cond {A = Option ℕ × KeptHub} (a && b) (Some hub.numbers_given, later) (None, kept_of hub ks)) (cond {A = Option ℕ × Hub} (a && b) (Some hub.numbers_given, joined hub) (None, hub))
     by true room true = (refl, joined-stands hub ks room h)
     by true room false = (refl, h)
     by false room b = (refl, h)
@@ -132,30 +141,30 @@ room-same : (hub : Hub) (number : ℕ) (piece : List ℕ) (k : Option KeptSessio
 room-same hub number piece None None h = refl
 room-same hub number piece None (Some p) h = absurd h
 room-same hub number piece (Some k) None h = absurd h
-room-same hub number piece (Some k) (Some p) h = λ i. min (length piece) (cond (is_open (h.standing i)) (max_input - length (h.input i)) 0)
+room-same hub number piece (Some k) (Some p) h = λ i. min (length piece) (cond (is_open (h.stands.standing i)) (max_input - length (h.stands.input i)) 0)
 
 pub takes_stand : TakesStand
 takes_stand k hub number piece h octets = (
-  room-same hub number piece (session_in number k.sessions) (session_in number hub.sessions) (both_found hub number k.sessions hub.sessions h.sessions),
+  room-same hub number piece (session_in number k.sessions) (session_in number hub.sessions) (both_found hub number k.sessions hub.sessions (fitting h)),
   with_kept (λ k. StandsFor (take_octets k number piece) (take_octets hub number piece)) k hub h (in-stands hub k.sessions (takes piece) (takes piece) number (takes-keeps hub piece octets)),
 )
 
--- ---- `stop`, `end_session`
+-- ---- `stop`, `disconnect`
 
 pub stops_stand : StopsStand
 stops_stand k hub number rcode delay h =
     with_kept (λ k. StandsFor (stop k number rcode delay) (stop hub number rcode delay)) k hub h
     (in-stands hub k.sessions (asked_to_stop rcode delay) (asked_to_stop rcode delay) number (asked-keeps hub rcode delay))
 
-end-stands : (hub : Hub) (ks : Numbered KeptSession) (number : ℕ) → Stands hub ks → StandsFor (end_session (kept_of hub ks) number) (end_session hub number)
+end-stands : (hub : Hub) (ks : Numbered KeptSession) (number : ℕ) → Stands hub ks → StandsFor (disconnect (kept_of hub ks) number) (disconnect hub number)
 end-stands hub ks number h =
     with_sessions-stands hub ks (without_session number ks) (without_session number hub.sessions) h
-    (zip-filter (SessionStandsFor hub) (λ (e : ℕ × KeptSession). not (e.0 == number)) others (λ k p s. ap (λ n. not (n == number)) s.number) ks hub.sessions h.sessions)
-    (distinct_filter (λ (d e : ℕ × Session). d.0 == e.0) others hub.sessions h.numbers)
-    (omega (arith, length-filter others hub.sessions, count_by-le-length others hub.sessions, h.seats))
+    (zip-filter (SessionFits hub) (λ (e : ℕ × KeptSession). not (e.0 == number)) others (λ k p s. ap (λ n. not (n == number)) s.stands.number) ks hub.sessions (fitting h))
+    (distinct_filter (λ (d e : ℕ × Session). d.0 == e.0) others hub.sessions h.sound.numbers)
+    (omega (arith, length-filter others hub.sessions, count_by-le-length others hub.sessions, h.sound.few))
   where
     others : ℕ × Session → Bool
     others e = not (e.0 == number)
 
 pub ends_stand : EndsStand
-ends_stand k hub number h = with_kept (λ k. StandsFor (end_session k number) (end_session hub number)) k hub h (end-stands hub k.sessions number)
+ends_stand k hub number h = with_kept (λ k. StandsFor (disconnect k number) (disconnect hub number)) k hub h (end-stands hub k.sessions number)

@@ -1,27 +1,25 @@
 -- The cases of a hub's calls, whatever its sessions keep: what each does, as a function of what was found.
 --     update_as, moment_as      by the verdict on an update; by the time and the journal's room
---     record_as, head_as      a RECONFIRM by its record; a message by its head
+--     key_as, head_as      a RECONFIRM by the key of its record; a message by its head
 --     found_as, works_as, give_as      `give` by the session, by the first message, and by the output
 use Rattle.std.specs.Prelude.{ℕ, Bool, true, false, cond, List, Option, Some, None, Result, Ok, Err, ◌&&◌}
 use Rattle.push_base.specs.Cases.{is_empty}
 use Rattle.rrset.specs.Rcodes.{noerror, servfail}
 use Rattle.rrset.specs.declared.record.Key.{Key}
-use Rattle.rrset.specs.declared.record.Rr.{Rr}
 use Rattle.dnswire.specs.declared.message.Update.{Update}
-use Rattle.dsotlv.specs.TlvKinds.{reconfirm_tlv}
 use Rattle.dsotlv.specs.declared.message.DsoHead.{DsoHead}
 use Rattle.dsosession.specs.Reactions.{server_reaction}
 use Rattle.dsosession.specs.declared.session.EndReason.TheVariants as ends
-use Rattle.history.specs.States.{reconfirm_key, accepts}
+use Rattle.history.specs.States.{accepts}
 use Rattle.history.specs.declared.entry.Entry.TheVariants as entries
 use Rattle.pushsession.specs.declared.standing.Standing.{Standing}
-use Rattle.pushsession.specs.Sessions.{SessionOf, timed, stopped}
+use Rattle.pushsession.specs.Sessions.{SessionOf, timed, without_first}
 use Rattle.pushsession.specs.Subscribing.{packs}
 use Rattle.pushsession.specs.Reactions.{heard}
 use Rattle.pushserver.specs.declared.given.Given.{Given}
 use Rattle.pushserver.specs.declared.given.Given.TheVariants.{End}
 use Rattle.pushserver.specs.Hubs.{SessionKind, HubOf, now, state_now, keeps_now, tells_now, session_of, each_session, in_session, entered, can_enter}
-use Rattle.pushserver.specs.Giving.{GivingOf, ends_as, by_reaction, reacted, did, copies, copies_or, after_reaction, after_packing, without_first, by_standing}
+use Rattle.pushserver.specs.Giving.{GivingOf, ends_as, by_reaction, reacted, did, copies, copies_or, after_reaction, after_packing, by_standing}
 
 module _ {A Q M : Type 0} {kind : SessionKind A Q M} where
   -- ---- an update, a moment
@@ -45,10 +43,6 @@ module _ {A Q M : Type 0} {kind : SessionKind A Q M} where
   key_as hub None = hub
   key_as hub (Some found) = cond (accepts (state_now hub) (entries.Reconfirm found.0 found.1) && can_enter hub (entries.Reconfirm found.0 found.1)) (entered (entries.Reconfirm found.0 found.1) hub) hub
 
-  abbrev pub record_as : HubOf kind → ℕ → Option Rr → HubOf kind
-  record_as hub number None = ends_as number (ends.BadData reconfirm_tlv) hub
-  record_as hub number (Some rr) = key_as hub (reconfirm_key (state_now hub) rr)
-
   abbrev pub session_as : HubOf kind → ℕ → List ℕ → DsoHead → Option (SessionOf A Q M) → HubOf kind
   session_as hub number message head None = hub
   session_as hub number message head (Some session) = by_reaction (server_reaction head session.established) number message (in_session number (heard head (now hub)) hub)
@@ -70,11 +64,6 @@ module _ {A Q M : Type 0} {kind : SessionKind A Q M} where
   abbrev pub works_as : HubOf kind → ℕ → ℕ → Option (List ℕ × List ℕ) → GivingOf kind
   works_as hub number room None = after_packing number room (in_session number (packs (keeps_now hub) (tells_now hub) (now hub)) hub)
   works_as hub number room (Some found) = after_reaction number room (reacted found.0 number (in_session number (without_first found.1) hub))
-
-  -- a stop is written where the session is established
-  abbrev pub stops_as : HubOf kind → ℕ → ℕ → ℕ → ℕ → Bool → GivingOf kind
-  stops_as hub number room rcode delay established =
-      cond established (after_reaction number room (in_session number (stopped (keeps_now hub) rcode delay (now hub)) hub)) (did (End ends.Stopped) (ends_as number ends.Stopped hub))
 
   abbrev pub output_as : HubOf kind → ℕ → ℕ → SessionOf A Q M → Bool → GivingOf kind
   output_as hub number room session false = copies number room session hub

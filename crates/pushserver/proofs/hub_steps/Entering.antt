@@ -4,7 +4,7 @@
 use Rattle.std.proofs.Common.{◌≡◌, ℕ, ◌+◌, ◌<◌, ◌≤◌, List, [], ◌∷◌, ◌++◌, map, filter, Option, sym, ◌∙◌, ap, subst, refl, arith}
 use Rattle.std.proofs.lemmas.List.{length-append, length-map}
 use Rattle.std.specs.Prelude.{fold, IsSome}
-use Rattle.std.specs.List.{AllByRecursion}
+use Rattle.std.specs.List.{AllByRecursion, AllZip}
 use Rattle.dnsname.specs.Names.{Labels}
 use Rattle.rrset.specs.RecordSet.{at_name, changes}
 use Rattle.rrset.specs.declared.record.Changed.{Changed}
@@ -16,16 +16,18 @@ use Rattle.history.specs.declared.entry.Home.{Home}
 use Rattle.history.proofs.LongerHistory.{records_at-append}
 use Rattle.pushsession.specs.Kept.{KeptSession, keeping}
 use Rattle.pushsession.specs.Sessions.{touched, noted}
-use Rattle.pushserver.specs.Sessions.{Hub, Session, Queue, enqueued, plain_keeps}
+use Rattle.pushserver.specs.PlainHubs.{Hub, Session, Queue, enqueued, plain_keeps}
 use Rattle.pushserver.specs.Hubs.{newest, state_now, records_now, entered, all_sessions, max_sessions}
 use Rattle.pushserver.specs.Rows.{IsTellable}
-use Rattle.pushserver.specs.Rule.{SessionStandsFor, StandsFor, IsCopy}
+use Rattle.pushserver.specs.KeptHubs.{StandsFor, IsCopy}
 use Rattle.pushserver.proofs.session_steps.Lists.{each-both, each-map}
-use Rattle.pushserver.proofs.session_steps.Nets.{queue_of, wants-alike}
-use Rattle.pushserver.proofs.session_steps.Parts.{HasHome, Asks, Waits, reads, writes, of_parts}
+use Rattle.pushserver.proofs.session_steps.Nets.{wants-alike}
+use Rattle.pushserver.specs.KeptHubs.{queue_of}
+use Rattle.pushserver.specs.SoundHubs.{HasHome}
+use Rattle.pushserver.proofs.session_steps.Parts.{SessionFits, Asks, Waits, reads, writes, of_parts}
 use Rattle.pushserver.proofs.told_rows.Histories.{state_at-last, states-more}
 use Rattle.pushserver.proofs.hub_steps.Pairs.{zip-map, all-weaken, distinct-map}
-use Rattle.pushserver.proofs.hub_steps.Standing.{kept_of, Stands, session-moved}
+use Rattle.pushserver.proofs.hub_steps.Standing.{kept_of, Stands, fitting, fits-stand, fits-sound, session-moved}
 use Rattle.pushserver.proofs.hub_steps.Names.{home-after_entry}
 use Rattle.pushserver.proofs.hub_steps.Queued.{queue-fold, copies-fold, points-fold, names-fold}
 
@@ -59,17 +61,17 @@ module _ (hub : Hub) (entry : Entry) where
   more : newest (longer hub entry) ≡ newest hub + 1
   more = length-append hub.history (entry ∷ [])
 
-  session-entered : AreAtHome (state_now hub) → (k : ℕ × KeptSession) (p : ℕ × Session) → SessionStandsFor hub k p → SessionStandsFor (longer hub entry) (k.0, kept_noted k.1) (p.0, plain_noted p.1)
-  session-entered at_home k p s = of_parts (longer hub entry) (k.0, kept_noted k.1) (p.0, plain_noted p.1) s.number s.below asked waiting (reads hub k p s) (writes hub k p s) s.clocks s.established s.standing
+  session-entered : AreAtHome (state_now hub) → (k : ℕ × KeptSession) (p : ℕ × Session) → SessionFits hub k p → SessionFits (longer hub entry) (k.0, kept_noted k.1) (p.0, plain_noted p.1)
+  session-entered at_home k p s = of_parts (longer hub entry) (k.0, kept_noted k.1) (p.0, plain_noted p.1) s.stands.number s.sound.below asked waiting (reads hub k p s) (writes hub k p s) s.stands.clocks s.stands.established s.stands.standing
     where
       asked : Asks (state_now (longer hub entry)) k.1.subscriptions p.1.subscriptions
       asked = record {
-        asked = s.asked;
-        filled = s.filled;
-        few = s.few;
-        ids = s.ids;
-        questions = s.questions;
-        homes = all-weaken (HasHome (state_now hub)) (HasHome (state_now (longer hub entry))) (λ u both. (both.0, home-stays at_home u.question.name both.1)) p.1.subscriptions s.homes;
+        asked = s.stands.asked;
+        filled = s.stands.filled;
+        few = s.sound.few;
+        ids = s.sound.ids;
+        questions = s.sound.questions;
+        homes = all-weaken (HasHome (state_now hub)) (HasHome (state_now (longer hub entry))) (λ u both. (both.0, home-stays at_home u.question.name both.1)) p.1.subscriptions s.sound.homes;
       }
 
       names : List Labels
@@ -79,7 +81,7 @@ module _ (hub : Hub) (entry : Entry) where
       same_names = λ i. map (λ (c : Changed). c.key.owner) (filter (λ (c : Changed). wants-alike hub k p s c.key i) changed_by)
 
       past : AllByRecursion (λ (w : WaitingName). w.point < newest hub) k.1.queue
-      past = each-map (λ (w : WaitingName). (w.name, w.point)) (λ (e : Labels × ℕ). e.1 < newest hub) k.1.queue (subst (AllByRecursion (λ (e : Labels × ℕ). e.1 < newest hub)) (sym s.queue) s.points)
+      past = each-map (λ (w : WaitingName). (w.name, w.point)) (λ (e : Labels × ℕ). e.1 < newest hub) k.1.queue (subst (AllByRecursion (λ (e : Labels × ℕ). e.1 < newest hub)) (sym s.stands.queue) s.sound.points)
 
       new_copy : (n : Labels) → IsCopy (longer hub entry) (record { name = n; point = newest hub; old = at_name n (records_now hub) })
       new_copy n = ap (at_name n) (sym (records_at-append hub.start hub.history (entry ∷ []) (newest hub) (omega arith)))
@@ -89,12 +91,12 @@ module _ (hub : Hub) (entry : Entry) where
         queue =
             ap (λ ns. queue_of (fold (keeping.with_name (newest hub) (records_now hub)) k.1.queue ns)) same_names
             ∙ queue-fold (records_now hub) (newest hub) names k.1.queue
-            ∙ ap (λ (q : Queue). fold (enqueued (newest hub)) q names) s.queue;
+            ∙ ap (λ (q : Queue). fold (enqueued (newest hub)) q names) s.stands.queue;
         copies = copies-fold (IsCopy (longer hub entry)) (records_now hub) (newest hub) new_copy (touched keeping k.1.subscriptions changed_by) k.1.queue
-            (each-both (IsCopy hub) (λ (w : WaitingName). w.point < newest hub) (IsCopy (longer hub entry)) (λ w copy low. copy-longer w (omega (arith, low)) copy) k.1.queue s.copies past);
+            (each-both (IsCopy hub) (λ (w : WaitingName). w.point < newest hub) (IsCopy (longer hub entry)) (λ w copy low. copy-longer w (omega (arith, low)) copy) k.1.queue s.stands.copies past);
         points = points-fold (λ (e : Labels × ℕ). e.1 < newest (longer hub entry)) (newest hub) (λ n. omega (arith, more)) names p.1.queue
-            (all-weaken (λ (e : Labels × ℕ). e.1 < newest hub) (λ (e : Labels × ℕ). e.1 < newest (longer hub entry)) (λ e low. omega (arith, more, low)) p.1.queue s.points);
-        names = names-fold (newest hub) names p.1.queue s.names;
+            (all-weaken (λ (e : Labels × ℕ). e.1 < newest hub) (λ (e : Labels × ℕ). e.1 < newest (longer hub entry)) (λ e low. omega (arith, more, low)) p.1.queue s.sound.points);
+        names = names-fold (newest hub) names p.1.queue s.sound.names;
       }
 
 -- ---- the hub
@@ -102,15 +104,24 @@ module _ (hub : Hub) (entry : Entry) where
 pub entered-stands : (hub : Hub) (ks : List (ℕ × KeptSession)) (entry : Entry) → IsTellable (after (state_now hub) entry) → Stands hub ks
     → StandsFor (entered entry (kept_of hub ks)) (entered entry hub)
 entered-stands hub ks entry last h = record {
+  sound = record {
+    begins = h.sound.begins;
+    links = h.sound.links;
+    states = states-more hub.start hub.history entry h.sound.states last;
+    sessions = fits-sound (entered entry hub) later (entered entry hub).sessions fit;
+    numbers = distinct-map (λ (e : ℕ × Session). plain_noted hub entry e.1) hub.sessions h.sound.numbers;
+    few = subst (λ n. n ≤ max_sessions) (sym (length-map hub.sessions (λ (e : ℕ × Session). (e.0, plain_noted hub entry e.1)))) h.sound.few;
+  };
   timers = refl;
-  made = refl;
-  begins = h.begins;
-  links = h.links;
+  numbers_given = refl;
   start = refl;
   history = refl;
-  states = states-more hub.start hub.history entry h.states last;
-  sessions = zip-map (SessionStandsFor hub) (SessionStandsFor (entered entry hub)) (λ (e : ℕ × KeptSession). (e.0, kept_noted hub entry e.1)) (λ (e : ℕ × Session). (e.0, plain_noted hub entry e.1))
-      (λ k p s. session-moved (longer hub entry) (all_sessions (plain_noted hub entry) hub.sessions) hub.made (omega arith) (k.0, kept_noted hub entry k.1) (p.0, plain_noted hub entry p.1) (session-entered hub entry (h.states (newest hub) (omega arith)).home k p s)) ks hub.sessions h.sessions;
-  numbers = distinct-map (λ (e : ℕ × Session). plain_noted hub entry e.1) hub.sessions h.numbers;
-  seats = subst (λ n. n ≤ max_sessions) (sym (length-map hub.sessions (λ (e : ℕ × Session). (e.0, plain_noted hub entry e.1)))) h.seats;
+  sessions = fits-stand (entered entry hub) later (entered entry hub).sessions fit;
 }
+  where
+    later : List (ℕ × KeptSession)
+    later = all_sessions (kept_noted hub entry) ks
+
+    fit : AllZip (SessionFits (entered entry hub)) later (entered entry hub).sessions
+    fit = zip-map (SessionFits hub) (SessionFits (entered entry hub)) (λ (e : ℕ × KeptSession). (e.0, kept_noted hub entry e.1)) (λ (e : ℕ × Session). (e.0, plain_noted hub entry e.1))
+        (λ k p s. session-moved (longer hub entry) (all_sessions (plain_noted hub entry) hub.sessions) hub.numbers_given (omega arith) (k.0, kept_noted hub entry k.1) (p.0, plain_noted hub entry p.1) (session-entered hub entry (h.sound.states (newest hub) (omega arith)).home k p s)) ks hub.sessions (fitting h)

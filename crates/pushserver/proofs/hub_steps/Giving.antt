@@ -4,28 +4,28 @@ use Rattle.std.proofs.Common.{◌≡◌, ℕ, Bool, true, false, List, [], ◌�
 use Rattle.std.specs.Prelude.{min}
 use Rattle.push_base.specs.Cases.{is_empty}
 use Rattle.dsotlv.specs.Messages.{first_message}
-use Rattle.dsosession.specs.declared.session.EndReason.TheVariants as ends
 use Rattle.pushsession.specs.Kept.{KeptSession, keeping, telling}
-use Rattle.pushsession.specs.Sessions.{copied, stopped}
+use Rattle.pushsession.specs.Sessions.{copied, stopped, without_first}
 use Rattle.pushsession.specs.Subscribing.{packs}
 use Rattle.pushsession.specs.declared.standing.Standing.{Standing}
 use Rattle.pushsession.specs.declared.standing.Standing.TheVariants.{Live, AskedToStop, Stopped, Ended}
 use Rattle.pushserver.specs.declared.given.Given.{Given}
 use Rattle.pushserver.specs.declared.given.Given.TheVariants.{Bytes, Worked, Nothing}
-use Rattle.pushserver.specs.Sessions.{Hub, Session, plain_keeps, plain_tells}
+use Rattle.pushserver.specs.PlainHubs.{Hub, Session, plain_keeps, plain_tells}
 use Rattle.pushserver.specs.Hubs.{Numbered, session_in, in_sessions, newest, now, records_now, session_of, in_session}
-use Rattle.pushserver.specs.Giving.{reacted, copies, copies_or, given_after, after_reaction, after_packing, without_first, works, by_standing, give}
-use Rattle.pushserver.specs.Rule.{KeptHub, SessionStandsFor, StandsFor}
+use Rattle.pushserver.specs.Giving.{reacted, copies, copies_or, given_after, after_reaction, after_packing, works, by_standing, give}
+use Rattle.pushserver.specs.KeptHubs.{KeptHub, StandsFor}
 use Rattle.pushserver.specs.Simulation.{BothGive, GivesStand}
 use Rattle.pushserver.proofs.SessionLists.{found-in}
 use Rattle.pushserver.proofs.session_steps.Standing.{copied-keeps}
 use Rattle.pushserver.proofs.session_steps.Saying.{stops-keeps, without_first-keeps}
+use Rattle.pushserver.proofs.session_steps.Parts.{SessionFits}
 use Rattle.pushserver.proofs.session_steps.Octets.{first_octets}
 use Rattle.pushserver.proofs.session_steps.Packing.{packs-keeps}
 use Rattle.pushserver.proofs.told_rows.HubTells.{session_packable}
-use Rattle.pushserver.proofs.hub_steps.Standing.{kept_of, Stands, with_kept, in-stands, found-stands, FoundBoth, both_found}
-use Rattle.pushserver.proofs.hub_steps.Cases.{copies_as, found_as, works_as, stops_as, output_as, give_as}
-use Rattle.pushserver.proofs.hub_steps.Reacting.{IsQuiet, quiet-later, ends-stands, reacted-stands}
+use Rattle.pushserver.proofs.hub_steps.Standing.{kept_of, Stands, with_kept, fitting, in-stands, found-stands, FoundBoth, both_found}
+use Rattle.pushserver.proofs.hub_steps.Cases.{copies_as, found_as, works_as, output_as, give_as}
+use Rattle.pushserver.proofs.hub_steps.Reacting.{IsQuiet, quiet-later, reacted-stands}
 
 nothing_in : {X : Type 0} (xs : List X) → is_empty xs ≡ true → xs ≡ []
 nothing_in [] e = refl
@@ -34,15 +34,15 @@ nothing_in (x ∷ xs) e = absurd cc
 -- ---- what is copied
 
 module _ (number room : ℕ) (hub : Hub) (ks : Numbered KeptSession) (h : Stands hub ks) where
-  copies-stands : (s : KeptSession) (p : Session) → SessionStandsFor hub (number, s) (number, p) → BothGive (copies number room s (kept_of hub ks)) (copies number room p hub)
+  copies-stands : (s : KeptSession) (p : Session) → SessionFits hub (number, s) (number, p) → BothGive (copies number room s (kept_of hub ks)) (copies number room p hub)
   copies-stands s p pair = record {
-    octets = ap (take room) pair.output;
-    given = ap (λ (o : List ℕ). Bytes (min room (length o))) pair.output;
+    octets = ap (take room) pair.stands.output;
+    given = ap (λ (o : List ℕ). Bytes (min room (length o))) pair.stands.output;
     hub = in-stands hub ks (copied room) (copied room) number (copied-keeps hub room) h;
   }
 
-  copies_or-stands : (given : Given) (s : KeptSession) (p : Session) → SessionStandsFor hub (number, s) (number, p) → BothGive (copies_or given number room s (kept_of hub ks)) (copies_or given number room p hub)
-  copies_or-stands given s p pair = subst (λ (o : List ℕ). BothGive (copies_or given number room s (kept_of hub ks)) (copies_as hub number room p given (is_empty o))) pair.output (by (is_empty s.output))
+  copies_or-stands : (given : Given) (s : KeptSession) (p : Session) → SessionFits hub (number, s) (number, p) → BothGive (copies_or given number room s (kept_of hub ks)) (copies_or given number room p hub)
+  copies_or-stands given s p pair = subst (λ (o : List ℕ). BothGive (copies_or given number room s (kept_of hub ks)) (copies_as hub number room p given (is_empty o))) pair.stands.output (by (is_empty s.output))
     where
       by : (b : Bool) → BothGive (copies_as (kept_of hub ks) number room s given b) (copies_as hub number room p given b)
       by true = record { octets = refl; given = refl; hub = h }
@@ -53,20 +53,20 @@ module _ (number room : ℕ) (hub : Hub) (ks : Numbered KeptSession) (h : Stands
   found-gives none given None (Some p) both = absurd both
   found-gives none given (Some s) None both = absurd both
   found-gives none given (Some s) (Some p) both =
-      subst (λ (st : Standing). BothGive (copies_or (given s.standing) number room s (kept_of hub ks)) (copies_or (given st) number room p hub)) both.standing (copies_or-stands (given s.standing) s p both)
+      subst (λ (st : Standing). BothGive (copies_or (given s.standing) number room s (kept_of hub ks)) (copies_or (given st) number room p hub)) both.stands.standing (copies_or-stands (given s.standing) s p both)
 
   packing-gives : BothGive (after_packing number room (kept_of hub ks)) (after_packing number room hub)
-  packing-gives = found-gives Nothing (λ standing. Nothing) (session_in number ks) (session_in number hub.sessions) (both_found hub number ks hub.sessions h.sessions)
+  packing-gives = found-gives Nothing (λ standing. Nothing) (session_in number ks) (session_in number hub.sessions) (both_found hub number ks hub.sessions (fitting h))
 
   reaction-gives : BothGive (after_reaction number room (kept_of hub ks)) (after_reaction number room hub)
-  reaction-gives = found-gives Worked given_after (session_in number ks) (session_in number hub.sessions) (both_found hub number ks hub.sessions h.sessions)
+  reaction-gives = found-gives Worked given_after (session_in number ks) (session_in number hub.sessions) (both_found hub number ks hub.sessions (fitting h))
 
 after-gives : (number room : ℕ) (k : KeptHub) (hub : Hub) → StandsFor k hub → BothGive (after_reaction number room k) (after_reaction number room hub)
 after-gives number room k hub h = with_kept (λ k. BothGive (after_reaction number room k) (after_reaction number room hub)) k hub h (reaction-gives number room hub k.sessions)
 
 -- ---- a session without output
 
-module _ (number room : ℕ) (hub : Hub) (ks : Numbered KeptSession) (h : Stands hub ks) (s : KeptSession) (p : Session) (is : session_of hub number ≡ Some p) (pair : SessionStandsFor hub (number, s) (number, p)) (silent : p.output ≡ []) where
+module _ (number room : ℕ) (hub : Hub) (ks : Numbered KeptSession) (h : Stands hub ks) (s : KeptSession) (p : Session) (is : session_of hub number ≡ Some p) (pair : SessionFits hub (number, s) (number, p)) (silent : p.output ≡ []) where
   some_same : (q : Session) → session_of hub number ≡ Some q → p ≡ q
   some_same q found = let same : Some p ≡ Some q = sym is ∙ found in cc
 
@@ -78,13 +78,13 @@ module _ (number room : ℕ) (hub : Hub) (ks : Numbered KeptSession) (h : Stands
       let f = packs keeping (telling (records_now hub)) (now hub) in
       let g = packs (plain_keeps (newest hub)) (plain_tells hub.start hub.history) (now hub) in
       packing-gives number room (in_session number g hub) (in_sessions number f ks)
-      (found-stands hub ks f g number (λ k q found t. packs-keeps hub k q t (newest hub) (now hub) (quiet q.1 found) (session_packable hub h.states k q t)) h)
+      (found-stands hub ks f g number (λ k q found t. packs-keeps hub k q t (newest hub) (now hub) (quiet q.1 found) (session_packable hub h.sound.states k q t)) h)
 
   message-gives : (found : List ℕ × List ℕ) → first_message p.input ≡ Some found → BothGive (works_as (kept_of hub ks) number room (Some found)) (works_as hub number room (Some found))
   message-gives found first =
       after-gives number room (reacted found.0 number (in_session number (without_first found.1) (kept_of hub ks))) (reacted found.0 number taken)
       (reacted-stands number taken (in_sessions number (without_first found.1) ks) found.0 (quiet-later number (without_first found.1) (λ q. refl) hub taken (found-in number (without_first found.1) hub.sessions) quiet)
-      (first_octets p.input found first pair.octets)
+      (first_octets p.input found first pair.sound.octets)
       (found-stands hub ks (without_first found.1) (without_first found.1) number
       (λ k q at t. without_first-keeps hub found k q (ap (λ (r : Session). first_message r.input) (sym (some_same q.1 at)) ∙ first) t) h))
     where
@@ -92,36 +92,31 @@ module _ (number room : ℕ) (hub : Hub) (ks : Numbered KeptSession) (h : Stands
       taken = in_session number (without_first found.1) hub
 
   works-gives : BothGive (works number room s (kept_of hub ks)) (works number room p hub)
-  works-gives = subst (λ (i : List ℕ). BothGive (works_as (kept_of hub ks) number room (first_message i)) (works number room p hub)) (sym pair.input) (by (first_message p.input) refl)
+  works-gives = subst (λ (i : List ℕ). BothGive (works_as (kept_of hub ks) number room (first_message i)) (works number room p hub)) (sym pair.stands.input) (by (first_message p.input) refl)
     where
       by : (o : Option (List ℕ × List ℕ)) → first_message p.input ≡ o → BothGive (works_as (kept_of hub ks) number room o) (works_as hub number room o)
       by None first = packs-gives
       by (Some found) first = message-gives found first
-
-  stops-gives : (rcode delay : ℕ) (b : Bool) → BothGive (stops_as (kept_of hub ks) number room rcode delay b) (stops_as hub number room rcode delay b)
-  stops-gives rcode delay true =
-      let f = stopped keeping rcode delay (now hub) in
-      let g = stopped (plain_keeps (newest hub)) rcode delay (now hub) in
-      reaction-gives number room (in_session number g hub) (in_sessions number f ks) (found-stands hub ks f g number (λ k q found t. stops-keeps hub (newest hub) rcode delay (now hub) k q (quiet q.1 found) t) h)
-  stops-gives rcode delay false = record { octets = refl; given = refl; hub = ends-stands number hub ks h ends.Stopped }
 
   standing-gives : (standing : Standing) → BothGive (by_standing standing number room s (kept_of hub ks)) (by_standing standing number room p hub)
   standing-gives (Ended reason) = record { octets = refl; given = refl; hub = h }
   standing-gives (Stopped since) = record { octets = refl; given = refl; hub = h }
   standing-gives Live = works-gives
   standing-gives (AskedToStop rcode delay) =
-      subst (λ (b : Bool). BothGive (stops_as (kept_of hub ks) number room rcode delay b) (by_standing (AskedToStop rcode delay) number room p hub)) (sym pair.established) (stops-gives rcode delay p.established)
+      let f = stopped keeping rcode delay (now hub) in
+      let g = stopped (plain_keeps (newest hub)) rcode delay (now hub) in
+      reaction-gives number room (in_session number g hub) (in_sessions number f ks) (found-stands hub ks f g number (λ k q found t. stops-keeps hub (newest hub) rcode delay (now hub) k q (quiet q.1 found) t) h)
 
 -- ---- `give`
 
 give-stands : (number room : ℕ) (hub : Hub) (ks : Numbered KeptSession) → Stands hub ks → BothGive (give (kept_of hub ks) number room) (give hub number room)
-give-stands number room hub ks h = by (session_in number ks) (session_in number hub.sessions) refl (both_found hub number ks hub.sessions h.sessions)
+give-stands number room hub ks h = by (session_in number ks) (session_in number hub.sessions) refl (both_found hub number ks hub.sessions (fitting h))
   where
-    by_output : (s : KeptSession) (p : Session) → session_of hub number ≡ Some p → SessionStandsFor hub (number, s) (number, p) → (b : Bool) → is_empty p.output ≡ b
+    by_output : (s : KeptSession) (p : Session) → session_of hub number ≡ Some p → SessionFits hub (number, s) (number, p) → (b : Bool) → is_empty p.output ≡ b
         → BothGive (output_as (kept_of hub ks) number room s b) (output_as hub number room p b)
     by_output s p is pair false some = copies-stands number room hub ks h s p pair
     by_output s p is pair true none =
-        subst (λ (st : Standing). BothGive (by_standing s.standing number room s (kept_of hub ks)) (by_standing st number room p hub)) pair.standing
+        subst (λ (st : Standing). BothGive (by_standing s.standing number room s (kept_of hub ks)) (by_standing st number room p hub)) pair.stands.standing
         (standing-gives number room hub ks h s p is pair (nothing_in p.output none) s.standing)
 
     by : (s : Option KeptSession) (p : Option Session) → session_of hub number ≡ p → FoundBoth hub number s p → BothGive (give_as (kept_of hub ks) number room s) (give_as hub number room p)
@@ -129,7 +124,7 @@ give-stands number room hub ks h = by (session_in number ks) (session_in number 
     by None (Some p) is both = absurd both
     by (Some s) None is both = absurd both
     by (Some s) (Some p) is both =
-        subst (λ (o : List ℕ). BothGive (output_as (kept_of hub ks) number room s (is_empty o)) (give_as hub number room (Some p))) (sym both.output) (by_output s p is both (is_empty p.output) refl)
+        subst (λ (o : List ℕ). BothGive (output_as (kept_of hub ks) number room s (is_empty o)) (give_as hub number room (Some p))) (sym both.stands.output) (by_output s p is both (is_empty p.output) refl)
 
 pub gives_stand : GivesStand
 gives_stand k hub number room h = with_kept (λ k. BothGive (give k number room) (give hub number room)) k hub h (give-stands number room hub k.sessions)

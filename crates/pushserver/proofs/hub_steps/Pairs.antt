@@ -1,12 +1,13 @@
 -- Two lists whose elements belong together one by one, and lists with numbers.
 --     zip-map, zip-push, zip-filter      what stays together
+--     zip-second      what each pair says of its second
 --     zip-in      the elements of a number change
 use Rattle.std.proofs.Common.{◌≡◌, ℕ, Bool, true, false, cond, List, [], ◌∷◌, ◌++◌, map, Option, Some, None, sym, ◌∙◌, ap, refl}
 use Rattle.std.specs.Prelude.{find, filter, option_map, ◌==◌}
 use Rattle.std.specs.List.{AllZip, AllByRecursion, IsDistinct, list_any}
 use Rattle.rrset.proofs.Distinct.{IsLone, lone, none_found}
 use Rattle.pushserver.specs.Hubs.{Numbered, session_in, in_sessions}
-use Rattle.pushserver.specs.Seats.{AreApart}
+use Rattle.pushserver.specs.NumberedSessions.{AreApart}
 use Rattle.pushserver.proofs.SessionLists.{same-number, number-itself}
 
 -- ---- two lists
@@ -22,6 +23,13 @@ zip-all R Q step [] [] h = tt
 zip-all R Q step [] (y ∷ ys) h = absurd h
 zip-all R Q step (x ∷ xs) [] h = absurd h
 zip-all R Q step (x ∷ xs) (y ∷ ys) h = (step x y h.0, zip-all R Q step xs ys h.1)
+
+-- what each pair says of its second
+pub zip-second : {A B : Type 0} (R : A → B → Type 0) (P : B → Type 0) → ((x : A) (y : B) → R x y → P y) → (xs : List A) (ys : List B) → AllZip R xs ys → AllByRecursion P ys
+zip-second R P step [] [] h = tt
+zip-second R P step [] (y ∷ ys) h = absurd h
+zip-second R P step (x ∷ xs) [] h = absurd h
+zip-second R P step (x ∷ xs) (y ∷ ys) h = (step x y h.0, zip-second R P step xs ys h.1)
 
 pub zip-push : {A B : Type 0} (R : A → B → Type 0) (xs : List A) (ys : List B) (x : A) (y : B) → AllZip R xs ys → R x y → AllZip R (xs ++ x ∷ []) (ys ++ y ∷ [])
 zip-push R [] [] x y h r = (r, tt)

@@ -11,10 +11,10 @@ use Rattle.coalesce.specs.Waiting.{WaitingName, waits}
 use Rattle.coalesce.proofs.ReadBack.{each-append}
 use Rattle.history.proofs.Together.{same_name-turned}
 use Rattle.pushsession.specs.Kept.{keeping}
-use Rattle.pushserver.specs.Sessions.{Queue, point_in, enqueued}
+use Rattle.pushserver.specs.PlainHubs.{Queue, point_in, enqueued}
 use Rattle.pushserver.proofs.session_steps.Lists.{some-find}
 use Rattle.pushserver.proofs.session_steps.Names.{AreApart}
-use Rattle.pushserver.proofs.session_steps.Nets.{queue_of}
+use Rattle.pushserver.specs.KeptHubs.{queue_of}
 
 -- a name that waits since a point
 abbrev copy_of : RecordSet → ℕ → Labels → WaitingName

@@ -6,6 +6,7 @@ use Rattle.std.specs.Prelude.{option_map, position}
 use Rattle.dnsname.specs.Names.{Labels, same_name, home}
 use Rattle.rrset.specs.Header.{id_of}
 use Rattle.rrset.specs.declared.record.Key.{Key}
+use Rattle.rrset.specs.declared.record.Question.{Question}
 use Rattle.rrset.specs.declared.record.Rr.{Rr}
 use Rattle.dnswire.specs.declared.message.Update.{Update}
 use Rattle.dsotlv.specs.Messages.{head_of, primary_data}
@@ -27,11 +28,11 @@ use Rattle.dsotlv.specs.Answers.{answer_to_update}
 use Rattle.pushsession.specs.Sessions.{ended_with, answers}
 use Rattle.pushsession.specs.Subscribing.{answered}
 use Rattle.pushsession.specs.Reactions.{heard, by_itself}
-use Rattle.pushserver.specs.Sessions.{Hub, Session, plain_keeps, plain_tells}
+use Rattle.pushserver.specs.PlainHubs.{Hub, Session, plain_keeps, plain_tells}
 use Rattle.pushserver.specs.Hubs.{Numbered, session_in, in_sessions, newest, now, state_now, records_now, session_of, in_session, entered, can_enter, update}
 use Rattle.pushserver.specs.Giving.{ends_as, has_home, subscribes, reconfirms, updates, reacts_itself, by_reaction, reacted}
-use Rattle.pushserver.specs.Rule.{KeptHub, StandsFor}
-use Rattle.pushserver.specs.Calls.{AreOctets}
+use Rattle.pushserver.specs.KeptHubs.{KeptHub, StandsFor}
+use Rattle.dsotlv.specs.Laws.{AreOctets}
 use Rattle.pushserver.specs.Simulation.{BothAnswer}
 use Rattle.pushserver.proofs.SessionLists.{found-all, found-in}
 use Rattle.pushserver.proofs.session_steps.Standing.{ended-keeps}
@@ -40,8 +41,8 @@ use Rattle.pushserver.proofs.session_steps.Reactions.{by_itself-keeps}
 use Rattle.pushserver.proofs.session_steps.Octets.{question-named}
 use Rattle.pushserver.proofs.session_steps.Accepting.{answered-keeps}
 use Rattle.pushserver.proofs.told_rows.HubTells.{hub_told}
-use Rattle.pushserver.proofs.hub_steps.Standing.{kept_of, Stands, with_kept, in-stands, found-stands, FoundBoth, both_found}
-use Rattle.pushserver.proofs.hub_steps.Cases.{enters_update, update_as, key_as, record_as, session_as, head_as}
+use Rattle.pushserver.proofs.hub_steps.Standing.{kept_of, Stands, with_kept, fitting, in-stands, found-stands, FoundBoth, both_found}
+use Rattle.pushserver.proofs.hub_steps.Cases.{enters_update, update_as, key_as, session_as, head_as}
 use Rattle.pushserver.proofs.hub_steps.Entering.{plain_noted}
 use Rattle.pushserver.proofs.hub_steps.Calls.{tells-now, update-stands}
 
@@ -109,12 +110,9 @@ module _ (number : ℕ) (hub : Hub) (ks : Numbered KeptSession) (h : Stands hub 
   pub ends-stands : (reason : EndReason) → StandsFor (ends_as number reason khub) (ends_as number reason hub)
   ends-stands reason = in-stands hub ks (ended_with keeping reason) (ended_with (plain_keeps (newest hub)) reason) number (ended-keeps hub (newest hub) reason) h
 
-  reconfirms-stands : (message : List ℕ) → StandsFor (reconfirms number message khub) (reconfirms number message hub)
-  reconfirms-stands message = by (reconfirm_of (primary_data message))
-    where
-      by : (o : Option Rr) → StandsFor (record_as khub number o) (record_as hub number o)
-      by None = ends-stands (ends.BadData reconfirm_tlv)
-      by (Some rr) = subst (λ (o : Option (ℕ × Key)). StandsFor (key_as khub o) (key_as hub o)) (sym (no_key (state_now hub) rr (tells-now hub ks h).home.links)) h
+  reconfirms-stands : (found : Option Rr) → StandsFor (reconfirms found number khub) (reconfirms found number hub)
+  reconfirms-stands None = ends-stands (ends.BadData reconfirm_tlv)
+  reconfirms-stands (Some rr) = subst (λ (o : Option (ℕ × Key)). StandsFor (key_as khub o) (key_as hub o)) (sym (no_key (state_now hub) rr (tells-now hub ks h).home.links)) h
 
   module _ (quiet : IsQuiet number hub) where
     itself-stands : (reaction : Reaction) (message : List ℕ) → StandsFor (reacts_itself reaction number message khub) (reacts_itself reaction number message hub)
@@ -122,19 +120,18 @@ module _ (number : ℕ) (hub : Hub) (ks : Numbered KeptSession) (h : Stands hub 
         found-stands hub ks (by_itself keeping reaction hub.timers (now hub) message) (by_itself (plain_keeps (newest hub)) reaction hub.timers (now hub) message) number
         (λ k p found s. by_itself-keeps hub (newest hub) reaction hub.timers (now hub) message k p (quiet p.1 found) s) h
 
-    subscribes-stands : (message : List ℕ) → AreOctets message → StandsFor (subscribes number message khub) (subscribes number message hub)
-    subscribes-stands message octets =
-        let question = question_of (primary_data message) in
+    subscribes-stands : (message : List ℕ) → AreOctets message → (question : Option Question) → question_of (primary_data message) ≡ question → StandsFor (subscribes question number message khub) (subscribes question number message hub)
+    subscribes-stands message octets question read =
         found-stands hub ks (answered keeping (telling (records_now hub)) (now hub) (id_of message) question (has_home hub question))
         (answered (plain_keeps (newest hub)) (plain_tells hub.start hub.history) (now hub) (id_of message) question (has_home hub question)) number
-        (λ k p found s. answered-keeps hub (newest hub) (now hub) (id_of message) question k p (quiet p.1 found) (hub_told hub h.states) (λ q. question-named message q octets) s) h
+        (λ k p found s. answered-keeps hub (newest hub) (now hub) (id_of message) question k p (quiet p.1 found) (hub_told hub h.sound.states) (λ q is. question-named message q octets (read ∙ is)) s) h
 
     updates-stands : (message : List ℕ) → AreOctets message → StandsFor (updates number message khub) (updates number message hub)
     updates-stands message octets = answered-stands number (id_of message) (update khub message) (update hub message) (quiet-updated number hub message quiet) (update-stands hub ks message octets h)
 
     reaction-stands : (reaction : Reaction) (message : List ℕ) → AreOctets message → StandsFor (by_reaction reaction number message khub) (by_reaction reaction number message hub)
-    reaction-stands reactions.Subscribe message octets = subscribes-stands message octets
-    reaction-stands reactions.Reconfirm message octets = reconfirms-stands message
+    reaction-stands reactions.Subscribe message octets = subscribes-stands message octets (question_of (primary_data message)) refl
+    reaction-stands reactions.Reconfirm message octets = reconfirms-stands (reconfirm_of (primary_data message))
     reaction-stands reactions.Update message octets = updates-stands message octets
     reaction-stands (reactions.Answer rcode) message octets = itself-stands (reactions.Answer rcode) message
     reaction-stands reactions.Grant message octets = itself-stands reactions.Grant message
@@ -154,10 +151,10 @@ reacted-stands number hub ks message quiet octets h = by (head_of message)
     by_session head (Some s) (Some p) both =
         let f = heard head (now hub) in
         let later = in_session number (heard head (now hub)) hub in
-        subst (λ b. StandsFor (by_reaction (server_reaction head b) number message (in_session number (heard head (now hub)) (kept_of hub ks))) (session_as hub number message head (Some p))) (sym both.established)
+        subst (λ b. StandsFor (by_reaction (server_reaction head b) number message (in_session number (heard head (now hub)) (kept_of hub ks))) (session_as hub number message head (Some p))) (sym both.stands.established)
         (reaction-stands number later (in_sessions number (heard head (now hub)) ks) (in-stands hub ks (heard head (now hub)) f number (heard-keeps hub head (now hub)) h)
         (quiet-later number f (λ p. refl) hub later (found-in number f hub.sessions) quiet) (server_reaction head p.established) message octets)
 
     by : (o : Option DsoHead) → StandsFor (head_as (kept_of hub ks) number message o) (head_as hub number message o)
     by None = ends-stands number hub ks h ends.Short
-    by (Some head) = by_session head (session_in number ks) (session_in number hub.sessions) (both_found hub number ks hub.sessions h.sessions)
+    by (Some head) = by_session head (session_in number ks) (session_in number hub.sessions) (both_found hub number ks hub.sessions (fitting h))

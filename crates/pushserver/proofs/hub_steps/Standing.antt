@@ -2,28 +2,29 @@
 --     kept_of hub sessions      the hub that is kept, but for its sessions
 --     Stands hub sessions      it stands for the plain hub
 --     with_kept      what holds of that hub holds of what is kept
+--     fitting      each session fits its own
 --     each-stands, in-stands      all sessions change, and one does
 --     FoundBoth, both_found      the sessions of a number
 use Rattle.std.proofs.Common.{◌≡◌, ℕ, ◌≤◌, Bool, true, false, cond, List, [], ◌∷◌, length, Option, Some, None, sym, ◌∙◌, ap, subst, refl, arith}
 use Rattle.std.proofs.lemmas.List.{length-map}
 use Rattle.std.specs.Prelude.{find, option_map, ◌==◌}
-use Rattle.std.specs.List.{AllZip}
+use Rattle.std.specs.List.{AllZip, AllByRecursion}
 use Rattle.pushsession.specs.Kept.{KeptSession}
-use Rattle.pushserver.specs.Sessions.{Hub, Session}
+use Rattle.pushserver.specs.PlainHubs.{Hub, Session}
 use Rattle.pushserver.specs.Hubs.{session_in, in_sessions, all_sessions, session_of, each_session, in_session, max_sessions}
-use Rattle.pushserver.specs.Rule.{KeptHub, SessionStandsFor, StandsFor}
-use Rattle.pushserver.specs.Simulation.{SessionKeeps}
+use Rattle.pushserver.specs.KeptHubs.{KeptHub, SessionStandsFor, StandsFor}
+use Rattle.pushserver.specs.SoundHubs.{IsSoundSession}
 use Rattle.pushserver.proofs.SessionLists.{same-number}
-use Rattle.pushserver.proofs.session_steps.Parts.{asks, waits, reads, writes, of_parts}
-use Rattle.pushserver.specs.Seats.{AreApart}
-use Rattle.pushserver.proofs.hub_steps.Pairs.{zip-map, zip-all, zip-in, distinct-map, lone-number}
+use Rattle.pushserver.proofs.session_steps.Parts.{SessionFits, SessionKeeps, asks, waits, reads, writes, of_parts}
+use Rattle.pushserver.specs.NumberedSessions.{AreApart}
+use Rattle.pushserver.proofs.hub_steps.Pairs.{zip-map, zip-all, zip-second, zip-in, distinct-map, lone-number}
 
 abbrev pub kept_of : Hub → List (ℕ × KeptSession) → KeptHub
-kept_of hub sessions = record { start = hub.start; timers = hub.timers; history = hub.history; sessions = sessions; made = hub.made }
+kept_of hub sessions = record { start = hub.start; timers = hub.timers; history = hub.history; sessions = sessions; numbers_given = hub.numbers_given }
 
 -- what is kept is nothing else
 is_kept_of : (k : KeptHub) (hub : Hub) → StandsFor k hub → k ≡ kept_of hub k.sessions
-is_kept_of k hub h = λ i. record { start = h.start i; timers = h.timers i; history = h.history i; sessions = k.sessions; made = h.made i }
+is_kept_of k hub h = λ i. record { start = h.start i; timers = h.timers i; history = h.history i; sessions = k.sessions; numbers_given = h.numbers_given i }
 
 abbrev pub Stands : Hub → List (ℕ × KeptSession) → Type 0
 Stands hub sessions = StandsFor (kept_of hub sessions) hub
@@ -32,44 +33,64 @@ Stands hub sessions = StandsFor (kept_of hub sessions) hub
 pub with_kept : (P : KeptHub → Type 0) (k : KeptHub) (hub : Hub) → StandsFor k hub → (Stands hub k.sessions → P (kept_of hub k.sessions)) → P k
 with_kept P k hub h holds = let same = is_kept_of k hub h in subst P (sym same) (holds (subst (λ k. StandsFor k hub) same h))
 
+-- ---- pairs of sessions
+
+zip-fits : (hub : Hub) (ks : List (ℕ × KeptSession)) (ps : List (ℕ × Session)) → AllZip (SessionStandsFor hub) ks ps → AllByRecursion (IsSoundSession hub) ps → AllZip (SessionFits hub) ks ps
+zip-fits hub [] [] stand sound = tt
+zip-fits hub [] (p ∷ ps) stand sound = absurd stand
+zip-fits hub (k ∷ ks) [] stand sound = absurd stand
+zip-fits hub (k ∷ ks) (p ∷ ps) stand sound = (record { stands = stand.0; sound = sound.0 }, zip-fits hub ks ps stand.1 sound.1)
+
+-- each session fits its own
+pub fitting : {k : KeptHub} {hub : Hub} → StandsFor k hub → AllZip (SessionFits hub) k.sessions hub.sessions
+fitting {k} {hub} h = zip-fits hub k.sessions hub.sessions h.sessions h.sound.sessions
+
+pub fits-stand : (hub : Hub) (ks : List (ℕ × KeptSession)) (ps : List (ℕ × Session)) → AllZip (SessionFits hub) ks ps → AllZip (SessionStandsFor hub) ks ps
+fits-stand hub = zip-all (SessionFits hub) (SessionStandsFor hub) (λ k p s. s.stands)
+
+pub fits-sound : (hub : Hub) (ks : List (ℕ × KeptSession)) (ps : List (ℕ × Session)) → AllZip (SessionFits hub) ks ps → AllByRecursion (IsSoundSession hub) ps
+fits-sound hub = zip-second (SessionFits hub) (IsSoundSession hub) (λ k p s. s.sound)
+
 -- of the hub a session's rule needs all but the sessions; and its number may be further from the last
-pub session-moved : (hub : Hub) (sessions : List (ℕ × Session)) (made : ℕ) → hub.made ≤ made → (k : ℕ × KeptSession) (p : ℕ × Session)
-    → SessionStandsFor hub k p → SessionStandsFor (record hub { sessions = sessions; made = made }) k p
-session-moved hub sessions made more k p s = of_parts (record hub { sessions = sessions; made = made }) k p s.number (omega (arith, s.below, more)) (asks hub k p s) (waits hub k p s) (reads hub k p s) (writes hub k p s) s.clocks s.established s.standing
+pub session-moved : (hub : Hub) (sessions : List (ℕ × Session)) (made : ℕ) → hub.numbers_given ≤ made → (k : ℕ × KeptSession) (p : ℕ × Session)
+    → SessionFits hub k p → SessionFits (record hub { sessions = sessions; numbers_given = made }) k p
+session-moved hub sessions made more k p s = of_parts (record hub { sessions = sessions; numbers_given = made }) k p s.stands.number (omega (arith, s.sound.below, more)) (asks hub k p s) (waits hub k p s) (reads hub k p s) (writes hub k p s) s.stands.clocks s.stands.established s.stands.standing
 
 -- other sessions, each of which is kept
 pub with_sessions-stands : (hub : Hub) (ks : List (ℕ × KeptSession)) (later : List (ℕ × KeptSession)) (sessions : List (ℕ × Session)) → Stands hub ks
-    → AllZip (SessionStandsFor hub) later sessions → AreApart sessions → length sessions ≤ max_sessions → Stands (record hub { sessions = sessions }) later
+    → AllZip (SessionFits hub) later sessions → AreApart sessions → length sessions ≤ max_sessions → Stands (record hub { sessions = sessions }) later
 with_sessions-stands hub ks later sessions h each once few = record {
+  sound = record { begins = h.sound.begins; links = h.sound.links; states = h.sound.states; sessions = fits-sound moved later sessions fit; numbers = once; few = few };
   timers = refl;
-  made = refl;
-  begins = h.begins;
-  links = h.links;
+  numbers_given = refl;
   start = refl;
   history = refl;
-  states = h.states;
-  sessions = zip-all (SessionStandsFor hub) (SessionStandsFor (record hub { sessions = sessions })) (session-moved hub sessions hub.made (omega arith)) later sessions each;
-  numbers = once;
-  seats = few;
+  sessions = fits-stand moved later sessions fit;
 }
+  where
+    moved : Hub
+    moved = record hub { sessions = sessions }
+
+    fit : AllZip (SessionFits moved) later sessions
+    fit = zip-all (SessionFits hub) (SessionFits moved) (session-moved hub sessions hub.numbers_given (omega arith)) later sessions each
 
 module _ (hub : Hub) (ks : List (ℕ × KeptSession)) (f : KeptSession → KeptSession) (g : Session → Session) where
   -- each session changes
   pub each-stands : SessionKeeps hub f g → Stands hub ks → Stands (each_session g hub) (all_sessions f ks)
   each-stands keeps h =
       with_sessions-stands hub ks (all_sessions f ks) (all_sessions g hub.sessions) h
-      (zip-map (SessionStandsFor hub) (SessionStandsFor hub) (λ (e : ℕ × KeptSession). (e.0, f e.1)) (λ (e : ℕ × Session). (e.0, g e.1)) keeps ks hub.sessions h.sessions)
-      (distinct-map (λ e. g e.1) hub.sessions h.numbers)
-      (subst (λ n. n ≤ max_sessions) (sym (length-map hub.sessions (λ (e : ℕ × Session). (e.0, g e.1)))) h.seats)
+      (zip-map (SessionFits hub) (SessionFits hub) (λ (e : ℕ × KeptSession). (e.0, f e.1)) (λ (e : ℕ × Session). (e.0, g e.1)) keeps ks hub.sessions (fitting h))
+      (distinct-map (λ e. g e.1) hub.sessions h.sound.numbers)
+      (subst (λ n. n ≤ max_sessions) (sym (length-map hub.sessions (λ (e : ℕ × Session). (e.0, g e.1)))) h.sound.few)
 
   -- the session of a number changes, of which may be known that it is the one that is found
-  pub found-stands : (number : ℕ) → ((k : ℕ × KeptSession) (p : ℕ × Session) → session_of hub number ≡ Some p.1 → SessionStandsFor hub k p → SessionStandsFor hub (k.0, f k.1) (p.0, g p.1))
+  pub found-stands : (number : ℕ) → ((k : ℕ × KeptSession) (p : ℕ × Session) → session_of hub number ≡ Some p.1 → SessionFits hub k p → SessionFits hub (k.0, f k.1) (p.0, g p.1))
       → Stands hub ks → Stands (in_session number g hub) (in_sessions number f ks)
   found-stands number keeps h =
       with_sessions-stands hub ks (in_sessions number f ks) (in_sessions number g hub.sessions) h
-      (zip-in (SessionStandsFor hub) (λ k p s. s.number) number f g ks hub.sessions (lone-number number hub.sessions h.numbers) keeps h.sessions)
-      (distinct-map (λ (e : ℕ × Session). cond (e.0 == number) (g e.1) e.1) hub.sessions h.numbers)
-      (subst (λ n. n ≤ max_sessions) (sym (length-map hub.sessions (λ (e : ℕ × Session). (e.0, cond (e.0 == number) (g e.1) e.1)))) h.seats)
+      (zip-in (SessionFits hub) (λ k p s. s.stands.number) number f g ks hub.sessions (lone-number number hub.sessions h.sound.numbers) keeps (fitting h))
+      (distinct-map (λ (e : ℕ × Session). cond (e.0 == number) (g e.1) e.1) hub.sessions h.sound.numbers)
+      (subst (λ n. n ≤ max_sessions) (sym (length-map hub.sessions (λ (e : ℕ × Session). (e.0, cond (e.0 == number) (g e.1) e.1)))) h.sound.few)
 
   pub in-stands : (number : ℕ) → SessionKeeps hub f g → Stands hub ks → Stands (in_session number g hub) (in_sessions number f ks)
   in-stands number keeps h = found-stands number (λ k p found s. keeps k p s) h
@@ -81,17 +102,17 @@ abbrev pub FoundBoth : Hub → ℕ → Option KeptSession → Option Session →
 FoundBoth hub number None None = Unit {0}
 FoundBoth hub number None (Some p) = ⊥
 FoundBoth hub number (Some k) None = ⊥
-FoundBoth hub number (Some k) (Some p) = SessionStandsFor hub (number, k) (number, p)
+FoundBoth hub number (Some k) (Some p) = SessionFits hub (number, k) (number, p)
 
 -- a pair at its number
-at_number : (hub : Hub) (number : ℕ) (k : ℕ × KeptSession) (p : ℕ × Session) → (k.0 == number) ≡ true → SessionStandsFor hub k p → SessionStandsFor hub (number, k.1) (number, p.1)
-at_number hub number k p is s = let mine = same-number k.0 number is in subst (λ (n : ℕ × ℕ). SessionStandsFor hub (n.0, k.1) (n.1, p.1)) (λ i. (mine i, (sym s.number ∙ mine) i)) s
+at_number : (hub : Hub) (number : ℕ) (k : ℕ × KeptSession) (p : ℕ × Session) → (k.0 == number) ≡ true → SessionFits hub k p → SessionFits hub (number, k.1) (number, p.1)
+at_number hub number k p is s = let mine = same-number k.0 number is in subst (λ (n : ℕ × ℕ). SessionFits hub (n.0, k.1) (n.1, p.1)) (λ i. (mine i, (sym s.stands.number ∙ mine) i)) s
 
-pub both_found : (hub : Hub) (number : ℕ) (ks : List (ℕ × KeptSession)) (ps : List (ℕ × Session)) → AllZip (SessionStandsFor hub) ks ps → FoundBoth hub number (session_in number ks) (session_in number ps)
+pub both_found : (hub : Hub) (number : ℕ) (ks : List (ℕ × KeptSession)) (ps : List (ℕ × Session)) → AllZip (SessionFits hub) ks ps → FoundBoth hub number (session_in number ks) (session_in number ps)
 both_found hub number [] [] h = tt
 both_found hub number [] (p ∷ ps) h = absurd h
 both_found hub number (k ∷ ks) [] h = absurd h
-both_found hub number (k ∷ ks) (p ∷ ps) h = by (k.0 == number) refl (p.0 == number) (ap (λ n. n == number) h.0.number) (both_found hub number ks ps h.1)
+both_found hub number (k ∷ ks) (p ∷ ps) h = by (k.0 == number) refl (p.0 == number) (ap (λ n. n == number) h.0.stands.number) (both_found hub number ks ps h.1)
   where
     by : (a : Bool) → (k.0 == number) ≡ a → (b : Bool) → (k.0 == number) ≡ b → FoundBoth hub number (session_in number ks) (session_in number ps)
         → FoundBoth hub number (option_map (λ (e : ℕ × KeptSession). e.1) (cond a (Some k) (find (λ (e : ℕ × KeptSession). e.0 == number) ks)))

@@ -21,13 +21,11 @@ use Rattle.coalesce.proofs.Sides.{parts_stay_sides}
 use Rattle.coalesce.proofs.Telling.{nothing_to_tell}
 use Rattle.history.specs.States.{state_at, records_at}
 use Rattle.history.proofs.Together.{same_name-turned}
-use Rattle.pushsession.specs.Kept.{KeptSession}
-use Rattle.pushserver.specs.Sessions.{Hub, Session, Subscription, Queue, note_of, told, asks_for, wanted, sent}
-use Rattle.pushserver.specs.Hubs.{session_in, newest, records_now}
-use Rattle.pushserver.specs.Rule.{ArePast}
+use Rattle.pushserver.specs.PlainHubs.{Hub, Session, Subscription, Queue, note_of, told, asks_for, wanted, sent}
+use Rattle.pushserver.specs.Hubs.{newest, records_now}
+use Rattle.pushserver.specs.SoundHubs.{ArePast, IsSoundSession}
 use Rattle.pushserver.specs.Laws.{NothingWhereAllIsTold}
 use Rattle.pushserver.proofs.Queues.{point_in-same}
-use Rattle.pushserver.proofs.hub_steps.Standing.{FoundBoth, both_found}
 use Rattle.pushserver.proofs.promises.Answers.{are_empty, quiet-given, given-quiet}
 use Rattle.pushserver.proofs.session_steps.Lists.{found-each}
 use Rattle.pushserver.proofs.session_steps.Names.{at_name-alike}
@@ -148,18 +146,17 @@ module _ (hub : Hub) (session : Session) (states : StatesTell hub) (past : ArePa
   pub empty-asked : are_empty hub session ≡ true → AreAsked
   empty-asked empty = every (λ (s : Subscription). IsTold s.question.name) (λ s. each-told (from-empty session.queue empty) s.question.name) session.subscriptions
 
--- a session that is found is kept, so that its queue has points of the past
-queue-past : (hub : Hub) (number : ℕ) (o : Option KeptSession) (session : Session) → FoundBoth hub number o (Some session) → ArePast (newest hub) session.queue
-queue-past hub number None session both = absurd both
-queue-past hub number (Some k) session both = both.points
-
 pub nothing_where_all_is_told : NothingWhereAllIsTold
-nothing_where_all_is_told kept hub number room session stands has = (
-  λ all. quiet-given hub number room session has (all.0, all.1, all.2, asked-empty hub session stands.states past all.3),
-  λ is. let quiet = given-quiet hub number room session has is in (quiet.0, quiet.1, quiet.2, empty-asked hub session stands.states past quiet.3),
+nothing_where_all_is_told hub number room session sound has = (
+  λ all. quiet-given hub number room session has (all.0, all.1, all.2, asked-empty hub session sound.states past all.3),
+  λ is. let quiet = given-quiet hub number room session has is in (quiet.0, quiet.1, quiet.2, empty-asked hub session sound.states past quiet.3),
 )
   where
     past : ArePast (newest hub) session.queue
-    past =
-        let both = both_found hub number kept.sessions hub.sessions stands.sessions in
-        queue-past hub number (session_in number kept.sessions) session (subst (λ (o : Option Session). FoundBoth hub number (session_in number kept.sessions) o) has both)
+    past = by (find (λ (e : ℕ × Session). e.0 == number) hub.sessions) refl has
+      where
+        by : (o : Option (ℕ × Session)) → find (λ (e : ℕ × Session). e.0 == number) hub.sessions ≡ o → option_map (λ (e : ℕ × Session). e.1) o ≡ Some session → ArePast (newest hub) session.queue
+        by None found is = absurd cc
+        by (Some e) found is =
+            let same : e.1 ≡ session = cc in
+            subst (λ (s : Session). ArePast (newest hub) s.queue) same (found-each (IsSoundSession hub) (λ (e : ℕ × Session). e.0 == number) hub.sessions e sound.sessions found).0.points

@@ -14,13 +14,13 @@ use Rattle.pushsession.specs.declared.standing.Standing.{Standing}
 use Rattle.pushsession.specs.declared.standing.Standing.TheVariants.{Live, AskedToStop, Stopped, Ended}
 use Rattle.pushserver.specs.declared.given.Given.{Given}
 use Rattle.pushserver.specs.declared.given.Given.TheVariants.{Bytes, Worked, Nothing}
-use Rattle.pushsession.specs.Sessions.{stopped}
+use Rattle.pushsession.specs.Sessions.{stopped, without_first}
 use Rattle.pushsession.specs.Subscribing.{says_notices, packs}
-use Rattle.pushserver.specs.Sessions.{Hub, Session, Giving, nets_of, stays_queued}
+use Rattle.pushserver.specs.PlainHubs.{Hub, Session, Giving, nets_of, stays_queued}
 use Rattle.pushserver.specs.Hubs.{now, keeps_now, tells_now, session_of, in_session}
-use Rattle.pushserver.specs.Giving.{copies_or, given_after, after_reaction, after_packing, without_first, reacted, by_standing, give}
+use Rattle.pushserver.specs.Giving.{copies_or, given_after, after_reaction, after_packing, reacted, by_standing, give}
 use Rattle.pushserver.proofs.SessionLists.{found-in}
-use Rattle.pushserver.proofs.hub_steps.Cases.{copies_as, found_as, works_as, stops_as, output_as, give_as}
+use Rattle.pushserver.proofs.hub_steps.Cases.{copies_as, found_as, works_as, output_as, give_as}
 
 -- ---- what a message that is taken up gives
 
@@ -113,13 +113,9 @@ module _ (hub : Hub) (number room : ℕ) (session : Session) (has : session_of h
   from_message silent live (Some found) e is = absurd (after_reaction-other number room (reacted found.0 number (in_session number (without_first found.1) hub)) is)
   from_message silent live None e is = (live, silent, e, from_nets (are_empty hub session) refl (sym (packing silent) ∙ is))
 
-  from_stop : (rcode delay : ℕ) (b : Bool) → (stops_as hub number room rcode delay b).given ≡ Nothing → ⊥
-  from_stop rcode delay true is = after_reaction-other number room (in_session number (stopped (keeps_now hub) rcode delay (now hub)) hub) is
-  from_stop rcode delay false is = cc
-
   from_standing : session.output ≡ [] → (s : Standing) → session.standing ≡ s → (by_standing s number room session hub).given ≡ Nothing → IsQuiet hub session
   from_standing silent (Ended reason) e is = cc
-  from_standing silent (AskedToStop rcode delay) e is = absurd (from_stop rcode delay session.established is)
+  from_standing silent (AskedToStop rcode delay) e is = absurd (after_reaction-other number room (in_session number (stopped (keeps_now hub) rcode delay (now hub)) hub) is)
   from_standing silent (Stopped since) e is = cc
   from_standing silent Live e is = from_message silent e (first_message session.input) refl is
 

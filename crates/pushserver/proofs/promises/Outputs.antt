@@ -9,7 +9,7 @@ use Rattle.history.specs.declared.entry.Entry.{Entry}
 use Rattle.rrset.specs.RecordSet.{changes}
 use Rattle.pushsession.specs.Sessions.{SessionOf, Keeps, new_session, noted, due, ended_where, timed, takes, is_open, asked_to_stop}
 use Rattle.pushsession.specs.declared.standing.Standing.TheVariants.{AskedToStop}
-use Rattle.pushserver.specs.Sessions.{Session, Hub, plain_keeps}
+use Rattle.pushserver.specs.PlainHubs.{Session, Hub, plain_keeps}
 use Rattle.pushserver.specs.Hubs.{Numbered, session_in, newest, now, keeps_now, records_now, session_of, each_session, in_session, entered}
 use Rattle.pushserver.specs.Laws.{OtherCallsKeepOutputs}
 use Rattle.pushserver.proofs.SessionLists.{found-changed, found-last, found-left, other-number}
@@ -68,9 +68,9 @@ module _ (number : ℕ) (output : List ℕ) where
   timed-keeps hub point t has = changed (λ m. timed (plain_keeps point) t) (λ m. timed-leaves (plain_keeps point) t) hub.sessions has
 
   makes-keeps : (hub : Hub) → HasOutput hub → HasOutput (with_new hub)
-  makes-keeps hub has = ap output_of (found-last number hub.sessions (hub.made, new_session (keeps_now hub) (now hub))) ∙ by (session_of hub number) has
+  makes-keeps hub has = ap output_of (found-last number hub.sessions (hub.numbers_given, new_session (keeps_now hub) (now hub))) ∙ by (session_of hub number) has
     where
-      by : (o : Option Session) → output_of o ≡ Some output → output_of (option_or o (cond (hub.made == number) (Some (new_session (keeps_now hub) (now hub))) None)) ≡ Some output
+      by : (o : Option Session) → output_of o ≡ Some output → output_of (option_or o (cond (hub.numbers_given == number) (Some (new_session (keeps_now hub) (now hub))) None)) ≡ Some output
       by None is = absurd cc
       by (Some s) is = is
 

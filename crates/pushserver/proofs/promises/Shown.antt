@@ -3,7 +3,7 @@
 use Rattle.std.proofs.Common.{◌≡◌, ◌∙◌, ap}
 use Rattle.std.specs.List.{AllByRecursion}
 use Rattle.rrset.specs.RecordSet.{RecordSet, at_name, matching}
-use Rattle.pushserver.specs.Sessions.{Hub, Session, Subscription, wanted, sent}
+use Rattle.pushserver.specs.PlainHubs.{Hub, Session, Subscription, wanted, sent}
 use Rattle.pushserver.specs.Hubs.{records_now}
 use Rattle.pushserver.specs.ToldMessages.{set_after}
 use Rattle.pushserver.specs.Laws.{NothingMeansAllIsShown}
@@ -31,6 +31,6 @@ module _ (hub : Hub) (session : Session) where
       (all_asked session.subscriptions)
 
 pub nothing_means_all_is_shown : NothingMeansAllIsShown
-nothing_means_all_is_shown kept hub number room session stands has tells is =
-    let all_told = (nothing_where_all_is_told kept hub number room session stands has).1 is in
+nothing_means_all_is_shown hub number room session sound has tells is =
+    let all_told = (nothing_where_all_is_told hub number room session sound has).1 is in
     each-shown hub session tells.all all_told.3

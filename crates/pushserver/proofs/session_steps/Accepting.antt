@@ -30,14 +30,14 @@ use Rattle.pushsession.specs.Kept.{KeptSession, Filled, keeping, telling}
 use Rattle.pushsession.specs.Sessions.{Keeps}
 use Rattle.pushsession.specs.Subscribing as subscribing
 use Rattle.pushsession.specs.Subscribing.{Verdict, is_served, verdict_on, subscribed, says_first_answer, first_answer_size, accepts, decided, answered}
-use Rattle.pushserver.specs.Sessions.{Hub, Session, Subscription, Queue, octets_made, subscription_for, leaves_queue, plain_keeps, plain_tells}
+use Rattle.pushserver.specs.PlainHubs.{Hub, Session, Subscription, Queue, size_of_made, subscription_for, leaves_queue, plain_keeps, plain_tells}
 use Rattle.pushserver.specs.Hubs.{state_now, records_now}
 use Rattle.pushserver.specs.Giving.{has_home}
-use Rattle.pushserver.specs.Rule.{SessionStandsFor, IsCopy}
+use Rattle.pushserver.specs.KeptHubs.{IsCopy}
 use Rattle.pushserver.specs.Rows.{AreTold}
-use Rattle.pushserver.proofs.session_steps.Parts.{Asks, Waits, reads, writes, stands}
+use Rattle.pushserver.proofs.session_steps.Parts.{SessionFits, Asks, Waits, reads, writes, stands}
 use Rattle.pushserver.proofs.session_steps.Lists.{filter-map, find-map, some-find}
-use Rattle.pushserver.proofs.session_steps.Nets.{queue_of}
+use Rattle.pushserver.specs.KeptHubs.{queue_of}
 use Rattle.pushserver.proofs.session_steps.Standing.{ended-keeps}
 use Rattle.pushserver.proofs.session_steps.Saying.{says-keeps, answers-keeps}
 use Rattle.pushserver.proofs.session_steps.FirstAnswers.{first-alike}
@@ -80,13 +80,13 @@ module _ {A Q M : Type 0} (keeps : Keeps A Q M) (id : ℕ) (has_home : Bool) (su
           let same : q ≡ question = cc in
           (ap (λ q. Some q) same, subst (λ q. Passed keeps id q has_home subscriptions) same (record { new_id = u; new_question = a; class = s; home = h; room = f }))
 
-module _ (hub : Hub) (n : ℕ) (k : ℕ × KeptSession) (p : ℕ × Session) (s : SessionStandsFor hub k p) where
+module _ (hub : Hub) (n : ℕ) (k : ℕ × KeptSession) (p : ℕ × Session) (s : SessionFits hub k p) where
   has_alike : (id : ℕ) → keeping.has_id id k.1.subscriptions ≡ (plain_keeps n).has_id id p.1.subscriptions
-  has_alike id = ap (λ (a : Asked). has id a) s.asked ∙ any-map (is_id id) (λ (q : Subscription). (q.id, q.question)) p.1.subscriptions ∙ sym (some-find (λ q. q.id == id) p.1.subscriptions)
+  has_alike id = ap (λ (a : Asked). has id a) s.stands.asked ∙ any-map (is_id id) (λ (q : Subscription). (q.id, q.question)) p.1.subscriptions ∙ sym (some-find (λ q. q.id == id) p.1.subscriptions)
 
   active_alike : (question : Question) → keeping.id_of question k.1.subscriptions ≡ (plain_keeps n).id_of question p.1.subscriptions
   active_alike question =
-      ap (λ (a : Asked). id_of question a) s.asked
+      ap (λ (a : Asked). id_of question a) s.stands.asked
       ∙ ap (λ (o : Option (ℕ × Question)). option_map (λ (e : ℕ × Question). e.0) o) (find-map (λ (q : Subscription). (q.id, q.question)) (is_question question) p.1.subscriptions)
       ∙ both (subscription_for p.1.subscriptions question)
     where
@@ -95,7 +95,7 @@ module _ (hub : Hub) (n : ℕ) (k : ℕ × KeptSession) (p : ℕ × Session) (s 
       both (Some q) = refl
 
   count_alike : length k.1.subscriptions.asked ≡ length p.1.subscriptions
-  count_alike = ap length s.asked ∙ length-map p.1.subscriptions (λ (q : Subscription). (q.id, q.question))
+  count_alike = ap length s.stands.asked ∙ length-map p.1.subscriptions (λ (q : Subscription). (q.id, q.question))
 
   verdict-alike : (id : ℕ) (question : Option Question) (has_home : Bool) → verdict_on keeping id question has_home k.1.subscriptions ≡ verdict_on (plain_keeps n) id question has_home p.1.subscriptions
   verdict-alike id None has_home = refl
@@ -103,11 +103,11 @@ module _ (hub : Hub) (n : ℕ) (k : ℕ × KeptSession) (p : ℕ × Session) (s 
 
 -- ---- one subscription more
 
-module _ (hub : Hub) (n : ℕ) (k : ℕ × KeptSession) (p : ℕ × Session) (s : SessionStandsFor hub k p) where
+module _ (hub : Hub) (n : ℕ) (k : ℕ × KeptSession) (p : ℕ × Session) (s : SessionFits hub k p) where
   leaves_alike : (question : Question) → queue_of (without_name question.name k.1.queue) ≡ leaves_queue question.name p.1.queue
   leaves_alike question =
       sym (filter-map (λ (w : WaitingName). (w.name, w.point)) (λ e. not (same_name e.0 question.name)) k.1.queue)
-      ∙ ap (λ (q : Queue). filter (λ e. not (same_name e.0 question.name)) q) s.queue
+      ∙ ap (λ (q : Queue). filter (λ e. not (same_name e.0 question.name)) q) s.stands.queue
       ∙ filter_agree (λ e. not (same_name e.0 question.name)) (λ e. not (same_name question.name e.0)) (λ e. ap not (same_name-turned e.0 question.name)) p.1.queue
 
   no_question : (question : Question) → (plain_keeps n).id_of question p.1.subscriptions ≡ None → subscription_for p.1.subscriptions question ≡ None
@@ -118,29 +118,29 @@ module _ (hub : Hub) (n : ℕ) (k : ℕ × KeptSession) (p : ℕ × Session) (s 
       by (Some q) e = absurd cc
 
   subscribed-keeps : (id : ℕ) (question : Question) (end : ℕ) → Passed (plain_keeps n) id question (has_home hub (Some question)) p.1.subscriptions
-      → SessionStandsFor hub (k.0, subscribed keeping id question (min end max_number) k.1) (p.0, subscribed (plain_keeps n) id question end p.1)
+      → SessionFits hub (k.0, subscribed keeping id question (min end max_number) k.1) (p.0, subscribed (plain_keeps n) id question end p.1)
   subscribed-keeps id question end can =
-      stands hub k p s (subscribed keeping id question (min end max_number) k.1) (subscribed (plain_keeps n) id question end p.1) one_more others (reads hub k p s) (writes hub k p s) s.clocks refl s.standing
+      stands hub k p s (subscribed keeping id question (min end max_number) k.1) (subscribed (plain_keeps n) id question end p.1) one_more others (reads hub k p s) (writes hub k p s) s.stands.clocks refl s.stands.standing
     where
       new : Subscription
       new = record { id = id; question = question; filled = end }
 
       one_more : Asks (state_now hub) (keeping.with_question id question (min end max_number) k.1.subscriptions) (p.1.subscriptions ++ new ∷ [])
       one_more = record {
-        asked = ap (λ (a : Asked). a ++ (id, question) ∷ []) s.asked ∙ sym (map-append (λ (q : Subscription). (q.id, q.question)) p.1.subscriptions (new ∷ []));
-        filled = ap (λ (f : Filled). f ++ (id, min end max_number) ∷ []) s.filled ∙ sym (map-append (λ (q : Subscription). (q.id, min q.filled max_number)) p.1.subscriptions (new ∷ []));
+        asked = ap (λ (a : Asked). a ++ (id, question) ∷ []) s.stands.asked ∙ sym (map-append (λ (q : Subscription). (q.id, q.question)) p.1.subscriptions (new ∷ []));
+        filled = ap (λ (f : Filled). f ++ (id, min end max_number) ∷ []) s.stands.filled ∙ sym (map-append (λ (q : Subscription). (q.id, min q.filled max_number)) p.1.subscriptions (new ∷ []));
         few = omega (arith, leb-false max_questions (length p.1.subscriptions) can.room, length-append p.1.subscriptions (new ∷ []));
-        ids = distinct_push _ p.1.subscriptions new s.ids (sym (some-find (λ q. q.id == id) p.1.subscriptions) ∙ can.new_id);
-        questions = distinct_push _ p.1.subscriptions new s.questions (any_found (λ q. same_question q.question question) p.1.subscriptions (no_question question can.new_question));
-        homes = each-append _ p.1.subscriptions (new ∷ []) s.homes ((can.class, can.home), tt);
+        ids = distinct_push _ p.1.subscriptions new s.sound.ids (sym (some-find (λ q. q.id == id) p.1.subscriptions) ∙ can.new_id);
+        questions = distinct_push _ p.1.subscriptions new s.sound.questions (any_found (λ q. same_question q.question question) p.1.subscriptions (no_question question can.new_question));
+        homes = each-append _ p.1.subscriptions (new ∷ []) s.sound.homes ((can.class, can.home), tt);
       }
 
       others : Waits hub.start hub.history (without_name question.name k.1.queue) (leaves_queue question.name p.1.queue)
       others = record {
         queue = leaves_alike question;
-        copies = all_filter (IsCopy hub) (λ w. not (is_named question.name w)) k.1.queue s.copies;
-        points = all_filter _ (λ e. not (same_name question.name e.0)) p.1.queue s.points;
-        names = distinct_filter _ (λ e. not (same_name question.name e.0)) p.1.queue s.names;
+        copies = all_filter (IsCopy hub) (λ w. not (is_named question.name w)) k.1.queue s.stands.copies;
+        points = all_filter _ (λ e. not (same_name question.name e.0)) p.1.queue s.sound.points;
+        names = distinct_filter _ (λ e. not (same_name question.name e.0)) p.1.queue s.sound.names;
       }
 
 -- ---- the answer, and the PUSH behind it
@@ -150,8 +150,8 @@ end_alike : (made all size : ℕ) → made ≡ min all max_number → min (made 
 end_alike made all size is = omega (arith, is)
 
 module _ (hub : Hub) (n t id : ℕ) (question : Question) where
-  said-keeps : (notices : List Notice) (waiting : List WaitingName) (queue : Queue) (k : ℕ × KeptSession) (p : ℕ × Session) → p.1.output ≡ [] → length (push_message notices) ≤ max_net_message → SessionStandsFor hub k p
-      → SessionStandsFor hub (k.0, says_first_answer keeping t (answer_to id noerror) notices waiting k.1) (p.0, says_first_answer (plain_keeps n) t (answer_to id noerror) notices queue p.1)
+  said-keeps : (notices : List Notice) (waiting : List WaitingName) (queue : Queue) (k : ℕ × KeptSession) (p : ℕ × Session) → p.1.output ≡ [] → length (push_message notices) ≤ max_net_message → SessionFits hub k p
+      → SessionFits hub (k.0, says_first_answer keeping t (answer_to id noerror) notices waiting k.1) (p.0, says_first_answer (plain_keeps n) t (answer_to id noerror) notices queue p.1)
   said-keeps [] waiting queue k p silent fits s = answers-keeps hub n false t (answer_to id noerror) k p silent (omega arith) s
   said-keeps (x ∷ xs) waiting queue k p silent fits s =
       says-keeps hub n false t (push_message (x ∷ xs)) k.1.queue p.1.queue _ _ (omega (arith, ap length silent, fits, length-append p.1.output (frame (answer_to id noerror))))
@@ -159,17 +159,17 @@ module _ (hub : Hub) (n t id : ℕ) (question : Question) where
 
   -- an accepted question, and what follows the answer to it
   abbrev plain_accepts : List Notice → Session → Session
-  plain_accepts notices p = says_first_answer (plain_keeps n) t (answer_to id noerror) notices p.queue (subscribed (plain_keeps n) id question (octets_made p.made + first_answer_size (answer_to id noerror) notices) p)
+  plain_accepts notices p = says_first_answer (plain_keeps n) t (answer_to id noerror) notices p.queue (subscribed (plain_keeps n) id question (size_of_made p.made + first_answer_size (answer_to id noerror) notices) p)
 
-  accepts-keeps : (k : ℕ × KeptSession) (p : ℕ × Session) → p.1.output ≡ [] → AreTold (records_now hub) → IsTrue (is_name question.name) → SessionStandsFor hub k p
+  accepts-keeps : (k : ℕ × KeptSession) (p : ℕ × Session) → p.1.output ≡ [] → AreTold (records_now hub) → IsTrue (is_name question.name) → SessionFits hub k p
       → Passed (plain_keeps n) id question (has_home hub (Some question)) p.1.subscriptions
-      → SessionStandsFor hub (k.0, accepts keeping (telling (records_now hub)) t id question k.1) (p.0, accepts (plain_keeps n) (plain_tells hub.start hub.history) t id question p.1)
+      → SessionFits hub (k.0, accepts keeping (telling (records_now hub)) t id question k.1) (p.0, accepts (plain_keeps n) (plain_tells hub.start hub.history) t id question p.1)
   accepts-keeps k p silent told named s new =
-      subst (λ (notices : List Notice). SessionStandsFor hub (k.0, accepts keeping (telling (records_now hub)) t id question k.1) (p.0, plain_accepts notices p.1)) (first-alike hub k p s question)
-      (subst (λ (end : ℕ). SessionStandsFor hub (k.0, says_first_answer keeping t (answer_to id noerror) notices k.1.queue (subscribed keeping id question end k.1)) (p.0, plain_accepts notices p.1))
-      (sym (end_alike k.1.made (octets_made p.1.made) (first_answer_size (answer_to id noerror) notices) s.written))
+      subst (λ (notices : List Notice). SessionFits hub (k.0, accepts keeping (telling (records_now hub)) t id question k.1) (p.0, plain_accepts notices p.1)) (first-alike hub k p s question)
+      (subst (λ (end : ℕ). SessionFits hub (k.0, says_first_answer keeping t (answer_to id noerror) notices k.1.queue (subscribed keeping id question end k.1)) (p.0, plain_accepts notices p.1))
+      (sym (end_alike k.1.made (size_of_made p.1.made) (first_answer_size (answer_to id noerror) notices) s.stands.written))
       (said-keeps notices k.1.queue p.1.queue _ _ silent (first_fits_one_message question k.1.subscriptions.asked (records_now hub) (find (is_named question.name) k.1.queue) named (question.name, (told question.name).0) (told question.name).1)
-      (subscribed-keeps hub n k p s id question (octets_made p.1.made + first_answer_size (answer_to id noerror) notices) new)))
+      (subscribed-keeps hub n k p s id question (size_of_made p.1.made + first_answer_size (answer_to id noerror) notices) new)))
     where
       notices : List Notice
       notices = first_notices question k.1.subscriptions.asked (records_now hub) (find (is_named question.name) k.1.queue)
@@ -177,15 +177,15 @@ module _ (hub : Hub) (n t id : ℕ) (question : Question) where
 -- ---- all verdicts
 
 pub answered-keeps : (hub : Hub) (n t id : ℕ) (question : Option Question) (k : ℕ × KeptSession) (p : ℕ × Session) → p.1.output ≡ [] → AreTold (records_now hub)
-    → ((q : Question) → question ≡ Some q → IsTrue (is_name q.name)) → SessionStandsFor hub k p
-    → SessionStandsFor hub (k.0, answered keeping (telling (records_now hub)) t id question (has_home hub question) k.1) (p.0, answered (plain_keeps n) (plain_tells hub.start hub.history) t id question (has_home hub question) p.1)
+    → ((q : Question) → question ≡ Some q → IsTrue (is_name q.name)) → SessionFits hub k p
+    → SessionFits hub (k.0, answered keeping (telling (records_now hub)) t id question (has_home hub question) k.1) (p.0, answered (plain_keeps n) (plain_tells hub.start hub.history) t id question (has_home hub question) p.1)
 answered-keeps hub n t id question k p silent told named s =
-    subst (λ (v : Verdict). SessionStandsFor hub (k.0, decided keeping (telling (records_now hub)) t id v k.1) (p.0, answered (plain_keeps n) (plain_tells hub.start hub.history) t id question (has_home hub question) p.1))
+    subst (λ (v : Verdict). SessionFits hub (k.0, decided keeping (telling (records_now hub)) t id v k.1) (p.0, answered (plain_keeps n) (plain_tells hub.start hub.history) t id question (has_home hub question) p.1))
     (sym (verdict-alike hub n k p s id question (has_home hub question)))
     (by (verdict_on (plain_keeps n) id question (has_home hub question) p.1.subscriptions) refl)
   where
     by : (v : Verdict) → verdict_on (plain_keeps n) id question (has_home hub question) p.1.subscriptions ≡ v
-        → SessionStandsFor hub (k.0, decided keeping (telling (records_now hub)) t id v k.1) (p.0, decided (plain_keeps n) (plain_tells hub.start hub.history) t id v p.1)
+        → SessionFits hub (k.0, decided keeping (telling (records_now hub)) t id v k.1) (p.0, decided (plain_keeps n) (plain_tells hub.start hub.history) t id v p.1)
     by (subscribing.Refuse rcode) is = answers-keeps hub n false t (refusal_to id rcode) k p silent (omega arith) s
     by (subscribing.Abort reason) is = ended-keeps hub n reason k p s
     by (subscribing.Accept q) is =

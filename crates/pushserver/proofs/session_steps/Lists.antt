@@ -1,18 +1,7 @@
 -- Lists that are taken from, left, and seen through a function.
-use Rattle.std.proofs.Common.{◌≡◌, ℕ, zero, suc, Bool, true, false, cond, ◌||◌, List, [], ◌∷◌, map, take, drop, Some, is_some, refl, sym, ◌∙◌, ap, subst}
+use Rattle.std.proofs.Common.{◌≡◌, ℕ, zero, suc, Bool, true, false, cond, ◌||◌, List, [], ◌∷◌, map, drop, Some, is_some, refl, sym, ◌∙◌, ap, subst}
 use Rattle.std.specs.Prelude.{find, filter, option_map}
-use Rattle.std.specs.List.{list_all, list_any, AllByRecursion}
-use Rattle.std.proofs.lemmas.Bool.{and_from, and_parts}
-
-pub all-take : {X : Type 0} (p : X → Bool) (n : ℕ) (xs : List X) → list_all p xs ≡ true → list_all p (take n xs) ≡ true
-all-take p zero xs h = refl
-all-take p (suc n) [] h = refl
-all-take p (suc n) (x ∷ xs) h = let both = and_parts (p x) (list_all p xs) h in and_from _ _ both.0 (all-take p n xs both.1)
-
-pub all-drop : {X : Type 0} (p : X → Bool) (n : ℕ) (xs : List X) → list_all p xs ≡ true → list_all p (drop n xs) ≡ true
-all-drop p zero xs h = h
-all-drop p (suc n) [] h = refl
-all-drop p (suc n) (x ∷ xs) h = all-drop p n xs (and_parts (p x) (list_all p xs) h).1
+use Rattle.std.specs.List.{list_any, AllByRecursion}
 
 -- ---- seen through a function
 

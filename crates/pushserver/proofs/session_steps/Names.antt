@@ -9,7 +9,7 @@ use Rattle.dnsname.specs.Names.{Labels, same_name}
 use Rattle.rrset.specs.RecordSet.{RecordSet, at_name}
 use Rattle.zoneupdate.proofs.Owners.{same_name-itself, same_name-for}
 use Rattle.history.proofs.Together.{same_name-turned}
-use Rattle.pushserver.specs.Sessions.{Queue, point_in, stays_queued}
+use Rattle.pushserver.specs.PlainHubs.{Queue, point_in, stays_queued}
 use Rattle.pushserver.proofs.session_steps.Lists.{each-both, filter-each}
 
 pub at_name-alike : (a b : Labels) → same_name a b ≡ true → (set : RecordSet) → at_name a set ≡ at_name b set

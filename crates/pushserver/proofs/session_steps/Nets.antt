@@ -17,24 +17,19 @@ use Rattle.coalesce.specs.Waiting.{WaitingName, asked_net, nets_in}
 use Rattle.coalesce.proofs.KindsOf.{any-map}
 use Rattle.history.specs.States.{records_at}
 use Rattle.pushsession.specs.Kept.{KeptSession}
-use Rattle.pushserver.specs.Sessions.{Hub, Session, Subscription, Queue, point_in, asks_for, wanted, sent, nets_of}
+use Rattle.pushserver.specs.PlainHubs.{Hub, Session, Subscription, Queue, point_in, asks_for, wanted, sent, nets_of}
 use Rattle.pushserver.specs.Hubs.{newest, records_now}
-use Rattle.pushserver.specs.Rule.{SessionStandsFor, IsCopy}
+use Rattle.pushserver.specs.KeptHubs.{IsCopy, asked_of, queue_of}
 use Rattle.pushserver.proofs.session_steps.Lists.{each-both, each-map}
 use Rattle.pushserver.proofs.session_steps.Names.{points-there}
+use Rattle.pushserver.proofs.session_steps.Parts.{SessionFits}
 
-abbrev pub asked_of : List Subscription → Asked
-asked_of subscriptions = map (λ s. (s.id, s.question)) subscriptions
-
-abbrev pub queue_of : List WaitingName → Queue
-queue_of waiting = map (λ w. (w.name, w.point)) waiting
-
-asked-alike : (subscriptions : List Subscription) (key : Key) → wants key (asked_of subscriptions) ≡ asks_for subscriptions key
+pub asked-alike : (subscriptions : List Subscription) (key : Key) → wants key (asked_of subscriptions) ≡ asks_for subscriptions key
 asked-alike subscriptions key = any-map (λ e. matches e.1 key) (λ (s : Subscription). (s.id, s.question)) subscriptions
 
-module _ (hub : Hub) (k : ℕ × KeptSession) (p : ℕ × Session) (s : SessionStandsFor hub k p) where
+module _ (hub : Hub) (k : ℕ × KeptSession) (p : ℕ × Session) (s : SessionFits hub k p) where
   pub wants-alike : (key : Key) → wants key k.1.subscriptions.asked ≡ asks_for p.1.subscriptions key
-  wants-alike key = ap (λ (a : Asked). wants key a) s.asked ∙ asked-alike p.1.subscriptions key
+  wants-alike key = ap (λ (a : Asked). wants key a) s.stands.asked ∙ asked-alike p.1.subscriptions key
 
   pub wanted-alike : (set : RecordSet) → only (λ key. wants key k.1.subscriptions.asked) set ≡ wanted p.1.subscriptions set
   wanted-alike set = filter_agree (λ e. wants e.0 k.1.subscriptions.asked) (λ e. asks_for p.1.subscriptions e.0) (λ e. wants-alike e.0) set
@@ -61,10 +56,10 @@ module _ (hub : Hub) (k : ℕ × KeptSession) (p : ℕ × Session) (s : SessionS
 
   points : AllByRecursion (λ (w : WaitingName). point_in p.1.queue w.name ≡ Some w.point) k.1.queue
   points = each-map (λ (w : WaitingName). (w.name, w.point)) (λ (e : Labels × ℕ). point_in p.1.queue e.0 ≡ Some e.1) k.1.queue
-      (subst (λ (q : Queue). AllByRecursion (λ (e : Labels × ℕ). point_in p.1.queue e.0 ≡ Some e.1) q) (sym s.queue) (points-there p.1.queue s.names))
+      (subst (λ (q : Queue). AllByRecursion (λ (e : Labels × ℕ). point_in p.1.queue e.0 ≡ Some e.1) q) (sym s.stands.queue) (points-there p.1.queue s.sound.names))
 
   pub nets-alike : nets_in k.1.subscriptions.asked (records_now hub) k.1.queue ≡ nets_of hub.start hub.history p.1.subscriptions p.1.queue
   nets-alike =
       nets_of_queue k.1.queue (each-both (IsCopy hub) (λ w. point_in p.1.queue w.name ≡ Some w.point) (λ w. (w.name, asked_net k.1.subscriptions.asked (records_now hub) w) ≡ plain_net (w.name, w.point))
-      (λ w copy point. ap (λ n. (w.name, n)) (net_alike w copy point)) k.1.queue s.copies points)
-      ∙ ap (λ (q : Queue). map plain_net q) s.queue
+      (λ w copy point. ap (λ n. (w.name, n)) (net_alike w copy point)) k.1.queue s.stands.copies points)
+      ∙ ap (λ (q : Queue). map plain_net q) s.stands.queue

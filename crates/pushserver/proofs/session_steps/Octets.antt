@@ -1,9 +1,10 @@
 -- The octets of a message are those of the stream that it waits in, and its data are among its own.
---     rest_is, first_octets      what follows the first whole message; the message
+--     rest_is, rest_octets, first_octets      what follows the first whole message; the message
+--     data-octets      the data of its first TLV
 --     question-named      the question in its data has a name
-use Rattle.std.proofs.Common.{◌≡◌, ℕ, ◌+◌, ◌-◌, ◌<◌, zero, suc, Bool, true, false, cond, List, [], ◌∷◌, length, drop, Option, Some, None, Result, Ok, Err, refl, sym, ap, subst}
+use Rattle.std.proofs.Common.{◌≡◌, ℕ, ◌+◌, ◌-◌, ◌<◌, zero, suc, Bool, true, false, cond, List, [], ◌∷◌, length, drop, Option, Some, None, Result, Ok, Err, sym, ap, subst}
 use Rattle.std.specs.Prelude.{nat_lt, slice_range, ◌==◌, IsTrue}
-use Rattle.std.proofs.lemmas.List.Elements.{All-from_recursion}
+use Rattle.std.proofs.lemmas.List.Elements.{All-nil, All-take, All-drop}
 use Rattle.push_base.specs.Cases.{◌>>=◌}
 use Rattle.dnsname.specs.Names.{is_name}
 use Rattle.rrset.specs.Header.{two_octets}
@@ -14,12 +15,10 @@ use Rattle.dsotlv.specs.declared.message.DsoFault.{DsoFault}
 use Rattle.dsotlv.specs.declared.message.DsoFault.TheVariants.{Tlv as TlvAt}
 use Rattle.dsotlv.specs.declared.message.Tlv.{Tlv}
 use Rattle.dsotlv.proofs.QuestionLaws.{question_spelled}
-use Rattle.pushserver.specs.Calls.{AreOctets}
-use Rattle.pushserver.proofs.session_steps.Lists.{all-take, all-drop}
-use Rattle.pushserver.proofs.told_rows.Entered.{are_below}
+use Rattle.dsotlv.specs.Laws.{AreOctets}
 
 slice-octets : (octets : List ℕ) (from to : ℕ) → AreOctets octets → AreOctets (slice_range octets from to)
-slice-octets octets from to all = all-take (λ o. nat_lt o 256) (to - from) (drop from octets) (all-drop (λ o. nat_lt o 256) from octets all)
+slice-octets octets from to all = All-take (λ o. o < 256) (to - from) (drop from octets) (All-drop (λ o. o < 256) from octets all)
 
 -- ---- the first whole message
 
@@ -43,7 +42,13 @@ first_octets stream found is octets = by (nat_lt (length stream) (2 + n)) is
     by true e = absurd cc
     by false e = let same : (slice_range stream 2 (2 + n), drop (2 + n) stream) ≡ found = cc in subst AreOctets (ap (λ x. x.0) same) (slice-octets stream 2 (2 + n) octets)
 
+pub rest_octets : (stream : List ℕ) (found : List ℕ × List ℕ) → first_message stream ≡ Some found → AreOctets stream → AreOctets found.1
+rest_octets stream found is octets = subst AreOctets (sym (rest_is stream found is)) (All-drop (λ o. o < 256) (2 + two_octets stream 0) stream octets)
+
 -- ---- its data
+
+none : AreOctets []
+none = All-nil (λ o. o < 256)
 
 abbrev data_in : Result (List Tlv) DsoFault → List ℕ
 data_in r = elim r as (λ _. List ℕ) [ Err fault ↦ [] | Ok tlvs ↦ data_of_first tlvs ]
@@ -52,8 +57,8 @@ tlvs-octets : (more : ℕ) (message : List ℕ) (at : ℕ) → AreOctets message
 tlvs-octets zero message at octets = by (at == length message)
   where
     by : (b : Bool) → AreOctets (data_in (cond b (Ok []) (Err (TlvAt at))))
-    by true = refl
-    by false = refl
+    by true = none
+    by false = none
 tlvs-octets (suc more) message at octets = by (at == length message) (nat_lt (length message) (at + 4)) (nat_lt (length message) (at + 4 + two_octets message (at + 2))) (tlvs_from more message (at + 4 + two_octets message (at + 2)))
   where
     by : (a b c : Bool) (rest : Result (List Tlv) DsoFault) → AreOctets (data_in (elim a as (λ _. Result (List Tlv) DsoFault) [
@@ -66,14 +71,14 @@ tlvs-octets (suc more) message at octets = by (at == length message) (nat_lt (le
         ]
       ]
     ]))
-    by true b c rest = refl
-    by false true c rest = refl
-    by false false true rest = refl
-    by false false false (Err fault) = refl
+    by true b c rest = none
+    by false true c rest = none
+    by false false true rest = none
+    by false false false (Err fault) = none
     by false false false (Ok others) = slice-octets message (at + 4) (at + 4 + two_octets message (at + 2)) octets
 
-data-octets : (message : List ℕ) → AreOctets message → AreOctets (primary_data message)
+pub data-octets : (message : List ℕ) → AreOctets message → AreOctets (primary_data message)
 data-octets message octets = tlvs-octets (length message) message 12 octets
 
 pub question-named : (message : List ℕ) (question : Question) → AreOctets message → question_of (primary_data message) ≡ Some question → IsTrue (is_name question.name)
-question-named message question octets read = (question_spelled (primary_data message) question (All-from_recursion (λ o. o < 256) (primary_data message) (are_below (primary_data message) (data-octets message octets))) read).name
+question-named message question octets read = (question_spelled (primary_data message) question (data-octets message octets) read).name

@@ -17,13 +17,14 @@ use Rattle.coalesce.proofs.Packing.{packs_the_front, packed_fits_one_message}
 use Rattle.coalesce.proofs.Sides.{parts_stay_sides}
 use Rattle.pushsession.specs.Kept.{KeptSession, keeping, telling}
 use Rattle.pushsession.specs.Subscribing.{says_notices, packs}
-use Rattle.pushserver.specs.Sessions.{Hub, Session, Queue, stays_queued, plain_keeps, plain_tells}
+use Rattle.pushserver.specs.PlainHubs.{Hub, Session, Queue, stays_queued, plain_keeps, plain_tells}
 use Rattle.pushserver.specs.Hubs.{records_now}
-use Rattle.pushserver.specs.Rule.{SessionStandsFor, IsCopy}
-use Rattle.pushserver.proofs.session_steps.Parts.{Waits, asks, reads, writes, stands}
+use Rattle.pushserver.specs.KeptHubs.{IsCopy}
+use Rattle.pushserver.proofs.session_steps.Parts.{SessionFits, Waits, asks, reads, writes, stands}
 use Rattle.pushserver.proofs.session_steps.Lists.{each-drop}
 use Rattle.pushserver.proofs.session_steps.Names.{names_of, stays-last}
-use Rattle.pushserver.proofs.session_steps.Nets.{queue_of, nets-alike}
+use Rattle.pushserver.proofs.session_steps.Nets.{nets-alike}
+use Rattle.pushserver.specs.KeptHubs.{queue_of}
 use Rattle.pushserver.proofs.session_steps.Saying.{says_notices-keeps}
 
 -- ---- the size
@@ -81,34 +82,34 @@ names_kept zero (w ∷ ws) = ap (λ ns. w.name ∷ ns) (names_kept zero ws)
 names_kept (suc n) [] = refl
 names_kept (suc n) (w ∷ ws) = names_kept n ws
 
-module _ (hub : Hub) (k : ℕ × KeptSession) (p : ℕ × Session) (s : SessionStandsFor hub k p) where
+module _ (hub : Hub) (k : ℕ × KeptSession) (p : ℕ × Session) (s : SessionFits hub k p) where
   abbrev rows : RecordSet
   rows = records_now hub
 
   stays_alike : queue_of (left_in k.1.subscriptions.asked rows k.1.queue) ≡ stays_queued (packed_of k.1.subscriptions.asked rows k.1.queue).1 p.1.queue
   stays_alike =
       let t = stay k.1.subscriptions.asked rows k.1.queue in
-      ap queue_of t.left ∙ sym (drop-map (λ (w : WaitingName). (w.name, w.point)) t.gone k.1.queue) ∙ ap (λ (q : Queue). drop t.gone q) s.queue
-      ∙ sym (stays-last t.gone p.1.queue s.names)
-      ∙ ap (λ (ns : List Labels). stays_queued ns p.1.queue) (sym (t.names ∙ names_kept t.gone k.1.queue ∙ ap (λ (q : Queue). names_of (drop t.gone q)) s.queue))
+      ap queue_of t.left ∙ sym (drop-map (λ (w : WaitingName). (w.name, w.point)) t.gone k.1.queue) ∙ ap (λ (q : Queue). drop t.gone q) s.stands.queue
+      ∙ sym (stays-last t.gone p.1.queue s.sound.names)
+      ∙ ap (λ (ns : List Labels). stays_queued ns p.1.queue) (sym (t.names ∙ names_kept t.gone k.1.queue ∙ ap (λ (q : Queue). names_of (drop t.gone q)) s.stands.queue))
 
   -- the names that fit leave
-  left-keeps : SessionStandsFor hub (k.0, record k.1 { queue = left_in k.1.subscriptions.asked rows k.1.queue }) (p.0, record p.1 { queue = stays_queued (packed_of k.1.subscriptions.asked rows k.1.queue).1 p.1.queue })
+  left-keeps : SessionFits hub (k.0, record k.1 { queue = left_in k.1.subscriptions.asked rows k.1.queue }) (p.0, record p.1 { queue = stays_queued (packed_of k.1.subscriptions.asked rows k.1.queue).1 p.1.queue })
   left-keeps =
       stands hub k p s (record k.1 { queue = left_in k.1.subscriptions.asked rows k.1.queue }) (record p.1 { queue = stays_queued (packed_of k.1.subscriptions.asked rows k.1.queue).1 p.1.queue }) (asks hub k p s) fewer (reads hub k p s) (writes hub k p s)
-      s.clocks s.established s.standing
+      s.stands.clocks s.stands.established s.stands.standing
     where
       fewer : Waits hub.start hub.history (left_in k.1.subscriptions.asked rows k.1.queue) (stays_queued (packed_of k.1.subscriptions.asked rows k.1.queue).1 p.1.queue)
       fewer = record {
         queue = stays_alike;
-        copies = each-drop (IsCopy hub) (length k.1.queue - length (packed_of k.1.subscriptions.asked rows k.1.queue).1) k.1.queue s.copies;
-        points = all_filter _ (λ e. list_any (same_name e.0) (packed_of k.1.subscriptions.asked rows k.1.queue).1) p.1.queue s.points;
-        names = distinct_filter _ (λ e. list_any (same_name e.0) (packed_of k.1.subscriptions.asked rows k.1.queue).1) p.1.queue s.names;
+        copies = each-drop (IsCopy hub) (length k.1.queue - length (packed_of k.1.subscriptions.asked rows k.1.queue).1) k.1.queue s.stands.copies;
+        points = all_filter _ (λ e. list_any (same_name e.0) (packed_of k.1.subscriptions.asked rows k.1.queue).1) p.1.queue s.sound.points;
+        names = distinct_filter _ (λ e. list_any (same_name e.0) (packed_of k.1.subscriptions.asked rows k.1.queue).1) p.1.queue s.sound.names;
       }
 
   pub packs-keeps : (n t : ℕ) → p.1.output ≡ [] → CanBePacked rows k.1.queue
-      → SessionStandsFor hub (k.0, packs keeping (telling rows) t k.1) (p.0, packs (plain_keeps n) (plain_tells hub.start hub.history) t p.1)
+      → SessionFits hub (k.0, packs keeping (telling rows) t k.1) (p.0, packs (plain_keeps n) (plain_tells hub.start hub.history) t p.1)
   packs-keeps n t silent can =
-      subst (λ (ns : Nets). SessionStandsFor hub (k.0, packs keeping (telling rows) t k.1) (p.0, says_notices (plain_keeps n) t (packed ns).0 (record p.1 { queue = stays_queued (packed ns).1 p.1.queue })))
+      subst (λ (ns : Nets). SessionFits hub (k.0, packs keeping (telling rows) t k.1) (p.0, says_notices (plain_keeps n) t (packed ns).0 (record p.1 { queue = stays_queued (packed ns).1 p.1.queue })))
       (nets-alike hub k p s)
       (says_notices-keeps hub n t (packed_of k.1.subscriptions.asked rows k.1.queue).0 _ _ (omega (arith, ap length silent, packed_fits k.1.subscriptions.asked rows k.1.queue can)) left-keeps)

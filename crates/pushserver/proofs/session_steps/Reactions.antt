@@ -9,14 +9,14 @@ use Rattle.dsosession.specs.declared.session.Reaction.{Reaction}
 use Rattle.dsosession.specs.declared.session.Reaction.TheVariants.{Answer, Grant, Abort, Subscribe, Unsubscribe, Reconfirm, Update, NotImplemented}
 use Rattle.pushsession.specs.Kept.{KeptSession, keeping}
 use Rattle.pushsession.specs.Reactions.{by_itself}
-use Rattle.pushserver.specs.Sessions.{Hub, Session, plain_keeps}
-use Rattle.pushserver.specs.Rule.{SessionStandsFor}
+use Rattle.pushserver.specs.PlainHubs.{Hub, Session, plain_keeps}
 use Rattle.pushserver.proofs.session_steps.Standing.{ended-keeps}
 use Rattle.pushserver.proofs.session_steps.Saying.{answers-keeps, grants-keeps, unsubscribes-keeps}
+use Rattle.pushserver.proofs.session_steps.Parts.{SessionFits}
 
 module _ (hub : Hub) (n : ℕ) where
   pub by_itself-keeps : (reaction : Reaction) (timers : Timers) (now : ℕ) (message : List ℕ) (k : ℕ × KeptSession) (p : ℕ × Session) → p.1.output ≡ []
-      → SessionStandsFor hub k p → SessionStandsFor hub (k.0, by_itself keeping reaction timers now message k.1) (p.0, by_itself (plain_keeps n) reaction timers now message p.1)
+      → SessionFits hub k p → SessionFits hub (k.0, by_itself keeping reaction timers now message k.1) (p.0, by_itself (plain_keeps n) reaction timers now message p.1)
   by_itself-keeps (Answer rcode) timers now message k p silent s = answers-keeps hub n false now (answer_to (id_of message) rcode) k p silent (omega arith) s
   by_itself-keeps Grant timers now message k p silent s = grants-keeps hub timers _ _ (answers-keeps hub n true now (grant_to (id_of message) timers.inactivity timers.keepalive) k p silent (omega arith) s)
   by_itself-keeps (Abort reason) timers now message k p silent s = ended-keeps hub n reason k p s

@@ -1,9 +1,8 @@
 -- A kept session and the plain one: what is written, what is granted, and what is taken up.
-use Rattle.std.proofs.Common.{◌≡◌, ℕ, ◌+◌, ◌≤◌, ◌^◌, Bool, false, not, List, [], ◌∷◌, ◌++◌, length, drop, min, Some, refl, ◌∙◌, ap, arith}
-use Rattle.std.specs.Prelude.{filter, nat_lt, ◌-◌, ◌==◌}
+use Rattle.std.proofs.Common.{◌≡◌, ℕ, ◌+◌, ◌≤◌, ◌^◌, Bool, true, false, cond, not, List, [], ◌∷◌, ◌++◌, length, drop, min, Some, refl, ◌∙◌, sym, ap, subst, arith}
+use Rattle.std.specs.Prelude.{filter, ◌-◌, ◌==◌}
 use Rattle.std.proofs.lemmas.List.{length-append, length-drop}
 use Rattle.std.proofs.lemmas.List.Sums.{sum_by_push, length-filter, count_by-le-length}
-use Rattle.std.specs.List.{list_all}
 use Rattle.push_base.specs.Limits.{max_number}
 use Rattle.rrset.specs.Header.{two_octets}
 use Rattle.rrset.proofs.Distinct.{distinct_filter}
@@ -15,22 +14,21 @@ use Rattle.coalesce.specs.Net.{push_message}
 use Rattle.coalesce.specs.Sides.{frame_octets}
 use Rattle.coalesce.specs.Waiting.{WaitingName}
 use Rattle.dsosession.specs.Reactions.{is_keepalive}
-use Rattle.dsosession.specs.Timing.{Clocks, server_spoke}
+use Rattle.dsosession.specs.Timing.{Clocks, restarted}
 use Rattle.dsosession.specs.declared.session.Timers.{Timers}
+use Rattle.dsosession.specs.declared.session.EndReason.TheVariants as ends
 use Rattle.subscr.specs.Asked.{is_id, without}
 use Rattle.pushsession.specs.Kept.{KeptSession, keeping, without_filled}
 use Rattle.dsotlv.specs.Answers.{stop_message}
-use Rattle.pushsession.specs.Sessions.{says, answers, stopped}
+use Rattle.pushsession.specs.Sessions.{SessionOf, Keeps, says, answers, ended_with, says_stop, stopped, without_first}
 use Rattle.pushsession.specs.Subscribing.{says_notices}
 use Rattle.pushsession.specs.Reactions.{heard, granted, unsubscribed}
-use Rattle.pushserver.specs.Sessions.{Hub, Session, Subscription, Queue, made_octets, octets_made, plain_keeps}
+use Rattle.pushserver.specs.PlainHubs.{Hub, Session, Subscription, Queue, frame_of, size_of_made, plain_keeps}
 use Rattle.pushserver.specs.Hubs.{state_now}
-use Rattle.pushserver.specs.Giving.{without_first}
-use Rattle.pushserver.specs.Rule.{SessionStandsFor}
-use Rattle.pushserver.specs.Simulation.{SessionKeeps}
-use Rattle.pushserver.proofs.session_steps.Parts.{Asks, Reads, Writes, asks, waits, reads, writes, stands, asks_nothing, none_waits}
-use Rattle.pushserver.proofs.session_steps.Lists.{filter-map, all-drop}
-use Rattle.pushserver.proofs.session_steps.Octets.{rest_is}
+use Rattle.pushserver.proofs.session_steps.Standing.{ended-keeps}
+use Rattle.pushserver.proofs.session_steps.Parts.{SessionFits, SessionKeeps, Asks, Reads, Writes, asks, waits, reads, writes, stands, asks_nothing, none_waits}
+use Rattle.pushserver.proofs.session_steps.Lists.{filter-map}
+use Rattle.pushserver.proofs.session_steps.Octets.{rest_is, rest_octets}
 
 -- octets that are counted up to the last number, and more octets
 counted_more : (kept all more sum : ℕ) → kept ≡ min all max_number → sum ≡ all + more → min (kept + more) (2 ^ 64 - 1) ≡ min sum max_number
@@ -40,50 +38,59 @@ counted_more kept all more sum is added = omega (arith, is, added)
 
 module _ (hub : Hub) (n : ℕ) where
   pub says-keeps : (is_keepalive : Bool) (now : ℕ) (message : List ℕ) (waiting : List WaitingName) (queue : Queue) (k : ℕ × KeptSession) (p : ℕ × Session) → length p.1.output + length (frame message) ≤ frame_octets
-      → SessionStandsFor hub k p → SessionStandsFor hub (k.0, says keeping is_keepalive now message waiting k.1) (p.0, says (plain_keeps n) is_keepalive now message queue p.1)
+      → SessionFits hub k p → SessionFits hub (k.0, says keeping is_keepalive now message waiting k.1) (p.0, says (plain_keeps n) is_keepalive now message queue p.1)
   says-keeps is_keepalive now message waiting queue k p fits s =
       stands hub k p s (says keeping is_keepalive now message waiting k.1) (says (plain_keeps n) is_keepalive now message queue p.1) (asks hub k p s) (waits hub k p s) (reads hub k p s) more
-      (ap (λ (c : Clocks). server_spoke is_keepalive now c) s.clocks) s.established s.standing
+      (ap (λ (c : Clocks). restarted is_keepalive now c) s.stands.clocks) s.stands.established s.stands.standing
     where
       more : Writes (k.1.output ++ frame message) (p.1.output ++ frame message) (min (k.1.made + length (frame message)) (2 ^ 64 - 1)) (says (plain_keeps n) is_keepalive now message queue p.1).made
       more = record {
-        output = ap (λ o. o ++ frame message) s.output;
-        counted = counted_more k.1.made (octets_made p.1.made) (length (frame message)) (octets_made (says (plain_keeps n) is_keepalive now message queue p.1).made) s.written
-            (sum_by_push (λ m. length (made_octets m)) p.1.made (record { message = message; note = record { queue = queue; newest = n }; subscribed = p.1.subscriptions }));
+        output = ap (λ o. o ++ frame message) s.stands.output;
+        counted = counted_more k.1.made (size_of_made p.1.made) (length (frame message)) (size_of_made (says (plain_keeps n) is_keepalive now message queue p.1).made) s.stands.written
+            (sum_by_push (λ m. length (frame_of m)) p.1.made (record { message = message; note = record { queue = queue; newest = n }; subscribed = p.1.subscriptions }));
         fits = omega (arith, fits, length-append p.1.output (frame message));
       }
 
   -- a short answer where nothing waits to be written
   pub answers-keeps : (is_keepalive : Bool) (now : ℕ) (message : List ℕ) (k : ℕ × KeptSession) (p : ℕ × Session) → p.1.output ≡ [] → length message ≤ 65535
-      → SessionStandsFor hub k p → SessionStandsFor hub (k.0, answers keeping is_keepalive now message k.1) (p.0, answers (plain_keeps n) is_keepalive now message p.1)
+      → SessionFits hub k p → SessionFits hub (k.0, answers keeping is_keepalive now message k.1) (p.0, answers (plain_keeps n) is_keepalive now message p.1)
   answers-keeps is_keepalive now message k p silent short s = says-keeps is_keepalive now message k.1.queue p.1.queue k p (omega (arith, ap length silent, short)) s
 
   -- a PUSH where there are notices
   pub says_notices-keeps : (t : ℕ) (notices : List Notice) (k : ℕ × KeptSession) (p : ℕ × Session) → length p.1.output + length (frame (push_message notices)) ≤ frame_octets
-      → SessionStandsFor hub k p → SessionStandsFor hub (k.0, says_notices keeping t notices k.1) (p.0, says_notices (plain_keeps n) t notices p.1)
+      → SessionFits hub k p → SessionFits hub (k.0, says_notices keeping t notices k.1) (p.0, says_notices (plain_keeps n) t notices p.1)
   says_notices-keeps t [] k p fits s = s
   says_notices-keeps t (x ∷ xs) k p fits s = says-keeps false t (push_message (x ∷ xs)) k.1.queue p.1.queue k p fits s
 
+  -- a session that was asked to stop, by whether it is established
+  abbrev stops_as : {A Q M : Type 0} → Keeps A Q M → ℕ → ℕ → ℕ → SessionOf A Q M → Bool → SessionOf A Q M
+  stops_as keeps rcode delay t session established = cond established (says_stop keeps rcode delay t session) (ended_with keeps ends.Stopped session)
+
   pub stops-keeps : (rcode delay now : ℕ) (k : ℕ × KeptSession) (p : ℕ × Session) → p.1.output ≡ []
-      → SessionStandsFor hub k p → SessionStandsFor hub (k.0, stopped keeping rcode delay now k.1) (p.0, stopped (plain_keeps n) rcode delay now p.1)
+      → SessionFits hub k p → SessionFits hub (k.0, stopped keeping rcode delay now k.1) (p.0, stopped (plain_keeps n) rcode delay now p.1)
   stops-keeps rcode delay now k p silent s =
-      let said = answers-keeps false now (stop_message rcode delay) k p silent (omega arith) s in
-      stands hub k p s (stopped keeping rcode delay now k.1) (stopped (plain_keeps n) rcode delay now p.1) asks_nothing none_waits (reads hub _ _ said) (writes hub _ _ said) said.clocks said.established refl
+      subst (λ (b : Bool). SessionFits hub (k.0, stops_as keeping rcode delay now k.1 b) (p.0, stopped (plain_keeps n) rcode delay now p.1)) (sym s.stands.established) (by p.1.established)
+    where
+      by : (b : Bool) → SessionFits hub (k.0, stops_as keeping rcode delay now k.1 b) (p.0, stops_as (plain_keeps n) rcode delay now p.1 b)
+      by true =
+          let said = answers-keeps false now (stop_message rcode delay) k p silent (omega arith) s in
+          stands hub k p s (says_stop keeping rcode delay now k.1) (says_stop (plain_keeps n) rcode delay now p.1) asks_nothing none_waits (reads hub _ _ said) (writes hub _ _ said) said.stands.clocks said.stands.established refl
+      by false = ended-keeps hub n ends.Stopped k p s
 
   pub unsubscribes-keeps : (id : ℕ) → SessionKeeps hub (unsubscribed keeping id) (unsubscribed (plain_keeps n) id)
-  unsubscribes-keeps id k p s = stands hub k p s (unsubscribed keeping id k.1) (unsubscribed (plain_keeps n) id p.1) fewer (waits hub k p s) (reads hub k p s) (writes hub k p s) s.clocks s.established s.standing
+  unsubscribes-keeps id k p s = stands hub k p s (unsubscribed keeping id k.1) (unsubscribed (plain_keeps n) id p.1) fewer (waits hub k p s) (reads hub k p s) (writes hub k p s) s.stands.clocks s.stands.established s.stands.standing
     where
       others : Subscription → Bool
       others q = not (q.id == id)
 
       fewer : Asks (state_now hub) (keeping.without_id id k.1.subscriptions) (filter (λ q. not (q.id == id)) p.1.subscriptions)
       fewer = record {
-        asked = ap (λ a. without id a) s.asked ∙ filter-map (λ (q : Subscription). (q.id, q.question)) (λ e. not (is_id id e)) p.1.subscriptions;
-        filled = ap (λ f. without_filled id f) s.filled ∙ filter-map (λ (q : Subscription). (q.id, min q.filled max_number)) (λ e. not (e.0 == id)) p.1.subscriptions;
-        few = omega (arith, s.few, length-filter others p.1.subscriptions, count_by-le-length others p.1.subscriptions);
-        ids = distinct_filter _ others p.1.subscriptions s.ids;
-        questions = distinct_filter _ others p.1.subscriptions s.questions;
-        homes = all_filter _ others p.1.subscriptions s.homes;
+        asked = ap (λ a. without id a) s.stands.asked ∙ filter-map (λ (q : Subscription). (q.id, q.question)) (λ e. not (is_id id e)) p.1.subscriptions;
+        filled = ap (λ f. without_filled id f) s.stands.filled ∙ filter-map (λ (q : Subscription). (q.id, min q.filled max_number)) (λ e. not (e.0 == id)) p.1.subscriptions;
+        few = omega (arith, s.sound.few, length-filter others p.1.subscriptions, count_by-le-length others p.1.subscriptions);
+        ids = distinct_filter _ others p.1.subscriptions s.sound.ids;
+        questions = distinct_filter _ others p.1.subscriptions s.sound.questions;
+        homes = all_filter _ others p.1.subscriptions s.sound.homes;
       }
 
 -- ---- a message that is taken up
@@ -91,15 +98,15 @@ module _ (hub : Hub) (n : ℕ) where
 module _ (hub : Hub) where
   pub grants-keeps : (timers : Timers) → SessionKeeps hub (granted timers) (granted timers)
   grants-keeps timers k p s = stands hub k p s (granted timers k.1) (granted timers p.1) (asks hub k p s) (waits hub k p s) (reads hub k p s) (writes hub k p s)
-      (ap (λ (c : Clocks). record c { timers = timers }) s.clocks) refl s.standing
+      (ap (λ (c : Clocks). record c { timers = timers }) s.stands.clocks) refl s.stands.standing
 
   pub heard-keeps : (head : DsoHead) (now : ℕ) → SessionKeeps hub (heard head now) (heard head now)
   heard-keeps head now k p s = stands hub k p s (heard head now k.1) (heard head now p.1) (asks hub k p s) (waits hub k p s) (reads hub k p s) (writes hub k p s)
-      (ap (λ (c : Clocks). server_spoke (is_keepalive head) now c) s.clocks) s.established s.standing
+      (ap (λ (c : Clocks). restarted (is_keepalive head) now c) s.stands.clocks) s.stands.established s.stands.standing
 
-  pub without_first-keeps : (found : List ℕ × List ℕ) (k : ℕ × KeptSession) (p : ℕ × Session) → first_message p.1.input ≡ Some found → SessionStandsFor hub k p
-      → SessionStandsFor hub (k.0, without_first found.1 k.1) (p.0, without_first found.1 p.1)
-  without_first-keeps found k p is s = stands hub k p s (without_first found.1 k.1) (without_first found.1 p.1) (asks hub k p s) (waits hub k p s) left (writes hub k p s) s.clocks s.established s.standing
+  pub without_first-keeps : (found : List ℕ × List ℕ) (k : ℕ × KeptSession) (p : ℕ × Session) → first_message p.1.input ≡ Some found → SessionFits hub k p
+      → SessionFits hub (k.0, without_first found.1 k.1) (p.0, without_first found.1 p.1)
+  without_first-keeps found k p is s = stands hub k p s (without_first found.1 k.1) (without_first found.1 p.1) (asks hub k p s) (waits hub k p s) left (writes hub k p s) s.stands.clocks s.stands.established s.stands.standing
     where
       rest : found.1 ≡ drop (2 + two_octets p.1.input 0) p.1.input
       rest = rest_is p.1.input found is
@@ -107,6 +114,6 @@ module _ (hub : Hub) where
       left : Reads found.1 found.1
       left = record {
         input = refl;
-        octets = ap (λ i. list_all (λ o. nat_lt o 256) i) rest ∙ all-drop (λ o. nat_lt o 256) (2 + two_octets p.1.input 0) p.1.input s.octets;
-        fits = omega (arith, s.input_fits, ap length rest, length-drop (2 + two_octets p.1.input 0) p.1.input);
+        octets = rest_octets p.1.input found is s.sound.octets;
+        fits = omega (arith, s.sound.input_fits, ap length rest, length-drop (2 + two_octets p.1.input 0) p.1.input);
       }

@@ -1,16 +1,14 @@
 -- What an update that is read brings: owners that are names, kinds of 16 bits, and rdata that fits its kind.
 --     IsRead rr      what holds of each record that is read
 --     changes_read      the changes of an update that is read
-use Rattle.std.proofs.Common.{◌≡◌, ℕ, zero, suc, ◌+◌, ◌-◌, ◌*◌, ◌^◌, ◌<◌, ◌≤◌, Bool, true, false, cond, not, ◌&&◌, ◌||◌, ltb, eqb, List, [], ◌∷◌, length, drop, Result, Ok, Err, ◌==◌, refl, sym, ap, subst, arith}
-use Rattle.std.specs.Prelude.{slice_range, get_or, nat_lt, IsTrue, MatchBool}
-use Rattle.std.specs.Int.{w16, from_be_bytes}
-use Rattle.std.specs.List.{list_all, AllByRecursion}
-use Rattle.std.proofs.lemmas.Bool.{eqb-true, ltb-false, ltb-true, lt-ltb}
+use Rattle.std.proofs.Common.{◌≡◌, ℕ, ◌+◌, ◌^◌, ◌<◌, ◌≤◌, Bool, true, false, cond, not, ◌&&◌, ◌||◌, ltb, eqb, List, [], ◌∷◌, length, Result, Ok, Err, ◌==◌, refl, sym, ap, subst, arith}
+use Rattle.std.specs.Prelude.{slice_range, nat_lt, MatchBool}
+use Rattle.std.specs.List.{AllByRecursion}
+use Rattle.std.proofs.lemmas.List.Elements.{recursion_from_All}
+use Rattle.std.proofs.lemmas.Bool.{eqb-true, ltb-false, lt-ltb}
 use Rattle.push_base.specs.Cases.{fault_as}
 use Rattle.dnsname.specs.Names.{is_name}
 use Rattle.dnsname.proofs.Decisions.{is_name-Decides}
-use Rattle.dnsname.proofs.FoundNames.{below_at}
-use Rattle.dnsname.proofs.Standing.{AreOctets-drop, below-take}
 use Rattle.rrset.specs.Header.{flags_of, is_response, opcode_of, update_opcode}
 use Rattle.rrset.specs.Kinds.{in_class}
 use Rattle.rrset.specs.Rcodes.{formerr}
@@ -22,35 +20,10 @@ use Rattle.dnswire.specs.Spelling.{SpellsRecord, SpellsSeveral}
 use Rattle.dnswire.specs.declared.message.Update.{Update}
 use Rattle.dnswire.proofs.Entries.{done_as}
 use Rattle.dnswire.proofs.Messages.{update-found}
-use Rattle.zoneupdate.proofs.Filters.{and-left, and-right}
+use Rattle.dsotlv.specs.Laws.{AreOctets}
+use Rattle.dsotlv.proofs.Numbers.{two_below}
 use Rattle.history.specs.States.{update_in}
 use Rattle.pushserver.proofs.told_rows.Shaped.{spelled-fits}
-
--- ---- octets
-
-abbrev pub AreBelow : List ℕ → Type 0
-AreBelow octets = AllByRecursion (λ o. o < 256) octets
-
-pub are_below : (octets : List ℕ) → IsTrue (list_all (λ o. nat_lt o 256) octets) → AreBelow octets
-are_below [] h = tt
-are_below (o ∷ os) h = (ltb-true o 256 (and-left (ltb o 256) (list_all (λ o. ltb o 256) os) h), are_below os (and-right (ltb o 256) (list_all (λ o. ltb o 256) os) h))
-
-each_below : (octets : List ℕ) → AreBelow octets → (i : ℕ) → get_or octets i 0 < 256
-each_below [] h zero = omega arith
-each_below [] h (suc i) = omega arith
-each_below (o ∷ os) h zero = h.0
-each_below (o ∷ os) h (suc i) = each_below os h.1 i
-
--- a number of two octets
-two_below : (octets : List ℕ) → AreBelow octets → from_be_bytes w16 octets < 2 ^ 16
-two_below octets h =
-    let high = each_below octets h 0 in
-    let low = each_below octets h 1 in
-    let is : from_be_bytes w16 octets ≡ get_or octets 0 0 * 256 + get_or octets 1 0 = refl in
-    omega (arith, high, low, is)
-
-pub range_below : (message : List ℕ) → AreBelow message → (a b : ℕ) → AreBelow (slice_range message a b)
-range_below message below a b = below-take (b - a) (drop a message) (AreOctets-drop a message (below_at message below))
 
 -- ---- a record that is read
 
@@ -62,15 +35,15 @@ pub record IsRead (rr : Rr) : Type 0 where
 by_shape : (class size : ℕ) → (class == in_class) ≡ true → update_shape class size ≡ true
 by_shape class size e = ap (λ b. b || (class == 254 && nat_lt 0 size)) e
 
-record_read : (message : List ℕ) → AreBelow message → (at : ℕ) (rr : Rr) (after : ℕ) → SpellsRecord update_shape message at rr after → IsRead rr
+record_read : (message : List ℕ) → AreOctets message → (at : ℕ) (rr : Rr) (after : ℕ) → SpellsRecord update_shape message at rr after → IsRead rr
 record_read message below at rr after s = record {
   owner = (is_name-Decides rr.owner).1 s.owner.is_name;
-  kind = lt-ltb rr.kind (2 ^ 16) (subst (λ (n : ℕ). n < 2 ^ 16) (sym s.kind.2) (two_below _ (range_below message below s.owner_end (s.owner_end + 2))));
+  kind = lt-ltb rr.kind (2 ^ 16) (subst (λ (n : ℕ). n < 2 ^ 16) (sym s.kind.2) (two_below message s.owner_end below));
   rdata = λ is. spelled-fits rr.kind message (s.owner_end + 10) after rr.rdata s.whole.1
       (subst (λ (b : Bool). MatchBool b (SpellsShape (shape rr.kind) message (s.owner_end + 10) after rr.rdata) (rr.rdata ≡ slice_range message (s.owner_end + 10) after)) (by_shape rr.class s.size is) s.rdata);
 }
 
-records_read : (message : List ℕ) → AreBelow message → (rrs : List Rr) (at after : ℕ) → SpellsSeveral (SpellsRecord update_shape) message at rrs after → AllByRecursion IsRead rrs
+records_read : (message : List ℕ) → AreOctets message → (rrs : List Rr) (at after : ℕ) → SpellsSeveral (SpellsRecord update_shape) message at rrs after → AllByRecursion IsRead rrs
 records_read message below [] at after s = tt
 records_read message below (rr ∷ rrs) at after (next, first, others) = (record_read message below at rr next first, records_read message below rrs next after others)
 
@@ -108,8 +81,8 @@ is_update message update e =
       read = done_as (λ _. formerr) (update_of message) update tests.read;
     }
 
-pub changes_read : (message : List ℕ) (update : Update) → AreBelow message → update_in message ≡ Ok update → AllByRecursion IsRead update.changes
+pub changes_read : (message : List ℕ) (update : Update) → AreOctets message → update_in message ≡ Ok update → AllByRecursion IsRead update.changes
 changes_read message update below e =
     let is = is_update message update e in
-    let spelled = update-found message update below is.long (is.response, is.opcode) is.read in
+    let spelled = update-found message update (recursion_from_All (λ o. o < 256) message below) is.long (is.response, is.opcode) is.read in
     records_read message below update.changes spelled.prereqs_end spelled.changes_end spelled.changes.1

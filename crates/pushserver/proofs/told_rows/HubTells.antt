@@ -9,12 +9,14 @@ use Rattle.coalesce.specs.Laws.{is_side}
 use Rattle.coalesce.specs.Waiting.{WaitingName, IsPackable, CanBePacked}
 use Rattle.history.specs.States.{state_at, records_at}
 use Rattle.pushsession.specs.Kept.{KeptSession}
-use Rattle.pushserver.specs.Sessions.{Session, Hub}
+use Rattle.pushserver.specs.PlainHubs.{Session, Hub}
 use Rattle.pushserver.specs.Hubs.{newest, state_now, records_now, session_of}
-use Rattle.pushserver.specs.Rule.{KeptHub, IsCopy, ArePast, SessionStandsFor, StandsFor}
+use Rattle.pushserver.specs.KeptHubs.{KeptHub, IsCopy, StandsFor}
 use Rattle.pushserver.specs.Rows.{AreTold, IsTellable}
 use Rattle.pushserver.specs.Simulation.{HubsTell}
-use Rattle.pushserver.proofs.hub_steps.Standing.{FoundBoth, both_found}
+use Rattle.pushserver.specs.SoundHubs.{ArePast}
+use Rattle.pushserver.proofs.session_steps.Parts.{SessionFits}
+use Rattle.pushserver.proofs.hub_steps.Standing.{FoundBoth, both_found, fitting}
 use Rattle.pushserver.proofs.told_rows.Told.{tellable-told}
 
 -- each state of the history is tellable
@@ -39,8 +41,8 @@ each_packable hub states (w ∷ queue) copies past =
     (waiting_packable hub states w copies.0 (omega (arith, before)), each_packable hub states queue copies.1 past.1)
 
 -- the names that wait in a session that is kept
-pub session_packable : (hub : Hub) → StatesTell hub → (k : ℕ × KeptSession) (p : ℕ × Session) → SessionStandsFor hub k p → CanBePacked (records_now hub) k.1.queue
-session_packable hub states k p stands = each_packable hub states k.1.queue stands.copies (subst (ArePast (newest hub)) (sym stands.queue) stands.points)
+pub session_packable : (hub : Hub) → StatesTell hub → (k : ℕ × KeptSession) (p : ℕ × Session) → SessionFits hub k p → CanBePacked (records_now hub) k.1.queue
+session_packable hub states k p stands = each_packable hub states k.1.queue stands.stands.copies (subst (ArePast (newest hub)) (sym stands.stands.queue) stands.sound.points)
 
 -- ---- all sessions
 
@@ -50,11 +52,11 @@ kept_now k hub stands = sym (λ i. records_at (stands.start i) (stands.history i
 
 pub hubs_tell : HubsTell
 hubs_tell k hub stands = (
-  subst AreTold (kept_now k hub stands) (hub_told hub stands.states),
+  subst AreTold (kept_now k hub stands) (hub_told hub stands.sound.states),
   λ number session is. subst (λ (rows : RecordSet). CanBePacked rows session.queue) (kept_now k hub stands)
-      (packable number session (session_of hub number) (subst (λ (o : Option KeptSession). FoundBoth hub number o (session_of hub number)) is (both_found hub number k.sessions hub.sessions stands.sessions))),
+      (packable number session (session_of hub number) (subst (λ (o : Option KeptSession). FoundBoth hub number o (session_of hub number)) is (both_found hub number k.sessions hub.sessions (fitting stands)))),
 )
   where
     packable : (number : ℕ) (session : KeptSession) (o : Option Session) → FoundBoth hub number (Some session) o → CanBePacked (records_now hub) session.queue
     packable number session None both = absurd both
-    packable number session (Some p) both = session_packable hub stands.states (number, session) (number, p) both
+    packable number session (Some p) both = session_packable hub stands.sound.states (number, session) (number, p) both

@@ -2,9 +2,10 @@
 --     entered_tells, update_tells, moment_tells, new_tells
 --     new_stands      what is kept of a new hub stands for it
 use Rattle.std.proofs.Common.{◌≡◌, ℕ, List, [], sym, ap, subst, refl, arith}
-use Rattle.std.specs.Prelude.{nat_lt, Ok, IsTrue}
-use Rattle.std.specs.List.{list_all, AllByRecursion, IsDistinct}
+use Rattle.std.specs.Prelude.{Ok, IsTrue}
+use Rattle.std.specs.List.{AllByRecursion, IsDistinct}
 use Rattle.dnsname.specs.Names.{is_name}
+use Rattle.dsotlv.specs.Laws.{AreOctets}
 use Rattle.dsosession.specs.declared.session.Timers.{Timers}
 use Rattle.dnswire.specs.declared.message.Update.{Update}
 use Rattle.history.specs.Plans.{IsStart}
@@ -13,9 +14,9 @@ use Rattle.history.specs.States.{State, after, state_at, verdict}
 use Rattle.history.specs.declared.entry.Entry.{Entry}
 use Rattle.history.specs.declared.entry.Entry.TheVariants as entries
 use Rattle.pushserver.specs.Hubs.{newest, state_now, entered, empty_hub}
-use Rattle.pushserver.specs.Sessions.{Hub, new_hub}
+use Rattle.pushserver.specs.PlainHubs.{Hub, new_hub}
 use Rattle.pushserver.specs.Rows.{IsTellable}
-use Rattle.pushserver.specs.Rule.{kept, StandsFor}
+use Rattle.pushserver.specs.KeptHubs.{kept, StandsFor}
 use Rattle.pushserver.proofs.told_rows.HubTells.{StatesTell}
 use Rattle.pushserver.proofs.told_rows.Histories.{states-more}
 use Rattle.pushserver.proofs.told_rows.Updated.{update-tellable, moment-tellable, start-tellable}
@@ -25,7 +26,7 @@ use Rattle.pushserver.proofs.told_rows.Updated.{update-tellable, moment-tellable
 pub entered_tells : (hub : Hub) (entry : Entry) → StatesTell hub → IsTellable (after (state_now hub) entry) → StatesTell (entered entry hub)
 entered_tells hub entry states new = states-more hub.start hub.history entry states new
 
-pub update_tells : (hub : Hub) (message : List ℕ) (update : Update) → StatesTell hub → IsTrue (list_all (λ o. nat_lt o 256) message) → verdict (state_now hub) message ≡ Ok update → StatesTell (entered (entries.Update update) hub)
+pub update_tells : (hub : Hub) (message : List ℕ) (update : Update) → StatesTell hub → AreOctets message → verdict (state_now hub) message ≡ Ok update → StatesTell (entered (entries.Update update) hub)
 update_tells hub message update states octets e = entered_tells hub (entries.Update update) states (update-tellable (state_now hub) message update (states (newest hub) (omega arith)) octets e)
 
 pub moment_tells : (hub : Hub) (t : ℕ) → StatesTell hub → StatesTell (entered (entries.Moment t) hub)
@@ -41,14 +42,10 @@ new_tells start timers is point within =
 pub new_stands : (start : State) (timers : Timers) → IsStart start → AreAtHome start → AllByRecursion (λ z. IsTrue (is_name z.apex)) start.zones → StandsFor (empty_hub kept start timers) (new_hub start timers)
 unfolding IsDistinct
 new_stands start timers begins home names = record {
+  sound = record { begins = begins; links = home.links; states = new_tells start timers (start-tellable start begins home names); sessions = tt; numbers = tt; few = omega arith };
   timers = refl;
-  made = refl;
-  begins = begins;
-  links = home.links;
+  numbers_given = refl;
   start = refl;
   history = refl;
-  states = new_tells start timers (start-tellable start begins home names);
   sessions = tt;
-  numbers = tt;
-  seats = omega arith;
 }

@@ -1,7 +1,7 @@
 -- States stay tellable: a start, an update that is entered, and a later moment.
 --     update-tellable, moment-tellable, start-tellable
 use Rattle.std.proofs.Common.{◌≡◌, ℕ, suc, ◌+◌, ◌≤◌, Bool, true, false, cond, ltb, eqb, List, [], ◌∷◌, ◌++◌, map, fold, find, length, codes, Option, Some, None, Result, Ok, Err, is_ok, refl, sym, ap, subst, ◌∙◌, arith, ltb-false}
-use Rattle.std.specs.Prelude.{All, IsTrue, nat_lt, is_none}
+use Rattle.std.specs.Prelude.{All, IsTrue, is_none}
 use Rattle.std.specs.List.{list_all, AllByRecursion}
 use Rattle.std.proofs.lemmas.Bool.{eq-eqb}
 use Rattle.std.proofs.lemmas.List.{append-nil}
@@ -32,7 +32,8 @@ use Rattle.history.specs.declared.entry.Entry.TheVariants as entries
 use Rattle.history.proofs.StatesAtHome.{home-after}
 use Rattle.history.proofs.Starts.{IsNew}
 use Rattle.pushserver.specs.Rows.{is_tellable, IsTellable}
-use Rattle.pushserver.proofs.told_rows.Entered.{are_below, IsRead, changes_read}
+use Rattle.dsotlv.specs.Laws.{AreOctets}
+use Rattle.pushserver.proofs.told_rows.Entered.{IsRead, changes_read}
 use Rattle.pushserver.proofs.told_rows.Fitting.{HaveRoom, AreFit, is_fit-from, fit-put_rr, fit-after, all-good, limits-room, all-tellable, all-fit}
 use Rattle.pushserver.proofs.told_rows.Told.{RowsTell, ZonesTell, told-zones, tell-rows, tell-sizes}
 
@@ -103,12 +104,12 @@ taken state message update e =
     let same = same_done first.0 update second.2 in
     record { read = first.1 ∙ ap (λ (u : Update). Ok u) same; later = second.0; step = ap (updated state) (sym same) ∙ second.1 }
 
-pub update-tellable : (state : State) (message : List ℕ) (update : Update) → IsTellable state → IsTrue (list_all (λ o. nat_lt o 256) message) → verdict state message ≡ Ok update
+pub update-tellable : (state : State) (message : List ℕ) (update : Update) → IsTellable state → AreOctets message → verdict state message ≡ Ok update
     → IsTellable (after state (entries.Update update))
 update-tellable state message update is octets e =
     let got = taken state message update e in
     let tell = told-zones state is in
-    let read = changes_read message update (are_below message octets) got.read in
+    let read = changes_read message update octets got.read in
     let new = step-tells state tell update got.later read (step-of state tell update got.later got.step) in
     let same : got.later ≡ after state (entries.Update update) = sym (ap (λ (r : Result State ℕ). elim r as (λ _. State) [ Err code ↦ state | Ok later ↦ later ]) got.step) in
     let zones = subst (λ (s : State). ZonesTell s.zones) same new in

@@ -4,10 +4,10 @@ use Rattle.coalesce.specs.Sides.{frame_octets}
 use Rattle.dsosession.specs.declared.session.EndReason.{EndReason}
 use Rattle.pushserver.specs.declared.given.Given.{Given}
 use Rattle.pushserver.specs.declared.given.Given.TheVariants.{Bytes, Worked, Nothing, Ending, End}
-use Rattle.pushserver.specs.Sessions.{Hub, Giving}
+use Rattle.pushserver.specs.PlainHubs.{Hub, Giving}
 use Rattle.pushserver.specs.Giving.{give}
 use Rattle.pushserver.specs.Counting.{octets_of}
-use Rattle.pushserver.specs.Rule.{KeptHub, StandsFor}
+use Rattle.pushserver.specs.KeptHubs.{KeptHub, StandsFor}
 use Rattle.pushserver.specs.Simulation.{GivesStand}
 use Rattle.replay.specs.PassedOctets.{Emitted, emitted, nothing_emitted, with_giving, enough}
 use Rattle.replay.specs.declared.exchanging.Turn.{Turn}

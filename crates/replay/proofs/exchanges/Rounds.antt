@@ -2,11 +2,11 @@
 use Rattle.std.proofs.Common.{◌≡◌, ℕ, suc, ◌≤◌, ◌==◌, ◌||◌, Bool, true, false, List, [], ◌++◌, length, take, drop, min, Option, Some, None, sym, ◌∙◌, ap, subst, refl, arith, eq-eqb, ne_eqb, ◌<◌}
 use Rattle.std.specs.Prelude.{nat_le}
 use Rattle.std.proofs.lemmas.Bool.{leb-true, leb-false}
-use Rattle.pushserver.specs.Sessions.{Session, Hub}
+use Rattle.pushserver.specs.PlainHubs.{Session, Hub}
 use Rattle.dsosession.specs.declared.session.EndReason.{EndReason}
 use Rattle.pushsession.specs.Sessions.{room_of}
 use Rattle.pushserver.specs.Hubs.{session_of, taken_by, take_octets}
-use Rattle.pushserver.specs.Rule.{KeptHub, StandsFor}
+use Rattle.pushserver.specs.KeptHubs.{KeptHub, StandsFor}
 use Rattle.replay.specs.PassedOctets.{Emitted, Exchanged, emitted, exchanged, nothing_emitted, enough}
 use Rattle.replay.specs.KeptExchanges.{Emits, IsEmitted, IsExchanged, Exchanges}
 use Rattle.replay.proofs.exchanges.Taking.{take-front}

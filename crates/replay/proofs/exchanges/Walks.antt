@@ -6,7 +6,7 @@ use Rattle.std.proofs.Common.{◌≡◌, ℕ, ◌≤◌, ◌==◌, Bool, true, f
 use Rattle.std.proofs.lemmas.List.{length-take}
 use Rattle.std.proofs.Math.Seq.{take-append_seam}
 use Rattle.std.proofs.Math.ListN.{drop_of_length-le}
-use Rattle.std.specs.List.{AllByRecursion, AllZip}
+use Rattle.std.specs.List.{AllByRecursion}
 use Rattle.push_base.specs.Cases.{is_empty}
 use Rattle.coalesce.specs.Sides.{frame_octets}
 use Rattle.dsotlv.specs.Messages.{first_message}
@@ -15,16 +15,17 @@ use Rattle.pushsession.specs.declared.standing.Standing.{Standing}
 use Rattle.pushsession.specs.declared.standing.Standing.TheVariants.{Live, AskedToStop, Stopped, Ended}
 use Rattle.pushserver.specs.declared.given.Given.{Given}
 use Rattle.pushserver.specs.declared.given.Given.TheVariants.{Bytes, Worked, Nothing, Ending, End}
-use Rattle.pushserver.specs.Sessions.{Session, Hub, Giving}
+use Rattle.pushserver.specs.PlainHubs.{Session, Hub, Giving}
 use Rattle.pushserver.specs.Hubs.{now, keeps_now, tells_now, session_of, in_session}
-use Rattle.pushserver.specs.Giving.{ends_as, did, copies, copies_or, given_after, after_reaction, after_packing, works, without_first, by_standing, reacted, give}
+use Rattle.pushsession.specs.Sessions.{without_first, stopped}
+use Rattle.pushserver.specs.Giving.{did, copies, copies_or, given_after, after_reaction, after_packing, works, by_standing, reacted, give}
 use Rattle.pushsession.specs.Subscribing.{packs}
-use Rattle.pushsession.specs.Sessions.{stopped}
-use Rattle.pushsession.specs.Kept.{KeptSession}
 use Rattle.pushserver.specs.Counting.{octets_of}
-use Rattle.pushserver.specs.Rule.{KeptHub, SessionStandsFor, StandsFor}
+use Rattle.pushserver.specs.KeptHubs.{KeptHub, StandsFor}
+use Rattle.pushserver.specs.SoundHubs.{IsSoundSession}
+use Rattle.pushserver.proofs.hub_steps.Pairs.{all-weaken}
 use Rattle.pushserver.specs.Simulation.{GivesStand}
-use Rattle.pushserver.proofs.hub_steps.Cases.{copies_as, found_as, works_as, stops_as, output_as, give_as}
+use Rattle.pushserver.proofs.hub_steps.Cases.{copies_as, found_as, works_as, output_as, give_as}
 use Rattle.replay.specs.KeptExchanges.{written}
 
 abbrev pub is_bytes : Given → Bool
@@ -68,11 +69,7 @@ module _ (number : ℕ) (P : (ℕ → Giving) → Type 0)
   standing-walk (Ended reason) session hub = done (End reason) hub refl
   standing-walk (Stopped since) session hub = done Ending hub refl
   standing-walk Live session hub = works-walk session hub
-  standing-walk (AskedToStop rcode delay) session hub = by session.established
-    where
-      by : (b : Bool) → P (λ room. stops_as hub number room rcode delay b)
-      by true = reaction-walk (in_session number (stopped (keeps_now hub) rcode delay (now hub)) hub)
-      by false = done (End ends.Stopped) (ends_as number ends.Stopped hub) refl
+  standing-walk (AskedToStop rcode delay) session hub = reaction-walk (in_session number (stopped (keeps_now hub) rcode delay (now hub)) hub)
 
   pub give-walk : (hub : Hub) → P (λ room. give hub number room)
   give-walk hub = by (session_of hub number) refl
@@ -120,12 +117,6 @@ Fits e = length e.1.output ≤ frame_octets
 
 abbrev pub AllFit : Hub → Type 0
 AllFit hub = AllByRecursion Fits hub.sessions
-
-stands-fit : (hub : Hub) (ks : List (ℕ × KeptSession)) (ps : List (ℕ × Session)) → AllZip (SessionStandsFor hub) ks ps → AllByRecursion Fits ps
-stands-fit hub [] [] z = tt
-stands-fit hub (k ∷ ks) (p ∷ ps) z = (z.0.output_fits, stands-fit hub ks ps z.1)
-stands-fit hub [] (p ∷ ps) z = absurd z
-stands-fit hub (k ∷ ks) [] z = absurd z
 
 -- where the sessions fit after a call without room, more room than a frame changes nothing
 abbrev pub IsRoomy : (ℕ → Giving) → Type 0
@@ -199,4 +190,4 @@ pub gives-whole : GivesStand → (k : KeptHub) (hub : Hub) (number room : ℕ) �
 gives-whole law k hub number room stands wide =
     let g = give hub number 0 in
     let both = law k hub number 0 stands in
-    give-walk number IsRoomy roomy_done (roomy_copied number) hub (stands-fit g.hub (give k number 0).hub.sessions g.hub.sessions both.hub.sessions) room wide
+    give-walk number IsRoomy roomy_done (roomy_copied number) hub (all-weaken (IsSoundSession g.hub) Fits (λ e sound. sound.output_fits) g.hub.sessions both.hub.sound.sessions) room wide

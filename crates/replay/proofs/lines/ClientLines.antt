@@ -13,11 +13,11 @@ use Rattle.std.proofs.lemmas.List.Splits.{join_with_byte-slice_split}
 use Rattle.push_base.specs.Cases.{is_empty}
 use Rattle.push_base.specs.Optional.{◌>>=◌}
 use Rattle.dnsname.proofs.Decisions.{and_true}
-use Rattle.replay.specs.Lines.{Word, ScriptLine, silent, client, lone, update, hear, ask, drop_question, open_connection, cut, say, up, emit, down, settle, send, feed, point, word, is, of_word, by_first_word, of_words, line_of, is_word_octet}
+use Rattle.replay.specs.Lines.{lines_by, Word, ScriptLine, silent, client, lone, update, hear, ask, drop_question, open_connection, cut, say, up, emit, down, settle, send, feed, point, word, is, of_word, by_first_word, of_words, line_of, is_word_octet}
 use Rattle.replay.specs.Scripts.{onto_line, lines_in, client_word, client_words, is_among, last_is_outside}
 use Rattle.replay.specs.KeptLines.{words_in}
 use Rattle.replay.specs.Drafts.{lines_left, client_in, in_list, has_client}
-use Rattle.replay.proofs.lines.LineKinds.{chosen_none, lines_by, timers_none, zone_none, link_none, word_none, at_none, octets_none, word_octets_none, word_question_none, reconfirm_none, word_number_none, stop_none, alone_none, show_none, is_that}
+use Rattle.replay.proofs.lines.LineKinds.{chosen_none, timers_none, zone_none, link_none, word_none, at_none, octets_none, word_octets_none, word_question_none, reconfirm_none, word_number_none, stop_none, alone_none, show_none, is_that}
 
 -- ---- the client that a line names
 

@@ -10,7 +10,7 @@ use Rattle.push_base.specs.Optional.{◌>>=◌}
 use Rattle.rrset.specs.declared.record.Question.{Question}
 use Rattle.dsosession.specs.Timing.{least_keepalive}
 use Rattle.dnsname.specs.Text.{name_of_text}
-use Rattle.replay.specs.Lines.{Word, ScriptLine, silent, timers, zone, link, client, lone, at_moment, update, hear, ask, drop_question, reconfirm, open_connection, cut, say, up, emit, down, settle, send, feed, stop, point, show, number32, number, max_octets_passed, word, octets_written, is, writable_of, question, alone, of_word, of_octets, of_word_and_octets, of_word_and_number, of_word_and_question, timers_line, zone_line, link_line, at_line, reconfirm_line, stop_line, show_line, by_first_word, of_words, line_of}
+use Rattle.replay.specs.Lines.{Word, ScriptLine, silent, timers, zone, link, client, lone, at_moment, update, hear, ask, drop_question, reconfirm, open_connection, cut, say, up, emit, down, settle, send, feed, stop, point, show, number32, number, max_octets_passed, word, octets_written, is, writable_of, question, alone, of_word, of_octets, of_word_and_octets, of_word_and_number, of_word_and_question, timers_line, zone_line, link_line, at_line, reconfirm_line, stop_line, show_line, lines_by, by_first_word, of_words, line_of}
 use Rattle.push_base.specs.Limits.{max_moment}
 use Rattle.replay.specs.KeptLines.{built_line, understood, begins_silent, words_in, kind_of, said_behind}
 use Rattle.replay.specs.declared.line.Kind.{Kind}
@@ -125,33 +125,6 @@ chosen_none f (c ∷ cases) h = ⊎_elim
     (λ (nothing : (c.1 >>= f) ≡ None). if_none f c.0 c.1 (chosen cases None) nothing (chosen_none f cases h.1))
     h.0
 
-abbrev pub lines_by : Word → List Word → List (Bool × Option ScriptLine)
-lines_by w rest =
-    (is w (codes "timers"), timers_line rest)
-    ∷ (is w (codes "zone"), zone_line rest)
-    ∷ (is w (codes "link"), link_line rest)
-    ∷ (is w (codes "client"), of_word client rest)
-    ∷ (is w (codes "lone"), of_word lone rest)
-    ∷ (is w (codes "at"), at_line rest)
-    ∷ (is w (codes "update"), of_octets update rest)
-    ∷ (is w (codes "hear"), of_word_and_octets hear rest)
-    ∷ (is w (codes "ask"), of_word_and_question ask rest)
-    ∷ (is w (codes "drop"), of_word_and_question drop_question rest)
-    ∷ (is w (codes "reconfirm"), reconfirm_line rest)
-    ∷ (is w (codes "open"), of_word open_connection rest)
-    ∷ (is w (codes "cut"), of_word cut rest)
-    ∷ (is w (codes "say"), of_word_and_number say rest)
-    ∷ (is w (codes "up"), of_word_and_number up rest)
-    ∷ (is w (codes "emit"), of_word_and_number emit rest)
-    ∷ (is w (codes "down"), of_word_and_number down rest)
-    ∷ (is w (codes "settle"), of_word settle rest)
-    ∷ (is w (codes "send"), of_word_and_octets send rest)
-    ∷ (is w (codes "feed"), of_word_and_octets feed rest)
-    ∷ (is w (codes "stop"), stop_line rest)
-    ∷ (is w (codes "point"), alone point rest)
-    ∷ (is w (codes "show"), show_line rest)
-    ∷ []
-
 -- a word that begins no line that is built
 record IsOther (w : Word) : Type 0 where
   no_timers : is w (codes "timers") ≡ false
@@ -163,8 +136,8 @@ record IsOther (w : Word) : Type 0 where
   no_stop : is w (codes "stop") ≡ false
   no_point : is w (codes "point") ≡ false
 
-other_kept : (w : Word) (ws : List Word) → IsOther w → understood (by_first_word w ws) ≡ None
-other_kept w ws o = chosen_none built_line (lines_by w ws) (
+other_built : (w : Word) (ws : List Word) → IsOther w → understood (by_first_word w ws) ≡ None
+other_built w ws o = chosen_none built_line (lines_by w ws) (
   inl o.no_timers,
   (
     inl o.no_zone,
@@ -234,62 +207,62 @@ other_kept w ws o = chosen_none built_line (lines_by w ws) (
 
 -- ---- the kinds that are built
 
-bind_kept : {A : Type 0} (o : Option A) (g : A → Option ScriptLine) → ((a : A) → understood (g a) ≡ g a) → understood (o >>= g) ≡ (o >>= g)
-bind_kept None g h = refl
-bind_kept (Some a) g h = h a
+bind_built : {A : Type 0} (o : Option A) (g : A → Option ScriptLine) → ((a : A) → understood (g a) ≡ g a) → understood (o >>= g) ≡ (o >>= g)
+bind_built None g h = refl
+bind_built (Some a) g h = h a
 
-map_kept : {A : Type 0} (o : Option A) (g : A → ScriptLine) → ((a : A) → built_line (g a) ≡ Some (g a)) → understood (option_map g o) ≡ option_map g o
-map_kept None g h = refl
-map_kept (Some a) g h = h a
+map_built : {A : Type 0} (o : Option A) (g : A → ScriptLine) → ((a : A) → built_line (g a) ≡ Some (g a)) → understood (option_map g o) ≡ option_map g o
+map_built None g h = refl
+map_built (Some a) g h = h a
 
-zone_kept : (ws : List Word) → understood (zone_line ws) ≡ zone_line ws
-zone_kept [] = refl
-zone_kept (n ∷ []) = refl
-zone_kept (n ∷ s ∷ []) = refl
-zone_kept (n ∷ s ∷ m ∷ []) = bind_kept (name_of_text n) _ (λ apex. bind_kept (number32 s) _ (λ serial. map_kept (writable_of m) (λ writable. zone apex serial writable) (λ writable. refl)))
-zone_kept (n ∷ s ∷ m ∷ v ∷ ws) = refl
+zone_built : (ws : List Word) → understood (zone_line ws) ≡ zone_line ws
+zone_built [] = refl
+zone_built (n ∷ []) = refl
+zone_built (n ∷ s ∷ []) = refl
+zone_built (n ∷ s ∷ m ∷ []) = bind_built (name_of_text n) _ (λ apex. bind_built (number32 s) _ (λ serial. map_built (writable_of m) (λ writable. zone apex serial writable) (λ writable. refl)))
+zone_built (n ∷ s ∷ m ∷ v ∷ ws) = refl
 
-timers_kept_by : (i k : ℕ) (b : Bool) → understood (cond b (Some (timers i k)) None) ≡ cond b (Some (timers i k)) None
-timers_kept_by i k true = refl
-timers_kept_by i k false = refl
+timers_built_by : (i k : ℕ) (b : Bool) → understood (cond b (Some (timers i k)) None) ≡ cond b (Some (timers i k)) None
+timers_built_by i k true = refl
+timers_built_by i k false = refl
 
-timers_kept : (ws : List Word) → understood (timers_line ws) ≡ timers_line ws
-timers_kept [] = refl
-timers_kept (i ∷ []) = refl
-timers_kept (i ∷ k ∷ []) = bind_kept (number32 i) _ (λ m. bind_kept (number32 k) _ (λ n. timers_kept_by m n (nat_le least_keepalive n)))
-timers_kept (i ∷ k ∷ v ∷ ws) = refl
+timers_built : (ws : List Word) → understood (timers_line ws) ≡ timers_line ws
+timers_built [] = refl
+timers_built (i ∷ []) = refl
+timers_built (i ∷ k ∷ []) = bind_built (number32 i) _ (λ m. bind_built (number32 k) _ (λ n. timers_built_by m n (nat_le least_keepalive n)))
+timers_built (i ∷ k ∷ v ∷ ws) = refl
 
-at_kept : (ws : List Word) → understood (at_line ws) ≡ at_line ws
-at_kept [] = refl
-at_kept (t ∷ []) = map_kept (number max_moment t) (λ n. at_moment n) (λ n. refl)
-at_kept (t ∷ v ∷ ws) = refl
+at_built : (ws : List Word) → understood (at_line ws) ≡ at_line ws
+at_built [] = refl
+at_built (t ∷ []) = map_built (number max_moment t) (λ n. at_moment n) (λ n. refl)
+at_built (t ∷ v ∷ ws) = refl
 
-cut_kept : (ws : List Word) → understood (of_word cut ws) ≡ of_word cut ws
-cut_kept [] = refl
-cut_kept (w ∷ []) = map_kept (word w) (λ p. cut p) (λ p. refl)
-cut_kept (w ∷ v ∷ ws) = refl
+cut_built : (ws : List Word) → understood (of_word cut ws) ≡ of_word cut ws
+cut_built [] = refl
+cut_built (w ∷ []) = map_built (word w) (λ p. cut p) (λ p. refl)
+cut_built (w ∷ v ∷ ws) = refl
 
-stop_kept : (ws : List Word) → understood (stop_line ws) ≡ stop_line ws
-stop_kept [] = refl
-stop_kept (w ∷ []) = refl
-stop_kept (w ∷ r ∷ []) = refl
-stop_kept (w ∷ r ∷ d ∷ []) = bind_kept (word w) _ (λ p. bind_kept (number 15 r) _ (λ rcode. bind_kept (number32 d) _ (λ delay. refl)))
-stop_kept (w ∷ r ∷ d ∷ v ∷ ws) = refl
+stop_built : (ws : List Word) → understood (stop_line ws) ≡ stop_line ws
+stop_built [] = refl
+stop_built (w ∷ []) = refl
+stop_built (w ∷ r ∷ []) = refl
+stop_built (w ∷ r ∷ d ∷ []) = bind_built (word w) _ (λ p. bind_built (number 15 r) _ (λ rcode. bind_built (number32 d) _ (λ delay. refl)))
+stop_built (w ∷ r ∷ d ∷ v ∷ ws) = refl
 
-send_kept : (ws : List Word) → understood (of_word_and_octets send ws) ≡ of_word_and_octets send ws
-send_kept [] = refl
-send_kept (w ∷ []) = refl
-send_kept (w ∷ o ∷ []) = bind_kept (word w) _ (λ p. bind_kept (octets_written o) _ (λ r. refl))
-send_kept (w ∷ o ∷ v ∷ ws) = refl
+send_built : (ws : List Word) → understood (of_word_and_octets send ws) ≡ of_word_and_octets send ws
+send_built [] = refl
+send_built (w ∷ []) = refl
+send_built (w ∷ o ∷ []) = bind_built (word w) _ (λ p. bind_built (octets_written o) _ (λ r. refl))
+send_built (w ∷ o ∷ v ∷ ws) = refl
 
-update_kept : (ws : List Word) → understood (of_octets update ws) ≡ of_octets update ws
-update_kept [] = refl
-update_kept (o ∷ []) = map_kept (octets_written o) (λ r. update r) (λ r. refl)
-update_kept (o ∷ v ∷ ws) = refl
+update_built : (ws : List Word) → understood (of_octets update ws) ≡ of_octets update ws
+update_built [] = refl
+update_built (o ∷ []) = map_built (octets_written o) (λ r. update r) (λ r. refl)
+update_built (o ∷ v ∷ ws) = refl
 
-point_kept : (ws : List Word) → understood (alone point ws) ≡ alone point ws
-point_kept [] = refl
-point_kept (w ∷ ws) = refl
+point_built : (ws : List Word) → understood (alone point ws) ≡ alone point ws
+point_built [] = refl
+point_built (w ∷ ws) = refl
 
 pub is_that : (w v : Word) → is w v ≡ true → w ≡ v
 is_that w v h = (bytes_eq-Decides w v).0 h
@@ -308,44 +281,44 @@ other_kind w o =
     ∙ ap (λ (x : Bool). kind_by false false false false false false x (is w (codes "point"))) o.no_stop
     ∙ ap (λ (x : Bool). kind_by false false false false false false false x) o.no_point
 
-abbrev IsKept : List Word → Word → Type 0
-IsKept ws w = understood (by_first_word w ws) ≡ said_behind (kind_of w) ws
+abbrev IsBuiltBy : List Word → Word → Type 0
+IsBuiltBy ws w = understood (by_first_word w ws) ≡ said_behind (kind_of w) ws
 
 -- by one word after another
-by_word : (v w : Word) (ws : List Word) → IsKept ws v → (is w v ≡ false → IsKept ws w) → IsKept ws w
+by_word : (v w : Word) (ws : List Word) → IsBuiltBy ws v → (is w v ≡ false → IsBuiltBy ws w) → IsBuiltBy ws w
 by_word v w ws this others = elim (cases_Bool (is w v)) [
-  | inl same ↦ subst (IsKept ws) (sym (is_that w v same)) this
+  | inl same ↦ subst (IsBuiltBy ws) (sym (is_that w v same)) this
   | inr differs ↦ others differs
 ]
 
-first_word_kept : (w : Word) (ws : List Word) → IsKept ws w
-first_word_kept w ws =
-    by_word (codes "timers") w ws (timers_kept ws) (λ no_timers.
-    by_word (codes "zone") w ws (zone_kept ws) (λ no_zone.
-    by_word (codes "at") w ws (at_kept ws) (λ no_at.
-    by_word (codes "update") w ws (update_kept ws) (λ no_update.
-    by_word (codes "cut") w ws (cut_kept ws) (λ no_cut.
-    by_word (codes "send") w ws (send_kept ws) (λ no_send.
-    by_word (codes "stop") w ws (stop_kept ws) (λ no_stop.
-    by_word (codes "point") w ws (point_kept ws) (λ no_point.
+first_word_built : (w : Word) (ws : List Word) → IsBuiltBy ws w
+first_word_built w ws =
+    by_word (codes "timers") w ws (timers_built ws) (λ no_timers.
+    by_word (codes "zone") w ws (zone_built ws) (λ no_zone.
+    by_word (codes "at") w ws (at_built ws) (λ no_at.
+    by_word (codes "update") w ws (update_built ws) (λ no_update.
+    by_word (codes "cut") w ws (cut_built ws) (λ no_cut.
+    by_word (codes "send") w ws (send_built ws) (λ no_send.
+    by_word (codes "stop") w ws (stop_built ws) (λ no_stop.
+    by_word (codes "point") w ws (point_built ws) (λ no_point.
     let o : IsOther w = record { no_timers = no_timers; no_zone = no_zone; no_at = no_at; no_update = no_update; no_cut = no_cut; no_send = no_send; no_stop = no_stop; no_point = no_point } in
-    other_kept w ws o ∙ sym (ap (λ (k : Kind). said_behind k ws) (other_kind w o))))))))))
+    other_built w ws o ∙ sym (ap (λ (k : Kind). said_behind k ws) (other_kind w o))))))))))
 
 -- ---- a line
 
-of_words_kept : (text w : List ℕ) (ws : List Word) → words_in text ≡ w ∷ ws → understood (of_words (words_in text)) ≡ said_behind (kind_of w) ws
-of_words_kept text w ws e = ap (λ (vs : List Word). understood (of_words vs)) e ∙ first_word_kept w ws
+of_words_built : (text w : List ℕ) (ws : List Word) → words_in text ≡ w ∷ ws → understood (of_words (words_in text)) ≡ said_behind (kind_of w) ws
+of_words_built text w ws e = ap (λ (vs : List Word). understood (of_words vs)) e ∙ first_word_built w ws
 
 -- what a line says, if it is built, by its first word and those behind it
-pub line_kept : (text w : List ℕ) (ws : List Word) → begins_silent text ≡ false → words_in text ≡ w ∷ ws → understood (line_of text) ≡ said_behind (kind_of w) ws
-line_kept [] w ws speaks e = absurd cc
-line_kept (c ∷ cs) w ws speaks e =
+pub line_built : (text w : List ℕ) (ws : List Word) → begins_silent text ≡ false → words_in text ≡ w ∷ ws → understood (line_of text) ≡ said_behind (kind_of w) ws
+line_built [] w ws speaks e = absurd cc
+line_built (c ∷ cs) w ws speaks e =
     ap (λ (b : Bool). understood (cond b (cond (is_utf8 cs) (Some silent) None) (of_words (words_in (c ∷ cs))))) speaks
-    ∙ of_words_kept (c ∷ cs) w ws e
+    ∙ of_words_built (c ∷ cs) w ws e
 
 -- a line that begins with #
-pub comment_kept : (cs : List ℕ) → is_utf8 cs ≡ true → Some silent ≡ understood (line_of (35 ∷ cs))
-comment_kept cs h = sym (ap (λ (b : Bool). understood (cond b (Some silent) None)) h)
+pub comment_built : (cs : List ℕ) → is_utf8 cs ≡ true → Some silent ≡ understood (line_of (35 ∷ cs))
+comment_built cs h = sym (ap (λ (b : Bool). understood (cond b (Some silent) None)) h)
 
 pub comment_outside : (cs : List ℕ) → (IsUtf8 cs → ⊥) → None ≡ understood (line_of (35 ∷ cs))
 comment_outside cs never = elim (cases_Bool (is_utf8 cs)) [

@@ -11,9 +11,9 @@ use Rattle.push_base.specs.Cases.{is_empty}
 use Rattle.push_base.specs.Optional.{◌>>=◌}
 use Rattle.push_base.specs.Hexadecimal.{hex_octets}
 use Rattle.push_base.specs.declared.hexadecimal.HexFault.{HexFault}
-use Rattle.replay.specs.Lines.{Word, ScriptLine, silent, client, lone, update, hear, ask, drop_question, open_connection, cut, say, up, emit, down, settle, send, feed, point, word, octets_written, of_octets, of_word_and_octets, by_first_word, of_words, line_of}
+use Rattle.replay.specs.Lines.{lines_by, Word, ScriptLine, silent, client, lone, update, hear, ask, drop_question, open_connection, cut, say, up, emit, down, settle, send, feed, point, word, octets_written, of_octets, of_word_and_octets, by_first_word, of_words, line_of}
 use Rattle.replay.specs.Scripts.{Known, nothing_known, fits, with_line, lines_from, lines_in, lines_read, last_is_outside, client_words, max_script, script_of}
-use Rattle.replay.proofs.lines.LineKinds.{if_none, bind_none, alone_none, word_none, word_octets_none, word_number_none, word_question_none, timers_none, zone_none, link_none, at_none, reconfirm_none, stop_none, show_none, chosen_none, lines_by}
+use Rattle.replay.proofs.lines.LineKinds.{if_none, bind_none, alone_none, word_none, word_octets_none, word_number_none, word_question_none, timers_none, zone_none, link_none, at_none, reconfirm_none, stop_none, show_none, chosen_none}
 
 -- the octets of an update, or those that a peer sends
 abbrev pub sent_by : ScriptLine → List ℕ

@@ -19,9 +19,9 @@ use Rattle.history.specs.declared.entry.Entry.{Entry}
 use Rattle.history.specs.declared.entry.Entry.TheVariants as entries
 use Rattle.pushclient.specs.Clients.{closed_as}
 use Rattle.pushclient.specs.Steps as steps
-use Rattle.pushserver.specs.Sessions.{Session, Hub, Giving}
+use Rattle.pushserver.specs.PlainHubs.{Session, Hub, Giving}
 use Rattle.pushserver.specs.Hubs as hubs
-use Rattle.pushserver.specs.Hubs.{now, keeps_now, session_of, in_session, entered, can_enter, connect, max_sessions, taken_by, take_octets, end_session}
+use Rattle.pushserver.specs.Hubs.{now, keeps_now, session_of, in_session, entered, can_enter, connect, max_sessions, disconnect}
 use Rattle.pushsession.specs.Sessions.{new_session, takes, asked_to_stop}
 use Rattle.pushserver.specs.Giving.{give}
 use Rattle.pushserver.specs.Calls.{updates, moves}
@@ -34,8 +34,8 @@ use Rattle.replay.specs.Lines.{Word, ScriptLine, silent, timers, zone, at_moment
 use Rattle.replay.specs.World.{Seat, World, start_world, seat_of, with_seat, number_in, session_number, hub_without, cut_connection, cut_peer}
 use Rattle.replay.specs.PassedOctets.{Exchanged, exchanged, enough}
 use Rattle.replay.specs.TextWords.{by_history}
-use Rattle.replay.specs.Text.{Printed, cut_where, close_lines, timed as clients_timed, exchanges, session_of_word, line_does, world_after}
-use Rattle.replay.specs.Pieces.{is_of_others, placed}
+use Rattle.replay.specs.Text.{placed, Printed, cut_where, close_lines, timed as clients_timed, exchanges, session_of_word, line_does, world_after}
+use Rattle.replay.specs.Pieces.{is_of_others}
 use Rattle.replay.proofs.rest.AtRest.{At, Longer, StaysLonger}
 use Rattle.replay.proofs.worlds.BuiltWorlds.{IsBuiltLine}
 use Rattle.replay.proofs.worlds.Keeping.{any-parts, keeps-exchanged, exchanged-keeps}
@@ -54,7 +54,7 @@ ApartNumbers (e ∷ es) = AllByRecursion (λ f. e.1 ≡ f.1 → ⊥) es × Apart
 -- the world has no clients, and its peers' numbers are apart and below that of the next session
 pub record IsApart (world : World) : Type 0 where
   pub seats : world.seats ≡ []
-  pub below : AllByRecursion (λ e. e.1 < world.hub.made) world.peers
+  pub below : AllByRecursion (λ e. e.1 < world.hub.numbers_given) world.peers
   pub apart : ApartNumbers world.peers
 
 -- ---- tests
@@ -159,7 +159,7 @@ apart-filter p (e ∷ es) apart = by (p e) (apart-filter p es apart.1)
 
 -- it is at least so many
 abbrev MadeFrom : ℕ → Hub → Type 0
-MadeFrom n hub = n ≤ hub.made
+MadeFrom n hub = n ≤ hub.numbers_given
 
 made-kept : (n : ℕ) → IsKept AnyMessage (MadeFrom n)
 made-kept n = record {
@@ -170,7 +170,7 @@ made-kept n = record {
   times = λ hub point t h. h;
   takes_in = λ hub number piece any h. h;
   asks_stop = λ hub number rcode delay h. h;
-  makes = λ hub h. one_more hub.made h;
+  makes = λ hub h. one_more hub.numbers_given h;
   drops = λ hub number h. h;
 }
   where
@@ -182,34 +182,34 @@ itself n = omega arith
 
 -- ---- a world that is apart
 
-apart-hub : (world : World) (hub : Hub) → world.hub.made ≤ hub.made → IsApart world → IsApart (record world { hub = hub })
-apart-hub world hub le a = record { seats = a.seats; below = below-later world.hub.made hub.made world.peers le a.below; apart = a.apart }
+apart-hub : (world : World) (hub : Hub) → world.hub.numbers_given ≤ hub.numbers_given → IsApart world → IsApart (record world { hub = hub })
+apart-hub world hub le a = record { seats = a.seats; below = below-later world.hub.numbers_given hub.numbers_given world.peers le a.below; apart = a.apart }
 
-made-without : (hub : Hub) (o : Option ℕ) → hub.made ≤ (hub_without o hub).made
-made-without hub None = itself hub.made
-made-without hub (Some number) = itself hub.made
+made-without : (hub : Hub) (o : Option ℕ) → hub.numbers_given ≤ (hub_without o hub).numbers_given
+made-without hub None = itself hub.numbers_given
+made-without hub (Some number) = itself hub.numbers_given
 
 apart-cut : (w : Word) (world : World) → IsApart world → IsApart (cut_peer w world)
 apart-cut w world a = record {
   seats = a.seats;
-  below = all_filter (λ (e : Word × ℕ). e.1 < (hub_without (session_number world w) world.hub).made) (λ (e : Word × ℕ). not (bytes_eq e.0 w)) world.peers
-      (below-later world.hub.made (hub_without (session_number world w) world.hub).made world.peers (made-without world.hub (session_number world w)) a.below);
+  below = all_filter (λ (e : Word × ℕ). e.1 < (hub_without (session_number world w) world.hub).numbers_given) (λ (e : Word × ℕ). not (bytes_eq e.0 w)) world.peers
+      (below-later world.hub.numbers_given (hub_without (session_number world w) world.hub).numbers_given world.peers (made-without world.hub (session_number world w)) a.below);
   apart = apart-filter (λ e. not (bytes_eq e.0 w)) world.peers a.apart;
 }
 
 -- the world with one peer more
 abbrev with_peer : Word → World → World
-with_peer w world = record world { hub = with_new world.hub; peers = world.peers ++ (w, world.hub.made) ∷ [] }
+with_peer w world = record world { hub = with_new world.hub; peers = world.peers ++ (w, world.hub.numbers_given) ∷ [] }
 
 apart-more : (w : Word) (world : World) → IsApart world → IsApart (with_peer w world)
-apart-more w world a = record { seats = a.seats; below = below-append w world.hub.made world.peers a.below; apart = apart-append w world.hub.made world.peers a.below a.apart }
+apart-more w world a = record { seats = a.seats; below = below-append w world.hub.numbers_given world.peers a.below; apart = apart-append w world.hub.numbers_given world.peers a.below a.apart }
 
 -- a call that may make a session: it is made, or it isn't
 abbrev made_or_not : Hub → Bool → Option ℕ × Hub
-made_or_not hub b = cond b (Some hub.made, with_new hub) (None, hub)
+made_or_not hub b = cond b (Some hub.numbers_given, with_new hub) (None, hub)
 
 abbrev has_room : Hub → Bool
-has_room hub = nat_lt (length hub.sessions) max_sessions && nat_lt hub.made max_number
+has_room hub = nat_lt (length hub.sessions) max_sessions && nat_lt hub.numbers_given max_number
 
 -- ---- what lines do in a world without clients
 
@@ -247,7 +247,7 @@ apart-exchanges w number octets world a = by x.over
     later = record world { hub = x.hub }
 
     behind : IsApart later
-    behind = apart-hub world x.hub (exchanged-keeps AnyMessage (MadeFrom world.hub.made) (made-kept world.hub.made) any-parts enough number octets world.hub [] tt (itself world.hub.made)) a
+    behind = apart-hub world x.hub (exchanged-keeps AnyMessage (MadeFrom world.hub.numbers_given) (made-kept world.hub.numbers_given) any-parts enough number octets world.hub [] tt (itself world.hub.numbers_given)) a
 
     by : (o : Option EndReason) → IsApart (elim o as (λ _. World) [ None ↦ later | Some reason ↦ cut_peer w later ])
     by None = behind
@@ -257,7 +257,7 @@ apart-sends : (w : Word) (octets : List ℕ) (world : World) → IsApart world �
 apart-sends w octets world a = by (session_number world w)
   where
     by_room : (b : Bool) → IsApart (by_connected world w octets (made_or_not world.hub b)).0
-    by_room true = apart-exchanges w world.hub.made octets (with_peer w world) (apart-more w world a)
+    by_room true = apart-exchanges w world.hub.numbers_given octets (with_peer w world) (apart-more w world a)
     by_room false = a
 
     by : (o : Option ℕ) → IsApart (by_number world w octets o).0
@@ -270,16 +270,16 @@ apart-line (timers i k) world is a = a
 apart-line (zone apex serial mode) world is a = a
 apart-line (at_moment t) world is a =
     subst IsApart (sym (moment-does world t a.seats))
-    (apart-hub world (hubs.moment world.hub t).1 (keeps-called AnyMessage (MadeFrom world.hub.made) (made-kept world.hub.made) (moves t) world.hub tt (itself world.hub.made)) a)
+    (apart-hub world (hubs.moment world.hub t).1 (keeps-called AnyMessage (MadeFrom world.hub.numbers_given) (made-kept world.hub.numbers_given) (moves t) world.hub tt (itself world.hub.numbers_given)) a)
 apart-line (update message) world is a =
-    apart-hub world (hubs.update world.hub message).1 (keeps-called AnyMessage (MadeFrom world.hub.made) (made-kept world.hub.made) (updates message) world.hub tt (itself world.hub.made)) a
+    apart-hub world (hubs.update world.hub message).1 (keeps-called AnyMessage (MadeFrom world.hub.numbers_given) (made-kept world.hub.numbers_given) (updates message) world.hub tt (itself world.hub.numbers_given)) a
 apart-line (cut w) world is a = subst IsApart (sym (cut-does world w a.seats)) (apart-cut w world a)
 apart-line (send w octets) world is a = apart-sends w octets world a
 apart-line (stop w rcode delay) world is a = subst IsApart (sym (stop-does world w rcode delay a.seats)) (by (session_number world w))
   where
     by : (o : Option ℕ) → IsApart (stopped world rcode delay o)
     by None = a
-    by (Some number) = apart-hub world (hubs.stop world.hub number rcode delay) (itself world.hub.made) a
+    by (Some number) = apart-hub world (hubs.stop world.hub number rcode delay) (itself world.hub.numbers_given) a
 apart-line point world is a = a
 apart-line _ world is a = absurd cc
 
@@ -303,7 +303,7 @@ apart-placed w earlier world number is a = by (session_number earlier w) is
     moved n there same h = subst (λ (p : ℕ × World). IsApart p.1) (same_found (n, there) (number, world) same) h
 
     by_room : (b : Bool) → by_made (made_or_not earlier.hub b) ≡ at_place number world → IsApart world
-    by_room true same = moved earlier.hub.made (with_peer w earlier) same (apart-more w earlier a)
+    by_room true same = moved earlier.hub.numbers_given (with_peer w earlier) same (apart-more w earlier a)
     by_room false same = absurd cc
 
     by : (o : Option ℕ) → elim o as (λ _. Option (ℕ × World)) [ Some n ↦ Some (n, earlier) | None ↦ by_made (connect earlier.hub) ] ≡ at_place number world → IsApart world
@@ -352,7 +352,7 @@ module _ (w : Word) (number : ℕ) where
   has-sends v octets world other known = by (session_number world v)
     where
       by_room : (b : Bool) → Has (by_connected world v octets (made_or_not world.hub b)).0
-      by_room true = has-exchanges v world.hub.made octets (with_peer v world) other (has-more v world.hub.made world known)
+      by_room true = has-exchanges v world.hub.numbers_given octets (with_peer v world) other (has-more v world.hub.numbers_given world known)
       by_room false = known
 
       by : (o : Option ℕ) → Has (by_number world v octets o).0
@@ -408,15 +408,15 @@ module _ (hub : Hub) (number : ℕ) (s : Session) where
       timers = (l.timers ∙ ap (λ (h : Hub). h.timers) at.is) i;
       history = (l.history ∙ ap (λ (h : Hub). h.history) at.is) i;
       sessions = last.sessions;
-      made = last.made;
+      numbers_given = last.numbers_given;
     };
     there = l.session ∙ at.there;
   }
 
   -- other sessions come or go
   at-others : (later : Hub) (sessions : List (ℕ × Session)) (made : ℕ) → At hub number later s → option_map (λ (e : ℕ × Session). e.1) (find (λ (e : ℕ × Session). e.0 == number) sessions) ≡ Some s
-      → At hub number (record later { sessions = sessions; made = made }) s
-  at-others later sessions made at there = record { is = ap (λ (h : Hub). record h { sessions = sessions; made = made }) at.is; there = there }
+      → At hub number (record later { sessions = sessions; numbers_given = made }) s
+  at-others later sessions made at there = record { is = ap (λ (h : Hub). record h { sessions = sessions; numbers_given = made }) at.is; there = there }
 
   -- an entry goes to the end of the history
   entered-longer : (later last : Hub) (entry : Entry) → At hub number later s → last.history ≡ later.history ++ entry ∷ [] → Longer hub last
@@ -438,8 +438,8 @@ module _ (hub : Hub) (number : ℕ) (s : Session) where
 
   leaves-more : (later : Hub) → Leaves later → Leaves (with_new later)
   leaves-more later (inl at) =
-      let one = (later.made, new_session (keeps_now later) (now later)) ∷ [] in
-      inl (at-others later (later.sessions ++ one) (later.made + 1) at (found-more (λ (e : ℕ × Session). e.0 == number) (λ (e : ℕ × Session). e.1) later.sessions one s at.there))
+      let one = (later.numbers_given, new_session (keeps_now later) (now later)) ∷ [] in
+      inl (at-others later (later.sessions ++ one) (later.numbers_given + 1) at (found-more (λ (e : ℕ × Session). e.0 == number) (λ (e : ℕ × Session). e.1) later.sessions one s at.there))
   leaves-more later (inr longer) = inr longer
 
   -- ---- in a session of another number
@@ -449,9 +449,9 @@ module _ (hub : Hub) (number : ℕ) (s : Session) where
     leaves-in_session f later (inl at) = inl (at-stays later (in_session m f later) at (in_session-stays number m apart f later later (stays number m apart later)))
     leaves-in_session f later (inr longer) = inr longer
 
-    leaves-end : (later : Hub) → Leaves later → Leaves (end_session later m)
+    leaves-end : (later : Hub) → Leaves later → Leaves (disconnect later m)
     leaves-end later (inl at) =
-        inl (at-others later (end_session later m).sessions later.made at (found-left m number later.sessions ∙ ap (λ c. cond c None (session_of later number)) (other-number number m apart) ∙ at.there))
+        inl (at-others later (disconnect later m).sessions later.numbers_given at (found-left m number later.sessions ∙ ap (λ c. cond c None (session_of later number)) (other-number number m apart) ∙ at.there))
     leaves-end later (inr longer) = inr longer
 
     leaves-give : (later : Hub) (room : ℕ) → Leaves later → Leaves (give later m room).hub
@@ -502,15 +502,15 @@ module _ (hub : Hub) (number : ℕ) (s : Session) where
     leaves-sends : (v : Word) (octets : List ℕ) (world : World) → bytes_eq v w ≡ false → IsApart world → session_number world w ≡ Some number → Leaves world.hub → Leaves (line_does by_history (send v octets) world).0.hub
     leaves-sends v octets world other a known h = by (session_number world v) refl
       where
-        below : number < world.hub.made
-        below = number-all (λ n. n < world.hub.made) w world.peers number a.below known
+        below : number < world.hub.numbers_given
+        below = number-all (λ n. n < world.hub.numbers_given) w world.peers number a.below known
 
         is_new : (n : ℕ) → number < n → number ≡ n → ⊥
         is_new n l same = omega (arith, l, same)
 
         by_room : (b : Bool) → Leaves (by_connected world v octets (made_or_not world.hub b)).0.hub
         by_room true =
-            leaves-exchanges v world.hub.made octets (with_peer v world) other (apart-more v world a).apart (has-more w number v world.hub.made world known) (is_new world.hub.made below)
+            leaves-exchanges v world.hub.numbers_given octets (with_peer v world) other (apart-more v world a).apart (has-more w number v world.hub.numbers_given world known) (is_new world.hub.numbers_given below)
             (leaves-more world.hub h)
         by_room false = h
 

@@ -13,7 +13,7 @@ use Rattle.dsotlv.proofs.FrameLaws.{Split}
 use Rattle.dsotlv.proofs.StreamLaws.{none_found}
 use Rattle.history.specs.declared.entry.Entry.{Entry}
 use Rattle.pushserver.specs.Hubs.{state_now}
-use Rattle.pushserver.specs.Sessions.{Session, Hub}
+use Rattle.pushserver.specs.PlainHubs.{Session, Hub}
 use Rattle.replay.specs.Lines.{Word, ScriptLine, send}
 use Rattle.replay.specs.World.{World, session_number, hub_without, cut_peer}
 use Rattle.replay.specs.PassedOctets.{Exchanged, exchanged, enough}

@@ -7,12 +7,11 @@ use Rattle.std.specs.Str.{bytes_eq}
 use Rattle.std.proofs.lemmas.List.Folds.{find-append}
 use Rattle.std.proofs.lemmas.Slice.Eq.{bytes_eq-Decides}
 use Rattle.dsotlv.proofs.Results.{same_found}
-use Rattle.pushserver.specs.Sessions.{Hub}
+use Rattle.pushserver.specs.PlainHubs.{Hub}
 use Rattle.pushserver.specs.Hubs.{connect}
 use Rattle.replay.specs.Lines.{Word}
 use Rattle.replay.specs.World.{World, session_number}
-use Rattle.replay.specs.Text.{sends, exchanges}
-use Rattle.replay.specs.Pieces.{placed}
+use Rattle.replay.specs.Text.{placed, sends, exchanges}
 use Rattle.replay.proofs.serving.NewPeer.{by_connected, by_number}
 
 -- the peer has the session; its next line does what it does in the world with the session; and the hub is the one before, or has one session more

@@ -8,7 +8,7 @@ use Rattle.dsotlv.specs.Laws.{AreOctets}
 use Rattle.dsotlv.specs.Messages.{messages_in}
 use Rattle.history.specs.declared.entry.Entry.{Entry}
 use Rattle.pushsession.specs.declared.standing.Standing.TheVariants.{Live, Ended}
-use Rattle.pushserver.specs.Sessions.{Session, Hub}
+use Rattle.pushserver.specs.PlainHubs.{Session, Hub}
 use Rattle.pushserver.specs.Hubs.{state_now}
 use Rattle.replay.specs.Lines.{Word, ScriptLine}
 use Rattle.replay.specs.World.{World}

@@ -6,7 +6,7 @@ use Rattle.std.proofs.lemmas.Str.{is_utf8-from_IsUtf8}
 use Rattle.push_base.specs.Hexadecimal.{hex}
 use Rattle.dnsname.specs.Text.{name}
 use Rattle.pushsession.specs.Sessions.{new_session}
-use Rattle.pushserver.specs.Sessions.{plain_keeps}
+use Rattle.pushserver.specs.PlainHubs.{plain_keeps}
 use Rattle.pushserver.specs.Hubs.{connect}
 use Rattle.replay.specs.Lines.{ScriptLine, silent, zone, send, point}
 use Rattle.replay.specs.Scripts.{nothing_known, lines_from, client_words, lines_read}

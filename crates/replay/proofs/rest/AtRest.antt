@@ -30,7 +30,7 @@ use Rattle.pushsession.specs.declared.standing.Standing.TheVariants.{Live, Ended
 use Rattle.pushsession.specs.Sessions.{answers}
 use Rattle.pushsession.specs.Subscribing.{answered}
 use Rattle.pushsession.specs.Reactions.{heard, by_itself}
-use Rattle.pushserver.specs.Sessions.{Session, Subscription, Made, Hub}
+use Rattle.pushserver.specs.PlainHubs.{Session, Subscription, Made, Hub}
 use Rattle.pushserver.specs.Hubs.{now, state_now, keeps_now, tells_now, session_of, can_enter}
 use Rattle.pushserver.specs.Giving.{has_home, reacted, after_reaction, give}
 use Rattle.replay.specs.PassedOctets.{Emitted, emitted, exchanged, nothing_emitted, enough}
@@ -143,10 +143,10 @@ module _ (hub : Hub) where
 
 -- the same hub with other sessions
 abbrev pub with_sessions : Hub → List (ℕ × Session) → ℕ → Hub
-with_sessions hub sessions made = record hub { sessions = sessions; made = made }
+with_sessions hub sessions made = record hub { sessions = sessions; numbers_given = made }
 
 pub record At (hub : Hub) (number : ℕ) (later : Hub) (session : Session) : Type 0 where
-  pub is : later ≡ with_sessions hub later.sessions later.made
+  pub is : later ≡ with_sessions hub later.sessions later.numbers_given
   pub there : session_of later number ≡ Some session
 
 abbrev pub Longer : Hub → Hub → Type 0

@@ -8,9 +8,9 @@ use Rattle.dsotlv.specs.Messages.{messages_in}
 use Rattle.history.specs.declared.entry.Entry.{Entry}
 use Rattle.pushsession.specs.declared.standing.Standing.{Standing}
 use Rattle.pushsession.specs.declared.standing.Standing.TheVariants.{Live, Ended}
-use Rattle.pushserver.specs.Sessions.{Session, Hub}
+use Rattle.pushserver.specs.PlainHubs.{Session, Hub}
 use Rattle.pushserver.specs.Hubs.{state_now}
-use Rattle.pushserver.specs.Giving.{without_first}
+use Rattle.pushsession.specs.Sessions.{without_first}
 use Rattle.replay.specs.Cuts.{given_for, answers_to, IsAtRest, ArePassable, standing_of, GivesAsAnswered, AnswersInTurn, OneOutputForEveryCut, AnswersEveryCut}
 use Rattle.replay.proofs.turns.ZoneSizes.{IsBounded}
 use Rattle.replay.proofs.rest.AtRest.{core_of, Ran, ran, Longer, EmitsAsRan, TurnsAsTold, WritesFew, StaysLonger}

@@ -1,7 +1,7 @@
 -- In every script that is built, each session answers whole messages one after the other, however its octets are cut.
 --     answers-every-cut-in      the law
 use Rattle.std.proofs.Common.{ℕ, List, ◌++◌}
-use Rattle.pushserver.specs.Sessions.{Hub}
+use Rattle.pushserver.specs.PlainHubs.{Hub}
 use Rattle.pushserver.specs.Hubs.{connect}
 use Rattle.replay.specs.World.{start_world}
 use Rattle.replay.specs.Text.{world_after}

@@ -3,7 +3,7 @@
 --     ran-append      the law
 use Rattle.std.proofs.Common.{◌≡◌, List, [], ◌∷◌, ◌++◌, ℕ, Option, Some, None, inl, inr, option_map, refl, sym, ◌∙◌, ap, append_assoc}
 use Rattle.dsosession.specs.declared.session.EndReason.{EndReason}
-use Rattle.pushserver.specs.Sessions.{Hub}
+use Rattle.pushserver.specs.PlainHubs.{Hub}
 use Rattle.replay.proofs.rest.AtRest.{Core, Turned, Ran, behind_octets, turned, ran_by, ran}
 
 -- octets before none are none before

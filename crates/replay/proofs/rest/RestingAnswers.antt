@@ -3,7 +3,7 @@
 use Rattle.std.proofs.Common.{◌≡◌, ℕ, ◌≤◌, List, [], ◌∷◌, ◌++◌, length, drop, Option, Some, None, option_map, inl, inr, refl, sym, ap, subst, arith, take_all, drop_of_length-le}
 use Rattle.pushserver.specs.declared.given.Given.{Given}
 use Rattle.pushserver.specs.declared.given.Given.TheVariants.{Bytes, Worked, Nothing, Ending, End}
-use Rattle.pushserver.specs.Sessions.{Session, Hub, Giving}
+use Rattle.pushserver.specs.PlainHubs.{Session, Hub, Giving}
 use Rattle.pushserver.specs.Hubs.{state_now}
 use Rattle.pushserver.specs.Giving.{did, copies, copies_or, given_after, reacted, after_reaction}
 use Rattle.replay.specs.PassedOctets.{enough}

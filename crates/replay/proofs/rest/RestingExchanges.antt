@@ -12,7 +12,7 @@ use Rattle.dsotlv.proofs.FrameLaws.{Split}
 use Rattle.dsotlv.proofs.StreamLaws.{none_found}
 use Rattle.pushserver.specs.declared.given.Given.TheVariants.{End}
 use Rattle.pushserver.specs.Hubs.{state_now, taken_by, take_octets}
-use Rattle.pushserver.specs.Sessions.{Hub}
+use Rattle.pushserver.specs.PlainHubs.{Hub}
 use Rattle.pushserver.specs.Giving.{did}
 use Rattle.replay.specs.PassedOctets.{Emitted, Exchanged, emitted, exchanged, nothing_emitted, enough}
 use Rattle.replay.proofs.turns.ZoneSizes.{IsBounded}

@@ -12,10 +12,11 @@ use Rattle.dsosession.specs.declared.session.EndReason.{EndReason}
 use Rattle.pushsession.specs.declared.standing.Standing.{Standing}
 use Rattle.pushserver.specs.declared.given.Given.{Given}
 use Rattle.pushserver.specs.declared.given.Given.TheVariants.{Bytes, Worked, Nothing, Ending, End}
-use Rattle.pushserver.specs.Sessions.{Session, Hub, Giving}
+use Rattle.pushserver.specs.PlainHubs.{Session, Hub, Giving}
 use Rattle.pushserver.specs.Hubs.{now, state_now, keeps_now, tells_now, session_of, in_session}
 use Rattle.pushsession.specs.Subscribing.{packs}
-use Rattle.pushserver.specs.Giving.{give, did, reacted, after_reaction, given_after, without_first}
+use Rattle.pushsession.specs.Sessions.{without_first}
+use Rattle.pushserver.specs.Giving.{give, did, reacted, after_reaction, given_after}
 use Rattle.pushserver.proofs.SessionLists.{found-in}
 use Rattle.pushserver.proofs.hub_steps.Cases.{copies_as, found_as, works_as, give_as}
 use Rattle.replay.specs.PassedOctets.{Emitted, emitted, nothing_emitted, with_giving, enough}

@@ -9,7 +9,7 @@ use Rattle.push_base.specs.Cases.{is_empty}
 use Rattle.dsosession.specs.declared.session.EndReason.{EndReason}
 use Rattle.pushsession.specs.declared.standing.Standing.{Standing}
 use Rattle.pushserver.specs.declared.given.Given.TheVariants.{End}
-use Rattle.pushserver.specs.Sessions.{Session, Hub}
+use Rattle.pushserver.specs.PlainHubs.{Session, Hub}
 use Rattle.pushserver.specs.Hubs.{in_session, taken_by, take_octets}
 use Rattle.pushsession.specs.Sessions.{is_open, room_of, takes}
 use Rattle.pushserver.specs.Giving.{did, by_standing, give}

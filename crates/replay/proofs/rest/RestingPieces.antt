@@ -9,7 +9,7 @@ use Rattle.dsotlv.specs.Laws.{AreOctets}
 use Rattle.dsotlv.specs.Messages.{first_message, messages_in}
 use Rattle.dsotlv.proofs.FrameLaws.{Split}
 use Rattle.dsotlv.proofs.StreamLaws.{none_found}
-use Rattle.pushserver.specs.Sessions.{Hub}
+use Rattle.pushserver.specs.PlainHubs.{Hub}
 use Rattle.pushserver.specs.Hubs.{state_now}
 use Rattle.replay.specs.PassedOctets.{Exchanged, exchanged, enough}
 use Rattle.replay.specs.Cuts.{given_for}

@@ -24,10 +24,10 @@ use Rattle.history.specs.declared.entry.Entry.TheVariants as entries
 use Rattle.pushsession.specs.Sessions.{ended_with}
 use Rattle.pushsession.specs.Subscribing.{Verdict, Refuse, Abort, Accept, verdict_on, subscribed, first_answer_size, says_first_answer, decided}
 use Rattle.pushsession.specs.Reactions.{heard}
-use Rattle.pushserver.specs.Sessions.{Session, Queue, Hub, first_answer}
+use Rattle.pushserver.specs.PlainHubs.{Session, Queue, Hub, first_answer}
 use Rattle.pushserver.specs.Hubs.{now, state_now, keeps_now, tells_now, session_of, in_session, entered, can_enter}
-use Rattle.pushserver.specs.Giving.{has_home, ends_as, by_reaction, reacted}
-use Rattle.pushserver.proofs.hub_steps.Cases.{enters_update, update_as, key_as, record_as, session_as, head_as}
+use Rattle.pushserver.specs.Giving.{has_home, reconfirms, ends_as, by_reaction, reacted}
+use Rattle.pushserver.proofs.hub_steps.Cases.{enters_update, update_as, key_as, session_as, head_as}
 use Rattle.replay.proofs.rest.AtRest.{Core, resting, core_of, silent, Turned, enters, goes_on, left_as, answers_with, by_shown, by_record, by_verdict, subscribing, reacting, turned_by, listening, by_head, turned, with_sessions, At, Follows, TurnsAsTold}
 use Rattle.replay.proofs.rest.RestingHubs.{at-in_session}
 
@@ -96,7 +96,7 @@ module _ (hub : Hub) (number : ℕ) (input : List ℕ) where
         let entry = entries.Reconfirm found.0 found.1 in
         follows-cond (accepts (state_now hub) entry && can_enter hub entry) (entered entry here) here enters (goes_on (silent core)) (grows hub.history entry) at-here
 
-    reconfirming : (o : Option Rr) → Follows hub number (record_as here number o) input (by_record hub core o)
+    reconfirming : (o : Option Rr) → Follows hub number (reconfirms o number here) input (by_record hub core o)
     reconfirming None = ending (ends.BadData reconfirm_tlv)
     reconfirming (Some rr) = reconfirming-key (reconfirm_key (state_now hub) rr)
 
@@ -141,4 +141,4 @@ module _ (hub : Hub) (number : ℕ) (input : List ℕ) where
 
 pub turns-as-told : TurnsAsTold
 turns-as-told hub number later message core input at =
-    subst (λ (h : Hub). session_of h number ≡ Some (resting core input []) → Follows hub number (reacted message number h) input (turned hub message core)) (sym at.is) (turns-in hub number input later.sessions later.made message core) at.there
+    subst (λ (h : Hub). session_of h number ≡ Some (resting core input []) → Follows hub number (reacted message number h) input (turned hub message core)) (sym at.is) (turns-in hub number input later.sessions later.numbers_given message core) at.there

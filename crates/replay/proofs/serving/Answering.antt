@@ -1,19 +1,17 @@
 -- The answer to a SUBSCRIBE on a new session, and behind NOERROR the PUSH of what the question asks for.
-use Rattle.std.proofs.Common.{◌≡◌, ℕ, ap₂, Bool, true, false, cond, List, [], ◌∷◌, ap, refl}
-use Rattle.rrset.specs.Kinds.{in_class}
+use Rattle.std.proofs.Common.{◌≡◌, ℕ, ap₂, Bool, true, false, not, List, [], ◌∷◌, ap, refl}
 use Rattle.rrset.specs.RecordSet.{RecordSet, at_name, matching, same_rows}
 use Rattle.rrset.specs.declared.record.Question.{Question}
 use Rattle.rrset.specs.Rcodes.{noerror}
 use Rattle.dsotlv.specs.declared.message.Notice.{Notice}
-use Rattle.dsotlv.specs.declared.message.Notice.TheVariants.{RemoveClass}
 use Rattle.dsotlv.specs.declared.message.DsoHead.{DsoHead}
-use Rattle.dnsname.specs.Names.{lower}
+use Rattle.coalesce.specs.FirstAnswers.{told_first}
 use Rattle.coalesce.specs.Net.{additions}
-use Rattle.dsosession.specs.Timing.{Clocks, server_start, server_spoke}
+use Rattle.dsosession.specs.Timing.{Clocks, new_clocks, restarted}
 use Rattle.dsosession.specs.Reactions.{is_keepalive}
 use Rattle.history.specs.States.{State, records}
 use Rattle.pushsession.specs.declared.standing.Standing.TheVariants.{Live}
-use Rattle.pushserver.specs.Sessions.{Session, Subscription, Made, wanted, Hub, first_answer, wanted_with}
+use Rattle.pushserver.specs.PlainHubs.{Session, Subscription, Made, wanted, Hub, first_answer, asks_for}
 use Rattle.pushserver.specs.Hubs.{state_now, now, keeps_now, records_now}
 use Rattle.pushsession.specs.Subscribing.{first_answer_size, says_first_answer, subscribed}
 use Rattle.dsotlv.specs.Answers.{answer_to}
@@ -52,12 +50,12 @@ module _ (hub : Hub) where
 
   -- a new session's clocks behind a message that is reacted to
   abbrev pub clocks_at : DsoHead → Clocks
-  clocks_at head = server_spoke (is_keepalive head) (now hub) (server_start (now hub))
+  clocks_at head = restarted (is_keepalive head) (now hub) (new_clocks (now hub))
 
   pub first_answer-additions : (clocks : Clocks) (question : Question) → first_answer (hub_at hub (begun clocks)) (begun clocks) question ≡ notices_for (state_now hub) question
   first_answer-additions clocks question =
       let there = at_name question.name (records_now hub) in
-      ap (λ b. cond b (additions (matching question there)) (RemoveClass (lower question.name) in_class ∷ additions (wanted_with question [] there))) (up_to_date there there)
+      ap (λ b. told_first (not b) question (asks_for []) there) (up_to_date there there)
 
   -- the session behind a first answer
   abbrev pub filled : Clocks → ℕ → Question → List Notice → Session

@@ -9,7 +9,7 @@ use Rattle.dsotlv.specs.Messages.{frame}
 use Rattle.dsotlv.specs.declared.message.Notice.{Notice}
 use Rattle.coalesce.specs.Net.{push_frame}
 use Rattle.dsosession.specs.Timing.{Clocks}
-use Rattle.pushserver.specs.Sessions.{Session, Hub}
+use Rattle.pushserver.specs.PlainHubs.{Session, Hub}
 use Rattle.pushserver.specs.Hubs.{state_now, now, keeps_now, tells_now, in_session}
 use Rattle.pushsession.specs.Subscribing.{accepts}
 use Rattle.dsotlv.specs.Answers.{answer_to}
@@ -37,7 +37,7 @@ module _ (hub : Hub) (below : IsBehind hub) where
     filled-Says (m ∷ ms) = record { session = filled_with (m ∷ ms); is = refl }
 
     abbrev pub accepted : Hub
-    accepted = in_session hub.made (accepts (keeps_now hub) (tells_now hub) (now hub) id question) (hub_at hub (begun clocks))
+    accepted = in_session hub.numbers_given (accepts (keeps_now hub) (tells_now hub) (now hub) id question) (hub_at hub (begun clocks))
 
     pub accepted-Says : Says hub accepted (with_push id (notices_for (state_now hub) question))
     accepted-Says =
@@ -49,4 +49,4 @@ module _ (hub : Hub) (below : IsBehind hub) where
 
   -- what a message is answered
   abbrev pub IsAnswered : List ℕ → List ℕ → Type 0
-  IsAnswered message reply = Says hub (reacted message hub.made (with_new hub)) reply
+  IsAnswered message reply = Says hub (reacted message hub.numbers_given (with_new hub)) reply

@@ -1,7 +1,7 @@
 -- A hub and its newest session, which stands last behind others of lower numbers: what is done in it leaves the others.
 use Rattle.std.proofs.Common.{◌≡◌, ℕ, ◌+◌, ◌<◌, false, cond, ◌==◌, List, [], ◌∷◌, ◌++◌, map, Some, None, option_map, find, ◌∙◌, ap, eq-eqb, ne_eqb, refl, arith}
 use Rattle.std.specs.List.{AllByRecursion}
-use Rattle.pushserver.specs.Sessions.{Session, Hub}
+use Rattle.pushserver.specs.PlainHubs.{Session, Hub}
 use Rattle.pushserver.specs.Hubs.{session_of, in_session}
 
 abbrev pub Sessions : Type 0
@@ -34,15 +34,15 @@ changed-last n f (e ∷ es) s h = λ i. (e.0, cond (not_last e.0 n h.0 i) (f e.1
 
 -- the numbers of a hub's sessions are below that of the next
 abbrev pub IsBehind : Hub → Type 0
-IsBehind hub = AreBelow hub.made hub.sessions
+IsBehind hub = AreBelow hub.numbers_given hub.sessions
 
 -- the hub with one session more
 abbrev pub hub_at : Hub → Session → Hub
-hub_at hub s = record hub { sessions = hub.sessions ++ (hub.made, s) ∷ []; made = hub.made + 1 }
+hub_at hub s = record hub { sessions = hub.sessions ++ (hub.numbers_given, s) ∷ []; numbers_given = hub.numbers_given + 1 }
 
 module _ (hub : Hub) (below : IsBehind hub) where
-  pub session_of-last : (s : Session) → session_of (hub_at hub s) hub.made ≡ Some s
-  session_of-last s = ap (λ o. option_map (λ e. e.1) o) (find-last hub.made hub.sessions s below)
+  pub session_of-last : (s : Session) → session_of (hub_at hub s) hub.numbers_given ≡ Some s
+  session_of-last s = ap (λ o. option_map (λ e. e.1) o) (find-last hub.numbers_given hub.sessions s below)
 
-  pub in_session-last : (f : Session → Session) (s : Session) → in_session hub.made f (hub_at hub s) ≡ hub_at hub (f s)
-  in_session-last f s = ap (λ sessions. record hub { sessions = sessions; made = hub.made + 1 }) (changed-last hub.made f hub.sessions s below)
+  pub in_session-last : (f : Session → Session) (s : Session) → in_session hub.numbers_given f (hub_at hub s) ≡ hub_at hub (f s)
+  in_session-last f s = ap (λ sessions. record hub { sessions = sessions; numbers_given = hub.numbers_given + 1 }) (changed-last hub.numbers_given f hub.sessions s below)

@@ -2,7 +2,7 @@
 --     first_reply hub message question      what comes back
 --     sent-line      the line that is printed
 use Rattle.std.proofs.Common.{◌≡◌, ℕ, ◌≤◌, Bool, true, false, cond, ◌&&◌, List, [], ◌∷◌, ◌++◌, length, Option, Some, None, codes, sym, ◌∙◌, ap, subst, refl}
-use Rattle.std.specs.Prelude.{nat_lt, IsSome}
+use Rattle.std.specs.Prelude.{nat_lt, option_map, IsSome}
 use Rattle.push_base.specs.Cases.{is_empty}
 use Rattle.push_base.specs.Limits.{max_number}
 use Rattle.push_base.specs.Hexadecimal.{hex_text}
@@ -11,12 +11,12 @@ use Rattle.rrset.specs.Rcodes.{noerror}
 use Rattle.rrset.specs.declared.record.Question.{Question}
 use Rattle.dsotlv.specs.Messages.{frame, first_message}
 use Rattle.coalesce.specs.Net.{push_frame}
-use Rattle.dsosession.specs.Timing.{server_start}
+use Rattle.dsosession.specs.Timing.{new_clocks}
 use Rattle.pushserver.specs.Hubs.{state_now, now, keeps_now, tells_now, in_session, connect, max_sessions}
 use Rattle.pushsession.specs.Subscribing.{Verdict, accepts, decided, answered}
 use Rattle.pushsession.specs.Reactions.{heard}
 use Rattle.dsotlv.specs.Answers.{answer_to}
-use Rattle.pushserver.specs.Sessions.{Session, Hub, first_answer}
+use Rattle.pushserver.specs.PlainHubs.{Session, Hub, first_answer}
 use Rattle.pushsession.specs.Sessions.{new_session}
 use Rattle.pushserver.specs.Giving.{has_home, reacted}
 use Rattle.pushserver.specs.Laws.{IsAcceptable}
@@ -47,19 +47,19 @@ abbrev pub first_reply : Hub → List ℕ → Question → List ℕ
 first_reply hub message question = frame (answer_to (id_of message) noerror) ++ push_frame (first_answer hub (new_in hub) question)
 
 module _ (hub : Hub) (below : IsBehind hub) (message : List ℕ) (question : Question) (a : IsAcceptable (with_new hub) (new_in hub) message question) where
-  taken_up : reacted message hub.made (with_new hub) ≡ accepted hub below (clocks_at hub a.head) (id_of message) question
+  taken_up : reacted message hub.numbers_given (with_new hub) ≡ accepted hub below (clocks_at hub a.head) (id_of message) question
   taken_up =
       let id = id_of message in
       let has = has_home hub (Some question) in
       let clocks = clocks_at hub a.head in
-      reaction message hub.made (with_new hub) (new_in hub) question a (session_of-last hub below (new_in hub))
-      ∙ ap (λ later. in_session hub.made (answered (keeps_now hub) (tells_now hub) (now hub) id (Some question) has) later) (in_session-last hub below (heard a.head (now hub)) (new_in hub))
+      reaction message hub.numbers_given (with_new hub) (new_in hub) question a (session_of-last hub below (new_in hub))
+      ∙ ap (λ later. in_session hub.numbers_given (answered (keeps_now hub) (tells_now hub) (now hub) id (Some question) has) later) (in_session-last hub below (heard a.head (now hub)) (new_in hub))
       ∙ in_session-last hub below (answered (keeps_now hub) (tells_now hub) (now hub) id (Some question) has) (begun clocks)
-      ∙ ap (λ (v : Verdict). hub_at hub (decided (keeps_now hub) (tells_now hub) (now hub) id v (begun clocks))) (verdict message hub.made (with_new hub) (new_in hub) question a)
+      ∙ ap (λ (v : Verdict). hub_at hub (decided (keeps_now hub) (tells_now hub) (now hub) id v (begun clocks))) (verdict message hub.numbers_given (with_new hub) (new_in hub) question a)
       ∙ sym (in_session-last hub below (accepts (keeps_now hub) (tells_now hub) (now hub) id question) (begun clocks))
 
   same_reply : with_push (id_of message) (notices_for (state_now hub) question) ≡ first_reply (with_new hub) message question
-  same_reply = ap (with_push (id_of message)) (sym (first_answer-additions hub (server_start (now hub)) question))
+  same_reply = ap (with_push (id_of message)) (sym (first_answer-additions hub (new_clocks (now hub)) question))
 
   is_answered : IsAnswered hub below message (first_reply (with_new hub) message question)
   is_answered =
@@ -70,11 +70,11 @@ module _ (hub : Hub) (below : IsBehind hub) (message : List ℕ) (question : Que
   is_short bounded = subst (λ (octets : List ℕ). length octets ≤ 1000000) same_reply (accepted-size (state_now hub) (id_of message) question bounded)
 
 -- where a session is made, it is the hub's last
-connect-made : (hub : Hub) → IsSome (connect hub).0 → connect hub ≡ (Some hub.made, with_new hub)
-connect-made hub some = by (nat_lt (length hub.sessions) max_sessions && nat_lt hub.made max_number) some
+connect-made : (hub : Hub) → IsSome (connect hub).0 → connect hub ≡ (Some hub.numbers_given, with_new hub)
+connect-made hub some = by (nat_lt (length hub.sessions) max_sessions && nat_lt hub.numbers_given max_number) some
   where
     made : Option ℕ × Hub
-    made = (Some hub.made, with_new hub)
+    made = (Some hub.numbers_given, with_new hub)
 
     none : Option ℕ × Hub
     none = (None, hub)
@@ -85,26 +85,29 @@ connect-made hub some = by (nat_lt (length hub.sessions) max_sessions && nat_lt 
 
 -- what a peer's line does, by the session that the peer has, and by the one that is made
 module _ (world : World) (w : Word) (octets : List ℕ) where
-  abbrev pub by_connected : Option ℕ × Hub → Printed
-  by_connected r = elim r.0 as (λ _. Printed) [
+  abbrev new_place : Option ℕ × Hub → Option (ℕ × World)
+  new_place r = option_map (λ number. (number, record world { hub = r.1; peers = world.peers ++ (w, number) ∷ [] })) r.0
+
+  abbrev pub by_place : Option (ℕ × World) → Printed
+  by_place o = elim o as (λ _. Printed) [
     | None ↦ printing (codes "noseat" ∷ w ∷ []) world
-    | Some number ↦ exchanges w number octets (record world { hub = r.1; peers = world.peers ++ (w, number) ∷ [] })
+    | Some place ↦ exchanges w place.0 octets place.1
   ]
 
+  abbrev pub by_connected : Option ℕ × Hub → Printed
+  by_connected r = by_place (new_place r)
+
   abbrev pub by_number : Option ℕ → Printed
-  by_number o = elim o as (λ _. Printed) [
-    | Some number ↦ exchanges w number octets world
-    | None ↦ by_connected (connect world.hub)
-  ]
+  by_number o = by_place (elim o as (λ _. Option (ℕ × World)) [ Some number ↦ Some (number, world) | None ↦ new_place (connect world.hub) ])
 
 module _ (world : World) (w : Word) (octets message : List ℕ) (question : Question) where
   module _ (below : IsBehind world.hub) (bounded : IsBounded (state_now world.hub)) (found : first_message octets ≡ Some (message, [])) (few : length octets ≤ 65537) where
     exchange-line : IsAcceptable (with_new world.hub) (new_in world.hub) message question
-        → (by_connected world w octets (Some world.hub.made, with_new world.hub)).1 ≡ bytes_line w (first_reply (with_new world.hub) message question) ∷ []
+        → (by_connected world w octets (Some world.hub.numbers_given, with_new world.hub)).1 ≡ bytes_line w (first_reply (with_new world.hub) message question) ∷ []
     exchange-line a =
         let reply = first_reply (with_new world.hub) message question in
         let some : is_empty reply ≡ false = refl in
-        let g : Gives world.hub (exchanged enough world.hub.made octets (with_new world.hub) []) reply =
+        let g : Gives world.hub (exchanged enough world.hub.numbers_given octets (with_new world.hub) []) reply =
         gives world.hub below octets message reply (is_answered world.hub below message question a) found some few (is_short world.hub below message question a bounded) in
         (λ i. spaced (codes "bytes" ∷ w ∷ octets_text (g.octets i) ∷ []) ∷ end_lines w (g.over i))
         ∙ ap (λ (b : Bool). spaced (codes "bytes" ∷ w ∷ cond b (codes "-") (hex_text reply) ∷ []) ∷ []) some

@@ -3,7 +3,7 @@
 use Rattle.std.proofs.Common.{◌≡◌, ℕ, ◌≤◌, false, List, [], take, min, length, Option, Some, None, sym, ◌∙◌, ap, subst, arith, take_all, le_refl}
 use Rattle.push_base.specs.Cases.{is_empty}
 use Rattle.dsotlv.specs.Messages.{first_message}
-use Rattle.pushserver.specs.Sessions.{Session, Hub}
+use Rattle.pushserver.specs.PlainHubs.{Session, Hub}
 use Rattle.pushsession.specs.Sessions.{new_session, room_of, takes}
 use Rattle.pushserver.specs.Hubs.{now, keeps_now, taken_by, take_octets}
 use Rattle.pushserver.proofs.Walks.{with_new}
@@ -28,22 +28,22 @@ module _ (hub : Hub) (below : IsBehind hub) where
     taken_by_found None = 0
     taken_by_found (Some session) = min (length octets) (room_of session)
 
-    pub all_taken : taken_by (with_new hub) hub.made octets ≡ length octets
+    pub all_taken : taken_by (with_new hub) hub.numbers_given octets ≡ length octets
     all_taken = ap taken_by_found (session_of-last hub below (new_session (keeps_now hub) (now hub))) ∙ least (length octets) few
       where
         least : (n : ℕ) → n ≤ 65537 → min n 69633 ≡ n
         least n h = omega arith
 
-    pub taken_in : take_octets (with_new hub) hub.made (take (length octets) octets) ≡ hub_at hub (waiting hub octets)
+    pub taken_in : take_octets (with_new hub) hub.numbers_given (take (length octets) octets) ≡ hub_at hub (waiting hub octets)
     taken_in =
         in_session-last hub below (takes (take (length octets) octets)) (new_session (keeps_now hub) (now hub))
         ∙ ap (λ o. hub_at hub (waiting hub o)) (ap (take 69633) (take_all (length octets) octets (le_refl (length octets))) ∙ take_all 69633 octets (omega arith))
 
-    pub writes : Writes hub (emitted enough hub.made enough (nothing_emitted (take_octets (with_new hub) hub.made (take (length octets) octets)) [])) reply
-    writes = subst (λ later. Writes hub (emitted enough hub.made enough (nothing_emitted later [])) reply) (sym taken_in)
+    pub writes : Writes hub (emitted enough hub.numbers_given enough (nothing_emitted (take_octets (with_new hub) hub.numbers_given (take (length octets) octets)) [])) reply
+    writes = subst (λ later. Writes hub (emitted enough hub.numbers_given enough (nothing_emitted later [])) reply) (sym taken_in)
         (emitted-writes hub below 18446744073709551614 enough octets message reply a found some (omega arith))
 
-    pub gives : Gives hub (exchanged enough hub.made octets (with_new hub) []) reply
+    pub gives : Gives hub (exchanged enough hub.numbers_given octets (with_new hub) []) reply
     gives =
-        let once = exchanged-once 18446744073709551615 hub.made octets (with_new hub) [] all_taken in
+        let once = exchanged-once 18446744073709551615 hub.numbers_given octets (with_new hub) [] all_taken in
         record { octets = ap (λ x. x.octets) once ∙ writes.octets; over = ap (λ x. x.over) once ∙ writes.over; session = writes.session; is = ap (λ x. x.hub) once ∙ writes.is }

@@ -1,12 +1,10 @@
 -- What a session with an empty queue writes when it reacts to a message has far fewer octets than a script's turns.
 --     writes-few      at most 1,000,000 octets, in a state that is within the bounds
-use Rattle.std.proofs.Common.{◌≡◌, ℕ, ◌+◌, ◌≤◌, Bool, true, false, cond, ◌&&◌, List, [], ◌∷◌, length, Option, Some, None, Result, Ok, Err, sym, ◌∙◌, ap, subst, arith}
+use Rattle.std.proofs.Common.{◌≡◌, ℕ, ◌+◌, ◌≤◌, Bool, true, false, cond, not, ◌&&◌, List, [], length, Option, Some, None, Result, Ok, Err, sym, ◌∙◌, ap, subst, arith}
 use Rattle.std.specs.Prelude.{bit_and}
-use Rattle.dnsname.specs.Names.{lower}
 use Rattle.rrset.specs.Header.{id_of, flags_of, answer_octets}
-use Rattle.rrset.specs.Kinds.{in_class}
 use Rattle.rrset.specs.Rcodes.{noerror, notimp, servfail}
-use Rattle.rrset.specs.RecordSet.{at_name, matching}
+use Rattle.rrset.specs.RecordSet.{at_name}
 use Rattle.rrset.specs.declared.record.Question.{Question}
 use Rattle.rrset.specs.declared.record.Rr.{Rr}
 use Rattle.rrset.specs.declared.record.Key.{Key}
@@ -16,8 +14,7 @@ use Rattle.dsotlv.specs.Messages.{frame, head_of, primary_data, dso_flags}
 use Rattle.dsotlv.specs.Answers.{grant_to, refusal_to, answer_to, answer_to_update}
 use Rattle.dsotlv.specs.Notices.{question_of, reconfirm_of}
 use Rattle.dsotlv.specs.declared.message.DsoHead.{DsoHead}
-use Rattle.dsotlv.specs.declared.message.Notice.TheVariants.{RemoveClass}
-use Rattle.coalesce.specs.Net.{additions}
+use Rattle.coalesce.specs.FirstAnswers.{told_first}
 use Rattle.dsosession.specs.Reactions.{server_reaction}
 use Rattle.dsosession.specs.declared.session.Reaction.{Reaction}
 use Rattle.dsosession.specs.declared.session.Reaction.TheVariants as reactions
@@ -26,7 +23,7 @@ use Rattle.history.specs.declared.entry.Entry.TheVariants as entries
 use Rattle.pushsession.specs.declared.standing.Standing.{Standing}
 use Rattle.pushsession.specs.declared.standing.Standing.TheVariants.{Live, AskedToStop, Stopped, Ended}
 use Rattle.pushsession.specs.Subscribing.{Verdict, Refuse, Abort, Accept, verdict_on, subscribed, first_answer_size, decided}
-use Rattle.pushserver.specs.Sessions.{Session, wanted, Hub, first_answer, wanted_with}
+use Rattle.pushserver.specs.PlainHubs.{Session, wanted, Hub, first_answer, asks_for}
 use Rattle.pushserver.specs.Hubs.{now, state_now, records_now, keeps_now, tells_now, can_enter}
 use Rattle.pushserver.specs.Giving.{has_home}
 use Rattle.pushserver.proofs.Subscribing.{output_says}
@@ -74,7 +71,7 @@ module _ (hub : Hub) where
   pub first_answer-silent : (core : Core) (question : Question) → first_answer hub (silent core) question ≡ notices_for (state_now hub) question
   first_answer-silent core question =
       let found = at_name question.name (records_now hub) in
-      ap (λ b. cond b (additions (matching question found)) (RemoveClass (lower question.name) in_class ∷ additions (wanted_with question core.subscriptions found))) (same_rows-self (wanted core.subscriptions found))
+      ap (λ b. told_first (not b) question (asks_for core.subscriptions) found) (same_rows-self (wanted core.subscriptions found))
 
   accepted-output : (id : ℕ) (question : Question) (core : Core) → (decided (keeps_now hub) (tells_now hub) (now hub) id (Accept question) (silent core)).output ≡ with_push id (notices_for (state_now hub) question)
   accepted-output id question core =

@@ -3,7 +3,7 @@ use Rattle.std.proofs.Common.{◌≡◌, ℕ, suc, ◌-◌, Bool, true, false, �
 use Rattle.pushserver.specs.declared.given.Given.{Given}
 use Rattle.pushserver.specs.declared.given.Given.TheVariants.{Bytes, Worked, Nothing, Ending, End}
 use Rattle.pushserver.specs.Hubs.{taken_by, take_octets}
-use Rattle.pushserver.specs.Sessions.{Hub, Giving}
+use Rattle.pushserver.specs.PlainHubs.{Hub, Giving}
 use Rattle.pushserver.specs.Giving.{give}
 use Rattle.replay.specs.PassedOctets.{Emitted, Exchanged, emitted, exchanged, with_giving, nothing_emitted, enough}
 

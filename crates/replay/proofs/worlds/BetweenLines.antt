@@ -9,7 +9,7 @@ use Rattle.std.specs.Prelude.{nat_lt}
 use Rattle.std.specs.List.{AllByRecursion}
 use Rattle.push_base.specs.Limits.{max_number}
 use Rattle.coalesce.proofs.Packing.{each-front}
-use Rattle.pushserver.specs.Sessions.{Hub}
+use Rattle.pushserver.specs.PlainHubs.{Hub}
 use Rattle.pushserver.specs.Hubs.{state_now, connect, max_sessions}
 use Rattle.pushserver.proofs.Walks.{with_new}
 use Rattle.replay.specs.Lines.{ScriptLine}
@@ -67,9 +67,9 @@ module _ (script : List ℕ) (before behind : List ScriptLine) (built : first_la
 
 -- a session more leaves the state
 pub bounded-connected : (hub : Hub) → IsBounded (state_now hub) → IsBounded (state_now (connect hub).1)
-bounded-connected hub bounded = by (nat_lt (length hub.sessions) max_sessions && nat_lt hub.made max_number)
+bounded-connected hub bounded = by (nat_lt (length hub.sessions) max_sessions && nat_lt hub.numbers_given max_number)
   where
-    by : (b : Bool) → IsBounded (state_now (cond {A = Option ℕ × Hub} b (Some hub.made, with_new hub) (None, hub)).1)
+    by : (b : Bool) → IsBounded (state_now (cond {A = Option ℕ × Hub} b (Some hub.numbers_given, with_new hub) (None, hub)).1)
     by true = bounded
     by false = bounded
 

@@ -1,11 +1,11 @@
 -- What every call keeps stays in each world that built lines reach.
 --     IsBuiltLine line      a line of a kind that is built
 --     keeps-lines      the law
-use Rattle.std.proofs.Common.{◌≡◌, ℕ, true, cond, List, [], ◌∷◌, ◌++◌, fold, Option, Some, None, codes}
+use Rattle.std.proofs.Common.{◌≡◌, ℕ, true, cond, List, [], ◌∷◌, ◌++◌, fold, Option, Some, None, option_map, codes}
 use Rattle.std.specs.List.{AllByRecursion}
 use Rattle.dsosession.specs.declared.session.EndReason.{EndReason}
 use Rattle.pushserver.specs.Hubs as hubs
-use Rattle.pushserver.specs.Sessions.{Hub}
+use Rattle.pushserver.specs.PlainHubs.{Hub}
 use Rattle.pushserver.specs.Calls.{updates, moves, connects, stops}
 use Rattle.pushserver.specs.Hubs.{now, connect}
 use Rattle.pushserver.proofs.Walks.{IsKept, keeps-called}
@@ -67,20 +67,20 @@ module _ (Good : List ℕ → Type 0) (P : Hub → Type 0) (kept : IsKept Good P
   keeps-sends : (w : Word) (octets : List ℕ) (world : World) → Good octets → Has world → Has (line_does by_history (send w octets) world).0
   keeps-sends w octets world q h = by (session_number world w)
     where
-      by_connect : (o : Option ℕ) → Has (elim o as (λ _. Printed) [
+      new_place : Option ℕ → Option (ℕ × World)
+      new_place o = option_map (λ number. (number, record world { hub = (connect world.hub).1; peers = world.peers ++ (w, number) ∷ [] })) o
+
+      by_place : Option (ℕ × World) → Printed
+      by_place o = elim o as (λ _. Printed) [
         | None ↦ printing (codes "noseat" ∷ w ∷ []) world
-        | Some number ↦ exchanges w number octets (record world { hub = (connect world.hub).1; peers = world.peers ++ (w, number) ∷ [] })
-      ]).0
+        | Some place ↦ exchanges w place.0 octets place.1
+      ]
+
+      by_connect : (o : Option ℕ) → Has (by_place (new_place o)).0
       by_connect None = h
       by_connect (Some number) = keeps-exchanges w number octets (record world { hub = (connect world.hub).1; peers = world.peers ++ (w, number) ∷ [] }) q (keeps-called Good P kept connects world.hub tt h)
 
-      by : (o : Option ℕ) → Has (elim o as (λ _. Printed) [
-        | Some number ↦ exchanges w number octets world
-        | None ↦ elim (connect world.hub).0 as (λ _. Printed) [
-          | None ↦ printing (codes "noseat" ∷ w ∷ []) world
-          | Some number ↦ exchanges w number octets (record world { hub = (connect world.hub).1; peers = world.peers ++ (w, number) ∷ [] })
-        ]
-      ]).0
+      by : (o : Option ℕ) → Has (by_place (elim o as (λ _. Option (ℕ × World)) [ Some number ↦ Some (number, world) | None ↦ new_place (connect world.hub).0 ])).0
       by (Some number) = keeps-exchanges w number octets world q h
       by None = by_connect (connect world.hub).0
 

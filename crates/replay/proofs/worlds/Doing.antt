@@ -2,14 +2,14 @@
 use Rattle.std.proofs.Common.{◌≡◌, ℕ, Bool, true, false, cond, List, [], ◌∷◌, ◌++◌, fold, Option, Some, None, sym, ◌∙◌, ap, subst, refl, append_assoc, append-nil, codes, decimal, string_bytes, IfOk, Result, Ok, Err, Global}
 use Rattle.std.specs.Result.{IsErrOf}
 use Rattle.std.specs.declared.string.String.{String}
-use Rattle.std.specs.Prelude.{find, nat_lt, ◌&&◌, length}
+use Rattle.std.specs.Prelude.{find, nat_lt, option_map, ◌&&◌, length}
 use Rattle.push_base.specs.Limits.{max_number}
 use Rattle.std.specs.Str.{bytes_eq}
 use Rattle.dsosession.specs.declared.session.EndReason.{EndReason}
 use Rattle.pushserver.specs.Hubs as hubs
-use Rattle.pushserver.specs.Sessions.{Hub}
+use Rattle.pushserver.specs.PlainHubs.{Hub}
 use Rattle.pushserver.specs.Hubs.{newest, now}
-use Rattle.pushserver.specs.Rule.{KeptHub, StandsFor}
+use Rattle.pushserver.specs.KeptHubs.{KeptHub, StandsFor}
 use Rattle.pushserver.proofs.Walks.{with_new}
 use Rattle.replay.specs.Lines.{Word}
 use Rattle.replay.specs.World.{World, Seat, cut_peer, cut_connection, number_in, session_number}
@@ -174,29 +174,30 @@ exchanges-some kept between later known known_later w number sent octets slice l
 
 -- a hub that has no seat stays as it is
 refused-same : (hub : Hub) → (hubs.connect hub).0 ≡ None → (hubs.connect hub).1 ≡ hub
-refused-same hub none = by (nat_lt (length hub.sessions) hubs.max_sessions && nat_lt hub.made max_number) none
+refused-same hub none = by (nat_lt (length hub.sessions) hubs.max_sessions && nat_lt hub.numbers_given max_number) none
   where
     made : Option ℕ × Hub
-    made = (Some hub.made, with_new hub)
+    made = (Some hub.numbers_given, with_new hub)
 
     by : (b : Bool) → (cond b made (None, hub)).0 ≡ None → (cond b made (None, hub)).1 ≡ hub
     by true e = absurd cc
     by false e = refl
 
-abbrev sends_by : Word → List ℕ → World → Option ℕ → Printed
-sends_by w octets world o = elim o as (λ _. Printed) [
-  | Some number ↦ exchanges w number octets world
-  | None ↦ (let r = hubs.connect world.hub in elim r.0 as (λ _. Printed) [
-    | None ↦ printing (codes "noseat" ∷ w ∷ []) world
-    | Some number ↦ exchanges w number octets (record world { hub = r.1; peers = world.peers ++ (w, number) ∷ [] })
-  ])
+abbrev new_place : Word → World → Option ℕ → Option (ℕ × World)
+new_place w world o = option_map (λ number. (number, record world { hub = (hubs.connect world.hub).1; peers = world.peers ++ (w, number) ∷ [] })) o
+
+abbrev placed_by : Word → List ℕ → World → Option (ℕ × World) → Printed
+placed_by w octets world o = elim o as (λ _. Printed) [
+  | None ↦ printing (codes "noseat" ∷ w ∷ []) world
+  | Some place ↦ exchanges w place.0 octets place.1
 ]
 
+abbrev sends_by : Word → List ℕ → World → Option ℕ → Printed
+sends_by w octets world o =
+    placed_by w octets world (elim o as (λ _. Option (ℕ × World)) [ Some number ↦ Some (number, world) | None ↦ new_place w world (hubs.connect world.hub).0 ])
+
 abbrev connects_by : Word → List ℕ → World → Option ℕ → Printed
-connects_by w octets world o = elim o as (λ _. Printed) [
-  | None ↦ printing (codes "noseat" ∷ w ∷ []) world
-  | Some number ↦ exchanges w number octets (record world { hub = (hubs.connect world.hub).1; peers = world.peers ++ (w, number) ∷ [] })
-]
+connects_by w octets world o = placed_by w octets world (new_place w world o)
 
 pub sends-known : (kept later : KeptHub) (known known_later : Named) (w : Word) (number : ℕ) (octets written : List ℕ) → number_in known w ≡ Some number
     → Acts (exchanges w number octets) kept known written later known_later → Acts (sends w octets) kept known written later known_later

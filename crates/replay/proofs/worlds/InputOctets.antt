@@ -1,8 +1,8 @@
 -- In a script that is built, each session's input holds octets.
 --     octets-kept      the steps of which calls are made keep octets in all inputs
 --     octets-lines, octets-connected      so they stand there between lines, and with one session more
-use Rattle.std.proofs.Common.{◌≡◌, ℕ, ◌+◌, ◌-◌, ◌*◌, ◌<◌, Bool, true, false, cond, ◌&&◌, not, List, [], ◌∷◌, ◌++◌, map, length, take, drop, find, Option, Some, None, option_map, Ok, nat_lt, refl, sym, ◌∙◌, ap, subst, arith}
-use Rattle.std.specs.Prelude.{◌==◌, slice_range}
+use Rattle.std.proofs.Common.{◌≡◌, ℕ, ◌+◌, ◌*◌, ◌<◌, Bool, true, false, cond, ◌&&◌, not, List, [], ◌∷◌, ◌++◌, map, take, drop, find, Option, Some, None, option_map, Ok, nat_lt, refl, sym, ◌∙◌, ap, subst, arith}
+use Rattle.std.specs.Prelude.{◌==◌}
 use Rattle.std.specs.List.{All, AllByRecursion, list_all}
 use Rattle.std.specs.Char.{is_ascii_hexdigit}
 use Rattle.std.proofs.lemmas.Bool.{ltb-true}
@@ -10,23 +10,21 @@ use Rattle.std.proofs.lemmas.Bool.Decides.{nat_tests}
 use Rattle.std.proofs.lemmas.List.Elements.{All-nil, All-cons, All-append, All-take, All-drop}
 use Rattle.push_base.specs.Hexadecimal.{first_other, digit_value, octets_of_digits, octets_or_fault, hex_octets}
 use Rattle.push_base.proofs.HexLaws.{digits_all}
-use Rattle.rrset.specs.Header.{two_octets}
 use Rattle.rrset.proofs.Places.{all_filter}
 use Rattle.dnsname.proofs.Decisions.{and_true}
 use Rattle.coalesce.proofs.Packing.{each-front}
 use Rattle.coalesce.proofs.ReadBack.{each-append}
 use Rattle.dsotlv.specs.Laws.{AreOctets}
-use Rattle.dsotlv.specs.Messages.{first_message}
 use Rattle.dsotlv.proofs.Results.{same_found}
 use Rattle.dsosession.specs.declared.session.EndReason.{EndReason}
 use Rattle.pushsession.specs.declared.standing.Standing.TheVariants.{AskedToStop}
-use Rattle.pushsession.specs.Sessions.{is_open, new_session, room_of, takes, asked_to_stop, due, ended_where, timed}
-use Rattle.pushserver.specs.Sessions.{Session, Hub, plain_keeps}
+use Rattle.pushsession.specs.Sessions.{is_open, new_session, room_of, takes, asked_to_stop, due, ended_where, timed, without_first}
+use Rattle.pushserver.specs.PlainHubs.{Session, Hub, plain_keeps}
 use Rattle.pushserver.specs.Hubs.{now, keeps_now, session_of, in_session, connect}
-use Rattle.pushserver.specs.Giving.{without_first}
 use Rattle.pushserver.specs.Calls.{connects}
 use Rattle.pushserver.proofs.Walks.{Step, IsKept, keeps-called}
 use Rattle.pushserver.proofs.hub_steps.Pairs.{all-weaken}
+use Rattle.pushserver.proofs.session_steps.Octets.{first_octets, rest_octets}
 use Rattle.pushserver.proofs.session_steps.Lists.{found-each}
 use Rattle.replay.specs.Lines.{ScriptLine, octets_written}
 use Rattle.replay.specs.Scripts.{script_of}
@@ -131,30 +129,16 @@ takes_octets piece q s i = All-append IsOctet s.input (take (room_of s) piece) i
 step_octets : {hub : Hub} (f : Session → Session) → Step AreOctets hub f → (s : Session) → AreOctets s.input → AreOctets (f s).input
 step_octets f step s i = subst AreOctets (sym (step-input f step s)) i
 
--- a first message is one of octets
-first_octets : (input : List ℕ) (found : List ℕ × List ℕ) → first_message input ≡ Some found → AreOctets input → AreOctets found.0 × AreOctets found.1
-first_octets input found is all = by (nat_lt (length input) (2 + two_octets input 0)) is
-  where
-    first : List ℕ × List ℕ
-    first = (slice_range input 2 (2 + two_octets input 0), drop (2 + two_octets input 0) input)
-
-    both : AreOctets first.0 × AreOctets first.1
-    both = (All-take IsOctet (2 + two_octets input 0 - 2) (drop 2 input) (All-drop IsOctet 2 input all), All-drop IsOctet (2 + two_octets input 0) input all)
-
-    by : (b : Bool) → cond b None (Some first) ≡ Some found → AreOctets found.0 × AreOctets found.1
-    by true e = absurd cc
-    by false e = subst (λ (p : List ℕ × List ℕ). AreOctets p.0 × AreOctets p.1) (same_found first found e) both
-
 pub octets-kept : IsKept AreOctets HoldsOctets
 octets-kept = record {
-  reads = λ hub number session found there is h. (first_octets session.input found is (found_octets hub number session there h)).0;
-  takes_up = λ hub number session found there is h. one_octets number (without_first found.1) (λ s i. (first_octets session.input found is (found_octets hub number session there h)).1) hub h;
+  reads = λ hub number session found there is h. first_octets session.input found is (found_octets hub number session there h);
+  takes_up = λ hub number session found there is h. one_octets number (without_first found.1) (λ s i. rest_octets session.input found is (found_octets hub number session there h)) hub h;
   changes = λ hub number f step h. one_octets number f (step_octets f step) hub h;
   enters = λ hub entry by h. map_octets _ (λ e i. i) hub.sessions h;
   times = λ hub point t h. map_octets _ (λ e i. timed_octets point t e.1 i) hub.sessions h;
   takes_in = λ hub number piece q h. one_octets number (takes piece) (takes_octets piece q) hub h;
   asks_stop = λ hub number rcode delay h. one_octets number (asked_to_stop rcode delay) (λ s i. stop_octets rcode delay s i) hub h;
-  makes = λ hub h. each-append HasInput hub.sessions ((hub.made, new_session (keeps_now hub) (now hub)) ∷ []) h (All-nil IsOctet, tt);
+  makes = λ hub h. each-append HasInput hub.sessions ((hub.numbers_given, new_session (keeps_now hub) (now hub)) ∷ []) h (All-nil IsOctet, tt);
   drops = λ hub number h. all_filter HasInput (λ e. not (e.0 == number)) hub.sessions h;
 }
   where

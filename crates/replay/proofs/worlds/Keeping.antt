@@ -6,7 +6,7 @@ use Rattle.std.proofs.Common.{ℕ, zero, suc, ◌-◌, Bool, true, false, ◌||�
 use Rattle.std.specs.Prelude.{◌==◌}
 use Rattle.pushserver.specs.declared.given.Given.{Given}
 use Rattle.pushserver.specs.declared.given.Given.TheVariants.{Bytes, Worked, Nothing, Ending, End}
-use Rattle.pushserver.specs.Sessions.{Hub, Giving}
+use Rattle.pushserver.specs.PlainHubs.{Hub, Giving}
 use Rattle.pushserver.specs.Hubs.{taken_by, take_octets}
 use Rattle.pushserver.specs.Giving.{give}
 use Rattle.pushserver.specs.Calls.{gives as giving}

@@ -4,7 +4,7 @@
 use Rattle.std.proofs.Common.{◌<◌, List, [], ◌∷◌, ◌++◌, length, arith, length-append}
 use Rattle.std.specs.List.{AllByRecursion}
 use Rattle.history.specs.declared.entry.Entry.{Entry}
-use Rattle.pushserver.specs.Sessions.{Hub}
+use Rattle.pushserver.specs.PlainHubs.{Hub}
 use Rattle.pushserver.proofs.Walks.{AnyMessage, IsKept, walks_alone, walks-reacted, walks-after_reaction}
 use Rattle.replay.specs.Lines.{ScriptLine}
 use Rattle.replay.specs.World.{World}

@@ -8,10 +8,9 @@ use Rattle.std.specs.Prelude.{◌==◌}
 use Rattle.std.specs.List.{AllByRecursion}
 use Rattle.rrset.proofs.Places.{all_filter}
 use Rattle.history.specs.States.{State}
-use Rattle.pushserver.specs.Sessions.{Session, Hub}
-use Rattle.pushserver.specs.Hubs.{now, keeps_now, in_session, end_session}
-use Rattle.pushsession.specs.Sessions.{new_session, takes, asked_to_stop}
-use Rattle.pushserver.specs.Giving.{without_first}
+use Rattle.pushserver.specs.PlainHubs.{Session, Hub}
+use Rattle.pushserver.specs.Hubs.{now, keeps_now, in_session, disconnect}
+use Rattle.pushsession.specs.Sessions.{new_session, takes, asked_to_stop, without_first}
 use Rattle.pushserver.proofs.Walks.{AnyMessage, IsKept}
 use Rattle.replay.specs.Lines.{ScriptLine}
 use Rattle.replay.specs.World.{World}
@@ -31,24 +30,24 @@ below-map n f (e ∷ es) all = (all.0, below-map n f es all.1)
 
 module _ (start : State) where
   from-map : (hub : Hub) (f : ℕ × Session → Session) → IsFrom start hub → IsFrom start (record hub { sessions = map (λ e. (e.0, f e)) hub.sessions })
-  from-map hub f h = record { begins = h.begins; below = below-map hub.made f hub.sessions h.below }
+  from-map hub f h = record { begins = h.begins; below = below-map hub.numbers_given f hub.sessions h.below }
 
   from-in_session : (hub : Hub) (number : ℕ) (f : Session → Session) → IsFrom start hub → IsFrom start (in_session number f hub)
   from-in_session hub number f h = from-map hub (λ e. cond (e.0 == number) (f e.1) e.1) h
 
-  from-drops : (hub : Hub) (number : ℕ) → IsFrom start hub → IsFrom start (end_session hub number)
-  from-drops hub number h = record { begins = h.begins; below = all_filter (λ (e : ℕ × Session). e.0 < hub.made) (λ (e : ℕ × Session). not (e.0 == number)) hub.sessions h.below }
+  from-drops : (hub : Hub) (number : ℕ) → IsFrom start hub → IsFrom start (disconnect hub number)
+  from-drops hub number h = record { begins = h.begins; below = all_filter (λ (e : ℕ × Session). e.0 < hub.numbers_given) (λ (e : ℕ × Session). not (e.0 == number)) hub.sessions h.below }
 
   pub from-kept : IsKept AnyMessage (IsFrom start)
   from-kept = record {
     reads = λ hub number session found there is h. tt;
     takes_up = λ hub number session found there is h. from-in_session hub number (without_first found.1) h;
     changes = λ hub number f step h. from-in_session hub number f h;
-    enters = λ hub entry by h. record { begins = h.begins; below = below-map hub.made _ hub.sessions h.below };
-    times = λ hub point t h. record { begins = h.begins; below = below-map hub.made _ hub.sessions h.below };
+    enters = λ hub entry by h. record { begins = h.begins; below = below-map hub.numbers_given _ hub.sessions h.below };
+    times = λ hub point t h. record { begins = h.begins; below = below-map hub.numbers_given _ hub.sessions h.below };
     takes_in = λ hub number piece any h. from-in_session hub number (takes piece) h;
     asks_stop = λ hub number rcode delay h. from-in_session hub number (asked_to_stop rcode delay) h;
-    makes = λ hub h. record { begins = h.begins; below = below-more hub.made hub.sessions (new_session (keeps_now hub) (now hub)) h.below };
+    makes = λ hub h. record { begins = h.begins; below = below-more hub.numbers_given hub.sessions (new_session (keeps_now hub) (now hub)) h.below };
     drops = from-drops;
   }
 

@@ -1,21 +1,22 @@
 -- What a call does to a session, apart from the octets that come in, leaves its input as it was.
 --     step-input      the law
-use Rattle.std.proofs.Common.{◌≡◌, ℕ, List, [], ◌∷◌, refl}
+use Rattle.std.proofs.Common.{◌≡◌, ℕ, Bool, true, false, cond, List, [], ◌∷◌, refl}
 use Rattle.rrset.specs.Header.{id_of}
 use Rattle.rrset.specs.Rcodes.{noerror}
 use Rattle.dsotlv.specs.Answers.{answer_to}
 use Rattle.dsotlv.specs.Messages.{primary_data}
 use Rattle.dsotlv.specs.Notices.{question_of}
 use Rattle.dsotlv.specs.declared.message.Notice.{Notice}
+use Rattle.dsosession.specs.declared.session.EndReason.TheVariants as ends
 use Rattle.dsosession.specs.declared.session.Reaction.{Reaction}
 use Rattle.dsosession.specs.declared.session.Reaction.TheVariants as reactions
 use Rattle.dsosession.specs.declared.session.Timers.{Timers}
-use Rattle.pushsession.specs.Sessions.{SessionOf, Keeps}
+use Rattle.pushsession.specs.Sessions.{SessionOf, Keeps, ended_with, says_stop}
 use Rattle.pushsession.specs.Subscribing.{Tells, Verdict, Refuse, Abort, Accept, verdict_on, subscribed, first_answer_size, says_first_answer, says_notices, decided}
 use Rattle.pushsession.specs.Reactions.{by_itself}
 use Rattle.pushserver.specs.Hubs.{SessionKind, HubOf, now, keeps_now, tells_now}
 use Rattle.pushserver.specs.Giving.{has_home}
-use Rattle.pushserver.proofs.Walks.{Step, hears_head, reacts, answers_subscribe, answers_update, packs_names, writes_stop, ends_with, copies_front}
+use Rattle.pushserver.proofs.Walks.{Step, hears_head, reacts, answers_subscribe, answers_update, packs_names, comes_to_stop, ends_with, copies_front}
 
 module _ {A Q M : Type 0} (keeps : Keeps A Q M) where
   itself-input : (reaction : Reaction) (timers : Timers) (t : ℕ) (message : List ℕ) (s : SessionOf A Q M) → (by_itself keeps reaction timers t message s).input ≡ s.input
@@ -52,6 +53,10 @@ step-input {hub = hub} f (answers_subscribe message good) s =
     decided-input (keeps_now hub) (tells_now hub) (now hub) (id_of message) (verdict_on (keeps_now hub) (id_of message) question (has_home hub question) s.subscriptions) s
 step-input f (answers_update before message) s = refl
 step-input {hub = hub} f packs_names s = (let pack = (tells_now hub).packed s.subscriptions s.queue in notices-input (keeps_now hub) (now hub) pack.0 (record s { queue = pack.1 }))
-step-input f (writes_stop rcode delay) s = refl
+step-input {hub = hub} f (comes_to_stop rcode delay) s = by s.established
+  where
+    by : (b : Bool) → (cond b (says_stop (keeps_now hub) rcode delay (now hub) s) (ended_with (keeps_now hub) ends.Stopped s)).input ≡ s.input
+    by true = refl
+    by false = refl
 step-input f (ends_with reason) s = refl
 step-input f (copies_front room) s = refl

@@ -3,4 +3,4 @@ use Rattle.history.specs.Totals.{totals}
 use Rattle.pushserver.proofs.laws.kept_hubs_count.Goals as goal
 
 pub returns : goal.returns
-returns c = record { counts = λ k hub stands. (ap totals stands.history, stands.made) }
+returns c = record { counts = λ k hub stands. (ap totals stands.history, stands.numbers_given) }

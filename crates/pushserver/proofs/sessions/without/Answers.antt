@@ -6,4 +6,4 @@ use Rattle.pushsession.specs.Kept.{KeptSession}
 use Rattle.pushserver.proofs.sessions.without.Goals as goal
 
 pub returns : goal.returns
-returns c = filter_same _ (λ (e : ℕ × KeptSession). not (e.0 == c.args.number)) _ (λ x b f k. search (rules, of_calls)) c.args.seats.now.items c.retain.new.self.items c.retain.ensures.filtered
+returns c = filter_same _ (λ (e : ℕ × KeptSession). not (e.0 == c.args.number)) _ (λ x b f k. search (rules, of_calls)) c.args.numbered.now.items c.retain.new.self.items c.retain.ensures.filtered

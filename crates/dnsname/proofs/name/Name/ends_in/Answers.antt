@@ -1,29 +1,13 @@
-use Rattle.std.proofs.lemmas.Bool.Decides.{same_from_decides}
-use Rattle.dnsname.specs.Names.{ends_in, EndsIn}
+use Rattle.std.proofs.Common.{◌≡◌, ◌∙◌, sym, ap}
+use Rattle.dnsname.specs.Names.{ends_in}
+use Rattle.dnsname.specs.Octets.{labels_of}
 use Rattle.dnsname.proofs.Decisions.{ends_in-Decides}
-use Rattle.std.proofs.Common.{Decides, ◌≤◌, length, arith}
-use Rattle.dnsname.proofs.Endings.{spells_view, spelled_some, seeks_first, seeks_more, seeks_end}
 use Rattle.dnsname.proofs.name.Name.ends_in.Goals as goal
 
-pub labels-init : goal.labels-init
-labels-init c = rw c.as_slice-rest.ensures.value (seeks_first _ _ _ (spells_view _ _ c.self.invariant c.self.view_is))
-
-pub split_at-requires : goal.split_at-requires
-split_at-requires c =
-    let suffix = spells_view _ _ c.suffix.invariant c.suffix.view_is in
-    let some : 1 ≤ length c.suffix.inside.octets.items = spelled_some _ _ suffix in
-    (seeks_more _ _ _ c.labels.invariant some (omega arith)).1
-
-pub labels-preserved : goal.labels-preserved
-labels-preserved c =
-    let suffix = spells_view _ _ c.suffix.invariant c.suffix.view_is in
-    let some : 1 ≤ length c.suffix.inside.octets.items = spelled_some _ _ suffix in
-    rw c.split_at.ensures.back (seeks_more _ _ _ c.labels.invariant some (omega arith)).0
-
-pub returns : goal.returns
-returns c =
-    let suffix = spells_view _ _ c.suffix.invariant c.suffix.view_is in
-    let ends = seeks_end _ _ _ _ suffix c.labels.invariant (omega arith) in
-    let test = rw c.deref.ensures.value at c.eq_ignore_ascii_case.ensures.test in
-    let is : Decides c.eq_ignore_ascii_case.result (EndsIn c.args.self.now c.args.suffix.now) = (λ t. ends.0 (test.0 t), λ e. test.1 (ends.1 e)) in
-    record { ends = is; exact = same_from_decides _ (ends_in c.args.self.now c.args.suffix.now) is (ends_in-Decides c.args.self.now c.args.suffix.now) }
+pub returns-clause-ends : goal.returns-clause-ends
+returns-clause-ends c =
+    let mine : labels_of c.deref.result.now ≡ c.args.self.now = ap labels_of c.deref.ensures.value ∙ c.self.view_is in
+    let other : labels_of c.deref-2.result.now ≡ c.args.suffix.now = ap labels_of c.deref-2.ensures.value ∙ c.suffix.view_is in
+    let is : c.spelled_ends_in.result ≡ ends_in c.args.self.now c.args.suffix.now = c.spelled_ends_in.ensures ∙ (λ i. ends_in (mine i) (other i)) in
+    let decides = ends_in-Decides c.args.self.now c.args.suffix.now in
+    (λ t. decides.0 (sym is ∙ t), λ e. is ∙ decides.1 e)

@@ -7,5 +7,5 @@ pub returns : goal.returns
 returns c =
     let told : c.args.now ≤ max_number = omega (arith, c.ranges.now.fits) in
     rw (← c.self.view_is) (c.reason_of.ensures
-    ∙ ap (λ silent. reason_of silent c.has_come-idle.result) (c.has_come-silent.ensures ∙ c.silent_from.ensures c.self.inside.last_other c.args.now told)
-    ∙ ap (reason_of _) (c.has_come-idle.ensures ∙ c.idle_from.ensures c.self.inside.last_message c.args.now told))
+    ∙ ap (λ silent. reason_of silent c.has_come-idle.result) (c.has_come-silent.ensures ∙ c.silent_from.ensures c.args.now told)
+    ∙ ap (reason_of _) (c.has_come-idle.ensures ∙ c.idle_from.ensures c.args.now told))

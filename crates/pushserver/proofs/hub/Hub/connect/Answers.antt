@@ -1,8 +1,8 @@
 -- The hub stands for the plain one afterwards.
 use Rattle.std.proofs.Common.{◌≤◌, None, Some, sym, subst, ◌∙◌}
 use Rattle.pushserver.specs.Hubs.{connect, max_sessions}
-use Rattle.pushserver.specs.KeptHubs.{kept_of}
-use Rattle.pushserver.specs.Rule.{KeptHub}
+use Rattle.pushserver.specs.Keeping.{kept_of}
+use Rattle.pushserver.specs.KeptHubs.{KeptHub}
 use Rattle.pushserver.proofs.AddedEntries.{connect-many}
 use Rattle.pushserver.proofs.Soundness.{sound}
 use Rattle.pushserver.proofs.HubSteps.{keeps-hub, connect-stands, seen}
@@ -18,7 +18,7 @@ returns-in_default-clause-no_seat c = λ err hub stands.
 pub returns-in_default-clause-many : goal.returns-in_default-clause-many
 returns-in_default-clause-many c = λ err.
     let is = sound c.self.inside.keeping c.self.invariant in
-    subst (λ (k : KeptHub). max_sessions ≤ k.made) c.self.view_is (connect-many (kept_of c.self.inside.keeping) is.apart is.below (sym c.in_ok-number.ensures.number ∙ c.in_default.is))
+    subst (λ (k : KeptHub). max_sessions ≤ k.numbers_given) c.self.view_is (connect-many (kept_of c.self.inside.keeping) is.apart is.below (sym c.in_ok-number.ensures.number ∙ c.in_default.is))
 
 pub invariant_of-self-2 : goal.invariant_of-self-2
 invariant_of-self-2 c =

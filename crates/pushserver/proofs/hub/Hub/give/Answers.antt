@@ -2,8 +2,8 @@
 use Rattle.std.proofs.Common.{length, sym, subst}
 use Rattle.pushserver.specs.Counting.{MayAddChange}
 use Rattle.pushserver.specs.Giving.{give}
-use Rattle.pushserver.specs.KeptHubs.{kept_of}
-use Rattle.pushserver.specs.Rule.{KeptHub}
+use Rattle.pushserver.specs.Keeping.{kept_of}
+use Rattle.pushserver.specs.KeptHubs.{KeptHub}
 use Rattle.pushserver.proofs.AddedEntries.{give-adds}
 use Rattle.pushserver.proofs.GiveSteps.{on_each_err, wants-plain}
 use Rattle.pushserver.proofs.Soundness.{sound}

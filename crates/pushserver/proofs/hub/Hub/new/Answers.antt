@@ -1,8 +1,8 @@
 -- What is kept at first stands for a new hub.
 use Rattle.std.proofs.Common.{sym, subst}
 use Rattle.history.specs.Keeping.{state_of}
-use Rattle.pushserver.specs.Sessions.{new_hub}
-use Rattle.pushserver.specs.Rule.{KeptHub, StandsFor}
+use Rattle.pushserver.specs.PlainHubs.{new_hub}
+use Rattle.pushserver.specs.KeptHubs.{KeptHub, StandsFor}
 use Rattle.pushserver.proofs.Soundness.{named_states}
 use Rattle.pushserver.proofs.told_rows.Hubs.{new_stands}
 use Rattle.pushserver.proofs.hub.Hub.new.Goals as goal

@@ -1,6 +1,6 @@
 -- The session is as it was, but for the names that wait since the update.
 use Rattle.pushsession.specs.Requests.{message_of}
-use Rattle.pushserver.specs.KeptHubs.{kept_of}
+use Rattle.pushserver.specs.Keeping.{kept_of}
 use Rattle.pushserver.proofs.JudgedTurns.{ready-output, ready-request, ready-found, update-gave}
 use Rattle.pushserver.proofs.GiveSteps.{on_some}
 use Rattle.pushserver.proofs.keeping.Keeping.answer_update.Goals as goal

@@ -5,8 +5,8 @@ use Rattle.zoneupdate.proofs.Plans.{HaveLowerKeys}
 use Rattle.history.specs.Keeping.{records_now}
 use Rattle.pushsession.specs.Kept.{taken_back}
 use Rattle.pushserver.specs.Hubs.{all_sessions}
-use Rattle.pushserver.specs.KeptHubs.{entry_changes, kept_of}
-use Rattle.pushserver.specs.Seats.{WaitBefore}
+use Rattle.pushserver.specs.Keeping.{entry_changes, kept_of}
+use Rattle.pushserver.specs.NumberedSessions.{WaitBefore}
 use Rattle.pushserver.proofs.EntrySteps.{entry-lower, entry-rows, on_is_err, on_not_err}
 use Rattle.pushserver.proofs.Noting.{all_back-noted, all_back-kept}
 use Rattle.pushserver.proofs.keeping.Keeping.enter.Goals as goal
@@ -18,7 +18,7 @@ returns-then-is_err-clause-err c =
     c.take_back.ensures ∙ ap (all_sessions (taken_back c.point-point.result)) c.in_ok-note.ensures.ok
     ∙ all_back-noted c.as_slice-2.result.now c.reserve.new.self.rows c.point-point.result c.args.self.now.sessions
     ∙ all_back-kept c.point-point.result c.args.self.now.sessions (subst (λ (n : ℕ). WaitBefore n c.args.self.now.sessions) (sym c.point-point.ensures) c.requires.sound.waiting) in
-    λ i. record { start = (past i).start; timers = c.args.self.now.timers; history = (past i).history; sessions = sessions i; made = c.args.self.now.made }
+    λ i. record { start = (past i).start; timers = c.args.self.now.timers; history = (past i).history; sessions = sessions i; numbers_given = c.args.self.now.numbers_given }
 
 pub make_changes-requires-clause-lower : goal.make_changes-requires-clause-lower
 make_changes-requires-clause-lower c = subst HaveLowerKeys (sym (c.into_vec.ensures ∙ c.requires.changes)) (entry-lower c.args.self.now.points.past c.args.entry c.requires.sound.home)

@@ -4,7 +4,7 @@ use Rattle.std.specs.Prelude.{IfOk, OnErr}
 use Rattle.pushsession.specs.Kept.{KeptSession}
 use Rattle.pushserver.specs.Hubs.{Numbered}
 use Rattle.pushserver.specs.Giving.{give}
-use Rattle.pushserver.specs.KeptHubs.{kept_of, Gave, IsSound, IsToJudge}
+use Rattle.pushserver.specs.Keeping.{kept_of, Gave, IsSound, IsToJudge}
 use Rattle.pushserver.proofs.GiveSteps.{on_some, on_each_err, seat-of, as_before, did-gave, to-judge, judge-wants}
 use Rattle.pushserver.proofs.keeping.Keeping.give.Goals as goal
 

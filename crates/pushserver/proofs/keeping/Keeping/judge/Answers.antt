@@ -1,6 +1,6 @@
 -- An update that is accepted and entered.
 use Rattle.std.proofs.Common.{sym, ◌∙◌}
-use Rattle.pushserver.specs.KeptHubs.{kept_of}
+use Rattle.pushserver.specs.Keeping.{kept_of}
 use Rattle.pushserver.proofs.EntrySteps.{judged-entered}
 use Rattle.pushserver.proofs.keeping.Keeping.judge.Goals as goal
 

@@ -1,6 +1,6 @@
 -- A later moment is entered, and then it is one for each session.
 use Rattle.std.proofs.Common.{sym, ◌∙◌}
-use Rattle.pushserver.specs.KeptHubs.{kept_of}
+use Rattle.pushserver.specs.Keeping.{kept_of}
 use Rattle.pushserver.proofs.EntrySteps.{moment-entered}
 use Rattle.pushserver.proofs.keeping.Keeping.moment.Goals as goal
 

@@ -3,7 +3,7 @@ use Rattle.std.proofs.Common.{ap, ◌∙◌}
 use Rattle.pushsession.specs.Kept.{KeptSession}
 use Rattle.pushsession.specs.Sessions.{asked_to_stop}
 use Rattle.pushserver.specs.Hubs.{Numbered}
-use Rattle.pushserver.specs.KeptHubs.{kept_of}
+use Rattle.pushserver.specs.Keeping.{kept_of}
 use Rattle.pushserver.proofs.GiveSteps.{on_some, lent-changed, absent}
 use Rattle.pushserver.proofs.keeping.Keeping.stop.Goals as goal
 

@@ -3,7 +3,7 @@ use Rattle.std.proofs.Common.{ap, ◌∙◌}
 use Rattle.pushsession.specs.Kept.{KeptSession}
 use Rattle.pushsession.specs.Sessions.{takes}
 use Rattle.pushserver.specs.Hubs.{Numbered}
-use Rattle.pushserver.specs.KeptHubs.{kept_of}
+use Rattle.pushserver.specs.Keeping.{kept_of}
 use Rattle.pushserver.proofs.GiveSteps.{on_some, lent-changed, absent, taken-some, taken-none}
 use Rattle.pushserver.proofs.keeping.Keeping.take.Goals as goal
 

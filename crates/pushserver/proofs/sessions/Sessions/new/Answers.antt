@@ -3,7 +3,7 @@ use Rattle.std.proofs.Common.{ℕ, sym, subst}
 use Rattle.std.specs.Prelude.{◌==◌}
 use Rattle.rrset.proofs.Distinct.{distinct_none}
 use Rattle.pushsession.specs.Kept.{KeptSession}
-use Rattle.pushserver.specs.Seats.{AreApart}
+use Rattle.pushserver.specs.NumberedSessions.{AreApart}
 use Rattle.pushserver.proofs.sessions.Sessions.new.Goals as goal
 
 pub invariant_of-result : goal.invariant_of-result

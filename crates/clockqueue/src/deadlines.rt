@@ -1,0 +1,174 @@
+//! A finite map from keys to moments, kept in the order in which the keys fall due.
+
+ghost use Rattle.std.specs.Prelude.{◌≡◌, ◌≤◌, ◌+◌, ◌⊎◌, [], Some, None, MatchOption, IsOk, IsTrue, OnOk, OnErr, is_some, option_map, slice_get, find, position, drop, if◌then◌else◌};
+ghost use Rattle.std.specs.Result.{IfOk, IfErr};
+ghost use Rattle.clockqueue.specs.Deadlines.{AreDeadlines, due_cmp, is_of, is_set_to, moment_of, without, with_deadline, due, first_moment};
+ghost use Rattle.clockqueue.specs.Places.{IsAt, IsGapFor};
+
+use crate::NoMemory;
+use std::alloc::Global;
+use std::cmp::Ordering;
+use std::marker::Model;
+
+/// Moments in milliseconds, one for each key: a finite map from keys to moments, listed by moment and then by key. It
+/// has room for a number of further keys.
+///
+/// It is kept as a vector in the order in which the keys fall due. `add` and `take_at`, which know the moment, find its
+/// place by halving; `set` and `drop_key` look at each key. What lies behind a place moves where a deadline comes or goes.
+#[derive(Debug, Drop)]
+pub struct Deadlines<K: Ord> {
+    entries: Vec<(u64, K)>,
+}
+
+impl<K: Ord> Model for Deadlines<K> {
+    ghost use Rattle.std.specs.Prelude.{◌-◌};
+    ghost use Rattle.std.specs.Vec.{vec_len, vec_capacity};
+    ghost use Rattle.clockqueue.specs.Deadlines.{DeadlinesState, AreDeadlines};
+
+    ghost Value = { DeadlinesState K };
+
+    ghost view = { λ d. record { deadlines = d.entries.items; spare = vec_capacity d.entries - vec_len d.entries } };
+
+    ghost invariant = { λ d. AreDeadlines K.cmp d.entries.items };
+}
+
+/// How a deadline stands to a moment and a key: by moment, and then by key.
+fn compare<K: Ord>(deadline: &(u64, K), moment: u64, key: &K) -> Ordering
+    ensures { result ≡ due_cmp K.cmp deadline.now (moment, key.now) }
+{
+    deadline.0.cmp(&moment).then(deadline.1.cmp(key))
+}
+
+/// Where a deadline is, or where it would go.
+fn search<K: Ord>(entries: &[(u64, K)], moment: u64, key: &K) -> Result<usize, usize>
+    requires { AreDeadlines K.cmp entries.now }
+    ensures found { IfOk result (IsAt K.cmp moment key.now entries.now) }
+    ensures absent { IfErr result (IsGapFor K.cmp moment key.now entries.now) }
+{
+    entries.binary_search_by(|deadline| compare(deadline, moment, key))
+}
+
+/// Where a key's deadline is.
+fn position<K: Ord>(entries: &[(u64, K)], key: &K) -> Option<usize>
+    ensures { result ≡ position (is_of K.cmp key.now) entries.now }
+{
+    entries
+        .iter()
+        .position(|deadline| deadline.1.cmp(key).is_eq())
+}
+
+impl<K: Ord + Drop> Deadlines<K> {
+    /// No deadlines.
+    pub fn new(alloc: Global) -> Self
+        ensures { result.deadlines ≡ [] }
+    {
+        Deadlines {
+            entries: Vec::new(alloc),
+        }
+    }
+
+    /// Makes room for so many further keys. Where memory runs out the deadlines and the room stay.
+    pub fn reserve(&mut self, keys: usize) -> Result<(), NoMemory>
+        ensures deadlines { self.new.deadlines ≡ self.old.deadlines }
+        ensures room { OnOk result (keys ≤ self.new.spare) }
+        ensures kept { self.old.spare ≤ self.new.spare }
+    {
+        self.entries.reserve(keys)
+    }
+
+    /// Gives a key this moment in place of any that it had. It takes no memory where the key is there, or there is room
+    /// for one more; where memory runs out the deadlines stay as they were.
+    pub fn set(&mut self, key: K, moment: u64) -> Result<(), NoMemory>
+        ensures deadlines { OnOk result (self.new.deadlines ≡ with_deadline K.cmp key moment self.old.deadlines) }
+        ensures none { OnErr result (self.new.deadlines ≡ self.old.deadlines) }
+        ensures succeeds { (1 ≤ self.old.spare) ⊎ IsTrue (is_some (moment_of K.cmp key self.old.deadlines)) → IsOk result }
+        ensures room { self.old.spare ≤ self.new.spare + 1 }
+        ensures kept { IsTrue (is_some (moment_of K.cmp key self.old.deadlines)) → self.old.spare ≤ self.new.spare }
+    {
+        self.drop_key(&key);
+        self.add(key, moment)
+    }
+
+    /// Gives a new key this moment. It takes no memory where there is room for one more; where memory runs out the
+    /// deadlines stay as they were.
+    pub fn add(&mut self, key: K, moment: u64) -> Result<(), NoMemory>
+        requires { moment_of K.cmp key self.old.deadlines ≡ None }
+        ensures deadlines { OnOk result (self.new.deadlines ≡ with_deadline K.cmp key moment self.old.deadlines) }
+        ensures none { OnErr result (self.new.deadlines ≡ self.old.deadlines) }
+        ensures succeeds { 1 ≤ self.old.spare → IsOk result }
+        ensures room { self.old.spare ≤ self.new.spare + 1 }
+    {
+        match search(&self.entries, moment, &key) {
+            Err(index) => Ok(self.entries.insert(index, (moment, key))?),
+            Ok(_) => unreachable!(),
+        }
+    }
+
+    /// Takes a key out. False exactly where it isn't there.
+    pub fn drop_key(&mut self, key: &K) -> bool
+        ensures there { result ≡ is_some (moment_of K.cmp key.now self.old.deadlines) }
+        ensures deadlines { self.new.deadlines ≡ without K.cmp key.now self.old.deadlines }
+        ensures room { IsTrue result → self.old.spare + 1 ≤ self.new.spare }
+        ensures kept { self.old.spare ≤ self.new.spare }
+    {
+        match position(&self.entries, key) {
+            Some(index) => {
+                self.entries.remove(index);
+                true
+            }
+            None => false,
+        }
+    }
+
+    /// Takes a key out that has this moment, and gives it. Nothing, and no change, where it isn't there or has another.
+    pub fn take_at(&mut self, key: &K, moment: u64) -> Option<K>
+        ensures key { result ≡ option_map (λ d. d.1) (find (is_set_to K.cmp key.now moment) self.old.deadlines) }
+        ensures deadlines { self.new.deadlines ≡ (if is_some result then without K.cmp key.now self.old.deadlines else self.old.deadlines) }
+        ensures room { IsTrue (is_some result) → self.old.spare + 1 ≤ self.new.spare }
+        ensures kept { self.old.spare ≤ self.new.spare }
+    {
+        match search(&self.entries, moment, key) {
+            Ok(index) => {
+                let (_, key) = self.entries.remove(index);
+                Some(key)
+            }
+            Err(_) => None,
+        }
+    }
+
+    /// Takes out the key with the least moment, the least of several keys, where that moment is `moment` or before it,
+    /// and gives it. Nothing exactly where no key is due.
+    pub fn take_due(&mut self, moment: u64) -> Option<K>
+        ensures key { result ≡ option_map (λ d. d.1) (slice_get (due moment self.old.deadlines) 0) }
+        ensures deadlines { self.new.deadlines ≡ (if is_some result then drop 1 self.old.deadlines else self.old.deadlines) }
+        ensures room { IsTrue (is_some result) → self.old.spare + 1 ≤ self.new.spare }
+        ensures kept { self.old.spare ≤ self.new.spare }
+    {
+        let first = self.entries.first()?;
+        if first.0 > moment {
+            return None;
+        }
+        let (_, key) = self.entries.remove(0);
+        Some(key)
+    }
+
+    /// The key that is due by `moment` with this number, counted from 0 in the order of `take_due`. Nothing exactly
+    /// where no more than so many are due.
+    pub fn due(&self, moment: u64, number: usize) -> Option<&K>
+        ensures { MatchOption result (slice_get (due moment self.now.deadlines) number ≡ None) (λ key. option_map (λ d. d.1) (slice_get (due moment self.now.deadlines) number) ≡ Some key.now) }
+    {
+        let deadline = self.entries.get(number)?;
+        if deadline.0 > moment {
+            return None;
+        }
+        Some(&deadline.1)
+    }
+
+    /// The least moment; nothing where there is no key.
+    pub fn next(&self) -> Option<u64>
+        ensures { result ≡ first_moment self.now.deadlines }
+    {
+        let first = self.entries.first()?;
+        Some(first.0)
+    }
+}

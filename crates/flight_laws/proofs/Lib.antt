@@ -1,0 +1,17 @@
+pub mod Passing
+pub mod Beginning
+pub mod TakenUp
+pub mod Counting
+pub mod Writing
+pub mod Taking
+pub mod Ending
+pub mod Mapped
+pub mod TakingPushes
+pub mod FirstFits
+pub mod Dropping
+pub mod Replaced
+pub mod Refusals
+pub mod Ended
+pub mod Accepting
+pub mod Forgotten
+pub mod Along

@@ -1,0 +1,4 @@
+pub mod Messages
+pub mod Ends
+pub mod Flight
+pub mod Worked

@@ -1,0 +1,9 @@
+-- The plain client's call.
+use Rattle.pushclient.proofs.Calls.{answered}
+use Rattle.pushclient.proofs.Hears.{heard_stands}
+use Rattle.pushclient.specs.Hearing.{kept_heard}
+use Rattle.pushclient.specs.Steps.{step}
+use Rattle.pushclient.proofs.client.Client.step.Goals as goal
+
+pub returns-clause-ok : goal.returns-clause-ok
+returns-clause-ok c = answered kept_heard step heard_stands c.args.self.now c.self.inside.keeping c.step.new.self c.in_ok-step.field-0 c.self.view_is c.in_ok-step.ensures.told c.in_ok-step.ensures.ok

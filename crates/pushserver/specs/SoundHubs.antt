@@ -1,0 +1,47 @@
+-- What holds of each plain hub to which calls of the server lead.
+--     IsSoundHub hub      of the hub
+--     IsSoundSession hub numbered      of a session in it
+use Rattle.std.specs.Prelude.{◌≡◌, ℕ, ◌<◌, ◌≤◌, ◌==◌, [], length, IsTrue, IsSome}
+use Rattle.std.specs.List.{AllByRecursion, IsDistinct}
+use Rattle.push_base.specs.Limits.{max_questions, max_input}
+use Rattle.dnsname.specs.Names.{same_name}
+use Rattle.rrset.specs.Records.{same_question}
+use Rattle.dsotlv.specs.Laws.{AreOctets}
+use Rattle.coalesce.specs.Sides.{frame_octets}
+use Rattle.history.specs.Plans.{IsStart}
+use Rattle.history.specs.States.{State, home_of, state_at}
+use Rattle.pushsession.specs.Subscribing.{is_served}
+use Rattle.pushserver.specs.Hubs.{newest, state_now, max_sessions}
+use Rattle.pushserver.specs.Rows.{IsTellable}
+use Rattle.pushserver.specs.PlainHubs.{Hub, Session, Subscription, Queue}
+
+-- the points of names that wait are of the past
+abbrev pub ArePast : ℕ → Queue → Type 0
+ArePast newest queue = AllByRecursion (λ e. e.1 < newest) queue
+
+-- a question of a class that is served, whose name has a home
+abbrev pub HasHome : State → Subscription → Type 0
+HasHome state s = IsTrue (is_served s.question.class) × IsSome (home_of state s.question.name)
+
+-- its number was given out; each name waits once, since a point of the past; no ID and no question is there twice, and each
+-- has a home; what came are octets, and what came and what waits to go are within bounds
+pub record IsSoundSession (hub : Hub) (numbered : ℕ × Session) : Type 0 where
+  pub below : numbered.0 < hub.numbers_given
+  pub points : ArePast (newest hub) numbered.1.queue
+  pub names : IsDistinct (λ d e. same_name e.0 d.0) numbered.1.queue
+  pub few : length numbered.1.subscriptions ≤ max_questions
+  pub ids : IsDistinct (λ s t. s.id == t.id) numbered.1.subscriptions
+  pub questions : IsDistinct (λ s t. same_question s.question t.question) numbered.1.subscriptions
+  pub homes : AllByRecursion (HasHome (state_now hub)) numbered.1.subscriptions
+  pub octets : AreOctets numbered.1.input
+  pub input_fits : length numbered.1.input ≤ max_input
+  pub output_fits : length numbered.1.output ≤ frame_octets
+
+-- it began with zones and without links, and what it has at each point can be told; no number is there twice, and there are not too many sessions
+pub record IsSoundHub (hub : Hub) : Type 0 where
+  pub begins : IsStart hub.start
+  pub links : hub.start.links ≡ []
+  pub states : (point : ℕ) → point ≤ newest hub → IsTellable (state_at hub.start hub.history point)
+  pub sessions : AllByRecursion (IsSoundSession hub) hub.sessions
+  pub numbers : IsDistinct (λ d e. d.0 == e.0) hub.sessions
+  pub few : length hub.sessions ≤ max_sessions
