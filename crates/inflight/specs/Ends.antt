@@ -1,24 +1,23 @@
 -- What both ends of a connection know, and what each of them has to know of a message.
---     BothEnds, ends_of      what both ends know, without the octets under way
+--     BothEnds, ends_of      what either end knows, without the octets under way
 --     used_ids, unanswered_ids      the client's IDs
 --     all_taken_up      what is active after messages are taken, or nothing where one is refused or ends the session
-use Rattle.std.specs.Prelude.{ℕ, Bool, true, false, not, ◌&&◌, ◌||◌, List, [], ◌∷◌, ◌++◌, map, length, filter, find, flat_map, count_by, Option, Some, None, is_some, nat_le, ◌==◌, option_map, option_to_list, if◌then◌else◌}
+use Rattle.std.specs.Prelude.{ℕ, Bool, true, false, not, ◌&&◌, ◌||◌, List, [], ◌∷◌, ◌++◌, map, length, filter, find, flat_map, count_by, Option, Some, None, nat_le, ◌==◌, option_map, option_to_list, if◌then◌else◌}
 use Rattle.std.specs.List.{list_any}
 use Rattle.push_base.specs.Limits.{max_questions}
 use Rattle.dnsname.specs.Names.{is_name}
 use Rattle.rrset.specs.Records.{same_question}
 use Rattle.rrset.specs.declared.record.Question.{Question}
 use Rattle.dsosession.specs.declared.session.Timers.{Timers}
-use Rattle.history.specs.States.{home_of}
 use Rattle.pushsession.specs.Sessions.{is_open}
-use Rattle.pushsession.specs.Subscribing.{is_served}
+use Rattle.pushserver.specs.Giving.{is_served_at}
 use Rattle.pushserver.specs.PlainHubs.{Session, Subscription, Made, Hub}
 use Rattle.pushclient.specs.Clients.{Client, Connection, Wish, RequestState, not_asked, unanswered, answered, reconfirm_message}
 use Rattle.inflight.specs.Messages.{ClientMessage, subscribes, unsubscribes, reconfirms, requests_keepalive}
 use Rattle.pushclient.specs.ServerMessages.{ServerMessage, accepts, refuses, grants}
 use Rattle.pushclient.specs.Steps.{is_unanswered}
 
--- what both ends of a connection know, without the octets under way
+-- what either end of a connection knows, without the octets under way
 pub record BothEnds : Type 0 where
   -- the server: the numbers that it grants, and the questions that it serves
   pub timers : Timers
@@ -36,14 +35,10 @@ pub record BothEnds : Type 0 where
   -- with the octets that were handed out it was told behind how many of them the first answer of a subscription ends
   pub told : List (ℕ × ℕ)
 
--- a name with a home, which no entry changes, and a class that is served
-abbrev pub serves_question : Hub → Question → Bool
-serves_question hub question = is_served question.class && is_some (home_of hub.start question.name)
-
 abbrev pub ends_of : Hub → List (ℕ × ℕ) → Session → Client → Connection → BothEnds
 ends_of hub told session client c = record {
   timers = hub.timers;
-  serves = serves_question hub;
+  serves = is_served_at hub.start;
   made = session.made;
   subscriptions = session.subscriptions;
   established = session.established;

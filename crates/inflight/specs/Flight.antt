@@ -1,4 +1,4 @@
--- What is under way between a client and its session, both ways: an invariant on lists, which every step keeps.
+-- What is under way between a client and its session, both ways: an invariant on lists, which steps are to keep. The crate flight_laws has those that are proved.
 --     InFlight ends up down      whole messages are under way, and they fit what both ends know
 --     FitsTogether ends taken flying ups      the same over messages
 --     FirstAnswersEnd session      the first answers end where messages do
@@ -112,7 +112,7 @@ pub record Upward (e : BothEnds) (flying : List Flying) (ups : List ClientMessag
   pub let_go_once : (id : ℕ) → count_of id (unsubscribed_ids ups) ≤ 1
   pub held : AllByRecursion (λ w. IsTrue (is_held_active e w)) e.wishes
   pub active : AllByRecursion (λ s. IsTrue (is_accounted_for e flying ups s)) e.subscriptions
-  -- no request on its way up is refused for another cause than its home, and none ends the session
+  -- no request on its way up is refused for another cause than its home or its class, and none ends the session
   pub accepted : IsSome (all_taken_up e.established (ids_and_questions e.subscriptions) ups)
   -- a Retry Delay is the last word of a session (RFC 8490, 6.6.1)
   pub no_delay : AllByRecursion (λ f. IsTrue (not (is_delay f.says))) flying

@@ -15,17 +15,14 @@ use Rattle.push_base.specs.Limits.{max_number}
 use Rattle.rrset.specs.declared.record.Key.{Key}
 use Rattle.rrset.specs.declared.record.Rr.{Rr}
 use Rattle.dnswire.specs.declared.message.Update.{Update}
-use Rattle.dsotlv.specs.Messages.{first_message, head_of}
-use Rattle.dsotlv.specs.declared.message.DsoHead.{DsoHead}
-use Rattle.dsosession.specs.Reactions.{server_reaction}
-use Rattle.dsosession.specs.declared.session.Reaction.{Reaction}
+use Rattle.dsotlv.specs.Messages.{first_message}
 use Rattle.history.specs.States.{accepts, reconfirm_key, verdict}
 use Rattle.history.specs.Totals.{is_change, is_hearing, is_moment, totals}
 use Rattle.history.specs.declared.entry.Entry.{Entry}
 use Rattle.history.specs.declared.entry.Entry.TheVariants as entries
 use Rattle.pushsession.specs.Kept.{KeptSession}
+use Rattle.pushsession.specs.Reactions.{request_in}
 use Rattle.pushsession.specs.Sessions.{SessionOf}
-use Rattle.pushsession.specs.Reactions.{request_for}
 use Rattle.pushsession.specs.declared.request.Request.{Request}
 use Rattle.pushsession.specs.declared.request.Request.TheVariants as requests
 use Rattle.pushsession.specs.declared.standing.Standing.{Standing}
@@ -39,7 +36,7 @@ use Rattle.pushserver.specs.declared.given.Given.{Given}
 use Rattle.pushserver.specs.declared.given.Given.TheVariants.{Worked, Nothing}
 use Rattle.pushserver.proofs.SessionLists.{same-number}
 use Rattle.pushserver.proofs.Walks.{with_new}
-use Rattle.pushserver.proofs.hub_steps.Cases.{enters_update, update_as, enters_moment, moment_as, key_as, session_as, head_as, copies_as, found_as, works_as, output_as, give_as}
+use Rattle.pushserver.proofs.hub_steps.Cases.{enters_update, update_as, enters_moment, moment_as, key_as, session_as, copies_as, found_as, works_as, output_as, give_as}
 
 -- ---- one entry more
 
@@ -94,22 +91,18 @@ module _ {A Q M : Type 0} {kind : SessionKind A Q M} (number room : ℕ) where
       by None = (refl, inl refl)
       by (Some rr) = by_key (reconfirm_key (state_now hub) rr)
 
-  adds-request : (hub : HubOf kind) (message : List ℕ) (r : Reaction) (q : Request) → MayAddChange hub (by_request q r number message hub)
-  adds-request hub message r requests.Update = adds-update hub message
-  adds-request hub message r (requests.Reconfirm rr) = adds-reconfirm hub rr
-  adds-request hub message r (requests.Subscribe question) = (refl, inl refl)
-  adds-request hub message r requests.Itself = (refl, inl refl)
+  adds-request : (hub : HubOf kind) (message : List ℕ) (q : Request) → MayAddChange hub (by_request q number message hub)
+  adds-request hub message requests.Update = adds-update hub message
+  adds-request hub message (requests.Reconfirm rr) = adds-reconfirm hub rr
+  adds-request hub message (requests.Subscribe question) = (refl, inl refl)
+  adds-request hub message requests.Itself = (refl, inl refl)
 
   adds-message : (hub : HubOf kind) (message : List ℕ) → MayAddChange hub (reacted message number hub)
-  adds-message hub message = by (head_of message)
+  adds-message hub message = by (session_of hub number)
     where
-      by_session : (head : DsoHead) (o : Option (SessionOf A Q M)) → MayAddChange hub (session_as hub number message head o)
-      by_session head None = (refl, inl refl)
-      by_session head (Some session) = adds-request _ message (server_reaction head session.established) (request_for (server_reaction head session.established) message)
-
-      by : (o : Option DsoHead) → MayAddChange hub (head_as hub number message o)
+      by : (o : Option (SessionOf A Q M)) → MayAddChange hub (session_as hub number message o)
       by None = (refl, inl refl)
-      by (Some head) = by_session head (session_of hub number)
+      by (Some session) = adds-request _ message (request_in message session.established)
 
   -- octets that are handed on add nothing
   adds-found : (hub later : HubOf kind) (none : Given) (given : Standing → Given) (o : Option (SessionOf A Q M)) → MayAddChange hub later → MayAddChange hub (found_as later number room none given o).hub

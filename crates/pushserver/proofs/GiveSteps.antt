@@ -3,15 +3,10 @@ use Rattle.std.proofs.Common.{◌≡◌, ℕ, Bool, true, false, cond, min, List
 use Rattle.std.specs.Option.{OnSome}
 use Rattle.std.specs.Prelude.{◌==◌, find, option_map, OnErr}
 use Rattle.dnswire.specs.declared.message.Update.{Update}
-use Rattle.dsotlv.specs.Messages.{first_message, head_of}
-use Rattle.dsotlv.specs.declared.message.DsoHead.{DsoHead}
-use Rattle.dsosession.specs.Reactions.{server_reaction}
+use Rattle.dsotlv.specs.Messages.{first_message}
 use Rattle.pushsession.specs.Kept.{KeptSession}
-use Rattle.pushsession.specs.declared.request.Request.{Request}
 use Rattle.pushsession.specs.Sessions.{room_of}
-use Rattle.pushsession.specs.Reactions.{TakesMemory, request_for}
-use Rattle.pushsession.specs.Requests.{request_in}
-use Rattle.pushsession.specs.declared.request.Request.TheVariants as requests
+use Rattle.pushsession.specs.Reactions.{TakesMemory, request_in}
 use Rattle.pushserver.specs.PlainHubs.{Hub}
 use Rattle.pushserver.specs.Laws.{MayWantMemory}
 use Rattle.pushserver.specs.Hubs.{Numbered, session_in, in_sessions, taken_by}
@@ -102,11 +97,6 @@ wants-plain k hub number wanted stands = by (first_message s.input) refl wanted.
     s : KeptSession
     s = wanted.session
 
-    by_head : (found : List ℕ × List ℕ) → first_message s.input ≡ Some found → (o : Option DsoHead) → head_of found.0 ≡ o
-        → TakesMemory (Some (elim o as (λ _. Request) [ None ↦ requests.Itself | Some head ↦ request_for (server_reaction head s.established) found.0 ])) → MayWantMemory hub number
-    by_head found waits None whole takes = absurd takes
-    by_head found waits (Some head) whole takes = may-want k hub number s found head stands wanted.there wanted.wants.live wanted.wants.silent waits whole takes
-
     by : (o : Option (List ℕ × List ℕ)) → first_message s.input ≡ o → TakesMemory (option_map (λ message. request_in message s.established) (option_map (λ (f : List ℕ × List ℕ). f.0) o)) → MayWantMemory hub number
     by None waits takes = absurd takes
-    by (Some found) waits takes = by_head found waits (head_of found.0) refl takes
+    by (Some found) waits takes = may-want k hub number s found stands wanted.there wanted.wants.live wanted.wants.silent waits takes

@@ -8,26 +8,25 @@ use Rattle.dnswire.specs.declared.message.Update.{Update}
 use Rattle.dsotlv.specs.Messages.{first_message, head_of}
 use Rattle.dsotlv.specs.declared.message.DsoHead.{DsoHead}
 use Rattle.coalesce.specs.Waiting.{WaitingName}
-use Rattle.dsosession.specs.Reactions.{server_reaction}
+use Rattle.dsosession.specs.Timing.{Clocks, restarted}
 use Rattle.history.specs.States.{verdict}
 use Rattle.history.specs.declared.entry.Entry.{Entry}
 use Rattle.history.specs.declared.entry.Entry.TheVariants as entries
 use Rattle.dsotlv.specs.Answers.{answer_to_update}
 use Rattle.pushsession.specs.Sessions.{noted, answers}
 use Rattle.pushsession.specs.Kept.{KeptSession, keeping}
-use Rattle.pushsession.specs.Requests.{message_of, taken_up, request_of, updated}
-use Rattle.pushsession.specs.Reactions.{request_for}
-use Rattle.pushsession.specs.declared.request.Request.{Request}
+use Rattle.pushsession.specs.Requests.{message_of, request_of, updated}
+use Rattle.pushsession.specs.Reactions.{restarted_by}
 use Rattle.pushsession.specs.declared.request.Request.TheVariants as requests
 use Rattle.pushsession.specs.declared.standing.Standing.TheVariants.{Live}
 use Rattle.pushserver.specs.Hubs.{Numbered, session_in, in_sessions, all_sessions, newest, now, state_now, records_now, in_session, entered, can_enter, update}
-use Rattle.pushserver.specs.Giving.{given_after, after_reaction, copies_or, by_request, updates, give}
+use Rattle.pushserver.specs.Giving.{given_after, after_reaction, copies_or, updates, give}
 use Rattle.pushserver.specs.KeptHubs.{KeptHub}
 use Rattle.pushserver.specs.Keeping.{Gave, entry_changes}
 use Rattle.pushserver.specs.NumberedSessions.{AreApart}
 use Rattle.pushserver.specs.declared.given.Given.{Given}
 use Rattle.pushserver.proofs.SessionLists.{found-all, in-fused}
-use Rattle.pushserver.proofs.hub_steps.Cases.{enters_update, update_as}
+use Rattle.pushserver.proofs.hub_steps.Cases.{enters_update, update_as, clocks_as}
 use Rattle.pushserver.proofs.SessionTurns as turns
 use Rattle.pushserver.proofs.SessionTurns.{HandsOn, gave-as}
 
@@ -77,8 +76,8 @@ update-in number f turned k message = by (verdict (state_now k) message)
 
 module _ (number : ℕ) (k : KeptHub) (s : KeptSession) (there : session_in number k.sessions ≡ Some s) (apart : AreApart k.sessions) (live : s.standing ≡ Live) (silent : s.output ≡ []) (first : List ℕ × List ℕ) (waits : first_message s.input ≡ Some first) where
   -- the message leaves the input, and restarts the timers
-  abbrev lifted : DsoHead → KeptSession → KeptSession
-  lifted head x = record x { input = first.1; clocks = turns.clocks_as number k s there apart live silent first waits (now k) (Some head) }
+  abbrev lifted : KeptSession → KeptSession
+  lifted x = record x { input = first.1; clocks = (restarted_by first.0 (now k) s).clocks }
 
   abbrev answers_to : KeptHub → ℕ → KeptSession → KeptSession
   answers_to later code x = answers keeping false (now later) (answer_to_update (id_of first.0) code) x
@@ -86,18 +85,16 @@ module _ (number : ℕ) (k : KeptHub) (s : KeptSession) (there : session_in numb
   abbrev judged : ℕ × KeptHub
   judged = update k first.0
 
-  updates-is : (head : DsoHead) → updates number first.0 (in_session number (lifted head) k) ≡ in_session number (λ x. answers_to judged.1 judged.0 (lifted head x)) judged.1
-  updates-is head =
-      ap (λ (j : ℕ × KeptHub). in_session number (answers_to j.1 j.0) j.1) (update-in number (lifted head) (λ entry k s. refl) k first.0)
-      ∙ ap (λ (xs : Numbered KeptSession). record judged.1 { sessions = xs }) (in-fused number (answers_to judged.1 judged.0) (lifted head) judged.1.sessions)
+  updates-is : updates number first.0 (in_session number lifted k) ≡ in_session number (λ x. answers_to judged.1 judged.0 (lifted x)) judged.1
+  updates-is =
+      ap (λ (j : ℕ × KeptHub). in_session number (answers_to j.1 j.0) j.1) (update-in number lifted (λ entry k s. refl) k first.0)
+      ∙ ap (λ (xs : Numbered KeptSession). record judged.1 { sessions = xs }) (in-fused number (answers_to judged.1 judged.0) lifted judged.1.sessions)
 
-  message-is : (head : DsoHead) → head_of first.0 ≡ Some head → request_for (server_reaction head s.established) first.0 ≡ requests.Update
-      → turns.after_message number k s there apart live silent first waits ≡ in_session number (λ x. answers_to judged.1 judged.0 (lifted head x)) judged.1
-  message-is head whole is =
-      turns.with_head number k s there apart live silent first waits head whole
-      ∙ ap (λ (q : Request). by_request q (server_reaction head s.established) number first.0 (turns.becomes number k s there apart (taken_up (now k) s))) is
-      ∙ ap (updates number first.0) (ap (turns.becomes number k s there apart) (turns.taken-is number k s there apart live silent first waits (now k) (Some head) whole) ∙ sym (turns.one number k s there apart (lifted head)))
-      ∙ updates-is head
+  message-is : request_of s ≡ Some requests.Update → turns.after_message number k s there apart live silent first waits ≡ in_session number (λ x. answers_to judged.1 judged.0 (lifted x)) judged.1
+  message-is is =
+      turns.after-request number k s there apart live silent first waits requests.Update is
+      ∙ ap (updates number first.0) (ap (turns.becomes number k s there apart) (turns.taken-is number k s there apart live silent first waits (now k)) ∙ sym (turns.one number k s there apart lifted))
+      ∙ updates-is
 
   -- the session behind the judging
   module _ (later : KeptHub) (code : ℕ) (later_is : later ≡ judged.1) (code_is : code ≡ judged.0) (s1 : KeptSession) (there1 : session_in number later.sessions ≡ Some s1) (apart1 : AreApart later.sessions) where
@@ -113,28 +110,36 @@ module _ (number : ℕ) (k : KeptHub) (s : KeptSession) (there : session_in numb
         by : Found judged.1 number s → SameButQueue s1
         by (q, at) = (q, some_same s1 (record s { queue = q }) (sym there1 ∙ ap (λ (h : KeptHub). session_in number h.sessions) later_is ∙ at))
 
-    answered-is : (head : DsoHead) → head_of first.0 ≡ Some head → (t : ℕ) → t ≡ now later → SameButQueue s1 → updated code t s1 ≡ answers_to later code (lifted head s1)
-    answered-is head whole t moment (q, same) =
-        subst (λ (x : KeptSession). updated code t x ≡ answers_to later code (lifted head x)) (sym same)
-        ((λ i. answers keeping false t (answer_to_update (id_of (turns.message-is number k s there apart live silent first waits i)) code) (record (turns.taken-is number k s there apart live silent first waits t (Some head) whole i) { queue = q }))
-        ∙ ap (λ n. answers keeping false n (answer_to_update (id_of first.0) code) (lifted head (record s { queue = q }))) moment)
+    -- whenever the message restarted the timers, they are those that the answer restarts
+    same_clocks : (t : ℕ) → restarted false t (restarted_by first.0 t s).clocks ≡ restarted false t (restarted_by first.0 (now k) s).clocks
+    same_clocks t = by (head_of first.0)
+      where
+        by : (o : Option DsoHead) → restarted false t (clocks_as t s.clocks o) ≡ restarted false t (clocks_as (now k) s.clocks o)
+        by None = refl
+        by (Some head) = refl
+
+    answered-is : (t : ℕ) → t ≡ now later → SameButQueue s1 → updated code t s1 ≡ answers_to later code (lifted s1)
+    answered-is t moment (q, same) =
+        subst (λ (x : KeptSession). updated code t x ≡ answers_to later code (lifted x)) (sym same)
+        ((λ i. answers keeping false t (answer_to_update (id_of (turns.message-is number k s there apart live silent first waits i)) code) (record (turns.taken-is number k s there apart live silent first waits t i) { queue = q }))
+        ∙ ap (λ (c : Clocks). record (answers keeping false t (answer_to_update (id_of first.0) code) (lifted (record s { queue = q }))) { clocks = c }) (same_clocks t)
+        ∙ ap (λ n. answers keeping false n (answer_to_update (id_of first.0) code) (lifted (record s { queue = q }))) moment)
 
     pub judged-gave : (t : ℕ) (r : Given) (old new : List ℕ) (mid s_now : KeptSession) (xs : Numbered KeptSession) → request_of s ≡ Some requests.Update → t ≡ now later → mid ≡ updated code t s1 → HandsOn mid (given_after mid.standing) r old new s_now
         → xs ≡ in_sessions number (λ _. s_now) later.sessions → Gave (give k number (length old)) r old new (record later { sessions = xs })
     judged-gave t r old new mid s_now xs is moment step on lent =
         subst (λ (l : Numbered KeptSession). Gave (give k number (length old)) r old new (record later { sessions = l })) (sym lent)
         (gave-as (give k number (length old)) (copies_or (given_after mid.standing) number (length old) mid (turns.becomes number later s1 there1 apart1 mid)) r old new (turns.becomes number later s1 there1 apart1 s_now)
-        (turns.give-live number k s there apart live silent (length old) (Some first) waits ∙ ap (after_reaction number (length old)) (by (head_of first.0) refl (turns.request-is number k s there apart live silent first waits requests.Update is))
+        (turns.give-live number k s there apart live silent (length old) (Some first) waits ∙ ap (after_reaction number (length old)) judged-is
         ∙ turns.reaction-is number later s1 there1 apart1 (length old) mid)
         (turns.hands number later s1 there1 apart1 (given_after mid.standing) r mid s_now old new on))
       where
-        by : (o : Option DsoHead) → head_of first.0 ≡ o → turns.request_as number k s there apart live silent first waits o ≡ requests.Update → turns.after_message number k s there apart live silent first waits ≡ turns.becomes number later s1 there1 apart1 mid
-        by None head is = cc
-        by (Some h) head is =
-            message-is h head is
-            ∙ (λ i. in_session number (λ x. answers_to (sym later_is i) (sym code_is i) (lifted h x)) (sym later_is i))
-            ∙ turns.one number later s1 there1 apart1 (λ x. answers_to later code (lifted h x))
-            ∙ ap (turns.becomes number later s1 there1 apart1) (sym (step ∙ answered-is h head t moment judged-session))
+        judged-is : turns.after_message number k s there apart live silent first waits ≡ turns.becomes number later s1 there1 apart1 mid
+        judged-is =
+            message-is is
+            ∙ (λ i. in_session number (λ x. answers_to (sym later_is i) (sym code_is i) (lifted x)) (sym later_is i))
+            ∙ turns.one number later s1 there1 apart1 (λ x. answers_to later code (lifted x))
+            ∙ ap (turns.becomes number later s1 there1 apart1) (sym (step ∙ answered-is t moment judged-session))
 
 -- ---- by the message that waits
 

@@ -11,29 +11,25 @@ use Rattle.rrset.specs.Header.{id_of}
 use Rattle.rrset.specs.RecordSet.{RecordSet}
 use Rattle.rrset.specs.declared.record.Rr.{Rr}
 use Rattle.rrset.specs.declared.record.Question.{Question}
-use Rattle.dsotlv.specs.Messages.{first_message, head_of}
+use Rattle.dsotlv.specs.Messages.{first_message}
 use Rattle.dsotlv.specs.TlvKinds.{reconfirm_tlv}
-use Rattle.dsotlv.specs.declared.message.DsoHead.{DsoHead}
-use Rattle.dsosession.specs.Reactions.{server_reaction}
-use Rattle.dsosession.specs.Timing.{Clocks}
 use Rattle.dsosession.specs.declared.session.EndReason.{EndReason}
 use Rattle.dsosession.specs.declared.session.EndReason.TheVariants as ends
 use Rattle.dsosession.specs.declared.session.Timers.{Timers}
-use Rattle.dsosession.specs.declared.session.Reaction.{Reaction}
 use Rattle.history.specs.Keeping.{Past, state_now as past_state}
 use Rattle.history.specs.Standing.{AreAtHome}
 use Rattle.pushsession.specs.Sessions.{copied, ended_with, stopped, without_first}
 use Rattle.pushsession.specs.Subscribing.{answered, packs}
-use Rattle.pushsession.specs.Reactions.{request_for, heard, by_itself}
+use Rattle.pushsession.specs.Reactions.{restarted_by, request_in, reacts_itself}
 use Rattle.pushsession.specs.Kept.{KeptSession, keeping, telling}
-use Rattle.pushsession.specs.Requests.{CanBeTold, message_of, taken_up, request_in, request_of, reacted, subscribed_by, reconfirmed}
+use Rattle.pushsession.specs.Requests.{CanBeTold, message_of, taken_up, request_of, reacted, subscribed_by, reconfirmed}
 use Rattle.pushsession.specs.declared.request.Request.{Request}
 use Rattle.pushsession.specs.declared.request.Request.TheVariants as requests
 use Rattle.pushsession.specs.declared.standing.Standing.{Standing}
 use Rattle.pushsession.specs.declared.standing.Standing.TheVariants.{Live, AskedToStop, Stopped, Ended}
 use Rattle.pushserver.specs.Hubs.{Numbered, session_in, now, state_now, records_now, in_session}
 use Rattle.pushserver.specs.Giving as giving
-use Rattle.pushserver.specs.Giving.{has_home, reconfirms, by_request, by_reaction, did, copies, copies_or, given_after, after_reaction, after_packing, give}
+use Rattle.pushserver.specs.Giving.{has_home, reconfirms, by_request, did, copies, copies_or, given_after, after_reaction, after_packing, give}
 use Rattle.pushserver.specs.KeptHubs.{KeptHub, KeptGiving}
 use Rattle.pushserver.specs.Keeping.{Gave}
 use Rattle.pushserver.specs.Rows.{AreTold}
@@ -42,7 +38,7 @@ use Rattle.pushserver.specs.declared.given.Given.{Given}
 use Rattle.pushserver.specs.declared.given.Given.TheVariants.{Bytes, Worked, Nothing, Ending, End}
 use Rattle.pushserver.proofs.SessionLists.{found-in, in-fused}
 use Rattle.pushserver.proofs.NumberedSessions.{alike, itself}
-use Rattle.pushserver.proofs.hub_steps.Cases.{session_as, head_as, found_as, works_as, output_as, give_as, key_as}
+use Rattle.pushserver.proofs.hub_steps.Cases.{session_as, found_as, works_as, output_as, give_as, key_as}
 use Rattle.pushserver.proofs.hub_steps.Reacting.{no_key}
 
 nothing_in : (xs : List ℕ) → is_empty xs ≡ true → xs ≡ []
@@ -204,14 +200,9 @@ module _ (number : ℕ) (k : KeptHub) (s : KeptSession) (there : session_in numb
       pub message-is : message_of s ≡ message
       message-is = ap (λ (o : Option (List ℕ × List ℕ)). unwrap_or (option_map (λ f. f.0) o) []) waits
 
-      abbrev pub clocks_as : ℕ → Option DsoHead → Clocks
-      clocks_as t None = s.clocks
-      clocks_as t (Some head) = (heard head t s).clocks
-
-      pub taken-is : (t : ℕ) (o : Option DsoHead) → head_of message ≡ o → taken_up t s ≡ record s { input = first.1; clocks = clocks_as t o }
-      taken-is t o head =
-          (λ i. record s { input = unwrap_or (option_map (λ (f : List ℕ × List ℕ). f.1) (waits i)) s.input; clocks = clocks_as t (head_of (unwrap_or (option_map (λ (f : List ℕ × List ℕ). f.0) (waits i)) [])) })
-          ∙ ap (λ c. record s { input = first.1; clocks = clocks_as t c }) head
+      -- it leaves the input, and restarts the timers
+      pub taken-is : (t : ℕ) → taken_up t s ≡ restarted_by message t (without_first first.1 s)
+      taken-is t = λ i. restarted_by (unwrap_or (option_map (λ (f : List ℕ × List ℕ). f.0) (waits i)) []) t (without_first (unwrap_or (option_map (λ (f : List ℕ × List ℕ). f.1) (waits i)) s.input) s)
 
       pub request-is : (r : Request) → request_of s ≡ Some r → request_in message s.established ≡ r
       request-is r is = some_same (request_in message s.established) r (sym (ap (λ (o : Option (List ℕ × List ℕ)). option_map (λ m. request_in m s.established) (option_map (λ f. f.0) o)) waits) ∙ is)
@@ -226,69 +217,32 @@ module _ (number : ℕ) (k : KeptHub) (s : KeptSession) (there : session_in numb
       abbrev pub after_message : KeptHub
       after_message = giving.reacted message number (in_session number (without_first first.1) k)
 
-      headless : head_of message ≡ None → after_message ≡ becomes (ended_with keeping ends.Short (taken_up (now k) s))
-      headless head =
-          ap (giving.reacted message number) (one (without_first first.1))
-          ∙ ap (head_as (becomes left) number message) head
-          ∙ further (ended_with keeping ends.Short) left
-          ∙ ap (λ u. becomes (ended_with keeping ends.Short u)) (sym (taken-is (now k) None head))
-
-      pub with_head : (head : DsoHead) → head_of message ≡ Some head → after_message ≡ by_reaction (server_reaction head s.established) number message (becomes (taken_up (now k) s))
-      with_head head whole =
-          ap (giving.reacted message number) (one (without_first first.1))
-          ∙ ap (head_as (becomes left) number message) whole
-          ∙ ap (session_as (becomes left) number message head) (found left)
-          ∙ ap (by_reaction (server_reaction head s.established) number message) (further (heard head (now k)) left ∙ ap becomes (sym (taken-is (now k) (Some head) whole)))
-
       -- by what is needed for it
-      acts-itself : (r : Reaction) (t : KeptSession) → request_for r message ≡ requests.Itself → by_reaction r number message (becomes t) ≡ becomes (by_itself keeping r k.timers (now k) message t)
-      acts-itself r t is = ap (λ q. by_request q r number message (becomes t)) is ∙ further (by_itself keeping r k.timers (now k) message) t
-
-      abbrev answers_subscribe : Option Question → KeptSession → KeptSession
-      answers_subscribe question t = answered keeping (telling (records_now k)) (now k) (id_of message) question (has_home k question) t
-
-      acts-subscribe : (r : Reaction) (t : KeptSession) (question : Option Question) → request_for r message ≡ requests.Subscribe question → by_reaction r number message (becomes t) ≡ becomes (answers_subscribe question t)
-      acts-subscribe r t question is = ap (λ q. by_request q r number message (becomes t)) is ∙ further (answers_subscribe question) t
-
-      abbrev confirms : Bool → KeptSession → KeptSession
-      confirms good t = cond good t (ended_with keeping (ends.BadData reconfirm_tlv) t)
-
-      acts-reconfirm : AreAtHome (state_now k) → (r : Reaction) (t : KeptSession) (rr : Option Rr) → request_for r message ≡ requests.Reconfirm rr → by_reaction r number message (becomes t) ≡ becomes (confirms (is_some rr) t)
-      acts-reconfirm home r t rr is = ap (λ q. by_request q r number message (becomes t)) is ∙ by rr
-        where
-          by : (o : Option Rr) → reconfirms o number (becomes t) ≡ becomes (confirms (is_some o) t)
-          by None = further (ended_with keeping (ends.BadData reconfirm_tlv)) t
-          by (Some found) = ap (key_as (becomes t)) (no_key (state_now k) found home.links)
-
-      abbrev pub request_as : Option DsoHead → Request
-      request_as None = requests.Itself
-      request_as (Some head) = request_for (server_reaction head s.established) message
-
-      abbrev reacted_as : List ℕ → Option DsoHead → KeptSession
-      reacted_as m None = ended_with keeping ends.Short (taken_up (now k) s)
-      reacted_as m (Some head) = by_itself keeping (server_reaction head s.established) k.timers (now k) m (taken_up (now k) s)
+      pub after-request : (r : Request) → request_of s ≡ Some r → after_message ≡ by_request r number message (becomes (taken_up (now k) s))
+      after-request r is =
+          ap (giving.reacted message number) (one (without_first first.1))
+          ∙ ap (session_as (becomes left) number message) (found left)
+          ∙ ap (by_request (request_in message s.established) number message) (further (restarted_by message (now k)) left ∙ ap becomes (sym (taken-is (now k))))
+          ∙ ap (λ (q : Request). by_request q number message (becomes (taken_up (now k) s))) (request-is r is)
 
       itself-is : request_of s ≡ Some requests.Itself → after_message ≡ becomes (reacted k.timers (now k) s)
-      itself-is is = by (head_of message) refl (request-is requests.Itself is) ∙ sym (ap (λ m. becomes (reacted_as m (head_of m))) message-is)
-        where
-          by : (o : Option DsoHead) → head_of message ≡ o → request_as o ≡ requests.Itself → after_message ≡ becomes (reacted_as message o)
-          by None head is = headless head
-          by (Some h) head is = with_head h head ∙ acts-itself (server_reaction h s.established) (taken_up (now k) s) is
+      itself-is is =
+          after-request requests.Itself is
+          ∙ further (reacts_itself keeping k.timers (now k) message) (taken_up (now k) s)
+          ∙ ap (λ m. becomes (reacts_itself keeping k.timers (now k) m (taken_up (now k) s))) (sym message-is)
 
       subscribe-is : (question : Option Question) → request_of s ≡ Some (requests.Subscribe question) → after_message ≡ becomes (subscribed_by question (has_home k question) (records_now k) (now k) s)
-      subscribe-is question is = by (head_of message) refl (request-is (requests.Subscribe question) is)
+      subscribe-is question is =
+          after-request (requests.Subscribe question) is
+          ∙ further (answered keeping (telling (records_now k)) (now k) (id_of message) question (has_home k question)) (taken_up (now k) s)
           ∙ ap (λ m. becomes (answered keeping (telling (records_now k)) (now k) (id_of m) question (has_home k question) (taken_up (now k) s))) (sym message-is)
-        where
-          by : (o : Option DsoHead) → head_of message ≡ o → request_as o ≡ requests.Subscribe question → after_message ≡ becomes (answers_subscribe question (taken_up (now k) s))
-          by None head is = cc
-          by (Some h) head is = with_head h head ∙ acts-subscribe (server_reaction h s.established) (taken_up (now k) s) question is
 
       reconfirm-is : AreAtHome (state_now k) → (rr : Option Rr) → request_of s ≡ Some (requests.Reconfirm rr) → after_message ≡ becomes (reconfirmed (is_some rr) (now k) s)
-      reconfirm-is home rr is = by (head_of message) refl (request-is (requests.Reconfirm rr) is)
+      reconfirm-is home rr is = after-request (requests.Reconfirm rr) is ∙ by rr
         where
-          by : (o : Option DsoHead) → head_of message ≡ o → request_as o ≡ requests.Reconfirm rr → after_message ≡ becomes (confirms (is_some rr) (taken_up (now k) s))
-          by None head is = cc
-          by (Some h) head is = with_head h head ∙ acts-reconfirm home (server_reaction h s.established) (taken_up (now k) s) rr is
+          by : (o : Option Rr) → reconfirms o number (becomes (taken_up (now k) s)) ≡ becomes (reconfirmed (is_some o) (now k) s)
+          by None = further (ended_with keeping (ends.BadData reconfirm_tlv)) (taken_up (now k) s)
+          by (Some found) = ap (key_as (becomes (taken_up (now k) s))) (no_key (state_now k) found home.links)
 
       message-gave : (r : Given) (old new : List ℕ) (mid s_now : KeptSession) → after_message ≡ becomes mid → HandsOn mid (given_after mid.standing) r old new s_now → Gave (give k number (length old)) r old new (becomes s_now)
       message-gave r old new mid s_now is on =

@@ -1,13 +1,11 @@
 -- A SUBSCRIBE that none of the tests refuses is answered.
---     accepted      no test refuses it
 --     verdict-holds      which verdicts there may be
 --     output_says      what the answer and the PUSH add to the output
---     reaction, verdict      the hub behind it, and that it is accepted
+--     reaction      the hub behind it
 --     found_accepted      the session afterwards
 --     subscribe_is_answered      by NOERROR, and by the first answer's PUSH
-use Rattle.std.proofs.Common.{◌≡◌, ℕ, Bool, true, false, not, ◌||◌, List, [], ◌∷◌, ◌++◌, Option, Some, None, is_some, sym, ◌∙◌, ap, refl}
+use Rattle.std.proofs.Common.{◌≡◌, ℕ, Bool, true, false, not, ◌||◌, List, [], ◌∷◌, ◌++◌, Option, Some, None, sym, ◌∙◌, ap, refl}
 use Rattle.std.specs.Prelude.{option_map, nat_le, if◌then◌else◌}
-use Rattle.std.proofs.lemmas.Bool.{lt-leb}
 use Rattle.std.proofs.lemmas.List.{append_assoc, append-nil}
 use Rattle.push_base.specs.Limits.{max_questions}
 use Rattle.rrset.specs.Header.{id_of}
@@ -21,13 +19,14 @@ use Rattle.dsosession.specs.declared.session.EndReason.{EndReason}
 use Rattle.dsosession.specs.declared.session.EndReason.TheVariants as ends
 use Rattle.pushsession.specs.Sessions.{SessionOf, Keeps}
 use Rattle.pushsession.specs.Subscribing.{Verdict, Refuse, Abort, Accept, verdict_on, is_served, subscribed, says_first_answer, first_answer_size, accepts, decided, answered}
-use Rattle.pushsession.specs.Reactions.{heard}
-use Rattle.pushserver.specs.PlainHubs.{Hub, Session, Subscription, first_answer}
+use Rattle.pushsession.specs.Reactions.{restarted_by}
+use Rattle.pushsession.specs.declared.request.Request.{Request}
+use Rattle.pushserver.specs.PlainHubs.{Hub, Session, first_answer}
 use Rattle.pushserver.specs.Hubs.{now, keeps_now, tells_now, session_of, in_session}
-use Rattle.pushserver.specs.Giving.{has_home, by_reaction, reacted}
+use Rattle.pushserver.specs.Giving.{has_home, by_request, reacted}
 use Rattle.pushserver.specs.Laws.{IsAcceptable, SubscribeIsAnswered}
 use Rattle.pushserver.proofs.SessionLists.{found-in}
-use Rattle.pushserver.proofs.hub_steps.Cases.{session_as, head_as}
+use Rattle.pushserver.proofs.hub_steps.Cases.{session_as}
 
 -- ---- the tests
 
@@ -36,15 +35,6 @@ abbrev by_tests : ℕ → Question → Bool → Option ℕ → Bool → Bool →
 by_tests id question used active served has_home full =
     if used then Abort (ends.IdInUse id)
     else elim active [ Some twice ↦ Abort (ends.Twice twice) | None ↦ if not served || not has_home then Refuse notauth else if full then Refuse refused else Accept question ]
-
-passed : (id : ℕ) (question : Question) (used : Bool) (active : Option ℕ) (served has_home full : Bool) → used ≡ false → active ≡ None → served ≡ true → has_home ≡ true → full ≡ false
-    → by_tests id question used active served has_home full ≡ Accept question
-passed id question used active served has_home full u a s h f i = by_tests id question (u i) (a i) (s i) (h i) (f i)
-
-pub accepted : {A Q M : Type 0} (keeps : Keeps A Q M) (id : ℕ) (question : Question) (has_home : Bool) (subscriptions : A) → keeps.has_id id subscriptions ≡ false → keeps.id_of question subscriptions ≡ None
-    → is_served question.class ≡ true → has_home ≡ true → nat_le max_questions (keeps.count subscriptions) ≡ false → verdict_on keeps id (Some question) has_home subscriptions ≡ Accept question
-accepted keeps id question has_home subscriptions new_id new_question served home room =
-    passed id question (keeps.has_id id subscriptions) (keeps.id_of question subscriptions) (is_served question.class) has_home (nat_le max_questions (keeps.count subscriptions)) new_id new_question served home room
 
 -- what holds of each verdict that there may be
 pub verdict-holds : {A Q M : Type 0} (keeps : Keeps A Q M) (id : ℕ) (question : Option Question) (home : Bool) (subscriptions : A) (P : Verdict → Type 0)
@@ -75,32 +65,25 @@ output_says keeps now answer (n ∷ ns) before session = append_assoc session.ou
 module _ (message : List ℕ) (number : ℕ) (hub : Hub) (session : Session) (question : Question) (a : IsAcceptable hub session message question) where
   -- the session and the hub when the timers are restarted
   abbrev pub listening : Session
-  listening = heard a.head (now hub) session
+  listening = restarted_by message (now hub) session
 
   abbrev pub hub_heard : Hub
-  hub_heard = in_session number (heard a.head (now hub)) hub
+  hub_heard = in_session number (restarted_by message (now hub)) hub
 
   abbrev pub answering : Option Question → Session → Session
   answering o s = answered (keeps_now hub) (tells_now hub) (now hub) (id_of message) o (has_home hub o) s
 
   pub reaction : session_of hub number ≡ Some session → reacted message number hub ≡ in_session number (answering (Some question)) hub_heard
   reaction has =
-      ap (head_as hub number message) a.whole
-      ∙ ap (session_as hub number message a.head) has
-      ∙ ap (λ r. by_reaction r number message hub_heard) a.reaction
-      ∙ ap (λ (o : Option Question). in_session number (answering o) hub_heard) a.spelled
-
-  pub verdict : verdict_on (keeps_now hub) (id_of message) (Some question) (has_home hub (Some question)) session.subscriptions ≡ Accept question
-  verdict =
-      accepted (keeps_now hub) (id_of message) question (has_home hub (Some question)) session.subscriptions (ap (λ (o : Option Subscription). is_some o) a.new_id)
-      (ap (λ (o : Option Subscription). option_map (λ (s : Subscription). s.id) o) a.new_question) a.class a.home (lt-leb _ _ a.room)
+      ap (session_as hub number message) has
+      ∙ ap (λ (q : Request). by_request q number message hub_heard) a.request
 
   pub found_accepted : session_of hub number ≡ Some session → session_of (reacted message number hub) number ≡ Some (accepts (keeps_now hub) (tells_now hub) (now hub) (id_of message) question listening)
   found_accepted has =
       ap (λ (h : Hub). session_of h number) (reaction has)
       ∙ found-in number (answering (Some question)) hub_heard.sessions
-      ∙ ap (option_map (answering (Some question))) (found-in number (heard a.head (now hub)) hub.sessions ∙ ap (option_map (heard a.head (now hub))) has)
-      ∙ ap (λ (v : Verdict). Some (decided (keeps_now hub) (tells_now hub) (now hub) (id_of message) v listening)) verdict
+      ∙ ap (option_map (answering (Some question))) (found-in number (restarted_by message (now hub)) hub.sessions ∙ ap (option_map (restarted_by message (now hub))) has)
+      ∙ ap (λ (v : Verdict). Some (decided (keeps_now hub) (tells_now hub) (now hub) (id_of message) v listening)) a.accepted
 
   is_answered : session_of hub number ≡ Some session
       → option_map (λ (s : Session). s.output) (session_of (reacted message number hub) number)

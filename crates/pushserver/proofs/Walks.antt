@@ -33,7 +33,8 @@ use Rattle.history.specs.declared.entry.Entry.TheVariants as entries
 use Rattle.dsotlv.specs.Answers.{answer_to_update}
 use Rattle.pushsession.specs.Sessions.{SessionOf, new_session, copied, timed, ended_with, answers, stopped, without_first}
 use Rattle.pushsession.specs.Subscribing.{answered, packs}
-use Rattle.pushsession.specs.Reactions.{heard, by_itself}
+use Rattle.pushsession.specs.Reactions.{restarted_by, request_for, reacts_itself}
+use Rattle.pushsession.specs.declared.request.Request.TheVariants as requests
 use Rattle.pushsession.specs.declared.standing.Standing.{Standing}
 use Rattle.pushsession.specs.declared.standing.Standing.TheVariants.{Live, AskedToStop, Stopped, Ended}
 use Rattle.pushserver.specs.declared.given.Given.{Given}
@@ -42,8 +43,8 @@ use Rattle.pushserver.specs.declared.given.Heard.{Heard}
 use Rattle.pushserver.specs.declared.given.Heard.TheVariants.{Entered, Ignored}
 use Rattle.pushserver.specs.declared.given.Why.TheVariants as whys
 use Rattle.pushserver.specs.Hubs.{SessionKind, HubOf, newest, now, state_now, keeps_now, tells_now, session_of, each_session, in_session, entered, can_enter, update, hear, why_not, moment, max_sessions, connect, take_octets, stop, disconnect}
-use Rattle.pushserver.specs.Giving.{has_home, reconfirms, reacts_itself, by_reaction, reacted, copies_or, given_after, after_reaction, after_packing, works, by_standing, give}
-use Rattle.pushserver.proofs.hub_steps.Cases.{enters_update, update_as, enters_moment, key_as, session_as, head_as, copies_as, found_as, works_as, output_as, give_as}
+use Rattle.pushserver.specs.Giving.{has_home, reconfirms, by_request, reacted, copies_or, given_after, after_reaction, after_packing, works, by_standing, give}
+use Rattle.pushserver.proofs.hub_steps.Cases.{enters_update, update_as, enters_moment, key_as, session_as, request_as, copies_as, found_as, works_as, output_as, give_as}
 use Rattle.pushserver.specs.Calls.{HubCall, updates as updating, hears, moves, connects, takes, gives, stops, ends as ending, called, after_calls}
 
 -- ---- the steps
@@ -54,8 +55,8 @@ AnyMessage message = Unit {0}
 
 -- what a call does to one session, apart from the octets that come in
 pub data Step {A Q M : Type 0} {kind : SessionKind A Q M} (Good : List ℕ → Type 0) (hub : HubOf kind) : (SessionOf A Q M → SessionOf A Q M) → Type 0 where
-  hears_head : (head : DsoHead) → Step Good hub (heard head (now hub))
-  reacts : (reaction : Reaction) (head : DsoHead) (established : Bool) → server_reaction head established ≡ reaction → (message : List ℕ) → Step Good hub (by_itself (keeps_now hub) reaction hub.timers (now hub) message)
+  restarts : (message : List ℕ) → Step Good hub (restarted_by message (now hub))
+  reacts : (message : List ℕ) → Step Good hub (reacts_itself (keeps_now hub) hub.timers (now hub) message)
   answers_subscribe : (message : List ℕ) → Good message
       → Step Good hub (answered (keeps_now hub) (tells_now hub) (now hub) (id_of message) (question_of (primary_data message)) (has_home hub (question_of (primary_data message))))
   answers_update : (before : HubOf kind) (message : List ℕ) → Step Good hub (answers (keeps_now hub) false (now hub) (answer_to_update (id_of message) (update before message).0))
@@ -166,34 +167,36 @@ module _ {A Q M : Type 0} {kind : SessionKind A Q M} (Good : List ℕ → Type 0
       by None = steps hub (ended_with (keeps_now hub) (ends.BadData reconfirm_tlv)) (ends_with (ends.BadData reconfirm_tlv)) h
       by (Some rr) = by_key (reconfirm_key (state_now hub) rr)
 
-  itself : (hub : HubOf kind) (message : List ℕ) (head : DsoHead) (established : Bool) (reaction : Reaction) → server_reaction head established ≡ reaction → P hub → R (reacts_itself reaction number message hub)
-  itself hub message head established reaction is h = steps hub (by_itself (keeps_now hub) reaction hub.timers (now hub) message) (reacts reaction head established is message) h
+  itself : (hub : HubOf kind) (message : List ℕ) → P hub → R (by_request requests.Itself number message hub)
+  itself hub message h = steps hub (reacts_itself (keeps_now hub) hub.timers (now hub) message) (reacts message) h
 
-  walks-reaction : (hub : HubOf kind) (message : List ℕ) (head : DsoHead) (established : Bool) (reaction : Reaction) → server_reaction head established ≡ reaction → Good message → P hub → R (by_reaction reaction number message hub)
-  walks-reaction hub message head established reactions.Subscribe is good h =
+  walks-reaction : (hub : HubOf kind) (message : List ℕ) (reaction : Reaction) → Good message → P hub → R (by_request (request_for reaction message) number message hub)
+  walks-reaction hub message reactions.Subscribe good h =
       let question = question_of (primary_data message) in
       steps hub (answered (keeps_now hub) (tells_now hub) (now hub) (id_of message) question (has_home hub question)) (answers_subscribe message good) h
-  walks-reaction hub message head established reactions.Reconfirm is good h = walks-reconfirms hub (reconfirm_of (primary_data message)) h
-  walks-reaction hub message head established reactions.Update is good h =
+  walks-reaction hub message reactions.Reconfirm good h = walks-reconfirms hub (reconfirm_of (primary_data message)) h
+  walks-reaction hub message reactions.Update good h =
       let judged = update hub message in
       w.changes_behind judged.1 (answers (keeps_now judged.1) false (now judged.1) (answer_to_update (id_of message) judged.0)) (answers_update hub message) (walks-update hub message good h)
-  walks-reaction hub message head established (reactions.Answer rcode) is good h = itself hub message head established (reactions.Answer rcode) is h
-  walks-reaction hub message head established reactions.Grant is good h = itself hub message head established reactions.Grant is h
-  walks-reaction hub message head established (reactions.Abort reason) is good h = itself hub message head established (reactions.Abort reason) is h
-  walks-reaction hub message head established reactions.Unsubscribe is good h = itself hub message head established reactions.Unsubscribe is h
-  walks-reaction hub message head established reactions.NotImplemented is good h = itself hub message head established reactions.NotImplemented is h
+  walks-reaction hub message (reactions.Answer rcode) good h = itself hub message h
+  walks-reaction hub message reactions.Grant good h = itself hub message h
+  walks-reaction hub message (reactions.Abort reason) good h = itself hub message h
+  walks-reaction hub message reactions.Unsubscribe good h = itself hub message h
+  walks-reaction hub message reactions.NotImplemented good h = itself hub message h
 
   pub walks-reacted : (hub : HubOf kind) (message : List ℕ) → Good message → P hub → R (reacted message number hub)
-  walks-reacted hub message good h = by (head_of message)
+  walks-reacted hub message good h = by (session_of hub number)
     where
-      by_session : (head : DsoHead) (o : Option (SessionOf A Q M)) → R (session_as hub number message head o)
-      by_session head None = w.enters_none hub h
-      by_session head (Some session) =
-          walks-reaction (in_session number (heard head (now hub)) hub) message head session.established (server_reaction head session.established) refl good (w.changes hub (heard head (now hub)) (hears_head head) h)
+      later : HubOf kind
+      later = in_session number (restarted_by message (now hub)) hub
 
-      by : (o : Option DsoHead) → R (head_as hub number message o)
-      by None = steps hub (ended_with (keeps_now hub) ends.Short) (ends_with ends.Short) h
-      by (Some head) = by_session head (session_of hub number)
+      by_head : (established : Bool) (o : Option DsoHead) → P later → R (by_request (request_as message established o) number message later)
+      by_head established None h = itself later message h
+      by_head established (Some head) h = walks-reaction later message (server_reaction head established) good h
+
+      by : (o : Option (SessionOf A Q M)) → R (session_as hub number message o)
+      by None = w.enters_none hub h
+      by (Some session) = by_head session.established (head_of message) (w.changes hub (restarted_by message (now hub)) (restarts message) h)
 
   walks-copies_or : (given : Given) (room : ℕ) (session : SessionOf A Q M) (hub : HubOf kind) → R hub → R (copies_or given number room session hub).hub
   walks-copies_or given room session hub h = by (is_empty session.output)

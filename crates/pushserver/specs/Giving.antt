@@ -6,20 +6,18 @@ use Rattle.push_base.specs.Cases.{is_empty}
 use Rattle.rrset.specs.Header.{id_of}
 use Rattle.rrset.specs.declared.record.Question.{Question}
 use Rattle.rrset.specs.declared.record.Rr.{Rr}
-use Rattle.dsotlv.specs.Messages.{first_message, head_of}
-use Rattle.dsosession.specs.Reactions.{server_reaction}
+use Rattle.dsotlv.specs.Messages.{first_message}
 use Rattle.dsosession.specs.declared.session.EndReason.{EndReason}
 use Rattle.dsosession.specs.declared.session.EndReason.TheVariants as ends
-use Rattle.dsosession.specs.declared.session.Reaction.{Reaction}
-use Rattle.history.specs.States.{home_of, reconfirm_key, accepts}
+use Rattle.history.specs.States.{State, home_of, reconfirm_key, accepts}
 use Rattle.history.specs.declared.entry.Entry.TheVariants as entries
 use Rattle.pushsession.specs.declared.request.Request.{Request}
 use Rattle.pushsession.specs.declared.request.Request.TheVariants as requests
 use Rattle.pushsession.specs.declared.standing.Standing.{Standing}
 use Rattle.pushsession.specs.declared.standing.Standing.TheVariants.{Live, AskedToStop, Stopped, Ended}
 use Rattle.pushsession.specs.Sessions.{SessionOf, copied, ended_with, stopped, without_first}
-use Rattle.pushsession.specs.Subscribing.{answered, packs}
-use Rattle.pushsession.specs.Reactions.{heard, by_itself, ends_short, ends_reconfirm, answers_update, request_for}
+use Rattle.pushsession.specs.Subscribing.{is_served, answered, packs}
+use Rattle.pushsession.specs.Reactions.{restarted_by, request_in, reacts_itself, ends_reconfirm, answers_update}
 use Rattle.pushserver.specs.declared.given.Given.{Given}
 use Rattle.pushserver.specs.declared.given.Given.TheVariants.{Bytes, Worked, Nothing, Ending, End}
 use Rattle.pushserver.specs.Hubs.{SessionKind, HubOf, now, state_now, keeps_now, tells_now, session_of, in_session, entered, can_enter, update}
@@ -33,6 +31,10 @@ ends_as number reason hub = in_session number (ended_with (keeps_now hub) reason
 abbrev pub has_home : {A Q M : Type 0} {kind : SessionKind A Q M} → HubOf kind → Option Question → Bool
 has_home hub None = false
 has_home hub (Some question) = is_some (home_of (state_now hub) question.name)
+
+-- a question of a class that is served, whose name has a home
+abbrev pub is_served_at : State → Question → Bool
+is_served_at state question = is_served question.class && is_some (home_of state question.name)
 
 abbrev pub subscribes : {A Q M : Type 0} {kind : SessionKind A Q M} → Option Question → ℕ → List ℕ → HubOf kind → HubOf kind
 subscribes question number message hub = in_session number (answered (keeps_now hub) (tells_now hub) (now hub) (id_of message) question (has_home hub question)) hub
@@ -51,28 +53,18 @@ updates number message hub =
     let judged = update hub message in
     in_session number (answers_update (keeps_now judged.1) (now judged.1) message judged.0) judged.1
 
--- a message for which nothing is needed
-abbrev pub reacts_itself : {A Q M : Type 0} {kind : SessionKind A Q M} → Reaction → ℕ → List ℕ → HubOf kind → HubOf kind
-reacts_itself reaction number message hub = in_session number (by_itself (keeps_now hub) reaction hub.timers (now hub) message) hub
-
--- by what is needed for the message with this reaction
-abbrev pub by_request : {A Q M : Type 0} {kind : SessionKind A Q M} → Request → Reaction → ℕ → List ℕ → HubOf kind → HubOf kind
-by_request (requests.Subscribe question) reaction number message hub = subscribes question number message hub
-by_request (requests.Reconfirm rr) reaction number message hub = reconfirms rr number hub
-by_request requests.Update reaction number message hub = updates number message hub
-by_request requests.Itself reaction number message hub = reacts_itself reaction number message hub
-
-abbrev pub by_reaction : {A Q M : Type 0} {kind : SessionKind A Q M} → Reaction → ℕ → List ℕ → HubOf kind → HubOf kind
-by_reaction reaction number message hub = by_request (request_for reaction message) reaction number message hub
+-- by what is needed for the message
+abbrev pub by_request : {A Q M : Type 0} {kind : SessionKind A Q M} → Request → ℕ → List ℕ → HubOf kind → HubOf kind
+by_request (requests.Subscribe question) number message hub = subscribes question number message hub
+by_request (requests.Reconfirm rr) number message hub = reconfirms rr number hub
+by_request requests.Update number message hub = updates number message hub
+by_request requests.Itself number message hub = in_session number (reacts_itself (keeps_now hub) hub.timers (now hub) message) hub
 
 -- a message that is reacted to restarts the timers, and then its line applies
 abbrev pub reacted : {A Q M : Type 0} {kind : SessionKind A Q M} → List ℕ → ℕ → HubOf kind → HubOf kind
-reacted message number hub = elim (head_of message) [
-  | None ↦ in_session number (ends_short (keeps_now hub)) hub
-  | Some head ↦ elim (session_of hub number) [
-    | None ↦ hub
-    | Some session ↦ by_reaction (server_reaction head session.established) number message (in_session number (heard head (now hub)) hub)
-  ]
+reacted message number hub = elim (session_of hub number) [
+  | None ↦ hub
+  | Some session ↦ by_request (request_in message session.established) number message (in_session number (restarted_by message (now hub)) hub)
 ]
 
 -- ---- what one call of give did

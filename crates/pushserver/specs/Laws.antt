@@ -4,29 +4,24 @@
 --     GiveChangesOneSession, OtherCallsKeepOutputs      what a call leaves as it was
 --     SubscribeIsAnswered      what a SUBSCRIBE gets that none of the tests refuses
 --     MayWantMemory hub number      where memory may be wanted
-use Rattle.std.specs.Prelude.{◌≡◌, ◌⊎◌, ℕ, ◌<◌, List, [], ◌++◌, length, Some, None, IsTrue, IsSome, option_map}
+use Rattle.std.specs.Prelude.{◌≡◌, ◌⊎◌, ℕ, List, [], ◌++◌, Some, None, option_map}
 use Rattle.std.specs.List.{AllByRecursion}
-use Rattle.push_base.specs.Limits.{max_questions}
 use Rattle.rrset.specs.Header.{id_of}
 use Rattle.rrset.specs.RecordSet.{at_name, matching}
 use Rattle.rrset.specs.declared.record.Question.{Question}
 use Rattle.rrset.specs.Rcodes.{noerror}
-use Rattle.dsotlv.specs.Messages.{first_message, frame, head_of, primary_data}
+use Rattle.dsotlv.specs.Messages.{first_message, frame}
 use Rattle.dsotlv.specs.Answers.{answer_to}
-use Rattle.dsotlv.specs.Notices.{question_of}
-use Rattle.dsotlv.specs.declared.message.DsoHead.{DsoHead}
 use Rattle.coalesce.specs.Net.{push_frame}
-use Rattle.dsosession.specs.Reactions.{server_reaction}
-use Rattle.dsosession.specs.declared.session.Reaction.TheVariants.{Subscribe}
-use Rattle.history.specs.States.{home_of}
 use Rattle.history.specs.declared.entry.Entry.{Entry}
 use Rattle.pushserver.specs.declared.given.Given.TheVariants.{Nothing}
 use Rattle.pushsession.specs.declared.standing.Standing.TheVariants.{Live}
-use Rattle.pushsession.specs.Reactions.{TakesMemory, request_for}
-use Rattle.pushsession.specs.Subscribing.{is_served}
-use Rattle.pushserver.specs.PlainHubs.{Hub, Session, sent, first_answer, wanted, subscription_of, subscription_for}
-use Rattle.pushserver.specs.Hubs.{state_now, records_now, session_of, entered, update, hear, moment, connect, take_octets, stop, disconnect}
-use Rattle.pushserver.specs.Giving.{give, reacted}
+use Rattle.pushsession.specs.Reactions.{TakesMemory, request_in}
+use Rattle.pushsession.specs.declared.request.Request.TheVariants as requests
+use Rattle.pushsession.specs.Subscribing.{Accept, verdict_on}
+use Rattle.pushserver.specs.PlainHubs.{Hub, Session, sent, first_answer, wanted}
+use Rattle.pushserver.specs.Hubs.{keeps_now, records_now, session_of, entered, update, hear, moment, connect, take_octets, stop, disconnect}
+use Rattle.pushserver.specs.Giving.{has_home, give, reacted}
 use Rattle.pushserver.specs.SoundHubs.{IsSoundHub}
 use Rattle.pushserver.specs.ToldMessages.{TellsHistory, set_after}
 
@@ -68,17 +63,10 @@ OtherCallsKeepOutputs = (hub : Hub) (number other : ℕ) (octets : List ℕ) (n 
     × KeepsOutput hub (connect hub).1 number × KeepsOutput hub (take_octets hub other octets) number × KeepsOutput hub (stop hub other n m) number
     × ((number ≡ other → ⊥) → KeepsOutput hub (disconnect hub other) number)
 
--- a SUBSCRIBE that none of the tests refuses: its question is read, ID and question are new, the class is IN or ANY, the name has a home, and there is room (RFC 8765, 6.2)
+-- a SUBSCRIBE whose question is read, and that none of the tests refuses: ID and question are new, the class is IN or ANY, the name has a home, and there is room (RFC 8765, 6.2)
 pub record IsAcceptable (hub : Hub) (session : Session) (message : List ℕ) (question : Question) : Type 0 where
-  pub head : DsoHead
-  pub whole : head_of message ≡ Some head
-  pub reaction : server_reaction head session.established ≡ Subscribe
-  pub spelled : question_of (primary_data message) ≡ Some question
-  pub new_id : subscription_of session.subscriptions (id_of message) ≡ None
-  pub new_question : subscription_for session.subscriptions question ≡ None
-  pub class : IsTrue (is_served question.class)
-  pub home : IsSome (home_of (state_now hub) question.name)
-  pub room : length session.subscriptions < max_questions
+  pub request : request_in message session.established ≡ requests.Subscribe (Some question)
+  pub accepted : verdict_on (keeps_now hub) (id_of message) (Some question) (has_home hub (Some question)) session.subscriptions ≡ Accept question
 
 -- it is answered by NOERROR, and then the first answer's PUSH follows (RFC 8765, 6.2.2)
 abbrev pub SubscribeIsAnswered : Type 0
@@ -90,10 +78,8 @@ SubscribeIsAnswered = (hub : Hub) (number : ℕ) (session : Session) (message : 
 pub record MayWantMemory (hub : Hub) (number : ℕ) : Type 0 where
   pub session : Session
   pub found : List ℕ × List ℕ
-  pub head : DsoHead
   pub there : session_of hub number ≡ Some session
   pub live : session.standing ≡ Live
   pub silent : session.output ≡ []
   pub waits : first_message session.input ≡ Some found
-  pub whole : head_of found.0 ≡ Some head
-  pub takes : TakesMemory (Some (request_for (server_reaction head session.established) found.0))
+  pub takes : TakesMemory (Some (request_in found.0 session.established))

@@ -1,7 +1,7 @@
 -- What holds of each plain hub to which calls of the server lead.
 --     IsSoundHub hub      of the hub
 --     IsSoundSession hub numbered      of a session in it
-use Rattle.std.specs.Prelude.{◌≡◌, ℕ, ◌<◌, ◌≤◌, ◌==◌, [], length, IsTrue, IsSome}
+use Rattle.std.specs.Prelude.{◌≡◌, ℕ, ◌<◌, ◌≤◌, ◌==◌, [], length, IsTrue}
 use Rattle.std.specs.List.{AllByRecursion, IsDistinct}
 use Rattle.push_base.specs.Limits.{max_questions, max_input}
 use Rattle.dnsname.specs.Names.{same_name}
@@ -9,19 +9,19 @@ use Rattle.rrset.specs.Records.{same_question}
 use Rattle.dsotlv.specs.Laws.{AreOctets}
 use Rattle.coalesce.specs.Sides.{frame_octets}
 use Rattle.history.specs.Plans.{IsStart}
-use Rattle.history.specs.States.{State, home_of, state_at}
-use Rattle.pushsession.specs.Subscribing.{is_served}
+use Rattle.history.specs.States.{State, state_at}
 use Rattle.pushserver.specs.Hubs.{newest, state_now, max_sessions}
 use Rattle.pushserver.specs.Rows.{IsTellable}
+use Rattle.pushserver.specs.Giving.{is_served_at}
 use Rattle.pushserver.specs.PlainHubs.{Hub, Session, Subscription, Queue}
 
 -- the points of names that wait are of the past
 abbrev pub ArePast : ℕ → Queue → Type 0
 ArePast newest queue = AllByRecursion (λ e. e.1 < newest) queue
 
--- a question of a class that is served, whose name has a home
+-- its class is served, and its name has a home
 abbrev pub HasHome : State → Subscription → Type 0
-HasHome state s = IsTrue (is_served s.question.class) × IsSome (home_of state s.question.name)
+HasHome state s = IsTrue (is_served_at state s.question)
 
 -- its number was given out; each name waits once, since a point of the past; no ID and no question is there twice, and each
 -- has a home; what came are octets, and what came and what waits to go are within bounds

@@ -1,19 +1,18 @@
 -- How a session reacts to a message (RFC 8490, 5; RFC 8765, 6).
---     request_for      which reactions need the server, and what each needs
+--     restarted_by      a message restarts the timers
+--     request_in, request_for      what is needed of the server for a message; for a reaction
 --     IsRead, TakesMemory      whether something is read for it
---     heard      a message restarts the timers
 --     granted, unsubscribed      a Keepalive is granted; an ID goes with its question
---     by_itself      what a reaction does for which nothing is needed
+--     reacts_itself, by_itself      a message for which nothing is needed; what each such reaction does
 --     ends_short, ends_reconfirm, answers_update      a message without a whole header; a RECONFIRM of no record; an update that was judged
-use Rattle.std.specs.Prelude.{ℕ, true, false, List, Option, Some, None}
+use Rattle.std.specs.Prelude.{ℕ, Bool, true, false, List, Option, Some, None}
 use Rattle.std.specs.Int.{w16, from_be_bytes}
 use Rattle.rrset.specs.Header.{id_of}
-use Rattle.dsotlv.specs.Messages.{primary_data}
+use Rattle.dsotlv.specs.Messages.{head_of, primary_data}
 use Rattle.dsotlv.specs.Notices.{question_of, reconfirm_of}
 use Rattle.dsotlv.specs.Answers.{answer_to, answer_to_update, grant_to, not_implemented}
 use Rattle.dsotlv.specs.TlvKinds.{reconfirm_tlv}
-use Rattle.dsotlv.specs.declared.message.DsoHead.{DsoHead}
-use Rattle.dsosession.specs.Reactions.{is_keepalive}
+use Rattle.dsosession.specs.Reactions.{is_keepalive, server_reaction}
 use Rattle.dsosession.specs.Timing.{restarted}
 use Rattle.dsosession.specs.declared.session.EndReason.TheVariants as ends
 use Rattle.dsosession.specs.declared.session.Timers.{Timers}
@@ -22,6 +21,12 @@ use Rattle.dsosession.specs.declared.session.Reaction.TheVariants.{Answer, Grant
 use Rattle.pushsession.specs.declared.request.Request.{Request}
 use Rattle.pushsession.specs.declared.request.Request.TheVariants as requests
 use Rattle.pushsession.specs.Sessions.{SessionOf, Keeps, answers, ended_with}
+
+-- ---- the timers
+
+-- a message with a whole header restarts the timers (RFC 8490, 6.3)
+abbrev pub restarted_by : {A Q M : Type 0} → List ℕ → ℕ → SessionOf A Q M → SessionOf A Q M
+restarted_by message now session = record session { clocks = elim (head_of message) [ None ↦ session.clocks | Some head ↦ restarted (is_keepalive head) now session.clocks ] }
 
 -- ---- what is needed of the server
 
@@ -35,6 +40,13 @@ request_for Grant message = requests.Itself
 request_for (Abort reason) message = requests.Itself
 request_for Unsubscribe message = requests.Itself
 request_for NotImplemented message = requests.Itself
+
+-- for a message in a session that is established or not; nothing for one without a whole header
+abbrev pub request_in : List ℕ → Bool → Request
+request_in message established = elim (head_of message) [
+  | None ↦ requests.Itself
+  | Some head ↦ request_for (server_reaction head established) message
+]
 
 -- a question and a record are read from the message's data
 abbrev pub IsRead : Option Request → Type 0
@@ -50,10 +62,6 @@ TakesMemory (Some requests.Update) = Unit {0}
 TakesMemory request = IsRead request
 
 -- ---- what a session does by itself
-
--- a message with a whole header restarts the timers (RFC 8490, 6.3)
-abbrev pub heard : {A Q M : Type 0} → DsoHead → ℕ → SessionOf A Q M → SessionOf A Q M
-heard head now session = record session { clocks = restarted (is_keepalive head) now session.clocks }
 
 -- the answer establishes the session, and the server's numbers hold from it on (RFC 8490, 5.1 and 7.1)
 abbrev pub granted : {A Q M : Type 0} → Timers → SessionOf A Q M → SessionOf A Q M
@@ -78,7 +86,16 @@ by_itself keeps Update timers now message session = session
 abbrev pub ends_short : {A Q M : Type 0} → Keeps A Q M → SessionOf A Q M → SessionOf A Q M
 ends_short keeps session = ended_with keeps ends.Short session
 
--- a RECONFIRM whose data is no record does (RFC 8765, 6.5)
+-- a message for which nothing is needed
+abbrev pub reacts_itself : {A Q M : Type 0} → Keeps A Q M → Timers → ℕ → List ℕ → SessionOf A Q M → SessionOf A Q M
+reacts_itself keeps timers now message session = elim (head_of message) [
+  | None ↦ ends_short keeps session
+  | Some head ↦ by_itself keeps (server_reaction head session.established) timers now message session
+]
+
+-- ---- what it does with what it got of the server
+
+-- a RECONFIRM whose data is no record ends the session (RFC 8765, 6.5)
 abbrev pub ends_reconfirm : {A Q M : Type 0} → Keeps A Q M → SessionOf A Q M → SessionOf A Q M
 ends_reconfirm keeps session = ended_with keeps (ends.BadData reconfirm_tlv) session
 

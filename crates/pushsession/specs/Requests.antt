@@ -1,24 +1,22 @@
 -- The first whole message of a session as it is kept, what it needs of the server for it, and what each call makes of it.
 --     first_waiting, message_of, rest_of      the first whole message, if one waits; what is behind it
 --     taken_up now      it leaves the input, and restarts the timers
---     request_in, request_of      what is needed for a message; for the first one
+--     request_of      what is needed for it
 --     reacted, subscribed_by, updated, reconfirmed      the first message is reacted to
 --     CanBeTold      records as nets are made of
-use Rattle.std.specs.Prelude.{ℕ, Bool, true, List, [], Option, Some, None, option_map, unwrap_or, IsTrue, if◌then◌else◌}
+use Rattle.std.specs.Prelude.{ℕ, Bool, true, List, [], Option, Some, option_map, unwrap_or, IsTrue, if◌then◌else◌}
 use Rattle.rrset.specs.Header.{id_of}
 use Rattle.rrset.specs.RecordSet.{RecordSet, at_name}
 use Rattle.rrset.specs.declared.record.Question.{Question}
-use Rattle.dsotlv.specs.Messages.{first_message, head_of}
+use Rattle.dsotlv.specs.Messages.{first_message}
 use Rattle.coalesce.specs.Laws.{can_be_sent}
 use Rattle.coalesce.specs.Sides.{IsOneSide}
-use Rattle.dsosession.specs.Reactions.{server_reaction}
 use Rattle.dsosession.specs.declared.session.Timers.{Timers}
 use Rattle.pushsession.specs.Sessions.{without_first}
 use Rattle.pushsession.specs.Subscribing.{answered}
-use Rattle.pushsession.specs.Reactions.{heard, by_itself, ends_short, ends_reconfirm, answers_update, request_for}
+use Rattle.pushsession.specs.Reactions.{restarted_by, request_in, reacts_itself, ends_reconfirm, answers_update}
 use Rattle.pushsession.specs.Kept.{KeptSession, keeping, telling}
 use Rattle.pushsession.specs.declared.request.Request.{Request}
-use Rattle.pushsession.specs.declared.request.Request.TheVariants as requests
 
 -- ---- the first whole message
 
@@ -33,31 +31,19 @@ message_of session = unwrap_or (first_waiting session) []
 abbrev pub rest_of : List ℕ → List ℕ
 rest_of input = unwrap_or (option_map (λ found. found.1) (first_message input)) input
 
--- the first message leaves the input; with a whole header it restarts the timers (RFC 8490, 6.3)
+-- the first message leaves the input, and restarts the timers
 abbrev pub taken_up : ℕ → KeptSession → KeptSession
-taken_up now session = record (without_first (rest_of session.input) session) {
-  clocks = elim (head_of (message_of session)) [ None ↦ session.clocks | Some head ↦ (heard head now session).clocks ];
-}
+taken_up now session = restarted_by (message_of session) now (without_first (rest_of session.input) session)
 
--- ---- what is needed for it
-
-abbrev pub request_in : List ℕ → Bool → Request
-request_in message established = elim (head_of message) [
-  | None ↦ requests.Itself
-  | Some head ↦ request_for (server_reaction head established) message
-]
-
+-- what is needed for it
 abbrev pub request_of : KeptSession → Option Request
 request_of session = option_map (λ message. request_in message session.established) (first_waiting session)
 
 -- ---- what each call makes of it
 
--- to a message for which nothing is needed; one without a whole header ends the session
+-- to a message for which nothing is needed
 abbrev pub reacted : Timers → ℕ → KeptSession → KeptSession
-reacted timers now session = elim (head_of (message_of session)) [
-  | None ↦ ends_short keeping (taken_up now session)
-  | Some head ↦ by_itself keeping (server_reaction head session.established) timers now (message_of session) (taken_up now session)
-]
+reacted timers now session = reacts_itself keeping timers now (message_of session) (taken_up now session)
 
 -- to a SUBSCRIBE with this question, whose name has a home or not, where these are the records
 abbrev pub subscribed_by : Option Question → Bool → RecordSet → ℕ → KeptSession → KeptSession

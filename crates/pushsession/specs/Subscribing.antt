@@ -4,6 +4,7 @@
 --     accepts, decided, answered      NOERROR and the first answer; what each verdict does; a SUBSCRIBE is answered
 --     packs      one PUSH of the names that fit
 use Rattle.std.specs.Prelude.{ℕ, ◌+◌, Bool, true, false, not, ◌||◌, ◌==◌, List, [], ◌∷◌, length, Option, Some, None, nat_le, if◌then◌else◌}
+use Rattle.push_base.specs.Cases.{is_empty}
 use Rattle.push_base.specs.Limits.{max_questions}
 use Rattle.rrset.specs.Kinds.{in_class, any_class}
 use Rattle.rrset.specs.Rcodes.{noerror, formerr, notauth, refused}
@@ -11,7 +12,7 @@ use Rattle.rrset.specs.declared.record.Question.{Question}
 use Rattle.dsotlv.specs.Messages.{frame}
 use Rattle.dsotlv.specs.Answers.{answer_to, refusal_to}
 use Rattle.dsotlv.specs.declared.message.Notice.{Notice}
-use Rattle.coalesce.specs.Net.{push_message}
+use Rattle.coalesce.specs.Net.{push_message, push_frame}
 use Rattle.dsosession.specs.declared.session.EndReason.{EndReason}
 use Rattle.dsosession.specs.declared.session.EndReason.TheVariants as ends
 use Rattle.pushsession.specs.Sessions.{SessionOf, Keeps, says, answers, ended_with}
@@ -65,15 +66,13 @@ subscribed keeps id question end session = record session {
   established = true;
 }
 
--- an answer alone is made while the names wait that do so behind it; one that a PUSH follows while those wait that did so before
+-- the answer, and a PUSH where there are notices; an answer alone is made while the names wait that do so behind it, one that a PUSH follows while those wait that did so before
 abbrev pub says_first_answer : {A Q M : Type 0} → Keeps A Q M → ℕ → List ℕ → List Notice → Q → SessionOf A Q M → SessionOf A Q M
-says_first_answer keeps now answer [] before session = answers keeps false now answer session
-says_first_answer keeps now answer (n ∷ ns) before session = answers keeps false now (push_message (n ∷ ns)) (says keeps false now answer before session)
+says_first_answer keeps now answer notices before session = says_notices keeps now notices (says keeps false now answer (if is_empty notices then session.queue else before) session)
 
--- the octets of the answer and of the PUSH that follows it, if there is one
+-- the octets of both
 abbrev pub first_answer_size : List ℕ → List Notice → ℕ
-first_answer_size answer [] = length (frame answer)
-first_answer_size answer (n ∷ ns) = length (frame answer) + length (frame (push_message (n ∷ ns)))
+first_answer_size answer notices = length (frame answer) + length (push_frame notices)
 
 -- NOERROR, and the PUSH that follows it (RFC 8765, 6.2.2 and 6.3); the first answer ends behind all that was written before
 abbrev pub accepts : {A Q M : Type 0} → Keeps A Q M → Tells A Q → ℕ → ℕ → Question → SessionOf A Q M → SessionOf A Q M

@@ -4,8 +4,8 @@ ghost use Rattle.std.specs.Prelude.{◌≡◌, ◌≤◌, length, IfOk, OnErr, S
 ghost use Rattle.rrset.specs.Header.{id_of};
 ghost use Rattle.dsotlv.specs.Messages.{head_of};
 ghost use Rattle.dsosession.specs.Reactions.{server_reaction};
-ghost use Rattle.pushsession.specs.Reactions.{IsRead, request_for};
-ghost use Rattle.pushsession.specs.Requests.{message_of, request_in, request_of, taken_up};
+ghost use Rattle.pushsession.specs.Reactions.{IsRead, request_for, request_in};
+ghost use Rattle.pushsession.specs.Requests.{message_of, request_of, taken_up};
 
 use crate::NoMemory;
 use crate::request::Request;

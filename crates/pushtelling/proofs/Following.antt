@@ -9,25 +9,28 @@ use Rattle.rrset.specs.Header.{id_of}
 use Rattle.rrset.specs.Rcodes.{noerror, formerr, refused, notauth}
 use Rattle.rrset.specs.declared.record.Question.{Question}
 use Rattle.dsotlv.specs.Answers.{answer_to, refusal_to, grant_to, not_implemented, answer_to_update, stop_message}
-use Rattle.dsotlv.specs.Messages.{primary_data}
+use Rattle.dsotlv.specs.Messages.{head_of, primary_data}
 use Rattle.dsotlv.specs.Notices.{question_of}
 use Rattle.dsotlv.specs.declared.message.Notice.{Notice}
 use Rattle.coalesce.specs.Net.{push_message}
+use Rattle.dsotlv.specs.declared.message.DsoHead.{DsoHead}
+use Rattle.dsosession.specs.Reactions.{server_reaction}
 use Rattle.dsosession.specs.declared.session.EndReason.{EndReason}
 use Rattle.dsosession.specs.declared.session.EndReason.TheVariants as ends
 use Rattle.dsosession.specs.declared.session.Reaction.{Reaction}
 use Rattle.dsosession.specs.declared.session.Reaction.TheVariants.{Answer, Grant, Abort, Subscribe, Unsubscribe, Reconfirm, Update, NotImplemented}
 use Rattle.history.specs.declared.entry.Entry.{Entry}
 use Rattle.pushsession.specs.Sessions.{new_session, takes, copied, is_open, asked_to_stop, ended_with, due, ended_where, timed, says, answers, says_stop, without_first}
-use Rattle.pushsession.specs.Subscribing.{Verdict, says_notices, says_first_answer, decided, answered}
-use Rattle.pushsession.specs.Reactions.{heard, by_itself}
+use Rattle.pushsession.specs.Subscribing.{Verdict, says_notices, subscribed, says_first_answer, first_answer_size, decided, answered}
+use Rattle.pushsession.specs.Reactions.{restarted_by, reacts_itself, by_itself}
 use Rattle.pushsession.specs.declared.standing.Standing.TheVariants.{AskedToStop}
 use Rattle.pushserver.specs.PlainHubs.{Hub, Session, Queue, plain_keeps}
 use Rattle.pushserver.specs.Hubs.{session_in, newest, now, keeps_now, tells_now, session_of, each_session, in_session, update, disconnect}
 use Rattle.pushserver.specs.Giving.{has_home}
 use Rattle.pushserver.proofs.SessionLists.{found-changed, found-last, found-left, other-number}
 use Rattle.pushserver.proofs.Subscribing.{verdict-holds}
-use Rattle.pushserver.proofs.Walks.{AnyMessage, Step, hears_head, reacts, answers_subscribe, answers_update, packs_names, comes_to_stop, ends_with, copies_front, IsKept, with_new}
+use Rattle.pushserver.proofs.hub_steps.Cases.{itself_as}
+use Rattle.pushserver.proofs.Walks.{AnyMessage, Step, restarts, reacts, answers_subscribe, answers_update, packs_names, comes_to_stop, ends_with, copies_front, IsKept, with_new}
 use Rattle.pushtelling.specs.Laws.{Grows}
 use Rattle.pushtelling.proofs.Tells.{by_entry}
 
@@ -65,19 +68,29 @@ grows-by_itself hub Subscribe message session = grows-none session session refl
 grows-by_itself hub Reconfirm message session = grows-none session session refl
 grows-by_itself hub Update message session = grows-none session session refl
 
+grows-itself : (hub : Hub) (message : List ℕ) (session : Session) → Grows session (reacts_itself (keeps_now hub) hub.timers (now hub) message session)
+grows-itself hub message session = by (head_of message)
+  where
+    by : (o : Option DsoHead) → Grows session (itself_as (keeps_now hub) hub.timers (now hub) message session o)
+    by None = grows-none session (ended_with (keeps_now hub) ends.Short session) refl
+    by (Some head) = grows-by_itself hub (server_reaction head session.established) message session
+
 grows-answered : (hub : Hub) (id : ℕ) (question : Option Question) (session : Session) → Grows session (answered (keeps_now hub) (tells_now hub) (now hub) id question (has_home hub question) session)
 grows-answered hub id question session =
     verdict-holds (keeps_now hub) id question (has_home hub question) session.subscriptions (λ (v : Verdict). Grows session (decided (keeps_now hub) (tells_now hub) (now hub) id v session))
     (refusing formerr) (refusing notauth) (refusing refused)
     (λ reason. grows-none session (ended_with (keeps_now hub) reason session) refl)
-    (λ q read new_id new_question. grows-first (newest hub) (now hub) (answer_to id noerror) _ session.queue _)
+    (λ q read new_id new_question. grows-first (newest hub) (now hub) (answer_to id noerror) (notices q) session.queue (subscribed (keeps_now hub) id q ((keeps_now hub).end_behind (first_answer_size (answer_to id noerror) (notices q)) session.made) session))
   where
+    notices : Question → List Notice
+    notices q = (tells_now hub).first_notices q session.subscriptions session.queue
+
     refusing : (rcode : ℕ) → Grows session (answers (keeps_now hub) false (now hub) (refusal_to id rcode) session)
     refusing rcode = grows-says (newest hub) (now hub) false (refusal_to id rcode) session.queue session
 
 grows-step : (hub : Hub) {f : Session → Session} → Step AnyMessage hub f → (session : Session) → Grows session (f session)
-grows-step hub (hears_head head) session = grows-none session (heard head (now hub) session) refl
-grows-step hub (reacts reaction head established is message) session = grows-by_itself hub reaction message session
+grows-step hub (restarts message) session = grows-none session (restarted_by message (now hub) session) refl
+grows-step hub (reacts message) session = grows-itself hub message session
 grows-step hub (answers_subscribe message any) session = grows-answered hub (id_of message) (question_of (primary_data message)) session
 grows-step hub (answers_update before message) session = grows-says (newest hub) (now hub) false (answer_to_update (id_of message) (update before message).0) session.queue session
 grows-step hub packs_names session =

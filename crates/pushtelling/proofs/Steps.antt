@@ -2,7 +2,7 @@
 --     QuietAnswer reaction      an answer that it gives has no notices, and grants no SUBSCRIBE
 --     tells-step      each step
 --     tells-timed      time passes
-use Rattle.std.proofs.Common.{◌≡◌, ℕ, Bool, true, false, cond, not, ◌&&◌, List, [], ◌∷◌, Option, Some, None, is_some, IsTrue, subst, sym, ◌∙◌, refl}
+use Rattle.std.proofs.Common.{◌≡◌, ℕ, Bool, true, false, cond, not, ◌&&◌, List, [], ◌∷◌, Option, Some, None, is_some, IsTrue, sym, ◌∙◌, refl}
 use Rattle.std.specs.Prelude.{option_map, ◌==◌}
 use Rattle.std.specs.Int.{w16, from_be_bytes}
 use Rattle.std.specs.List.{AllByRecursion}
@@ -13,7 +13,7 @@ use Rattle.rrset.specs.Rcodes.{formerr, refused, notauth, dsotypeni}
 use Rattle.rrset.specs.Records.{same_question}
 use Rattle.rrset.specs.declared.record.Question.{Question}
 use Rattle.dsotlv.specs.Answers.{answer_to, refusal_to, grant_to, not_implemented, answer_to_update, stop_message}
-use Rattle.dsotlv.specs.Messages.{dso_opcode, primary_data}
+use Rattle.dsotlv.specs.Messages.{dso_opcode, head_of, primary_data}
 use Rattle.dsotlv.specs.Notices.{question_of}
 use Rattle.dsotlv.specs.TlvKinds.{keepalive_tlv, retry_delay_tlv, padding_tlv, subscribe_tlv, push_tlv, unsubscribe_tlv, reconfirm_tlv}
 use Rattle.dsotlv.specs.declared.message.DsoHead.{DsoHead}
@@ -26,7 +26,7 @@ use Rattle.history.specs.States.{State}
 use Rattle.history.specs.declared.entry.Entry.{Entry}
 use Rattle.pushsession.specs.Sessions.{answers, due, ended_with, ended_where, says_stop, timed}
 use Rattle.pushsession.specs.Subscribing.{Verdict, decided, answered}
-use Rattle.pushsession.specs.Reactions.{by_itself}
+use Rattle.pushsession.specs.Reactions.{reacts_itself, by_itself}
 use Rattle.pushsession.specs.declared.standing.Standing.TheVariants.{Stopped, Ended}
 use Rattle.pushserver.specs.PlainHubs.{Hub, Session, Subscription, subscription_for, plain_keeps}
 use Rattle.pushserver.specs.Hubs.{now, keeps_now, tells_now, update}
@@ -34,7 +34,8 @@ use Rattle.pushserver.specs.Giving.{has_home}
 use Rattle.pushserver.proofs.Subscribing.{verdict-holds}
 use Rattle.rrset.proofs.Distinct.{any_found}
 use Rattle.pushserver.proofs.session_steps.Lists.{some-find}
-use Rattle.pushserver.proofs.Walks.{Step, hears_head, reacts, answers_subscribe, answers_update, packs_names, comes_to_stop, ends_with, copies_front}
+use Rattle.pushserver.proofs.hub_steps.Cases.{itself_as}
+use Rattle.pushserver.proofs.Walks.{Step, restarts, reacts, answers_subscribe, answers_update, packs_names, comes_to_stop, ends_with, copies_front}
 use Rattle.dsotlv.specs.Laws.{AreOctets}
 use Rattle.dsotlv.proofs.Numbers.{two_below}
 use Rattle.pushserver.proofs.session_steps.Octets.{question-named}
@@ -142,6 +143,13 @@ module _ (hub : Hub) where
   tells-by_itself Reconfirm quiet message session t = t
   tells-by_itself Update quiet message session t = t
 
+  tells-itself : (message : List ℕ) (session : Session) → TellsNow session → TellsNow (reacts_itself (keeps_now hub) hub.timers (now hub) message session)
+  tells-itself message session t = by (head_of message)
+    where
+      by : (o : Option DsoHead) → TellsNow (itself_as (keeps_now hub) hub.timers (now hub) message session o)
+      by None = tells-cleared hub.start hub.history session 0 (Ended ends.Short) t
+      by (Some head) = tells-by_itself (server_reaction head session.established) (quiet-reaction head session.established) message session t
+
   module _ (states : StatesTell hub) where
     tells-answered : (message : List ℕ) → AreOctets message → (session : Session) → TellsNow session
         → TellsNow (answered (keeps_now hub) (tells_now hub) (now hub) (id_of message) (question_of (primary_data message)) (has_home hub (question_of (primary_data message))) session)
@@ -170,8 +178,8 @@ module _ (hub : Hub) where
         unfound (Some s) e = absurd cc
 
     pub tells-step : {f : Session → Session} → Step AreOctets hub f → (session : Session) → TellsNow session → TellsNow (f session)
-    tells-step (hears_head head) session t = t
-    tells-step (reacts reaction head established is message) session t = tells-by_itself reaction (subst QuietAnswer is (quiet-reaction head established)) message session t
+    tells-step (restarts message) session t = t
+    tells-step (reacts message) session t = tells-itself message session t
     tells-step (answers_subscribe message octets) session t = tells-answered message octets session t
     tells-step (answers_update before message) session t =
         let code = (update before message).0 in

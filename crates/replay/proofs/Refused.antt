@@ -1,5 +1,5 @@
 -- Worlds of one client from which a step would end the session, close the client, or leave it with other records than are
--- told: the rule on what is under way refuses each, by the one sentence that is named, by computation. All others hold there.
+-- told: the tests of the rule on what is under way refuse each, by the sentences that are named and no other, by computation.
 use Rattle.std.proofs.Common.{◌≡◌, ℕ, Bool, List, [], ◌∷◌, ◌++◌, map, codes, refl, true, false}
 use Rattle.std.specs.Prelude.{Option, Some, None, flat_map}
 use Rattle.rrset.specs.Header.{answer_octets}

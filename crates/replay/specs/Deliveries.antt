@@ -13,7 +13,7 @@ abbrev pub delivered_all : List (List ℕ) → Client → Client × List ℕ
 delivered_all [] client = (client, [])
 delivered_all (piece ∷ pieces) client = (let d = to_client piece client in let later = delivered_all pieces d.client in (later.0, d.left ++ later.1))
 
--- What is told of pieces in `pushclient` is so of what `feed`, `shift` and `settle` deliver: a client answers the whole messages in its
+-- What is told of pieces in `pushclient` is so of what `feed`, `down` and `settle` deliver: a client answers the whole messages in its
 -- octets, in whatever pieces they come.
 abbrev pub DeliversPieces : Type 0
 DeliversPieces = (pieces : List (List ℕ)) (client : Client) (c : Connection) → WaitsForOctets client c → AreOctets (c.input ++ concat pieces) → length (c.input ++ concat pieces) < enough

@@ -7,7 +7,7 @@
 --     NoMessageEnds      no message of a hub's client ends its session, and none of the hub but Retry Delay closes the client
 --     EveryCutGivesOneOutput      a peer is sent the same, however its octets are cut
 --     EndsStandFor kept clients world      the hub and the clients that ran a script
-use Rattle.std.specs.Prelude.{◌≡◌, ℕ, ◌+◌, ◌≤◌, ◌<◌, Bool, true, false, not, ◌||◌, List, [], ◌∷◌, ◌++◌, map, length, filter_map, Option, Some, None, is_none, option_map, Ok, IsTrue, IsSome, codes, decimal, if◌then◌else◌}
+use Rattle.std.specs.Prelude.{◌≡◌, ℕ, ◌+◌, ◌≤◌, ◌<◌, Bool, true, false, not, ◌||◌, List, [], ◌∷◌, ◌++◌, map, length, filter_map, Option, Some, None, is_none, option_map, Ok, IsTrue, codes, decimal, if◌then◌else◌}
 use Rattle.std.specs.List.{list_any, AllByRecursion, AllZip, IsDistinct}
 use Rattle.std.specs.Str.{bytes_eq}
 use Rattle.push_base.specs.Limits.{max_input}
@@ -20,13 +20,11 @@ use Rattle.dsosession.specs.declared.session.EndReason.{EndReason}
 use Rattle.dsosession.specs.declared.session.EndReason.TheVariants as ends
 use Rattle.dsosession.specs.declared.session.CloseReason.{CloseReason}
 use Rattle.dsosession.specs.declared.session.CloseReason.TheVariants as closes
-use Rattle.history.specs.States.{home_of}
 use Rattle.pushsession.specs.Sessions.{is_open}
-use Rattle.pushsession.specs.Subscribing.{is_served}
 use Rattle.pushserver.specs.PlainHubs.{Session, Made, size_of_made, Hub, told, note_of, sent}
 use Rattle.pushserver.specs.Hubs.{newest, state_now, records_now, session_of}
 use Rattle.pushserver.specs.declared.given.Given.TheVariants.{Nothing}
-use Rattle.pushserver.specs.Giving.{give}
+use Rattle.pushserver.specs.Giving.{is_served_at, give}
 use Rattle.pushserver.specs.ToldMessages.{TellsHistory, notices_since, records_noted}
 use Rattle.pushserver.specs.KeptHubs.{KeptHub, StandsFor}
 use Rattle.pushclient.specs.Clients.{Client, Connection, Wish, unanswered, answered, wish_for, held, Held, set_held}
@@ -53,10 +51,10 @@ abbrev pub held_lines : Word → Question → List ℕ → RecordSet → List (L
 held_lines w question written set =
     spaced (codes "show" ∷ w ∷ written ∷ decimal question.kind ∷ decimal question.class ∷ (with_records (codes "held") set).0 ∷ []) ∷ map record_line set
 
--- a `show` of a question that the client wants, and that has a home and a class, prints the records of the newest point
+-- a `show` of a question that the client wants, and that is served, prints the records of the newest point
 abbrev pub ShowsNewest : World → Word → Type 0
 ShowsNewest world w = (seat : Seat) (question : Question) (written : List ℕ) → seat_of world w ≡ Some seat → IsTrue (is_wanted seat.client question)
-    → IsTrue (is_served question.class) → IsSome (home_of (state_now world.hub) question.name)
+    → IsTrue (is_served_at (state_now world.hub) question)
     → (line_does by_history (show w question written) world).1 ≡ held_lines w question written (matching question (records_now world.hub))
 
 abbrev pub KeepsPromises : List ScriptLine → Type 0
@@ -106,7 +104,7 @@ pub record ConnectionHolds (hub : Hub) (shown : ShownPoints) (seat : Seat) (sess
   pub waits : first_message c.input ≡ None
   pub unclosed : c.closed ≡ None
   pub bounds : AreWithinBounds seat session c
-  -- the newest point when it was opened: no note gives an earlier one, and no greater one was shown before a message was taken
+  -- a point, as the newest when it was opened: no note gives an earlier one, and no greater one was shown before a message was taken
   pub start : ℕ
   pub since : AllByRecursion (λ n. (name : Labels) → start ≤ told n name) (map (λ m. m.note) session.made ++ note_of (newest hub) session ∷ [])
   pub shown_before : ShowsNoLater shown (point_taken start flight.taken)

@@ -1,7 +1,7 @@
 -- Words for worked rows: the rules on what is under way as tests, after each line of a script.
 --     unmet_in so_far world      which sentences of a world aren't so, by name
 --     holds_throughout script      after each line, of each client of the hub, all are
-use Rattle.std.specs.Prelude.{ℕ, ◌+◌, ◌-◌, Bool, true, false, not, ◌&&◌, ◌||◌, List, [], ◌∷◌, ◌++◌, map, length, drop, find, count_by, flat_map, Option, Some, None, Ok, Err, is_some, is_none, nat_le, nat_lt, ◌==◌, filter_map, codes, if◌then◌else◌}
+use Rattle.std.specs.Prelude.{ℕ, ◌+◌, ◌-◌, Bool, true, false, not, ◌&&◌, ◌||◌, List, [], ◌∷◌, ◌++◌, map, length, drop, find, count_by, flat_map, Option, Some, None, Ok, Err, is_none, nat_le, nat_lt, ◌==◌, filter_map, codes, if◌then◌else◌}
 use Rattle.std.specs.List.{list_any, list_all, starts_with}
 use Rattle.std.specs.Str.{bytes_eq}
 use Rattle.push_base.specs.Cases.{is_empty}
@@ -12,12 +12,10 @@ use Rattle.dsotlv.specs.Messages.{messages_in, first_message}
 use Rattle.pushserver.specs.PlainHubs.{Session, Made, Note, told, note_of, size_of_made, written, Hub, sent}
 use Rattle.pushserver.specs.Hubs.{newest, session_of}
 use Rattle.pushserver.specs.declared.given.Given.TheVariants.{Nothing}
-use Rattle.pushserver.specs.Giving.{give}
+use Rattle.pushserver.specs.Giving.{is_served_at, give}
 use Rattle.pushserver.specs.ToldMessages.{set_after, records_noted}
 use Rattle.pushclient.specs.Clients.{Connection, is_connected}
-use Rattle.history.specs.States.{home_of}
 use Rattle.pushsession.specs.Sessions.{is_open}
-use Rattle.pushsession.specs.Subscribing.{is_served}
 use Rattle.pushserver.specs.Hubs.{state_now, records_now}
 use Rattle.dsosession.specs.declared.session.Timers.{Timers}
 use Rattle.inflight.specs.Messages.{flying_octets}
@@ -170,7 +168,7 @@ same_told a b = bytes_eq a.0 b.0 && same_rows a.1 b.1
 -- right after a settle a wanted question that has a home shows the newest records
 abbrev pub is_newest : World → Seat → Question → Bool
 is_newest world seat q =
-    not (is_wanted seat.client q) || not (is_served q.class) || not (is_some (home_of (state_now world.hub) q.name))
+    not (is_wanted seat.client q) || not (is_served_at (state_now world.hub) q)
     || same_told (show_at by_history world seat q) (with_records (codes "held") (matching q (records_now world.hub)))
 
 abbrev pub newest_if : Bool → World → Word → Question → Bool

@@ -3,6 +3,8 @@
 #![tactic(auto)]
 
 #[cfg(test)]
+mod deadlines;
+#[cfg(test)]
 mod hearings;
 #[cfg(test)]
 mod names;
@@ -18,6 +20,8 @@ mod session_messages;
 mod shown;
 #[cfg(test)]
 mod streams;
+#[cfg(test)]
+mod translations;
 #[cfg(test)]
 mod updates;
 

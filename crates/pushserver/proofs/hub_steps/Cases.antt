@@ -1,6 +1,7 @@
 -- The cases of a hub's calls, whatever its sessions keep: what each does, as a function of what was found.
 --     update_as, moment_as      by the verdict on an update; by the time and the journal's room
---     key_as, head_as      a RECONFIRM by the key of its record; a message by its head
+--     key_as, session_as      a RECONFIRM by the key of its record; a message by the session
+--     request_as, clocks_as, itself_as      a message by its head: what is needed for it, the clocks behind it, what a session makes of it by itself
 --     found_as, works_as, give_as      `give` by the session, by the first message, and by the output
 use Rattle.std.specs.Prelude.{ℕ, Bool, true, false, cond, List, Option, Some, None, Result, Ok, Err, ◌&&◌}
 use Rattle.push_base.specs.Cases.{is_empty}
@@ -8,18 +9,36 @@ use Rattle.rrset.specs.Rcodes.{noerror, servfail}
 use Rattle.rrset.specs.declared.record.Key.{Key}
 use Rattle.dnswire.specs.declared.message.Update.{Update}
 use Rattle.dsotlv.specs.declared.message.DsoHead.{DsoHead}
-use Rattle.dsosession.specs.Reactions.{server_reaction}
+use Rattle.dsosession.specs.Reactions.{server_reaction, is_keepalive}
+use Rattle.dsosession.specs.Timing.{Clocks, restarted}
+use Rattle.dsosession.specs.declared.session.Timers.{Timers}
 use Rattle.dsosession.specs.declared.session.EndReason.TheVariants as ends
 use Rattle.history.specs.States.{accepts}
 use Rattle.history.specs.declared.entry.Entry.TheVariants as entries
 use Rattle.pushsession.specs.declared.standing.Standing.{Standing}
-use Rattle.pushsession.specs.Sessions.{SessionOf, timed, without_first}
+use Rattle.pushsession.specs.Sessions.{SessionOf, Keeps, timed, without_first}
 use Rattle.pushsession.specs.Subscribing.{packs}
-use Rattle.pushsession.specs.Reactions.{heard}
+use Rattle.pushsession.specs.Reactions.{restarted_by, request_in, request_for, by_itself, ends_short}
+use Rattle.pushsession.specs.declared.request.Request.{Request}
+use Rattle.pushsession.specs.declared.request.Request.TheVariants as requests
 use Rattle.pushserver.specs.declared.given.Given.{Given}
 use Rattle.pushserver.specs.declared.given.Given.TheVariants.{End}
-use Rattle.pushserver.specs.Hubs.{SessionKind, HubOf, now, state_now, keeps_now, tells_now, session_of, each_session, in_session, entered, can_enter}
-use Rattle.pushserver.specs.Giving.{GivingOf, ends_as, by_reaction, reacted, did, copies, copies_or, after_reaction, after_packing, by_standing}
+use Rattle.pushserver.specs.Hubs.{SessionKind, HubOf, now, state_now, keeps_now, tells_now, each_session, in_session, entered, can_enter}
+use Rattle.pushserver.specs.Giving.{GivingOf, by_request, reacted, did, copies, copies_or, after_reaction, after_packing, by_standing}
+
+-- ---- a message by its head
+
+abbrev pub request_as : List ℕ → Bool → Option DsoHead → Request
+request_as message established None = requests.Itself
+request_as message established (Some head) = request_for (server_reaction head established) message
+
+abbrev pub clocks_as : ℕ → Clocks → Option DsoHead → Clocks
+clocks_as t clocks None = clocks
+clocks_as t clocks (Some head) = restarted (is_keepalive head) t clocks
+
+abbrev pub itself_as : {A Q M : Type 0} → Keeps A Q M → Timers → ℕ → List ℕ → SessionOf A Q M → Option DsoHead → SessionOf A Q M
+itself_as keeps timers t message session None = ends_short keeps session
+itself_as keeps timers t message session (Some head) = by_itself keeps (server_reaction head session.established) timers t message session
 
 module _ {A Q M : Type 0} {kind : SessionKind A Q M} where
   -- ---- an update, a moment
@@ -43,13 +62,9 @@ module _ {A Q M : Type 0} {kind : SessionKind A Q M} where
   key_as hub None = hub
   key_as hub (Some found) = cond (accepts (state_now hub) (entries.Reconfirm found.0 found.1) && can_enter hub (entries.Reconfirm found.0 found.1)) (entered (entries.Reconfirm found.0 found.1) hub) hub
 
-  abbrev pub session_as : HubOf kind → ℕ → List ℕ → DsoHead → Option (SessionOf A Q M) → HubOf kind
-  session_as hub number message head None = hub
-  session_as hub number message head (Some session) = by_reaction (server_reaction head session.established) number message (in_session number (heard head (now hub)) hub)
-
-  abbrev pub head_as : HubOf kind → ℕ → List ℕ → Option DsoHead → HubOf kind
-  head_as hub number message None = ends_as number ends.Short hub
-  head_as hub number message (Some head) = session_as hub number message head (session_of hub number)
+  abbrev pub session_as : HubOf kind → ℕ → List ℕ → Option (SessionOf A Q M) → HubOf kind
+  session_as hub number message None = hub
+  session_as hub number message (Some session) = by_request (request_in message session.established) number message (in_session number (restarted_by message (now hub)) hub)
 
   -- ---- `give`
 

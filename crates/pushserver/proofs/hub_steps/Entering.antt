@@ -3,11 +3,12 @@
 --     entered-stands      the hub after the entry
 use Rattle.std.proofs.Common.{◌≡◌, ℕ, ◌+◌, ◌<◌, ◌≤◌, List, [], ◌∷◌, ◌++◌, map, filter, Option, sym, ◌∙◌, ap, subst, refl, arith}
 use Rattle.std.proofs.lemmas.List.{length-append, length-map}
-use Rattle.std.specs.Prelude.{fold, IsSome}
+use Rattle.std.specs.Prelude.{fold, is_some, IsSome, IsTrue}
 use Rattle.std.specs.List.{AllByRecursion, AllZip}
 use Rattle.dnsname.specs.Names.{Labels}
 use Rattle.rrset.specs.RecordSet.{at_name, changes}
 use Rattle.rrset.specs.declared.record.Changed.{Changed}
+use Rattle.rrset.specs.declared.record.Question.{Question}
 use Rattle.coalesce.specs.Waiting.{WaitingName}
 use Rattle.history.specs.Standing.{AreAtHome}
 use Rattle.history.specs.States.{after, home_of}
@@ -16,8 +17,11 @@ use Rattle.history.specs.declared.entry.Home.{Home}
 use Rattle.history.proofs.LongerHistory.{records_at-append}
 use Rattle.pushsession.specs.Kept.{KeptSession, keeping}
 use Rattle.pushsession.specs.Sessions.{touched, noted}
+use Rattle.pushsession.specs.Subscribing.{is_served}
+use Rattle.zoneupdate.proofs.Filters.{and-left, and-right, and-both}
 use Rattle.pushserver.specs.PlainHubs.{Hub, Session, Queue, enqueued, plain_keeps}
 use Rattle.pushserver.specs.Hubs.{newest, state_now, records_now, entered, all_sessions, max_sessions}
+use Rattle.pushserver.specs.Giving.{is_served_at}
 use Rattle.pushserver.specs.Rows.{IsTellable}
 use Rattle.pushserver.specs.KeptHubs.{StandsFor, IsCopy}
 use Rattle.pushserver.proofs.session_steps.Lists.{each-both, each-map}
@@ -54,6 +58,12 @@ module _ (hub : Hub) (entry : Entry) where
   home-stays : AreAtHome (state_now hub) → (name : Labels) → IsSome (home_of (state_now hub) name) → IsSome (home_of (state_now (longer hub entry)) name)
   home-stays at_home name h = subst (λ (o : Option Home). IsSome o) (sym (ap (λ s. home_of s name) (state_now-longer hub entry) ∙ home-after_entry (state_now hub) at_home entry name)) h
 
+  served-stays : AreAtHome (state_now hub) → (question : Question) → IsTrue (is_served_at (state_now hub) question) → IsTrue (is_served_at (state_now (longer hub entry)) question)
+  served-stays at_home question served =
+      let class = is_served question.class in
+      let home = is_some (home_of (state_now hub) question.name) in
+      and-both class (is_some (home_of (state_now (longer hub entry)) question.name)) (and-left class home served) (home-stays at_home question.name (and-right class home served))
+
   -- a copy of the past stays one
   copy-longer : (w : WaitingName) → w.point ≤ newest hub → IsCopy hub w → IsCopy (longer hub entry) w
   copy-longer w within copy = copy ∙ ap (at_name w.name) (sym (records_at-append hub.start hub.history (entry ∷ []) w.point within))
@@ -71,7 +81,7 @@ module _ (hub : Hub) (entry : Entry) where
         few = s.sound.few;
         ids = s.sound.ids;
         questions = s.sound.questions;
-        homes = all-weaken (HasHome (state_now hub)) (HasHome (state_now (longer hub entry))) (λ u both. (both.0, home-stays at_home u.question.name both.1)) p.1.subscriptions s.sound.homes;
+        homes = all-weaken (HasHome (state_now hub)) (HasHome (state_now (longer hub entry))) (λ u served. served-stays at_home u.question served) p.1.subscriptions s.sound.homes;
       }
 
       names : List Labels

@@ -27,22 +27,23 @@ use Rattle.pushsession.specs.Kept.{KeptSession, keeping, telling}
 use Rattle.dsotlv.specs.Answers.{answer_to_update}
 use Rattle.pushsession.specs.Sessions.{ended_with, answers}
 use Rattle.pushsession.specs.Subscribing.{answered}
-use Rattle.pushsession.specs.Reactions.{heard, by_itself}
+use Rattle.pushsession.specs.Reactions.{restarted_by, request_in, request_for, reacts_itself}
+use Rattle.pushsession.specs.declared.request.Request.TheVariants as requests
 use Rattle.pushserver.specs.PlainHubs.{Hub, Session, plain_keeps, plain_tells}
 use Rattle.pushserver.specs.Hubs.{Numbered, session_in, in_sessions, newest, now, state_now, records_now, session_of, in_session, entered, can_enter, update}
-use Rattle.pushserver.specs.Giving.{ends_as, has_home, subscribes, reconfirms, updates, reacts_itself, by_reaction, reacted}
+use Rattle.pushserver.specs.Giving.{ends_as, has_home, subscribes, reconfirms, updates, by_request, reacted}
 use Rattle.pushserver.specs.KeptHubs.{KeptHub, StandsFor}
 use Rattle.dsotlv.specs.Laws.{AreOctets}
 use Rattle.pushserver.specs.Simulation.{BothAnswer}
 use Rattle.pushserver.proofs.SessionLists.{found-all, found-in}
 use Rattle.pushserver.proofs.session_steps.Standing.{ended-keeps}
-use Rattle.pushserver.proofs.session_steps.Saying.{answers-keeps, heard-keeps}
-use Rattle.pushserver.proofs.session_steps.Reactions.{by_itself-keeps}
+use Rattle.pushserver.proofs.session_steps.Saying.{answers-keeps, restarts-keeps}
+use Rattle.pushserver.proofs.session_steps.Reactions.{itself-keeps}
 use Rattle.pushserver.proofs.session_steps.Octets.{question-named}
 use Rattle.pushserver.proofs.session_steps.Accepting.{answered-keeps}
 use Rattle.pushserver.proofs.told_rows.HubTells.{hub_told}
 use Rattle.pushserver.proofs.hub_steps.Standing.{kept_of, Stands, with_kept, fitting, in-stands, found-stands, FoundBoth, both_found}
-use Rattle.pushserver.proofs.hub_steps.Cases.{enters_update, update_as, key_as, session_as, head_as}
+use Rattle.pushserver.proofs.hub_steps.Cases.{enters_update, update_as, key_as, session_as, request_as}
 use Rattle.pushserver.proofs.hub_steps.Entering.{plain_noted}
 use Rattle.pushserver.proofs.hub_steps.Calls.{tells-now, update-stands}
 
@@ -115,10 +116,10 @@ module _ (number : ℕ) (hub : Hub) (ks : Numbered KeptSession) (h : Stands hub 
   reconfirms-stands (Some rr) = subst (λ (o : Option (ℕ × Key)). StandsFor (key_as khub o) (key_as hub o)) (sym (no_key (state_now hub) rr (tells-now hub ks h).home.links)) h
 
   module _ (quiet : IsQuiet number hub) where
-    itself-stands : (reaction : Reaction) (message : List ℕ) → StandsFor (reacts_itself reaction number message khub) (reacts_itself reaction number message hub)
-    itself-stands reaction message =
-        found-stands hub ks (by_itself keeping reaction hub.timers (now hub) message) (by_itself (plain_keeps (newest hub)) reaction hub.timers (now hub) message) number
-        (λ k p found s. by_itself-keeps hub (newest hub) reaction hub.timers (now hub) message k p (quiet p.1 found) s) h
+    itself-stands : (message : List ℕ) → StandsFor (by_request requests.Itself number message khub) (by_request requests.Itself number message hub)
+    itself-stands message =
+        found-stands hub ks (reacts_itself keeping hub.timers (now hub) message) (reacts_itself (plain_keeps (newest hub)) hub.timers (now hub) message) number
+        (λ k p found s. itself-keeps hub (newest hub) hub.timers (now hub) message k p (quiet p.1 found) s) h
 
     subscribes-stands : (message : List ℕ) → AreOctets message → (question : Option Question) → question_of (primary_data message) ≡ question → StandsFor (subscribes question number message khub) (subscribes question number message hub)
     subscribes-stands message octets question read =
@@ -129,32 +130,35 @@ module _ (number : ℕ) (hub : Hub) (ks : Numbered KeptSession) (h : Stands hub 
     updates-stands : (message : List ℕ) → AreOctets message → StandsFor (updates number message khub) (updates number message hub)
     updates-stands message octets = answered-stands number (id_of message) (update khub message) (update hub message) (quiet-updated number hub message quiet) (update-stands hub ks message octets h)
 
-    reaction-stands : (reaction : Reaction) (message : List ℕ) → AreOctets message → StandsFor (by_reaction reaction number message khub) (by_reaction reaction number message hub)
+    reaction-stands : (reaction : Reaction) (message : List ℕ) → AreOctets message → StandsFor (by_request (request_for reaction message) number message khub) (by_request (request_for reaction message) number message hub)
     reaction-stands reactions.Subscribe message octets = subscribes-stands message octets (question_of (primary_data message)) refl
     reaction-stands reactions.Reconfirm message octets = reconfirms-stands (reconfirm_of (primary_data message))
     reaction-stands reactions.Update message octets = updates-stands message octets
-    reaction-stands (reactions.Answer rcode) message octets = itself-stands (reactions.Answer rcode) message
-    reaction-stands reactions.Grant message octets = itself-stands reactions.Grant message
-    reaction-stands (reactions.Abort reason) message octets = itself-stands (reactions.Abort reason) message
-    reaction-stands reactions.Unsubscribe message octets = itself-stands reactions.Unsubscribe message
-    reaction-stands reactions.NotImplemented message octets = itself-stands reactions.NotImplemented message
+    reaction-stands (reactions.Answer rcode) message octets = itself-stands message
+    reaction-stands reactions.Grant message octets = itself-stands message
+    reaction-stands (reactions.Abort reason) message octets = itself-stands message
+    reaction-stands reactions.Unsubscribe message octets = itself-stands message
+    reaction-stands reactions.NotImplemented message octets = itself-stands message
+
+    request-stands : (message : List ℕ) → AreOctets message → (established : Bool) → StandsFor (by_request (request_in message established) number message khub) (by_request (request_in message established) number message hub)
+    request-stands message octets established = by (head_of message)
+      where
+        by : (o : Option DsoHead) → StandsFor (by_request (request_as message established o) number message khub) (by_request (request_as message established o) number message hub)
+        by None = itself-stands message
+        by (Some head) = reaction-stands (server_reaction head established) message octets
 
 -- ---- a message
 
 pub reacted-stands : (number : ℕ) (hub : Hub) (ks : Numbered KeptSession) (message : List ℕ) → IsQuiet number hub → AreOctets message → Stands hub ks → StandsFor (reacted message number (kept_of hub ks)) (reacted message number hub)
-reacted-stands number hub ks message quiet octets h = by (head_of message)
+reacted-stands number hub ks message quiet octets h = by (session_in number ks) (session_in number hub.sessions) (both_found hub number ks hub.sessions (fitting h))
   where
-    by_session : (head : DsoHead) (s : Option KeptSession) (p : Option Session) → FoundBoth hub number s p → StandsFor (session_as (kept_of hub ks) number message head s) (session_as hub number message head p)
-    by_session head None None both = h
-    by_session head None (Some p) both = absurd both
-    by_session head (Some s) None both = absurd both
-    by_session head (Some s) (Some p) both =
-        let f = heard head (now hub) in
-        let later = in_session number (heard head (now hub)) hub in
-        subst (λ b. StandsFor (by_reaction (server_reaction head b) number message (in_session number (heard head (now hub)) (kept_of hub ks))) (session_as hub number message head (Some p))) (sym both.stands.established)
-        (reaction-stands number later (in_sessions number (heard head (now hub)) ks) (in-stands hub ks (heard head (now hub)) f number (heard-keeps hub head (now hub)) h)
-        (quiet-later number f (λ p. refl) hub later (found-in number f hub.sessions) quiet) (server_reaction head p.established) message octets)
-
-    by : (o : Option DsoHead) → StandsFor (head_as (kept_of hub ks) number message o) (head_as hub number message o)
-    by None = ends-stands number hub ks h ends.Short
-    by (Some head) = by_session head (session_in number ks) (session_in number hub.sessions) (both_found hub number ks hub.sessions (fitting h))
+    by : (s : Option KeptSession) (p : Option Session) → FoundBoth hub number s p → StandsFor (session_as (kept_of hub ks) number message s) (session_as hub number message p)
+    by None None both = h
+    by None (Some p) both = absurd both
+    by (Some s) None both = absurd both
+    by (Some s) (Some p) both =
+        let f = restarted_by message (now hub) in
+        let later = in_session number (restarted_by message (now hub)) hub in
+        subst (λ b. StandsFor (by_request (request_in message b) number message (in_session number (restarted_by message (now hub)) (kept_of hub ks))) (session_as hub number message (Some p))) (sym both.stands.established)
+        (request-stands number later (in_sessions number (restarted_by message (now hub)) ks) (in-stands hub ks (restarted_by message (now hub)) f number (restarts-keeps hub message (now hub)) h)
+        (quiet-later number f (λ p. refl) hub later (found-in number f hub.sessions) quiet) message octets p.established)

@@ -5,6 +5,7 @@
 use Rattle.std.proofs.Common.{◌≡◌, ℕ, ◌+◌, ◌-◌, ◌≤◌, ◌^◌, Bool, true, false, cond, not, ◌||◌, List, [], ◌∷◌, ◌++◌, length, min, Option, Some, None, refl, sym, ◌∙◌, ap, subst, arith}
 use Rattle.std.specs.Prelude.{IsTrue, find, filter, option_map, nat_le, ◌==◌}
 use Rattle.std.proofs.lemmas.Bool.{leb-false}
+use Rattle.zoneupdate.proofs.Filters.{and-both}
 use Rattle.std.proofs.lemmas.List.{length-append, length-map, map-append}
 use Rattle.std.proofs.lemmas.List.Elements.{filter_agree}
 use Rattle.push_base.specs.Limits.{max_questions, max_number}
@@ -132,7 +133,7 @@ module _ (hub : Hub) (n : ℕ) (k : ℕ × KeptSession) (p : ℕ × Session) (s 
         few = omega (arith, leb-false max_questions (length p.1.subscriptions) can.room, length-append p.1.subscriptions (new ∷ []));
         ids = distinct_push _ p.1.subscriptions new s.sound.ids (sym (some-find (λ q. q.id == id) p.1.subscriptions) ∙ can.new_id);
         questions = distinct_push _ p.1.subscriptions new s.sound.questions (any_found (λ q. same_question q.question question) p.1.subscriptions (no_question question can.new_question));
-        homes = each-append _ p.1.subscriptions (new ∷ []) s.sound.homes ((can.class, can.home), tt);
+        homes = each-append _ p.1.subscriptions (new ∷ []) s.sound.homes (and-both (is_served question.class) (has_home hub (Some question)) can.class can.home, tt);
       }
 
       others : Waits hub.start hub.history (without_name question.name k.1.queue) (leaves_queue question.name p.1.queue)

@@ -7,13 +7,11 @@ use Rattle.push_base.specs.Limits.{max_number}
 use Rattle.rrset.specs.Header.{two_octets}
 use Rattle.rrset.proofs.Distinct.{distinct_filter}
 use Rattle.rrset.proofs.Places.{all_filter}
-use Rattle.dsotlv.specs.Messages.{frame, first_message}
-use Rattle.dsotlv.specs.declared.message.DsoHead.{DsoHead}
+use Rattle.dsotlv.specs.Messages.{frame, first_message, head_of}
 use Rattle.dsotlv.specs.declared.message.Notice.{Notice}
 use Rattle.coalesce.specs.Net.{push_message}
 use Rattle.coalesce.specs.Sides.{frame_octets}
 use Rattle.coalesce.specs.Waiting.{WaitingName}
-use Rattle.dsosession.specs.Reactions.{is_keepalive}
 use Rattle.dsosession.specs.Timing.{Clocks, restarted}
 use Rattle.dsosession.specs.declared.session.Timers.{Timers}
 use Rattle.dsosession.specs.declared.session.EndReason.TheVariants as ends
@@ -22,9 +20,10 @@ use Rattle.pushsession.specs.Kept.{KeptSession, keeping, without_filled}
 use Rattle.dsotlv.specs.Answers.{stop_message}
 use Rattle.pushsession.specs.Sessions.{SessionOf, Keeps, says, answers, ended_with, says_stop, stopped, without_first}
 use Rattle.pushsession.specs.Subscribing.{says_notices}
-use Rattle.pushsession.specs.Reactions.{heard, granted, unsubscribed}
+use Rattle.pushsession.specs.Reactions.{restarted_by, granted, unsubscribed}
 use Rattle.pushserver.specs.PlainHubs.{Hub, Session, Subscription, Queue, frame_of, size_of_made, plain_keeps}
 use Rattle.pushserver.specs.Hubs.{state_now}
+use Rattle.pushserver.proofs.hub_steps.Cases.{clocks_as}
 use Rattle.pushserver.proofs.session_steps.Standing.{ended-keeps}
 use Rattle.pushserver.proofs.session_steps.Parts.{SessionFits, SessionKeeps, Asks, Reads, Writes, asks, waits, reads, writes, stands, asks_nothing, none_waits}
 use Rattle.pushserver.proofs.session_steps.Lists.{filter-map}
@@ -100,9 +99,9 @@ module _ (hub : Hub) where
   grants-keeps timers k p s = stands hub k p s (granted timers k.1) (granted timers p.1) (asks hub k p s) (waits hub k p s) (reads hub k p s) (writes hub k p s)
       (ap (λ (c : Clocks). record c { timers = timers }) s.stands.clocks) refl s.stands.standing
 
-  pub heard-keeps : (head : DsoHead) (now : ℕ) → SessionKeeps hub (heard head now) (heard head now)
-  heard-keeps head now k p s = stands hub k p s (heard head now k.1) (heard head now p.1) (asks hub k p s) (waits hub k p s) (reads hub k p s) (writes hub k p s)
-      (ap (λ (c : Clocks). restarted (is_keepalive head) now c) s.stands.clocks) s.stands.established s.stands.standing
+  pub restarts-keeps : (message : List ℕ) (now : ℕ) → SessionKeeps hub (restarted_by message now) (restarted_by message now)
+  restarts-keeps message now k p s = stands hub k p s (restarted_by message now k.1) (restarted_by message now p.1) (asks hub k p s) (waits hub k p s) (reads hub k p s) (writes hub k p s)
+      (ap (λ (c : Clocks). clocks_as now c (head_of message)) s.stands.clocks) s.stands.established s.stands.standing
 
   pub without_first-keeps : (found : List ℕ × List ℕ) (k : ℕ × KeptSession) (p : ℕ × Session) → first_message p.1.input ≡ Some found → SessionFits hub k p
       → SessionFits hub (k.0, without_first found.1 k.1) (p.0, without_first found.1 p.1)

@@ -29,7 +29,7 @@ use Rattle.pushsession.specs.declared.standing.Standing.{Standing}
 use Rattle.pushsession.specs.declared.standing.Standing.TheVariants.{Live, Ended}
 use Rattle.pushsession.specs.Sessions.{answers}
 use Rattle.pushsession.specs.Subscribing.{answered}
-use Rattle.pushsession.specs.Reactions.{heard, by_itself}
+use Rattle.pushsession.specs.Reactions.{restarted_by, by_itself}
 use Rattle.pushserver.specs.PlainHubs.{Session, Subscription, Made, Hub}
 use Rattle.pushserver.specs.Hubs.{now, state_now, keeps_now, tells_now, session_of, can_enter}
 use Rattle.pushserver.specs.Giving.{has_home, reacted, after_reaction, give}
@@ -118,12 +118,12 @@ module _ (hub : Hub) where
   turned_by reactions.NotImplemented message core = left_as (reacting reactions.NotImplemented message (silent core))
 
   -- a message that is reacted to restarts the timers
-  abbrev pub listening : DsoHead → Core → Core
-  listening head core = core_of (heard head (now hub) (silent core))
+  abbrev pub listening : List ℕ → Core → Core
+  listening message core = core_of (restarted_by message (now hub) (silent core))
 
   abbrev pub by_head : List ℕ → Core → Option DsoHead → Turned
   by_head message core None = ends_for ends.Short
-  by_head message core (Some head) = turned_by (server_reaction head core.established) message (listening head core)
+  by_head message core (Some head) = turned_by (server_reaction head core.established) message (listening message core)
 
   abbrev pub turned : List ℕ → Core → Turned
   turned message core = by_head message core (head_of message)

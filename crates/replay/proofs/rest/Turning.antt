@@ -1,7 +1,7 @@
 -- What a session with an empty queue makes of one message is what `turned` says of it.
 --     grows      a history with one entry more is longer
 --     turns-as-told      the hub behind the reaction
-use Rattle.std.proofs.Common.{◌≡◌, ℕ, ◌<◌, Bool, true, false, cond, ◌&&◌, List, [], ◌∷◌, ◌++◌, length, Option, Some, None, Result, Ok, Err, refl, sym, subst, arith, length-append}
+use Rattle.std.proofs.Common.{◌≡◌, ℕ, ◌<◌, Bool, true, false, cond, ◌&&◌, List, [], ◌∷◌, ◌++◌, length, Option, Some, None, Result, Ok, Err, refl, sym, ap, subst, arith, length-append}
 use Rattle.rrset.specs.Header.{id_of}
 use Rattle.rrset.specs.Rcodes.{noerror, servfail}
 use Rattle.rrset.specs.declared.record.Rr.{Rr}
@@ -23,12 +23,12 @@ use Rattle.history.specs.declared.entry.Entry.{Entry}
 use Rattle.history.specs.declared.entry.Entry.TheVariants as entries
 use Rattle.pushsession.specs.Sessions.{ended_with}
 use Rattle.pushsession.specs.Subscribing.{Verdict, Refuse, Abort, Accept, verdict_on, subscribed, first_answer_size, says_first_answer, decided}
-use Rattle.pushsession.specs.Reactions.{heard}
+use Rattle.pushsession.specs.Reactions.{restarted_by, request_for, reacts_itself}
 use Rattle.pushserver.specs.PlainHubs.{Session, Queue, Hub, first_answer}
 use Rattle.pushserver.specs.Hubs.{now, state_now, keeps_now, tells_now, session_of, in_session, entered, can_enter}
-use Rattle.pushserver.specs.Giving.{has_home, reconfirms, ends_as, by_reaction, reacted}
-use Rattle.pushserver.proofs.hub_steps.Cases.{enters_update, update_as, key_as, session_as, head_as}
-use Rattle.replay.proofs.rest.AtRest.{Core, resting, core_of, silent, Turned, enters, goes_on, left_as, answers_with, by_shown, by_record, by_verdict, subscribing, reacting, turned_by, listening, by_head, turned, with_sessions, At, Follows, TurnsAsTold}
+use Rattle.pushserver.specs.Giving.{has_home, reconfirms, ends_as, by_request, reacted}
+use Rattle.pushserver.proofs.hub_steps.Cases.{enters_update, update_as, key_as, session_as, request_as, itself_as}
+use Rattle.replay.proofs.rest.AtRest.{Core, resting, core_of, silent, Turned, enters, ends_for, goes_on, left_as, answers_with, by_shown, by_record, by_verdict, subscribing, reacting, turned_by, listening, by_head, turned, with_sessions, At, Follows, TurnsAsTold}
 use Rattle.replay.proofs.rest.RestingHubs.{at-in_session}
 
 pub grows : (history : List Entry) (entry : Entry) → length history < length (history ++ entry ∷ [])
@@ -85,8 +85,11 @@ module _ (hub : Hub) (number : ℕ) (input : List ℕ) where
     ending : (reason : EndReason) → Follows hub number (ends_as number reason here) input (left_as (ended_with (keeps_now hub) reason (silent core)))
     ending reason = record { session = ended_with (keeps_now hub) reason (resting core input []); at = changed (ended_with (keeps_now hub) reason); standing = refl; output = refl }
 
-    itself : (r : Reaction) (message : List ℕ) → Follows hub number (in_session number (reacting hub r message) here) input (left_as (reacting hub r message (silent core)))
-    itself r message = reacting-alike r message core (in_session number (reacting hub r message) here) (changed (reacting hub r message))
+    abbrev by_itself : List ℕ → Session → Session
+    by_itself message s = reacts_itself (keeps_now hub) hub.timers (now hub) message s
+
+    itself : (r : Reaction) (message : List ℕ) → by_itself message (resting core input []) ≡ reacting hub r message (resting core input []) → Follows hub number (in_session number (by_itself message) here) input (left_as (reacting hub r message (silent core)))
+    itself r message is = reacting-alike r message core (in_session number (by_itself message) here) (subst (At hub number (in_session number (by_itself message) here)) is (changed (by_itself message)))
 
     -- ---- what may make an entry
 
@@ -114,30 +117,36 @@ module _ (hub : Hub) (number : ℕ) (input : List ℕ) where
 
     -- ---- all reactions
 
-    reaction-turns : (r : Reaction) (message : List ℕ) → Follows hub number (by_reaction r number message here) input (turned_by hub r message core)
-    reaction-turns reactions.Subscribe message = subscribing-alike message core (in_session number (subscribing hub message) here) (changed (subscribing hub message))
-    reaction-turns reactions.Reconfirm message = reconfirming (reconfirm_of (primary_data message))
-    reaction-turns reactions.Update message = updating message (verdict (state_now hub) message)
-    reaction-turns (reactions.Answer rcode) message = itself (reactions.Answer rcode) message
-    reaction-turns reactions.Grant message = itself reactions.Grant message
-    reaction-turns (reactions.Abort reason) message = itself (reactions.Abort reason) message
-    reaction-turns reactions.Unsubscribe message = itself reactions.Unsubscribe message
-    reaction-turns reactions.NotImplemented message = itself reactions.NotImplemented message
+    reaction-turns : (r : Reaction) (message : List ℕ) → by_itself message (resting core input []) ≡ reacting hub r message (resting core input []) → Follows hub number (by_request (request_for r message) number message here) input (turned_by hub r message core)
+    reaction-turns reactions.Subscribe message is = subscribing-alike message core (in_session number (subscribing hub message) here) (changed (subscribing hub message))
+    reaction-turns reactions.Reconfirm message is = reconfirming (reconfirm_of (primary_data message))
+    reaction-turns reactions.Update message is = updating message (verdict (state_now hub) message)
+    reaction-turns (reactions.Answer rcode) message is = itself (reactions.Answer rcode) message is
+    reaction-turns reactions.Grant message is = itself reactions.Grant message is
+    reaction-turns (reactions.Abort reason) message is = itself (reactions.Abort reason) message is
+    reaction-turns reactions.Unsubscribe message is = itself reactions.Unsubscribe message is
+    reaction-turns reactions.NotImplemented message is = itself reactions.NotImplemented message is
 
   -- ---- a message
 
   turns-in : (sessions : List (ℕ × Session)) (made : ℕ) (message : List ℕ) (core : Core) → session_of (with_sessions hub sessions made) number ≡ Some (resting core input [])
       → Follows hub number (reacted message number (with_sessions hub sessions made)) input (turned hub message core)
-  turns-in sessions made message core there = by (head_of message)
+  turns-in sessions made message core there = subst (λ (o : Option Session). Follows hub number (session_as whole number message o) input (turned hub message core)) (sym there) (by (head_of message) refl)
     where
       whole : Hub
       whole = with_sessions hub sessions made
 
-      by : (o : Option DsoHead) → Follows hub number (head_as whole number message o) input (by_head hub message core o)
-      by None = ending sessions made core there ends.Short
-      by (Some head) =
-          subst (λ (o : Option Session). Follows hub number (session_as whole number message head o) input (turned_by hub (server_reaction head core.established) message (listening hub head core))) (sym there)
-          (reaction-turns (in_session number (heard head (now hub)) whole).sessions made (listening hub head core) (changed sessions made core there (heard head (now hub))).there (server_reaction head core.established) message)
+      later : Hub
+      later = in_session number (restarted_by message (now hub)) whole
+
+      found : session_of later number ≡ Some (resting (listening hub message core) input [])
+      found = (changed sessions made core there (restarted_by message (now hub))).there
+
+      by : (o : Option DsoHead) → head_of message ≡ o → Follows hub number (by_request (request_as message core.established o) number message later) input (by_head hub message core o)
+      by None whole_is = subst (λ (o : Option DsoHead). Follows hub number (in_session number (λ s. itself_as (keeps_now hub) hub.timers (now hub) message s o) later) input (ends_for ends.Short)) (sym whole_is) (ending later.sessions made (listening hub message core) found ends.Short)
+      by (Some head) whole_is =
+          reaction-turns later.sessions made (listening hub message core) found (server_reaction head core.established) message
+          (ap (λ (o : Option DsoHead). itself_as (keeps_now hub) hub.timers (now hub) message (resting (listening hub message core) input []) o) whole_is)
 
 pub turns-as-told : TurnsAsTold
 turns-as-told hub number later message core input at =

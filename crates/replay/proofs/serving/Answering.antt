@@ -4,15 +4,14 @@ use Rattle.rrset.specs.RecordSet.{RecordSet, at_name, matching, same_rows}
 use Rattle.rrset.specs.declared.record.Question.{Question}
 use Rattle.rrset.specs.Rcodes.{noerror}
 use Rattle.dsotlv.specs.declared.message.Notice.{Notice}
-use Rattle.dsotlv.specs.declared.message.DsoHead.{DsoHead}
 use Rattle.coalesce.specs.FirstAnswers.{told_first}
 use Rattle.coalesce.specs.Net.{additions}
-use Rattle.dsosession.specs.Timing.{Clocks, new_clocks, restarted}
-use Rattle.dsosession.specs.Reactions.{is_keepalive}
+use Rattle.dsosession.specs.Timing.{Clocks}
 use Rattle.history.specs.States.{State, records}
 use Rattle.pushsession.specs.declared.standing.Standing.TheVariants.{Live}
 use Rattle.pushserver.specs.PlainHubs.{Session, Subscription, Made, wanted, Hub, first_answer, asks_for}
 use Rattle.pushserver.specs.Hubs.{state_now, now, keeps_now, records_now}
+use Rattle.pushsession.specs.Reactions.{restarted_by}
 use Rattle.pushsession.specs.Subscribing.{first_answer_size, says_first_answer, subscribed}
 use Rattle.dsotlv.specs.Answers.{answer_to}
 use Rattle.pushsession.specs.Sessions.{new_session}
@@ -49,8 +48,8 @@ module _ (hub : Hub) where
   waiting input = record (new_session (keeps_now hub) (now hub)) { input = input }
 
   -- a new session's clocks behind a message that is reacted to
-  abbrev pub clocks_at : DsoHead → Clocks
-  clocks_at head = restarted (is_keepalive head) (now hub) (new_clocks (now hub))
+  abbrev pub clocks_at : List ℕ → Clocks
+  clocks_at message = (restarted_by message (now hub) (new_session (keeps_now hub) (now hub))).clocks
 
   pub first_answer-additions : (clocks : Clocks) (question : Question) → first_answer (hub_at hub (begun clocks)) (begun clocks) question ≡ notices_for (state_now hub) question
   first_answer-additions clocks question =

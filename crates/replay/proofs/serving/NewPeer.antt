@@ -14,13 +14,13 @@ use Rattle.coalesce.specs.Net.{push_frame}
 use Rattle.dsosession.specs.Timing.{new_clocks}
 use Rattle.pushserver.specs.Hubs.{state_now, now, keeps_now, tells_now, in_session, connect, max_sessions}
 use Rattle.pushsession.specs.Subscribing.{Verdict, accepts, decided, answered}
-use Rattle.pushsession.specs.Reactions.{heard}
+use Rattle.pushsession.specs.Reactions.{restarted_by}
 use Rattle.dsotlv.specs.Answers.{answer_to}
 use Rattle.pushserver.specs.PlainHubs.{Session, Hub, first_answer}
 use Rattle.pushsession.specs.Sessions.{new_session}
 use Rattle.pushserver.specs.Giving.{has_home, reacted}
 use Rattle.pushserver.specs.Laws.{IsAcceptable}
-use Rattle.pushserver.proofs.Subscribing.{reaction, verdict}
+use Rattle.pushserver.proofs.Subscribing.{reaction}
 use Rattle.pushserver.proofs.Walks.{with_new}
 use Rattle.replay.specs.Lines.{Word}
 use Rattle.replay.specs.World.{World, session_number}
@@ -47,15 +47,15 @@ abbrev pub first_reply : Hub → List ℕ → Question → List ℕ
 first_reply hub message question = frame (answer_to (id_of message) noerror) ++ push_frame (first_answer hub (new_in hub) question)
 
 module _ (hub : Hub) (below : IsBehind hub) (message : List ℕ) (question : Question) (a : IsAcceptable (with_new hub) (new_in hub) message question) where
-  taken_up : reacted message hub.numbers_given (with_new hub) ≡ accepted hub below (clocks_at hub a.head) (id_of message) question
+  taken_up : reacted message hub.numbers_given (with_new hub) ≡ accepted hub below (clocks_at hub message) (id_of message) question
   taken_up =
       let id = id_of message in
       let has = has_home hub (Some question) in
-      let clocks = clocks_at hub a.head in
+      let clocks = clocks_at hub message in
       reaction message hub.numbers_given (with_new hub) (new_in hub) question a (session_of-last hub below (new_in hub))
-      ∙ ap (λ later. in_session hub.numbers_given (answered (keeps_now hub) (tells_now hub) (now hub) id (Some question) has) later) (in_session-last hub below (heard a.head (now hub)) (new_in hub))
+      ∙ ap (λ later. in_session hub.numbers_given (answered (keeps_now hub) (tells_now hub) (now hub) id (Some question) has) later) (in_session-last hub below (restarted_by message (now hub)) (new_in hub))
       ∙ in_session-last hub below (answered (keeps_now hub) (tells_now hub) (now hub) id (Some question) has) (begun clocks)
-      ∙ ap (λ (v : Verdict). hub_at hub (decided (keeps_now hub) (tells_now hub) (now hub) id v (begun clocks))) (verdict message hub.numbers_given (with_new hub) (new_in hub) question a)
+      ∙ ap (λ (v : Verdict). hub_at hub (decided (keeps_now hub) (tells_now hub) (now hub) id v (begun clocks))) a.accepted
       ∙ sym (in_session-last hub below (accepts (keeps_now hub) (tells_now hub) (now hub) id question) (begun clocks))
 
   same_reply : with_push (id_of message) (notices_for (state_now hub) question) ≡ first_reply (with_new hub) message question
@@ -64,7 +64,7 @@ module _ (hub : Hub) (below : IsBehind hub) (message : List ℕ) (question : Que
   is_answered : IsAnswered hub below message (first_reply (with_new hub) message question)
   is_answered =
       subst (λ later. Says hub later (first_reply (with_new hub) message question)) (sym taken_up)
-      (subst (λ (octets : List ℕ). Says hub (accepted hub below (clocks_at hub a.head) (id_of message) question) octets) same_reply (accepted-Says hub below (clocks_at hub a.head) (id_of message) question))
+      (subst (λ (octets : List ℕ). Says hub (accepted hub below (clocks_at hub message) (id_of message) question) octets) same_reply (accepted-Says hub below (clocks_at hub message) (id_of message) question))
 
   is_short : IsBounded (state_now hub) → length (first_reply (with_new hub) message question) ≤ 1000000
   is_short bounded = subst (λ (octets : List ℕ). length octets ≤ 1000000) same_reply (accepted-size (state_now hub) (id_of message) question bounded)

@@ -1,5 +1,5 @@
 -- The promise to who subscribes has scripts of which it speaks: one with a zone and a peer that asks for its SOA.
-use Rattle.std.proofs.Common.{ℕ, true, List, [], ◌∷◌, ◌++◌, drop, Some, codes, refl, arith}
+use Rattle.std.proofs.Common.{ℕ, true, List, [], ◌∷◌, ◌++◌, drop, codes, refl}
 use Rattle.push_base.specs.Hexadecimal.{hex}
 use Rattle.dnsname.specs.Text.{name}
 use Rattle.replay.specs.Lines.{zone}
@@ -30,15 +30,5 @@ asks = record {
   new_peer = refl;
   seat = refl;
   found = refl;
-  acceptable = record {
-    head = record { id = 1; flags = 0x3000; zero_counts = true; tlvs_good = true; primary = Some (64, 17) };
-    whole = refl;
-    reaction = refl;
-    spelled = refl;
-    new_id = refl;
-    new_question = refl;
-    class = refl;
-    home = refl;
-    room = omega arith;
-  };
+  acceptable = record { request = refl; accepted = refl };
 }

@@ -135,7 +135,7 @@ module _ (hub : Hub) where
 
     few-head : (core : Core) (o : Option DsoHead) → IsFew (by_head hub message core o)
     few-head core None = tt
-    few-head core (Some head) = few-reaction (server_reaction head core.established) (listening hub head core)
+    few-head core (Some head) = few-reaction (server_reaction head core.established) (listening hub message core)
 
 pub writes-few : WritesFew
 writes-few hub message core b = few-head hub message b core (head_of message)
