@@ -36,7 +36,7 @@ use Rattle.flight_laws.proofs.Ended.{any-at, held-goes}
 
 -- ---- small ones
 
-flipped : (a b : ℕ) → (a == b) ≡ false → (b == a) ≡ false
+pub flipped : (a b : ℕ) → (a == b) ≡ false → (b == a) ≡ false
 flipped a b h = by (b == a) refl
   where
     by : (t : Bool) → (b == a) ≡ t → t ≡ false
@@ -47,7 +47,7 @@ each-one : (P : Wish → Type 0) → ((w : Wish) → P w) → (ws : List Wish) �
 each-one P so [] = tt
 each-one P so (w ∷ ws) = (so w, each-one P so ws)
 
-both-of : {X : Type 0} (P Q : X → Type 0) (xs : List X) → AllByRecursion P xs → AllByRecursion Q xs → AllByRecursion (λ x. P x × Q x) xs
+pub both-of : {X : Type 0} (P Q : X → Type 0) (xs : List X) → AllByRecursion P xs → AllByRecursion Q xs → AllByRecursion (λ x. P x × Q x) xs
 both-of P Q [] ps qs = tt
 both-of P Q (x ∷ xs) ps qs = ((ps.0, qs.0), both-of P Q xs ps.1 qs.1)
 
@@ -57,7 +57,7 @@ never-accepted true false f h = true≢false (sym h)
 never-accepted false true f h = true≢false (sym h)
 never-accepted false false f h = true≢false (sym h)
 
-speaking : (b : Bool) → (b || false) ≡ true → b ≡ true
+pub speaking : (b : Bool) → (b || false) ≡ true → b ≡ true
 speaking true h = refl
 speaking false h = absurd (true≢false (sym h))
 
@@ -86,7 +86,7 @@ nowhere id p t (y ∷ ts) is all h = by (y.id == id) refl h (nowhere id p t ts i
     by false same h rest = rest h
 
 -- of subscriptions of which no two have one ID, what is so of one with this ID is so of each with it
-only-one : (id : ℕ) (p : Subscription → Bool) (ss : List Subscription) → IsDistinct (λ s t. s.id == t.id) ss → list_any (λ s. s.id == id && p s) ss ≡ true → AllByRecursion (λ s. (s.id == id) ≡ true → p s ≡ true) ss
+pub only-one : (id : ℕ) (p : Subscription → Bool) (ss : List Subscription) → IsDistinct (λ s t. s.id == t.id) ss → list_any (λ s. s.id == id && p s) ss ≡ true → AllByRecursion (λ s. (s.id == id) ≡ true → p s ≡ true) ss
 unfolding IsDistinct
 only-one id p [] different h = tt
 only-one id p (t ∷ ts) different h = by (t.id == id) refl (p t) refl different.0 h (only-one id p ts different.1)

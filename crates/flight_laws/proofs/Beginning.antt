@@ -3,7 +3,7 @@ use Rattle.std.proofs.Common.{ℕ, [], refl, arith}
 use Rattle.std.specs.List.{IsDistinct}
 use Rattle.pushserver.specs.PlainHubs.{Hub}
 use Rattle.flight_laws.specs.Laws.{new_ends}
-use Rattle.inflight.specs.Flight.{IsSoundClient, Downward, Upward, InFlight}
+use Rattle.inflight.specs.Flight.{IsSoundClient, Downward, Upward, FitsTogether, InFlight}
 use Rattle.pushclient.specs.ServerMessages.{CanBeGranted}
 
 module _ (hub : Hub) (opened connected : ℕ) where
@@ -45,6 +45,9 @@ module _ (hub : Hub) (opened connected : ℕ) where
     no_delay = tt;
   }
 
+  pub fits-new : CanBeGranted hub.timers → FitsTogether (new_ends hub opened connected) [] [] []
+  fits-new timers = record { timers = timers; client = client; down = down; up = λ goes_on. up }
+
   pub begins : CanBeGranted hub.timers → InFlight (new_ends hub opened connected) [] []
   begins timers = record {
     taken = [];
@@ -53,5 +56,5 @@ module _ (hub : Hub) (opened connected : ℕ) where
     made = refl;
     whole_down = refl;
     whole_up = λ goes_on. refl;
-    fit = record { timers = timers; client = client; down = down; up = λ goes_on. up };
+    fit = fits-new timers;
   }

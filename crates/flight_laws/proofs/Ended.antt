@@ -10,7 +10,7 @@ use Rattle.std.proofs.lemmas.List.Elements.{filter_map-append}
 use Rattle.push_base.specs.Limits.{max_questions}
 use Rattle.rrset.specs.Records.{same_question}
 use Rattle.rrset.specs.declared.record.Question.{Question}
-use Rattle.pushserver.specs.PlainHubs.{Made, Subscription}
+use Rattle.pushserver.specs.PlainHubs.{Made, Subscription, asked_of}
 use Rattle.pushserver.proofs.hub_steps.Pairs.{all-weaken}
 use Rattle.pushclient.specs.Clients.{Wish, RequestState, not_asked, unanswered, refused, answered}
 use Rattle.pushclient.specs.ServerMessages.{ServerMessage, accepts, refuses, grants, tells, delays}
@@ -18,7 +18,7 @@ use Rattle.pushclient.specs.SoundClients.{count_of, is_asked}
 use Rattle.pushclient.specs.Steps.{is_answered, is_unanswered}
 use Rattle.pushclient.proofs.SoundWishes.{Apart, apart, found_own, all_behind}
 use Rattle.inflight.specs.Messages.{ClientMessage, subscribes, unsubscribes, reconfirms, requests_keepalive, request_id, request_ids, unsubscribed_id, unsubscribed_ids, unsubscribes_id, Flying, answer_ids, accepts_id}
-use Rattle.inflight.specs.Ends.{BothEnds, is_id, is_question, is_held_with, is_unanswered_as, is_answered_as, is_active_as, unanswered_id, answered_id, unanswered_ids, used_ids, is_requested, fits_request, taken_up, ids_and_questions}
+use Rattle.inflight.specs.Ends.{BothEnds, is_id, is_question, is_held_with, is_unanswered_as, is_answered_as, is_active_as, unanswered_id, answered_id, unanswered_ids, used_ids, is_requested, fits_request, taken_up}
 use Rattle.inflight.specs.Flight.{IsSoundClient, Downward, Upward, FitsTogether, TookNotices, is_seen, is_homeless, is_active_answer, is_let_go, is_held_active, is_accounted_for}
 use Rattle.flight_laws.specs.Laws.{Active, without_question, HeldOnesAreDropped}
 use Rattle.flight_laws.proofs.TakenUp.{taken_where}
@@ -88,7 +88,7 @@ none-held id (w ∷ ws) none = by w.standing none (none-held id ws)
     by (answered other) none rest = by_id other (id == other) refl none rest
 
 -- no answer comes down with an ID with which no wish waits
-none-accepted : (e : BothEnds) (id : ℕ) → count_of id (waiting_ids e) ≡ 0 → (flying : List Flying) → AllByRecursion (λ f. IsTrue (fits_request e f.says)) flying → list_any (λ f. accepts_id id f.says) flying ≡ false
+pub none-accepted : (e : BothEnds) (id : ℕ) → count_of id (waiting_ids e) ≡ 0 → (flying : List Flying) → AllByRecursion (λ f. IsTrue (fits_request e f.says)) flying → list_any (λ f. accepts_id id f.says) flying ≡ false
 none-accepted e id none [] all = refl
 none-accepted e id none (f ∷ flying) all = by f.says all.0 (none-accepted e id none flying all.1)
   where
@@ -315,7 +315,7 @@ module _ (e : BothEnds) (before : List Wish) (wish : Wish) (behind : List Wish) 
       let_go_once = λ n. subst (λ ids. count_of n ids ≤ 1) (sym ends-one-more) (once-more n (id == n) refl u.let_go (u.let_go_once n));
       held = left (λ w. IsTrue (is_held_active e w)) u.held;
       active = all-weaken (λ s. IsTrue (is_accounted_for earlier flying ups s)) (λ s. IsTrue (is_accounted_for later flying ended s)) (λ s h. accounted-later s h) e.subscriptions u.active;
-      accepted = all_taken_up-more e.established (unsubscribes id) (takes c d) (ids_and_questions e.subscriptions) ups u.accepted;
+      accepted = all_taken_up-more e.established (unsubscribes id) (takes c d) (asked_of e.subscriptions) ups u.accepted;
       no_delay = u.no_delay;
     }
 

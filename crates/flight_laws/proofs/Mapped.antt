@@ -24,7 +24,7 @@ use Rattle.pushclient.specs.Steps.{is_answered, is_unanswered}
 abbrev bare : Question → RequestState → Wish
 bare question standing = record { question = question; wanted = true; standing = standing; notices = [] }
 
-any_same : {X : Type 0} (p q : X → Bool) → ((x : X) → p x ≡ q x) → (xs : List X) → list_any p xs ≡ list_any q xs
+pub any_same : {X : Type 0} (p q : X → Bool) → ((x : X) → p x ≡ q x) → (xs : List X) → list_any p xs ≡ list_any q xs
 any_same p q same [] = refl
 any_same p q same (x ∷ xs) = ap (λ b. b || list_any p xs) (same x) ∙ ap (λ b. q x || b) (any_same p q same xs)
 

@@ -54,25 +54,25 @@ part-length (left p) = let shorter = part-length p in omega arith
 
 -- ---- tests
 
-three_false : (a b c : Bool) → (a || b || c) ≡ false → (a ≡ false) × (b ≡ false) × (c ≡ false)
+pub three_false : (a b c : Bool) → (a || b || c) ≡ false → (a ≡ false) × (b ≡ false) × (c ≡ false)
 three_false true b c e = absurd (true≢false e)
 three_false false true c e = absurd (true≢false e)
 three_false false false c e = (refl, refl, e)
 
-from_three : (a b c : Bool) → a ≡ false → b ≡ false → c ≡ false → (a || b || c) ≡ false
+pub from_three : (a b c : Bool) → a ≡ false → b ≡ false → c ≡ false → (a || b || c) ≡ false
 from_three true b c p q r = absurd (true≢false p)
 from_three false true c p q r = absurd (true≢false q)
 from_three false false c p q r = r
 
-unless_refused : {A : Type 0} (refused : Bool) (value later : A) → (if refused then None else Some value) ≡ Some later → (refused ≡ false) × (value ≡ later)
+pub unless_refused : {A : Type 0} (refused : Bool) (value later : A) → (if refused then None else Some value) ≡ Some later → (refused ≡ false) × (value ≡ later)
 unless_refused true value later e = absurd (true≢false (sym (ap is_some e)))
 unless_refused false value later e = (refl, ap (λ o. unwrap_or o value) e)
 
-where_allowed : {A : Type 0} (allowed : Bool) (value later : A) → (if allowed then Some value else None) ≡ Some later → (allowed ≡ true) × (value ≡ later)
+pub where_allowed : {A : Type 0} (allowed : Bool) (value later : A) → (if allowed then Some value else None) ≡ Some later → (allowed ≡ true) × (value ≡ later)
 where_allowed true value later e = (refl, ap (λ o. unwrap_or o value) e)
 where_allowed false value later e = absurd (true≢false (sym (ap is_some e)))
 
-taken_unless : {A : Type 0} (refused : Bool) (value : A) → refused ≡ false → (if refused then None else Some value) ≡ Some value
+pub taken_unless : {A : Type 0} (refused : Bool) (value : A) → refused ≡ false → (if refused then None else Some value) ≡ Some value
 taken_unless true value e = absurd (true≢false e)
 taken_unless false value e = refl
 

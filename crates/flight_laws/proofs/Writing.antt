@@ -12,11 +12,11 @@ use Rattle.rrset.specs.declared.record.Rr.{Rr}
 use Rattle.coalesce.proofs.ReadBack.{each-append}
 use Rattle.coalesce.proofs.Packing.{each-front}
 use Rattle.pushserver.proofs.hub_steps.Pairs.{all-weaken}
-use Rattle.pushserver.specs.PlainHubs.{Made, Subscription}
+use Rattle.pushserver.specs.PlainHubs.{Made, Subscription, asked_of}
 use Rattle.pushclient.specs.Clients.{reconfirm_message}
 use Rattle.pushclient.proofs.SoundWishes.{all_behind}
 use Rattle.inflight.specs.Messages.{ClientMessage, subscribes, unsubscribes, reconfirms, requests_keepalive, request_id, request_ids, unsubscribed_id, unsubscribed_ids, unsubscribes_id, accepts_id, Flying, answer_ids}
-use Rattle.inflight.specs.Ends.{BothEnds, is_id, unanswered_ids, used_ids, is_keepalive_out, is_answered_as, is_requested, fits_request, taken_up, all_taken_up, ids_and_questions}
+use Rattle.inflight.specs.Ends.{BothEnds, is_id, unanswered_ids, used_ids, is_keepalive_out, is_answered_as, is_requested, fits_request, taken_up, all_taken_up}
 use Rattle.inflight.specs.Flight.{IsSoundClient, Downward, Upward, FitsTogether, is_let_go, is_accounted_for}
 use Rattle.flight_laws.specs.Laws.{Active, with_keepalive}
 use Rattle.flight_laws.proofs.TakenUp.{goes_on, taken_where}
@@ -168,7 +168,7 @@ module _ (e : BothEnds) (taken : List Made) (flying : List Flying) (ups : List C
         let_go_once = λ n. subst (λ ids. count_of n ids ≤ 1) ended (u.let_go_once n);
         held = u.held;
         active = all-weaken (λ s. IsTrue (is_accounted_for e flying ups s)) (λ s. IsTrue (is_accounted_for e flying (ups ++ requests_keepalive id ∷ []) s)) (λ s h. accounted-more e flying ups (requests_keepalive id ∷ []) s h) e.subscriptions u.active;
-        accepted = all_taken_up-more e.established (requests_keepalive id) (λ later. ap is_some (taken_where (is_id id) later good)) (ids_and_questions e.subscriptions) ups u.accepted;
+        accepted = all_taken_up-more e.established (requests_keepalive id) (λ later. ap is_some (taken_where (is_id id) later good)) (asked_of e.subscriptions) ups u.accepted;
         no_delay = u.no_delay;
       }
 
@@ -203,7 +203,7 @@ module _ (e : BothEnds) (taken : List Made) (flying : List Flying) (ups : List C
         let_go_once = λ n. subst (λ ids. count_of n ids ≤ 1) ended (u.let_go_once n);
         held = u.held;
         active = all-weaken (λ s. IsTrue (is_accounted_for e flying ups s)) (λ s. IsTrue (is_accounted_for e flying (ups ++ reconfirms rr ∷ []) s)) (λ s h. accounted-more e flying ups (reconfirms rr ∷ []) s h) e.subscriptions u.active;
-        accepted = all_taken_up-more e.established (reconfirms rr) (taken-reconfirm d) (ids_and_questions e.subscriptions) ups u.accepted;
+        accepted = all_taken_up-more e.established (reconfirms rr) (taken-reconfirm d) (asked_of e.subscriptions) ups u.accepted;
         no_delay = u.no_delay;
       }
 

@@ -1,1 +1,10 @@
 pub mod Laws
+pub mod Reacting
+pub mod Turns
+pub mod OtherCalls
+pub mod Meeting
+pub mod EachGive
+pub mod Asking
+pub mod Taking
+pub mod Runs
+pub mod Holding

@@ -1,7 +1,16 @@
 //! Each kind of step keeps what is under way between a client and its session together. The crate has laws alone.
 #![tactic(auto)]
 
+ghost use Rattle.flight_laws.specs.EachGive.{GivesLeaveIt, ReactingGivesLeaveIt};
+ghost use Rattle.flight_laws.specs.Asking.{DroppedOnesAreWantedAgain, NextIdIsFree, QuestionsAreAsked};
+ghost use Rattle.flight_laws.specs.Taking.{ConnectionsOpen, MomentsGoUp, ReconfirmsGoUp, StepsAreTaken, StepsWait, SubscribesGoUp, UnsubscribesGoUp};
+ghost use Rattle.flight_laws.specs.Holding.{EndsBeforeNextWhereNoneWaits, HoldsAtLast, HoldsAlong, HoldsAllSent};
+ghost use Rattle.flight_laws.specs.Runs.{FirstAnswersEndAfterCalls};
 ghost use Rattle.flight_laws.specs.Laws.{AcceptedOnesAreEnded, AcceptedOnesAreHeld, DelaysAreTaken, EntriesLeaveIt, FirstMessagesFit, GrantsAreTaken, HeldOnesAreDropped, KeepalivesFit, NewConnectionsFit, OctetsPass, PushesAreTaken, ReconfirmsFit, RefusalsAreTaken, RefusedOnesAreDropped, SessionsEnd, SoAlongOneMore, StopsAreAskedFor, TakesWithFewer, WaitingOnesAreDropped};
+ghost use Rattle.flight_laws.specs.OtherCalls.{OtherCallsLeaveIt};
+ghost use Rattle.flight_laws.specs.Meeting.{AfterIs, FirstComesUp, GivesSo, MessagesAreReadAgain, MessagesAreReadBack, ReactsSo, TakenUpIsWithin, VerdictsAreTwo};
+ghost use Rattle.flight_laws.specs.Reacting.{EndsAreTold, HomesStay, HubsServeAlike, KeepalivesAreGranted, NamesLeaveUnsent, PushesAreGiven, ReconfirmsAreTaken, SaidComesDown, StopsAreWritten, SubscribesAreAccepted, SubscribesAreRefused, SubscriptionsAreEnded};
+ghost use Rattle.flight_laws.specs.Turns.{EndsToldLeaveIt, PacksLeaveIt, PushesCanBeTold, QuietGivesLeaveIt, ReactionsLeaveIt, StopsLeaveIt};
 
 /// A new connection, on which nothing was asked yet, fits together.
 pub fn new_connections_fit()
@@ -68,4 +77,137 @@ pub fn ending_fits()
     ensures entries { EntriesLeaveIt }
     ensures stops { StopsAreAskedFor }
     ensures ends { SessionsEnd }
+{}
+
+/// What is under way fits together when the session has answered a Keepalive, or taken a RECONFIRM or an UNSUBSCRIBE.
+pub fn reacting_fits()
+    ensures keepalives { KeepalivesAreGranted }
+    ensures reconfirms { ReconfirmsAreTaken }
+    ensures ended { SubscriptionsAreEnded }
+{}
+
+/// What is under way fits together when the session has answered a SUBSCRIBE.
+pub fn subscribing_fits()
+    ensures alike { HubsServeAlike }
+    ensures homes { HomesStay }
+    ensures accepted { SubscribesAreAccepted }
+    ensures refused { SubscribesAreRefused }
+{}
+
+/// What is under way fits together when the session has given a PUSH, lets names go unsent, or tells ends of first answers again.
+pub fn telling_fits()
+    ensures pushes { PushesAreGiven }
+    ensures unsent { NamesLeaveUnsent }
+    ensures told { EndsAreTold }
+{}
+
+/// What is under way fits together when the session has written its Retry Delay.
+pub fn stopping_fits()
+    ensures stops { StopsAreWritten }
+{}
+
+/// Whole messages that the session made come down behind the others.
+pub fn said_comes_down()
+    ensures down { SaidComesDown }
+{}
+
+/// What is under way stays so when ends of first answers are told again, a PUSH is packed, or a session stops, as octets.
+pub fn quiet_turns_fit()
+    ensures told { EndsToldLeaveIt }
+    ensures packs { PacksLeaveIt }
+    ensures stops { StopsLeaveIt }
+    ensures readable { PushesCanBeTold }
+{}
+
+/// What is under way stays so behind each call of `give` that reacts to no message.
+pub fn quiet_gives_fit()
+    ensures gives { QuietGivesLeaveIt }
+{}
+
+/// What is under way stays so when the session has reacted to the first message that came up, as octets.
+pub fn reactions_leave()
+    ensures reactions { ReactionsLeaveIt }
+{}
+
+/// What is under way between a session and its client stays so behind each call of the hub that is none of theirs.
+pub fn other_calls_leave()
+    ensures calls { OtherCallsLeaveIt }
+{}
+
+/// A session reads each message of a client of this project, within its bounds, as what it is: its head, its ID, and what the
+/// data of its TLV says (RFC 8490, 5.4; RFC 8765, 6.2.1, 6.4.1 and 6.5.1).
+pub fn messages_are_read_back()
+    ensures read { MessagesAreReadBack }
+    ensures again { MessagesAreReadAgain }
+{}
+
+/// Of the messages on their way up, the first is the first in a session's input, as soon as it is whole there, and what is taken
+/// up is within its bounds.
+pub fn first_comes_up()
+    ensures first { FirstComesUp }
+    ensures within { TakenUpIsWithin }
+{}
+
+/// A session takes a message that may be taken up: it grants a Keepalive, accepts a question that is served and refuses any other
+/// with NOTAUTH, ends the subscription of an UNSUBSCRIBE, and asks for the reconfirming of a record. It never ends.
+pub fn sessions_react_so()
+    ensures reacts { ReactsSo }
+    ensures verdicts { VerdictsAreTwo }
+    ensures fields { AfterIs }
+{}
+
+/// `give` takes the first message of a live session that has nothing to hand out, reacts to it, and hands out what fits of the answer.
+pub fn gives_react_so()
+    ensures gives { GivesSo }
+{}
+
+/// What is under way stays so behind each call of `give`, as octets: the first message of the client that is whole in a live
+/// session's input is reacted to, and any other call is as `quiet_gives_fit` says.
+pub fn each_give_leaves()
+    ensures reacting { ReactingGivesLeaveIt }
+    ensures gives { GivesLeaveIt }
+{}
+
+/// What is under way fits together with the SUBSCRIBE for a question that the client asks, and as before when it wants one
+/// again that it had dropped.
+pub fn asking_fits()
+    ensures asked { QuestionsAreAsked }
+    ensures again { DroppedOnesAreWantedAgain }
+{}
+
+/// The ID that the client takes is from 1 to 65,535, and none waits or is held with it (RFC 8490, 5.4.1).
+pub fn next_ids_are_free()
+    ensures free { NextIdIsFree }
+{}
+
+/// What is under way fits together behind the client's step on a whole message, and none but a Retry Delay closes it.
+pub fn steps_fit()
+    ensures taken { StepsAreTaken }
+    ensures waits { StepsWait }
+{}
+
+/// What is under way fits together with what the client writes when it is asked for something, and at a moment.
+pub fn calls_fit()
+    ensures subscribes { SubscribesGoUp }
+    ensures unsubscribes { UnsubscribesGoUp }
+    ensures reconfirms { ReconfirmsGoUp }
+    ensures moments { MomentsGoUp }
+{}
+
+/// What is under way fits together when a client is connected to a new session, and asks all that it wants.
+pub fn openings_fit()
+    ensures opens { ConnectionsOpen }
+{}
+
+/// Each first answer ends where a message does, after any calls of the hub.
+pub fn first_answers_end_where_messages_do()
+    ensures after_calls { FirstAnswersEndAfterCalls }
+{}
+
+/// Where what is under way fits, what a client holds is the history at the points of the notes that came with it.
+pub fn what_is_held()
+    ensures reached { EndsBeforeNextWhereNoneWaits }
+    ensures last { HoldsAtLast }
+    ensures along { HoldsAlong }
+    ensures sent { HoldsAllSent }
 {}

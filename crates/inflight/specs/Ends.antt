@@ -2,7 +2,7 @@
 --     BothEnds, ends_of      what either end knows, without the octets under way
 --     used_ids, unanswered_ids      the client's IDs
 --     all_taken_up      what is active after messages are taken, or nothing where one is refused or ends the session
-use Rattle.std.specs.Prelude.{ℕ, Bool, true, false, not, ◌&&◌, ◌||◌, List, [], ◌∷◌, ◌++◌, map, length, filter, find, flat_map, count_by, Option, Some, None, nat_le, ◌==◌, option_map, option_to_list, if◌then◌else◌}
+use Rattle.std.specs.Prelude.{ℕ, Bool, true, false, not, ◌&&◌, ◌||◌, List, [], ◌∷◌, ◌++◌, map, length, filter, find, flat_map, Option, Some, None, nat_le, ◌==◌, option_map, option_to_list, if◌then◌else◌}
 use Rattle.std.specs.List.{list_any}
 use Rattle.push_base.specs.Limits.{max_questions}
 use Rattle.dnsname.specs.Names.{is_name}
@@ -12,7 +12,7 @@ use Rattle.dsosession.specs.declared.session.Timers.{Timers}
 use Rattle.pushsession.specs.Sessions.{is_open}
 use Rattle.pushserver.specs.Giving.{is_served_at}
 use Rattle.pushserver.specs.PlainHubs.{Session, Subscription, Made, Hub}
-use Rattle.pushclient.specs.Clients.{Client, Connection, Wish, RequestState, not_asked, unanswered, answered, reconfirm_message}
+use Rattle.pushclient.specs.Clients.{Client, Connection, Wish, RequestState, unanswered, answered, reconfirm_message}
 use Rattle.inflight.specs.Messages.{ClientMessage, subscribes, unsubscribes, reconfirms, requests_keepalive}
 use Rattle.pushclient.specs.ServerMessages.{ServerMessage, accepts, refuses, grants}
 use Rattle.pushclient.specs.Steps.{is_unanswered}
@@ -118,6 +118,10 @@ is_active_as id question s = id == s.id && same_question question s.question
 abbrev pub told_end : List (ℕ × ℕ) → ℕ → Option ℕ
 told_end told id = option_map (λ e. e.1) (find (λ e. e.0 == id) told)
 
+-- the ends of the first answers of what is active, before those that were told earlier
+abbrev pub remembers : List Subscription → List (ℕ × ℕ) → List (ℕ × ℕ)
+remembers subscriptions told = map (λ s. (s.id, s.filled)) subscriptions ++ told
+
 abbrev pub is_told : List (ℕ × ℕ) → Subscription → Bool
 is_told told s = elim (told_end told s.id) [ None ↦ false | Some n ↦ n == s.filled ]
 
@@ -126,9 +130,6 @@ abbrev pub subscribed_at_last : List Made → List Subscription
 subscribed_at_last [] = []
 subscribed_at_last (m ∷ []) = m.subscribed
 subscribed_at_last (m ∷ n ∷ ms) = subscribed_at_last (n ∷ ms)
-
-abbrev pub ids_and_questions : List Subscription → List (ℕ × Question)
-ids_and_questions subscriptions = map (λ s. (s.id, s.question)) subscriptions
 
 -- The IDs and questions that may be active after a message is taken; nothing where a test refuses it or it ends the session.
 -- A question without a home counts too. A message without an ID is taken by an established session alone (RFC 8490, 5.1).

@@ -1,5 +1,6 @@
 -- What is under way between a client and its session, both ways: an invariant on lists, which steps are to keep. The crate flight_laws has those that are proved.
 --     InFlight ends up down      whole messages are under way, and they fit what both ends know
+--     IsUnderWay      the same of a session and a client over two wires
 --     FitsTogether ends taken flying ups      the same over messages
 --     FirstAnswersEnd session      the first answers end where messages do
 use Rattle.std.specs.Prelude.{◌≡◌, ℕ, ◌+◌, ◌≤◌, Bool, true, false, not, ◌&&◌, ◌||◌, List, [], ◌∷◌, ◌++◌, map, length, take, flat_map, IsSome, IsTrue, ◌==◌}
@@ -8,11 +9,11 @@ use Rattle.push_base.specs.Limits.{max_questions}
 use Rattle.rrset.specs.Records.{same_question}
 use Rattle.rrset.specs.declared.record.Question.{Question}
 use Rattle.dsotlv.specs.Messages.{frame}
-use Rattle.pushserver.specs.PlainHubs.{Session, Subscription, Made, size_of_made}
+use Rattle.pushserver.specs.PlainHubs.{Hub, Session, Subscription, Made, size_of_made, asked_of}
 use Rattle.pushserver.specs.ToldMessages.{notices_since}
-use Rattle.pushclient.specs.Clients.{Wish, unanswered, refused, answered}
+use Rattle.pushclient.specs.Clients.{Client, Connection, Wish, unanswered, refused, answered}
 use Rattle.inflight.specs.Messages.{ClientMessage, message_octets, request_ids, unsubscribed_ids, unsubscribes_id, Flying, made_of, flying_octets, CanBeRead, answer_ids, accepts_id, is_refusal, answer_comes_first}
-use Rattle.inflight.specs.Ends.{BothEnds, is_id, is_question, is_held_with, is_unanswered_as, is_answered_as, unanswered_ids, used_ids, is_requested, fits_request, is_active_as, is_told, subscribed_at_last, ids_and_questions, all_taken_up}
+use Rattle.inflight.specs.Ends.{BothEnds, ends_of, going_up, going_down, is_id, is_question, is_held_with, is_unanswered_as, is_answered_as, unanswered_ids, used_ids, is_requested, fits_request, is_active_as, is_told, subscribed_at_last, all_taken_up}
 use Rattle.pushclient.specs.ServerMessages.{CanBeGranted, accepts}
 use Rattle.pushclient.specs.FittingMessages.{is_delay}
 use Rattle.pushclient.specs.SoundClients.{count_of, is_asked}
@@ -113,7 +114,7 @@ pub record Upward (e : BothEnds) (flying : List Flying) (ups : List ClientMessag
   pub held : AllByRecursion (λ w. IsTrue (is_held_active e w)) e.wishes
   pub active : AllByRecursion (λ s. IsTrue (is_accounted_for e flying ups s)) e.subscriptions
   -- no request on its way up is refused for another cause than its home or its class, and none ends the session
-  pub accepted : IsSome (all_taken_up e.established (ids_and_questions e.subscriptions) ups)
+  pub accepted : IsSome (all_taken_up e.established (asked_of e.subscriptions) ups)
   -- a Retry Delay is the last word of a session (RFC 8490, 6.6.1)
   pub no_delay : AllByRecursion (λ f. IsTrue (not (is_delay f.says))) flying
 
@@ -134,6 +135,10 @@ pub record InFlight (e : BothEnds) (up down : List ℕ) : Type 0 where
   pub whole_down : down ≡ flying_octets e.timers flying
   pub whole_up : IsTrue e.goes_on → up ≡ flat_map (λ m. frame (message_octets m)) ups
   pub fit : FitsTogether e taken flying ups
+
+-- between a session and a client with a connection, over a wire up and a wire down
+abbrev pub IsUnderWay : Hub → List (ℕ × ℕ) → Session → Client → Connection → List ℕ → List ℕ → Type 0
+IsUnderWay hub told session client c up_wire down_wire = InFlight (ends_of hub told session client c) (going_up session c up_wire) (going_down session c down_wire)
 
 -- ---- the ends of first answers
 

@@ -1,7 +1,7 @@
 -- The messages between a client of this project and its session.
 --     ClientMessage, message_octets      what a client writes
 --     Flying, made_of      a message on its way down, and as the session made it
-use Rattle.std.specs.Prelude.{◌≡◌, ℕ, ◌<◌, ◌≤◌, ◌^◌, Ok, Bool, true, false, List, ◌∷◌, length, flat_map, filter_map, Option, Some, None, ◌==◌}
+use Rattle.std.specs.Prelude.{ℕ, ◌<◌, ◌^◌, Bool, true, false, List, ◌∷◌, length, flat_map, filter_map, Option, Some, None, ◌==◌}
 use Rattle.rrset.specs.declared.record.Question.{Question}
 use Rattle.rrset.specs.declared.record.Rr.{Rr}
 use Rattle.dsotlv.specs.Messages.{frame}

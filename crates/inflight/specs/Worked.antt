@@ -12,11 +12,11 @@ use Rattle.dsotlv.specs.TlvKinds.{keepalive_tlv, subscribe_tlv, unsubscribe_tlv,
 use Rattle.dsotlv.specs.Messages.{head_of, primary_data}
 use Rattle.dsotlv.specs.Notices.{question_of, reconfirm_of, notice_octets, notices_of}
 use Rattle.dsosession.specs.Timing.{least_keepalive}
-use Rattle.pushserver.specs.PlainHubs.{Session, Made, size_of_made}
+use Rattle.pushserver.specs.PlainHubs.{Session, Made, size_of_made, asked_of}
 use Rattle.pushserver.specs.ToldMessages.{notices_since}
 use Rattle.pushclient.specs.Clients.{Wish, answered}
 use Rattle.inflight.specs.Messages.{ClientMessage, subscribes, unsubscribes, reconfirms, requests_keepalive, request_ids, unsubscribed_ids, Flying, answer_ids, is_refusal, answer_comes_first}
-use Rattle.inflight.specs.Ends.{BothEnds, is_id, is_question, unanswered_ids, used_ids, is_requested, fits_request, is_told, ids_and_questions, all_taken_up}
+use Rattle.inflight.specs.Ends.{BothEnds, is_id, is_question, unanswered_ids, used_ids, is_requested, fits_request, is_told, all_taken_up}
 use Rattle.inflight.specs.Flight.{is_seen, is_homeless, is_active_answer, is_let_go, is_held_active, is_accounted_for}
 use Rattle.pushclient.specs.ServerMessages.{ServerMessage, accepts, refuses, grants, tells, delays, server_octets}
 use Rattle.pushclient.specs.FittingMessages.{is_delay}
@@ -106,7 +106,7 @@ unmet_up e flying ups = unmet (
     ∷ (codes "let_go_once", none_twice (unsubscribed_ids ups))
     ∷ (codes "held", list_all (is_held_active e) e.wishes)
     ∷ (codes "active", list_all (is_accounted_for e flying ups) e.subscriptions)
-    ∷ (codes "accepted", is_some (all_taken_up e.established (ids_and_questions e.subscriptions) ups))
+    ∷ (codes "accepted", is_some (all_taken_up e.established (asked_of e.subscriptions) ups))
     ∷ (codes "no_delay", list_all (λ f. not (is_delay f.says)) flying)
     ∷ [])
 

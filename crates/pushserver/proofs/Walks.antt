@@ -2,11 +2,13 @@
 --     Step Good hub f      a step of one session, where the messages that it is for are good
 --     Entering Good hub entry      an entry that may be made
 --     holds-update, holds-hear, holds-moment, holds-connect      what holds with an entry and without
---     Walks Good number P R      the steps keep P, and what is P before an entry is R behind it
+--     Reacts Good number P R      the steps that hand nothing out keep P, and what is P before an entry is R behind it
+--     reacts-give      so `give` leads from P to R, but for the octets that it hands out (Gives)
+--     Walks Good number P R      and all steps do
 --     walks-give      so `give` leads from P to R
 --     IsKept Good P      all steps keep P
 --     keeps-called, keeps-calls      so each call keeps it, and any calls do
-use Rattle.std.proofs.Common.{◌≡◌, ℕ, ◌+◌, Bool, true, false, cond, not, ◌&&◌, List, [], ◌∷◌, ◌++◌, length, Option, Some, None, Ok, Err, Result, refl}
+use Rattle.std.proofs.Common.{◌≡◌, ℕ, ◌+◌, Bool, true, false, cond, not, ◌&&◌, List, [], ◌∷◌, ◌++◌, length, Option, Some, None, Ok, Err, Result, sym, ◌∙◌, subst, refl}
 use Rattle.std.specs.Prelude.{nat_lt}
 use Rattle.std.specs.List.{AllByRecursion}
 use Rattle.push_base.specs.Cases.{is_empty}
@@ -43,7 +45,7 @@ use Rattle.pushserver.specs.declared.given.Heard.{Heard}
 use Rattle.pushserver.specs.declared.given.Heard.TheVariants.{Entered, Ignored}
 use Rattle.pushserver.specs.declared.given.Why.TheVariants as whys
 use Rattle.pushserver.specs.Hubs.{SessionKind, HubOf, newest, now, state_now, keeps_now, tells_now, session_of, each_session, in_session, entered, can_enter, update, hear, why_not, moment, max_sessions, connect, take_octets, stop, disconnect}
-use Rattle.pushserver.specs.Giving.{has_home, reconfirms, by_request, reacted, copies_or, given_after, after_reaction, after_packing, works, by_standing, give}
+use Rattle.pushserver.specs.Giving.{GivingOf, has_home, reconfirms, by_request, reacted, did, copies, copies_or, given_after, after_reaction, after_packing, by_standing, give}
 use Rattle.pushserver.proofs.hub_steps.Cases.{enters_update, update_as, enters_moment, key_as, session_as, request_as, copies_as, found_as, works_as, output_as, give_as}
 use Rattle.pushserver.specs.Calls.{HubCall, updates as updating, hears, moves, connects, takes, gives, stops, ends as ending, called, after_calls}
 
@@ -64,6 +66,11 @@ pub data Step {A Q M : Type 0} {kind : SessionKind A Q M} (Good : List ℕ → T
   comes_to_stop : (rcode delay : ℕ) → Step Good hub (stopped (keeps_now hub) rcode delay (now hub))
   ends_with : (reason : EndReason) → Step Good hub (ended_with (keeps_now hub) reason)
   copies_front : (room : ℕ) → Step Good hub (copied room)
+
+-- all but the copying of an output's front
+abbrev pub HandsNothing : {A Q M : Type 0} {kind : SessionKind A Q M} {Good : List ℕ → Type 0} {hub : HubOf kind} {f : SessionOf A Q M → SessionOf A Q M} → Step Good hub f → Type 0
+HandsNothing (copies_front room) = ⊥
+HandsNothing _ = Unit {0}
 
 -- why an entry is made
 pub data Entering {A Q M : Type 0} {kind : SessionKind A Q M} (Good : List ℕ → Type 0) (hub : HubOf kind) : Entry → Type 0 where
@@ -131,7 +138,152 @@ holds-connect {kind = kind} R hub makes stays = by (nat_lt (length hub.sessions)
     by true = makes
     by false = stays
 
--- ---- `give`
+-- ---- a reaction
+
+pub record Reacts {A Q M : Type 0} {kind : SessionKind A Q M} (Good : List ℕ → Type 0) (number : ℕ) (P R : HubOf kind → Type 0) : Type 0 where
+  pub changes : (hub : HubOf kind) (f : SessionOf A Q M → SessionOf A Q M) (step : Step Good hub f) → HandsNothing step → P hub → P (in_session number f hub)
+  -- at most one entry is made
+  pub enters : (hub : HubOf kind) (entry : Entry) → Entering Good hub entry → P hub → R (entered entry hub)
+  pub enters_none : (hub : HubOf kind) → P hub → R hub
+  pub changes_behind : (hub : HubOf kind) (f : SessionOf A Q M → SessionOf A Q M) (step : Step Good hub f) → HandsNothing step → R hub → R (in_session number f hub)
+
+-- what `give` did: nothing was handed out, or the front of the output of a session
+pub data Gives {A Q M : Type 0} {kind : SessionKind A Q M} (number : ℕ) (R : HubOf kind → Type 0) : GivingOf kind → Type 0 where
+  hands_nothing : (given : Given) (hub : HubOf kind) → R hub → Gives number R (did given hub)
+  hands_front : (room : ℕ) (session : SessionOf A Q M) (hub : HubOf kind) → session_of hub number ≡ Some session → R hub → Gives number R (copies number room session hub)
+
+-- the message that `give` takes up: where the session goes on without output, the first whole one of its input
+pub record TakesUp {A Q M : Type 0} {kind : SessionKind A Q M} (hub : HubOf kind) (number : ℕ) (session : SessionOf A Q M) (found : List ℕ × List ℕ) : Type 0 where
+  pub there : session_of hub number ≡ Some session
+  pub live : session.standing ≡ Live
+  pub silent : session.output ≡ []
+  pub first : first_message session.input ≡ Some found
+
+module _ {A Q M : Type 0} {kind : SessionKind A Q M} (Good : List ℕ → Type 0) (number : ℕ) (P R : HubOf kind → Type 0) (w : Reacts Good number P R) where
+  -- a step without an entry
+  steps : (hub : HubOf kind) (f : SessionOf A Q M → SessionOf A Q M) (step : Step Good hub f) → HandsNothing step → P hub → R (in_session number f hub)
+  steps hub f step out h = w.enters_none (in_session number f hub) (w.changes hub f step out h)
+
+  pub reacts-update : (hub : HubOf kind) (message : List ℕ) → Good message → P hub → R (update hub message).1
+  reacts-update hub message good h = holds-update Good R hub (λ entry by. w.enters hub entry by h) (w.enters_none hub h) message good
+
+  reacts-reconfirms : (hub : HubOf kind) (rr : Option Rr) → P hub → R (reconfirms rr number hub)
+  reacts-reconfirms hub rr h = by rr
+    where
+      by_room : (found : ℕ × Key) (a : Bool) → accepts (state_now hub) (entries.Reconfirm found.0 found.1) ≡ a → (b : Bool) → R (cond (a && b) (entered (entries.Reconfirm found.0 found.1) hub) hub)
+      by_room found true is true = w.enters hub (entries.Reconfirm found.0 found.1) (by_reconfirm found.0 found.1 is) h
+      by_room found true is false = w.enters_none hub h
+      by_room found false is b = w.enters_none hub h
+
+      by_key : (o : Option (ℕ × Key)) → R (key_as hub o)
+      by_key None = w.enters_none hub h
+      by_key (Some found) = by_room found (accepts (state_now hub) (entries.Reconfirm found.0 found.1)) refl (can_enter hub (entries.Reconfirm found.0 found.1))
+
+      by : (o : Option Rr) → R (reconfirms o number hub)
+      by None = steps hub (ended_with (keeps_now hub) (ends.BadData reconfirm_tlv)) (ends_with (ends.BadData reconfirm_tlv)) tt h
+      by (Some rr) = by_key (reconfirm_key (state_now hub) rr)
+
+  itself : (hub : HubOf kind) (message : List ℕ) → P hub → R (by_request requests.Itself number message hub)
+  itself hub message h = steps hub (reacts_itself (keeps_now hub) hub.timers (now hub) message) (reacts message) tt h
+
+  reacts-reaction : (hub : HubOf kind) (message : List ℕ) (reaction : Reaction) → Good message → P hub → R (by_request (request_for reaction message) number message hub)
+  reacts-reaction hub message reactions.Subscribe good h =
+      let question = question_of (primary_data message) in
+      steps hub (answered (keeps_now hub) (tells_now hub) (now hub) (id_of message) question (has_home hub question)) (answers_subscribe message good) tt h
+  reacts-reaction hub message reactions.Reconfirm good h = reacts-reconfirms hub (reconfirm_of (primary_data message)) h
+  reacts-reaction hub message reactions.Update good h =
+      let judged = update hub message in
+      w.changes_behind judged.1 (answers (keeps_now judged.1) false (now judged.1) (answer_to_update (id_of message) judged.0)) (answers_update hub message) tt (reacts-update hub message good h)
+  reacts-reaction hub message (reactions.Answer rcode) good h = itself hub message h
+  reacts-reaction hub message reactions.Grant good h = itself hub message h
+  reacts-reaction hub message (reactions.Abort reason) good h = itself hub message h
+  reacts-reaction hub message reactions.Unsubscribe good h = itself hub message h
+  reacts-reaction hub message reactions.NotImplemented good h = itself hub message h
+
+  pub reacts-reacted : (hub : HubOf kind) (message : List ℕ) → Good message → P hub → R (reacted message number hub)
+  reacts-reacted hub message good h = by (session_of hub number)
+    where
+      later : HubOf kind
+      later = in_session number (restarted_by message (now hub)) hub
+
+      by_head : (established : Bool) (o : Option DsoHead) → P later → R (by_request (request_as message established o) number message later)
+      by_head established None h = itself later message h
+      by_head established (Some head) h = reacts-reaction later message (server_reaction head established) good h
+
+      by : (o : Option (SessionOf A Q M)) → R (session_as hub number message o)
+      by None = w.enters_none hub h
+      by (Some session) = by_head session.established (head_of message) (w.changes hub (restarted_by message (now hub)) (restarts message) tt h)
+
+  -- ---- `give`
+
+  gives-copies_or : (given : Given) (room : ℕ) (session : SessionOf A Q M) (hub : HubOf kind) → session_of hub number ≡ Some session → R hub → Gives number R (copies_or given number room session hub)
+  gives-copies_or given room session hub there h = by (is_empty session.output)
+    where
+      by : (b : Bool) → Gives number R (copies_as hub number room session given b)
+      by true = hands_nothing given hub h
+      by false = hands_front room session hub there h
+
+  gives-found : (room : ℕ) (none : Given) (given : Standing → Given) (hub : HubOf kind) → R hub → (o : Option (SessionOf A Q M)) → session_of hub number ≡ o → Gives number R (found_as hub number room none given o)
+  gives-found room none given hub h None there = hands_nothing none hub h
+  gives-found room none given hub h (Some session) there = gives-copies_or (given session.standing) room session hub there h
+
+  gives-after_reaction : (room : ℕ) (hub : HubOf kind) → R hub → Gives number R (after_reaction number room hub)
+  gives-after_reaction room hub h = gives-found room Worked given_after hub h (session_of hub number) refl
+
+  gives-after_packing : (room : ℕ) (hub : HubOf kind) → R hub → Gives number R (after_packing number room hub)
+  gives-after_packing room hub h = gives-found room Nothing (λ standing. Nothing) hub h (session_of hub number) refl
+
+  -- a message may be taken up, or none is
+  module _ (hub : HubOf kind) (room : ℕ)
+      (none : ((session : SessionOf A Q M) (found : List ℕ × List ℕ) → TakesUp hub number session found → ⊥) → P hub)
+      (some : (session : SessionOf A Q M) (found : List ℕ × List ℕ) → TakesUp hub number session found → Good found.0 × P (in_session number (without_first found.1) hub)) where
+    -- the session of this number is this one
+    same : (s t : SessionOf A Q M) → session_of hub number ≡ Some s → session_of hub number ≡ Some t → s ≡ t
+    same s t is be = let both : Some s ≡ Some t = sym is ∙ be in cc
+
+    module _ (session : SessionOf A Q M) (there : session_of hub number ≡ Some session) where
+      ours : (s : SessionOf A Q M) (found : List ℕ × List ℕ) → TakesUp hub number s found → TakesUp hub number session found
+      ours s found up = subst (λ s. TakesUp hub number s found) (same s session up.there there) up
+
+      by_message : session.standing ≡ Live → session.output ≡ [] → (o : Option (List ℕ × List ℕ)) → first_message session.input ≡ o → Gives number R (works_as hub number room o)
+      by_message live silent (Some found) is =
+          let later = in_session number (without_first found.1) hub in
+          let taken = some session found (record { there = there; live = live; silent = silent; first = is }) in
+          gives-after_reaction room (reacted found.0 number later) (reacts-reacted later found.0 taken.0 taken.1)
+      by_message live silent None is =
+          let f = packs (keeps_now hub) (tells_now hub) (now hub) in
+          gives-after_packing room (in_session number f hub) (steps hub f packs_names tt (none nothing))
+        where
+          nothing : (s : SessionOf A Q M) (found : List ℕ × List ℕ) → TakesUp hub number s found → ⊥
+          nothing s found up = let both : None ≡ Some found = sym is ∙ (ours s found up).first in absurd cc
+
+      -- no message is taken up in another standing
+      resting : (standing : Standing) → session.standing ≡ standing → (standing ≡ Live → ⊥) → P hub
+      resting standing is other = none (λ s found up. other (sym is ∙ (ours s found up).live))
+
+      by_state : session.output ≡ [] → (standing : Standing) → session.standing ≡ standing → Gives number R (by_standing standing number room session hub)
+      by_state silent (Ended reason) is = hands_nothing _ hub (w.enters_none hub (resting (Ended reason) is (λ e. absurd cc)))
+      by_state silent (Stopped since) is = hands_nothing _ hub (w.enters_none hub (resting (Stopped since) is (λ e. absurd cc)))
+      by_state silent Live is = by_message is silent (first_message session.input) refl
+      by_state silent (AskedToStop rcode delay) is =
+          let f = stopped (keeps_now hub) rcode delay (now hub) in
+          gives-after_reaction room (in_session number f hub) (steps hub f (comes_to_stop rcode delay) tt (resting (AskedToStop rcode delay) is (λ e. absurd cc)))
+
+      by_output : (output : List ℕ) → session.output ≡ output → Gives number R (output_as hub number room session (is_empty output))
+      by_output [] is = by_state is session.standing refl
+      by_output (o ∷ os) is = hands_front room session hub there (w.enters_none hub (none waits))
+        where
+          waits : (s : SessionOf A Q M) (found : List ℕ × List ℕ) → TakesUp hub number s found → ⊥
+          waits s found up = let both : o ∷ os ≡ [] = sym is ∙ (ours s found up).silent in absurd cc
+
+    pub reacts-give : Gives number R (give hub number room)
+    reacts-give = by (session_of hub number) refl
+      where
+        by : (o : Option (SessionOf A Q M)) → session_of hub number ≡ o → Gives number R (give_as hub number room o)
+        by None is = hands_nothing _ hub (w.enters_none hub (none (λ s found up. let both : None ≡ Some s = sym is ∙ up.there in absurd cc)))
+        by (Some session) is = by_output session is session.output refl
+
+-- ---- octets are handed out, too
 
 pub record Walks {A Q M : Type 0} {kind : SessionKind A Q M} (Good : List ℕ → Type 0) (number : ℕ) (P R : HubOf kind → Type 0) : Type 0 where
   -- a message that a session takes up is good, and what follows it is left
@@ -144,106 +296,26 @@ pub record Walks {A Q M : Type 0} {kind : SessionKind A Q M} (Good : List ℕ �
   pub changes_behind : (hub : HubOf kind) (f : SessionOf A Q M → SessionOf A Q M) → Step Good hub f → R hub → R (in_session number f hub)
 
 module _ {A Q M : Type 0} {kind : SessionKind A Q M} (Good : List ℕ → Type 0) (number : ℕ) (P R : HubOf kind → Type 0) (w : Walks Good number P R) where
-  -- a step without an entry
-  steps : (hub : HubOf kind) (f : SessionOf A Q M → SessionOf A Q M) → Step Good hub f → P hub → R (in_session number f hub)
-  steps hub f step h = w.enters_none (in_session number f hub) (w.changes hub f step h)
+  reacting : Reacts Good number P R
+  reacting = record { changes = λ hub f step out h. w.changes hub f step h; enters = w.enters; enters_none = w.enters_none; changes_behind = λ hub f step out h. w.changes_behind hub f step h }
 
   pub walks-update : (hub : HubOf kind) (message : List ℕ) → Good message → P hub → R (update hub message).1
-  walks-update hub message good h = holds-update Good R hub (λ entry by. w.enters hub entry by h) (w.enters_none hub h) message good
-
-  walks-reconfirms : (hub : HubOf kind) (rr : Option Rr) → P hub → R (reconfirms rr number hub)
-  walks-reconfirms hub rr h = by rr
-    where
-      by_room : (found : ℕ × Key) (a : Bool) → accepts (state_now hub) (entries.Reconfirm found.0 found.1) ≡ a → (b : Bool) → R (cond (a && b) (entered (entries.Reconfirm found.0 found.1) hub) hub)
-      by_room found true is true = w.enters hub (entries.Reconfirm found.0 found.1) (by_reconfirm found.0 found.1 is) h
-      by_room found true is false = w.enters_none hub h
-      by_room found false is b = w.enters_none hub h
-
-      by_key : (o : Option (ℕ × Key)) → R (key_as hub o)
-      by_key None = w.enters_none hub h
-      by_key (Some found) = by_room found (accepts (state_now hub) (entries.Reconfirm found.0 found.1)) refl (can_enter hub (entries.Reconfirm found.0 found.1))
-
-      by : (o : Option Rr) → R (reconfirms o number hub)
-      by None = steps hub (ended_with (keeps_now hub) (ends.BadData reconfirm_tlv)) (ends_with (ends.BadData reconfirm_tlv)) h
-      by (Some rr) = by_key (reconfirm_key (state_now hub) rr)
-
-  itself : (hub : HubOf kind) (message : List ℕ) → P hub → R (by_request requests.Itself number message hub)
-  itself hub message h = steps hub (reacts_itself (keeps_now hub) hub.timers (now hub) message) (reacts message) h
-
-  walks-reaction : (hub : HubOf kind) (message : List ℕ) (reaction : Reaction) → Good message → P hub → R (by_request (request_for reaction message) number message hub)
-  walks-reaction hub message reactions.Subscribe good h =
-      let question = question_of (primary_data message) in
-      steps hub (answered (keeps_now hub) (tells_now hub) (now hub) (id_of message) question (has_home hub question)) (answers_subscribe message good) h
-  walks-reaction hub message reactions.Reconfirm good h = walks-reconfirms hub (reconfirm_of (primary_data message)) h
-  walks-reaction hub message reactions.Update good h =
-      let judged = update hub message in
-      w.changes_behind judged.1 (answers (keeps_now judged.1) false (now judged.1) (answer_to_update (id_of message) judged.0)) (answers_update hub message) (walks-update hub message good h)
-  walks-reaction hub message (reactions.Answer rcode) good h = itself hub message h
-  walks-reaction hub message reactions.Grant good h = itself hub message h
-  walks-reaction hub message (reactions.Abort reason) good h = itself hub message h
-  walks-reaction hub message reactions.Unsubscribe good h = itself hub message h
-  walks-reaction hub message reactions.NotImplemented good h = itself hub message h
+  walks-update hub message good h = reacts-update Good number P R reacting hub message good h
 
   pub walks-reacted : (hub : HubOf kind) (message : List ℕ) → Good message → P hub → R (reacted message number hub)
-  walks-reacted hub message good h = by (session_of hub number)
-    where
-      later : HubOf kind
-      later = in_session number (restarted_by message (now hub)) hub
+  walks-reacted hub message good h = reacts-reacted Good number P R reacting hub message good h
 
-      by_head : (established : Bool) (o : Option DsoHead) → P later → R (by_request (request_as message established o) number message later)
-      by_head established None h = itself later message h
-      by_head established (Some head) h = walks-reaction later message (server_reaction head established) good h
-
-      by : (o : Option (SessionOf A Q M)) → R (session_as hub number message o)
-      by None = w.enters_none hub h
-      by (Some session) = by_head session.established (head_of message) (w.changes hub (restarted_by message (now hub)) (restarts message) h)
-
-  walks-copies_or : (given : Given) (room : ℕ) (session : SessionOf A Q M) (hub : HubOf kind) → R hub → R (copies_or given number room session hub).hub
-  walks-copies_or given room session hub h = by (is_empty session.output)
-    where
-      by : (b : Bool) → R (copies_as hub number room session given b).hub
-      by true = h
-      by false = w.changes_behind hub (copied room) (copies_front room) h
-
-  walks-found : (room : ℕ) (none : Given) (given : Standing → Given) (hub : HubOf kind) → R hub → (o : Option (SessionOf A Q M)) → R (found_as hub number room none given o).hub
-  walks-found room none given hub h None = h
-  walks-found room none given hub h (Some session) = walks-copies_or (given session.standing) room session hub h
+  handed : {g : GivingOf kind} → Gives number R g → R g.hub
+  handed (hands_nothing given hub h) = h
+  handed (hands_front room session hub there h) = w.changes_behind hub (copied room) (copies_front room) h
 
   pub walks-after_reaction : (room : ℕ) (hub : HubOf kind) → R hub → R (after_reaction number room hub).hub
-  walks-after_reaction room hub h = walks-found room Worked given_after hub h (session_of hub number)
-
-  walks-after_packing : (room : ℕ) (hub : HubOf kind) → R hub → R (after_packing number room hub).hub
-  walks-after_packing room hub h = walks-found room Nothing (λ standing. Nothing) hub h (session_of hub number)
-
-  walks-works : (hub : HubOf kind) (room : ℕ) (session : SessionOf A Q M) → session_of hub number ≡ Some session → P hub → R (works number room session hub).hub
-  walks-works hub room session there h = by (first_message session.input) refl
-    where
-      by : (o : Option (List ℕ × List ℕ)) → first_message session.input ≡ o → R (works_as hub number room o).hub
-      by (Some found) is =
-          let later = in_session number (without_first found.1) hub in
-          walks-after_reaction room (reacted found.0 number later) (walks-reacted later found.0 (w.reads hub session found there is h) (w.takes_up hub session found there is h))
-      by None is =
-          let f = packs (keeps_now hub) (tells_now hub) (now hub) in
-          walks-after_packing room (in_session number f hub) (steps hub f packs_names h)
-
-  walks-by_standing : (hub : HubOf kind) (room : ℕ) (session : SessionOf A Q M) → session_of hub number ≡ Some session → (standing : Standing) → P hub → R (by_standing standing number room session hub).hub
-  walks-by_standing hub room session there (Ended reason) h = w.enters_none hub h
-  walks-by_standing hub room session there (Stopped since) h = w.enters_none hub h
-  walks-by_standing hub room session there Live h = walks-works hub room session there h
-  walks-by_standing hub room session there (AskedToStop rcode delay) h =
-      let f = stopped (keeps_now hub) rcode delay (now hub) in
-      walks-after_reaction room (in_session number f hub) (steps hub f (comes_to_stop rcode delay) h)
+  walks-after_reaction room hub h = handed (gives-after_reaction Good number P R reacting room hub h)
 
   pub walks-give : (hub : HubOf kind) (room : ℕ) → P hub → R (give hub number room).hub
-  walks-give hub room h = by (session_of hub number) refl
-    where
-      by_output : (session : SessionOf A Q M) → session_of hub number ≡ Some session → (b : Bool) → R (output_as hub number room session b).hub
-      by_output session there false = steps hub (copied room) (copies_front room) h
-      by_output session there true = walks-by_standing hub room session there session.standing h
-
-      by : (o : Option (SessionOf A Q M)) → session_of hub number ≡ o → R (give_as hub number room o).hub
-      by None is = w.enters_none hub h
-      by (Some session) is = by_output session is (is_empty session.output)
+  walks-give hub room h =
+      handed (reacts-give Good number P R reacting hub room (λ none. h)
+      (λ session found up. (w.reads hub session found up.there up.first h, w.takes_up hub session found up.there up.first h)))
 
 -- ---- all calls
 

@@ -5,11 +5,10 @@ use Rattle.std.specs.Prelude.{◌≡◌, ℕ, List, map, length, min}
 use Rattle.std.specs.List.{AllByRecursion, AllZip}
 use Rattle.push_base.specs.Limits.{max_number}
 use Rattle.rrset.specs.RecordSet.{at_name}
-use Rattle.subscr.specs.Asked.{Asked}
 use Rattle.coalesce.specs.Waiting.{WaitingName}
 use Rattle.history.specs.States.{records_at}
 use Rattle.pushsession.specs.Kept.{KeptSession, KeptQuestions, Filled, keeping, telling}
-use Rattle.pushserver.specs.PlainHubs.{Hub, Session, Subscription, Queue, written}
+use Rattle.pushserver.specs.PlainHubs.{Hub, Session, Subscription, Queue, written, asked_of}
 use Rattle.pushserver.specs.SoundHubs.{IsSoundHub}
 use Rattle.pushserver.specs.Hubs.{SessionKind, HubOf}
 use Rattle.pushserver.specs.Giving.{GivingOf}
@@ -23,10 +22,6 @@ KeptHub = HubOf kept
 
 abbrev pub KeptGiving : Type 0
 KeptGiving = GivingOf kept
-
--- the questions with their IDs
-abbrev pub asked_of : List Subscription → Asked
-asked_of subscriptions = map (λ s. (s.id, s.question)) subscriptions
 
 -- octets are counted up to the last number
 abbrev pub filled_kept : List Subscription → Filled

@@ -11,6 +11,7 @@ use Rattle.rrset.specs.RecordSet.{RecordSet, only, at_name, same_rows}
 use Rattle.rrset.specs.declared.record.Key.{Key}
 use Rattle.rrset.specs.declared.record.Question.{Question}
 use Rattle.dsotlv.specs.Messages.{frame}
+use Rattle.subscr.specs.Asked.{Asked}
 use Rattle.dsotlv.specs.declared.message.Notice.{Notice}
 use Rattle.coalesce.specs.FirstAnswers.{told_first}
 use Rattle.coalesce.specs.Net.{net, packed}
@@ -56,6 +57,10 @@ abbrev pub size_of_made : List Made → ℕ
 size_of_made made = sum_by (λ m. length (frame_of m)) made
 
 -- ---- subscriptions
+
+-- the questions with their IDs
+abbrev pub asked_of : List Subscription → Asked
+asked_of subscriptions = map (λ s. (s.id, s.question)) subscriptions
 
 abbrev pub asks_for : List Subscription → Key → Bool
 asks_for subscriptions key = list_any (λ s. matches s.question key) subscriptions

@@ -8,7 +8,6 @@ use Rattle.std.specs.List.{AllByRecursion, Contains}
 use Rattle.std.specs.Str.{bytes_eq}
 use Rattle.push_base.specs.Cases.{is_empty}
 use Rattle.dnsname.specs.Names.{Labels, same_name, octets, lower, is_name}
-use Rattle.rrset.specs.Records.{matches}
 use Rattle.rrset.specs.RecordSet.{RecordSet, only, at_name, matching, same_rows}
 use Rattle.rrset.specs.declared.record.Key.{Key}
 use Rattle.rrset.specs.declared.record.Question.{Question}
@@ -26,12 +25,11 @@ use Rattle.coalesce.proofs.SameNames.{same_name-swapped, same_name-joined}
 use Rattle.coalesce.proofs.Sides.{matching-only}
 use Rattle.history.specs.States.{state_at, records_at}
 use Rattle.history.proofs.Present.{matching-at_name}
-use Rattle.pushserver.specs.PlainHubs.{Hub, Session, Subscription, Note, told, note_of, point_in, asks_for, leaves_queue, first_answer}
+use Rattle.pushserver.specs.PlainHubs.{Hub, Session, Subscription, Note, told, note_of, point_in, asks_for, leaves_queue, first_answer, asked_of}
 use Rattle.pushserver.specs.Hubs.{newest, records_now}
 use Rattle.pushserver.proofs.AskedFor.{matches-name}
 use Rattle.pushserver.proofs.hub_steps.Pairs.{all-weaken}
 use Rattle.pushserver.proofs.Queues.{point_in-same, same_name-octets}
-use Rattle.pushserver.specs.KeptHubs.{asked_of}
 use Rattle.pushserver.proofs.session_steps.Nets.{asked-alike}
 use Rattle.pushserver.proofs.told_rows.HubTells.{StatesTell}
 use Rattle.pushserver.proofs.told_rows.Told.{tellable-told}
@@ -154,10 +152,15 @@ module _ (hub : Hub) (session : Session) (question : Question) where
 
     -- ---- the message
 
+    -- what is written for the notices is read as them, and a frame holds it
+    pub first_can_be_read : IsTrue (is_name question.name) → (n : Notice) (ns : List Notice) → first_answer hub session question ≡ n ∷ ns
+        → (notices_of (flat_map notice_octets (n ∷ ns)) ≡ Ok (n ∷ ns)) × (length (push_message (n ∷ ns)) ≤ max_net_message)
+    first_can_be_read is n ns e =
+        let same : notices ≡ n ∷ ns = sym first-is ∙ e in (
+          subst (λ (all : List Notice). notices_of (flat_map notice_octets all) ≡ Ok all) same
+              (first_is_read_back question (asked_of session.subscriptions) (records_now hub) waiting is (question.name, now-side) now-sent (subst (λ (all : List Notice). IsTrue (not (is_empty all))) (sym same) refl)),
+          subst (λ (all : List Notice). length (push_message all) ≤ max_net_message) same (first_fits_one_message question (asked_of session.subscriptions) (records_now hub) waiting is (question.name, now-side) now-sent),
+        )
+
     pub first_is_read : IsTrue (is_name question.name) → (n : Notice) (ns : List Notice) → first_answer hub session question ≡ n ∷ ns → IsReadBack (n ∷ ns)
-    first_is_read is n ns e =
-        let same : notices ≡ n ∷ ns = sym first-is ∙ e in
-        push_read (n ∷ ns)
-        (subst (λ (all : List Notice). notices_of (flat_map notice_octets all) ≡ Ok all) same
-        (first_is_read_back question (asked_of session.subscriptions) (records_now hub) waiting is (question.name, now-side) now-sent (subst (λ (all : List Notice). IsTrue (not (is_empty all))) (sym same) refl)))
-        (subst (λ (all : List Notice). length (push_message all) ≤ max_net_message) same (first_fits_one_message question (asked_of session.subscriptions) (records_now hub) waiting is (question.name, now-side) now-sent))
+    first_is_read is n ns e = let can = first_can_be_read is n ns e in push_read (n ∷ ns) can.0 can.1

@@ -11,5 +11,10 @@ pub mod Accepting
 pub mod Codes
 pub mod Steps
 pub mod Hubs
+pub mod Saying
 pub mod Following
+pub mod OneSession
+pub mod Running
+pub mod Between
+pub mod Closed
 pub mod Calls

@@ -151,13 +151,17 @@ module _ (hub : Hub) (session : Session) where
 
     -- ---- the message
 
+    -- what is written for the notices is read as them, and a frame holds it
+    pub pack_can_be_read : (n : Notice) (ns : List Notice) → pack.0 ≡ n ∷ ns → (notices_of (flat_map notice_octets (n ∷ ns)) ≡ Ok (n ∷ ns)) × (length (push_message (n ∷ ns)) ≤ max_net_message)
+    pack_can_be_read n ns e =
+        let same : (packed (nets_of (sent hub session) wanted_now (names_in session.queue))).0 ≡ n ∷ ns = ap (λ (named : Nets). (packed named).0) (sym nets_are) ∙ e in (
+          subst (λ (all : List Notice). notices_of (flat_map notice_octets all) ≡ Ok all) same
+              (packed_is_read_back (sent hub session) wanted_now (names_in session.queue) (have_sides (names_in session.queue)) (all_sent (names_in session.queue)) (subst (λ (all : List Notice). IsTrue (not (is_empty all))) (sym same) refl)),
+          subst (λ (all : List Notice). length (push_message all) ≤ max_net_message) same (packed_fits_one_message (nets_of (sent hub session) wanted_now (names_in session.queue)) (all_fit (names_in session.queue))),
+        )
+
     pub pack_is_read : (n : Notice) (ns : List Notice) → pack.0 ≡ n ∷ ns → IsReadBack (n ∷ ns)
-    pack_is_read n ns e =
-        let same : (packed (nets_of (sent hub session) wanted_now (names_in session.queue))).0 ≡ n ∷ ns = ap (λ (named : Nets). (packed named).0) (sym nets_are) ∙ e in
-        push_read (n ∷ ns)
-        (subst (λ (all : List Notice). notices_of (flat_map notice_octets all) ≡ Ok all) same
-        (packed_is_read_back (sent hub session) wanted_now (names_in session.queue) (have_sides (names_in session.queue)) (all_sent (names_in session.queue)) (subst (λ (all : List Notice). IsTrue (not (is_empty all))) (sym same) refl)))
-        (subst (λ (all : List Notice). length (push_message all) ≤ max_net_message) same (packed_fits_one_message (nets_of (sent hub session) wanted_now (names_in session.queue)) (all_fit (names_in session.queue))))
+    pack_is_read n ns e = let can = pack_can_be_read n ns e in push_read (n ∷ ns) can.0 can.1
 
   -- the session without the names that leave
   abbrev pub lighter : Session

@@ -14,6 +14,7 @@ use Rattle.pushserver.specs.Hubs.{session_of}
 use Rattle.pushserver.specs.Calls.{HubCall, connects, takes, gives, updates, after_calls}
 use Rattle.pushserver.specs.ToldMessages.{notices_in, set_after}
 use Rattle.pushserver.specs.Worked.{named, subscribe}
+use Rattle.pushtelling.specs.Runs.{handed_out, taken_in, reacted_to}
 
 abbrev pub one_zone : State
 one_zone = record { zones = new_zone (name (codes "example.com.")) 1 true ∷ []; links = []; now = 0 }
@@ -47,3 +48,9 @@ told_in (Some session) = (messages_of session, held_of session)
 -- what the first session was told in these calls
 abbrev pub told_by : List HubCall → List (ℕ × ℕ × ℕ) × List ℕ
 told_by calls = told_in (session_of (after_calls (connects ∷ calls) (new_hub one_zone default_timers)) 0)
+
+-- of the octets of the first session how many were handed out in these calls, and how many taken in; and how many messages were reacted to
+abbrev pub octets_by : List HubCall → ℕ × ℕ × ℕ
+octets_by calls =
+    let start = new_hub one_zone default_timers in
+    (length (handed_out 0 (connects ∷ calls) start), length (taken_in 0 (connects ∷ calls) start), length (reacted_to 0 (connects ∷ calls) start))

@@ -1,9 +1,12 @@
-//! What each session of the server was told is what the history says. The crate has laws alone.
+//! What any calls keep of the server's sessions: each was told what the history says, what was made for it goes out, and
+//! what comes in is reacted to in its order. The crate has laws alone.
 #![tactic(auto)]
 
 ghost use Rattle.std.specs.Prelude.{◌≡◌, [], ◌∷◌};
+ghost use Rattle.pushserver.specs.Calls.{gives, takes, ends};
 ghost use Rattle.pushtelling.specs.Laws.{SessionsTellTheHistory, MessagesStay, IsStartOfZones};
-ghost use Rattle.pushtelling.specs.Worked.{one_zone, told_by, asks_address, adds_address, keeps_alive, works};
+ghost use Rattle.pushtelling.specs.Runs.{MadeGoesOut, EachIsReactedToOnce, GiveReacts, ClosedOnesRest, NotesLieBetween, LaterOnesAreNoEarlier};
+ghost use Rattle.pushtelling.specs.Worked.{one_zone, told_by, octets_by, asks_address, adds_address, keeps_alive, works};
 
 /// Each session was told what the history says, after any calls.
 pub fn sessions_tell_the_history()
@@ -23,4 +26,35 @@ pub fn worked_runs()
     ensures later { told_by (asks_address ∷ works ∷ adds_address ∷ works ∷ []) ≡ ((12, 0, 0) ∷ (45, 1, 1) ∷ [], 1 ∷ []) }
     ensures before { told_by (adds_address ∷ asks_address ∷ works ∷ []) ≡ ((12, 1, 0) ∷ (45, 1, 1) ∷ [], 1 ∷ []) }
     ensures keepalive { told_by (adds_address ∷ asks_address ∷ works ∷ keeps_alive 1 ∷ works ∷ []) ≡ ((12, 1, 0) ∷ (45, 1, 1) ∷ (24, 1, 0) ∷ [], 1 ∷ []) }
+{}
+
+/// What goes out of a session is what was made for it: the octets that were handed out, and those that wait to be, are the
+/// frames of its messages, after any calls.
+pub fn made_goes_out()
+    ensures goes_out { MadeGoesOut }
+{}
+
+/// What goes into a session is reacted to message by message, each once and in its order, after any calls; and what counts
+/// as reacted to is what `give` reacts to.
+pub fn each_is_reacted_to_once()
+    ensures once { EachIsReactedToOnce }
+    ensures reacts { GiveReacts }
+    ensures closed { ClosedOnesRest }
+{}
+
+/// No note of a connection gives a name an earlier point than the newest one when it was made, nor than any note of a
+/// connection before it, and none gives one that isn't there yet.
+pub fn no_earlier_points()
+    ensures between { NotesLieBetween }
+    ensures later { LaterOnesAreNoEarlier }
+{}
+
+/// Octets of a session: a SUBSCRIBE of 37 waits until it is reacted to; its answer of 14 and a PUSH of 47 go out, as far as
+/// there is room; what is brought for another session, or for one that has gone, goes nowhere.
+pub fn worked_octets()
+    ensures waiting { octets_by (asks_address ∷ []) ≡ (0, 37, 0) }
+    ensures slowly { octets_by (asks_address ∷ gives 0 10 ∷ []) ≡ (10, 37, 1) }
+    ensures whole { octets_by (asks_address ∷ works ∷ adds_address ∷ works ∷ []) ≡ (61, 37, 1) }
+    ensures other { octets_by (takes 1 (1 ∷ []) ∷ gives 1 10 ∷ []) ≡ (0, 0, 0) }
+    ensures gone { octets_by (asks_address ∷ ends 0 ∷ asks_address ∷ works ∷ []) ≡ (0, 37, 0) }
 {}

@@ -11,7 +11,8 @@ use Rattle.pushclient.specs.Clients as clients
 use Rattle.pushclient.specs.Clients.{Client, output_of, give_octets, room_of}
 use Rattle.pushclient.specs.Steps.{step}
 use Rattle.replay.specs.Lines.{max_octets_passed}
-use Rattle.replay.specs.World.{Seat, World, remembers}
+use Rattle.replay.specs.World.{Seat, World}
+use Rattle.inflight.specs.Ends.{remembers}
 
 -- A number of turns that no run uses up: each turn moves an octet or reacts to a message.
 abbrev pub enough : ℕ

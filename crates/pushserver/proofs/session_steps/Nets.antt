@@ -17,9 +17,9 @@ use Rattle.coalesce.specs.Waiting.{WaitingName, asked_net, nets_in}
 use Rattle.coalesce.proofs.KindsOf.{any-map}
 use Rattle.history.specs.States.{records_at}
 use Rattle.pushsession.specs.Kept.{KeptSession}
-use Rattle.pushserver.specs.PlainHubs.{Hub, Session, Subscription, Queue, point_in, asks_for, wanted, sent, nets_of}
+use Rattle.pushserver.specs.PlainHubs.{Hub, Session, Subscription, Queue, point_in, asks_for, wanted, sent, nets_of, asked_of}
 use Rattle.pushserver.specs.Hubs.{newest, records_now}
-use Rattle.pushserver.specs.KeptHubs.{IsCopy, asked_of, queue_of}
+use Rattle.pushserver.specs.KeptHubs.{IsCopy, queue_of}
 use Rattle.pushserver.proofs.session_steps.Lists.{each-both, each-map}
 use Rattle.pushserver.proofs.session_steps.Names.{points-there}
 use Rattle.pushserver.proofs.session_steps.Parts.{SessionFits}

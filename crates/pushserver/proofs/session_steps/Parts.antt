@@ -18,9 +18,9 @@ use Rattle.coalesce.specs.Waiting.{WaitingName}
 use Rattle.history.specs.States.{State, records_at}
 use Rattle.history.specs.declared.entry.Entry.{Entry}
 use Rattle.pushsession.specs.Kept.{KeptSession, KeptQuestions}
-use Rattle.pushserver.specs.PlainHubs.{Hub, Session, Subscription, Queue, Made, size_of_made}
+use Rattle.pushserver.specs.PlainHubs.{Hub, Session, Subscription, Queue, Made, size_of_made, asked_of}
 use Rattle.pushserver.specs.Hubs.{state_now}
-use Rattle.pushserver.specs.KeptHubs.{SessionStandsFor, asked_of, filled_kept, queue_of}
+use Rattle.pushserver.specs.KeptHubs.{SessionStandsFor, filled_kept, queue_of}
 use Rattle.pushserver.specs.SoundHubs.{ArePast, HasHome, IsSoundSession}
 
 pub record SessionFits (hub : Hub) (kept : ℕ × KeptSession) (plain : ℕ × Session) : Type 0 where

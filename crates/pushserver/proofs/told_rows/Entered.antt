@@ -1,7 +1,7 @@
 -- What an update that is read brings: owners that are names, kinds of 16 bits, and rdata that fits its kind.
 --     IsRead rr      what holds of each record that is read
 --     changes_read      the changes of an update that is read
-use Rattle.std.proofs.Common.{◌≡◌, ℕ, ◌+◌, ◌^◌, ◌<◌, ◌≤◌, Bool, true, false, cond, not, ◌&&◌, ◌||◌, ltb, eqb, List, [], ◌∷◌, length, Result, Ok, Err, ◌==◌, refl, sym, ap, subst, arith}
+use Rattle.std.proofs.Common.{◌≡◌, ℕ, ◌+◌, ◌^◌, ◌<◌, ◌≤◌, Bool, true, false, cond, not, ◌&&◌, ◌||◌, ltb, eqb, List, [], ◌∷◌, length, Result, Ok, Err, ◌==◌, refl, sym, ap, subst}
 use Rattle.std.specs.Prelude.{slice_range, nat_lt, MatchBool}
 use Rattle.std.specs.List.{AllByRecursion}
 use Rattle.std.proofs.lemmas.List.Elements.{recursion_from_All}

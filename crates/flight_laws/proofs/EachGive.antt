@@ -1,0 +1,119 @@
+-- Each call of `give` leaves what is under way as it was.
+--     reacting-leaves      a message of the client is reacted to
+--     each-give-leaves      any call
+use Rattle.std.proofs.Common.{◌≡◌, ◌⊎◌, inl, inr, ℕ, Bool, true, false, List, [], ◌∷◌, ◌++◌, take, drop, Option, Some, None, refl, sym, ap, subst, ◌∙◌, arith, true≢false}
+use Rattle.std.specs.Prelude.{IsSome, IsTrue}
+use Rattle.std.specs.List.{AllByRecursion}
+use Rattle.std.proofs.lemmas.Bool.{and_parts}
+use Rattle.push_base.specs.Cases.{is_empty}
+use Rattle.dnsname.specs.Names.{is_name}
+use Rattle.rrset.specs.declared.record.Question.{Question}
+use Rattle.dsotlv.specs.Messages.{first_message}
+use Rattle.dsosession.specs.Timing.{Clocks, restarted}
+use Rattle.dsosession.specs.declared.session.Timers.{Timers}
+use Rattle.history.specs.States.{State}
+use Rattle.pushsession.specs.declared.standing.Standing.{Standing}
+use Rattle.pushsession.specs.declared.standing.Standing.TheVariants.{Live, AskedToStop, Stopped, Ended}
+use Rattle.pushsession.specs.Sessions.{is_open, without_first}
+use Rattle.pushserver.specs.Giving.{give}
+use Rattle.pushserver.specs.Hubs.{newest, now, session_of}
+use Rattle.pushserver.specs.PlainHubs.{Session, Hub, asked_of}
+use Rattle.pushserver.specs.SoundHubs.{IsSoundHub}
+use Rattle.pushclient.specs.Clients.{Client, Connection}
+use Rattle.inflight.specs.Messages.{ClientMessage, subscribes, unsubscribes, reconfirms, requests_keepalive}
+use Rattle.inflight.specs.Ends.{ends_of, is_id, is_question, going_up, going_down, taken_up, all_taken_up, remembers}
+use Rattle.inflight.specs.Flight.{InFlight, IsUnderWay}
+use Rattle.flight_laws.specs.EachGive.{ReactingGivesLeaveIt, GivesLeaveIt}
+use Rattle.flight_laws.specs.Laws.{Active}
+use Rattle.flight_laws.specs.Meeting.{is_within, is_request_to_keep, after, IsMet, ComesUp, HasAfter}
+use Rattle.flight_laws.specs.Reacting.{HomesStay}
+use Rattle.flight_laws.specs.Turns.{PushesCanBeTold, Needs, ReactionsLeaveIt, BehindGiving, StopFits, ReactsToNone, QuietGivesLeaveIt}
+use Rattle.flight_laws.proofs.GivesSo.{gives-so}
+use Rattle.flight_laws.proofs.Passing.{came_out}
+use Rattle.flight_laws.proofs.ReadBack.{first-comes-up, taken-up-within}
+use Rattle.flight_laws.proofs.TakenUp.{goes_on}
+
+-- the first of those that are taken up is
+first-taken : (established : Bool) (active : Active) (m : ClientMessage) (ms : List ClientMessage) → IsSome (all_taken_up established active (m ∷ ms)) → IsSome (taken_up established active m)
+first-taken established active m ms h = by (taken_up established active m) h
+  where
+    by : (o : Option Active) → IsSome (goes_on established ms o) → IsSome o
+    by None h = absurd (true≢false (sym h))
+    by (Some later) h = refl
+
+-- a question that is asked has a name
+has-name : (question : Question) → is_question question ≡ true → is_name question.name ≡ true
+has-name question h = (and_parts (is_name question.name) _ (and_parts _ _ h).0).0
+
+-- octets that were handed out of a session go onto the wire, while the hub has it and nothing else is known of the hub
+handed-on : (hub later : Hub) (number room : ℕ) (told : List (ℕ × ℕ)) (s : Session) (client : Client) (c : Connection) (up_wire down_wire octets : List ℕ) → octets ≡ take room s.output
+    → HasAfter hub later number (record s { output = drop room s.output }) → IsUnderWay hub told s client c up_wire down_wire
+    → IsUnderWay later told (record s { output = drop room s.output }) client c up_wire (down_wire ++ octets)
+handed-on hub later number room told s client c up_wire down_wire octets handed has i =
+    let left : Session = record s { output = drop room s.output } in
+    let out : IsUnderWay hub told left client c up_wire (down_wire ++ take room s.output) = came_out hub told s client c down_wire (going_up s c up_wire) room i in
+    subst (λ (os : List ℕ). IsUnderWay later told left client c up_wire (down_wire ++ os)) (sym handed)
+    (subst (λ (start : State). InFlight (ends_of (record hub { start = start; timers = later.timers }) told left client c) (going_up left c up_wire) (going_down left c (down_wire ++ take room s.output))) (sym has.start)
+    (subst (λ (timers : Timers). InFlight (ends_of (record hub { timers = timers }) told left client c) (going_up left c up_wire) (going_down left c (down_wire ++ take room s.output))) (sym has.timers) out))
+
+module _ (quiet : QuietGivesLeaveIt) (reactions : ReactionsLeaveIt) (can_tell : PushesCanBeTold) (homes : HomesStay) where
+  needs-met : (hub : Hub) (number : ℕ) (m : ClientMessage) (rest : List ℕ) (clocks : Clocks) (session : Session) → IsSoundHub hub → session_of hub number ≡ Some session → is_within m ≡ true
+      → Needs hub m (record session { input = rest; clocks = clocks })
+  needs-met hub number (subscribes id question) rest clocks session sound there within = (
+    homes hub question ((sound.states 0 (omega arith)).home),
+    can_tell.first hub number session question sound there (has-name question (and_parts (is_id id) (is_question question) within).1),
+  )
+  needs-met hub number (unsubscribes id) rest clocks session sound there within = tt
+  needs-met hub number (reconfirms rr) rest clocks session sound there within = tt
+  needs-met hub number (requests_keepalive id) rest clocks session sound there within = tt
+
+  pub reacting-leaves : ReactingGivesLeaveIt
+  reacting-leaves hub number room told session client c up_wire down_wire found sound there live silent first i =
+      let going : IsTrue (is_open session.standing) = ap is_open live in
+      let accepted = (i.fit.up going).accepted in
+      let within = taken-up-within session.established (asked_of session.subscriptions) i.ups accepted in
+      let up : ComesUp session c up_wire i.ups found.0 found.1 = first-comes-up session c up_wire i.ups found.0 found.1 within (i.whole_up going) first in
+      let m = up.first in
+      let rest = found.1 in
+      let s : Session = after hub m (without_first rest session) in
+      let taken = first-taken session.established (asked_of session.subscriptions) m up.others
+      (subst (λ (ups : List ClientMessage). IsSome (all_taken_up session.established (asked_of session.subscriptions) ups)) up.are accepted) in
+      let m-within = (subst (λ (ups : List ClientMessage). AllByRecursion (λ m. IsTrue (is_within m)) ups) up.are within).0 in
+      let met : IsMet hub number session m rest = record { there = there; live = live; silent = silent; first = first ∙ ap (λ (w : List ℕ). Some (w, rest)) up.whole_is; taken = taken } in
+      let gave = gives-so hub number room session m rest ((sound.states (newest hub) (omega arith)).home.links) met in
+      let clocks = restarted (is_request_to_keep m) (now hub) session.clocks in
+      let reacted = reactions hub told session client c up_wire down_wire m up.others rest clocks i going (needs-met hub number m rest clocks session sound there m-within) up.are up.left in
+      let under : IsUnderWay hub (remembers s.subscriptions told) s client c up_wire down_wire = reacted in
+      record {
+        later = record s { output = drop room s.output };
+        there = gave.leaves.session;
+        flight = handed-on hub (give hub number room).hub number room (remembers s.subscriptions told) s client c up_wire down_wire (give hub number room).octets gave.octets gave.leaves under;
+      }
+
+  module _ (hub : Hub) (number room : ℕ) (told : List (ℕ × ℕ)) (session : Session) (client : Client) (c : Connection) (up_wire down_wire : List ℕ)
+      (sound : IsSoundHub hub) (there : session_of hub number ≡ Some session) (stop : StopFits session.standing) (i : IsUnderWay hub told session client c up_wire down_wire) where
+    abbrev Behind : Type 0
+    Behind = BehindGiving (give hub number room) number told client c up_wire down_wire
+
+    waits : (is_empty session.output ≡ false) ⊎ ReactsToNone session.standing session → Behind
+    waits w = quiet hub number room told session client c up_wire down_wire there w stop (can_tell.packed hub number session sound there) i
+
+    none : (standing : Standing) → session.standing ≡ standing → ReactsToNone standing session → Behind
+    none standing is h = waits (inr (subst (λ (s : Standing). ReactsToNone s session) (sym is) h))
+
+    by_first : (o : Option (List ℕ × List ℕ)) → first_message session.input ≡ o → session.standing ≡ Live → session.output ≡ [] → Behind
+    by_first None first live silent = none Live live first
+    by_first (Some found) first live silent = reacting-leaves hub number room told session client c up_wire down_wire found sound there live silent first i
+
+    by_standing : (standing : Standing) → session.standing ≡ standing → session.output ≡ [] → Behind
+    by_standing Live is silent = by_first (first_message session.input) refl is silent
+    by_standing (AskedToStop rcode delay) is silent = none (AskedToStop rcode delay) is tt
+    by_standing (Stopped since) is silent = none (Stopped since) is tt
+    by_standing (Ended reason) is silent = none (Ended reason) is tt
+
+    by_output : (output : List ℕ) → session.output ≡ output → Behind
+    by_output [] silent = by_standing session.standing refl silent
+    by_output (o ∷ os) some = waits (inl (ap is_empty some))
+
+  pub each-give-leaves : GivesLeaveIt
+  each-give-leaves hub number room told session client c up_wire down_wire sound there stop i = by_output hub number room told session client c up_wire down_wire sound there stop i session.output refl

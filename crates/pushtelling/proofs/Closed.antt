@@ -1,0 +1,198 @@
+-- A session that was stopped or has ended takes nothing in and reacts to nothing.
+--     closed-step      each step of one session leaves it closed
+--     closed_ones_rest
+use Rattle.std.proofs.Common.{◌≡◌, ℕ, ◌-◌, ◌<◌, Bool, true, false, cond, List, [], ◌∷◌, ◌++◌, length, take, min, Option, Some, None, sym, ◌∙◌, ap, subst, refl, true≢false, arith}
+use Rattle.std.specs.Prelude.{◌==◌, ◌&&◌}
+use Rattle.push_base.specs.Cases.{is_empty}
+use Rattle.push_base.specs.Limits.{max_input}
+use Rattle.dsosession.specs.Reactions.{server_reaction}
+use Rattle.dsosession.specs.declared.session.EndReason.{EndReason}
+use Rattle.dsosession.specs.declared.session.Reaction.{Reaction}
+use Rattle.dsosession.specs.declared.session.Reaction.TheVariants.{Answer, Grant, Abort, Subscribe, Unsubscribe, Reconfirm, Update, NotImplemented}
+use Rattle.dsotlv.specs.Answers.{answer_to}
+use Rattle.dsotlv.specs.Messages.{head_of, primary_data}
+use Rattle.dsotlv.specs.Notices.{question_of}
+use Rattle.dsotlv.specs.declared.message.DsoHead.{DsoHead}
+use Rattle.dsotlv.specs.declared.message.Notice.{Notice}
+use Rattle.pushsession.specs.Reactions.{reacts_itself, by_itself}
+use Rattle.pushsession.specs.Sessions.{room_of, takes, is_open, asked_to_stop, ended_with, due, ended_where, timed, says_stop, without_first}
+use Rattle.pushsession.specs.Subscribing.{Verdict, says_notices, subscribed, says_first_answer, first_answer_size, decided, answered}
+use Rattle.pushsession.specs.declared.standing.Standing.{Standing}
+use Rattle.pushsession.specs.declared.standing.Standing.TheVariants.{Live, AskedToStop, Stopped, Ended}
+use Rattle.dsosession.specs.declared.session.EndReason.TheVariants as ends
+use Rattle.pushserver.specs.Calls.{HubCall, updates, hears, moves, connects, takes as taking, gives, stops, ends as ending, called}
+use Rattle.pushserver.specs.Giving.{has_home}
+use Rattle.pushserver.specs.Hubs.{now, keeps_now, tells_now, session_of, in_session, taken_by}
+use Rattle.pushserver.specs.PlainHubs.{Hub, Session, Queue, plain_keeps}
+use Rattle.pushserver.proofs.SessionLists.{same-number}
+use Rattle.pushserver.proofs.Subscribing.{verdict-holds}
+use Rattle.pushserver.proofs.Walks.{AnyMessage, bring_any, Step, restarts, reacts, answers_subscribe, answers_update, packs_names, comes_to_stop, ends_with, copies_front, IsKept, keeps-called}
+use Rattle.pushserver.proofs.hub_steps.Cases.{itself_as}
+use Rattle.rrset.specs.Header.{id_of}
+use Rattle.rrset.specs.Rcodes.{noerror}
+use Rattle.rrset.specs.declared.record.Question.{Question}
+use Rattle.pushtelling.specs.Runs.{takes_in, is_live, first_of, message_up, reacts_to, taken_in, reacted_to, ClosedOnesRest}
+use Rattle.pushtelling.proofs.OneSession.{OfOne, one-changed, one-last, one-left}
+use Rattle.pushtelling.proofs.Tells.{by_entry}
+
+abbrev IsClosed : Session → Type 0
+IsClosed session = is_open session.standing ≡ false
+
+-- ---- the steps
+
+closed-notices : (point t : ℕ) (notices : List Notice) (session : Session) → IsClosed session → IsClosed (says_notices (plain_keeps point) t notices session)
+closed-notices point t [] session c = c
+closed-notices point t (n ∷ ns) session c = c
+
+closed-first : (point t : ℕ) (answer : List ℕ) (notices : List Notice) (before : Queue) (session : Session) → IsClosed session → IsClosed (says_first_answer (plain_keeps point) t answer notices before session)
+closed-first point t answer [] before session c = c
+closed-first point t answer (n ∷ ns) before session c = c
+
+module _ (hub : Hub) where
+  closed-by_itself : (reaction : Reaction) (message : List ℕ) (session : Session) → IsClosed session → IsClosed (by_itself (keeps_now hub) reaction hub.timers (now hub) message session)
+  closed-by_itself (Answer rcode) message session c = c
+  closed-by_itself Grant message session c = c
+  closed-by_itself (Abort reason) message session c = refl
+  closed-by_itself Unsubscribe message session c = c
+  closed-by_itself NotImplemented message session c = c
+  closed-by_itself Subscribe message session c = c
+  closed-by_itself Reconfirm message session c = c
+  closed-by_itself Update message session c = c
+
+  closed-itself : (message : List ℕ) (session : Session) → IsClosed session → IsClosed (reacts_itself (keeps_now hub) hub.timers (now hub) message session)
+  closed-itself message session c = by (head_of message)
+    where
+      by : (o : Option DsoHead) → IsClosed (itself_as (keeps_now hub) hub.timers (now hub) message session o)
+      by None = refl
+      by (Some head) = closed-by_itself (server_reaction head session.established) message session c
+
+  closed-answered : (id : ℕ) (question : Option Question) (session : Session) → IsClosed session → IsClosed (answered (keeps_now hub) (tells_now hub) (now hub) id question (has_home hub question) session)
+  closed-answered id question session c =
+      verdict-holds (keeps_now hub) id question (has_home hub question) session.subscriptions (λ (v : Verdict). IsClosed (decided (keeps_now hub) (tells_now hub) (now hub) id v session))
+      c c c (λ reason. refl) (λ q read new_id new_question. accepting q)
+    where
+      notices : Question → List Notice
+      notices q = (tells_now hub).first_notices q session.subscriptions session.queue
+
+      begun : Question → Session
+      begun q = subscribed (keeps_now hub) id q ((keeps_now hub).end_behind (first_answer_size (answer_to id noerror) (notices q)) session.made) session
+
+      accepting : (q : Question) → IsClosed (says_first_answer (keeps_now hub) (now hub) (answer_to id noerror) (notices q) session.queue (begun q))
+      accepting q = closed-first _ (now hub) (answer_to id noerror) (notices q) session.queue (begun q) c
+
+  closed-step : {f : Session → Session} → Step AnyMessage hub f → (session : Session) → IsClosed session → IsClosed (f session)
+  closed-step (restarts message) session c = c
+  closed-step (reacts message) session c = closed-itself message session c
+  closed-step (answers_subscribe message any) session c = closed-answered (id_of message) (question_of (primary_data message)) session c
+  closed-step (answers_update before message) session c = c
+  closed-step packs_names session c =
+      let pack = (tells_now hub).packed session.subscriptions session.queue in
+      closed-notices _ (now hub) pack.0 (record session { queue = pack.1 }) c
+  closed-step (comes_to_stop rcode delay) session c = by session.established
+    where
+      by : (b : Bool) → IsClosed (cond b (says_stop (keeps_now hub) rcode delay (now hub) session) (ended_with (keeps_now hub) ends.Stopped session))
+      by true = refl
+      by false = refl
+  closed-step (ends_with reason) session c = refl
+  closed-step (copies_front room) session c = c
+
+closed-timed : (point t : ℕ) (session : Session) → IsClosed session → IsClosed (timed (plain_keeps point) t session)
+closed-timed point t session c = by (due (plain_keeps point) t session)
+  where
+    by : (o : Option EndReason) → IsClosed (ended_where (plain_keeps point) o session)
+    by None = c
+    by (Some reason) = refl
+
+closed-asked : (rcode delay : ℕ) (session : Session) → IsClosed session → IsClosed (asked_to_stop rcode delay session)
+closed-asked rcode delay session c = ap (λ (b : Bool). is_open (cond b (record session { standing = AskedToStop rcode delay }) session).standing) c ∙ c
+
+-- ---- a hub
+
+module _ (number : ℕ) where
+  record Rests (hub : Hub) : Type 0 where
+    pub given : number < hub.numbers_given
+    pub one : OfOne number IsClosed hub.sessions
+
+  in-rests : (hub : Hub) (other : ℕ) (f : Session → Session) → ((s : Session) → IsClosed s → IsClosed (f s)) → Rests hub → Rests (in_session other f hub)
+  in-rests hub other f keeps h = record { given = h.given; one = one-changed number IsClosed IsClosed (λ n s. cond (n == other) (f s) s) (λ s c. by s c (number == other)) hub.sessions h.one }
+    where
+      by : (s : Session) → IsClosed s → (b : Bool) → IsClosed (cond b (f s) s)
+      by s c true = keeps s c
+      by s c false = c
+
+  rests_kept : IsKept AnyMessage Rests
+  rests_kept = record {
+    reads = λ hub other session found there is h. tt;
+    takes_up = λ hub other session found there is h. in-rests hub other (without_first found.1) (λ s c. c) h;
+    changes = λ hub other f step h. in-rests hub other f (λ s c. closed-step hub step s c) h;
+    enters = λ hub entry by h. record { given = h.given; one = one-changed number IsClosed IsClosed (λ n. by_entry hub.start hub.history entry) (λ s c. c) hub.sessions h.one };
+    times = λ hub point t h. record { given = h.given; one = one-changed number IsClosed IsClosed (λ n. timed (plain_keeps point) t) (closed-timed point t) hub.sessions h.one };
+    takes_in = λ hub other piece any h. in-rests hub other (takes piece) (λ s c. c) h;
+    asks_stop = λ hub other rcode delay h. in-rests hub other (asked_to_stop rcode delay) (closed-asked rcode delay) h;
+    makes = λ hub h. record {
+      given = let low = h.given in omega (arith, low);
+      one = one-last number IsClosed hub.sessions _ (λ is. let same = same-number hub.numbers_given number is in let low = h.given in absurd (omega (arith, same, low))) h.one;
+    };
+    drops = λ hub gone h. record { given = h.given; one = one-left number IsClosed gone hub.sessions h.one };
+  }
+
+  -- ---- what it takes in and reacts to
+
+  nothing_in : (hub : Hub) (call : HubCall) → Rests hub → takes_in number hub call ≡ []
+  nothing_in hub (taking other piece) h = by (number == other) refl
+    where
+      none : (n : ℕ) → min n 0 ≡ 0
+      none n = omega arith
+
+      own : (o : Option Session) → ((s : Session) → o ≡ Some s → IsClosed s) → take (elim o as (λ _. ℕ) [ None ↦ 0 | Some session ↦ min (length piece) (room_of session) ]) piece ≡ []
+      own None closed = refl
+      own (Some s) closed = ap (λ (b : Bool). take (min (length piece) (cond b (max_input - length s.input) 0)) piece) (closed s refl) ∙ ap (λ n. take n piece) (none (length piece))
+
+      by : (b : Bool) → (number == other) ≡ b → cond b (take (taken_by hub other piece) piece) [] ≡ []
+      by false is = refl
+      by true is = own (session_of hub other) (subst (λ n. OfOne n IsClosed hub.sessions) (same-number number other is) h.one)
+  nothing_in hub (updates message) h = refl
+  nothing_in hub (hears link datagram) h = refl
+  nothing_in hub (moves t) h = refl
+  nothing_in hub connects h = refl
+  nothing_in hub (gives other room) h = refl
+  nothing_in hub (stops other rcode delay) h = refl
+  nothing_in hub (ending other) h = refl
+
+  nothing_up : (hub : Hub) (call : HubCall) → Rests hub → reacts_to number hub call ≡ []
+  nothing_up hub (gives other room) h = by (number == other) refl
+    where
+      own-standing : (standing : Standing) (silent : Bool) (heads : List (List ℕ)) → is_open standing ≡ false → cond (is_live standing && silent) heads [] ≡ []
+      own-standing Live silent heads closed = absurd (true≢false closed)
+      own-standing (AskedToStop rcode delay) silent heads closed = refl
+      own-standing (Stopped since) silent heads closed = refl
+      own-standing (Ended reason) silent heads closed = refl
+
+      own : (o : Option Session) → ((s : Session) → o ≡ Some s → IsClosed s) → elim o as (λ _. List (List ℕ)) [ None ↦ [] | Some session ↦ first_of session ] ≡ []
+      own None closed = refl
+      own (Some s) closed = own-standing s.standing (is_empty s.output) _ (closed s refl)
+
+      by : (b : Bool) → (number == other) ≡ b → cond b (message_up hub other) [] ≡ []
+      by false is = refl
+      by true is = own (session_of hub other) (subst (λ n. OfOne n IsClosed hub.sessions) (same-number number other is) h.one)
+  nothing_up hub (updates message) h = refl
+  nothing_up hub (hears link datagram) h = refl
+  nothing_up hub (moves t) h = refl
+  nothing_up hub connects h = refl
+  nothing_up hub (taking other piece) h = refl
+  nothing_up hub (stops other rcode delay) h = refl
+  nothing_up hub (ending other) h = refl
+
+  rests : (calls : List HubCall) (hub : Hub) → Rests hub → (taken_in number calls hub ≡ []) × (reacted_to number calls hub ≡ [])
+  rests [] hub h = (refl, refl)
+  rests (call ∷ calls) hub h =
+      let later = rests calls (called call hub) (keeps-called AnyMessage Rests rests_kept call hub (bring_any (call ∷ [])).0 h) in (
+        ap (λ os. os ++ taken_in number calls (called call hub)) (nothing_in hub call h) ∙ later.0,
+        ap (λ ms. ms ++ reacted_to number calls (called call hub)) (nothing_up hub call h) ∙ later.1,
+      )
+
+pub closed_ones_rest : ClosedOnesRest
+closed_ones_rest hub calls number session low there closed = rests number calls hub (record { given = low; one = λ s found. of_it s (sym there ∙ found) })
+  where
+    of_it : (s : Session) → Some session ≡ Some s → IsClosed s
+    of_it s is = let same : session ≡ s = cc in subst IsClosed same closed
