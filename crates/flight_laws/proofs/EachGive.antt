@@ -1,4 +1,5 @@
--- Each call of `give` leaves what is under way as it was.
+-- What is under way still fits behind each call of `give`.
+--     first-met      the first of the client's messages, as a session meets it
 --     reacting-leaves      a message of the client is reacted to
 --     each-give-leaves      any call
 use Rattle.std.proofs.Common.{◌≡◌, ◌⊎◌, inl, inr, ℕ, Bool, true, false, List, [], ◌∷◌, ◌++◌, take, drop, Option, Some, None, refl, sym, ap, subst, ◌∙◌, arith, true≢false}
@@ -56,6 +57,28 @@ handed-on hub later number room told s client c up_wire down_wire octets handed 
     (subst (λ (start : State). InFlight (ends_of (record hub { start = start; timers = later.timers }) told left client c) (going_up left c up_wire) (going_down left c (down_wire ++ take room s.output))) (sym has.start)
     (subst (λ (timers : Timers). InFlight (ends_of (record hub { timers = timers }) told left client c) (going_up left c up_wire) (going_down left c (down_wire ++ take room s.output))) (sym has.timers) out))
 
+-- the first of the client's messages is whole in a live session's input, and may be taken up
+pub record FirstMet (hub : Hub) (number : ℕ) (session : Session) (c : Connection) (up_wire : List ℕ) (ups : List ClientMessage) (found : List ℕ × List ℕ) : Type 0 where
+  pub up : ComesUp session c up_wire ups found.0 found.1
+  pub within : is_within up.first ≡ true
+  pub met : IsMet hub number session up.first found.1
+
+pub first-met : (hub : Hub) (number : ℕ) (told : List (ℕ × ℕ)) (session : Session) (client : Client) (c : Connection) (up_wire down_wire : List ℕ) (found : List ℕ × List ℕ)
+    → session_of hub number ≡ Some session → session.standing ≡ Live → session.output ≡ [] → first_message session.input ≡ Some found
+    → (i : IsUnderWay hub told session client c up_wire down_wire) → FirstMet hub number session c up_wire i.ups found
+first-met hub number told session client c up_wire down_wire found there live silent first i =
+    let going : IsTrue (is_open session.standing) = ap is_open live in
+    let accepted = (i.fit.up going).accepted in
+    let within = taken-up-within session.established (asked_of session.subscriptions) i.ups accepted in
+    let up : ComesUp session c up_wire i.ups found.0 found.1 = first-comes-up session c up_wire i.ups found.0 found.1 within (i.whole_up going) first in
+    let taken = first-taken session.established (asked_of session.subscriptions) up.first up.others
+    (subst (λ (ups : List ClientMessage). IsSome (all_taken_up session.established (asked_of session.subscriptions) ups)) up.are accepted) in
+    record {
+      up = up;
+      within = (subst (λ (ups : List ClientMessage). AllByRecursion (λ m. IsTrue (is_within m)) ups) up.are within).0;
+      met = record { there = there; live = live; silent = silent; first = first ∙ ap (λ (w : List ℕ). Some (w, found.1)) up.whole_is; taken = taken };
+    }
+
 module _ (quiet : QuietGivesLeaveIt) (reactions : ReactionsLeaveIt) (can_tell : PushesCanBeTold) (homes : HomesStay) where
   needs-met : (hub : Hub) (number : ℕ) (m : ClientMessage) (rest : List ℕ) (clocks : Clocks) (session : Session) → IsSoundHub hub → session_of hub number ≡ Some session → is_within m ≡ true
       → Needs hub m (record session { input = rest; clocks = clocks })
@@ -70,19 +93,13 @@ module _ (quiet : QuietGivesLeaveIt) (reactions : ReactionsLeaveIt) (can_tell : 
   pub reacting-leaves : ReactingGivesLeaveIt
   reacting-leaves hub number room told session client c up_wire down_wire found sound there live silent first i =
       let going : IsTrue (is_open session.standing) = ap is_open live in
-      let accepted = (i.fit.up going).accepted in
-      let within = taken-up-within session.established (asked_of session.subscriptions) i.ups accepted in
-      let up : ComesUp session c up_wire i.ups found.0 found.1 = first-comes-up session c up_wire i.ups found.0 found.1 within (i.whole_up going) first in
-      let m = up.first in
+      let one = first-met hub number told session client c up_wire down_wire found there live silent first i in
+      let m = one.up.first in
       let rest = found.1 in
       let s : Session = after hub m (without_first rest session) in
-      let taken = first-taken session.established (asked_of session.subscriptions) m up.others
-      (subst (λ (ups : List ClientMessage). IsSome (all_taken_up session.established (asked_of session.subscriptions) ups)) up.are accepted) in
-      let m-within = (subst (λ (ups : List ClientMessage). AllByRecursion (λ m. IsTrue (is_within m)) ups) up.are within).0 in
-      let met : IsMet hub number session m rest = record { there = there; live = live; silent = silent; first = first ∙ ap (λ (w : List ℕ). Some (w, rest)) up.whole_is; taken = taken } in
-      let gave = gives-so hub number room session m rest ((sound.states (newest hub) (omega arith)).home.links) met in
+      let gave = gives-so hub number room session m rest ((sound.states (newest hub) (omega arith)).home.links) one.met in
       let clocks = restarted (is_request_to_keep m) (now hub) session.clocks in
-      let reacted = reactions hub told session client c up_wire down_wire m up.others rest clocks i going (needs-met hub number m rest clocks session sound there m-within) up.are up.left in
+      let reacted = reactions hub told session client c up_wire down_wire m one.up.others rest clocks i going (needs-met hub number m rest clocks session sound there one.within) one.up.are one.up.left in
       let under : IsUnderWay hub (remembers s.subscriptions told) s client c up_wire down_wire = reacted in
       record {
         later = record s { output = drop room s.output };

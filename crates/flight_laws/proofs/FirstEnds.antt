@@ -2,7 +2,7 @@
 --     EndsOf made subscriptions      of a session they speak of no more than this
 --     ends-step      each step of a session keeps that
 --     first_answers_end
-use Rattle.std.proofs.Common.{◌≡◌, ℕ, ◌+◌, ◌≤◌, Bool, true, false, cond, not, List, [], ◌∷◌, ◌++◌, length, min, Option, Some, None, sym, ◌∙◌, ap, subst, refl, arith}
+use Rattle.std.proofs.Common.{◌≡◌, ℕ, ◌+◌, ◌≤◌, Bool, true, false, cond, not, List, [], ◌∷◌, ◌++◌, length, length-append, min, Option, Some, None, sym, ◌∙◌, ap, subst, refl, arith}
 use Rattle.std.specs.Prelude.{◌==◌}
 use Rattle.std.specs.Int.{w16, from_be_bytes}
 use Rattle.std.specs.List.{AllByRecursion}
@@ -10,14 +10,14 @@ use Rattle.std.proofs.Math.Seq.{take-length}
 use Rattle.std.proofs.lemmas.List.{append_assoc, take-append-le, take_min}
 use Rattle.std.proofs.lemmas.List.Sums.{sum_by-append}
 use Rattle.coalesce.proofs.ReadBack.{each-append}
-use Rattle.coalesce.specs.Net.{push_message}
+use Rattle.coalesce.specs.Net.{push_message, push_frame}
 use Rattle.dsosession.specs.Reactions.{server_reaction}
 use Rattle.dsosession.specs.declared.session.EndReason.{EndReason}
 use Rattle.dsosession.specs.declared.session.EndReason.TheVariants as ends
 use Rattle.dsosession.specs.declared.session.Reaction.{Reaction}
 use Rattle.dsosession.specs.declared.session.Reaction.TheVariants.{Answer, Grant, Abort, Subscribe, Unsubscribe, Reconfirm, Update, NotImplemented}
 use Rattle.dsotlv.specs.Answers.{answer_to, refusal_to, grant_to, not_implemented, answer_to_update, stop_message}
-use Rattle.dsotlv.specs.Messages.{head_of, primary_data}
+use Rattle.dsotlv.specs.Messages.{head_of, primary_data, frame}
 use Rattle.dsotlv.specs.Notices.{question_of}
 use Rattle.dsotlv.specs.declared.message.DsoHead.{DsoHead}
 use Rattle.dsotlv.specs.declared.message.Notice.{Notice}
@@ -116,7 +116,7 @@ module _ (point t : ℕ) where
         let size = first_answer_size answer [] in
         let m = answer_made size (begun size).queue in
         ends-more session.made (m ∷ []) session.subscriptions (asked size) h
-        (all-asked (m ∷ []) size h (size-push session.made m ∙ ap (λ n. size_of_made session.made + n) (omega arith)))
+        (all-asked (m ∷ []) size h (size-push session.made m ∙ ap (λ n. size_of_made session.made + n) (omega (arith, length-append (frame answer) (push_frame [])))))
         (refl, tt)
     ends-first (n ∷ ns) before h =
         let size = first_answer_size answer (n ∷ ns) in
@@ -124,7 +124,7 @@ module _ (point t : ℕ) where
         let p : Made = record { message = push_message (n ∷ ns); note = record { queue = (begun size).queue; newest = point }; subscribed = asked size } in
         subst (λ made. EndsOf made (asked size)) (sym (append_assoc session.made (m ∷ []) (p ∷ [])))
         (ends-more session.made (m ∷ p ∷ []) session.subscriptions (asked size) h
-        (all-asked (m ∷ p ∷ []) size h (sum_by-append (λ (x : Made). length (frame_of x)) session.made (m ∷ p ∷ []) ∙ ap (λ n. size_of_made session.made + n) (omega arith)))
+        (all-asked (m ∷ p ∷ []) size h (sum_by-append (λ (x : Made). length (frame_of x)) session.made (m ∷ p ∷ []) ∙ ap (λ n. size_of_made session.made + n) (omega (arith, length-append (frame answer) (push_frame (n ∷ ns))))))
         (refl, (refl, tt)))
 
 none_left : (session : Session) → Ends session → EndsOf session.made []

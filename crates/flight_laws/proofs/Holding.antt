@@ -1,7 +1,7 @@
 -- What the client holds is the history at the points of the notes that came with it.
 --     holds_at_last, holds_along, holds_all_sent
 use Rattle.std.proofs.Common.{◌≡◌, ℕ, ◌+◌, ◌≤◌, zero, suc, Bool, true, false, cond, not, ◌&&◌, ◌||◌, List, [], ◌∷◌, ◌++◌, map, length, take, ◌⊎◌, inl, inr, Option, Some, None, sym, ◌∙◌, ap, subst, refl, true≢false, arith}
-use Rattle.std.specs.Prelude.{IsTrue, ◌==◌}
+use Rattle.std.specs.Prelude.{IsTrue, IsSome, ◌==◌}
 use Rattle.std.specs.List.{list_any, AllByRecursion}
 use Rattle.std.proofs.lemmas.List.{append_assoc, map-append}
 use Rattle.std.proofs.lemmas.List.Sums.{sum_by-cons}
@@ -20,7 +20,8 @@ use Rattle.pushclient.specs.Clients.{Wish, RequestState, not_asked, unanswered, 
 use Rattle.inflight.specs.Messages.{Flying, made_of, accepts_id}
 use Rattle.inflight.specs.Ends.{is_active_as, told_end, is_told, subscribed_at_last}
 use Rattle.inflight.specs.Flight.{TookNotices, is_listed, is_so_along, is_seen, EndsAMessage}
-use Rattle.flight_laws.specs.Holding.{EndsBeforeNext, IsHeldAtLast, HoldsAtLast, will_hold, HoldsThen, HoldsAlong}
+use Rattle.inflight.specs.Holding.{will_hold, HoldsThen}
+use Rattle.flight_laws.specs.Holding.{EndsBeforeNext, IsHeldAtLast, HoldsAtLast, HoldsAlong}
 use Rattle.flight_laws.proofs.Alike.{noted-alike, applied-alike}
 
 -- ---- one of a list
@@ -45,6 +46,7 @@ record Lists (told : List (ℕ × ℕ)) (id : ℕ) (question : Question) (P : Su
   pub id_is : id ≡ it.id
   pub same : same_question question it.question ≡ true
   pub ends : (n : ℕ) → told_end told id ≡ Some n → n ≡ it.filled
+  pub known : IsSome (told_end told id)
   pub has : P it
 
 listed : (told : List (ℕ × ℕ)) (id : ℕ) (question : Question) (P : Subscription → Type 0) (subscribed : List Subscription) → is_listed told id question subscribed ≡ true → AllByRecursion P subscribed
@@ -55,11 +57,23 @@ listed told id question P subscribed any all =
     let both = both_true (is_active_as id question s) (is_told told s) one.1 in
     let active = both_true (id == s.id) (same_question question s.question) both.0 in
     let same-id = same-number id s.id active.0 in
-    record { it = s; id_is = same-id; same = active.1; ends = λ n is. by n s (told_end told s.id) refl both.1 (ap (told_end told) (sym same-id) ∙ is); has = one.2 }
+    record { it = s; id_is = same-id; same = active.1; known = subst (λ i. IsSome (told_end told i)) (sym same-id) (by_end s.filled (told_end told s.id) both.1); ends = λ n is. by n s (told_end told s.id) refl both.1 (ap (told_end told) (sym same-id) ∙ is); has = one.2 }
   where
+    by_end : (filled : ℕ) (o : Option ℕ) → elim o as (λ _. Bool) [ None ↦ false | Some k ↦ k == filled ] ≡ true → IsSome o
+    by_end filled None found = absurd (true≢false (sym found))
+    by_end filled (Some n) found = refl
+
     by : (n : ℕ) (s : Subscription) (o : Option ℕ) → told_end told s.id ≡ o → elim o as (λ _. Bool) [ None ↦ false | Some k ↦ k == s.filled ] ≡ true → told_end told s.id ≡ Some n → n ≡ s.filled
     by n s None there is found = absurd (true≢false (sym is))
     by n s (Some k) there is found = let same : k ≡ n = cc in sym same ∙ same-number k s.filled is
+
+-- of a listed one it was told where its first answer ends
+pub listed-known : (told : List (ℕ × ℕ)) (id : ℕ) (question : Question) (subscribed : List Subscription) → is_listed told id question subscribed ≡ true → IsSome (told_end told id)
+listed-known told id question subscribed any = (listed told id question (λ s. Unit {0}) subscribed any (each subscribed)).known
+  where
+    each : (ss : List Subscription) → AllByRecursion (λ s. Unit {0}) ss
+    each [] = tt
+    each (s ∷ ss) = (tt, each ss)
 
 -- where it is right after these messages, their notices lead the question to the records at the note
 leads : (hub : Hub) (made : List Made) (m : Made) (told : List (ℕ × ℕ)) (id : ℕ) (question : Question) (s : Subscription) → id ≡ s.id → same_question question s.question ≡ true
@@ -73,7 +87,7 @@ leads hub made m told id question s id_is same right =
 -- ---- what is so along messages
 
 -- it is so of what was active at first, where it holds by then
-so-first : (so : List Subscription → Bool) (id : ℕ) (subscribed : List Subscription) (flying : List Flying) → is_so_along so id true subscribed flying ≡ true → so subscribed ≡ true
+pub so-first : (so : List Subscription → Bool) (id : ℕ) (subscribed : List Subscription) (flying : List Flying) → is_so_along so id true subscribed flying ≡ true → so subscribed ≡ true
 so-first so id subscribed [] is = is
 so-first so id subscribed (f ∷ fs) is = (both_true (so subscribed) (is_so_along so id true f.subscribed fs) is).0
 
@@ -113,7 +127,7 @@ last-of (m ∷ n ∷ ms) so none is =
 
 -- ---- where messages end
 
-size-first : (m : Made) (ms : List Made) → size_of_made (m ∷ ms) ≡ length (frame_of m) + size_of_made ms
+pub size-first : (m : Made) (ms : List Made) → size_of_made (m ∷ ms) ≡ length (frame_of m) + size_of_made ms
 size-first m ms = sum_by-cons (λ (x : Made). length (frame_of x)) m ms
 
 abbrev LieWithin : List Made → List Made → ℕ → Type 0

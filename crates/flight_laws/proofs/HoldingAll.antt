@@ -20,7 +20,8 @@ use Rattle.pushclient.specs.Steps.{is_unanswered}
 use Rattle.inflight.specs.Messages.{Flying, accepts_id}
 use Rattle.inflight.specs.Ends.{BothEnds, unanswered_id, is_active_as, is_unanswered_as}
 use Rattle.inflight.specs.Flight.{is_active_answer, is_held_active}
-use Rattle.flight_laws.specs.Holding.{will_hold, HoldsThen, HoldsAllSent}
+use Rattle.inflight.specs.Holding.{will_hold, HoldsThen}
+use Rattle.flight_laws.specs.Holding.{HoldsAllSent}
 use Rattle.flight_laws.proofs.Alike.{sent-alike, applied-alike}
 use Rattle.flight_laws.proofs.Counting.{count-append, count-one, waiting_ids, count-unanswered, count-used}
 use Rattle.flight_laws.proofs.FirstFits.{one-waits, counts-waiting}

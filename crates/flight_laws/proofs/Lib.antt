@@ -43,3 +43,8 @@ pub mod Alike
 pub mod Holding
 pub mod HoldingAll
 pub mod NextMessage
+pub mod TakenStays
+pub mod OctetCalls
+pub mod GoesOn
+pub mod HeldHistory
+pub mod TakesNothing

@@ -1,4 +1,4 @@
--- Octets that pass leave what is under way as it was: only the place of the cut between two lists moves.
+-- What is under way still fits when octets pass: only the place of the cut between two lists moves.
 use Rattle.std.proofs.Common.{◌≡◌, ℕ, List, ◌++◌, take, drop, sym, ◌∙◌, ap, subst}
 use Rattle.std.proofs.lemmas.List.{append_assoc, take-append-drop}
 use Rattle.pushserver.specs.PlainHubs.{Session, Hub}

@@ -1,4 +1,4 @@
--- Each call of `give` leaves what is under way as it was, whatever the session does: it reacts to a message of the client, packs a
+-- What is under way still fits behind each call of `give`, whatever the session does: it reacts to a message of the client, packs a
 -- PUSH, stops, hands on octets, or does nothing.
 --     ReactingGivesLeaveIt      a live session reacts to the first message that is whole in its input
 --     GivesLeaveIt      any call

@@ -182,14 +182,15 @@ with_held wish id e = record e { wishes = map (stood_wish wish.question (answere
 abbrev pub with_ended : Wish → BothEnds → BothEnds
 with_ended wish e = record e { wishes = without_wish wish.question e.wishes; client_established = true }
 
--- NOERROR comes to a wish that waits, and where it is wanted it is held. The IDs of active subscriptions differ.
+-- NOERROR comes to a wish that waits, and what is left fits if the client holds it from now on. It is so of any wish, here and in the next
+-- law: which of the two the client does `StepsAreTaken` says. The IDs of active subscriptions differ.
 abbrev pub AcceptedOnesAreHeld : Type 0
 AcceptedOnesAreHeld = (e : BothEnds) (taken : List Made) (fs : List Flying) (ups : List ClientMessage) (id : ℕ) (note : Note) (subscribed : List Subscription)
     → let f = flies (accepts id) note subscribed in
     IsDistinct (λ s t. s.id == t.id) e.subscriptions → FitsTogether e taken (f ∷ fs) ups
     → (wish : Wish) × (find (λ w. is_unanswered id w.standing) e.wishes ≡ Some wish) × FitsTogether (with_held wish id e) (taken ++ made_of e.timers f ∷ []) fs ups
 
--- and where it was dropped an UNSUBSCRIBE ends its subscription (RFC 8765, 6.4)
+-- and what is left fits if the wish goes, and an UNSUBSCRIBE ends its subscription (RFC 8765, 6.4)
 abbrev pub AcceptedOnesAreEnded : Type 0
 AcceptedOnesAreEnded = (e : BothEnds) (taken : List Made) (fs : List Flying) (ups : List ClientMessage) (id : ℕ) (note : Note) (subscribed : List Subscription)
     → let f = flies (accepts id) note subscribed in

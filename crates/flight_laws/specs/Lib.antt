@@ -8,3 +8,4 @@ pub mod Asking
 pub mod Taking
 pub mod Runs
 pub mod Holding
+pub mod GoesOn

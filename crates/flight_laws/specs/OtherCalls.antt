@@ -1,5 +1,5 @@
--- What the other calls of the hub do to a session and its client: updates, datagrams, moments, connections, and what comes for other
--- sessions or is given of them. All that is under way stays so.
+-- What the other calls of the hub do to a session and its client: updates, datagrams, moments, connections, stops, of this session too,
+-- and what comes for other sessions, is given of them, or ends them. What is under way still fits.
 --     IsOfOthers number call      a call that neither brings octets to the session of this number, nor gives of it, nor ends its connection
 --     OtherCallsLeaveIt      each such call
 use Rattle.std.specs.Prelude.{◌≡◌, ℕ, List, Some}
@@ -15,7 +15,7 @@ IsOfOthers number (gives other room) = number ≡ other → ⊥
 IsOfOthers number (ends other) = number ≡ other → ⊥
 IsOfOthers number _ = Unit {0}
 
--- the session is there after the call, and what is under way fits both ends as it did; a moment may end it, and a stop may be asked of it
+-- the session is there after the call, and what is under way still fits both ends; a moment may end it, and a stop may be asked of it
 abbrev pub OtherCallsLeaveIt : Type 0
 OtherCallsLeaveIt = (hub : Hub) (call : HubCall) (number : ℕ) (told : List (ℕ × ℕ)) (session : Session) (client : Client) (c : Connection) (up_wire down_wire : List ℕ)
     → IsOfOthers number call → session_of hub number ≡ Some session → IsUnderWay hub told session client c up_wire down_wire

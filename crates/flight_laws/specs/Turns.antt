@@ -1,5 +1,5 @@
--- What a call of `give` does to a session: it hands on what waits to go, reacts to a message, packs a PUSH, stops, or does nothing. All
--- that is under way stays so, octets with it.
+-- What a call of `give` does to a session: it hands on what waits to go, reacts to a message, packs a PUSH, stops, or does nothing.
+-- What is under way still fits, as octets.
 --     PushesCanBeTold      what a sound hub tells can be read
 --     EndsToldLeaveIt, PacksLeaveIt, StopsLeaveIt      ends of first answers are told; a PUSH is packed; a session stops that was asked to
 --     reaction, ReactionsLeaveIt      the session reacts to the first message that comes up

@@ -1,10 +1,11 @@
 //! Each kind of step keeps what is under way between a client and its session together. The crate has laws alone.
 #![tactic(auto)]
 
+ghost use Rattle.flight_laws.specs.GoesOn.{ClientsGiveOctets, ClientsTakeOctets, GivesTakeNothing, NoMessageEndsIt, OtherCallsTakeNothing, SessionsTakeOctets, TakenIsCounted, TakenStays};
 ghost use Rattle.flight_laws.specs.EachGive.{GivesLeaveIt, ReactingGivesLeaveIt};
 ghost use Rattle.flight_laws.specs.Asking.{DroppedOnesAreWantedAgain, NextIdIsFree, QuestionsAreAsked};
 ghost use Rattle.flight_laws.specs.Taking.{ConnectionsOpen, MomentsGoUp, ReconfirmsGoUp, StepsAreTaken, StepsWait, SubscribesGoUp, UnsubscribesGoUp};
-ghost use Rattle.flight_laws.specs.Holding.{EndsBeforeNextWhereNoneWaits, HoldsAtLast, HoldsAlong, HoldsAllSent};
+ghost use Rattle.flight_laws.specs.Holding.{EndsBeforeNextWhereNoneWaits, HeldIsHistory, HoldsAtLast, HoldsAlong, HoldsAllSent};
 ghost use Rattle.flight_laws.specs.Runs.{FirstAnswersEndAfterCalls};
 ghost use Rattle.flight_laws.specs.Laws.{AcceptedOnesAreEnded, AcceptedOnesAreHeld, DelaysAreTaken, EntriesLeaveIt, FirstMessagesFit, GrantsAreTaken, HeldOnesAreDropped, KeepalivesFit, NewConnectionsFit, OctetsPass, PushesAreTaken, ReconfirmsFit, RefusalsAreTaken, RefusedOnesAreDropped, SessionsEnd, SoAlongOneMore, StopsAreAskedFor, TakesWithFewer, WaitingOnesAreDropped};
 ghost use Rattle.flight_laws.specs.OtherCalls.{OtherCallsLeaveIt};
@@ -17,7 +18,7 @@ pub fn new_connections_fit()
     ensures begins { NewConnectionsFit }
 {}
 
-/// Octets that pass leave what is under way as it was.
+/// What is under way still fits when octets pass.
 pub fn octets_pass()
     ensures pass { OctetsPass }
 {}
@@ -59,7 +60,8 @@ pub fn answers_fit()
     ensures refusals { RefusalsAreTaken }
 {}
 
-/// What is left on its way fits together when the client has taken the NOERROR answer to its SUBSCRIBE.
+/// What is left on its way fits together when the client has taken the NOERROR answer to its SUBSCRIBE, and holds the subscription, or
+/// ends it; `steps_fit` says which of the two it does.
 pub fn accepting_fits()
     ensures held { AcceptedOnesAreHeld }
     ensures ended { AcceptedOnesAreEnded }
@@ -72,7 +74,7 @@ pub fn taking_fits()
     ensures pushes { PushesAreTaken }
 {}
 
-/// An entry leaves what is under way as it was, and so does a session that is asked to stop, or ends.
+/// What is under way still fits when an entry is made, and when a session is asked to stop, or ends.
 pub fn ending_fits()
     ensures entries { EntriesLeaveIt }
     ensures stops { StopsAreAskedFor }
@@ -111,7 +113,7 @@ pub fn said_comes_down()
     ensures down { SaidComesDown }
 {}
 
-/// What is under way stays so when ends of first answers are told again, a PUSH is packed, or a session stops, as octets.
+/// What is under way still fits, as octets, when ends of first answers are told again, a PUSH is packed, or a session stops.
 pub fn quiet_turns_fit()
     ensures told { EndsToldLeaveIt }
     ensures packs { PacksLeaveIt }
@@ -119,17 +121,18 @@ pub fn quiet_turns_fit()
     ensures readable { PushesCanBeTold }
 {}
 
-/// What is under way stays so behind each call of `give` that reacts to no message.
+/// What is under way still fits behind each call of `give` that reacts to no message.
 pub fn quiet_gives_fit()
     ensures gives { QuietGivesLeaveIt }
 {}
 
-/// What is under way stays so when the session has reacted to the first message that came up, as octets.
+/// What is under way still fits, as octets, when the session has reacted to the first message that came up.
 pub fn reactions_leave()
     ensures reactions { ReactionsLeaveIt }
 {}
 
-/// What is under way between a session and its client stays so behind each call of the hub that is none of theirs.
+/// What is under way between a session and its client still fits behind each call of the hub but three: octets that are brought to this
+/// session, a `give` of it, and the end of its connection. A stop of this very session is among the calls.
 pub fn other_calls_leave()
     ensures calls { OtherCallsLeaveIt }
 {}
@@ -149,7 +152,8 @@ pub fn first_comes_up()
 {}
 
 /// A session takes a message that may be taken up: it grants a Keepalive, accepts a question that is served and refuses any other
-/// with NOTAUTH, ends the subscription of an UNSUBSCRIBE, and asks for the reconfirming of a record. It never ends.
+/// with NOTAUTH, ends the subscription of an UNSUBSCRIBE, and asks for the reconfirming of a record. The reaction leaves its standing
+/// as it was.
 pub fn sessions_react_so()
     ensures reacts { ReactsSo }
     ensures verdicts { VerdictsAreTwo }
@@ -161,7 +165,7 @@ pub fn gives_react_so()
     ensures gives { GivesSo }
 {}
 
-/// What is under way stays so behind each call of `give`, as octets: the first message of the client that is whole in a live
+/// What is under way still fits behind each call of `give`, as octets: the first message of the client that is whole in a live
 /// session's input is reacted to, and any other call is as `quiet_gives_fit` says.
 pub fn each_give_leaves()
     ensures reacting { ReactingGivesLeaveIt }
@@ -210,4 +214,38 @@ pub fn what_is_held()
     ensures last { HoldsAtLast }
     ensures along { HoldsAlong }
     ensures sent { HoldsAllSent }
+{}
+
+/// No message ends it: each call of `give` leaves a live session live, whatever came up, and the client's step closes the connection
+/// at a Retry Delay alone, the last word of a session that doesn't go on (RFC 8490, 6.6.1).
+pub fn no_message_ends_it()
+    ensures ends { NoMessageEndsIt }
+{}
+
+/// Octets pass by the calls of either end, and the messages under way stay the same: a session and a client take as much of what came
+/// as they have room for, and a client hands out a front of its output.
+pub fn octets_pass_by_calls()
+    ensures sessions_take { SessionsTakeOctets }
+    ensures clients_take { ClientsTakeOctets }
+    ensures clients_give { ClientsGiveOctets }
+{}
+
+/// Which messages were taken follows from what was made and how many octets come down: it stays where a call makes no message, or just
+/// the octets of what it made come down besides.
+pub fn taken_stays()
+    ensures counted { TakenIsCounted }
+    ensures stays { TakenStays }
+{}
+
+/// What a client holds of a session under way is the history: each question that is held, and whose first answer has arrived whole, has
+/// by the notices taken exactly the records that the history has at the note of the last message taken, and so it will after each
+/// message that comes down.
+pub fn held_is_history()
+    ensures held { HeldIsHistory }
+{}
+
+/// The client has taken the same messages behind each call of the hub, a `give` of its session among them, as before it.
+pub fn calls_take_nothing()
+    ensures gives { GivesTakeNothing }
+    ensures others { OtherCallsTakeNothing }
 {}

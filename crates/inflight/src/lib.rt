@@ -1,9 +1,12 @@
 //! What is under way between a client and its session: an invariant on lists. The crate has definitions alone.
 #![tactic(auto)]
 
-ghost use Rattle.std.specs.Prelude.{◌≡◌, [], ◌∷◌, true, false};
+ghost use Rattle.std.specs.Prelude.{◌≡◌, [], ◌∷◌, true, false, codes, replicate};
+ghost use Rattle.pushclient.specs.Clients.{unanswered, answered, refused};
 ghost use Rattle.pushclient.specs.ServerMessages.{accepts, refuses, tells, grants};
-ghost use Rattle.inflight.specs.Messages.{answer_comes_first};
+ghost use Rattle.inflight.specs.Messages.{answer_comes_first, unsubscribes};
+ghost use Rattle.inflight.specs.RefusedWorlds.{address, active, begun, down, elsewhere, holding, idle, refusals, removal, serving, something, took, wish};
+ghost use Rattle.inflight.specs.Worked.{unmet_together};
 
 /// Examples of messages that come down before the client is established.
 pub fn worked_rows()
@@ -11,4 +14,40 @@ pub fn worked_rows()
     ensures granted { answer_comes_first (grants 1 ∷ tells [] ∷ []) ≡ true }
     ensures refused { answer_comes_first (refuses 1 ∷ []) ≡ false }
     ensures told_early { answer_comes_first (tells [] ∷ accepts 2 ∷ []) ≡ false }
+{}
+
+/// Worlds that fit together: nothing was asked, or was refused; a question is held, with what was told of it, or was let go.
+pub fn fitting_worlds()
+    ensures idle { unmet_together idle [] [] [] ≡ [] }
+    ensures refused { unmet_together (record idle { wishes = refusals 2 }) [] [] [] ≡ [] }
+    ensures holding { unmet_together (holding 7) (took 7 (accepts 7) ∷ []) [] [] ≡ [] }
+    ensures told { unmet_together (record (holding 7) { wishes = record (wish address (answered 7)) { notices = removal ∷ [] } ∷ [] }) (took 7 (accepts 7) ∷ took 7 something ∷ []) [] [] ≡ [] }
+    ensures let_go { unmet_together (serving 7) (took 7 (accepts 7) ∷ []) [] (unsubscribes 7 ∷ []) ≡ [] }
+    ensures readable { unmet_together idle [] (down (tells (replicate 1000 removal)) [] ∷ []) [] ≡ [] }
+{}
+
+/// Worlds that don't: each is refused by one sentence and by no other. Above each stands what would go wrong from there.
+pub fn refused_worlds()
+    // The client asks for a Keepalive, is granted less than ten seconds, and closes with an error (RFC 8490, 6.5.2).
+    ensures timers { unmet_together (record idle { timers = record idle.timers { keepalive = 9999 } }) [] [] [] ≡ codes "timers" ∷ [] }
+    // On a new connection both are asked; the second SUBSCRIBE is for what is active, and ends the session.
+    ensures questions { unmet_together (record idle { goes_on = false; wishes = wish address (unanswered 1) ∷ wish address (unanswered 2) ∷ [] }) [] [] [] ≡ codes "questions" ∷ [] }
+    // On a new connection type 0 is asked, as a type has 16 bits (RFC 1035, 4.1.2), so another question is answered.
+    ensures fit { unmet_together (record idle { wishes = wish (record elsewhere { kind = 65536 }) (refused 9) ∷ [] }) [] [] [] ≡ codes "fit" ∷ [] }
+    // The message is too long for a frame: the first two octets give another length, and what follows is read as messages.
+    ensures readable { unmet_together idle [] (down (tells (replicate 3000 removal)) [] ∷ []) [] ≡ codes "readable" ∷ [] }
+    // The client goes on to show an address that it was told is gone.
+    ensures notices { unmet_together (holding 7) (took 7 (accepts 7) ∷ took 7 something ∷ []) [] [] ≡ codes "notices" ∷ [] }
+    // The client writes an UNSUBSCRIBE or a RECONFIRM, and the session ends for a message without an ID that comes too early.
+    ensures established { unmet_together (record idle { established = false }) [] [] [] ≡ codes "established" ∷ [] }
+    // The client takes a PUSH before it is established, and closes (RFC 8490, 5.1).
+    ensures first { unmet_together begun [] (down something [] ∷ []) [] ≡ codes "first" ∷ [] }
+    // Nothing on its way establishes the client, so it closes if the session is stopped now and says so.
+    ensures first_of_none { unmet_together begun [] [] [] ≡ codes "first" ∷ [] }
+    // The first UNSUBSCRIBE ends the subscription; the second ends nothing, or what was accepted since with this ID.
+    ensures let_go_once { unmet_together (serving 7) (took 7 (accepts 7) ∷ []) [] (unsubscribes 7 ∷ unsubscribes 7 ∷ []) ≡ codes "let_go_once" ∷ [] }
+    // The client holds an address of which no change is told any more.
+    ensures held { unmet_together (record (holding 7) { subscriptions = [] }) (took 7 (accepts 7) ∷ []) [] [] ≡ codes "held" ∷ [] }
+    // Nothing ends the subscription; if the client asks the question again, that ends the session.
+    ensures active { unmet_together (serving 7) (took 7 (accepts 7) ∷ []) [] [] ≡ codes "active" ∷ [] }
 {}

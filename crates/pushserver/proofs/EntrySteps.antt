@@ -33,7 +33,7 @@ use Rattle.history.specs.States.{update_in}
 use Rattle.pushsession.specs.Sessions.{timed}
 use Rattle.pushsession.specs.Kept.{KeptSession, keeping}
 use Rattle.pushserver.specs.KeptHubs.{KeptHub}
-use Rattle.pushserver.specs.Hubs.{Numbered, all_sessions, entered, can_enter, update, moment}
+use Rattle.pushserver.specs.Hubs.{Numbered, past_of, all_sessions, entered, can_enter, update, moment}
 use Rattle.pushserver.proofs.hub_steps.Cases.{enters_update, update_as, enters_moment, moment_as}
 
 -- a past with one more entry, and the keys that it changes
@@ -43,10 +43,7 @@ with_entry entry past = record past { history = past.history ++ entry ∷ [] }
 abbrev entry_changes : Entry → Past → List Changed
 entry_changes entry past = changes (records_now past) (records_now (with_entry entry past))
 
--- the past of a hub; a hub with this past
-abbrev pub past_of : KeptHub → Past
-past_of k = record { start = k.start; history = k.history }
-
+-- a hub with this past
 abbrev pub with_past : Past → KeptHub → KeptHub
 with_past past k = record k { start = past.start; history = past.history }
 

@@ -3,23 +3,20 @@ use Rattle.std.proofs.Common.{◌≡◌, ℕ, Bool, true, false, cond, min, List
 use Rattle.std.specs.Option.{OnSome}
 use Rattle.std.specs.Prelude.{◌==◌, find, option_map, OnErr}
 use Rattle.dnswire.specs.declared.message.Update.{Update}
-use Rattle.dsotlv.specs.Messages.{first_message}
 use Rattle.pushsession.specs.Kept.{KeptSession}
 use Rattle.pushsession.specs.Sessions.{room_of}
-use Rattle.pushsession.specs.Reactions.{TakesMemory, request_in}
-use Rattle.pushserver.specs.PlainHubs.{Hub}
-use Rattle.pushserver.specs.Laws.{MayWantMemory}
+use Rattle.pushsession.specs.Reactions.{TakesMemory}
+use Rattle.pushserver.specs.Laws.{WantsMemoryFor, MayWantMemory}
 use Rattle.pushserver.specs.Hubs.{Numbered, session_in, in_sessions, taken_by}
 use Rattle.pushserver.specs.Giving.{give}
-use Rattle.pushserver.specs.KeptHubs.{KeptHub, StandsFor}
-use Rattle.pushserver.specs.Keeping.{kept_of, IsSound, IsSeated, IsToJudge, Gave, Turns, WantsMemory}
+use Rattle.pushserver.specs.KeptHubs.{KeptHub}
+use Rattle.pushserver.specs.Keeping.{kept_of, IsSound, IsSeated, IsToJudge, Gave, Turns}
 use Rattle.pushserver.specs.NumberedSessions.{AreApart}
 use Rattle.pushserver.specs.declared.given.Given.{Given}
 use Rattle.pushserver.specs.declared.keeping.Keeping.{Keeping}
 use Rattle.pushserver.specs.declared.turning.Turn.{Turn}
 use Rattle.pushserver.specs.declared.turning.Turn.TheVariants as turnings
 use Rattle.pushserver.proofs.NumberedSessions.{alike, itself}
-use Rattle.pushserver.proofs.Wanting.{may-want}
 
 pub on_some : {A : Type 0} {P : Type 0} (r : Option A) (x : A) → r ≡ Some x → OnSome r P → P
 on_some None x is p = cc
@@ -61,8 +58,12 @@ to-judge keeping number s t turn found old new ys sound there apart is lent came
     by : (new ≡ old) × (t ≡ s) × IsToJudge number found keeping.sessions → ComesToJudge number found old new keeping.sessions ys
     by (octets, same, ready) = record { octets = octets; sessions = as_before number keeping.sessions ys s t there apart same lent; ready = ready }
 
-pub judge-wants : (number : ℕ) (found : Option Update) (xs : Numbered KeptSession) → IsToJudge number found xs → WantsMemory number xs
-judge-wants number found xs ready = record { session = ready.session; there = ready.there; wants = record { live = ready.live; silent = ready.silent; reads = subst TakesMemory (sym ready.request) tt } }
+-- a session of the hub wants memory
+pub turn-wants : (k : KeptHub) (number : ℕ) (s : KeptSession) → session_in number k.sessions ≡ Some s → WantsMemoryFor s → MayWantMemory k number
+turn-wants k number s there wants = record { session = s; there = there; wants = wants }
+
+pub judge-wants : (k : KeptHub) (number : ℕ) (found : Option Update) → IsToJudge number found k.sessions → MayWantMemory k number
+judge-wants k number found ready = turn-wants k number ready.session ready.there (record { live = ready.live; silent = ready.silent; reads = subst TakesMemory (sym ready.request) tt })
 
 -- ---- a session that was changed, and one that isn't there
 
@@ -87,16 +88,3 @@ taken-some k number s piece there = sym (ap (taken_as piece) there)
 
 pub taken-none : (k : KeptHub) (number : ℕ) (piece : List ℕ) → session_in number k.sessions ≡ None → 0 ≡ taken_by k number piece
 taken-none k number piece there = sym (ap (taken_as piece) there)
-
--- ---- where memory is wanted
-
--- what is kept wants memory only where the plain hub may
-pub wants-plain : (k : KeptHub) (hub : Hub) (number : ℕ) → WantsMemory number k.sessions → StandsFor k hub → MayWantMemory hub number
-wants-plain k hub number wanted stands = by (first_message s.input) refl wanted.wants.reads
-  where
-    s : KeptSession
-    s = wanted.session
-
-    by : (o : Option (List ℕ × List ℕ)) → first_message s.input ≡ o → TakesMemory (option_map (λ message. request_in message s.established) (option_map (λ (f : List ℕ × List ℕ). f.0) o)) → MayWantMemory hub number
-    by None waits takes = absurd takes
-    by (Some found) waits takes = may-want k hub number s found stands wanted.there wanted.wants.live wanted.wants.silent waits takes

@@ -18,7 +18,7 @@ use Rattle.dsosession.specs.declared.session.EndReason.TheVariants as ends
 use Rattle.dsosession.specs.declared.session.Timers.{Timers}
 use Rattle.history.specs.Keeping.{Past, state_now as past_state}
 use Rattle.history.specs.Standing.{AreAtHome}
-use Rattle.pushsession.specs.Sessions.{copied, ended_with, stopped, without_first}
+use Rattle.pushsession.specs.Sessions.{copied, ended_with, laid_over, stopped, without_first}
 use Rattle.pushsession.specs.Subscribing.{answered, packs}
 use Rattle.pushsession.specs.Reactions.{restarted_by, request_in, reacts_itself}
 use Rattle.pushsession.specs.Kept.{KeptSession, keeping, telling}
@@ -27,9 +27,9 @@ use Rattle.pushsession.specs.declared.request.Request.{Request}
 use Rattle.pushsession.specs.declared.request.Request.TheVariants as requests
 use Rattle.pushsession.specs.declared.standing.Standing.{Standing}
 use Rattle.pushsession.specs.declared.standing.Standing.TheVariants.{Live, AskedToStop, Stopped, Ended}
-use Rattle.pushserver.specs.Hubs.{Numbered, session_in, now, state_now, records_now, in_session}
+use Rattle.pushserver.specs.Hubs.{Numbered, session_in, past_of, now, state_now, records_now, in_session}
 use Rattle.pushserver.specs.Giving as giving
-use Rattle.pushserver.specs.Giving.{has_home, reconfirms, by_request, did, copies, copies_or, given_after, after_reaction, after_packing, give}
+use Rattle.pushserver.specs.Giving.{has_home, reconfirms, by_request, bytes_of, given_of, did, copies, copies_or, given_after, after_reaction, after_packing, give}
 use Rattle.pushserver.specs.KeptHubs.{KeptHub, KeptGiving}
 use Rattle.pushserver.specs.Keeping.{Gave}
 use Rattle.pushserver.specs.Rows.{AreTold}
@@ -75,12 +75,12 @@ gave-as g h r old new later same gave = subst (λ (g : KeptGiving). Gave g r old
 
 -- what a session hands on of its output, or else did
 pub record HandsOn (t : KeptSession) (otherwise r : Given) (old new : List ℕ) (t_now : KeptSession) : Type 0 where
-  pub given_is : r ≡ cond (is_empty t.output) otherwise (Bytes (min (length old) (length t.output)))
-  pub octets : new ≡ take (length old) t.output ++ drop (length t.output) old
+  pub given_is : r ≡ given_of otherwise (length old) t
+  pub octets : new ≡ laid_over t.output old
   pub session : t_now ≡ copied (length old) t
 
 -- the moment of a hub is that of its past
-pub moment-is : (k : KeptHub) (past : Past) (t : ℕ) → record { start = k.start; history = k.history } ≡ past → t ≡ (past_state past).now → t ≡ now k
+pub moment-is : (k : KeptHub) (past : Past) (t : ℕ) → past_of k ≡ past → t ≡ (past_state past).now → t ≡ now k
 moment-is k past t same is = is ∙ ap (λ (p : Past). (past_state p).now) (sym same)
 
 -- the records that a question with a home would be told
@@ -143,7 +143,7 @@ module _ (number : ℕ) (k : KeptHub) (s : KeptSession) (there : session_in numb
   give-standing : (room : ℕ) (standing : Standing) → is_empty s.output ≡ true → s.standing ≡ standing → give k number room ≡ giving.by_standing standing number room s k
   give-standing room standing output is = give-output room true output ∙ ap (λ t. giving.by_standing t number room s k) is
 
-  pub output-gave : (r : Given) (old new : List ℕ) (s_now : KeptSession) → is_empty s.output ≡ false → r ≡ Bytes (min (length old) (length s.output)) → new ≡ take (length old) s.output ++ drop (length s.output) old → s_now ≡ copied (length old) s
+  pub output-gave : (r : Given) (old new : List ℕ) (s_now : KeptSession) → is_empty s.output ≡ false → r ≡ bytes_of (length old) s → new ≡ laid_over s.output old → s_now ≡ copied (length old) s
       → Gave (give k number (length old)) r old new (becomes s_now)
   output-gave r old new s_now some given_is octets session = gave-as (give k number (length old)) (copies number (length old) s k) r old new (becomes s_now) (give-output (length old) false some) (record {
     given_is = given_is;

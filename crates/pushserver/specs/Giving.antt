@@ -3,11 +3,9 @@
 --     reacted message number hub      the hub after a session has reacted to a message
 use Rattle.std.specs.Prelude.{ℕ, Bool, true, false, ◌&&◌, List, [], length, take, Option, Some, None, is_some, min, if◌then◌else◌}
 use Rattle.push_base.specs.Cases.{is_empty}
-use Rattle.rrset.specs.Header.{id_of}
 use Rattle.rrset.specs.declared.record.Question.{Question}
 use Rattle.rrset.specs.declared.record.Rr.{Rr}
 use Rattle.dsotlv.specs.Messages.{first_message}
-use Rattle.dsosession.specs.declared.session.EndReason.{EndReason}
 use Rattle.dsosession.specs.declared.session.EndReason.TheVariants as ends
 use Rattle.history.specs.States.{State, home_of, reconfirm_key, accepts}
 use Rattle.history.specs.declared.entry.Entry.TheVariants as entries
@@ -15,33 +13,34 @@ use Rattle.pushsession.specs.declared.request.Request.{Request}
 use Rattle.pushsession.specs.declared.request.Request.TheVariants as requests
 use Rattle.pushsession.specs.declared.standing.Standing.{Standing}
 use Rattle.pushsession.specs.declared.standing.Standing.TheVariants.{Live, AskedToStop, Stopped, Ended}
-use Rattle.pushsession.specs.Sessions.{SessionOf, copied, ended_with, stopped, without_first}
-use Rattle.pushsession.specs.Subscribing.{is_served, answered, packs}
-use Rattle.pushsession.specs.Reactions.{restarted_by, request_in, reacts_itself, ends_reconfirm, answers_update}
+use Rattle.pushsession.specs.Sessions.{SessionOf, copied, stopped, without_first}
+use Rattle.pushsession.specs.Subscribing.{is_served, packs}
+use Rattle.pushsession.specs.Reactions.{restarted_by, request_in, reacts_itself, answers_subscribe, takes_reconfirm, answers_update}
 use Rattle.pushserver.specs.declared.given.Given.{Given}
 use Rattle.pushserver.specs.declared.given.Given.TheVariants.{Bytes, Worked, Nothing, Ending, End}
 use Rattle.pushserver.specs.Hubs.{SessionKind, HubOf, now, state_now, keeps_now, tells_now, session_of, in_session, entered, can_enter, update}
 
-abbrev pub ends_as : {A Q M : Type 0} {kind : SessionKind A Q M} → ℕ → EndReason → HubOf kind → HubOf kind
-ends_as number reason hub = in_session number (ended_with (keeps_now hub) reason) hub
-
 -- ---- the reaction to a message
 
--- whether the name of a question has a home
+-- the name of a question has a home in a state
+abbrev pub has_home_at : State → Question → Bool
+has_home_at state question = is_some (home_of state question.name)
+
+-- the same in a hub, where there is a question
 abbrev pub has_home : {A Q M : Type 0} {kind : SessionKind A Q M} → HubOf kind → Option Question → Bool
 has_home hub None = false
-has_home hub (Some question) = is_some (home_of (state_now hub) question.name)
+has_home hub (Some question) = has_home_at (state_now hub) question
 
 -- a question of a class that is served, whose name has a home
 abbrev pub is_served_at : State → Question → Bool
-is_served_at state question = is_served question.class && is_some (home_of state question.name)
+is_served_at state question = is_served question.class && has_home_at state question
 
 abbrev pub subscribes : {A Q M : Type 0} {kind : SessionKind A Q M} → Option Question → ℕ → List ℕ → HubOf kind → HubOf kind
-subscribes question number message hub = in_session number (answered (keeps_now hub) (tells_now hub) (now hub) (id_of message) question (has_home hub question)) hub
+subscribes question number message hub = in_session number (answers_subscribe (keeps_now hub) (tells_now hub) (now hub) message question (has_home hub question)) hub
 
 -- a record that a link shows is reconfirmed, where the journal has room; any other is ignored (RFC 8765, 6.5)
 abbrev pub reconfirms : {A Q M : Type 0} {kind : SessionKind A Q M} → Option Rr → ℕ → HubOf kind → HubOf kind
-reconfirms None number hub = in_session number (ends_reconfirm (keeps_now hub)) hub
+reconfirms None number hub = in_session number (takes_reconfirm (keeps_now hub) false) hub
 reconfirms (Some rr) number hub = elim (reconfirm_key (state_now hub) rr) [
   | None ↦ hub
   | Some found ↦ (let entry = entries.Reconfirm found.0 found.1 in if accepts (state_now hub) entry && can_enter hub entry then entered entry hub else hub)
@@ -77,9 +76,17 @@ pub record GivingOf {A Q M : Type 0} (kind : SessionKind A Q M) : Type 0 where
 abbrev pub did : {A Q M : Type 0} {kind : SessionKind A Q M} → Given → HubOf kind → GivingOf kind
 did given hub = record { octets = []; given = given; hub = hub }
 
+-- so many octets, where there is room for so many
+abbrev pub bytes_of : {A Q M : Type 0} → ℕ → SessionOf A Q M → Given
+bytes_of room session = Bytes (min room (length session.output))
+
+-- that, or where no output waits, what else was done
+abbrev pub given_of : {A Q M : Type 0} → Given → ℕ → SessionOf A Q M → Given
+given_of otherwise room session = if is_empty session.output then otherwise else bytes_of room session
+
 -- the longest front of the output that fits
 abbrev pub copies : {A Q M : Type 0} {kind : SessionKind A Q M} → ℕ → ℕ → SessionOf A Q M → HubOf kind → GivingOf kind
-copies number room session hub = record { octets = take room session.output; given = Bytes (min room (length session.output)); hub = in_session number (copied room) hub }
+copies number room session hub = record { octets = take room session.output; given = bytes_of room session; hub = in_session number (copied room) hub }
 
 -- the octets that were written, or else what was done
 abbrev pub copies_or : {A Q M : Type 0} {kind : SessionKind A Q M} → Given → ℕ → ℕ → SessionOf A Q M → HubOf kind → GivingOf kind

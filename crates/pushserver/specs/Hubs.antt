@@ -2,21 +2,24 @@
 --     SessionKind      what the sessions of a hub keep, and what is told to them
 --     HubOf, empty_hub      a hub; one in which nothing has changed and nobody asks
 --     Numbered, session_in, in_sessions, all_sessions      sessions with their numbers
---     newest, state_now, now, records_now      the newest point, and the state and the records there
---     entered entry hub      the hub after an entry
+--     newest, past_of, state_now, now, records_now      the newest point, all until then, and the state and the records there
+--     entry_changes entry hub, entered entry hub      the keys that an entry changes; the hub after it
 --     update, hear, moment, connect, take_octets, stop, disconnect      the calls beside `give`
 use Rattle.std.specs.Prelude.{ℕ, ◌+◌, Bool, true, false, not, ◌&&◌, cond, List, [], ◌∷◌, ◌++◌, map, length, filter, find, min, Option, Some, None, Ok, Err, nat_lt, ◌==◌, option_map, if◌then◌else◌}
 use Rattle.push_base.specs.Limits.{max_number}
 use Rattle.dnsname.specs.Reading.{place_of}
 use Rattle.rrset.specs.RecordSet.{RecordSet, changes}
 use Rattle.rrset.specs.Rcodes.{noerror, servfail}
+use Rattle.rrset.specs.declared.record.Changed.{Changed}
 use Rattle.dnswire.specs.Reading.{hearing_of}
 use Rattle.dnswire.specs.declared.message.WireFault.{WireFault}
 use Rattle.dnswire.specs.declared.message.WireFault.TheVariants as wires
 use Rattle.dnswire.specs.declared.message.HearFault.{HearFault}
 use Rattle.dnswire.specs.declared.message.HearFault.TheVariants as hearfaults
 use Rattle.dsosession.specs.declared.session.Timers.{Timers}
-use Rattle.history.specs.States.{State, state_at, records, verdict, accepts, entry_size, journal_has_room}
+use Rattle.history.specs.Keeping as pasts
+use Rattle.history.specs.Keeping.{Past}
+use Rattle.history.specs.States.{State, verdict, accepts, entry_size, journal_has_room}
 use Rattle.history.specs.declared.entry.Entry.{Entry}
 use Rattle.history.specs.declared.entry.Entry.TheVariants as entries
 use Rattle.pushsession.specs.Sessions.{SessionOf, Keeps, new_session, room_of, takes, asked_to_stop, timed, noted}
@@ -65,14 +68,17 @@ without_session number sessions = filter (λ e. not (e.0 == number)) sessions
 abbrev pub newest : {A Q M : Type 0} {kind : SessionKind A Q M} → HubOf kind → ℕ
 newest hub = length hub.history
 
+abbrev pub past_of : {A Q M : Type 0} {kind : SessionKind A Q M} → HubOf kind → Past
+past_of hub = record { start = hub.start; history = hub.history }
+
 abbrev pub state_now : {A Q M : Type 0} {kind : SessionKind A Q M} → HubOf kind → State
-state_now hub = state_at hub.start hub.history (newest hub)
+state_now hub = pasts.state_now (past_of hub)
 
 abbrev pub now : {A Q M : Type 0} {kind : SessionKind A Q M} → HubOf kind → ℕ
 now hub = (state_now hub).now
 
 abbrev pub records_now : {A Q M : Type 0} {kind : SessionKind A Q M} → HubOf kind → RecordSet
-records_now hub = records (state_now hub)
+records_now hub = pasts.records_now (past_of hub)
 
 -- what its sessions keep now, and what is told to them
 abbrev pub keeps_now : {A Q M : Type 0} {kind : SessionKind A Q M} → HubOf kind → Keeps A Q M
@@ -92,11 +98,17 @@ in_session number f hub = record hub { sessions = in_sessions number f hub.sessi
 
 -- ---- entries
 
--- an entry goes to the end of the history, and of each session the names that it touches wait
+-- an entry goes to the end of the history
+abbrev pub with_entry : {A Q M : Type 0} {kind : SessionKind A Q M} → Entry → HubOf kind → HubOf kind
+with_entry entry hub = record hub { history = hub.history ++ entry ∷ [] }
+
+-- the keys that it changes
+abbrev pub entry_changes : {A Q M : Type 0} {kind : SessionKind A Q M} → Entry → HubOf kind → List Changed
+entry_changes entry hub = changes (records_now hub) (records_now (with_entry entry hub))
+
+-- an entry is made, and of each session the names that it touches wait
 abbrev pub entered : {A Q M : Type 0} {kind : SessionKind A Q M} → Entry → HubOf kind → HubOf kind
-entered entry hub =
-    let later = record hub { history = hub.history ++ entry ∷ [] } in
-    each_session (noted (keeps_now hub) (changes (records_now hub) (records_now later)) (records_now hub) (newest hub)) later
+entered entry hub = each_session (noted (keeps_now hub) (entry_changes entry hub) (records_now hub) (newest hub)) (with_entry entry hub)
 
 abbrev pub can_enter : {A Q M : Type 0} {kind : SessionKind A Q M} → HubOf kind → Entry → Bool
 can_enter hub entry = journal_has_room hub.history (entry_size entry)

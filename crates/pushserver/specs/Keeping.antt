@@ -1,28 +1,23 @@
 -- The hub as it is kept, and what its private calls rest on.
 --     kept_of keeping      the hub that its parts are
 --     IsSound keeping, IsHub keeping      what holds of them between calls; they stand for a plain hub
---     entry_changes entry kept      the keys that an entry changes
 --     Gave giving given before after kept      what a call of `give` answered and left
 --     IsSeated kept number session past timers rows      the session stands in a hub of such parts
 --     IsToJudge number found sessions, Turns      an update is to be judged; what a session's turn came to
---     WantsMemory number sessions      where memory may be wanted
-use Rattle.std.specs.Prelude.{◌≡◌, ℕ, List, [], ◌∷◌, ◌++◌, drop, length, Option, Some, ok_or}
-use Rattle.rrset.specs.RecordSet.{RecordSet, changes}
+use Rattle.std.specs.Prelude.{◌≡◌, ℕ, List, [], ◌++◌, drop, length, Option, Some, ok_or}
+use Rattle.rrset.specs.RecordSet.{RecordSet}
 use Rattle.rrset.specs.Rcodes.{formerr}
-use Rattle.rrset.specs.declared.record.Changed.{Changed}
 use Rattle.dnswire.specs.declared.message.Update.{Update}
 use Rattle.coalesce.specs.Waiting.{CanBePacked}
 use Rattle.dsosession.specs.declared.session.Timers.{Timers}
 use Rattle.history.specs.Keeping.{Past}
 use Rattle.history.specs.Standing.{AreAtHome}
 use Rattle.history.specs.States.{update_in}
-use Rattle.history.specs.declared.entry.Entry.{Entry}
 use Rattle.pushsession.specs.Kept.{KeptSession}
-use Rattle.pushsession.specs.Reactions.{TakesMemory}
 use Rattle.pushsession.specs.Requests.{message_of, request_of}
 use Rattle.pushsession.specs.declared.request.Request.TheVariants as requests
 use Rattle.pushsession.specs.declared.standing.Standing.TheVariants.{Live}
-use Rattle.pushserver.specs.Hubs.{Numbered, session_in, newest, state_now, records_now, in_session}
+use Rattle.pushserver.specs.Hubs.{Numbered, session_in, newest, past_of, state_now, records_now, in_session}
 use Rattle.pushserver.specs.Giving.{give}
 use Rattle.pushserver.specs.PlainHubs.{Hub}
 use Rattle.pushserver.specs.KeptHubs.{KeptHub, KeptGiving, StandsFor}
@@ -52,9 +47,6 @@ pub record IsHub (keeping : Keeping) : Type 0 where
   pub hub : Hub
   pub stands : StandsFor (kept_of keeping) hub
 
-abbrev pub entry_changes : Entry → KeptHub → List Changed
-entry_changes entry kept = changes (records_now kept) (records_now (record kept { history = kept.history ++ entry ∷ [] }))
-
 -- what was done, and octets in front of what was there
 pub record Gave (giving : KeptGiving) (given : Given) (before after : List ℕ) (kept : KeptHub) : Type 0 where
   pub given_is : given ≡ giving.given
@@ -65,7 +57,7 @@ pub record Gave (giving : KeptGiving) (given : Given) (before after : List ℕ) 
 pub record IsSeated (kept : KeptHub) (number : ℕ) (session : KeptSession) (past : Past) (timers : Timers) (rows : RecordSet) : Type 0 where
   pub there : session_in number kept.sessions ≡ Some session
   pub apart : AreApart kept.sessions
-  pub past_is : record { start = kept.start; history = kept.history } ≡ past
+  pub past_is : past_of kept ≡ past
   pub timers_is : kept.timers ≡ timers
   pub rows_is : rows ≡ records_now kept
   pub home : AreAtHome (state_now kept)
@@ -83,14 +75,3 @@ pub record IsToJudge (number : ℕ) (found : Option Update) (sessions : Numbered
 abbrev pub Turns : KeptHub → ℕ → Turn → List ℕ → List ℕ → KeptSession → KeptSession → Type 0
 Turns kept number (turns.Did given) octets octets_now session session_now = Gave (give kept number (length octets)) given octets octets_now (in_session number (λ _. session_now) kept)
 Turns kept number (turns.Judge found) octets octets_now session session_now = (octets_now ≡ octets) × (session_now ≡ session) × IsToJudge number found kept.sessions
-
--- a session goes on, without output, and memory is taken for its reaction
-pub record WantsMemoryFor (session : KeptSession) : Type 0 where
-  pub live : session.standing ≡ Live
-  pub silent : session.output ≡ []
-  pub reads : TakesMemory (request_of session)
-
-pub record WantsMemory (number : ℕ) (sessions : Numbered KeptSession) : Type 0 where
-  pub session : KeptSession
-  pub there : session_in number sessions ≡ Some session
-  pub wants : WantsMemoryFor session

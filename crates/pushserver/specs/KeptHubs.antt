@@ -1,11 +1,12 @@
 -- What the server keeps, and the plain hub that it stands for.
 --     kept, KeptHub      its sessions as they are kept; the hub
 --     StandsFor kept hub      what is kept is what the plain hub's history tells
-use Rattle.std.specs.Prelude.{◌≡◌, ℕ, List, map, length, min}
+use Rattle.std.specs.Prelude.{◌≡◌, ℕ, List, map, min}
 use Rattle.std.specs.List.{AllByRecursion, AllZip}
 use Rattle.push_base.specs.Limits.{max_number}
 use Rattle.rrset.specs.RecordSet.{at_name}
 use Rattle.coalesce.specs.Waiting.{WaitingName}
+use Rattle.history.specs.Keeping.{records_now}
 use Rattle.history.specs.States.{records_at}
 use Rattle.pushsession.specs.Kept.{KeptSession, KeptQuestions, Filled, keeping, telling}
 use Rattle.pushserver.specs.PlainHubs.{Hub, Session, Subscription, Queue, written, asked_of}
@@ -15,7 +16,7 @@ use Rattle.pushserver.specs.Giving.{GivingOf}
 
 -- what is kept of its sessions, and what is told to them
 abbrev pub kept : SessionKind KeptQuestions (List WaitingName) ℕ
-kept = record { keeps = λ newest. keeping; tells = λ start history. telling (records_at start history (length history)) }
+kept = record { keeps = λ newest. keeping; tells = λ start history. telling (records_now (record { start = start; history = history })) }
 
 abbrev pub KeptHub : Type 0
 KeptHub = HubOf kept

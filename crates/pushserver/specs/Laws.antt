@@ -10,17 +10,18 @@ use Rattle.rrset.specs.Header.{id_of}
 use Rattle.rrset.specs.RecordSet.{at_name, matching}
 use Rattle.rrset.specs.declared.record.Question.{Question}
 use Rattle.rrset.specs.Rcodes.{noerror}
-use Rattle.dsotlv.specs.Messages.{first_message, frame}
+use Rattle.dsotlv.specs.Messages.{first_message}
 use Rattle.dsotlv.specs.Answers.{answer_to}
-use Rattle.coalesce.specs.Net.{push_frame}
 use Rattle.history.specs.declared.entry.Entry.{Entry}
 use Rattle.pushserver.specs.declared.given.Given.TheVariants.{Nothing}
 use Rattle.pushsession.specs.declared.standing.Standing.TheVariants.{Live}
+use Rattle.pushsession.specs.Sessions.{SessionOf}
 use Rattle.pushsession.specs.Reactions.{TakesMemory, request_in}
+use Rattle.pushsession.specs.Requests.{request_of}
 use Rattle.pushsession.specs.declared.request.Request.TheVariants as requests
-use Rattle.pushsession.specs.Subscribing.{Accept, verdict_on}
+use Rattle.pushsession.specs.Subscribing.{Accept, first_answer_octets, verdict_on}
 use Rattle.pushserver.specs.PlainHubs.{Hub, Session, sent, first_answer, wanted}
-use Rattle.pushserver.specs.Hubs.{keeps_now, records_now, session_of, entered, update, hear, moment, connect, take_octets, stop, disconnect}
+use Rattle.pushserver.specs.Hubs.{SessionKind, HubOf, keeps_now, records_now, session_of, entered, update, hear, moment, connect, take_octets, stop, disconnect}
 use Rattle.pushserver.specs.Giving.{has_home, give, reacted}
 use Rattle.pushserver.specs.SoundHubs.{IsSoundHub}
 use Rattle.pushserver.specs.ToldMessages.{TellsHistory, set_after}
@@ -72,14 +73,15 @@ pub record IsAcceptable (hub : Hub) (session : Session) (message : List ℕ) (qu
 abbrev pub SubscribeIsAnswered : Type 0
 SubscribeIsAnswered = (hub : Hub) (number : ℕ) (session : Session) (message : List ℕ) (question : Question) → session_of hub number ≡ Some session → IsAcceptable hub session message question
     → option_map (λ s. s.output) (session_of (reacted message number hub) number)
-    ≡ Some (session.output ++ (frame (answer_to (id_of message) noerror) ++ push_frame (first_answer hub session question)))
+    ≡ Some (session.output ++ first_answer_octets (answer_to (id_of message) noerror) (first_answer hub session question))
 
 -- memory may be wanted only where a SUBSCRIBE, a RECONFIRM or an update is reacted to: the session goes on, without output, and the message waits whole (RFC 8765, 6.2 and 6.5; RFC 2136, 3)
-pub record MayWantMemory (hub : Hub) (number : ℕ) : Type 0 where
-  pub session : Session
-  pub found : List ℕ × List ℕ
-  pub there : session_of hub number ≡ Some session
+pub record WantsMemoryFor {A Q M : Type 0} (session : SessionOf A Q M) : Type 0 where
   pub live : session.standing ≡ Live
   pub silent : session.output ≡ []
-  pub waits : first_message session.input ≡ Some found
-  pub takes : TakesMemory (Some (request_in found.0 session.established))
+  pub reads : TakesMemory (request_of session)
+
+pub record MayWantMemory {A Q M : Type 0} {kind : SessionKind A Q M} (hub : HubOf kind) (number : ℕ) : Type 0 where
+  pub session : SessionOf A Q M
+  pub there : session_of hub number ≡ Some session
+  pub wants : WantsMemoryFor session

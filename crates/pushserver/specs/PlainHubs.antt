@@ -4,7 +4,7 @@
 --     sent_of, nets_of      the records that count as sent of a name; each name that waits with its net
 --     plain, Session, Hub      the kind of its sessions, a session, the hub
 use Rattle.std.specs.Prelude.{ℕ, ◌+◌, Bool, not, List, [], ◌∷◌, ◌++◌, map, length, filter, sum_by, find, if◌then◌else◌, Option, is_some, option_map, unwrap_or, ◌==◌}
-use Rattle.std.specs.List.{list_any}
+use Rattle.std.specs.List.{list_any, IsDistinct}
 use Rattle.dnsname.specs.Names.{Labels, same_name}
 use Rattle.rrset.specs.Records.{matches, same_question}
 use Rattle.rrset.specs.RecordSet.{RecordSet, only, at_name, same_rows}
@@ -16,9 +16,10 @@ use Rattle.dsotlv.specs.declared.message.Notice.{Notice}
 use Rattle.coalesce.specs.FirstAnswers.{told_first}
 use Rattle.coalesce.specs.Net.{net, packed}
 use Rattle.dsosession.specs.declared.session.Timers.{Timers}
+use Rattle.history.specs.Keeping.{records_now}
 use Rattle.history.specs.States.{State, records_at}
 use Rattle.history.specs.declared.entry.Entry.{Entry}
-use Rattle.pushsession.specs.Sessions.{SessionOf, Keeps}
+use Rattle.pushsession.specs.Sessions.{SessionOf, Keeps, least_of}
 use Rattle.pushsession.specs.Subscribing.{Tells}
 use Rattle.pushserver.specs.Hubs.{SessionKind, HubOf, empty_hub}
 use Rattle.pushserver.specs.Giving.{GivingOf}
@@ -75,6 +76,14 @@ subscription_of subscriptions id = find (λ s. s.id == id) subscriptions
 abbrev pub subscription_for : List Subscription → Question → Option Subscription
 subscription_for subscriptions question = find (λ s. same_question s.question question) subscriptions
 
+-- no ID is there twice
+abbrev pub HaveOwnIds : List Subscription → Type 0
+HaveOwnIds subscriptions = IsDistinct (λ s t. s.id == t.id) subscriptions
+
+-- no question is there twice
+abbrev pub AskOnce : List Subscription → Type 0
+AskOnce subscriptions = IsDistinct (λ s t. same_question s.question t.question) subscriptions
+
 -- ---- the queue
 
 -- a name that isn't queued yet, with a point, as the last
@@ -95,13 +104,13 @@ sent_of start history subscriptions queue name = wanted subscriptions (at_name n
 
 -- the records of a name now, as the questions match them
 abbrev pub shown_of : State → List Entry → List Subscription → Labels → RecordSet
-shown_of start history subscriptions name = wanted subscriptions (at_name name (records_at start history (length history)))
+shown_of start history subscriptions name = wanted subscriptions (at_name name (records_now (record { start = start; history = history })))
 
 -- what follows the answer to a SUBSCRIBE (RFC 8765, 6.2.2): the name has changed where other records were sent of it than it has now
 abbrev pub first_notices : State → List Entry → Question → List Subscription → Queue → List Notice
 first_notices start history question subscriptions queue =
     let changed = not (same_rows (sent_of start history subscriptions queue question.name) (shown_of start history subscriptions question.name)) in
-    told_first changed question (asks_for subscriptions) (at_name question.name (records_at start history (length history)))
+    told_first changed question (asks_for subscriptions) (at_name question.name (records_now (record { start = start; history = history })))
 
 -- each queued name with its net
 abbrev pub nets_of : State → List Entry → List Subscription → Queue → List (Labels × List Notice)
@@ -121,6 +130,7 @@ plain_keeps newest = record {
   no_names = [];
   with_name = λ point rows queue name. enqueued point queue name;
   without_name = leaves_queue;
+  least_point = λ queue. least_of (map (λ e. e.1) queue);
   no_messages = [];
   with_message = λ message queue subscriptions made. made ++ (record { message = message; note = record { queue = queue; newest = newest }; subscribed = subscriptions }) ∷ [];
   end_behind = λ size made. size_of_made made + size;

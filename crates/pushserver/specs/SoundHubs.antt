@@ -1,11 +1,10 @@
 -- What holds of each plain hub to which calls of the server lead.
 --     IsSoundHub hub      of the hub
 --     IsSoundSession hub numbered      of a session in it
-use Rattle.std.specs.Prelude.{◌≡◌, ℕ, ◌<◌, ◌≤◌, ◌==◌, [], length, IsTrue}
+use Rattle.std.specs.Prelude.{◌≡◌, ℕ, ◌<◌, ◌≤◌, [], length, IsTrue}
 use Rattle.std.specs.List.{AllByRecursion, IsDistinct}
 use Rattle.push_base.specs.Limits.{max_questions, max_input}
 use Rattle.dnsname.specs.Names.{same_name}
-use Rattle.rrset.specs.Records.{same_question}
 use Rattle.dsotlv.specs.Laws.{AreOctets}
 use Rattle.coalesce.specs.Sides.{frame_octets}
 use Rattle.history.specs.Plans.{IsStart}
@@ -13,7 +12,8 @@ use Rattle.history.specs.States.{State, state_at}
 use Rattle.pushserver.specs.Hubs.{newest, state_now, max_sessions}
 use Rattle.pushserver.specs.Rows.{IsTellable}
 use Rattle.pushserver.specs.Giving.{is_served_at}
-use Rattle.pushserver.specs.PlainHubs.{Hub, Session, Subscription, Queue}
+use Rattle.pushserver.specs.PlainHubs.{Hub, Session, Subscription, Queue, HaveOwnIds, AskOnce}
+use Rattle.pushserver.specs.NumberedSessions.{AreApart}
 
 -- the points of names that wait are of the past
 abbrev pub ArePast : ℕ → Queue → Type 0
@@ -30,8 +30,8 @@ pub record IsSoundSession (hub : Hub) (numbered : ℕ × Session) : Type 0 where
   pub points : ArePast (newest hub) numbered.1.queue
   pub names : IsDistinct (λ d e. same_name e.0 d.0) numbered.1.queue
   pub few : length numbered.1.subscriptions ≤ max_questions
-  pub ids : IsDistinct (λ s t. s.id == t.id) numbered.1.subscriptions
-  pub questions : IsDistinct (λ s t. same_question s.question t.question) numbered.1.subscriptions
+  pub ids : HaveOwnIds numbered.1.subscriptions
+  pub questions : AskOnce numbered.1.subscriptions
   pub homes : AllByRecursion (HasHome (state_now hub)) numbered.1.subscriptions
   pub octets : AreOctets numbered.1.input
   pub input_fits : length numbered.1.input ≤ max_input
@@ -43,5 +43,5 @@ pub record IsSoundHub (hub : Hub) : Type 0 where
   pub links : hub.start.links ≡ []
   pub states : (point : ℕ) → point ≤ newest hub → IsTellable (state_at hub.start hub.history point)
   pub sessions : AllByRecursion (IsSoundSession hub) hub.sessions
-  pub numbers : IsDistinct (λ d e. d.0 == e.0) hub.sessions
+  pub numbers : AreApart hub.sessions
   pub few : length hub.sessions ≤ max_sessions

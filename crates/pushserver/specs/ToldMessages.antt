@@ -2,12 +2,11 @@
 --     notices_since id made      the notices that were made after the answer with this ID
 --     TellsHistory hub session      each message is right by its note, and all of them lead to what counts as sent
 use Rattle.std.specs.Prelude.{◌≡◌, ℕ, ◌≤◌, Bool, List, [], ◌∷◌, ◌++◌, map, fold, Ok, Err, ◌==◌, if◌then◌else◌}
-use Rattle.std.specs.List.{AllByRecursion, IsDistinct}
+use Rattle.std.specs.List.{AllByRecursion}
 use Rattle.dnsname.specs.Names.{Labels}
 use Rattle.std.specs.Str.{bytes_eq}
 use Rattle.rrset.specs.Rcodes.{noerror}
 use Rattle.rrset.specs.Header.{flags_of, is_response}
-use Rattle.rrset.specs.Records.{same_question}
 use Rattle.rrset.specs.RecordSet.{RecordSet, matching}
 use Rattle.rrset.specs.declared.record.Question.{Question}
 use Rattle.dsotlv.specs.Messages.{tlvs_of}
@@ -17,7 +16,7 @@ use Rattle.dsotlv.specs.declared.message.Tlv.{Tlv}
 use Rattle.dsotlv.specs.declared.message.Notice.{Notice}
 use Rattle.dsotlv.specs.TlvKinds.{push_tlv}
 use Rattle.history.specs.States.{records_at}
-use Rattle.pushserver.specs.PlainHubs.{Hub, Session, Subscription, Made, Note, told, note_of, size_of_made, written, sent}
+use Rattle.pushserver.specs.PlainHubs.{Hub, Session, Subscription, Made, Note, HaveOwnIds, AskOnce, told, note_of, size_of_made, written, sent}
 use Rattle.pushserver.specs.Hubs.{newest}
 
 -- the notices of a PUSH; of any other message none
@@ -71,6 +70,6 @@ pub record TellsHistory (hub : Hub) (session : Session) : Type 0 where
   -- all messages together lead to what counts as sent
   pub all : AllByRecursion (λ s. set_after session.made s ≡ matching s.question (sent hub session s.question.name)) session.subscriptions
   pub notes : NotesRise (map (λ m. m.note) session.made ++ note_of (newest hub) session ∷ [])
-  pub ids : IsDistinct (λ s t. s.id == t.id) session.subscriptions
-  pub questions : IsDistinct (λ s t. same_question s.question t.question) session.subscriptions
+  pub ids : HaveOwnIds session.subscriptions
+  pub questions : AskOnce session.subscriptions
   pub whole : AllByRecursion (λ s. s.filled ≤ written session) session.subscriptions

@@ -3,8 +3,8 @@
 ghost use Rattle.std.specs.Prelude.{◌≡◌, ◌++◌, ◌∷◌, [], true, OnOk, OnErr};
 ghost use Rattle.history.specs.Keeping.{IsHeld};
 ghost use Rattle.history.specs.States.{entry_size, journal_has_room};
-ghost use Rattle.pushserver.specs.Hubs.{can_enter, entered, records_now};
-ghost use Rattle.pushserver.specs.Keeping.{IsSound, entry_changes, kept_of};
+ghost use Rattle.pushserver.specs.Hubs.{can_enter, entered, entry_changes, records_now};
+ghost use Rattle.pushserver.specs.Keeping.{IsSound, kept_of};
 
 use crate::keeping::Keeping;
 use history::entry::Entry;

@@ -3,7 +3,8 @@
 ghost use Rattle.std.specs.Prelude.{◌≡◌, length, IfOk, OnErr};
 ghost use Rattle.pushserver.specs.Hubs.{records_now};
 ghost use Rattle.pushserver.specs.Giving.{give};
-ghost use Rattle.pushserver.specs.Keeping.{Gave, IsSound, IsToJudge, WantsMemory, kept_of};
+ghost use Rattle.pushserver.specs.Keeping.{Gave, IsSound, IsToJudge, kept_of};
+ghost use Rattle.pushserver.specs.Laws.{MayWantMemory};
 
 use crate::given::Given;
 use crate::keeping::Keeping;
@@ -42,7 +43,7 @@ impl Keeping {
         requires { IsSound self.old }
         ensures ok { IfOk result (λ given. Gave (give (kept_of self.old) number (length buf.old)) given buf.old buf.new (kept_of self.new)) }
         ensures err { OnErr result (kept_of self.new ≡ kept_of self.old) }
-        ensures memory { OnErr result (WantsMemory number self.old.sessions) }
+        ensures memory { OnErr result (MayWantMemory (kept_of self.old) number) }
         ensures index { self.new.index.rows ≡ records_now (kept_of self.new) }
     {
         let alloc = self.allocator();

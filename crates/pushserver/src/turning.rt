@@ -1,15 +1,15 @@
 //! What one call of `give` does for a session (RFC 8490, 5; RFC 8765, 6).
 
-ghost use Rattle.std.specs.Prelude.{◌≡◌, ◌++◌, [], ℕ, drop, if◌then◌else◌, length, min, take, IfOk, OnErr};
-ghost use Rattle.push_base.specs.Cases.{is_empty};
+ghost use Rattle.std.specs.Prelude.{◌≡◌, [], ℕ, length, IfOk, OnErr};
 ghost use Rattle.coalesce.specs.Waiting.{CanBePacked};
-ghost use Rattle.pushsession.specs.Sessions.{copied, stopped};
+ghost use Rattle.pushsession.specs.Sessions.{copied, laid_over, stopped};
 ghost use Rattle.pushsession.specs.Kept.{keeping};
-ghost use Rattle.pushserver.specs.Giving.{given_after, has_home};
-ghost use Rattle.pushserver.specs.Keeping.{IsSeated, Turns, WantsMemoryFor};
+ghost use Rattle.pushserver.specs.Giving.{given_after, given_of, has_home};
+ghost use Rattle.pushserver.specs.Hubs.{past_of};
+ghost use Rattle.pushserver.specs.Keeping.{IsSeated, Turns};
+ghost use Rattle.pushserver.specs.Laws.{WantsMemoryFor};
 ghost use Rattle.pushserver.specs.Rows.{AreTold};
 ghost use Rattle.pushserver.specs.KeptHubs.{KeptHub};
-ghost use Rattle.pushserver.specs.declared.given.Given.TheVariants.{Bytes};
 ghost use Rattle.pushsession.specs.declared.standing.Standing.TheVariants.{Live};
 
 use crate::given::Given;
@@ -32,8 +32,8 @@ pub(crate) enum Turn {
 
 /// Hands on the front of a session's output that fits; where there is none, `otherwise` was done.
 pub(crate) fn hand_on(session: &mut PushSession, buf: &mut [u8], otherwise: Given) -> Given
-    ensures given { result ≡ (if is_empty session.old.output then otherwise else Bytes (min (length buf.old) (length session.old.output))) }
-    ensures octets { buf.new ≡ take (length buf.old) session.old.output ++ drop (length session.old.output) buf.old }
+    ensures given { result ≡ given_of otherwise (length buf.old) session.old }
+    ensures octets { buf.new ≡ laid_over session.old.output buf.old }
     ensures session { session.new ≡ copied (length buf.old) session.old }
 {
     let has_output = session.has_output();
@@ -57,8 +57,8 @@ fn given_after(standing: Standing) -> Given
 
 /// The octets that a reaction wrote, or else what it did.
 pub(crate) fn after_reaction(session: &mut PushSession, buf: &mut [u8]) -> Given
-    ensures given { result ≡ (if is_empty session.old.output then given_after session.old.standing else Bytes (min (length buf.old) (length session.old.output))) }
-    ensures octets { buf.new ≡ take (length buf.old) session.old.output ++ drop (length session.old.output) buf.old }
+    ensures given { result ≡ given_of (given_after session.old.standing) (length buf.old) session.old }
+    ensures octets { buf.new ≡ laid_over session.old.output buf.old }
     ensures session { session.new ≡ copied (length buf.old) session.old }
 {
     let otherwise = given_after(session.standing());
@@ -79,7 +79,7 @@ fn stop(session: &mut PushSession, rcode: u8, delay: u32, now: u64)
 
 /// Whether the name of a question has a home.
 fn has_home(points: &Points, question: &Option<Question>) -> bool
-    ensures { (kept : KeptHub) → record { start = kept.start; history = kept.history } ≡ points.now.past → result ≡ has_home kept question.now }
+    ensures { (kept : KeptHub) → past_of kept ≡ points.now.past → result ≡ has_home kept question.now }
 {
     match question {
         Some(question) => points.homes().home(&question.name).is_some(),

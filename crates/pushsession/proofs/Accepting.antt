@@ -1,5 +1,5 @@
 -- A SUBSCRIBE that is accepted: what it writes doesn't depend on the timers and on the input.
-use Rattle.std.proofs.Common.{◌≡◌, ◌∙◌, ℕ, ◌+◌, false, true, List, [], ◌∷◌, ◌++◌, length, append_assoc, refl, sym, ap, arith}
+use Rattle.std.proofs.Common.{◌≡◌, ◌∙◌, ℕ, ◌+◌, false, true, List, [], ◌∷◌, ◌++◌, length, length-append, append_assoc, refl, sym, ap, arith}
 use Rattle.std.proofs.lemmas.List.{append-nil}
 use Rattle.rrset.specs.Rcodes.{noerror}
 use Rattle.rrset.specs.RecordSet.{RecordSet}
@@ -11,7 +11,7 @@ use Rattle.dsotlv.specs.declared.message.Notice.{Notice}
 use Rattle.coalesce.specs.Net.{push_frame, push_message}
 use Rattle.coalesce.specs.Waiting.{without_name}
 use Rattle.dsosession.specs.Timing.{restarted}
-use Rattle.pushsession.specs.Subscribing.{accepts, first_answer_size, says_first_answer, subscribed}
+use Rattle.pushsession.specs.Subscribing.{accepts, first_answer_octets, first_answer_size, says_first_answer, subscribed}
 use Rattle.pushsession.specs.Kept.{KeptSession, keeping, telling}
 use Rattle.pushsession.specs.Requests.{taken_up}
 
@@ -30,7 +30,7 @@ pub held_is : (id : ℕ) (question : Question) (notices : List Notice) (session 
     → held.subscriptions.asked ≡ session.subscriptions.asked ++ (id, question) ∷ []
     → held.subscriptions.filled ≡ session.subscriptions.filled ++ (id, held.made) ∷ []
     → held.queue ≡ without_name question.name session.queue
-    → held.output ≡ session.output ++ (frame (answer_to id noerror) ++ push_frame notices)
+    → held.output ≡ session.output ++ first_answer_octets (answer_to id noerror) notices
     → size ≡ length (push_frame notices)
     → held.made ≡ counted (counted (session.made + 14) + size)
     → held.clocks ≡ session.clocks → held.established ≡ session.established → held.standing ≡ session.standing → held.input ≡ session.input
@@ -50,7 +50,8 @@ held_is id question [] session held size asked filled queue output none made clo
 held_is id question (n ∷ ns) session held size asked filled queue output is made clocks established standing input =
     let push = length (frame (push_message (n ∷ ns))) in
     let count : held.made ≡ counted (counted (session.made + 14) + push) = made ∙ ap (λ n. counted (counted (session.made + 14) + n)) is in
-    let whole : held.made ≡ counted (session.made + (14 + push)) = count ∙ omega arith in
+    let both : first_answer_size (answer_to id noerror) (n ∷ ns) ≡ 14 + push = length-append (frame (answer_to id noerror)) (frame (push_message (n ∷ ns))) in
+    let whole : held.made ≡ counted (session.made + first_answer_size (answer_to id noerror) (n ∷ ns)) = count ∙ omega (arith, both) in
     (λ i. record {
       subscriptions = record { asked = asked i; filled = (filled ∙ ap (λ n. session.subscriptions.filled ++ (id, n) ∷ []) whole) i };
       queue = queue i;

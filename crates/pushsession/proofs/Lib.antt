@@ -1,4 +1,5 @@
 pub mod Accepting
 pub mod Ends
 pub mod Numbers
+pub mod Passing
 pub mod SessionLaws

@@ -11,7 +11,7 @@ use Rattle.dsotlv.specs.Messages.{frame}
 use Rattle.subscr.specs.Asked.{Asked, has, id_of, wants, without}
 use Rattle.coalesce.specs.FirstAnswers.{first_notices}
 use Rattle.coalesce.specs.Waiting.{WaitingName, with_copy, without_name, before_point, is_named, packed_of, left_in}
-use Rattle.pushsession.specs.Sessions.{SessionOf, Keeps}
+use Rattle.pushsession.specs.Sessions.{SessionOf, Keeps, least_of}
 use Rattle.pushsession.specs.Subscribing.{Tells}
 
 -- of an ID the octets of the whole output up to the end of its first answer
@@ -51,6 +51,7 @@ keeping = record {
   no_names = [];
   with_name = λ point rows queue name. with_copy name (at_name name rows) point queue;
   without_name = without_name;
+  least_point = λ queue. least_of (map (λ w. w.point) queue);
   no_messages = 0;
   with_message = λ message waiting q written. counted (written + length (frame message));
   end_behind = λ size written. counted (written + size);

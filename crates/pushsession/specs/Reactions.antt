@@ -4,10 +4,11 @@
 --     IsRead, TakesMemory      whether something is read for it
 --     granted, unsubscribed      a Keepalive is granted; an ID goes with its question
 --     reacts_itself, by_itself      a message for which nothing is needed; what each such reaction does
---     ends_short, ends_reconfirm, answers_update      a message without a whole header; a RECONFIRM of no record; an update that was judged
-use Rattle.std.specs.Prelude.{ℕ, Bool, true, false, List, Option, Some, None}
+--     ends_short, answers_subscribe, takes_reconfirm, answers_update      a message without a whole header; a SUBSCRIBE; a RECONFIRM; an update that was judged
+use Rattle.std.specs.Prelude.{ℕ, Bool, true, false, List, Option, Some, None, if◌then◌else◌}
 use Rattle.std.specs.Int.{w16, from_be_bytes}
 use Rattle.rrset.specs.Header.{id_of}
+use Rattle.rrset.specs.declared.record.Question.{Question}
 use Rattle.dsotlv.specs.Messages.{head_of, primary_data}
 use Rattle.dsotlv.specs.Notices.{question_of, reconfirm_of}
 use Rattle.dsotlv.specs.Answers.{answer_to, answer_to_update, grant_to, not_implemented}
@@ -20,7 +21,8 @@ use Rattle.dsosession.specs.declared.session.Reaction.{Reaction}
 use Rattle.dsosession.specs.declared.session.Reaction.TheVariants.{Answer, Grant, Abort, Subscribe, Unsubscribe, Reconfirm, Update, NotImplemented}
 use Rattle.pushsession.specs.declared.request.Request.{Request}
 use Rattle.pushsession.specs.declared.request.Request.TheVariants as requests
-use Rattle.pushsession.specs.Sessions.{SessionOf, Keeps, answers, ended_with}
+use Rattle.pushsession.specs.Sessions.{SessionOf, Keeps, establishes, answers, ended_with}
+use Rattle.pushsession.specs.Subscribing.{Tells, answered}
 
 -- ---- the timers
 
@@ -65,7 +67,7 @@ TakesMemory request = IsRead request
 
 -- the answer establishes the session, and the server's numbers hold from it on (RFC 8490, 5.1 and 7.1)
 abbrev pub granted : {A Q M : Type 0} → Timers → SessionOf A Q M → SessionOf A Q M
-granted timers session = record session { established = true; clocks = record session.clocks { timers = timers } }
+granted timers session = establishes (record session { clocks = record session.clocks { timers = timers } })
 
 -- an ID goes with its question; an unknown ID is ignored (RFC 8765, 6.4)
 abbrev pub unsubscribed : {A Q M : Type 0} → Keeps A Q M → ℕ → SessionOf A Q M → SessionOf A Q M
@@ -95,9 +97,13 @@ reacts_itself keeps timers now message session = elim (head_of message) [
 
 -- ---- what it does with what it got of the server
 
+-- a SUBSCRIBE with this question, whose name has a home of the server or not, is answered with the message's ID (RFC 8765, 6.2)
+abbrev pub answers_subscribe : {A Q M : Type 0} → Keeps A Q M → Tells A Q → ℕ → List ℕ → Option Question → Bool → SessionOf A Q M → SessionOf A Q M
+answers_subscribe keeps tells now message question has_home session = answered keeps tells now (id_of message) question has_home session
+
 -- a RECONFIRM whose data is no record ends the session (RFC 8765, 6.5)
-abbrev pub ends_reconfirm : {A Q M : Type 0} → Keeps A Q M → SessionOf A Q M → SessionOf A Q M
-ends_reconfirm keeps session = ended_with keeps (ends.BadData reconfirm_tlv) session
+abbrev pub takes_reconfirm : {A Q M : Type 0} → Keeps A Q M → Bool → SessionOf A Q M → SessionOf A Q M
+takes_reconfirm keeps is_record session = if is_record then session else ended_with keeps (ends.BadData reconfirm_tlv) session
 
 -- the answer to an update has its ID, and the RCODE that it got (RFC 2136, 3.8)
 abbrev pub answers_update : {A Q M : Type 0} → Keeps A Q M → ℕ → List ℕ → ℕ → SessionOf A Q M → SessionOf A Q M

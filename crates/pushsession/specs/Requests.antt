@@ -4,23 +4,21 @@
 --     request_of      what is needed for it
 --     reacted, subscribed_by, updated, reconfirmed      the first message is reacted to
 --     CanBeTold      records as nets are made of
-use Rattle.std.specs.Prelude.{ℕ, Bool, true, List, [], Option, Some, option_map, unwrap_or, IsTrue, if◌then◌else◌}
-use Rattle.rrset.specs.Header.{id_of}
+use Rattle.std.specs.Prelude.{ℕ, Bool, true, List, [], Option, Some, option_map, unwrap_or, IsTrue}
 use Rattle.rrset.specs.RecordSet.{RecordSet, at_name}
 use Rattle.rrset.specs.declared.record.Question.{Question}
 use Rattle.dsotlv.specs.Messages.{first_message}
 use Rattle.coalesce.specs.Laws.{can_be_sent}
 use Rattle.coalesce.specs.Sides.{IsOneSide}
 use Rattle.dsosession.specs.declared.session.Timers.{Timers}
-use Rattle.pushsession.specs.Sessions.{without_first}
-use Rattle.pushsession.specs.Subscribing.{answered}
-use Rattle.pushsession.specs.Reactions.{restarted_by, request_in, reacts_itself, ends_reconfirm, answers_update}
+use Rattle.pushsession.specs.Sessions.{SessionOf, without_first}
+use Rattle.pushsession.specs.Reactions.{restarted_by, request_in, reacts_itself, answers_subscribe, takes_reconfirm, answers_update}
 use Rattle.pushsession.specs.Kept.{KeptSession, keeping, telling}
 use Rattle.pushsession.specs.declared.request.Request.{Request}
 
 -- ---- the first whole message
 
-abbrev pub first_waiting : KeptSession → Option (List ℕ)
+abbrev pub first_waiting : {A Q M : Type 0} → SessionOf A Q M → Option (List ℕ)
 first_waiting session = option_map (λ found. found.0) (first_message session.input)
 
 -- the first whole message, or nothing
@@ -36,7 +34,7 @@ abbrev pub taken_up : ℕ → KeptSession → KeptSession
 taken_up now session = restarted_by (message_of session) now (without_first (rest_of session.input) session)
 
 -- what is needed for it
-abbrev pub request_of : KeptSession → Option Request
+abbrev pub request_of : {A Q M : Type 0} → SessionOf A Q M → Option Request
 request_of session = option_map (λ message. request_in message session.established) (first_waiting session)
 
 -- ---- what each call makes of it
@@ -47,7 +45,7 @@ reacted timers now session = reacts_itself keeping timers now (message_of sessio
 
 -- to a SUBSCRIBE with this question, whose name has a home or not, where these are the records
 abbrev pub subscribed_by : Option Question → Bool → RecordSet → ℕ → KeptSession → KeptSession
-subscribed_by question has_home rows now session = answered keeping (telling rows) now (id_of (message_of session)) question has_home (taken_up now session)
+subscribed_by question has_home rows now session = answers_subscribe keeping (telling rows) now (message_of session) question has_home (taken_up now session)
 
 -- the records that a question with a home would be told are such as nets are made of
 abbrev pub CanBeTold : Option Question → Bool → RecordSet → Type 0
@@ -58,6 +56,6 @@ CanBeTold _ _ rows = Unit {0}
 abbrev pub updated : ℕ → ℕ → KeptSession → KeptSession
 updated rcode now session = answers_update keeping now (message_of session) rcode (taken_up now session)
 
--- to a RECONFIRM; data that is no record ends the session (RFC 8765, 6.5)
+-- to a RECONFIRM, whose data is a record or not
 abbrev pub reconfirmed : Bool → ℕ → KeptSession → KeptSession
-reconfirmed good now session = if good then taken_up now session else ends_reconfirm keeping (taken_up now session)
+reconfirmed is_record now session = takes_reconfirm keeping is_record (taken_up now session)

@@ -2,12 +2,13 @@
 -- wait to be told, and of what it wrote. The plain session and the session as it is kept both have them.
 --     SessionOf      a session
 --     Keeps      what the rules ask of what a session keeps
---     new_session, room_of, takes, without_first, copied      connected; octets come in; the first message leaves; octets of the output are handed on
+--     least_of numbers      the least of them
+--     new_session, room_of, takes, without_first, laid_over, copied, establishes      connected; octets come in; the first message leaves; octets of the output are handed on; established
 --     asked_to_stop, due, timed, ended_with      how a session comes to its end
 --     touched, noted      an entry changes keys, and their names wait
 --     says, answers      a message is written; with the names that wait then
 --     says_stop, stopped      the Retry Delay; what a session does that was asked to stop
-use Rattle.std.specs.Prelude.{ℕ, ◌-◌, Bool, true, false, cond, List, [], ◌++◌, map, length, take, drop, filter, fold, Option, Some, None, if◌then◌else◌}
+use Rattle.std.specs.Prelude.{ℕ, ◌-◌, Bool, true, false, cond, List, [], ◌∷◌, ◌++◌, map, length, take, drop, filter, fold, min, Option, Some, None, if◌then◌else◌}
 use Rattle.push_base.specs.Limits.{max_input}
 use Rattle.dnsname.specs.Names.{Labels}
 use Rattle.rrset.specs.RecordSet.{RecordSet}
@@ -48,10 +49,17 @@ pub record Keeps (Asked Queue Messages : Type 0) : Type 0 where
   pub no_names : Queue
   pub with_name : ℕ → RecordSet → Queue → Labels → Queue
   pub without_name : Labels → Queue → Queue
+  -- the least point since which a name waits
+  pub least_point : Queue → Option ℕ
   -- no messages; one more, made while these names waited and these questions were asked; the octets of all, and so many more
   pub no_messages : Messages
   pub with_message : List ℕ → Queue → Asked → Messages → Messages
   pub end_behind : ℕ → Messages → ℕ
+
+-- the least of some numbers
+abbrev pub least_of : List ℕ → Option ℕ
+least_of [] = None
+least_of (n ∷ ns) = elim (least_of ns) [ None ↦ Some n | Some least ↦ Some (min n least) ]
 
 -- ---- it is connected; octets come and go
 
@@ -85,9 +93,17 @@ takes piece session = record session { input = session.input ++ take (room_of se
 abbrev pub without_first : {A Q M : Type 0} → List ℕ → SessionOf A Q M → SessionOf A Q M
 without_first rest session = record session { input = rest }
 
+-- the front of an output that fits stands in a buffer, over what stood there
+abbrev pub laid_over : List ℕ → List ℕ → List ℕ
+laid_over output buffer = take (length buffer) output ++ drop (length output) buffer
+
 -- the front of the output that fits is handed on
 abbrev pub copied : {A Q M : Type 0} → ℕ → SessionOf A Q M → SessionOf A Q M
 copied room session = record session { output = drop room session.output }
+
+-- it is established from now on (RFC 8490, 5.1)
+abbrev pub establishes : {A Q M : Type 0} → SessionOf A Q M → SessionOf A Q M
+establishes session = record session { established = true }
 
 -- ---- its end
 

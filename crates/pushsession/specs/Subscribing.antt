@@ -3,7 +3,7 @@
 --     Verdict, verdict_on      the tests of a SUBSCRIBE in their order
 --     accepts, decided, answered      NOERROR and the first answer; what each verdict does; a SUBSCRIBE is answered
 --     packs      one PUSH of the names that fit
-use Rattle.std.specs.Prelude.{ℕ, ◌+◌, Bool, true, false, not, ◌||◌, ◌==◌, List, [], ◌∷◌, length, Option, Some, None, nat_le, if◌then◌else◌}
+use Rattle.std.specs.Prelude.{ℕ, Bool, false, not, ◌||◌, ◌==◌, List, [], ◌∷◌, ◌++◌, length, Option, Some, None, nat_le, if◌then◌else◌}
 use Rattle.push_base.specs.Cases.{is_empty}
 use Rattle.push_base.specs.Limits.{max_questions}
 use Rattle.rrset.specs.Kinds.{in_class, any_class}
@@ -15,7 +15,7 @@ use Rattle.dsotlv.specs.declared.message.Notice.{Notice}
 use Rattle.coalesce.specs.Net.{push_message, push_frame}
 use Rattle.dsosession.specs.declared.session.EndReason.{EndReason}
 use Rattle.dsosession.specs.declared.session.EndReason.TheVariants as ends
-use Rattle.pushsession.specs.Sessions.{SessionOf, Keeps, says, answers, ended_with}
+use Rattle.pushsession.specs.Sessions.{SessionOf, Keeps, establishes, says, answers, ended_with}
 
 -- the notices that follow the answer to a question, where these questions were asked and these names wait;
 -- the notices of one PUSH, and the names that still wait behind it
@@ -60,19 +60,21 @@ verdict_on keeps id (Some question) has_home subscriptions =
 
 -- one more question; its name waits no longer, and the session is established (RFC 8490, 5.1)
 abbrev pub subscribed : {A Q M : Type 0} → Keeps A Q M → ℕ → Question → ℕ → SessionOf A Q M → SessionOf A Q M
-subscribed keeps id question end session = record session {
+subscribed keeps id question end session = establishes (record session {
   subscriptions = keeps.with_question id question end session.subscriptions;
   queue = keeps.without_name question.name session.queue;
-  established = true;
-}
+})
 
 -- the answer, and a PUSH where there are notices; an answer alone is made while the names wait that do so behind it, one that a PUSH follows while those wait that did so before
 abbrev pub says_first_answer : {A Q M : Type 0} → Keeps A Q M → ℕ → List ℕ → List Notice → Q → SessionOf A Q M → SessionOf A Q M
 says_first_answer keeps now answer notices before session = says_notices keeps now notices (says keeps false now answer (if is_empty notices then session.queue else before) session)
 
--- the octets of both
+-- the octets of both: the answer's frame, and behind it the PUSH, only where there are notices
+abbrev pub first_answer_octets : List ℕ → List Notice → List ℕ
+first_answer_octets answer notices = frame answer ++ push_frame notices
+
 abbrev pub first_answer_size : List ℕ → List Notice → ℕ
-first_answer_size answer notices = length (frame answer) + length (push_frame notices)
+first_answer_size answer notices = length (first_answer_octets answer notices)
 
 -- NOERROR, and the PUSH that follows it (RFC 8765, 6.2.2 and 6.3); the first answer ends behind all that was written before
 abbrev pub accepts : {A Q M : Type 0} → Keeps A Q M → Tells A Q → ℕ → ℕ → Question → SessionOf A Q M → SessionOf A Q M

@@ -1,8 +1,10 @@
 //! What a session writes, and how that counts (RFC 8490, 6; RFC 8765, 6.3).
 
 ghost use Rattle.std.specs.Prelude.{◌≡◌, ◌+◌, ◌<◌, ◌≤◌, ◌^◌, ◌++◌, [], length};
+ghost use Rattle.rrset.specs.Tables.{counted};
 ghost use Rattle.coalesce.specs.Sides.{frame_octets};
 ghost use Rattle.coalesce.specs.Waiting.{CanBePacked};
+ghost use Rattle.dsosession.specs.Timing.{restarted};
 ghost use Rattle.pushsession.specs.Sessions.{answers, says_stop};
 ghost use Rattle.pushsession.specs.Subscribing.{packs};
 ghost use Rattle.pushsession.specs.Kept.{keeping, telling};
@@ -15,6 +17,14 @@ use dsotlv::flags::REQUEST;
 use rrset::Table;
 
 impl PushSession {
+    /// A message behind its length was written, so many octets in all: they count, and restart the timers (RFC 8490, 6.3).
+    fn wrote(&mut self, size: usize, keepalive: bool, now: u64)
+        ensures { self.new ≡ record self.old { made = counted (self.old.made + size); clocks = restarted keepalive now self.old.clocks } }
+    {
+        self.written = self.written.saturating_add(size as u64);
+        self.state.wrote(keepalive, now);
+    }
+
     /// Appends a message to the output: a header, and what stands behind it.
     pub(crate) fn say(&mut self, keepalive: bool, now: u64, header: &[u8], body: &[u8])
         requires size { length header.now + length body.now < 2 ^ 16 }
@@ -22,9 +32,7 @@ impl PushSession {
         ensures { self.new ≡ answers keeping keepalive now (header.now ++ body.now) self.old }
     {
         append_message(&mut self.output, header, body);
-        let size = LENGTH + header.len() + body.len();
-        self.written = self.written.saturating_add(size as u64);
-        self.state.wrote(keepalive, now);
+        self.wrote(LENGTH + header.len() + body.len(), keepalive, now);
     }
 
     /// Writes the Retry Delay, an RCODE and milliseconds, and lets go of all questions and names that wait (RFC 8490,
@@ -49,8 +57,7 @@ impl PushSession {
             .queue
             .pack(&self.subscriptions, index, &mut self.output);
         if size > 0 {
-            self.written = self.written.saturating_add(size as u64);
-            self.state.wrote(false, now);
+            self.wrote(size, false, now);
         }
     }
 }

@@ -1,7 +1,7 @@
 //! Octets that come in and octets that are handed on.
 
-ghost use Rattle.std.specs.Prelude.{◌≡◌, ◌++◌, drop, length, min, take};
-ghost use Rattle.pushsession.specs.Sessions.{copied, room_of, takes};
+ghost use Rattle.std.specs.Prelude.{◌≡◌, length, min};
+ghost use Rattle.pushsession.specs.Sessions.{copied, laid_over, room_of, takes};
 
 use crate::session::PushSession;
 use dsotlv::copy_front;
@@ -22,7 +22,7 @@ impl PushSession {
     /// Copies the longest front of the output that fits, takes it out, and gives its length.
     pub fn copy(&mut self, buf: &mut [u8]) -> usize
         ensures count { result ≡ min (length buf.old) (length self.old.output) }
-        ensures octets { buf.new ≡ take (length buf.old) self.old.output ++ drop (length self.old.output) buf.old }
+        ensures octets { buf.new ≡ laid_over self.old.output buf.old }
         ensures rest { self.new ≡ copied (length buf.old) self.old }
     {
         let count = copy_front(self.output.octets(), buf);

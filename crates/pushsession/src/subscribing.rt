@@ -1,12 +1,9 @@
 //! SUBSCRIBE (RFC 8765, 6.2).
 
-ghost use Rattle.std.specs.Prelude.{◌≡◌, ◌<◌, ◌≤◌, ◌-◌, ◌++◌, ◌∷◌, [], false, find, length, IfOk, OnOk, OnErr, IsTrue, None, Some};
-ghost use Rattle.push_base.specs.Limits.{max_questions};
+ghost use Rattle.std.specs.Prelude.{◌≡◌, ◌++◌, [], false, true, find, length, OnOk, OnErr, IsTrue, Some};
 ghost use Rattle.rrset.specs.Rcodes.{noerror};
 ghost use Rattle.rrset.specs.RecordSet.{at_name};
 ghost use Rattle.dsotlv.specs.Answers.{answer_to, refusal_to};
-ghost use Rattle.dsotlv.specs.Messages.{frame};
-ghost use Rattle.subscr.specs.Asked.{has, id_of as id_asked};
 ghost use Rattle.coalesce.specs.FirstAnswers.{first_notices};
 ghost use Rattle.coalesce.specs.Laws.{can_be_sent};
 ghost use Rattle.coalesce.specs.Net.{push_frame};
@@ -14,7 +11,7 @@ ghost use Rattle.coalesce.specs.Sides.{IsOneSide};
 ghost use Rattle.coalesce.specs.Waiting.{is_named};
 ghost use Rattle.pushsession.specs.Sessions.{answers, ended_with};
 ghost use Rattle.pushsession.specs.Kept.{keeping, telling};
-ghost use Rattle.pushsession.specs.Subscribing.{accepts, is_served};
+ghost use Rattle.pushsession.specs.Subscribing.{Accept, accepts, first_answer_octets, is_served, verdict_on};
 ghost use Rattle.pushsession.specs.Requests.{CanBeTold, request_of, subscribed_by, taken_up};
 ghost use Rattle.pushsession.specs.declared.request.Request.TheVariants as requests;
 
@@ -50,7 +47,7 @@ fn append_first_answer(
     requires empty { out.old ≡ [] }
     requires side { IsOneSide (at_name question.now.name index.now.rows) }
     requires sent { IsTrue (can_be_sent (at_name question.now.name index.now.rows)) }
-    ensures written { out.new ≡ out.old ++ frame (answer_to id noerror) ++ push_frame (first_notices question.now questions.now index.now.rows (find (is_named question.now.name) queue.now)) }
+    ensures written { out.new ≡ out.old ++ first_answer_octets (answer_to id noerror) (first_notices question.now questions.now index.now.rows (find (is_named question.now.name) queue.now)) }
     ensures size { result ≡ length (push_frame (first_notices question.now questions.now index.now.rows (find (is_named question.now.name) queue.now))) }
 {
     append_message(out, &answer(id, NOERROR), &[]);
@@ -79,9 +76,7 @@ impl PushSession {
     /// the session is established. Where it does, nothing changes.
     fn hold(&mut self, id: u16, question: Question, index: &Table) -> Result<(), NoMemory>
         requires output { self.old.output ≡ [] }
-        requires id { has id self.old.subscriptions.asked ≡ false }
-        requires question { id_asked question self.old.subscriptions.asked ≡ None }
-        requires few { length self.old.subscriptions.asked < max_questions }
+        requires accepted { verdict_on keeping id (Some question) true self.old.subscriptions ≡ Accept question }
         requires side { IsOneSide (at_name question.name index.now.rows) }
         requires sent { IsTrue (can_be_sent (at_name question.name index.now.rows)) }
         ensures ok { OnOk result (self.new ≡ record (accepts keeping (telling index.now.rows) 0 id question self.old) { clocks = self.old.clocks; established = self.old.established }) }
@@ -111,7 +106,6 @@ impl PushSession {
     }
 
     /// Accepts a SUBSCRIBE with NOERROR and the PUSH that follows it. Where memory runs out nothing changes.
-    #[tactic(auto, using(crate::proofs::Accepting::accepts_later))]
     fn accept(
         &mut self,
         id: u16,
@@ -120,9 +114,7 @@ impl PushSession {
         now: u64,
     ) -> Result<(), NoMemory>
         requires output { self.old.output ≡ [] }
-        requires id { has id self.old.subscriptions.asked ≡ false }
-        requires question { id_asked question self.old.subscriptions.asked ≡ None }
-        requires few { length self.old.subscriptions.asked < max_questions }
+        requires accepted { verdict_on keeping id (Some question) true self.old.subscriptions ≡ Accept question }
         requires side { IsOneSide (at_name question.name index.now.rows) }
         requires sent { IsTrue (can_be_sent (at_name question.name index.now.rows)) }
         ensures ok { OnOk result (self.new ≡ accepts keeping (telling index.now.rows) now id question (taken_up now self.old)) }

@@ -1,5 +1,5 @@
 -- That a session tells the history is kept where it takes a subscription.
-use Rattle.std.proofs.Common.{◌≡◌, ℕ, ◌+◌, ◌≤◌, ◌<◌, Bool, true, false, not, List, [], ◌∷◌, ◌++◌, length, sym, ◌∙◌, ap, subst, refl, arith}
+use Rattle.std.proofs.Common.{◌≡◌, ℕ, ◌+◌, ◌≤◌, ◌<◌, Bool, true, false, not, List, [], ◌∷◌, ◌++◌, length, length-append, sym, ◌∙◌, ap, subst, refl, arith}
 use Rattle.std.specs.Prelude.{◌==◌}
 use Rattle.std.specs.List.{list_any, AllByRecursion}
 use Rattle.std.specs.Str.{bytes_eq}
@@ -11,13 +11,13 @@ use Rattle.dsotlv.specs.Answers.{answer_to}
 use Rattle.dsotlv.specs.Messages.{frame}
 use Rattle.dsotlv.specs.Notices.{applied_all}
 use Rattle.dsotlv.specs.declared.message.Notice.{Notice}
-use Rattle.coalesce.specs.Net.{push_message}
+use Rattle.coalesce.specs.Net.{push_message, push_frame}
 use Rattle.history.specs.States.{State}
 use Rattle.history.specs.declared.entry.Entry.{Entry}
 use Rattle.coalesce.proofs.ReadBack.{each-append}
 use Rattle.pushsession.specs.Sessions.{says, answers}
 use Rattle.pushsession.specs.Subscribing.{subscribed, says_first_answer, first_answer_size, accepts}
-use Rattle.pushserver.specs.PlainHubs.{Hub, Session, Subscription, Made, note_of, written, first_answer, plain_keeps}
+use Rattle.pushserver.specs.PlainHubs.{Hub, Session, Subscription, Made, note_of, size_of_made, written, first_answer, plain_keeps}
 use Rattle.pushserver.specs.Hubs.{newest, now, keeps_now, tells_now}
 use Rattle.rrset.proofs.Distinct.{or_false, distinct_push}
 use Rattle.pushserver.proofs.hub_steps.Pairs.{all-weaken}
@@ -65,6 +65,10 @@ module _ (hub : Hub) (session : Session) (id : ℕ) (question : Question) where
 
   abbrev pub new_for : List Notice → Subscription
   new_for notices = record { id = id; question = question; filled = written session + first_answer_size answer notices }
+
+  -- the end of its first answer by the sizes of both messages
+  filled_at : (notices : List Notice) → (new_for notices).filled ≡ written session + (length (frame answer) + length (push_frame notices))
+  filled_at notices = ap (λ n. written session + n) (length-append (frame answer) (push_frame notices))
 
   -- the session with the subscription, before anything is said
   abbrev pub taken : List Notice → Session
@@ -135,7 +139,8 @@ module _ (hub : Hub) (session : Session) (id : ℕ) (question : Question) where
               (all-weaken (LeadsTo hub.start hub.history (session.made ++ answered (n ∷ ns) ∷ []) (before hub session question)) (LeadsIfFilled hub.start hub.history (session.made ++ answered (n ∷ ns) ∷ []) (before hub session question))
               (λ s e filled. e) session.subscriptions (quiet-others (answered (n ∷ ns)) refl)) (
                 λ filled. absurd (too_early (written session) (length (frame answer)) (size_of_push (n ∷ ns)) (frame-positive (push_message (n ∷ ns)))
-                    (subst (λ k. written session + (length (frame answer) + size_of_push (n ∷ ns)) ≤ k) (size_of_made-append session.made (answered (n ∷ ns))) filled)),
+                    (subst (λ k. written session + (length (frame answer) + size_of_push (n ∷ ns)) ≤ k) (size_of_made-append session.made (answered (n ∷ ns)))
+                    (subst (λ f. f ≤ size_of_made (session.made ++ answered (n ∷ ns) ∷ [])) (filled_at (n ∷ ns)) filled))),
                 tt,
               ));
           notes = notes-says session.made (answered (n ∷ ns)) (note_of (newest hub) (taken (n ∷ ns))) h.most.notes (told-left (stays hub session question) (stays-alike hub session question) (newest hub) session.queue h.most.points);
@@ -152,8 +157,11 @@ module _ (hub : Hub) (session : Session) (id : ℕ) (question : Question) where
     tells-followed n ns some read =
         tells-says hub.start hub.history (behind (n ∷ ns)) false (now hub) (push_message (n ∷ ns)) (almost-behind n ns) h.octets
         (each-append (λ (s : Subscription). s.filled ≤ written (behind (n ∷ ns)) + size_of_push (n ∷ ns)) session.subscriptions (new_for (n ∷ ns) ∷ [])
-        (all-weaken (λ (s : Subscription). s.filled ≤ written session) (λ (s : Subscription). s.filled ≤ written (behind (n ∷ ns)) + size_of_push (n ∷ ns)) (λ s low. subst (λ k. s.filled ≤ k + size_of_push (n ∷ ns)) (sym grown) (omega (arith, low))) session.subscriptions h.whole)
-        (subst (λ k. written session + (length (frame answer) + size_of_push (n ∷ ns)) ≤ k + size_of_push (n ∷ ns)) (sym grown) (omega arith), tt))
+        (all-weaken (λ (s : Subscription). s.filled ≤ written session) (λ (s : Subscription). s.filled ≤ written (behind (n ∷ ns)) + size_of_push (n ∷ ns)) (λ s low. subst (λ k. s.filled ≤ k + size_of_push (n ∷ ns)) (sym grown) (omega (arith, low))) session.subscriptions h.whole) (
+          subst (λ f. f ≤ written (behind (n ∷ ns)) + size_of_push (n ∷ ns)) (sym (filled_at (n ∷ ns)))
+              (subst (λ k. written session + (length (frame answer) + size_of_push (n ∷ ns)) ≤ k + size_of_push (n ∷ ns)) (sym grown) (omega arith)),
+          tt,
+        ))
         (each-append (LeadsTo hub.start hub.history ((session.made ++ answered (n ∷ ns) ∷ []) ++ m ∷ []) (after hub session question)) session.subscriptions (new_for (n ∷ ns) ∷ [])
         (each-both (LeadsTo hub.start hub.history (session.made ++ answered (n ∷ ns) ∷ []) (before hub session question)) (IsAmong session.subscriptions)
         (LeadsTo hub.start hub.history ((session.made ++ answered (n ∷ ns) ∷ []) ++ m ∷ []) (after hub session question))

@@ -5,11 +5,9 @@ use Rattle.std.specs.Prelude.{Option, Some, None, flat_map}
 use Rattle.rrset.specs.Header.{answer_octets}
 use Rattle.rrset.specs.RecordSet.{matching}
 use Rattle.rrset.specs.declared.record.Question.{Question}
-use Rattle.dnsname.specs.Text.{name}
 use Rattle.dsotlv.specs.Messages.{frame, tlv_octets}
 use Rattle.dsotlv.specs.TlvKinds.{push_tlv}
 use Rattle.dsotlv.specs.declared.message.Notice.{Notice}
-use Rattle.dsotlv.specs.declared.message.Notice.TheVariants as notices
 use Rattle.coalesce.specs.Net.{additions}
 use Rattle.dsosession.specs.Timing.{default_timers}
 use Rattle.dsosession.specs.declared.session.EndReason.TheVariants.{Gone}
@@ -20,11 +18,12 @@ use Rattle.pushsession.specs.declared.standing.Standing.{Standing}
 use Rattle.pushsession.specs.declared.standing.Standing.TheVariants.{Live, Stopped, Ended}
 use Rattle.pushsession.specs.Sessions.{new_session}
 use Rattle.pushserver.specs.PlainHubs.{Session, plain_keeps, Made, Subscription, Queue, frame_of, size_of_made, Hub, new_hub}
-use Rattle.pushclient.specs.Clients.{Wish, RequestState, not_asked, unanswered, refused, answered, new_client, new_connection}
+use Rattle.pushclient.specs.Clients.{Wish, not_asked, unanswered, refused, answered, new_client, new_connection}
+use Rattle.inflight.specs.RefusedWorlds.{address, elsewhere, wish, active, at_point, down, something}
 use Rattle.inflight.specs.Messages.{ClientMessage, subscribes, unsubscribes, requests_keepalive, message_octets, Flying, made_of}
 use Rattle.replay.specs.World.{World, Seat, new_seat}
 use Rattle.replay.specs.Worked.{Observed, unmet_in}
-use Rattle.pushclient.specs.ServerMessages.{ServerMessage, accepts, refuses, grants, tells, delays}
+use Rattle.pushclient.specs.ServerMessages.{accepts, refuses, grants, tells, delays}
 
 -- a client and its session: what each knows, and the messages that were taken, that come down, and that go up
 pub record Scene : Type 0 where
@@ -107,29 +106,6 @@ abbrev pub unmet_at : Scene → List (List ℕ)
 unmet_at s = unmet_in (observed_in s) (world_in s)
 
 -- ---- words
-
-abbrev pub address : Question
-address = record { name = name (codes "a.example.com."); kind = 1; class = 1 }
-
--- a question without a home
-abbrev pub elsewhere : Question
-elsewhere = record { name = name (codes "x.other."); kind = 1; class = 1 }
-
-abbrev pub wish : Question → RequestState → Wish
-wish question standing = record { question = question; wanted = true; standing = standing; notices = [] }
-
-abbrev pub active : ℕ → ℕ → Subscription
-active id filled = record { id = id; question = address; filled = filled }
-
--- a message made at a point
-abbrev pub at_point : ℕ → ServerMessage → List Subscription → Flying
-at_point point says subscribed = record { says = says; note = record { queue = []; newest = point }; subscribed = subscribed }
-
-abbrev pub down : ServerMessage → List Subscription → Flying
-down = at_point 0
-
-abbrev pub something : ServerMessage
-something = tells (notices.RemoveAll address.name ∷ [])
 
 -- a history of one entry: a moment; the address
 abbrev pub one_moment : Hub
@@ -316,3 +292,11 @@ garbage = refl
 -- an ID of more than two octets
 pub unnumbered : unmet_at (record begun { wishes = wish address (unanswered 65536) ∷ []; ups = subscribes 65536 address ∷ [] }) ≡ codes "ids" ∷ codes "once" ∷ codes "requests" ∷ codes "accepted" ∷ []
 unnumbered = refl
+
+-- while the session goes on: a frame goes up that no client writes, so it ends; and what goes up breaks off inside a frame, so
+-- what the client writes next is taken for that frame's rest
+pub strange_up : unmet_in (observed_in idle) (record (world_in idle) { seats = record (seat_in idle) { up_wire = 0 ∷ 1 ∷ 0 ∷ [] } ∷ [] }) ≡ codes "whole_up" ∷ []
+strange_up = refl
+
+pub broken_up : unmet_in (observed_in idle) (record (world_in idle) { seats = record (seat_in idle) { up_wire = 0 ∷ 12 ∷ [] } ∷ [] }) ≡ codes "whole_up" ∷ []
+broken_up = refl

@@ -5,7 +5,7 @@
 use Rattle.std.specs.Prelude.{ℕ, ◌+◌, Bool, true, false, Some, None, List, [], ◌∷◌, ◌++◌, take, drop, codes}
 use Rattle.std.specs.declared.option.Option.{Option}
 use Rattle.std.specs.Fmt.{decimal}
-use Rattle.replay.specs.Lines.{Word, ScriptLine, silent, timers, zone, at_moment, update, cut, send, stop, point}
+use Rattle.replay.specs.Lines.{Word, ScriptLine, silent, timers, zone, lone, at_moment, update, ask, drop_question, open_connection, cut, send, stop, point}
 use Rattle.replay.specs.Scripts.{Known, nothing_known, fits, client_words, lines_read, max_script}
 use Rattle.replay.specs.Text.{text_of}
 use Rattle.replay.specs.Reply.{Reply, line}
@@ -18,13 +18,17 @@ front_read octets = take (max_script + 1) octets
 unfoldable pub left_behind : List ℕ → List ℕ
 left_behind octets = drop (max_script + 1) octets
 
--- the lines that are built so far: lines that say nothing, timers, zones, moments, updates, points, and what peers send, are asked to stop, and are cut
+-- the lines that are built so far: lines that say nothing, timers, zones, moments, updates, points, what peers send, are asked to stop, and are cut, and what lone clients ask, drop, open and cut
 abbrev pub is_built : ScriptLine → Bool
 is_built silent = true
 is_built (timers i k) = true
 is_built (zone apex serial mode) = true
+is_built (lone w) = true
 is_built (at_moment t) = true
 is_built (update message) = true
+is_built (ask w question) = true
+is_built (drop_question w question) = true
+is_built (open_connection w) = true
 is_built (cut w) = true
 is_built (send w octets) = true
 is_built (stop w rcode delay) = true

@@ -1,13 +1,13 @@
 -- A further line behind those of a script, and the lines that are left.
---     Taken, taken_of draft      the head and the events so far
+--     Taken, taken_of draft      the head, the events and the lone clients' words so far
 --     known_of taken      what the lines so far have made
 --     may_stand all known line      whether a line is built and may stand there
---     is_peers all event      whether the word of an event's peer is no client's
+--     may_happen all clients event      whether the word of an event may stand there: that of a peer, of a client that there is, or of one more
 --     GrowsBy taken line later      the head and the events with a further line
 --     TakesLine all draft line later taken      the line is taken where it may stand there
 --     lines_left too_long text      the lines of what is left of a script
 --     client_in line, has_client w clients      the client that a line names, and whether one of the clients has a word
-use Rattle.std.specs.Prelude.{◌≡◌, ℕ, Bool, true, false, ◌&&◌, ◌==◌, List, [], ◌∷◌, ◌++◌, map, length, Option, Some, None, is_some, string_bytes, if◌then◌else◌}
+use Rattle.std.specs.Prelude.{◌≡◌, ℕ, Bool, true, false, not, ◌&&◌, ◌||◌, ◌==◌, List, [], ◌∷◌, ◌++◌, map, length, Option, Some, None, is_some, string_bytes, if◌then◌else◌}
 use Rattle.std.specs.List.{list_any}
 use Rattle.std.specs.Str.{bytes_eq}
 use Rattle.std.specs.declared.alloc.Global.{Global}
@@ -18,39 +18,49 @@ use Rattle.zoneupdate.specs.Zones.{ZoneState, new_zone}
 use Rattle.history.specs.States.{State}
 use Rattle.history.specs.Keeping.{HomesKept, state_of, named_homes}
 use Rattle.replay.specs.Lines.{Word, ScriptLine, line_of}
-use Rattle.replay.specs.Scripts.{Known, fits, is_peer, client_word, lines_in, last_is_outside}
+use Rattle.replay.specs.Scripts.{Known, fits, is_among, is_peer, client_word, lines_in, last_is_outside}
 use Rattle.replay.specs.declared.line.ZoneLine.{ZoneLine}
 use Rattle.replay.specs.declared.line.Event.{Event}
 use Rattle.replay.specs.declared.line.Event.TheVariants as events
 use Rattle.replay.specs.declared.line.Line.{Line}
 use Rattle.replay.specs.declared.line.Line.TheVariants as lines
 use Rattle.replay.specs.declared.script.Draft.{Draft}
-use Rattle.replay.specs.KeptLines.{said}
+use Rattle.replay.specs.KeptLines.{event_said, said}
 use Rattle.replay.specs.BuiltScripts.{is_built}
 
--- the head and the events so far; no timers where no line has named them
+-- a word, if there is one
+abbrev pub in_list : Option Word → List Word
+in_list None = []
+in_list (Some w) = w ∷ []
+
+-- the head, the events and the lone clients' words so far; no timers where no line has named them
 pub record Taken : Type 0 where
   pub timers : Option Timers
   pub homes : HomesKept
   pub events : List Event
+  pub clients : List Word
 
 abbrev pub taken_of : Draft → Taken
-taken_of draft = record { timers = draft.timers; homes = draft.homes; events = draft.events.items }
+taken_of draft = record { timers = draft.timers; homes = draft.homes; events = draft.events.items; clients = map (λ c. string_bytes c) draft.clients.items }
 
 -- what the lines so far have made
 abbrev pub known_of : Taken → Known
-known_of taken = record { in_head = length taken.events == 0; has_timers = is_some taken.timers; homes = named_homes taken.homes; links = []; clients = [] }
+known_of taken = record { in_head = length taken.events == 0; has_timers = is_some taken.timers; homes = named_homes taken.homes; links = []; clients = map (λ w. (w, true)) taken.clients }
 
 -- the line is built, and may stand there
 abbrev pub may_stand : List Word → Known → ScriptLine → Bool
 may_stand all known line = is_built line && is_some (fits all known line)
 
--- an event's peer, if it has one, is no client
-abbrev pub is_peers : List Word → Event → Bool
-is_peers all (events.Send s) = is_peer all (string_bytes s.word)
-is_peers all (events.Stop s) = is_peer all (string_bytes s.word)
-is_peers all (events.Cut c) = is_peer all (string_bytes c.word)
-is_peers all _ = true
+-- the word of an event may stand there, where these are the words of all clients of the script, and of the lone ones so far
+abbrev pub may_happen : List Word → List Word → Event → Bool
+may_happen all clients (events.Send s) = is_peer all (string_bytes s.word)
+may_happen all clients (events.Stop s) = is_peer all (string_bytes s.word)
+may_happen all clients (events.Cut c) = is_among clients (string_bytes c.word) || is_peer all (string_bytes c.word)
+may_happen all clients (events.Lone l) = not (is_among clients (string_bytes l.word))
+may_happen all clients (events.Ask a) = is_among clients (string_bytes a.word)
+may_happen all clients (events.Drop a) = is_among clients (string_bytes a.word)
+may_happen all clients (events.Open o) = is_among clients (string_bytes o.word)
+may_happen all clients _ = true
 
 -- ---- a line that is taken
 
@@ -67,7 +77,7 @@ abbrev pub GrowsBy : Taken → Line → Taken → Type 0
 GrowsBy taken lines.Silent later = later ≡ taken
 GrowsBy taken (lines.Timers t) later = later ≡ record taken { timers = Some t }
 GrowsBy taken (lines.Zone z) later = HasZone taken.homes z later.homes × (later ≡ record taken { homes = later.homes })
-GrowsBy taken (lines.Event e) later = later ≡ record taken { events = taken.events ++ e ∷ [] }
+GrowsBy taken (lines.Event e) later = later ≡ record taken { events = taken.events ++ e ∷ []; clients = taken.clients ++ in_list (client_word (event_said e)) }
 
 -- the line was taken, which may stand there, or wasn't, which may not
 abbrev pub TakesLine : List Word → Draft → Line → Draft → Bool → Type 0
@@ -83,10 +93,6 @@ lines_left too_long text = if too_long then last_is_outside (map line_of (lines_
 -- the word of the client, or of the lone one, that a line names
 abbrev pub client_in : List ℕ → Option Word
 client_in line = line_of line >>= client_word
-
-abbrev pub in_list : Option Word → List Word
-in_list None = []
-in_list (Some w) = w ∷ []
 
 -- whether a client has a word, and whether one of them has
 abbrev pub is_client_of : Word → String Global → Bool

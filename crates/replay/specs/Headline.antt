@@ -7,7 +7,7 @@
 --     NoMessageEnds      no message of a hub's client ends its session, and none of the hub but Retry Delay closes the client
 --     EveryCutGivesOneOutput      a peer is sent the same, however its octets are cut
 --     EndsStandFor kept clients world      the hub and the clients that ran a script
-use Rattle.std.specs.Prelude.{◌≡◌, ℕ, ◌+◌, ◌≤◌, ◌<◌, Bool, true, false, not, ◌||◌, List, [], ◌∷◌, ◌++◌, map, length, filter_map, Option, Some, None, is_none, option_map, Ok, IsTrue, codes, decimal, if◌then◌else◌}
+use Rattle.std.specs.Prelude.{◌≡◌, ℕ, ◌+◌, ◌≤◌, ◌<◌, Bool, true, false, not, ◌||◌, List, [], ◌∷◌, ◌++◌, map, length, filter_map, Some, None, is_none, option_map, Ok, IsTrue, codes, decimal, if◌then◌else◌}
 use Rattle.std.specs.List.{list_any, AllByRecursion, AllZip, IsDistinct}
 use Rattle.std.specs.Str.{bytes_eq}
 use Rattle.push_base.specs.Limits.{max_input}
@@ -25,14 +25,15 @@ use Rattle.pushserver.specs.PlainHubs.{Session, Made, size_of_made, Hub, told, n
 use Rattle.pushserver.specs.Hubs.{newest, state_now, records_now, session_of}
 use Rattle.pushserver.specs.declared.given.Given.TheVariants.{Nothing}
 use Rattle.pushserver.specs.Giving.{is_served_at, give}
-use Rattle.pushserver.specs.ToldMessages.{TellsHistory, notices_since, records_noted}
+use Rattle.pushserver.specs.ToldMessages.{TellsHistory, records_noted}
 use Rattle.pushserver.specs.KeptHubs.{KeptHub, StandsFor}
-use Rattle.pushclient.specs.Clients.{Client, Connection, Wish, unanswered, answered, wish_for, held, Held, set_held}
+use Rattle.pushclient.specs.Clients.{Client, Connection, Wish, answered, wish_for, held, Held, set_held}
 use Rattle.mirror.specs.Held.{set_of}
 use Rattle.pushclient.specs.Rule.{KeptClient, without_told}
-use Rattle.inflight.specs.Messages.{Flying, made_of, accepts_id}
-use Rattle.inflight.specs.Ends.{ends_of, going_up, going_down, told_end}
+use Rattle.inflight.specs.Messages.{Flying, made_of}
+use Rattle.inflight.specs.Ends.{ends_of, going_up, going_down}
 use Rattle.inflight.specs.Flight.{AreSoundWishes, InFlight, FirstAnswersEnd}
+use Rattle.inflight.specs.Holding.{will_hold, HoldsThen}
 use Rattle.replay.specs.Lines.{Word, ScriptLine, show, settle}
 use Rattle.replay.specs.Scripts.{script_of}
 use Rattle.replay.specs.World.{World, Seat, seat_of, start_world, last_of}
@@ -154,14 +155,6 @@ abbrev pub HoldsAfterEachLine : Type 0
 HoldsAfterEachLine = (text : List ℕ) (script before after : List ScriptLine) → script_of text ≡ Ok script → script ≡ before ++ after → HoldsAfter before (start_world script)
 
 -- ---- what follows where a connection holds
-
--- what a wish is held by once some further messages are taken, if it waits for one of their answers or is held already
-abbrev pub will_hold : List Flying → Wish → Option ℕ
-will_hold more w = elim w.standing [ answered id ↦ Some id | unanswered id ↦ if list_any (λ f. accepts_id id f.says) more then Some id else None | _ ↦ None ]
-
--- the set of a question once these messages were taken, if its first answer is among them
-abbrev pub HoldsThen : List (ℕ × ℕ) → List Made → ℕ → Question → RecordSet → Type 0
-HoldsThen filled taken id question set = (n : ℕ) → told_end filled id ≡ Some n → n ≤ size_of_made taken → applied_all (notices_since id taken) question [] ≡ set
 
 -- after each further message the client holds the records at its note's point, and after all of them what counts as sent
 pub record HoldsAlong (hub : Hub) (seat : Seat) (session : Session) (taken : List Made) (flying : List Flying) : Type 0 where

@@ -1,13 +1,14 @@
 -- Scripts whose lines are built, as the program holds them.
 --     events_said events      what the event lines say
+--     seats_named lines      the words of the clients that lines name
 --     IsBuilt octets script      all lines are built: the head lines make the script's timers and homes, and its events are what is printed
 --     ReadsAs octets read      what was read of octets
-use Rattle.std.specs.Prelude.{◌≡◌, ℕ, List, [], map, Some, None, Ok}
+use Rattle.std.specs.Prelude.{◌≡◌, ℕ, List, [], ◌∷◌, ◌++◌, map, Some, None, Ok}
 use Rattle.std.specs.List.{AllByRecursion}
 use Rattle.history.specs.Keeping.{state_of}
 use Rattle.history.specs.Plans.{IsStart}
-use Rattle.replay.specs.Lines.{ScriptLine}
-use Rattle.replay.specs.Scripts.{script_of}
+use Rattle.replay.specs.Lines.{Word, ScriptLine}
+use Rattle.replay.specs.Scripts.{script_of, client_word}
 use Rattle.replay.specs.World.{World, world_of, start_world}
 use Rattle.replay.specs.TextWords.{by_history}
 use Rattle.replay.specs.Text.{printed_by}
@@ -16,6 +17,8 @@ use Rattle.replay.specs.declared.script.Script.{Script}
 use Rattle.replay.specs.declared.script.ReadScript.{ReadScript}
 use Rattle.replay.specs.declared.script.ReadScript.TheVariants.{Built, Later}
 use Rattle.replay.specs.KeptLines.{event_said, IsEvent}
+use Rattle.replay.specs.Drafts.{in_list}
+use Rattle.replay.specs.KeptWorlds.{AreDistinct}
 use Rattle.replay.specs.BuiltScripts.{first_later}
 
 -- what the event lines say
@@ -26,6 +29,11 @@ events_said events = map event_said events
 abbrev pub world_at_start : Script → World
 world_at_start script = world_of (record { timers = script.timers; start = state_of script.homes; links = [] })
 
+-- the words of the clients that lines name
+abbrev pub seats_named : List ScriptLine → List Word
+seats_named [] = []
+seats_named (line ∷ lines) = in_list (client_word line) ++ seats_named lines
+
 -- all lines are built; the head lines make the script's timers and homes, and the others that say something are its events
 pub record IsBuilt (octets : List ℕ) (script : Script) : Type 0 where
   pub all : first_later octets ≡ None
@@ -35,6 +43,7 @@ pub record IsBuilt (octets : List ℕ) (script : Script) : Type 0 where
   pub text : printed_by by_history lines (start_world lines) ≡ printed_by by_history (events_said script.events.items) (start_world lines)
   pub start : IsStart (state_of script.homes)
   pub are_events : AllByRecursion IsEvent (events_said script.events.items)
+  pub distinct : AreDistinct (seats_named (events_said script.events.items))
 
 -- the script, or the first line that isn't built
 abbrev pub ReadsAs : List ℕ → ReadScript → Type 0

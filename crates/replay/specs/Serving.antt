@@ -8,12 +8,12 @@ use Rattle.push_base.specs.Hexadecimal.{hex_text}
 use Rattle.rrset.specs.Header.{id_of}
 use Rattle.rrset.specs.Rcodes.{noerror}
 use Rattle.rrset.specs.declared.record.Question.{Question}
-use Rattle.dsotlv.specs.Messages.{frame, first_message}
-use Rattle.coalesce.specs.Net.{push_frame}
+use Rattle.dsotlv.specs.Messages.{first_message}
 use Rattle.pushserver.specs.PlainHubs.{Session, Hub, first_answer}
 use Rattle.pushserver.specs.Hubs.{now, keeps_now, connect}
 use Rattle.dsotlv.specs.Answers.{answer_to}
 use Rattle.pushsession.specs.Sessions.{new_session}
+use Rattle.pushsession.specs.Subscribing.{first_answer_octets}
 use Rattle.pushserver.specs.Laws.{IsAcceptable}
 use Rattle.replay.specs.Lines.{Word, ScriptLine, send}
 use Rattle.replay.specs.Scripts.{script_of}
@@ -62,7 +62,7 @@ pub record AsksFirst (script : List ℕ) (asked : Asked) : Type 0 where
 
 -- NOERROR, and the records that the question matches then, if there are any
 abbrev pub served_octets : Asked → List ℕ
-served_octets asked = frame (answer_to (id_of asked.message) noerror) ++ push_frame (first_answer (connected_then asked) (session_then asked) asked.question)
+served_octets asked = first_answer_octets (answer_to (id_of asked.message) noerror) (first_answer (connected_then asked) (session_then asked) asked.question)
 
 abbrev pub served_line : Asked → List ℕ
 served_line asked = spaced (codes "bytes" ∷ asked.word ∷ hex_text (served_octets asked) ∷ [])

@@ -1,8 +1,9 @@
 //! The words of a script's clients, which its peers do not have.
 
-ghost use Rattle.std.specs.Prelude.{◌≡◌, ◌++◌, map, option_map, IfOk, OnOk, string_bytes};
-ghost use Rattle.replay.specs.Scripts.{client_words, lines_read, is_among};
-ghost use Rattle.replay.specs.Drafts.{client_in, in_list, is_peers, is_client_of, has_client};
+ghost use Rattle.std.specs.Prelude.{◌≡◌, ◌++◌, ◌||◌, map, option_map, IfOk, OnOk, string_bytes};
+ghost use Rattle.replay.specs.Scripts.{client_word, client_words, lines_read, is_among, is_peer};
+ghost use Rattle.replay.specs.KeptLines.{event_said};
+ghost use Rattle.replay.specs.Drafts.{client_in, in_list, may_happen, is_client_of, has_client};
 
 use crate::line::Event;
 use crate::line_words::plain_word;
@@ -54,15 +55,46 @@ fn client_in(alloc: Global, line: &[u8]) -> Result<Option<String>, NoMemory>
     }
 }
 
-/// Whether the word of an event's peer, if it has one, is none of those of the clients.
-pub(crate) fn is_peers(clients: &[String], event: &Event) -> bool
-    ensures { result ≡ is_peers (map (λ w. string_bytes w) clients.now) event.now }
+/// Whether the word of an event, if it has one, may stand there: a peer has a word that no client has anywhere, one more
+/// client a word that none has yet, and a client that is spoken of one that there is.
+pub(crate) fn may_happen(all: &[String], clients: &[String], event: &Event) -> bool
+    ensures { result ≡ may_happen (map (λ w. string_bytes w) all.now) (map (λ w. string_bytes w) clients.now) event.now }
 {
     match event {
         Event::Update(_) | Event::Point | Event::At(_) => true,
-        Event::Send(sent) => !has_client(clients, sent.word.as_bytes()),
-        Event::Stop(stopping) => !has_client(clients, stopping.word.as_bytes()),
-        Event::Cut(cutting) => !has_client(clients, cutting.word.as_bytes()),
+        Event::Send(sent) => !has_client(all, sent.word.as_bytes()),
+        Event::Stop(stopping) => !has_client(all, stopping.word.as_bytes()),
+        Event::Cut(cutting) => may_be_cut(all, clients, cutting.word.as_bytes()),
+        Event::Lone(lone) => !has_client(clients, lone.word.as_bytes()),
+        Event::Ask(asking) => has_client(clients, asking.word.as_bytes()),
+        Event::Drop(asking) => has_client(clients, asking.word.as_bytes()),
+        Event::Open(opening) => has_client(clients, opening.word.as_bytes()),
+    }
+}
+
+// Whether a word is that of a client that there is, or of a peer.
+fn may_be_cut(all: &[String], clients: &[String], word: &[u8]) -> bool
+    ensures { result ≡ (is_among (map (λ w. string_bytes w) clients.now) word.now || is_peer (map (λ w. string_bytes w) all.now) word.now) }
+{
+    has_client(clients, word) || !has_client(all, word)
+}
+
+/// The word of the client that an event adds, if it adds one, goes to those that there are.
+pub(crate) fn add_seat(
+    alloc: Global,
+    event: &Event,
+    clients: &mut Vec<String>,
+) -> Result<(), NoMemory>
+    ensures { OnOk result (map (λ w. string_bytes w) clients.new.items ≡ map (λ w. string_bytes w) clients.old.items ++ in_list (client_word (event_said event.now))) }
+{
+    match event {
+        Event::Lone(lone) => {
+            clients.push(String::from_str(alloc, lone.word.as_str())?)?;
+            Ok(())
+        }
+        Event::Update(_) | Event::Point | Event::At(_) => Ok(()),
+        Event::Send(_) | Event::Stop(_) | Event::Cut(_) => Ok(()),
+        Event::Ask(_) | Event::Drop(_) | Event::Open(_) => Ok(()),
     }
 }
 

@@ -5,10 +5,13 @@ ghost use Rattle.replay.specs.TextWords.{by_history, end_words, octets_text};
 ghost use Rattle.replay.specs.Text.{cuts, exchanges, line_does, moments, printing, sends, stops, updates};
 ghost use Rattle.pushserver.specs.Hubs.{newest, now};
 ghost use Rattle.replay.specs.KeptLines.{event_said};
-ghost use Rattle.replay.specs.KeptWorlds.{Does};
+ghost use Rattle.replay.specs.KeptWorlds.{Does, parties_of};
+ghost use Rattle.replay.specs.KeptSeats.{TimesWorld};
 
+use crate::client_lines::{ask_line, drop_line, lone_line, open_line, timed_lines};
 use crate::exchanging::{Exchanged, exchange};
 use crate::line::Event;
+use crate::seats::{cut_at, place_of};
 use crate::world::{Peer, World};
 use dsosession::session::EndReason;
 use push_base::{NoMemory, hex_text};
@@ -31,6 +34,10 @@ pub fn event_line(alloc: Global, world: &mut World, event: &Event) -> Result<Str
             stop_line(alloc, world, word, stopping.rcode, stopping.delay)
         }
         Event::Cut(cutting) => cut_line(alloc, world, cutting.word.as_str()),
+        Event::Lone(lone) => lone_line(alloc, world, lone.word.as_str()),
+        Event::Ask(asking) => ask_line(alloc, world, asking.word.as_str(), &asking.question),
+        Event::Drop(asking) => drop_line(alloc, world, asking.word.as_str(), &asking.question),
+        Event::Open(opening) => open_line(alloc, world, opening.word.as_str()),
     }
 }
 
@@ -52,18 +59,30 @@ fn point_line(alloc: Global, world: &mut World) -> Result<String, NoMemory>
     point_text(alloc, world.hub.point(), world.hub.now())
 }
 
-// A moment comes.
+// A moment comes: for the hub, and then for each client at the hub's moment.
 fn moment_lines(alloc: Global, world: &mut World, moment: u64) -> Result<String, NoMemory>
     ensures { IfOk result (λ text. Does (moments moment) world.old (string_bytes text) world.new) }
 {
     match world.hub.moment(moment) {
-        Ok(()) => Ok(String::new(alloc)),
-        Err(HubFault::Full) => full_text(alloc),
+        Ok(()) => clients_timed(alloc, world, String::new(alloc)),
+        Err(HubFault::Full) => {
+            let text = full_text(alloc)?;
+            clients_timed(alloc, world, text)
+        }
         Err(HubFault::NoMemory) => Err(NoMemory),
     }
 }
 
-// The session of a peer is asked to stop.
+// It is the hub's moment for each client; what they print stands behind a text.
+fn clients_timed(alloc: Global, world: &mut World, text: String) -> Result<String, NoMemory>
+    ensures { IfOk result (λ told. TimesWorld world.old.hub (parties_of world.old) (string_bytes text) world.new.hub (parties_of world.new) (string_bytes told)) }
+{
+    let now = world.hub.now();
+    let told = timed_lines(alloc, &mut world.seats, now, text)?;
+    Ok(told)
+}
+
+// The session of a peer is asked to stop; a lone client has none.
 fn stop_line(
     alloc: Global,
     world: &mut World,
@@ -73,16 +92,29 @@ fn stop_line(
 ) -> Result<String, NoMemory>
     ensures { IfOk result (λ text. Does (stops word.now rcode delay) world.old (string_bytes text) world.new) }
 {
-    world.stop(word, rcode, delay);
-    stop_text(alloc, word)
+    match place_of(&world.seats, word) {
+        Some(_) => stop_text(alloc, word),
+        None => {
+            world.stop(word, rcode, delay);
+            stop_text(alloc, word)
+        }
+    }
 }
 
-// The connection of a peer is cut.
+// The connection of a client is cut, or else that of a peer.
 fn cut_line(alloc: Global, world: &mut World, word: &str) -> Result<String, NoMemory>
     ensures { IfOk result (λ text. Does (cuts word.now) world.old (string_bytes text) world.new) }
 {
-    world.cut(word);
-    cut_text(alloc, word)
+    match place_of(&world.seats, word) {
+        Some(place) => {
+            cut_at(&mut world.seats, place);
+            cut_text(alloc, word)
+        }
+        None => {
+            world.cut(word);
+            cut_text(alloc, word)
+        }
+    }
 }
 
 // A peer sends octets: to its session, or to a new one where it has none.

@@ -1,17 +1,18 @@
 //! The lines of a script that are built.
 
 ghost use Rattle.std.specs.Prelude.{◌≡◌, false, ◌∷◌, [], IfOk, IfSome, IfNone, None, position, ◌==◌, ◌<◌, option_map, length};
-ghost use Rattle.replay.specs.Lines.{cut, send, update, timers_line, zone_line, at_line, stop_line, of_word, of_octets, of_word_and_octets, line_of};
-ghost use Rattle.replay.specs.KeptLines.{said, IsSound, words_in, one_in, two_in, three_in, understood, begins_silent, kind_of, said_behind};
+ghost use Rattle.replay.specs.Lines.{lone, ask, drop_question, open_connection, cut, send, update, timers_line, zone_line, at_line, stop_line, of_word, of_octets, of_word_and_octets, of_word_and_question, line_of, question};
+ghost use Rattle.replay.specs.KeptLines.{said, IsSound, words_in, one_in, two_in, three_in, four_in, understood, begins_silent, kind_of, said_behind};
 
 use crate::line_words::{
     moment_of_word, name_of_word, number_of_word, octets_of_word, plain_word, rcode_of_word,
-    writable_of_word,
+    short_number_of_word, writable_of_word,
 };
 use dnsname::name::{Name, Octets};
 use dsosession::session::Timers;
 use dsosession::times::LEAST_KEEPALIVE;
 use push_base::NoMemory;
+use rrset::record::Question;
 use std::alloc::Global;
 
 /// A zone line: the apex, the serial, and whether the zone may be written.
@@ -46,10 +47,33 @@ pub struct Stopping {
     pub delay: u32,
 }
 
-/// The word of a peer whose connection is cut.
+/// The word of a peer, or of a client, whose connection is cut.
 #[derive(Debug, Drop)]
 pub struct Cutting {
-    /// The peer's word.
+    /// The peer's word, or the client's.
+    pub word: String,
+}
+
+/// The word of a lone client that there is from now on.
+#[derive(Debug, Drop)]
+pub struct Alone {
+    /// The client's word.
+    pub word: String,
+}
+
+/// The word of a client, and a question that it asks or drops.
+#[derive(Debug, Drop)]
+pub struct Asking {
+    /// The client's word.
+    pub word: String,
+    /// The question.
+    pub question: Question,
+}
+
+/// The word of a client that opens a connection.
+#[derive(Debug, Drop)]
+pub struct Opening {
+    /// The client's word.
     pub word: String,
 }
 
@@ -66,8 +90,16 @@ pub enum Event {
     At(u64),
     /// A peer's session is asked to stop (RFC 8490, 6.6.1).
     Stop(Stopping),
-    /// A peer's connection is cut.
+    /// A peer's connection is cut, or a client's.
     Cut(Cutting),
+    /// There is one client more, whose connections lead to no hub.
+    Lone(Alone),
+    /// A client asks a question (RFC 8765, 6.2).
+    Ask(Asking),
+    /// A client drops a question (RFC 8765, 6.4).
+    Drop(Asking),
+    /// A client opens a connection.
+    Open(Opening),
 }
 
 /// A line of a script that is built.
@@ -94,6 +126,10 @@ enum Kind {
     Send,
     Stop,
     Point,
+    Lone,
+    Ask,
+    Drop,
+    Open,
     Other,
 }
 
@@ -152,6 +188,14 @@ fn kind_of(word: &[u8]) -> Kind
         Kind::Stop
     } else if word == b"point".as_slice() {
         Kind::Point
+    } else if word == b"lone".as_slice() {
+        Kind::Lone
+    } else if word == b"ask".as_slice() {
+        Kind::Ask
+    } else if word == b"drop".as_slice() {
+        Kind::Drop
+    } else if word == b"open".as_slice() {
+        Kind::Open
     } else {
         Kind::Other
     }
@@ -166,6 +210,7 @@ fn single_word(kind: Kind) -> Option<Line>
         Kind::Point => Some(Line::Event(Event::Point)),
         Kind::Timers | Kind::Zone | Kind::At | Kind::Update => None,
         Kind::Cut | Kind::Send | Kind::Stop | Kind::Other => None,
+        Kind::Lone | Kind::Ask | Kind::Drop | Kind::Open => None,
     }
 }
 
@@ -182,6 +227,10 @@ fn longer_line(alloc: Global, kind: Kind, text: &[u8]) -> Result<Option<Line>, N
         Kind::Cut => cut_line(alloc, text),
         Kind::Send => send_line(alloc, text),
         Kind::Stop => stop_line(alloc, text),
+        Kind::Lone => lone_line(alloc, text),
+        Kind::Ask => ask_line(alloc, text),
+        Kind::Drop => drop_line(alloc, text),
+        Kind::Open => open_line(alloc, text),
         Kind::Point | Kind::Other => Ok(None),
     }
 }
@@ -300,6 +349,103 @@ fn stop_line(alloc: Global, text: &[u8]) -> Result<Option<Line>, NoMemory>
         return Ok(None);
     };
     Ok(Some(Line::Event(Event::Stop(Stopping { word, rcode, delay }))))
+}
+
+// What follows the first word of a line of a lone client: its word.
+fn lone_line(alloc: Global, text: &[u8]) -> Result<Option<Line>, NoMemory>
+    ensures exact { IfOk result (λ found. option_map (λ l. said l) found ≡ of_word lone (words_in text.now)) }
+    ensures sound { IfOk result (λ found. IfSome found IsSound) }
+{
+    let Some(word) = one_word(text) else {
+        return Ok(None);
+    };
+    let Some(word) = plain_word(alloc, word)? else {
+        return Ok(None);
+    };
+    Ok(Some(Line::Event(Event::Lone(Alone { word }))))
+}
+
+// What follows the first word of a line that opens a connection: the client's word.
+fn open_line(alloc: Global, text: &[u8]) -> Result<Option<Line>, NoMemory>
+    ensures exact { IfOk result (λ found. option_map (λ l. said l) found ≡ of_word open_connection (words_in text.now)) }
+    ensures sound { IfOk result (λ found. IfSome found IsSound) }
+{
+    let Some(word) = one_word(text) else {
+        return Ok(None);
+    };
+    let Some(word) = plain_word(alloc, word)? else {
+        return Ok(None);
+    };
+    Ok(Some(Line::Event(Event::Open(Opening { word }))))
+}
+
+// What follows the first word of a line that asks: the client's word, and the question.
+fn ask_line(alloc: Global, text: &[u8]) -> Result<Option<Line>, NoMemory>
+    ensures exact { IfOk result (λ found. option_map (λ l. said l) found ≡ of_word_and_question ask (words_in text.now)) }
+    ensures sound { IfOk result (λ found. IfSome found IsSound) }
+{
+    let Some((word, name, kind, class)) = four_words(text) else {
+        return Ok(None);
+    };
+    let Some(word) = plain_word(alloc, word)? else {
+        return Ok(None);
+    };
+    let Some(question) = question_of(alloc, name, kind, class)? else {
+        return Ok(None);
+    };
+    Ok(Some(Line::Event(Event::Ask(Asking { word, question }))))
+}
+
+// What follows the first word of a line that drops a question: the client's word, and the question.
+fn drop_line(alloc: Global, text: &[u8]) -> Result<Option<Line>, NoMemory>
+    ensures exact { IfOk result (λ found. option_map (λ l. said l) found ≡ of_word_and_question drop_question (words_in text.now)) }
+    ensures sound { IfOk result (λ found. IfSome found IsSound) }
+{
+    let Some((word, name, kind, class)) = four_words(text) else {
+        return Ok(None);
+    };
+    let Some(word) = plain_word(alloc, word)? else {
+        return Ok(None);
+    };
+    let Some(question) = question_of(alloc, name, kind, class)? else {
+        return Ok(None);
+    };
+    Ok(Some(Line::Event(Event::Drop(Asking { word, question }))))
+}
+
+// The question that three words are: its name, its TYPE and its CLASS.
+fn question_of(
+    alloc: Global,
+    name: &[u8],
+    kind: &[u8],
+    class: &[u8],
+) -> Result<Option<Question>, NoMemory>
+    ensures { IfOk result (λ found. found ≡ question name.now kind.now class.now) }
+{
+    let Some(name) = name_of_word(alloc, name)? else {
+        return Ok(None);
+    };
+    let Some(kind) = short_number_of_word(kind) else {
+        return Ok(None);
+    };
+    let Some(class) = short_number_of_word(class) else {
+        return Ok(None);
+    };
+    Ok(Some(Question { name, kind, class }))
+}
+
+// The words of a text that has four.
+fn four_words(text: &[u8]) -> Option<(&[u8], &[u8], &[u8], &[u8])>
+    ensures found { IfSome result (λ words. words_in text.now ≡ words.0.now ∷ words.1.now ∷ words.2.now ∷ words.3.now ∷ []) }
+    ensures none { IfNone result (four_in (words_in text.now) ≡ None) }
+{
+    let (first, rest) = split_word(text)?;
+    let (second, rest) = split_word(rest)?;
+    let (third, fourth) = split_word(rest)?;
+    match space_in(fourth) {
+        Some(_) => None,
+        None => Some((first, second, third, fourth)),
+    }
 }
 
 // The words of a text that has three.

@@ -19,6 +19,9 @@ const MOST_DIGITS: usize = 131_074;
 /// The most letters and digits that a word has.
 const LONGEST_WORD: usize = 32;
 
+/// The greatest number that two octets hold.
+const MAX_U16: u64 = 65_535;
+
 /// The greatest number that four octets hold.
 const MAX_U32: u64 = 4_294_967_295;
 
@@ -74,6 +77,14 @@ pub(crate) fn number_of_word(text: &[u8]) -> Option<u32>
 {
     let number = number_up_to(MAX_U32, text)?;
     Some(number as u32)
+}
+
+/// The decimal number below 2^16 that a word is, without leading zeros.
+pub(crate) fn short_number_of_word(text: &[u8]) -> Option<u16>
+    ensures { result ≡ number 65535 text.now }
+{
+    let number = number_up_to(MAX_U16, text)?;
+    Some(number as u16)
 }
 
 /// The RCODE that a word is, from 0 to 15 (RFC 1035, 4.1.1).

@@ -7,7 +7,7 @@ ghost use Rattle.replay.specs.declared.line.Line.TheVariants as lines;
 ghost use Rattle.replay.specs.KeptScripts.{ReadsAs};
 ghost use Rattle.replay.specs.Drafts.{TakesLine};
 
-use crate::clients::{client_words, is_peers};
+use crate::clients::{add_seat, client_words, may_happen};
 use crate::line::{Event, Line, ZoneLine, read_line};
 use crate::text_lines::{is_outside, is_too_long, split_line};
 use dsosession::session::Timers;
@@ -38,17 +38,18 @@ pub enum ReadScript {
     Later(usize),
 }
 
-// What was read of a script so far; no timers where no line has said them.
+// What was read of a script so far, with the words of the clients that there are; no timers where no line has said them.
 #[derive(Drop)]
 struct Draft {
     timers: Option<Timers>,
     homes: Homes,
     events: Vec<Event>,
+    clients: Vec<String>,
 }
 
 /// Reads a script: all of it where each line is built, and else the number of the first line that isn't built or
-/// may not stand where it does, counted from 1. The zones may then stand side by side, and no peer has the word of a
-/// client.
+/// may not stand where it does, counted from 1. The zones may then stand side by side, no peer has the word of a
+/// client, and no two clients have one word.
 pub fn read_script_lines(alloc: Global, octets: &[u8]) -> Result<ReadScript, NoMemory>
     ensures { IfOk result (λ read. ReadsAs octets.now read) }
 {
@@ -58,6 +59,7 @@ pub fn read_script_lines(alloc: Global, octets: &[u8]) -> Result<ReadScript, NoM
         timers: None,
         homes: Homes::new(alloc),
         events: Vec::new(alloc),
+        clients: Vec::new(alloc),
     };
     let mut number = 0;
     let mut rest = octets;
@@ -87,7 +89,7 @@ impl Draft {
             Line::Silent => Ok(true),
             Line::Timers(timers) => Ok(self.take_timers(timers)),
             Line::Zone(zone) => self.take_zone(alloc, zone),
-            Line::Event(event) => self.take_event(event, clients),
+            Line::Event(event) => self.take_event(alloc, event, clients),
         }
     }
 
@@ -132,13 +134,19 @@ impl Draft {
         self.events.is_empty()
     }
 
-    // Takes a further event, if its peer's word, where it has one, is no client's.
-    fn take_event(&mut self, event: Event, clients: &[String]) -> Result<bool, NoMemory>
+    // Takes a further event, if its word, where it has one, may stand there.
+    fn take_event(
+        &mut self,
+        alloc: Global,
+        event: Event,
+        clients: &[String],
+    ) -> Result<bool, NoMemory>
         ensures { IfOk result (λ taken. TakesLine (map (λ w. string_bytes w) clients.now) self.old (lines.Event event) self.new taken) }
     {
-        if !is_peers(clients, &event) {
+        if !may_happen(clients, &self.clients, &event) {
             return Ok(false);
         }
+        add_seat(alloc, &event, &mut self.clients)?;
         self.events.push(event)?;
         Ok(true)
     }
@@ -153,6 +161,7 @@ impl Draft {
             timers,
             homes,
             events,
+            clients: _,
         } = self;
         Script {
             timers: timers_or_default(timers),

@@ -5,7 +5,8 @@ ghost use Rattle.history.specs.Keeping.{state_of};
 ghost use Rattle.history.specs.Plans.{IsStart};
 ghost use Rattle.replay.specs.TextWords.{by_history};
 ghost use Rattle.replay.specs.Text.{ended_lines, printed_by};
-ghost use Rattle.replay.specs.KeptScripts.{events_said, world_at_start};
+ghost use Rattle.replay.specs.KeptScripts.{events_said, seats_named, world_at_start};
+ghost use Rattle.replay.specs.KeptWorlds.{AreDistinct};
 
 use crate::event_lines::event_line;
 use crate::script::Script;
@@ -15,7 +16,8 @@ use std::alloc::Global;
 
 /// The text of a script whose lines are built: what its events print, one behind another.
 pub fn script_text(alloc: Global, script: Script) -> Result<String, NoMemory>
-    requires { IsStart (state_of script.homes) }
+    requires start { IsStart (state_of script.homes) }
+    requires distinct { AreDistinct (seats_named (events_said script.events.items)) }
     ensures { IfOk result (λ text. string_bytes text ≡ ended_lines (printed_by by_history (events_said script.events.items) (world_at_start script))) }
 {
     let Script {

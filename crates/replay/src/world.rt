@@ -1,4 +1,4 @@
-//! What a run keeps: a hub, and peers with their sessions.
+//! What a run keeps: a hub, peers with their sessions, and lone clients.
 
 ghost use Rattle.std.specs.Prelude.{◌≡◌, [], IfOk};
 ghost use Rattle.history.specs.Keeping.{state_of};
@@ -7,6 +7,7 @@ ghost use Rattle.replay.specs.World.{World as Plain, world_of, cut_peer, number_
 ghost use Rattle.replay.specs.Text.{asked_to_stop};
 ghost use Rattle.replay.specs.KeptWorlds.{IsWorld, named};
 
+use crate::seats::Seat;
 use dsosession::session::Timers;
 use history::Homes;
 use push_base::NoMemory;
@@ -22,13 +23,15 @@ pub struct Peer {
     pub session: u64,
 }
 
-/// The hub, and the peers that have a session.
+/// The hub, the peers that have a session, and the lone clients.
 #[derive(Drop)]
 pub struct World {
     /// The history and the sessions.
     pub hub: Hub,
     /// The peers, in the order in which they were connected.
     pub peers: Vec<Peer>,
+    /// The lone clients, in the order of their lines.
+    pub seats: Vec<Seat>,
 }
 
 // The number of the session of a word.
@@ -51,7 +54,7 @@ fn take_out(peers: &mut Vec<Peer>, word: &str)
 }
 
 impl World {
-    /// The world with which a script starts: these homes and timers, and no peers.
+    /// The world with which a script starts: these homes and timers, no peers and no clients.
     pub fn new(alloc: Global, homes: Homes, timers: Timers) -> Result<World, NoMemory>
         requires { IsStart (state_of homes) }
         ensures { IfOk result (λ kept. IsWorld kept (world_of (record { timers = timers; start = state_of homes; links = [] }))) }
@@ -59,6 +62,7 @@ impl World {
         Ok(World {
             hub: Hub::new(homes, timers)?,
             peers: Vec::new(alloc),
+            seats: Vec::new(alloc),
         })
     }
 

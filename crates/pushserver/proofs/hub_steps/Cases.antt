@@ -1,4 +1,5 @@
 -- The cases of a hub's calls, whatever its sessions keep: what each does, as a function of what was found.
+--     ends_as      a session ends
 --     update_as, moment_as      by the verdict on an update; by the time and the journal's room
 --     key_as, session_as      a RECONFIRM by the key of its record; a message by the session
 --     request_as, clocks_as, itself_as      a message by its head: what is needed for it, the clocks behind it, what a session makes of it by itself
@@ -12,11 +13,12 @@ use Rattle.dsotlv.specs.declared.message.DsoHead.{DsoHead}
 use Rattle.dsosession.specs.Reactions.{server_reaction, is_keepalive}
 use Rattle.dsosession.specs.Timing.{Clocks, restarted}
 use Rattle.dsosession.specs.declared.session.Timers.{Timers}
+use Rattle.dsosession.specs.declared.session.EndReason.{EndReason}
 use Rattle.dsosession.specs.declared.session.EndReason.TheVariants as ends
 use Rattle.history.specs.States.{accepts}
 use Rattle.history.specs.declared.entry.Entry.TheVariants as entries
 use Rattle.pushsession.specs.declared.standing.Standing.{Standing}
-use Rattle.pushsession.specs.Sessions.{SessionOf, Keeps, timed, without_first}
+use Rattle.pushsession.specs.Sessions.{SessionOf, Keeps, ended_with, timed, without_first}
 use Rattle.pushsession.specs.Subscribing.{packs}
 use Rattle.pushsession.specs.Reactions.{restarted_by, request_in, request_for, by_itself, ends_short}
 use Rattle.pushsession.specs.declared.request.Request.{Request}
@@ -41,6 +43,10 @@ itself_as keeps timers t message session None = ends_short keeps session
 itself_as keeps timers t message session (Some head) = by_itself keeps (server_reaction head session.established) timers t message session
 
 module _ {A Q M : Type 0} {kind : SessionKind A Q M} where
+  -- a session ends
+  abbrev pub ends_as : ℕ → EndReason → HubOf kind → HubOf kind
+  ends_as number reason hub = in_session number (ended_with (keeps_now hub) reason) hub
+
   -- ---- an update, a moment
 
   abbrev pub enters_update : HubOf kind → Update → Bool → ℕ × HubOf kind

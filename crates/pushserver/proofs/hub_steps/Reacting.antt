@@ -31,7 +31,7 @@ use Rattle.pushsession.specs.Reactions.{restarted_by, request_in, request_for, r
 use Rattle.pushsession.specs.declared.request.Request.TheVariants as requests
 use Rattle.pushserver.specs.PlainHubs.{Hub, Session, plain_keeps, plain_tells}
 use Rattle.pushserver.specs.Hubs.{Numbered, session_in, in_sessions, newest, now, state_now, records_now, session_of, in_session, entered, can_enter, update}
-use Rattle.pushserver.specs.Giving.{ends_as, has_home, subscribes, reconfirms, updates, by_request, reacted}
+use Rattle.pushserver.specs.Giving.{has_home, subscribes, reconfirms, updates, by_request, reacted}
 use Rattle.pushserver.specs.KeptHubs.{KeptHub, StandsFor}
 use Rattle.dsotlv.specs.Laws.{AreOctets}
 use Rattle.pushserver.specs.Simulation.{BothAnswer}
@@ -43,7 +43,7 @@ use Rattle.pushserver.proofs.session_steps.Octets.{question-named}
 use Rattle.pushserver.proofs.session_steps.Accepting.{answered-keeps}
 use Rattle.pushserver.proofs.told_rows.HubTells.{hub_told}
 use Rattle.pushserver.proofs.hub_steps.Standing.{kept_of, Stands, with_kept, fitting, in-stands, found-stands, FoundBoth, both_found}
-use Rattle.pushserver.proofs.hub_steps.Cases.{enters_update, update_as, key_as, session_as, request_as}
+use Rattle.pushserver.proofs.hub_steps.Cases.{ends_as, enters_update, update_as, key_as, session_as, request_as}
 use Rattle.pushserver.proofs.hub_steps.Entering.{plain_noted}
 use Rattle.pushserver.proofs.hub_steps.Calls.{tells-now, update-stands}
 

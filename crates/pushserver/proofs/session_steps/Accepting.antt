@@ -1,8 +1,7 @@
 -- A kept session and the plain one: the reaction to a SUBSCRIBE.
 --     verdict-alike      the verdict
---     Passed, passed      what an accepted question has passed
 --     answered-keeps      what each verdict does
-use Rattle.std.proofs.Common.{◌≡◌, ℕ, ◌+◌, ◌-◌, ◌≤◌, ◌^◌, Bool, true, false, cond, not, ◌||◌, List, [], ◌∷◌, ◌++◌, length, min, Option, Some, None, refl, sym, ◌∙◌, ap, subst, arith}
+use Rattle.std.proofs.Common.{◌≡◌, ℕ, ◌+◌, ◌-◌, ◌≤◌, ◌^◌, Bool, false, cond, not, ◌||◌, List, [], ◌∷◌, ◌++◌, length, min, Option, Some, None, refl, sym, ◌∙◌, ap, subst, arith}
 use Rattle.std.specs.Prelude.{IsTrue, find, filter, option_map, nat_le, ◌==◌}
 use Rattle.std.proofs.lemmas.Bool.{leb-false}
 use Rattle.zoneupdate.proofs.Filters.{and-both}
@@ -28,9 +27,9 @@ use Rattle.coalesce.proofs.KindsOf.{any-map}
 use Rattle.coalesce.proofs.ReadBack.{each-append}
 use Rattle.history.proofs.Together.{same_name-turned}
 use Rattle.pushsession.specs.Kept.{KeptSession, Filled, keeping, telling}
-use Rattle.pushsession.specs.Sessions.{Keeps}
 use Rattle.pushsession.specs.Subscribing as subscribing
 use Rattle.pushsession.specs.Subscribing.{Verdict, is_served, verdict_on, subscribed, says_first_answer, first_answer_size, accepts, decided, answered}
+use Rattle.pushsession.proofs.Passing.{Passed, passed}
 use Rattle.pushserver.specs.PlainHubs.{Hub, Session, Subscription, Queue, size_of_made, subscription_for, leaves_queue, plain_keeps, plain_tells}
 use Rattle.pushserver.specs.Hubs.{state_now, records_now}
 use Rattle.pushserver.specs.Giving.{has_home}
@@ -52,34 +51,6 @@ tested question has_home id used active count =
       | Some other ↦ subscribing.Abort (ends.Twice other)
       | None ↦ cond (not (is_served question.class) || not has_home) (subscribing.Refuse notauth) (cond (nat_le max_questions count) (subscribing.Refuse refused) (subscribing.Accept question))
     ])
-
--- what an accepted question has passed
-pub record Passed {A Q M : Type 0} (keeps : Keeps A Q M) (id : ℕ) (question : Question) (has_home : Bool) (subscriptions : A) : Type 0 where
-  pub new_id : keeps.has_id id subscriptions ≡ false
-  pub new_question : keeps.id_of question subscriptions ≡ None
-  pub class : is_served question.class ≡ true
-  pub home : has_home ≡ true
-  pub room : nat_le max_questions (keeps.count subscriptions) ≡ false
-
-module _ {A Q M : Type 0} (keeps : Keeps A Q M) (id : ℕ) (has_home : Bool) (subscriptions : A) where
-  passed : (given : Option Question) (question : Question) → verdict_on keeps id given has_home subscriptions ≡ subscribing.Accept question → (given ≡ Some question) × Passed keeps id question has_home subscriptions
-  passed None question e = absurd cc
-  passed (Some q) question e = by (keeps.has_id id subscriptions) refl (keeps.id_of q subscriptions) refl (is_served q.class) refl has_home refl (nat_le max_questions (keeps.count subscriptions)) refl e
-    where
-      by : (used : Bool) → keeps.has_id id subscriptions ≡ used → (active : Option ℕ) → keeps.id_of q subscriptions ≡ active → (served : Bool) → is_served q.class ≡ served
-          → (home : Bool) → has_home ≡ home → (full : Bool) → nat_le max_questions (keeps.count subscriptions) ≡ full
-          → cond used (subscribing.Abort (ends.IdInUse id)) (elim active as (λ _. Verdict) [
-            | Some other ↦ subscribing.Abort (ends.Twice other)
-            | None ↦ cond (not served || not home) (subscribing.Refuse notauth) (cond full (subscribing.Refuse refused) (subscribing.Accept q))
-          ]) ≡ subscribing.Accept question → (Some q ≡ Some question) × Passed keeps id question has_home subscriptions
-      by true u active a served s home h full f e = absurd cc
-      by false u (Some other) a served s home h full f e = absurd cc
-      by false u None a false s home h full f e = absurd cc
-      by false u None a true s false h full f e = absurd cc
-      by false u None a true s true h true f e = absurd cc
-      by false u None a true s true h false f e =
-          let same : q ≡ question = cc in
-          (ap (λ q. Some q) same, subst (λ q. Passed keeps id q has_home subscriptions) same (record { new_id = u; new_question = a; class = s; home = h; room = f }))
 
 module _ (hub : Hub) (n : ℕ) (k : ℕ × KeptSession) (p : ℕ × Session) (s : SessionFits hub k p) where
   has_alike : (id : ℕ) → keeping.has_id id k.1.subscriptions ≡ (plain_keeps n).has_id id p.1.subscriptions

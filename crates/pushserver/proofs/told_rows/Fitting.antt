@@ -1,6 +1,7 @@
 -- The records of a zone stay as they are told, through each change and the rise of the serial.
 --     is_fit e      as `is_tellable`, but for the length of rdata, which follows from the size of all records of a name
 --     fit-after      all changes and the serial; all-good      changes that were read and passed the prescan; all-tellable      with room at each name
+--     tellable-parts      a record that can be told is fit
 use Rattle.std.proofs.Common.{◌≡◌, ℕ, ◌+◌, ◌%◌, ◌^◌, ◌<◌, ◌≤◌, Bool, true, false, cond, not, ◌&&◌, ltb, leb, List, [], ◌∷◌, ◌++◌, map, fold, length, drop, Option, Some, None, Result, Ok, Err, is_ok, ◌==◌, refl, sym, ap, ◌∙◌, arith, w32}
 use Rattle.std.specs.Int.{to_be_bytes}
 use Rattle.std.specs.List.{list_all, AllByRecursion}
@@ -230,7 +231,7 @@ room-rest e rows room name = by (same_name name e.0.owner) (room name)
 tellable-from : (e : Key × Shown) → is_fit e ≡ true → ltb (length e.1.rdata) (2 ^ 16) ≡ true → is_tellable e ≡ true
 tellable-from e h short =
     let is = fit e h in
-    and-both _ _ (and-both _ _ (and-both _ _ (and-both _ _ (and-both _ _ (and-both _ _ is.owner is.class) is.width) is.kind) is.shape) short) is.ttl
+    and-both _ _ (and-both _ _ (and-both _ _ (and-both _ _ (and-both _ _ (and-both _ _ (and-both _ _ (same_name-itself e.0.owner) is.owner) is.class) is.width) is.kind) is.shape) short) is.ttl
 
 pub all-tellable : (rows : RecordSet) → AreFit rows → HaveRoom rows → list_all is_tellable rows ≡ true
 all-tellable [] h room = refl
@@ -238,14 +239,36 @@ all-tellable (e ∷ rows) h room =
     and-both _ _ (tellable-from e (and-left (is_fit e) (list_all is_fit rows) h) (room-first e rows room))
     (all-tellable rows (and-right (is_fit e) (list_all is_fit rows) h) (room-rest e rows room))
 
--- the same the other way
-pub fit-tellable : (e : Key × Shown) → is_tellable e ≡ true → is_fit e ≡ true
-fit-tellable e h =
-    let front = is_name e.1.owner && e.0.class == in_class && ltb e.0.kind (2 ^ 16) && not (e.0.kind == any_kind) && shape_fits e.0.kind e.1.rdata in
+-- the same the other way: a record that can be told is fit, and short enough
+pub tellable-parts : (e : Key × Shown) → is_tellable e ≡ true → Fit e × (ltb (length e.1.rdata) (2 ^ 16) ≡ true)
+tellable-parts e h =
+    let own = same_name e.0.owner e.0.owner in
+    let owner = is_name e.1.owner in
+    let class = e.0.class == in_class in
+    let width = ltb e.0.kind (2 ^ 16) in
+    let kind = not (e.0.kind == any_kind) in
+    let shape = shape_fits e.0.kind e.1.rdata in
     let short = ltb (length e.1.rdata) (2 ^ 16) in
     let ttl = leb e.1.ttl last_ttl in
-    let both = and-left (front && short) ttl h in
-    and-both front ttl (and-left front short both) (and-right (front && short) ttl h)
+    let seven = and-left (own && owner && class && width && kind && shape && short) ttl h in
+    let six = and-left (own && owner && class && width && kind && shape) short seven in
+    let five = and-left (own && owner && class && width && kind) shape six in
+    let four = and-left (own && owner && class && width) kind five in
+    let three = and-left (own && owner && class) width four in
+    let two = and-left (own && owner) class three in (
+      record {
+        owner = and-right own owner two;
+        class = and-right (own && owner) class three;
+        width = and-right (own && owner && class) width four;
+        kind = and-right (own && owner && class && width) kind five;
+        shape = and-right (own && owner && class && width && kind) shape six;
+        ttl = and-right (own && owner && class && width && kind && shape && short) ttl h;
+      },
+      and-right (own && owner && class && width && kind && shape) short seven,
+    )
+
+pub fit-tellable : (e : Key × Shown) → is_tellable e ≡ true → is_fit e ≡ true
+fit-tellable e h = is_fit-from e (tellable-parts e h).0
 
 pub all-fit : (rows : RecordSet) → list_all is_tellable rows ≡ true → AreFit rows
 all-fit [] h = refl

@@ -1,13 +1,11 @@
 -- What tellable zones hold is told: at each name, the records of its home zone.
 --     RowsTell rows, ZonesTell zones      rows of a zone, and of all zones, that can be told
 --     tellable-told      what tellable zones show together is told
-use Rattle.std.proofs.Common.{◌≡◌, ℕ, zero, suc, ◌^◌, ◌≤◌, Bool, true, false, cond, not, ◌&&◌, ltb, leb, List, [], ◌∷◌, length, filter, Option, Some, None, ◌==◌, refl, sym, subst, le-leb}
+use Rattle.std.proofs.Common.{◌≡◌, ℕ, zero, suc, ◌≤◌, Bool, true, false, cond, leb, List, [], ◌∷◌, filter, Option, Some, None, refl, sym, subst, le-leb}
 use Rattle.std.specs.Prelude.{slice_get, IsTrue}
 use Rattle.std.specs.List.{list_all, AllByRecursion}
 use Rattle.push_base.specs.Limits.{max_octets_at_name}
-use Rattle.dnsname.specs.Names.{Labels, is_name, same_name}
-use Rattle.rrset.specs.Kinds.{in_class, any_kind}
-use Rattle.rrset.specs.Rdata.{shape_fits}
+use Rattle.dnsname.specs.Names.{Labels, same_name}
 use Rattle.rrset.specs.RecordSet.{RecordSet, is_record_set, at_name, size_of}
 use Rattle.rrset.specs.declared.record.Key.{Key}
 use Rattle.rrset.specs.declared.record.Shown.{Shown}
@@ -22,7 +20,7 @@ use Rattle.history.specs.declared.entry.Home.{Home}
 use Rattle.history.specs.declared.entry.Home.TheVariants as homes
 use Rattle.history.proofs.ShownAtHome.{rows_at, at_name-zones}
 use Rattle.pushserver.specs.Rows.{AreTold, is_tellable, IsTellable}
-use Rattle.pushserver.proofs.told_rows.Fitting.{HaveRoom}
+use Rattle.pushserver.proofs.told_rows.Fitting.{HaveRoom, tellable-parts}
 
 -- ---- one zone
 
@@ -34,23 +32,12 @@ pub record RowsTell (rows : RecordSet) : Type 0 where
 
 sent-from : (name : Labels) (e : Key × Shown) → same_name name e.0.owner ≡ true → is_tellable e ≡ true → is_sent_so name e ≡ true
 sent-from name e at h =
-    let owner = is_name e.1.owner in
-    let class = e.0.class == in_class in
-    let width = ltb e.0.kind (2 ^ 16) in
-    let kind = not (e.0.kind == any_kind) in
-    let shape = shape_fits e.0.kind e.1.rdata in
-    let short = ltb (length e.1.rdata) (2 ^ 16) in
-    let ttl = leb e.1.ttl last_ttl in
-    let six = and-left (owner && class && width && kind && shape && short) ttl h in
-    let five = and-left (owner && class && width && kind && shape) short six in
-    let four = and-left (owner && class && width && kind) shape five in
-    let three = and-left (owner && class && width) kind four in
-    let two = and-left (owner && class) width three in
-    and-both _ _ (and-both _ _ (and-both _ _ (and-both _ _ (and-both _ _ (and-both _ _ at (and-left owner class two)) (and-right owner class two)) (and-right (owner && class) width three)) (and-right (owner && class && width) kind four))
-    (and-right (owner && class && width && kind) shape five)) (and-right (owner && class && width && kind && shape) short six)
+    let both = tellable-parts e h in
+    let is = both.0 in
+    and-both _ _ (and-both _ _ (and-both _ _ (and-both _ _ (and-both _ _ (and-both _ _ at is.owner) is.class) is.width) is.kind) is.shape) both.1
 
 ttl-from : (e : Key × Shown) → is_tellable e ≡ true → leb e.1.ttl last_ttl ≡ true
-ttl-from e h = and-right (is_name e.1.owner && e.0.class == in_class && ltb e.0.kind (2 ^ 16) && not (e.0.kind == any_kind) && shape_fits e.0.kind e.1.rdata && ltb (length e.1.rdata) (2 ^ 16)) (leb e.1.ttl last_ttl) h
+ttl-from e h = (tellable-parts e h).0.ttl
 
 -- what follows of the elements that pass a test holds of those that are picked out by it
 all-picked : {X : Type 0} (f p g : X → Bool) → ((x : X) → p x ≡ true → f x ≡ true → g x ≡ true) → (xs : List X) → list_all f xs ≡ true → list_all g (filter p xs) ≡ true

@@ -135,6 +135,10 @@ record IsOther (w : Word) : Type 0 where
   no_send : is w (codes "send") ≡ false
   no_stop : is w (codes "stop") ≡ false
   no_point : is w (codes "point") ≡ false
+  no_lone : is w (codes "lone") ≡ false
+  no_ask : is w (codes "ask") ≡ false
+  no_drop : is w (codes "drop") ≡ false
+  no_open : is w (codes "open") ≡ false
 
 other_built : (w : Word) (ws : List Word) → IsOther w → understood (by_first_word w ws) ≡ None
 other_built w ws o = chosen_none built_line (lines_by w ws) (
@@ -146,7 +150,7 @@ other_built w ws o = chosen_none built_line (lines_by w ws) (
       (
         inr (word_none built_line client (λ v. refl) ws),
         (
-          inr (word_none built_line lone (λ v. refl) ws),
+          inl o.no_lone,
           (
             inl o.no_at,
             (
@@ -154,13 +158,13 @@ other_built w ws o = chosen_none built_line (lines_by w ws) (
               (
                 inr (word_octets_none built_line hear (λ v o. refl) ws),
                 (
-                  inr (word_question_none built_line ask (λ v q. refl) ws),
+                  inl o.no_ask,
                   (
-                    inr (word_question_none built_line drop_question (λ v q. refl) ws),
+                    inl o.no_drop,
                     (
                       inr (reconfirm_none built_line (λ v rr. refl) ws),
                       (
-                        inr (word_none built_line open_connection (λ v. refl) ws),
+                        inl o.no_open,
                         (
                           inl o.no_cut,
                           (
@@ -264,22 +268,44 @@ point_built : (ws : List Word) → understood (alone point ws) ≡ alone point w
 point_built [] = refl
 point_built (w ∷ ws) = refl
 
+lone_built : (ws : List Word) → understood (of_word lone ws) ≡ of_word lone ws
+lone_built [] = refl
+lone_built (w ∷ []) = map_built (word w) (λ p. lone p) (λ p. refl)
+lone_built (w ∷ v ∷ ws) = refl
+
+open_built : (ws : List Word) → understood (of_word open_connection ws) ≡ of_word open_connection ws
+open_built [] = refl
+open_built (w ∷ []) = map_built (word w) (λ p. open_connection p) (λ p. refl)
+open_built (w ∷ v ∷ ws) = refl
+
+question_built : (line : Word → Question → ScriptLine) → ((w : Word) (q : Question) → built_line (line w q) ≡ Some (line w q)) → (ws : List Word) → understood (of_word_and_question line ws) ≡ of_word_and_question line ws
+question_built line h [] = refl
+question_built line h (w ∷ []) = refl
+question_built line h (w ∷ n ∷ []) = refl
+question_built line h (w ∷ n ∷ k ∷ []) = refl
+question_built line h (w ∷ n ∷ k ∷ c ∷ []) = bind_built (word w) _ (λ p. bind_built (question n k c) _ (λ q. h p q))
+question_built line h (w ∷ n ∷ k ∷ c ∷ v ∷ ws) = refl
+
 pub is_that : (w v : Word) → is w v ≡ true → w ≡ v
 is_that w v h = (bytes_eq-Decides w v).0 h
 
-abbrev kind_by : Bool → Bool → Bool → Bool → Bool → Bool → Bool → Bool → Kind
-kind_by a b c d e f g h = cond a kinds.Timers (cond b kinds.Zone (cond c kinds.At (cond d kinds.Update (cond e kinds.Cut (cond f kinds.Send (cond g kinds.Stop (cond h kinds.Point kinds.Other)))))))
+abbrev kind_by : Bool → Bool → Bool → Bool → Bool → Bool → Bool → Bool → Bool → Bool → Bool → Bool → Kind
+kind_by a b c d e f g h i j k l = cond a kinds.Timers (cond b kinds.Zone (cond c kinds.At (cond d kinds.Update (cond e kinds.Cut (cond f kinds.Send (cond g kinds.Stop (cond h kinds.Point (cond i kinds.Lone (cond j kinds.Ask (cond k kinds.Drop (cond l kinds.Open kinds.Other)))))))))))
 
 other_kind : (w : Word) → IsOther w → kind_of w ≡ kinds.Other
 other_kind w o =
-    ap (λ (x : Bool). kind_by x (is w (codes "zone")) (is w (codes "at")) (is w (codes "update")) (is w (codes "cut")) (is w (codes "send")) (is w (codes "stop")) (is w (codes "point"))) o.no_timers
-    ∙ ap (λ (x : Bool). kind_by false x (is w (codes "at")) (is w (codes "update")) (is w (codes "cut")) (is w (codes "send")) (is w (codes "stop")) (is w (codes "point"))) o.no_zone
-    ∙ ap (λ (x : Bool). kind_by false false x (is w (codes "update")) (is w (codes "cut")) (is w (codes "send")) (is w (codes "stop")) (is w (codes "point"))) o.no_at
-    ∙ ap (λ (x : Bool). kind_by false false false x (is w (codes "cut")) (is w (codes "send")) (is w (codes "stop")) (is w (codes "point"))) o.no_update
-    ∙ ap (λ (x : Bool). kind_by false false false false x (is w (codes "send")) (is w (codes "stop")) (is w (codes "point"))) o.no_cut
-    ∙ ap (λ (x : Bool). kind_by false false false false false x (is w (codes "stop")) (is w (codes "point"))) o.no_send
-    ∙ ap (λ (x : Bool). kind_by false false false false false false x (is w (codes "point"))) o.no_stop
-    ∙ ap (λ (x : Bool). kind_by false false false false false false false x) o.no_point
+    ap (λ (x : Bool). kind_by x (is w (codes "zone")) (is w (codes "at")) (is w (codes "update")) (is w (codes "cut")) (is w (codes "send")) (is w (codes "stop")) (is w (codes "point")) (is w (codes "lone")) (is w (codes "ask")) (is w (codes "drop")) (is w (codes "open"))) o.no_timers
+    ∙ ap (λ (x : Bool). kind_by false x (is w (codes "at")) (is w (codes "update")) (is w (codes "cut")) (is w (codes "send")) (is w (codes "stop")) (is w (codes "point")) (is w (codes "lone")) (is w (codes "ask")) (is w (codes "drop")) (is w (codes "open"))) o.no_zone
+    ∙ ap (λ (x : Bool). kind_by false false x (is w (codes "update")) (is w (codes "cut")) (is w (codes "send")) (is w (codes "stop")) (is w (codes "point")) (is w (codes "lone")) (is w (codes "ask")) (is w (codes "drop")) (is w (codes "open"))) o.no_at
+    ∙ ap (λ (x : Bool). kind_by false false false x (is w (codes "cut")) (is w (codes "send")) (is w (codes "stop")) (is w (codes "point")) (is w (codes "lone")) (is w (codes "ask")) (is w (codes "drop")) (is w (codes "open"))) o.no_update
+    ∙ ap (λ (x : Bool). kind_by false false false false x (is w (codes "send")) (is w (codes "stop")) (is w (codes "point")) (is w (codes "lone")) (is w (codes "ask")) (is w (codes "drop")) (is w (codes "open"))) o.no_cut
+    ∙ ap (λ (x : Bool). kind_by false false false false false x (is w (codes "stop")) (is w (codes "point")) (is w (codes "lone")) (is w (codes "ask")) (is w (codes "drop")) (is w (codes "open"))) o.no_send
+    ∙ ap (λ (x : Bool). kind_by false false false false false false x (is w (codes "point")) (is w (codes "lone")) (is w (codes "ask")) (is w (codes "drop")) (is w (codes "open"))) o.no_stop
+    ∙ ap (λ (x : Bool). kind_by false false false false false false false x (is w (codes "lone")) (is w (codes "ask")) (is w (codes "drop")) (is w (codes "open"))) o.no_point
+    ∙ ap (λ (x : Bool). kind_by false false false false false false false false x (is w (codes "ask")) (is w (codes "drop")) (is w (codes "open"))) o.no_lone
+    ∙ ap (λ (x : Bool). kind_by false false false false false false false false false x (is w (codes "drop")) (is w (codes "open"))) o.no_ask
+    ∙ ap (λ (x : Bool). kind_by false false false false false false false false false false x (is w (codes "open"))) o.no_drop
+    ∙ ap (λ (x : Bool). kind_by false false false false false false false false false false false x) o.no_open
 
 abbrev IsBuiltBy : List Word → Word → Type 0
 IsBuiltBy ws w = understood (by_first_word w ws) ≡ said_behind (kind_of w) ws
@@ -301,8 +327,12 @@ first_word_built w ws =
     by_word (codes "send") w ws (send_built ws) (λ no_send.
     by_word (codes "stop") w ws (stop_built ws) (λ no_stop.
     by_word (codes "point") w ws (point_built ws) (λ no_point.
-    let o : IsOther w = record { no_timers = no_timers; no_zone = no_zone; no_at = no_at; no_update = no_update; no_cut = no_cut; no_send = no_send; no_stop = no_stop; no_point = no_point } in
-    other_built w ws o ∙ sym (ap (λ (k : Kind). said_behind k ws) (other_kind w o))))))))))
+    by_word (codes "lone") w ws (lone_built ws) (λ no_lone.
+    by_word (codes "ask") w ws (question_built ask (λ p q. refl) ws) (λ no_ask.
+    by_word (codes "drop") w ws (question_built drop_question (λ p q. refl) ws) (λ no_drop.
+    by_word (codes "open") w ws (open_built ws) (λ no_open.
+    let o : IsOther w = record { no_timers = no_timers; no_zone = no_zone; no_at = no_at; no_update = no_update; no_cut = no_cut; no_send = no_send; no_stop = no_stop; no_point = no_point; no_lone = no_lone; no_ask = no_ask; no_drop = no_drop; no_open = no_open } in
+    other_built w ws o ∙ sym (ap (λ (k : Kind). said_behind k ws) (other_kind w o))))))))))))))
 
 -- ---- a line
 

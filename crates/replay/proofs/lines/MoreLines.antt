@@ -1,13 +1,15 @@
 -- A further line behind others.
 --     AreLines front taken      the lines so far make the head and the events
 --     adds      what a line that may stand there makes of them
-use Rattle.std.proofs.Common.{◌≡◌, ℕ, ◌+◌, Bool, true, false, ◌==◌, Option, Some, None, List, [], ◌∷◌, ◌++◌, length, zero, suc, refl, sym, ◌∙◌, ap, subst, arith, length-append}
-use Rattle.std.specs.Prelude.{is_some, unwrap_or, All}
-use Rattle.std.specs.List.{AllByRecursion}
+use Rattle.std.proofs.Common.{◌≡◌, ℕ, ◌+◌, Bool, true, false, cond, not, ◌||◌, ◌==◌, Option, Some, None, List, [], ◌∷◌, ◌++◌, map, find, length, zero, suc, refl, sym, ◌∙◌, ap, subst, arith, append_assoc, length-append}
+use Rattle.std.specs.Prelude.{is_some, option_map, string_bytes, unwrap_or, All}
+use Rattle.std.specs.List.{AllByRecursion, list_any}
+use Rattle.std.specs.Str.{bytes_eq}
 use Rattle.std.proofs.lemmas.Bool.Decides.{nat_tests}
 use Rattle.std.proofs.lemmas.List.{append-nil, map-append}
 use Rattle.std.proofs.lemmas.List.Elements.{All-append}
 use Rattle.dnsname.proofs.Decisions.{and_true}
+use Rattle.rrset.proofs.Distinct.{distinct_push, distinct_none}
 use Rattle.coalesce.proofs.ReadBack.{each-append}
 use Rattle.dsosession.specs.declared.session.Timers.{Timers}
 use Rattle.dsosession.specs.Timing.{default_timers}
@@ -17,7 +19,7 @@ use Rattle.history.specs.States.{State}
 use Rattle.history.specs.Plans.{IsStart}
 use Rattle.history.specs.Keeping.{HomesKept, state_of}
 use Rattle.replay.specs.Lines.{Word, ScriptLine}
-use Rattle.replay.specs.Scripts.{Known, fits, allowed, in_events}
+use Rattle.replay.specs.Scripts.{Known, fits, allowed, is_among, is_peer, client_word}
 use Rattle.replay.specs.World.{Head, empty_head, with_head_line}
 use Rattle.replay.specs.declared.line.ZoneLine.{ZoneLine}
 use Rattle.replay.specs.declared.line.Event.{Event}
@@ -25,9 +27,11 @@ use Rattle.replay.specs.declared.line.Event.TheVariants as events
 use Rattle.replay.specs.declared.line.Line.{Line}
 use Rattle.replay.specs.declared.line.Line.TheVariants as lines
 use Rattle.replay.specs.KeptLines.{timers_said, zone_said, event_said, said, IsEvent, IsSound}
-use Rattle.replay.specs.KeptScripts.{events_said}
-use Rattle.replay.specs.Drafts.{Taken, known_of, may_stand, with_zone, HasZone, GrowsBy}
+use Rattle.replay.specs.KeptScripts.{events_said, seats_named}
+use Rattle.replay.specs.KeptWorlds.{AreDistinct}
+use Rattle.replay.specs.Drafts.{Taken, known_of, may_happen, may_stand, in_list, with_zone, HasZone, GrowsBy}
 use Rattle.replay.specs.BuiltScripts.{is_built}
+use Rattle.replay.proofs.worlds.Seats.{same_word, word_itself, other_way}
 use Rattle.replay.proofs.lines.Happening.{happening, happening-more, head_behind, head-more}
 
 abbrev pub head_of : Option Timers → State → Head
@@ -42,15 +46,17 @@ pub record AreLines (front : List ScriptLine) (taken : Taken) : Type 0 where
   pub head : head_behind empty_head front ≡ head_taken taken
   pub start : IsStart (state_of taken.homes)
   pub are_events : AllByRecursion IsEvent (events_said taken.events)
+  pub named : seats_named (events_said taken.events) ≡ taken.clients
+  pub distinct : AreDistinct taken.clients
 
 abbrev pub nothing_taken : Taken
-nothing_taken = record { timers = None; homes = []; events = [] }
+nothing_taken = record { timers = None; homes = []; events = []; clients = [] }
 
 no_start : IsStart (state_of [])
 no_start = record { zones = λ k d before. absurd (omega (arith, before)); links = λ k d before. absurd (omega (arith, before)); now = refl }
 
 pub no_lines : AreLines [] nothing_taken
-no_lines = record { happen = refl; head = refl; start = no_start; are_events = tt }
+no_lines = record { happen = refl; head = refl; start = no_start; are_events = tt; named = refl; distinct = distinct_none bytes_eq }
 
 -- what a line that may stand there makes of the head and the events
 pub record Adds (all : List Word) (taken : Taken) (line : Line) (later : Taken) : Type 0 where
@@ -76,7 +82,7 @@ silent_adds : (all : List Word) (taken : Taken) → Adds all taken lines.Silent 
 silent_adds all taken = record {
   built = refl;
   fit = refl;
-  lines = λ front are. record { happen = happen-head front taken _ are refl; head = head-then front taken _ are; start = are.start; are_events = are.are_events };
+  lines = λ front are. record { happen = happen-head front taken _ are refl; head = head-then front taken _ are; start = are.start; are_events = are.are_events; named = are.named; distinct = are.distinct };
 }
 
 abbrev with_timers : Taken → Timers → Taken
@@ -86,7 +92,7 @@ timers_adds : (all : List Word) (taken : Taken) (t : Timers) → may_stand all (
 timers_adds all taken t h = record {
   built = refl;
   fit = allowed_some _ _ h;
-  lines = λ front are. record { happen = happen-head front taken (timers_said t) are refl; head = head-then front taken (timers_said t) are; start = are.start; are_events = are.are_events };
+  lines = λ front are. record { happen = happen-head front taken (timers_said t) are refl; head = head-then front taken (timers_said t) are; start = are.start; are_events = are.are_events; named = are.named; distinct = are.distinct };
 }
 
 -- ---- a zone
@@ -116,27 +122,82 @@ zone_adds all taken homes z h has = record {
     head = head-then front taken (zone_said z) are ∙ ap (head_of taken.timers) (sym has.state);
     start = subst IsStart (sym has.state) (start_more (state_of taken.homes) z are.start);
     are_events = are.are_events;
+    named = are.named;
+    distinct = are.distinct;
   };
 }
 
 -- ---- an event
 
 abbrev with_event : Taken → Event → Taken
-with_event taken e = record taken { events = taken.events ++ e ∷ [] }
+with_event taken e = record taken { events = taken.events ++ e ∷ []; clients = taken.clients ++ in_list (client_word (event_said e)) }
 
 not_empty : {X : Type 0} (xs : List X) (x : X) → false ≡ (length (xs ++ x ∷ []) == 0)
 not_empty xs x = let size : length (xs ++ x ∷ []) ≡ length xs + 1 = length-append xs (x ∷ []) in grind (arith, nat_tests)
 
-known_then : (taken : Taken) (e : Event) → Some (in_events (known_of taken)) ≡ Some (known_of (with_event taken e))
-known_then taken e = ap (λ (head : Bool). Some (record (known_of taken) { in_head = head })) (not_empty taken.events e)
+abbrev all_lone : List Word → List (Word × Bool)
+all_lone ws = map (λ w. (w, true)) ws
 
-event_fits : (all : List Word) (taken : Taken) (e : Event) → is_some (fits all (known_of taken) (event_said e)) ≡ true → fits all (known_of taken) (event_said e) ≡ Some (in_events (known_of taken))
-event_fits all taken (events.Update o) h = refl
-event_fits all taken (events.Send s) h = allowed_some _ _ h
-event_fits all taken events.Point h = refl
-event_fits all taken (events.At t) h = refl
-event_fits all taken (events.Stop s) h = allowed_some _ _ h
-event_fits all taken (events.Cut c) h = allowed_some _ _ h
+-- the head is over
+abbrev known_with : Taken → List Word → Bool → Known
+known_with taken clients head = record (known_of taken) { in_head = head; clients = all_lone clients }
+
+known_then : (taken : Taken) (e : Event) (clients : List Word) → taken.clients ++ in_list (client_word (event_said e)) ≡ clients → Some (known_with taken clients false) ≡ Some (known_of (with_event taken e))
+known_then taken e clients same = λ i. Some (known_with taken (sym same i) (not_empty taken.events e i))
+
+-- one of the lone clients
+client-known : (ws : List Word) (w : Word) → is_some (option_map (λ (e : Word × Bool). e.1) (find (λ (e : Word × Bool). bytes_eq w e.0) (all_lone ws))) ≡ is_among ws w
+client-known [] w = refl
+client-known (v ∷ ws) w = by (bytes_eq w v) (client-known ws w)
+  where
+    by : (b : Bool) → is_some (option_map (λ (e : Word × Bool). e.1) (find (λ (e : Word × Bool). bytes_eq w e.0) (all_lone ws))) ≡ is_among ws w
+        → is_some (option_map (λ (e : Word × Bool). e.1) (cond b (Some (v, true)) (find (λ (e : Word × Bool). bytes_eq w e.0) (all_lone ws)))) ≡ (b || is_among ws w)
+    by true h = refl
+    by false h = h
+
+-- none of them is a hub's
+no-hub-client : (ws : List Word) (w : Word)
+    → elim (option_map (λ (e : Word × Bool). e.1) (find (λ (e : Word × Bool). bytes_eq w e.0) (all_lone ws))) as (λ _. Bool) [ None ↦ false | Some is_lone ↦ not is_lone ] ≡ false
+no-hub-client [] w = refl
+no-hub-client (v ∷ ws) w = by (bytes_eq w v) (no-hub-client ws w)
+  where
+    by : (b : Bool)
+        → elim (option_map (λ (e : Word × Bool). e.1) (find (λ (e : Word × Bool). bytes_eq w e.0) (all_lone ws))) as (λ _. Bool) [ None ↦ false | Some is_lone ↦ not is_lone ] ≡ false
+        → elim (option_map (λ (e : Word × Bool). e.1) (cond b (Some (v, true)) (find (λ (e : Word × Bool). bytes_eq w e.0) (all_lone ws)))) as (λ _. Bool) [ None ↦ false | Some is_lone ↦ not is_lone ] ≡ false
+    by true h = refl
+    by false h = h
+
+some-allowed : (b : Bool) (known : Known) → is_some (allowed b known) ≡ b
+some-allowed true known = refl
+some-allowed false known = refl
+
+-- an event may stand there as its word may
+pub may-happen : (all : List Word) (taken : Taken) (e : Event) → may_stand all (known_of taken) (event_said e) ≡ may_happen all taken.clients e
+may-happen all taken (events.Update o) = refl
+may-happen all taken (events.Send s) = some-allowed _ _
+may-happen all taken events.Point = refl
+may-happen all taken (events.At t) = refl
+may-happen all taken (events.Stop s) = some-allowed _ _ ∙ ap (λ (b : Bool). b || is_peer all (string_bytes s.word)) (no-hub-client taken.clients (string_bytes s.word))
+may-happen all taken (events.Cut c) = some-allowed _ _ ∙ ap (λ (b : Bool). b || is_peer all (string_bytes c.word)) (client-known taken.clients (string_bytes c.word))
+may-happen all taken (events.Lone l) = some-allowed _ _ ∙ ap not (client-known taken.clients (string_bytes l.word))
+may-happen all taken (events.Ask a) = some-allowed _ _ ∙ client-known taken.clients (string_bytes a.word)
+may-happen all taken (events.Drop a) = some-allowed _ _ ∙ client-known taken.clients (string_bytes a.word)
+may-happen all taken (events.Open o) = some-allowed _ _ ∙ client-known taken.clients (string_bytes o.word)
+
+event_fits : (all : List Word) (taken : Taken) (e : Event) → is_some (fits all (known_of taken) (event_said e)) ≡ true → fits all (known_of taken) (event_said e) ≡ Some (known_of (with_event taken e))
+event_fits all taken (events.Update o) h = known_then taken (events.Update o) taken.clients (append-nil taken.clients)
+event_fits all taken (events.Send s) h = allowed_some _ _ h ∙ known_then taken (events.Send s) taken.clients (append-nil taken.clients)
+event_fits all taken events.Point h = known_then taken events.Point taken.clients (append-nil taken.clients)
+event_fits all taken (events.At t) h = known_then taken (events.At t) taken.clients (append-nil taken.clients)
+event_fits all taken (events.Stop s) h = allowed_some _ _ h ∙ known_then taken (events.Stop s) taken.clients (append-nil taken.clients)
+event_fits all taken (events.Cut c) h = allowed_some _ _ h ∙ known_then taken (events.Cut c) taken.clients (append-nil taken.clients)
+event_fits all taken (events.Lone l) h =
+    allowed_some _ _ h
+    ∙ ap (λ (cs : List (Word × Bool)). Some (record (known_of taken) { in_head = false; clients = cs })) (sym (map-append (λ (w : Word). (w, true)) taken.clients (string_bytes l.word ∷ [])))
+    ∙ known_then taken (events.Lone l) (taken.clients ++ string_bytes l.word ∷ []) refl
+event_fits all taken (events.Ask a) h = allowed_some _ _ h ∙ known_then taken (events.Ask a) taken.clients (append-nil taken.clients)
+event_fits all taken (events.Drop a) h = allowed_some _ _ h ∙ known_then taken (events.Drop a) taken.clients (append-nil taken.clients)
+event_fits all taken (events.Open o) h = allowed_some _ _ h ∙ known_then taken (events.Open o) taken.clients (append-nil taken.clients)
 
 event_happens : (e : Event) → happening (event_said e ∷ []) ≡ event_said e ∷ []
 event_happens (events.Update o) = refl
@@ -145,6 +206,10 @@ event_happens events.Point = refl
 event_happens (events.At t) = refl
 event_happens (events.Stop s) = refl
 event_happens (events.Cut c) = refl
+event_happens (events.Lone l) = refl
+event_happens (events.Ask a) = refl
+event_happens (events.Drop a) = refl
+event_happens (events.Open o) = refl
 
 event_heads : (head : Head) (e : Event) → with_head_line head (event_said e) ≡ head
 event_heads head (events.Update o) = refl
@@ -153,6 +218,56 @@ event_heads head events.Point = refl
 event_heads head (events.At t) = refl
 event_heads head (events.Stop s) = refl
 event_heads head (events.Cut c) = refl
+event_heads head (events.Lone l) = refl
+event_heads head (events.Ask a) = refl
+event_heads head (events.Drop a) = refl
+event_heads head (events.Open o) = refl
+
+pub event-built : (e : Event) → is_built (event_said e) ≡ true
+event-built (events.Update o) = refl
+event-built (events.Send s) = refl
+event-built events.Point = refl
+event-built (events.At t) = refl
+event-built (events.Stop s) = refl
+event-built (events.Cut c) = refl
+event-built (events.Lone l) = refl
+event-built (events.Ask a) = refl
+event-built (events.Drop a) = refl
+event-built (events.Open o) = refl
+
+-- ---- the words of the clients
+
+seats_named-append : (xs ys : List ScriptLine) → seats_named (xs ++ ys) ≡ seats_named xs ++ seats_named ys
+seats_named-append [] ys = refl
+seats_named-append (x ∷ xs) ys = ap (λ (ws : List Word). in_list (client_word x) ++ ws) (seats_named-append xs ys) ∙ sym (append_assoc (in_list (client_word x)) (seats_named xs) (seats_named ys))
+
+not_true : (b : Bool) → not b ≡ true → b ≡ false
+not_true true h = absurd cc
+not_true false h = refl
+
+among-either : (ws : List Word) (w : Word) → list_any (λ (v : Word). bytes_eq v w) ws ≡ is_among ws w
+among-either [] w = refl
+among-either (v ∷ ws) w = λ i. word-either v w i || among-either ws w i
+  where
+    word-either : (v w : Word) → bytes_eq v w ≡ bytes_eq w v
+    word-either v w = by (bytes_eq w v) refl
+      where
+        by : (b : Bool) → bytes_eq w v ≡ b → bytes_eq v w ≡ b
+        by true e = ap (bytes_eq v) (same_word w v e) ∙ word_itself v
+        by false e = other_way w v e
+
+distinct-more : (all : List Word) (taken : Taken) (e : Event) → may_happen all taken.clients e ≡ true → AreDistinct taken.clients → AreDistinct (taken.clients ++ in_list (client_word (event_said e)))
+distinct-more all taken (events.Lone l) h d =
+    distinct_push bytes_eq taken.clients (string_bytes l.word) d (among-either taken.clients (string_bytes l.word) ∙ not_true (is_among taken.clients (string_bytes l.word)) h)
+distinct-more all taken (events.Update o) h d = subst AreDistinct (sym (append-nil taken.clients)) d
+distinct-more all taken (events.Send s) h d = subst AreDistinct (sym (append-nil taken.clients)) d
+distinct-more all taken events.Point h d = subst AreDistinct (sym (append-nil taken.clients)) d
+distinct-more all taken (events.At t) h d = subst AreDistinct (sym (append-nil taken.clients)) d
+distinct-more all taken (events.Stop s) h d = subst AreDistinct (sym (append-nil taken.clients)) d
+distinct-more all taken (events.Cut c) h d = subst AreDistinct (sym (append-nil taken.clients)) d
+distinct-more all taken (events.Ask a) h d = subst AreDistinct (sym (append-nil taken.clients)) d
+distinct-more all taken (events.Drop a) h d = subst AreDistinct (sym (append-nil taken.clients)) d
+distinct-more all taken (events.Open o) h d = subst AreDistinct (sym (append-nil taken.clients)) d
 
 event_adds : (all : List Word) (taken : Taken) (e : Event) → IsEvent (event_said e) → may_stand all (known_of taken) (event_said e) ≡ true → Adds all taken (lines.Event e) (with_event taken e)
 event_adds all taken e sound h =
@@ -160,7 +275,7 @@ event_adds all taken e sound h =
     let more : events_said (taken.events ++ e ∷ []) ≡ events_said taken.events ++ event_said e ∷ [] = map-append event_said taken.events (e ∷ []) in
     record {
       built = both.0;
-      fit = event_fits all taken e both.1 ∙ known_then taken e;
+      fit = event_fits all taken e both.1;
       lines = λ front are. record {
         happen =
             happening-more front (event_said e)
@@ -170,6 +285,11 @@ event_adds all taken e sound h =
         head = head-then front taken (event_said e) are ∙ event_heads (head_taken taken) e;
         start = are.start;
         are_events = subst (AllByRecursion IsEvent) (sym more) (each-append IsEvent (events_said taken.events) (event_said e ∷ []) are.are_events (sound, tt));
+        named =
+            ap seats_named more
+            ∙ seats_named-append (events_said taken.events) (event_said e ∷ [])
+            ∙ (λ i. are.named i ++ append-nil (in_list (client_word (event_said e))) i);
+        distinct = distinct-more all taken e (sym (may-happen all taken e) ∙ h) are.distinct;
       };
     }
 

@@ -1,6 +1,8 @@
 -- A script that is read line by line.
-use Rattle.std.proofs.Common.{◌≡◌, ℕ, ◌+◌, ◌≤◌, Bool, true, false, cond, ◌&&◌, Option, Some, None, Result, Ok, Err, List, [], ◌∷◌, ◌++◌, length, nat_lt, refl, sym, ◌∙◌, ap, subst, inl, inr, arith, append_assoc}
-use Rattle.std.specs.Prelude.{is_some, unwrap_or}
+use Rattle.std.proofs.Common.{◌≡◌, ℕ, ◌+◌, ◌≤◌, Bool, true, false, cond, ◌&&◌, Option, Some, None, Result, Ok, Err, List, [], ◌∷◌, ◌++◌, map, length, nat_lt, refl, sym, ◌∙◌, ap, subst, inl, inr, arith, append_assoc}
+use Rattle.std.specs.Prelude.{is_some, string_bytes, unwrap_or}
+use Rattle.std.specs.declared.alloc.Global.{Global}
+use Rattle.std.specs.declared.string.String.{String}
 use Rattle.std.specs.List.{AllByRecursion}
 use Rattle.std.proofs.lemmas.Bool.{cases_Bool}
 use Rattle.std.proofs.lemmas.Option.{cond_some}
@@ -19,7 +21,8 @@ use Rattle.replay.specs.declared.line.Event.{Event}
 use Rattle.replay.specs.declared.line.Line.{Line}
 use Rattle.replay.specs.declared.script.Script.{Script}
 use Rattle.replay.specs.KeptLines.{said, built_line, understood, IsEvent, IsSound}
-use Rattle.replay.specs.KeptScripts.{IsBuilt, events_said, world_at_start}
+use Rattle.replay.specs.KeptScripts.{IsBuilt, events_said, seats_named, world_at_start}
+use Rattle.replay.specs.KeptWorlds.{AreDistinct}
 use Rattle.replay.specs.Drafts.{Taken, known_of, may_stand, GrowsBy, lines_left}
 use Rattle.replay.specs.BuiltScripts.{is_built, first_unbuilt, first_later}
 use Rattle.replay.proofs.lines.ClientLines.{left_more, left_none, outside_last}
@@ -126,13 +129,14 @@ pub record SoFar (octets : List ℕ) (taken : Taken) (number : ℕ) (rest : List
 begun : (octets : List ℕ) → SoFar octets nothing_taken 0 octets
 begun octets = record { unbuilt = refl; front = []; lines = onto_none _; are = no_lines; counted = omega arith }
 
-abbrev without_timers : HomesKept → List Event → Taken
-without_timers homes events = record { timers = None; homes = homes; events = events }
+abbrev without_timers : HomesKept → List Event → List Word → Taken
+without_timers homes events clients = record { timers = None; homes = homes; events = events; clients = clients }
 
-pub begins : (octets : List ℕ) (homes : HomesKept) (events : List Event) → homes ≡ [] → events ≡ [] → SoFar octets (without_timers homes events) 0 octets
-begins octets homes events no_homes no_events =
-    subst (λ (hs : HomesKept). SoFar octets (without_timers hs events) 0 octets) (sym no_homes)
-    (subst (λ (es : List Event). SoFar octets (without_timers [] es) 0 octets) (sym no_events) (begun octets))
+pub begins : (octets : List ℕ) (homes : HomesKept) (events : List Event) (clients : List (String Global)) → homes ≡ [] → events ≡ [] → clients ≡ [] → SoFar octets (without_timers homes events (map (λ c. string_bytes c) clients)) 0 octets
+begins octets homes events clients no_homes no_events no_clients =
+    subst (λ (hs : HomesKept). SoFar octets (without_timers hs events (map (λ c. string_bytes c) clients)) 0 octets) (sym no_homes)
+    (subst (λ (es : List Event). SoFar octets (without_timers [] es (map (λ c. string_bytes c) clients)) 0 octets) (sym no_events)
+    (subst (λ (cs : List (String Global)). SoFar octets (without_timers [] [] (map (λ c. string_bytes c) cs)) 0 octets) (sym no_clients) (begun octets)))
 
 -- the line that is outside
 pub outside : (octets : List ℕ) (taken : Taken) (number : ℕ) (rest text after : List ℕ) → SoFar octets taken number rest → lines_in rest ≡ text ∷ lines_in after → (too_long_of octets && is_empty after) ≡ true
@@ -223,4 +227,5 @@ ends octets script taken number rest of so none =
       text = prints-happening so.front (start_world so.front) ∙ ap (λ (ls : List ScriptLine). printed_by by_history ls (start_world so.front)) (so.are.happen ∙ happen);
       start = subst (λ (hs : HomesKept). IsStart (state_of hs)) (sym of.homes) so.are.start;
       are_events = subst (AllByRecursion IsEvent) happen so.are.are_events;
+      distinct = subst AreDistinct (sym so.are.named ∙ ap seats_named happen) so.are.distinct;
     }

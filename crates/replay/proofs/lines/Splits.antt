@@ -7,7 +7,7 @@ use Rattle.std.proofs.lemmas.Iterator.Adapters.{position_from-zero}
 use Rattle.replay.specs.Lines.{Word, point, alone as no_words}
 use Rattle.replay.specs.declared.line.Kind.{Kind}
 use Rattle.replay.specs.declared.line.Kind.TheVariants as kinds
-use Rattle.replay.specs.KeptLines.{words_in, one_in, two_in, three_in, said_behind}
+use Rattle.replay.specs.KeptLines.{words_in, one_in, two_in, three_in, four_in, said_behind}
 
 abbrev is_space : ℕ → Bool
 is_space octet = octet == 32
@@ -84,7 +84,10 @@ two_parts f none octets n h =
     let rest = take (length octets - (n + 1)) (drop (n + 1) octets) in
     ap f (word_at octets n h) ∙ at_more f none (take n octets) (words_in rest) (some_words rest)
 
--- more words than three, two or one
+-- more words than four, three, two or one
+pub four_of_more : (a b c text : List ℕ) (ws : List Word) (n : ℕ) → ws ≡ a ∷ b ∷ c ∷ words_in text → Some n ≡ position is_space text → four_in ws ≡ None
+four_of_more a b c text ws n e h = ap four_in e ∙ two_parts (λ rest. four_in (a ∷ b ∷ c ∷ rest)) (λ v w rest. refl) text n h
+
 pub three_of_more : (a b text : List ℕ) (ws : List Word) (n : ℕ) → ws ≡ a ∷ b ∷ words_in text → Some n ≡ position is_space text → three_in ws ≡ None
 three_of_more a b text ws n e h = ap three_in e ∙ two_parts (λ rest. three_in (a ∷ b ∷ rest)) (λ v w rest. refl) text n h
 

@@ -1,9 +1,9 @@
 -- The lines of others leave a peer's session as it is, or make the history longer.
---     IsApart world      the world has no clients, and its peers' sessions are apart and made before the next one
+--     IsApart world      no client has a session, and the peers' sessions are apart and made before the next one
 --     apart-start, apart-lines, apart-placed      it is so of a script's start world, behind built lines, and with one peer more
 --     peer-stays, peer-stays-lines      a line of others leaves a peer the session that it has; so do several
 --     others-leave      they leave that session as it is, or the history has become longer
-use Rattle.std.proofs.Common.{◌≡◌, ◌⊎◌, inl, inr, ℕ, ◌+◌, ◌<◌, ◌≤◌, ◌==◌, Bool, true, false, cond, not, ◌&&◌, List, [], ◌∷◌, ◌++◌, filter, find, fold, length, Option, Some, None, option_map, codes, refl, sym, ◌∙◌, ap, subst, true≢false, arith}
+use Rattle.std.proofs.Common.{◌≡◌, ◌⊎◌, inl, inr, ℕ, ◌+◌, ◌<◌, ◌≤◌, ◌==◌, Bool, true, false, cond, not, ◌&&◌, List, [], ◌∷◌, ◌++◌, filter, find, length, Option, Some, None, option_map, codes, refl, sym, ◌∙◌, ap, subst, true≢false, arith}
 use Rattle.std.specs.Prelude.{nat_lt}
 use Rattle.std.specs.List.{AllByRecursion, list_all}
 use Rattle.std.specs.Option.{option_or}
@@ -17,8 +17,6 @@ use Rattle.dsotlv.proofs.Results.{same_found}
 use Rattle.dsosession.specs.declared.session.EndReason.{EndReason}
 use Rattle.history.specs.declared.entry.Entry.{Entry}
 use Rattle.history.specs.declared.entry.Entry.TheVariants as entries
-use Rattle.pushclient.specs.Clients.{closed_as}
-use Rattle.pushclient.specs.Steps as steps
 use Rattle.pushserver.specs.PlainHubs.{Session, Hub, Giving}
 use Rattle.pushserver.specs.Hubs as hubs
 use Rattle.pushserver.specs.Hubs.{now, keeps_now, session_of, in_session, entered, can_enter, connect, max_sessions, disconnect}
@@ -30,14 +28,16 @@ use Rattle.pushserver.proofs.OtherSessions.{stays, in_session-stays, give_change
 use Rattle.pushserver.proofs.SessionLists.{other-number, found-left}
 use Rattle.pushserver.proofs.hub_steps.Cases.{enters_moment, moment_as}
 use Rattle.pushserver.proofs.Walks.{AnyMessage, IsKept, keeps-called, holds-update, with_new}
-use Rattle.replay.specs.Lines.{Word, ScriptLine, silent, timers, zone, at_moment, update, cut, send, stop, point}
-use Rattle.replay.specs.World.{Seat, World, start_world, seat_of, with_seat, number_in, session_number, hub_without, cut_connection, cut_peer}
+use Rattle.replay.specs.Lines.{Word, ScriptLine, silent, timers, zone, lone, at_moment, update, ask, drop_question, open_connection, cut, send, stop, point}
+use Rattle.replay.specs.World.{Seat, World, start_world, seat_of, number_in, session_number, hub_without, cut_connection, cut_peer}
 use Rattle.replay.specs.PassedOctets.{Exchanged, exchanged, enough}
 use Rattle.replay.specs.TextWords.{by_history}
-use Rattle.replay.specs.Text.{placed, Printed, cut_where, close_lines, timed as clients_timed, exchanges, session_of_word, line_does, world_after}
+use Rattle.replay.specs.Text.{placed, Printed, subscribing, unsubscribing, exchanges, session_of_word, line_does, world_after}
 use Rattle.replay.specs.Pieces.{is_of_others}
 use Rattle.replay.proofs.rest.AtRest.{At, Longer, StaysLonger}
 use Rattle.replay.proofs.worlds.BuiltWorlds.{IsBuiltLine}
+use Rattle.replay.proofs.worlds.TimedSeats.{AreAlone, alone-found, hub-timed, peers-timed}
+use Rattle.replay.proofs.worlds.AloneSeats.{alone-timed, peers-asks, peers-opens, IsBeside, beside-lone, beside-asks, beside-opens, beside-cut}
 use Rattle.replay.proofs.worlds.Keeping.{any-parts, keeps-exchanged, exchanged-keeps}
 use Rattle.replay.proofs.rest.Turning.{grows}
 use Rattle.replay.proofs.worlds.Longer.{stays-longer, longer-lines}
@@ -51,9 +51,9 @@ abbrev pub ApartNumbers : List (Word × ℕ) → Type 0
 ApartNumbers [] = Unit {0}
 ApartNumbers (e ∷ es) = AllByRecursion (λ f. e.1 ≡ f.1 → ⊥) es × ApartNumbers es
 
--- the world has no clients, and its peers' numbers are apart and below that of the next session
+-- no client has a session, and the peers' numbers are apart and below that of the next session
 pub record IsApart (world : World) : Type 0 where
-  pub seats : world.seats ≡ []
+  pub seats : AreAlone world.seats
   pub below : AllByRecursion (λ e. e.1 < world.hub.numbers_given) world.peers
   pub apart : ApartNumbers world.peers
 
@@ -211,29 +211,50 @@ made_or_not hub b = cond b (Some hub.numbers_given, with_new hub) (None, hub)
 abbrev has_room : Hub → Bool
 has_room hub = nat_lt (length hub.sessions) max_sessions && nat_lt hub.numbers_given max_number
 
--- ---- what lines do in a world without clients
+-- the hub and the peers are the same
+apart-beside : (world later : World) → IsBeside world later → IsApart world → IsApart later
+apart-beside world later b a = record {
+  seats = b.seats;
+  below = subst (λ (es : List (Word × ℕ)). AllByRecursion (λ e. e.1 < later.hub.numbers_given) es) (sym b.peers) (subst (λ (hub : Hub). AllByRecursion (λ e. e.1 < hub.numbers_given) world.peers) (sym b.hub) a.below);
+  apart = subst ApartNumbers (sym b.peers) a.apart;
+}
+
+-- ---- what lines do in a world whose clients have no session
 
 module _ (world : World) where
-  abbrev by_seats : ℕ → List Seat → World
-  by_seats t seats = (let r = hubs.moment world.hub t in (fold (clients_timed (now r.1)) (record world { hub = r.1 }, cond r.0 (codes "full" ∷ []) []) seats).0)
+  abbrev hub_timed : ℕ → Printed
+  hub_timed t = (let r = hubs.moment world.hub t in (record world { hub = r.1 }, cond r.0 (codes "full" ∷ []) []))
 
-  moment-does : (t : ℕ) → world.seats ≡ [] → (line_does by_history (at_moment t) world).0 ≡ record world { hub = (hubs.moment world.hub t).1 }
-  moment-does t none = ap (by_seats t) none
+  abbrev moment_now : ℕ → ℕ
+  moment_now t = now (hubs.moment world.hub t).1
 
-  abbrev cut_by : Word → List Seat → World
-  cut_by w seats = elim (find (λ (s : Seat). bytes_eq s.word w) seats) as (λ _. World) [ None ↦ cut_peer w world | Some seat ↦ cut_connection seat world ]
+  moment-hub : (t : ℕ) → AreAlone world.seats → (line_does by_history (at_moment t) world).0.hub ≡ (hubs.moment world.hub t).1
+  moment-hub t alone = hub-timed (moment_now t) world.seats (hub_timed t) alone
 
-  cut-does : (w : Word) → world.seats ≡ [] → (line_does by_history (cut w) world).0 ≡ cut_peer w world
-  cut-does w none = ap (cut_by w) none
+  moment-beside : (t : ℕ) → AreAlone world.seats → IsBeside (hub_timed t).0 (line_does by_history (at_moment t) world).0
+  moment-beside t alone = record { hub = moment-hub t alone; peers = peers-timed (moment_now t) world.seats (hub_timed t); seats = alone-timed (moment_now t) (hub_timed t) alone }
 
   abbrev stopped : ℕ → ℕ → Option ℕ → World
   stopped rcode delay o = elim o as (λ _. World) [ None ↦ world | Some number ↦ record world { hub = hubs.stop world.hub number rcode delay } ]
 
-  abbrev stop_by : Word → ℕ → ℕ → List Seat → World
-  stop_by w rcode delay seats = stopped rcode delay (elim (find (λ (s : Seat). bytes_eq s.word w) seats) as (λ _. Option ℕ) [ Some seat ↦ seat.session | None ↦ session_number world w ])
+  abbrev session_by : Word → Option Seat → Option ℕ
+  session_by w o = elim o as (λ _. Option ℕ) [ Some seat ↦ seat.session | None ↦ session_number world w ]
 
-  stop-does : (w : Word) (rcode delay : ℕ) → world.seats ≡ [] → (line_does by_history (stop w rcode delay) world).0 ≡ stopped rcode delay (session_number world w)
-  stop-does w rcode delay none = ap (stop_by w rcode delay) none
+  -- a stop is that of a peer's session, or of none
+  stop-does : (P : World → Type 0) (w : Word) (rcode delay : ℕ) → AreAlone world.seats → P world → P (stopped rcode delay (session_number world w)) → P (line_does by_history (stop w rcode delay) world).0
+  stop-does P w rcode delay alone same peer = by (seat_of world w) refl
+    where
+      by : (o : Option Seat) → seat_of world w ≡ o → P (stopped rcode delay (session_by w o))
+      by None e = peer
+      by (Some seat) e = subst (λ (n : Option ℕ). P (stopped rcode delay n)) (sym (alone-found w world.seats seat alone e).0) same
+
+  -- a cut is that of a peer, or of a client
+  cut-does : (P : World → Type 0) (w : Word) → AreAlone world.seats → ((later : World) → IsBeside world later → P later) → P (cut_peer w world) → P (line_does by_history (cut w) world).0
+  cut-does P w alone beside peer = by (seat_of world w) refl
+    where
+      by : (o : Option Seat) → seat_of world w ≡ o → P (elim o as (λ _. World) [ None ↦ cut_peer w world | Some seat ↦ cut_connection seat world ])
+      by None e = peer
+      by (Some seat) e = beside (cut_connection seat world) (beside-cut w world seat alone e)
 
 -- ---- each built line leaves a world apart
 
@@ -268,14 +289,18 @@ apart-line : (line : ScriptLine) (world : World) → IsBuiltLine line → IsApar
 apart-line silent world is a = a
 apart-line (timers i k) world is a = a
 apart-line (zone apex serial mode) world is a = a
+apart-line (lone w) world is a = apart-beside world (line_does by_history (lone w) world).0 (beside-lone w world a.seats) a
+apart-line (ask w question) world is a = apart-beside world (line_does by_history (ask w question) world).0 (beside-asks (codes "asked") w (subscribing question) world a.seats) a
+apart-line (drop_question w question) world is a = apart-beside world (line_does by_history (drop_question w question) world).0 (beside-asks (codes "dropped") w (unsubscribing question) world a.seats) a
+apart-line (open_connection w) world is a = apart-beside world (line_does by_history (open_connection w) world).0 (beside-opens w world a.seats) a
 apart-line (at_moment t) world is a =
-    subst IsApart (sym (moment-does world t a.seats))
+    apart-beside (hub_timed world t).0 (line_does by_history (at_moment t) world).0 (moment-beside world t a.seats)
     (apart-hub world (hubs.moment world.hub t).1 (keeps-called AnyMessage (MadeFrom world.hub.numbers_given) (made-kept world.hub.numbers_given) (moves t) world.hub tt (itself world.hub.numbers_given)) a)
 apart-line (update message) world is a =
     apart-hub world (hubs.update world.hub message).1 (keeps-called AnyMessage (MadeFrom world.hub.numbers_given) (made-kept world.hub.numbers_given) (updates message) world.hub tt (itself world.hub.numbers_given)) a
-apart-line (cut w) world is a = subst IsApart (sym (cut-does world w a.seats)) (apart-cut w world a)
+apart-line (cut w) world is a = cut-does world IsApart w a.seats (λ later b. apart-beside world later b a) (apart-cut w world a)
 apart-line (send w octets) world is a = apart-sends w octets world a
-apart-line (stop w rcode delay) world is a = subst IsApart (sym (stop-does world w rcode delay a.seats)) (by (session_number world w))
+apart-line (stop w rcode delay) world is a = stop-does world IsApart w rcode delay a.seats a (by (session_number world w))
   where
     by : (o : Option ℕ) → IsApart (stopped world rcode delay o)
     by None = a
@@ -288,7 +313,7 @@ apart-lines [] world built a = a
 apart-lines (line ∷ lines) world built a = apart-lines lines (line_does by_history line world).0 built.1 (apart-line line world built.0 a)
 
 pub apart-start : (script : List ScriptLine) → IsApart (start_world script)
-apart-start script = record { seats = refl; below = tt; apart = tt }
+apart-start script = record { seats = tt; below = tt; apart = tt }
 
 pub apart-placed : (w : Word) (earlier world : World) (number : ℕ) → placed w earlier ≡ Some (number, world) → IsApart earlier → IsApart world
 apart-placed w earlier world number is a = by (session_number earlier w) is
@@ -311,16 +336,6 @@ apart-placed w earlier world number is a = by (session_number earlier w) is
     by None same = by_room (has_room earlier.hub) same
 
 -- ---- a peer keeps its session
-
-peers-cut_where : (ls : List (List ℕ)) (seat : Seat) (world : World) → (cut_where ls seat world).peers ≡ world.peers
-peers-cut_where [] seat world = refl
-peers-cut_where (l ∷ ls) seat world = refl
-
-peers-timed : (t : ℕ) (seats : List Seat) (p : Printed) → (fold (clients_timed t) p seats).0.peers ≡ p.0.peers
-peers-timed t [] p = refl
-peers-timed t (seat ∷ seats) p =
-    let later = record seat { client = steps.moment seat.client t } in
-    peers-timed t seats (clients_timed t p seat) ∙ peers-cut_where (close_lines seat.word (closed_as later.client)) later (with_seat later p.0)
 
 module _ (w : Word) (number : ℕ) where
   abbrev Has : World → Type 0
@@ -381,6 +396,10 @@ peer-stays w number (zone apex serial mode) world is others known = known
 peer-stays w number (at_moment t) world is others known =
     let r = hubs.moment world.hub t in
     ap (λ peers. number_in peers w) (peers-timed (now r.1) world.seats (record world { hub = r.1 }, cond r.0 (codes "full" ∷ []) [])) ∙ known
+peer-stays w number (lone v) world is others known = known
+peer-stays w number (ask v question) world is others known = ap (λ peers. number_in peers w) (peers-asks (codes "asked") v (subscribing question) world) ∙ known
+peer-stays w number (drop_question v question) world is others known = ap (λ peers. number_in peers w) (peers-asks (codes "dropped") v (unsubscribing question) world) ∙ known
+peer-stays w number (open_connection v) world is others known = ap (λ peers. number_in peers w) (peers-opens v world) ∙ known
 peer-stays w number (update message) world is others known = known
 peer-stays w number (cut v) world is others known = has-cuts w number v world (not_true (bytes_eq v w) others) known
 peer-stays w number (send v octets) world is others known = has-sends w number v octets world (not_true (bytes_eq v w) others) known
@@ -518,17 +537,24 @@ module _ (hub : Hub) (number : ℕ) (s : Session) where
         by (Some m) is = leaves-exchanges v m octets world other a.apart known (other-session v m world other a.apart known is) h
         by None is = by_room (has_room world.hub)
 
+    leaves-beside : (world later : World) → IsBeside world later → At hub number world.hub s → Leaves later.hub
+    leaves-beside world later b at = subst Leaves (sym b.hub) (inl at)
+
     leaves-line : (line : ScriptLine) (world : World) → IsBuiltLine line → is_of_others w line ≡ true → IsApart world → session_number world w ≡ Some number → At hub number world.hub s
         → Leaves (line_does by_history line world).0.hub
     leaves-line silent world is others a known at = inl at
     leaves-line (timers i k) world is others a known at = inl at
     leaves-line (zone apex serial mode) world is others a known at = inl at
-    leaves-line (at_moment t) world is others a known at = subst (λ (later : World). Leaves later.hub) (sym (moment-does world t a.seats)) (leaves-moment world.hub t at)
+    leaves-line (lone v) world is others a known at = inl at
+    leaves-line (ask v question) world is others a known at = leaves-beside world (line_does by_history (ask v question) world).0 (beside-asks (codes "asked") v (subscribing question) world a.seats) at
+    leaves-line (drop_question v question) world is others a known at = leaves-beside world (line_does by_history (drop_question v question) world).0 (beside-asks (codes "dropped") v (unsubscribing question) world a.seats) at
+    leaves-line (open_connection v) world is others a known at = leaves-beside world (line_does by_history (open_connection v) world).0 (beside-opens v world a.seats) at
+    leaves-line (at_moment t) world is others a known at = subst Leaves (sym (moment-hub world t a.seats)) (leaves-moment world.hub t at)
     leaves-line (update message) world is others a known at = leaves-update world.hub message at
     leaves-line (cut v) world is others a known at =
-        subst (λ (later : World). Leaves later.hub) (sym (cut-does world v a.seats)) (leaves-cut v world (not_true (bytes_eq v w) others) a.apart known (inl at))
+        cut-does world (λ later. Leaves later.hub) v a.seats (λ later b. leaves-beside world later b at) (leaves-cut v world (not_true (bytes_eq v w) others) a.apart known (inl at))
     leaves-line (send v octets) world is others a known at = leaves-sends v octets world (not_true (bytes_eq v w) others) a known (inl at)
-    leaves-line (stop v rcode delay) world is others a known at = subst (λ (later : World). Leaves later.hub) (sym (stop-does world v rcode delay a.seats)) (by (session_number world v) refl)
+    leaves-line (stop v rcode delay) world is others a known at = stop-does world (λ later. Leaves later.hub) v rcode delay a.seats (inl at) (by (session_number world v) refl)
       where
         by : (o : Option ℕ) → session_number world v ≡ o → Leaves (stopped world rcode delay o).hub
         by None same = inl at

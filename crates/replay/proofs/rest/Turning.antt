@@ -26,8 +26,8 @@ use Rattle.pushsession.specs.Subscribing.{Verdict, Refuse, Abort, Accept, verdic
 use Rattle.pushsession.specs.Reactions.{restarted_by, request_for, reacts_itself}
 use Rattle.pushserver.specs.PlainHubs.{Session, Queue, Hub, first_answer}
 use Rattle.pushserver.specs.Hubs.{now, state_now, keeps_now, tells_now, session_of, in_session, entered, can_enter}
-use Rattle.pushserver.specs.Giving.{has_home, reconfirms, ends_as, by_request, reacted}
-use Rattle.pushserver.proofs.hub_steps.Cases.{enters_update, update_as, key_as, session_as, request_as, itself_as}
+use Rattle.pushserver.specs.Giving.{has_home, reconfirms, by_request, reacted}
+use Rattle.pushserver.proofs.hub_steps.Cases.{ends_as, enters_update, update_as, key_as, session_as, request_as, itself_as}
 use Rattle.replay.proofs.rest.AtRest.{Core, resting, core_of, silent, Turned, enters, ends_for, goes_on, left_as, answers_with, by_shown, by_record, by_verdict, subscribing, reacting, turned_by, listening, by_head, turned, with_sessions, At, Follows, TurnsAsTold}
 use Rattle.replay.proofs.rest.RestingHubs.{at-in_session}
 

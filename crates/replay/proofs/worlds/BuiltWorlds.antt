@@ -1,7 +1,7 @@
 -- What every call keeps stays in each world that built lines reach.
 --     IsBuiltLine line      a line of a kind that is built
 --     keeps-lines      the law
-use Rattle.std.proofs.Common.{◌≡◌, ℕ, true, cond, List, [], ◌∷◌, ◌++◌, fold, Option, Some, None, option_map, codes}
+use Rattle.std.proofs.Common.{◌≡◌, ℕ, Bool, true, false, cond, List, [], ◌∷◌, ◌++◌, fold, Option, Some, None, option_map, codes}
 use Rattle.std.specs.List.{AllByRecursion}
 use Rattle.dsosession.specs.declared.session.EndReason.{EndReason}
 use Rattle.pushserver.specs.Hubs as hubs
@@ -9,13 +9,13 @@ use Rattle.pushserver.specs.PlainHubs.{Hub}
 use Rattle.pushserver.specs.Calls.{updates, moves, connects, stops}
 use Rattle.pushserver.specs.Hubs.{now, connect}
 use Rattle.pushserver.proofs.Walks.{IsKept, keeps-called}
-use Rattle.pushclient.specs.Clients.{closed_as}
+use Rattle.pushclient.specs.Clients.{Client, closed_as, connected, is_connected}
 use Rattle.pushclient.specs.Steps as steps
-use Rattle.replay.specs.Lines.{Word, ScriptLine, silent, timers, zone, at_moment, update, cut, send, stop, point}
+use Rattle.replay.specs.Lines.{Word, ScriptLine, silent, timers, zone, lone, at_moment, update, ask, drop_question, open_connection, cut, send, stop, point}
 use Rattle.replay.specs.World.{Seat, World, seat_of, with_seat, session_number, hub_without, cut_connection, cut_peer}
 use Rattle.replay.specs.PassedOctets.{Exchanged, exchanged, enough}
 use Rattle.replay.specs.TextWords.{by_history}
-use Rattle.replay.specs.Text.{Printed, printing, cut_where, close_lines, timed, exchanges, session_of_word, line_does, world_after}
+use Rattle.replay.specs.Text.{Printed, quietly, printing, cut_where, close_lines, timed, asks, subscribing, unsubscribing, opens_lone, opens_hub, opens, exchanges, session_of_word, line_does, world_after}
 use Rattle.replay.specs.BuiltScripts.{is_built}
 use Rattle.replay.proofs.worlds.Keeping.{InParts, exchanged-keeps}
 use Rattle.replay.proofs.lines.SentOctets.{sent_by}
@@ -98,14 +98,57 @@ module _ (Good : List ℕ → Type 0) (P : Hub → Type 0) (kept : IsKept Good P
       by None = h
       by (Some number) = keeps-called Good P kept (stops number rcode delay) world.hub tt h
 
+  -- a call of a client leaves the hub
+  keeps-asks : (verb : List ℕ) (w : Word) (call : Client → List ℕ × Client) (world : World) → Has world → Has (asks verb w call world).0
+  keeps-asks verb w call world h = by (seat_of world w)
+    where
+      by : (o : Option Seat) → Has (elim o as (λ _. Printed) [
+        | None ↦ quietly world
+        | Some seat ↦ printing (verb ∷ w ∷ (call seat.client).0 ∷ []) (with_seat (record seat { client = (call seat.client).1 }) world)
+      ]).0
+      by None = h
+      by (Some seat) = h
+
+  keeps-opens_hub : (seat : Seat) (world : World) → Has world → Has (opens_hub seat world).0
+  keeps-opens_hub seat world h = by (connect world.hub).0
+    where
+      by : (o : Option ℕ) → Has (elim o as (λ _. Printed) [
+        | None ↦ printing (codes "noseat" ∷ seat.word ∷ []) world
+        | Some number ↦ printing (codes "open" ∷ seat.word ∷ []) (with_seat (record seat { client = connected (now world.hub) seat.client; session = Some number }) (record world { hub = (connect world.hub).1 }))
+      ]).0
+      by None = h
+      by (Some number) = keeps-called Good P kept connects world.hub tt h
+
+  keeps-opens : (w : Word) (world : World) → Has world → Has (opens w world).0
+  keeps-opens w world h = by (seat_of world w)
+    where
+      by_kind : (seat : Seat) (b : Bool) → Has (cond b (opens_lone seat world) (opens_hub seat world)).0
+      by_kind seat true = h
+      by_kind seat false = keeps-opens_hub seat world h
+
+      by_open : (seat : Seat) (b : Bool) → Has (cond b (printing (codes "already" ∷ w ∷ []) world) (cond seat.is_lone (opens_lone seat world) (opens_hub seat world))).0
+      by_open seat true = h
+      by_open seat false = by_kind seat seat.is_lone
+
+      by : (o : Option Seat) → Has (elim o as (λ _. Printed) [
+        | None ↦ quietly world
+        | Some seat ↦ cond (is_connected seat.client) (printing (codes "already" ∷ w ∷ []) world) (cond seat.is_lone (opens_lone seat world) (opens_hub seat world))
+      ]).0
+      by None = h
+      by (Some seat) = by_open seat (is_connected seat.client)
+
   pub keeps-line : (line : ScriptLine) (world : World) → IsBuiltLine line → Good (sent_by line) → Has world → Has (line_does by_history line world).0
   keeps-line silent world is q h = h
   keeps-line (timers i k) world is q h = h
   keeps-line (zone apex serial mode) world is q h = h
+  keeps-line (lone w) world is q h = h
   keeps-line (at_moment t) world is q h =
       let r = hubs.moment world.hub t in
       keeps-timed (now r.1) world.seats (record world { hub = r.1 }, cond r.0 (codes "full" ∷ []) []) (keeps-called Good P kept (moves t) world.hub tt h)
   keeps-line (update message) world is q h = keeps-called Good P kept (updates message) world.hub q h
+  keeps-line (ask w question) world is q h = keeps-asks (codes "asked") w (subscribing question) world h
+  keeps-line (drop_question w question) world is q h = keeps-asks (codes "dropped") w (unsubscribing question) world h
+  keeps-line (open_connection w) world is q h = keeps-opens w world h
   keeps-line (cut w) world is q h = keeps-cuts w world h
   keeps-line (send w octets) world is q h = keeps-sends w octets world q h
   keeps-line (stop w rcode delay) world is q h = keeps-stops w rcode delay world h

@@ -2,7 +2,7 @@
 use Rattle.std.proofs.Common.{◌≡◌, ℕ, Bool, true, false, cond, List, [], ◌∷◌, ◌++◌, fold, Option, Some, None, sym, ◌∙◌, ap, subst, refl, append_assoc, append-nil, codes, decimal, string_bytes, IfOk, Result, Ok, Err, Global}
 use Rattle.std.specs.Result.{IsErrOf}
 use Rattle.std.specs.declared.string.String.{String}
-use Rattle.std.specs.Prelude.{find, nat_lt, option_map, ◌&&◌, length}
+use Rattle.std.specs.Prelude.{find, position, nat_lt, option_map, ◌&&◌, length}
 use Rattle.push_base.specs.Limits.{max_number}
 use Rattle.std.specs.Str.{bytes_eq}
 use Rattle.dsosession.specs.declared.session.EndReason.{EndReason}
@@ -17,7 +17,10 @@ use Rattle.replay.specs.PassedOctets.{exchanged, enough}
 use Rattle.replay.specs.TextWords.{spaced, end_words, octets_text}
 use Rattle.replay.specs.Text.{Printed, ended_lines, printing, updates, moments, timed, asked_to_stop, stops, cuts, exchanges, sends, end_lines}
 use Rattle.replay.specs.KeptExchanges.{Exchanges}
-use Rattle.replay.specs.KeptWorlds.{Named, StandsForWorld, HasPrinted, Acts}
+use Rattle.replay.specs.KeptWorlds.{Parties, StandsForWorld, HasPrinted, Acts}
+use Rattle.replay.specs.KeptSeats.{has_word, IsTimed, Times, TimesWorld}
+use Rattle.replay.proofs.worlds.Seats.{absent}
+use Rattle.replay.proofs.worlds.TimedSeats.{HasNone, none-found, stand-alone, hub-timed, peers-timed, links-timed}
 
 -- ---- lines
 
@@ -26,79 +29,102 @@ one_line l = sym (append-nil (l ++ 10 ∷ []))
 
 -- ---- a world whose hub is another one
 
-with_hub : (later : KeptHub) (hub : Hub) (kept : KeptHub) (known : Named) (world : World) → StandsForWorld kept known world → StandsFor later hub → StandsForWorld later known (record world { hub = hub })
+with_hub : (later : KeptHub) (hub : Hub) (kept : KeptHub) (known : Parties) (world : World) → StandsForWorld kept known world → StandsFor later hub → StandsForWorld later known (record world { hub = hub })
 with_hub later hub kept known world w stands = record { hub = stands; peers = w.peers; seats = w.seats; links = w.links }
 
 -- ---- updates, points and moments
 
-pub updates-act : (kept later : KeptHub) (known : Named) (message written : List ℕ) (code : ℕ)
+pub updates-act : (kept later : KeptHub) (known : Parties) (message written : List ℕ) (code : ℕ)
     → ((hub : Hub) → StandsFor kept hub → (code ≡ (hubs.update hub message).0) × StandsFor later (hubs.update hub message).1)
     → written ≡ codes "update " ++ (decimal code ++ 10 ∷ []) → Acts (updates message) kept known written later known
 unfolding Acts
-updates-act kept later known message written code does is world w =
+updates-act kept later known message written code does is world w d =
     let r = does world.hub w.hub in
     record {
       text = is ∙ one_line (codes "update " ++ decimal code) ∙ ap (λ c. ended_lines (spaced (codes "update" ∷ decimal c ∷ []) ∷ [])) r.0;
       stands = with_hub later (hubs.update world.hub message).1 kept known world w r.1;
     }
 
-pub points-act : (kept : KeptHub) (known : Named) (written : List ℕ) (point moment : ℕ)
+pub points-act : (kept : KeptHub) (known : Parties) (written : List ℕ) (point moment : ℕ)
     → ((hub : Hub) → StandsFor kept hub → point ≡ newest hub) → ((hub : Hub) → StandsFor kept hub → moment ≡ now hub)
     → written ≡ codes "point " ++ (decimal point ++ 32 ∷ (decimal moment ++ 10 ∷ []))
     → Acts (λ world. printing (codes "point" ∷ decimal (newest world.hub) ∷ decimal (now world.hub) ∷ []) world) kept known written kept known
 unfolding Acts
-points-act kept known written point moment tells_point tells_moment is world w = record {
+points-act kept known written point moment tells_point tells_moment is world w d = record {
   text = is ∙ ap (λ t. codes "point " ++ t) (sym (append_assoc (decimal point) (32 ∷ decimal moment) (10 ∷ [])))
       ∙ one_line (codes "point " ++ (decimal point ++ 32 ∷ decimal moment))
       ∙ (λ i. ended_lines (spaced (codes "point" ∷ decimal (tells_point world.hub w.hub i) ∷ decimal (tells_moment world.hub w.hub i) ∷ []) ∷ []));
   stands = w;
 }
 
-moment_lines : Bool → List (List ℕ)
-moment_lines b = cond b (codes "full" ∷ []) []
+-- the world behind a hub's moment, and what it prints
+abbrev hub_timed : ℕ → World → Printed
+hub_timed t world = (let r = hubs.moment world.hub t in (record world { hub = r.1 }, cond r.0 (codes "full" ∷ []) []))
 
-pub moments-act : (kept later : KeptHub) (known : Named) (t : ℕ) (full : Bool) (written : List ℕ)
-    → ((hub : Hub) → StandsFor kept hub → ((hubs.moment hub t).0 ≡ full) × StandsFor later (hubs.moment hub t).1)
-    → written ≡ ended_lines (cond full (codes "full" ∷ []) []) → Acts (moments t) kept known written later known
-unfolding Acts
-moments-act kept later known t full written does is world w =
+pub moments-act : (kept between later : KeptHub) (known known_later : Parties) (t : ℕ) (full : Bool) (text written : List ℕ)
+    → ((hub : Hub) → StandsFor kept hub → ((hubs.moment hub t).0 ≡ full) × StandsFor between (hubs.moment hub t).1)
+    → text ≡ ended_lines (cond full (codes "full" ∷ []) []) → TimesWorld between known text later known_later written → Acts (moments t) kept known written later known_later
+unfolding Acts Times
+moments-act kept between later known known_later t full text written does is timed_so world w d =
+    let at = timed_so.at in
     let r = does world.hub w.hub in
     let after = (hubs.moment world.hub t).1 in
-    subst (λ (seats : List Seat). HasPrinted later known written (fold (timed (now after)) (record world { hub = after }, cond (hubs.moment world.hub t).0 (codes "full" ∷ []) []) seats)) (sym w.seats)
-    (record {
-      text = is ∙ ap (λ b. ended_lines (cond b (codes "full" ∷ []) [])) (sym r.0);
-      stands = with_hub later after kept known world w r.1;
+    let first = hub_timed t world in
+    let same : at ≡ now after = timed_so.moment after r.1 in
+    let told : IsTimed at known_later.seats written first.0 first.1 = timed_so.times first.0 first.1 w.seats d (is ∙ ap (λ (b : Bool). ended_lines (cond b (codes "full" ∷ []) [])) (sym r.0)) in
+    let alone = stand-alone known.seats world.seats w.seats in
+    subst (λ (n : ℕ). HasPrinted later known_later written (fold (timed n) first world.seats)) same (record {
+      text = told.text;
+      stands = record {
+        hub = subst (StandsFor later) (sym (hub-timed at world.seats first alone)) (subst (λ (k : KeptHub). StandsFor k after) (sym timed_so.hub) r.1);
+        peers = timed_so.peers ∙ w.peers ∙ sym (peers-timed at world.seats first);
+        seats = told.stands;
+        links = links-timed at world.seats first ∙ w.links;
+      };
     })
 
 -- ---- stops and cuts
 
-number_known : (known : Named) (w : Word) (kept : KeptHub) (world : World) → StandsForWorld kept known world → number_in known w ≡ session_number world w
+number_known : (known : Parties) (w : Word) (kept : KeptHub) (world : World) → StandsForWorld kept known world → number_in known.peers w ≡ session_number world w
 number_known known w kept world s = ap (λ p. number_in p w) s.peers
 
 abbrev nobody : Option Seat
 nobody = None
 
-no_seat : (w : Word) (kept : KeptHub) (known : Named) (world : World) → StandsForWorld kept known world → find (λ s. bytes_eq s.word w) world.seats ≡ nobody
-no_seat w kept known world s = ap (λ seats. find (λ (x : Seat). bytes_eq x.word w) seats) s.seats
+-- no client has the word
+no_seat : (w : Word) (kept : KeptHub) (known : Parties) (world : World) → position (has_word w) known.seats ≡ None → StandsForWorld kept known world → find (λ s. bytes_eq s.word w) world.seats ≡ nobody
+no_seat w kept known world none s = absent w known.seats world.seats s.seats none
 
-pub stops-act : (kept later : KeptHub) (known known_later : Named) (w : Word) (rcode delay : ℕ) (written : List ℕ)
+abbrev stopped_by : ℕ → ℕ → World → Option ℕ → World
+stopped_by rcode delay world session = elim session as (λ _. World) [ None ↦ world | Some number ↦ record world { hub = hubs.stop world.hub number rcode delay } ]
+
+abbrev stops_by : Word → ℕ → ℕ → World → Option Seat → Printed
+stops_by w rcode delay world o = printing (codes "stop" ∷ w ∷ []) (stopped_by rcode delay world (elim o as (λ _. Option ℕ) [ Some seat ↦ seat.session | None ↦ session_number world w ]))
+
+pub stops-act : (kept later : KeptHub) (known known_later : Parties) (w : Word) (rcode delay : ℕ) (written : List ℕ) → position (has_word w) known.seats ≡ None
     → ((world : World) → StandsForWorld kept known world → StandsForWorld later known_later (asked_to_stop (session_number world w) rcode delay world)) → written ≡ codes "stop " ++ (w ++ 10 ∷ []) → Acts (stops w rcode delay) kept known written later known_later
 unfolding Acts
-stops-act kept later known known_later w rcode delay written does is world s =
-    subst (λ (o : Option Seat). HasPrinted later known_later written (printing (codes "stop" ∷ w ∷ []) (elim (elim o as (λ _. Option ℕ) [ Some seat ↦ seat.session | None ↦ session_number world w ]) as (λ _. World) [
-      | None ↦ world
-      | Some number ↦ record world { hub = hubs.stop world.hub number rcode delay }
-    ]))) (sym (no_seat w kept known world s))
+stops-act kept later known known_later w rcode delay written none does is world s d =
+    subst (λ (o : Option Seat). HasPrinted later known_later written (stops_by w rcode delay world o)) (sym (no_seat w kept known world none s))
     (record { text = is ∙ one_line (codes "stop " ++ w); stands = does world s })
 
+-- a lone client has no session
+pub stops-lone : (kept : KeptHub) (known : Parties) (w : Word) (rcode delay place : ℕ) (written : List ℕ) → position (has_word w) known.seats ≡ Some place → written ≡ codes "stop " ++ (w ++ 10 ∷ []) → Acts (stops w rcode delay) kept known written kept known
+unfolding Acts
+stops-lone kept known w rcode delay place written at is world s d =
+    let f : HasNone w world.seats = none-found w known.seats world.seats place s.seats at in
+    subst (λ (o : Option Seat). HasPrinted kept known written (stops_by w rcode delay world o)) (sym f.found)
+    (subst (λ (o : Option ℕ). HasPrinted kept known written (printing (codes "stop" ∷ w ∷ []) (stopped_by rcode delay world o))) (sym f.session)
+    (record { text = is ∙ one_line (codes "stop " ++ w); stands = s }))
+
 -- what a cut leaves
-abbrev pub CutsPeer : Word → KeptHub → Named → KeptHub → Named → Type 0
+abbrev pub CutsPeer : Word → KeptHub → Parties → KeptHub → Parties → Type 0
 CutsPeer w kept known later known_later = (world : World) → StandsForWorld kept known world → StandsForWorld later known_later (cut_peer w world)
 
-pub cuts-act : (kept later : KeptHub) (known known_later : Named) (w : Word) (written : List ℕ) → CutsPeer w kept known later known_later → written ≡ codes "cut " ++ (w ++ 10 ∷ []) → Acts (cuts w) kept known written later known_later
+pub cuts-act : (kept later : KeptHub) (known known_later : Parties) (w : Word) (written : List ℕ) → position (has_word w) known.seats ≡ None → CutsPeer w kept known later known_later → written ≡ codes "cut " ++ (w ++ 10 ∷ []) → Acts (cuts w) kept known written later known_later
 unfolding Acts
-cuts-act kept later known known_later w written does is world s =
-    subst (λ (o : Option Seat). HasPrinted later known_later written (printing (codes "cut" ∷ w ∷ []) (elim o as (λ _. World) [ None ↦ cut_peer w world | Some seat ↦ cut_connection seat world ]))) (sym (no_seat w kept known world s))
+cuts-act kept later known known_later w written none does is world s d =
+    subst (λ (o : Option Seat). HasPrinted later known_later written (printing (codes "cut" ∷ w ∷ []) (elim o as (λ _. World) [ None ↦ cut_peer w world | Some seat ↦ cut_connection seat world ]))) (sym (no_seat w kept known world none s))
     (record { text = is ∙ one_line (codes "cut " ++ w); stands = does world s })
 
 -- ---- exchanges
@@ -106,7 +132,7 @@ cuts-act kept later known known_later w written does is world s =
 abbrev pub two_parts : Word → List ℕ → List ℕ
 two_parts w words = w ++ 32 ∷ (words ++ 10 ∷ [])
 
-worded : (front w words : List ℕ) → front ++ two_parts w words ≡ (front ++ (w ++ 32 ∷ words)) ++ 10 ∷ []
+pub worded : (front w words : List ℕ) → front ++ two_parts w words ≡ (front ++ (w ++ 32 ∷ words)) ++ 10 ∷ []
 worded front w words = ap (λ t. front ++ t) (sym (append_assoc w (32 ∷ words) (10 ∷ []))) ∙ sym (append_assoc front (w ++ 32 ∷ words) (10 ∷ []))
 
 -- what was written of an exchange: a line, and behind an end one more
@@ -114,7 +140,7 @@ abbrev pub told_end : Word → Option EndReason → List ℕ
 told_end w None = []
 told_end w (Some reason) = codes "end " ++ two_parts w (end_words reason)
 
-abbrev pub Follows : Word → Option EndReason → KeptHub → Named → KeptHub → Named → Type 0
+abbrev pub Follows : Word → Option EndReason → KeptHub → Parties → KeptHub → Parties → Type 0
 Follows w None kept known later known_later = (later ≡ kept) × (known_later ≡ known)
 Follows w (Some reason) kept known later known_later = CutsPeer w kept known later known_later
 
@@ -126,8 +152,8 @@ ends-told : (w : Word) (over : Option EndReason) → told_end w over ≡ ended_l
 ends-told w None = refl
 ends-told w (Some reason) = worded (codes "end ") w (end_words reason) ∙ one_line (codes "end " ++ (w ++ 32 ∷ end_words reason))
 
-follows-stands : (w : Word) (over : Option EndReason) (kept later : KeptHub) (known known_later : Named) (world : World) → StandsForWorld kept known world → Follows w over kept known later known_later → StandsForWorld later known_later (after_end w over world)
-follows-stands w None kept later known known_later world s same = subst (λ (k : KeptHub). StandsForWorld k known_later world) (sym same.0) (subst (λ (p : Named). StandsForWorld kept p world) (sym same.1) s)
+follows-stands : (w : Word) (over : Option EndReason) (kept later : KeptHub) (known known_later : Parties) (world : World) → StandsForWorld kept known world → Follows w over kept known later known_later → StandsForWorld later known_later (after_end w over world)
+follows-stands w None kept later known known_later world s same = subst (λ (k : KeptHub). StandsForWorld k known_later world) (sym same.0) (subst (λ (p : Parties). StandsForWorld kept p world) (sym same.1) s)
 follows-stands w (Some reason) kept later known known_later world s does = does world s
 
 abbrev by_over : Word → World → Option EndReason → World
@@ -137,12 +163,12 @@ over_alike : (w : Word) (later : World) (over : Option EndReason) → after_end 
 over_alike w later None = refl
 over_alike w later (Some reason) = refl
 
-pub exchanges-act : (kept between later : KeptHub) (known known_later : Named) (w : Word) (number : ℕ) (sent octets written : List ℕ) (over : Option EndReason)
+pub exchanges-act : (kept between later : KeptHub) (known known_later : Parties) (w : Word) (number : ℕ) (sent octets written : List ℕ) (over : Option EndReason)
     → Exchanges kept number sent between octets over → Follows w over between known later known_later
     → written ≡ (codes "bytes " ++ two_parts w (octets_text octets)) ++ told_end w over
     → Acts (exchanges w number sent) kept known written later known_later
 unfolding Acts Exchanges
-exchanges-act kept between later known known_later w number sent octets written over made follows is world s =
+exchanges-act kept between later known known_later w number sent octets written over made follows is world s d =
     let x = exchanged enough number sent world.hub [] in
     let m = made world.hub s.hub in
     let first = spaced (codes "bytes" ∷ w ∷ octets_text octets ∷ []) in
@@ -157,13 +183,13 @@ exchanges-act kept between later known known_later w number sent octets written 
 abbrev pub bytes_written : Word → List ℕ → List ℕ
 bytes_written w octets = codes "bytes " ++ two_parts w (octets_text octets)
 
-pub exchanges-none : (kept later : KeptHub) (known : Named) (w : Word) (number : ℕ) (sent octets slice written : List ℕ) (over : Option EndReason)
+pub exchanges-none : (kept later : KeptHub) (known : Parties) (w : Word) (number : ℕ) (sent octets slice written : List ℕ) (over : Option EndReason)
     → Exchanges kept number sent later octets over → over ≡ None → slice ≡ octets → written ≡ bytes_written w slice → Acts (exchanges w number sent) kept known written later known
 exchanges-none kept later known w number sent octets slice written over made none same is =
     exchanges-act kept later later known known w number sent octets written None (subst (Exchanges kept number sent later octets) none made) (refl, refl)
     (is ∙ ap (bytes_written w) same ∙ sym (append-nil (bytes_written w octets)))
 
-pub exchanges-some : (kept between later : KeptHub) (known known_later : Named) (w : Word) (number : ℕ) (sent octets slice line written : List ℕ) (over : Option EndReason) (reason : EndReason)
+pub exchanges-some : (kept between later : KeptHub) (known known_later : Parties) (w : Word) (number : ℕ) (sent octets slice line written : List ℕ) (over : Option EndReason) (reason : EndReason)
     → Exchanges kept number sent between octets over → over ≡ Some reason → CutsPeer w between known later known_later → slice ≡ octets → line ≡ bytes_written w slice
     → written ≡ line ++ (codes "end " ++ two_parts w (end_words reason)) → Acts (exchanges w number sent) kept known written later known_later
 exchanges-some kept between later known known_later w number sent octets slice line written over reason made some cut same line_is is =
@@ -199,28 +225,28 @@ sends_by w octets world o =
 abbrev connects_by : Word → List ℕ → World → Option ℕ → Printed
 connects_by w octets world o = placed_by w octets world (new_place w world o)
 
-pub sends-known : (kept later : KeptHub) (known known_later : Named) (w : Word) (number : ℕ) (octets written : List ℕ) → number_in known w ≡ Some number
+pub sends-known : (kept later : KeptHub) (known known_later : Parties) (w : Word) (number : ℕ) (octets written : List ℕ) → number_in known.peers w ≡ Some number
     → Acts (exchanges w number octets) kept known written later known_later → Acts (sends w octets) kept known written later known_later
 unfolding Acts
-sends-known kept later known known_later w number octets written found does world s =
-    subst (λ (o : Option ℕ). HasPrinted later known_later written (sends_by w octets world o)) (sym found ∙ number_known known w kept world s) (does world s)
+sends-known kept later known known_later w number octets written found does world s d =
+    subst (λ (o : Option ℕ). HasPrinted later known_later written (sends_by w octets world o)) (sym found ∙ number_known known w kept world s) (does world s d)
 
-pub sends-new : (kept between later : KeptHub) (known known_later : Named) (w : Word) (number : ℕ) (octets written : List ℕ) → number_in known w ≡ None
+pub sends-new : (kept between later : KeptHub) (known known_later : Parties) (w : Word) (number : ℕ) (octets written : List ℕ) → number_in known.peers w ≡ None
     → ((hub : Hub) → StandsFor kept hub → ((hubs.connect hub).0 ≡ Some number) × StandsFor between (hubs.connect hub).1)
-    → Acts (exchanges w number octets) between (known ++ (w, number) ∷ []) written later known_later → Acts (sends w octets) kept known written later known_later
+    → Acts (exchanges w number octets) between (record known { peers = known.peers ++ (w, number) ∷ [] }) written later known_later → Acts (sends w octets) kept known written later known_later
 unfolding Acts
-sends-new kept between later known known_later w number octets written found connects does world s =
+sends-new kept between later known known_later w number octets written found connects does world s d =
     let r = connects world.hub s.hub in
     let next = record world { hub = (hubs.connect world.hub).1; peers = world.peers ++ (w, number) ∷ [] } in
     subst (λ (o : Option ℕ). HasPrinted later known_later written (sends_by w octets world o)) (sym found ∙ number_known known w kept world s)
     (subst (λ (o : Option ℕ). HasPrinted later known_later written (connects_by w octets world o)) (sym r.0)
-    (does next (record { hub = r.1; peers = ap (λ p. p ++ (w, number) ∷ []) s.peers; seats = s.seats; links = s.links })))
+    (does next (record { hub = r.1; peers = ap (λ p. p ++ (w, number) ∷ []) s.peers; seats = s.seats; links = s.links }) d))
 
-pub sends-refused : (kept later : KeptHub) (known : Named) (w : Word) (octets written : List ℕ) → number_in known w ≡ None
+pub sends-refused : (kept later : KeptHub) (known : Parties) (w : Word) (octets written : List ℕ) → number_in known.peers w ≡ None
     → ((hub : Hub) → StandsFor kept hub → ((hubs.connect hub).0 ≡ None) × StandsFor later (hubs.connect hub).1)
     → written ≡ codes "noseat " ++ (w ++ 10 ∷ []) → Acts (sends w octets) kept known written later known
 unfolding Acts
-sends-refused kept later known w octets written found connects is world s =
+sends-refused kept later known w octets written found connects is world s d =
     let r = connects world.hub s.hub in
     subst (λ (o : Option ℕ). HasPrinted later known written (sends_by w octets world o)) (sym found ∙ number_known known w kept world s)
     (subst (λ (o : Option ℕ). HasPrinted later known written (connects_by w octets world o)) (sym r.0)
@@ -232,16 +258,21 @@ sends-refused kept later known w octets written found connects is world s =
 -- ---- answers that are texts
 
 -- a text that is made, or want of memory
-pub if_acts : {E : Type 0} (act : World → Printed) (kept later : KeptHub) (known known_later : Named) (line : List ℕ) (r : Result (String Global) E)
+pub if_acts : {E : Type 0} (act : World → Printed) (kept later : KeptHub) (known known_later : Parties) (line : List ℕ) (r : Result (String Global) E)
     → ((written : List ℕ) → written ≡ line → Acts act kept known written later known_later) → IfOk r (λ text. string_bytes text ≡ line) → IfOk r (λ text. Acts act kept known (string_bytes text) later known_later)
 if_acts act kept later known known_later line (Ok text) does h = does (string_bytes text) h
 if_acts act kept later known known_later line (Err e) does h = tt
 
-pub if_then : {E : Type 0} (first act : World → Printed) (kept_then kept later : KeptHub) (known_then known known_later : Named) (r : Result (String Global) E)
+pub if_then : {E : Type 0} (first act : World → Printed) (kept_then kept later : KeptHub) (known_then known known_later : Parties) (r : Result (String Global) E)
     → ((written : List ℕ) → Acts first kept_then known_then written later known_later → Acts act kept known written later known_later)
     → IfOk r (λ text. Acts first kept_then known_then (string_bytes text) later known_later) → IfOk r (λ text. Acts act kept known (string_bytes text) later known_later)
 if_then first act kept_then kept later known_then known known_later (Ok text) does h = does (string_bytes text) h
 if_then first act kept_then kept later known_then known known_later (Err e) does h = tt
+
+-- so where it is known of a text that is made
+pub if_each : {E : Type 0} (P Q : List ℕ → Type 0) (r : Result (String Global) E) → ((written : List ℕ) → P written → Q written) → IfOk r (λ text. P (string_bytes text)) → IfOk r (λ text. Q (string_bytes text))
+if_each P Q (Ok text) does h = does (string_bytes text) h
+if_each P Q (Err e) does h = tt
 
 abbrev failed : {T E : Type 0} → E → Result T E
 failed e = Err e

@@ -1,7 +1,7 @@
 -- In a script that is built, each session's input holds octets.
 --     octets-kept      the steps of which calls are made keep octets in all inputs
 --     octets-lines, octets-connected      so they stand there between lines, and with one session more
-use Rattle.std.proofs.Common.{◌≡◌, ℕ, ◌+◌, ◌*◌, ◌<◌, Bool, true, false, cond, ◌&&◌, not, List, [], ◌∷◌, ◌++◌, map, take, drop, find, Option, Some, None, option_map, Ok, nat_lt, refl, sym, ◌∙◌, ap, subst, arith}
+use Rattle.std.proofs.Common.{◌≡◌, ℕ, ◌+◌, ◌*◌, ◌<◌, Bool, true, false, cond, ◌&&◌, not, List, [], ◌∷◌, ◌++◌, map, take, find, Option, Some, None, option_map, Ok, nat_lt, refl, sym, ◌∙◌, ap, subst, arith}
 use Rattle.std.specs.Prelude.{◌==◌}
 use Rattle.std.specs.List.{All, AllByRecursion, list_all}
 use Rattle.std.specs.Char.{is_ascii_hexdigit}

@@ -1,25 +1,31 @@
 -- The lines that events print, one by one.
 --     text_from world events      the text from there on
 --     turn      one event more
-use Rattle.std.proofs.Common.{◌≡◌, ℕ, ◌+◌, ◌<◌, List, [], ◌∷◌, ◌++◌, length, drop, get_or, sym, ◌∙◌, ap, refl, append_assoc}
+use Rattle.std.proofs.Common.{◌≡◌, ℕ, ◌+◌, ◌<◌, List, [], ◌∷◌, ◌++◌, length, drop, get_or, sym, ◌∙◌, ap, subst, refl, append_assoc}
 use Rattle.std.proofs.lemmas.List.{at_drop_more}
 use Rattle.replay.specs.World.{World}
 use Rattle.replay.specs.TextWords.{by_history}
 use Rattle.replay.specs.Text.{ended_lines, printed_by, line_does}
 use Rattle.replay.specs.declared.line.Event.{Event}
 use Rattle.replay.specs.declared.world.World as program
+use Rattle.replay.specs.Lines.{Word, ScriptLine}
+use Rattle.replay.specs.Scripts.{client_word}
+use Rattle.replay.specs.Drafts.{in_list}
 use Rattle.replay.specs.KeptLines.{event_said}
-use Rattle.replay.specs.KeptScripts.{events_said}
-use Rattle.replay.specs.KeptWorlds.{IsWorld, Acts, Does}
+use Rattle.replay.specs.KeptScripts.{events_said, seats_named}
+use Rattle.replay.specs.KeptWorlds.{IsWorld, AreDistinct, words_in, Acts, Does}
+use Rattle.replay.proofs.worlds.SeatWords.{distinct-front, words-line}
+use Rattle.replay.proofs.lines.MoreLines.{event-built}
 
 -- the text from a world on
 abbrev pub text_from : World → List Event → List ℕ
 text_from world happened = ended_lines (printed_by by_history (events_said happened) world)
 
--- what was written, and the text from here, in a world that is stood for
+-- what was written, and the text from here, in a world that is stood for, whose clients and those to come have each a word of their own
 pub record IsWritten (kept : program.World) (text : List ℕ) (happened : List Event) (whole : List ℕ) : Type 0 where
   pub world : World
   pub stands : IsWorld kept world
+  pub distinct : AreDistinct (words_in world ++ seats_named (events_said happened))
   pub said : text ++ text_from world happened ≡ whole
 
 ended-append : (first rest : List (List ℕ)) → ended_lines (first ++ rest) ≡ ended_lines first ++ ended_lines rest
@@ -32,11 +38,17 @@ pub turn : (before after : program.World) (happened : List Event) (i : ℕ) (e :
 unfolding Acts
 turn before after happened i e text line now whole within is w does now_is =
     let printed = line_does by_history (event_said e) w.world in
-    let p = does w.world w.stands in
     let rest = drop (i + 1) happened in
+    let here : events_said (drop i happened) ≡ event_said e ∷ events_said rest = at_drop_more events_said happened i e within ∙ ap (λ (f : Event). events_said (f ∷ rest)) (sym is) in
+    let named : AreDistinct (words_in w.world ++ seats_named (event_said e ∷ events_said rest)) = subst (λ (ls : List ScriptLine). AreDistinct (words_in w.world ++ seats_named ls)) here w.distinct in
+    let p = does w.world w.stands (distinct-front (words_in w.world) (seats_named (event_said e ∷ events_said rest)) named) in
     record {
       world = printed.0;
       stands = p.stands;
+      distinct =
+          subst AreDistinct
+          (sym (append_assoc (words_in w.world) (in_list (client_word (event_said e))) (seats_named (events_said rest)))
+          ∙ ap (λ (ws : List Word). ws ++ seats_named (events_said rest)) (sym (words-line (event_said e) w.world (event-built e)))) named;
       said = ap (λ t. t ++ text_from printed.0 rest) (now_is ∙ ap (λ l. text ++ l) p.text)
           ∙ append_assoc text (ended_lines printed.1) (text_from printed.0 rest)
           ∙ ap (λ t. text ++ t) (sym (ended-append printed.1 (printed_by by_history (events_said rest) printed.0)))

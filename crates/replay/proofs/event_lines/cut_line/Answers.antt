@@ -1,12 +1,36 @@
-use Rattle.std.proofs.Common.{◌++◌, ◌∷◌, [], codes}
+use Rattle.std.proofs.Common.{◌++◌, ◌∷◌, [], ◌∙◌, codes}
+use Rattle.std.proofs.lemmas.List.{with_items_is}
+use Rattle.pushclient.specs.Clients as clients
+use Rattle.pushclient.specs.Clients.{Client}
 use Rattle.replay.specs.Text.{cuts}
-use Rattle.replay.specs.KeptWorlds.{named}
+use Rattle.replay.specs.KeptWorlds.{parties_of}
 use Rattle.replay.proofs.worlds.Doing.{if_acts, cuts-act}
+use Rattle.replay.proofs.worlds.Seats.{place-known, calls-moved}
+use Rattle.replay.proofs.worlds.SeatsDoing.{cuts-lone}
 use Rattle.replay.proofs.event_lines.cut_line.Goals as goal
 
-pub returns : goal.returns
-returns c =
-    let known = named c.args.world.now.peers.items in
-    let known_later = named c.cut.new.self.peers.items in
-    if_acts (cuts c.args.word.now) c.args.world.now.hub c.cut.new.self.hub known known_later (codes "cut " ++ (c.args.word.now ++ 10 ∷ [])) c.cut_text.result
-    (λ written is. cuts-act c.args.world.now.hub c.cut.new.self.hub known known_later c.args.word.now written c.cut.ensures is) c.cut_text.ensures
+-- a client
+pub returns-in-Some : goal.returns-in-Some
+returns-in-Some c =
+    let w = c.args.word.now in
+    let world = c.args.world.now in
+    let seats = world.seats.items in
+    let known = parties_of world in
+    let place = c.in-Some.place in
+    let changed = c.cut_at.new.seats in
+    let at = place-known w seats c.deref.result.now c.place_of.result c.deref.ensures.value c.place_of.ensures.place ∙ c.in-Some.is in
+    let calls = calls-moved (λ (p : Client). Unit {0}) clients.cut seats c.deref_mut.result.now changed _ place c.deref_mut.ensures.value
+    (with_items_is world.seats changed (c.cut_at.auto.seats ∙ c.deref_mut.ensures.len)) c.cut_at.ensures in
+    if_acts (cuts w) world.hub world.hub known _ (codes "cut " ++ (w ++ 10 ∷ [])) c.cut_text.result
+    (λ written is. cuts-lone world.hub known _ w place written at calls is) c.cut_text.ensures
+
+-- a peer
+pub returns-in-None : goal.returns-in-None
+returns-in-None c =
+    let w = c.args.word.now in
+    let world = c.args.world.now in
+    let known = parties_of world in
+    let known_later = parties_of c.cut.new.self in
+    let none = place-known w world.seats.items c.deref.result.now c.place_of.result c.deref.ensures.value c.place_of.ensures.place ∙ c.in-None.is in
+    if_acts (cuts w) world.hub c.cut.new.self.hub known known_later (codes "cut " ++ (w ++ 10 ∷ [])) c.cut_text-in-None.result
+    (λ written is. cuts-act world.hub c.cut.new.self.hub known known_later w written none c.cut.ensures is) c.cut_text-in-None.ensures

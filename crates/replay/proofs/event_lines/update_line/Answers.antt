@@ -1,11 +1,11 @@
 use Rattle.std.proofs.Common.{◌++◌, ◌∷◌, [], codes, decimal}
 use Rattle.replay.specs.Text.{updates}
-use Rattle.replay.specs.KeptWorlds.{named}
+use Rattle.replay.specs.KeptWorlds.{parties_of}
 use Rattle.replay.proofs.worlds.Doing.{if_acts, updates-act}
 use Rattle.replay.proofs.event_lines.update_line.Goals as goal
 
 pub returns-in-Ok : goal.returns-in-Ok
 returns-in-Ok c =
-    let known = named c.args.world.now.peers.items in
+    let known = parties_of c.args.world.now in
     if_acts (updates c.args.message.now) c.args.world.now.hub c.update.new.self known known (codes "update " ++ (decimal c.in-Ok.code ++ 10 ∷ [])) c.update_text.result
     (λ written is. updates-act c.args.world.now.hub c.update.new.self known c.args.message.now written c.in-Ok.code c.in-Ok.ensures.ok is) c.update_text.ensures

@@ -34,7 +34,7 @@ returns-then-not-branch c =
     unfit octets (taken_of c.lines.draft) c.lines.number c.lines.rest.now c.split_line.result.0.now after c.in-Some.line c.lines.invariant c.split_line.ensures.lines inside read refused
 
 pub lines-init : goal.lines-init
-lines-init c = begins c.args.octets.now c.new.result c.new-2.result.items c.new.ensures c.new-2.ensures.items
+lines-init c = begins c.args.octets.now c.new.result c.new-2.result.items c.new-3.result.items c.new.ensures c.new-2.ensures.items c.new-3.ensures.items
 
 pub lines-preserved : goal.lines-preserved
 lines-preserved c =

@@ -1,8 +1,14 @@
-use Rattle.std.proofs.Common.{◌≡◌, ◌<◌, ◌++◌, List, length, get_or, ap, subst, ◌∙◌, string_bytes}
+use Rattle.std.proofs.Common.{◌≡◌, ◌<◌, ◌++◌, ℕ, List, length, get_or, ap, subst, ◌∙◌, string_bytes}
 use Rattle.replay.specs.declared.line.Event.{Event}
 use Rattle.replay.specs.KeptScripts.{world_at_start}
 use Rattle.replay.proofs.worlds.ScriptTurns.{text_from, turn}
 use Rattle.replay.proofs.script_text.script_text.Goals as goal
+
+pub events-init : goal.events-init
+events-init c =
+    let start = world_at_start c.args.script in
+    let whole = text_from start c.args.script.events.items in
+    record { world = start; stands = c.in_ok-world.ensures; distinct = c.requires.distinct; said = ap (λ (t : List ℕ). t ++ whole) c.new-text.ensures.bytes }
 
 pub events-preserved : goal.events-preserved
 events-preserved c =

@@ -5,8 +5,9 @@ use Rattle.pushserver.specs.Giving.{give}
 use Rattle.pushserver.specs.Keeping.{kept_of}
 use Rattle.pushserver.specs.KeptHubs.{KeptHub}
 use Rattle.pushserver.proofs.AddedEntries.{give-adds}
-use Rattle.pushserver.proofs.GiveSteps.{on_each_err, wants-plain}
+use Rattle.pushserver.proofs.GiveSteps.{on_each_err}
 use Rattle.pushserver.proofs.Soundness.{sound}
+use Rattle.pushserver.proofs.Wanting.{may-want}
 use Rattle.pushserver.proofs.HubSteps.{keeps-hub, give-stands, seen}
 use Rattle.pushserver.proofs.hub.Hub.give.Goals as goal
 
@@ -15,7 +16,7 @@ give-requires c = sound c.self.inside.keeping c.self.invariant
 
 pub returns-in_err-give-clause-memory : goal.returns-in_err-give-clause-memory
 returns-in_err-give-clause-memory c = on_each_err c.from_residual.result (λ hub stands.
-    wants-plain (kept_of c.self.inside.keeping) hub c.args.session c.in_err-give.ensures.memory (seen (kept_of c.self.inside.keeping) c.args.self.now c.self.view_is hub stands))
+    may-want (kept_of c.self.inside.keeping) hub c.args.session c.in_err-give.ensures.memory (seen (kept_of c.self.inside.keeping) c.args.self.now c.self.view_is hub stands))
 
 pub invariant_of-self-2 : goal.invariant_of-self-2
 invariant_of-self-2 c =

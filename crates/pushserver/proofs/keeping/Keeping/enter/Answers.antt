@@ -4,8 +4,8 @@ use Rattle.rrset.specs.RecordSet.{with_changes}
 use Rattle.zoneupdate.proofs.Plans.{HaveLowerKeys}
 use Rattle.history.specs.Keeping.{records_now}
 use Rattle.pushsession.specs.Kept.{taken_back}
-use Rattle.pushserver.specs.Hubs.{all_sessions}
-use Rattle.pushserver.specs.Keeping.{entry_changes, kept_of}
+use Rattle.pushserver.specs.Hubs.{all_sessions, entry_changes}
+use Rattle.pushserver.specs.Keeping.{kept_of}
 use Rattle.pushserver.specs.NumberedSessions.{WaitBefore}
 use Rattle.pushserver.proofs.EntrySteps.{entry-lower, entry-rows, on_is_err, on_not_err}
 use Rattle.pushserver.proofs.Noting.{all_back-noted, all_back-kept}

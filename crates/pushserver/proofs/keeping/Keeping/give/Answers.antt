@@ -5,7 +5,7 @@ use Rattle.pushsession.specs.Kept.{KeptSession}
 use Rattle.pushserver.specs.Hubs.{Numbered}
 use Rattle.pushserver.specs.Giving.{give}
 use Rattle.pushserver.specs.Keeping.{kept_of, Gave, IsSound, IsToJudge}
-use Rattle.pushserver.proofs.GiveSteps.{on_some, on_each_err, seat-of, as_before, did-gave, to-judge, judge-wants}
+use Rattle.pushserver.proofs.GiveSteps.{on_some, on_each_err, seat-of, as_before, did-gave, to-judge, turn-wants, judge-wants}
 use Rattle.pushserver.proofs.keeping.Keeping.give.Goals as goal
 
 pub returns-in_err-given-clause-err : goal.returns-in_err-given-clause-err
@@ -13,6 +13,10 @@ returns-in_err-given-clause-err c =
     on_each_err c.from_residual.result (ap (λ (xs : Numbered KeptSession). record (kept_of c.args.self.now) { sessions = xs })
     (as_before c.args.number c.args.self.now.sessions (c.get_mut.follows.lender c.take_turn.new.session) c.in-Some.session.now c.take_turn.new.session c.in-Some.ensures.value c.in-Some.ensures.apart c.in_err-given.ensures.err
     (on_some c.get_mut.result c.in-Some.session c.in-Some.is (c.get_mut.follows.holds c.take_turn.new.session))))
+
+pub returns-in_err-given-clause-memory : goal.returns-in_err-given-clause-memory
+returns-in_err-given-clause-memory c =
+    on_each_err c.from_residual.result (turn-wants (kept_of c.args.self.now) c.args.number c.in-Some.session.now c.in-Some.ensures.value c.in_err-given.ensures.memory)
 
 pub answer_update-requires-clause-sound : goal.answer_update-requires-clause-sound
 answer_update-requires-clause-sound c =
@@ -50,4 +54,4 @@ pub returns-in-Judge-clause-memory : goal.returns-in-Judge-clause-memory
 returns-in-Judge-clause-memory c =
     let came = to-judge c.args.self.now c.args.number c.in-Some.session.now c.take_turn.new.session c.in_ok-given.field-0 c.in-Judge.found c.args.buf.now c.take_turn.new.buf (c.get_mut.follows.lender c.take_turn.new.session) c.requires c.in-Some.ensures.value c.in-Some.ensures.apart
     c.in-Judge.is (on_some c.get_mut.result c.in-Some.session c.in-Some.is (c.get_mut.follows.holds c.take_turn.new.session)) c.in_ok-given.ensures.ok in
-    on_each_err c.answer_update.result (judge-wants c.args.number c.in-Judge.found c.args.self.now.sessions came.ready)
+    on_each_err c.answer_update.result (judge-wants (kept_of c.args.self.now) c.args.number c.in-Judge.found came.ready)

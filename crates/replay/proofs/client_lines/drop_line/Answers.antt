@@ -1,0 +1,31 @@
+use Rattle.std.proofs.Common.{◌≡◌, ap, ◌∙◌, codes, string_bytes}
+use Rattle.std.proofs.lemmas.List.{with_items_is}
+use Rattle.pushclient.specs.Clients.{Client, unsubscribe}
+use Rattle.replay.specs.Text.{yes_or_no, unsubscribing}
+use Rattle.replay.specs.KeptWorlds.{parties_of}
+use Rattle.replay.proofs.worlds.Seats.{place-known, calls-moved, calls-told}
+use Rattle.replay.proofs.worlds.SeatsDoing.{asks-none, asks-told}
+use Rattle.replay.proofs.client_lines.drop_line.Goals as goal
+
+-- no client has the word
+pub returns-in-None : goal.returns-in-None
+returns-in-None c =
+    let w = c.args.word.now in
+    let world = c.args.world.now in
+    asks-none world.hub (parties_of world) (codes "dropped") w (unsubscribing c.args.question.now) (string_bytes c.new.result) (place-known w world.seats.items c.deref.result.now c.place_of.result c.deref.ensures.value c.place_of.ensures.place ∙ c.in-None.is) c.new.ensures.bytes
+
+-- what the client answers
+pub returns-in_ok-wanted-in-Some : goal.returns-in_ok-wanted-in-Some
+returns-in_ok-wanted-in-Some c =
+    let w = c.args.word.now in
+    let q = c.args.question.now in
+    let world = c.args.world.now in
+    let place = c.in-Some.place in
+    let answer = c.in_ok-wanted-in-Some.wanted in
+    let changed = c.drop_at.new.seats in
+    let known = place-known w world.seats.items c.deref.result.now c.place_of.result c.deref.ensures.value c.place_of.ensures.place ∙ c.in-Some.is in
+    let calls = calls-moved (λ (p : Client). answer ≡ (unsubscribe p q).0) (λ (p : Client). (unsubscribe p q).1) world.seats.items c.deref_mut.result.now changed _ place c.deref_mut.ensures.value
+    (with_items_is world.seats changed (c.drop_at.auto.seats ∙ c.deref_mut.ensures.len)) c.in_ok-wanted-in-Some.ensures in
+    asks-told world.hub (parties_of world) _ (codes "dropped") w (unsubscribing q) place (yes_or_no answer) c.dropped_line.result known
+    (calls-told (λ (p : Client). answer ≡ (unsubscribe p q).0) (λ (p : Client). yes_or_no answer ≡ yes_or_no (unsubscribe p q).0) (λ (p : Client). (unsubscribe p q).1) _ _ place (λ p is. ap yes_or_no is) calls)
+    c.dropped_line.ensures

@@ -1,0 +1,8 @@
+use Rattle.std.proofs.Common.{string_bytes}
+use Rattle.replay.specs.KeptWorlds.{seated}
+use Rattle.replay.proofs.worlds.TimedSeats.{Timing}
+use Rattle.replay.proofs.client_lines.timed_lines.Given as goal
+
+-- the first clients have had their moment
+abbrev pub invariant-seats : goal.invariant-seats
+invariant-seats l = Timing l.now (seated l.fn.seats) (string_bytes l.fn.text) (seated l.seats) (string_bytes l.text) l.place

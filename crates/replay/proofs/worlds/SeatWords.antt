@@ -1,0 +1,159 @@
+-- The words of a world's clients behind built lines: those that there were, and those that the lines name.
+--     words-line      the law of a line
+--     distinct-front      no word twice among the first
+use Rattle.std.proofs.Common.{◌≡◌, ℕ, Bool, true, false, cond, List, [], ◌∷◌, ◌++◌, fold, Option, Some, None, option_map, refl, sym, ◌∙◌, codes, append-nil}
+use Rattle.std.specs.List.{IsDistinct}
+use Rattle.std.specs.Str.{bytes_eq}
+use Rattle.std.proofs.lemmas.List.{map-append}
+use Rattle.coalesce.proofs.Packing.{each-front}
+use Rattle.dsosession.specs.declared.session.EndReason.{EndReason}
+use Rattle.pushserver.specs.Hubs as hubs
+use Rattle.pushserver.specs.Hubs.{now, connect}
+use Rattle.pushclient.specs.Clients.{Client, closed_as, connected, is_connected}
+use Rattle.pushclient.specs.Steps as steps
+use Rattle.replay.specs.Lines.{Word, ScriptLine, silent, timers, zone, lone, at_moment, update, ask, drop_question, open_connection, cut, send, stop, point}
+use Rattle.replay.specs.Scripts.{client_word}
+use Rattle.replay.specs.World.{Seat, World, new_seat, seat_of, with_seat, session_number, cut_seat, cut_connection, cut_peer}
+use Rattle.replay.specs.PassedOctets.{Exchanged, exchanged, enough}
+use Rattle.replay.specs.TextWords.{by_history}
+use Rattle.replay.specs.Text.{Printed, quietly, printing, cut_where, close_lines, timed, asks, subscribing, unsubscribing, opens_lone, opens_hub, opens, exchanges, session_of_word, line_does}
+use Rattle.replay.specs.Drafts.{in_list}
+use Rattle.replay.specs.KeptWorlds.{AreDistinct, words_in}
+use Rattle.replay.proofs.worlds.BuiltWorlds.{IsBuiltLine}
+use Rattle.replay.proofs.worlds.Seats.{words-put}
+
+pub distinct-front : (xs ys : List Word) → AreDistinct (xs ++ ys) → AreDistinct xs
+unfolding IsDistinct
+distinct-front [] ys h = tt
+distinct-front (x ∷ xs) ys h = (each-front (λ y. bytes_eq x y ≡ false) xs ys h.0, distinct-front xs ys h.1)
+
+-- ---- the same words
+
+abbrev Same : World → World → Type 0
+Same world later = words_in later ≡ words_in world
+
+same-put : (x : Seat) (world : World) → Same world (with_seat x world)
+same-put x world = words-put x world.seats
+
+same-cut_connection : (seat : Seat) (world : World) → Same world (cut_connection seat world)
+same-cut_connection seat world = words-put (cut_seat seat) world.seats
+
+same-cut_where : (ls : List (List ℕ)) (seat : Seat) (world : World) → Same world (cut_where ls seat world)
+same-cut_where [] seat world = refl
+same-cut_where (l ∷ ls) seat world = same-cut_connection seat world
+
+same-timed : (t : ℕ) (seats : List Seat) (p : Printed) → Same p.0 (fold (timed t) p seats).0
+same-timed t [] p = refl
+same-timed t (seat ∷ seats) p =
+    let later : Seat = record seat { client = steps.moment seat.client t } in
+    same-timed t seats (timed t p seat) ∙ same-cut_where (close_lines seat.word (closed_as later.client)) later (with_seat later p.0) ∙ same-put later p.0
+
+module _ (world : World) where
+  abbrev Keeps : World → Type 0
+  Keeps later = Same world later
+
+  same-exchanges : (w : Word) (number : ℕ) (octets : List ℕ) (there : World) → Keeps there → Keeps (exchanges w number octets there).0
+  same-exchanges w number octets there h = by x.over
+    where
+      x : Exchanged
+      x = exchanged enough number octets there.hub []
+
+      later : World
+      later = record there { hub = x.hub }
+
+      by : (o : Option EndReason) → Keeps (elim o as (λ _. World) [ None ↦ later | Some reason ↦ cut_peer w later ])
+      by None = h
+      by (Some reason) = h
+
+  same-sends : (w : Word) (octets : List ℕ) → Keeps (line_does by_history (send w octets) world).0
+  same-sends w octets = by (session_number world w)
+    where
+      new_place : Option ℕ → Option (ℕ × World)
+      new_place o = option_map (λ number. (number, record world { hub = (connect world.hub).1; peers = world.peers ++ (w, number) ∷ [] })) o
+
+      by_place : Option (ℕ × World) → Printed
+      by_place o = elim o as (λ _. Printed) [
+        | None ↦ printing (codes "noseat" ∷ w ∷ []) world
+        | Some place ↦ exchanges w place.0 octets place.1
+      ]
+
+      by_connect : (o : Option ℕ) → Keeps (by_place (new_place o)).0
+      by_connect None = refl
+      by_connect (Some number) = same-exchanges w number octets (record world { hub = (connect world.hub).1; peers = world.peers ++ (w, number) ∷ [] }) refl
+
+      by : (o : Option ℕ) → Keeps (by_place (elim o as (λ _. Option (ℕ × World)) [ Some number ↦ Some (number, world) | None ↦ new_place (connect world.hub).0 ])).0
+      by (Some number) = same-exchanges w number octets world refl
+      by None = by_connect (connect world.hub).0
+
+  same-cuts : (w : Word) → Keeps (line_does by_history (cut w) world).0
+  same-cuts w = by (seat_of world w)
+    where
+      by : (o : Option Seat) → Keeps (elim o as (λ _. World) [ None ↦ cut_peer w world | Some seat ↦ cut_connection seat world ])
+      by None = refl
+      by (Some seat) = same-cut_connection seat world
+
+  same-stops : (w : Word) (rcode delay : ℕ) → Keeps (line_does by_history (stop w rcode delay) world).0
+  same-stops w rcode delay = by (session_of_word world w)
+    where
+      by : (o : Option ℕ) → Keeps (elim o as (λ _. World) [ None ↦ world | Some number ↦ record world { hub = hubs.stop world.hub number rcode delay } ])
+      by None = refl
+      by (Some number) = refl
+
+  same-asks : (verb : List ℕ) (w : Word) (call : Client → List ℕ × Client) → Keeps (asks verb w call world).0
+  same-asks verb w call = by (seat_of world w)
+    where
+      by : (o : Option Seat) → Keeps (elim o as (λ _. Printed) [
+        | None ↦ quietly world
+        | Some seat ↦ printing (verb ∷ w ∷ (call seat.client).0 ∷ []) (with_seat (record seat { client = (call seat.client).1 }) world)
+      ]).0
+      by None = refl
+      by (Some seat) = same-put (record seat { client = (call seat.client).1 }) world
+
+  same-opens_hub : (seat : Seat) → Keeps (opens_hub seat world).0
+  same-opens_hub seat = by (connect world.hub).0
+    where
+      by : (o : Option ℕ) → Keeps (elim o as (λ _. Printed) [
+        | None ↦ printing (codes "noseat" ∷ seat.word ∷ []) world
+        | Some number ↦ printing (codes "open" ∷ seat.word ∷ []) (with_seat (record seat { client = connected (now world.hub) seat.client; session = Some number }) (record world { hub = (connect world.hub).1 }))
+      ]).0
+      by None = refl
+      by (Some number) = same-put (record seat { client = connected (now world.hub) seat.client; session = Some number }) (record world { hub = (connect world.hub).1 })
+
+  same-opens : (w : Word) → Keeps (opens w world).0
+  same-opens w = by (seat_of world w)
+    where
+      by_kind : (seat : Seat) (b : Bool) → Keeps (cond b (opens_lone seat world) (opens_hub seat world)).0
+      by_kind seat true = same-put (record seat { client = connected (now world.hub) seat.client }) world
+      by_kind seat false = same-opens_hub seat
+
+      by_open : (seat : Seat) (b : Bool) → Keeps (cond b (printing (codes "already" ∷ w ∷ []) world) (cond seat.is_lone (opens_lone seat world) (opens_hub seat world))).0
+      by_open seat true = refl
+      by_open seat false = by_kind seat seat.is_lone
+
+      by : (o : Option Seat) → Keeps (elim o as (λ _. Printed) [
+        | None ↦ quietly world
+        | Some seat ↦ cond (is_connected seat.client) (printing (codes "already" ∷ w ∷ []) world) (cond seat.is_lone (opens_lone seat world) (opens_hub seat world))
+      ]).0
+      by None = refl
+      by (Some seat) = by_open seat (is_connected seat.client)
+
+  quiet : (later : World) → Keeps later → words_in later ≡ words_in world ++ []
+  quiet later h = h ∙ sym (append-nil (words_in world))
+
+pub words-line : (line : ScriptLine) (world : World) → IsBuiltLine line → words_in (line_does by_history line world).0 ≡ words_in world ++ in_list (client_word line)
+words-line silent world is = quiet world world refl
+words-line (timers i k) world is = quiet world world refl
+words-line (zone apex serial mode) world is = quiet world world refl
+words-line (lone w) world is = map-append (λ (s : Seat). s.word) world.seats (new_seat w true ∷ [])
+words-line (at_moment t) world is =
+    let r = hubs.moment world.hub t in
+    quiet world (line_does by_history (at_moment t) world).0 (same-timed (now r.1) world.seats (record world { hub = r.1 }, cond r.0 (codes "full" ∷ []) []))
+words-line (update message) world is = quiet world (line_does by_history (update message) world).0 refl
+words-line (ask w question) world is = quiet world (line_does by_history (ask w question) world).0 (same-asks world (codes "asked") w (subscribing question))
+words-line (drop_question w question) world is = quiet world (line_does by_history (drop_question w question) world).0 (same-asks world (codes "dropped") w (unsubscribing question))
+words-line (open_connection w) world is = quiet world (line_does by_history (open_connection w) world).0 (same-opens world w)
+words-line (cut w) world is = quiet world (line_does by_history (cut w) world).0 (same-cuts world w)
+words-line (send w octets) world is = quiet world (line_does by_history (send w octets) world).0 (same-sends world w octets)
+words-line (stop w rcode delay) world is = quiet world (line_does by_history (stop w rcode delay) world).0 (same-stops world w rcode delay)
+words-line point world is = quiet world world refl
+words-line _ world is = absurd cc

@@ -1,0 +1,279 @@
+-- Lone clients, each where it stands.
+--     splits      the client of a word, and those before and behind it
+--     absent      where no client has a word, no seat has
+--     called      what a call of the client of a word makes of the seats
+--     words-put      a client that is another one keeps its word
+--     seat-there, calls-made      what the code has of a client at a place
+use Rattle.std.proofs.Common.{◌≡◌, ℕ, zero, suc, ◌<◌, Bool, true, false, cond, List, [], ◌∷◌, ◌++◌, map, find, length, set, get_or, Option, Some, None, option_map, refl, sym, ◌∙◌, ap, subst, arith}
+use Rattle.std.specs.Prelude.{position}
+use Rattle.std.specs.List.{IsDistinct, AllByRecursion}
+use Rattle.std.specs.Str.{bytes_eq}
+use Rattle.std.proofs.lemmas.List.{get_or-map, map-set}
+use Rattle.std.proofs.lemmas.Slice.Eq.{bytes_eq-Decides}
+use Rattle.history.proofs.Positions.{position-cons}
+use Rattle.history.proofs.ZoneLists.{position-map}
+use Rattle.dsosession.specs.declared.session.CloseReason.{CloseReason}
+use Rattle.pushclient.specs.Clients.{Client, is_connected, connected, cut, closed_as}
+use Rattle.pushclient.specs.Steps.{moment}
+use Rattle.pushclient.specs.Rule.{KeptClient, StandsFor}
+use Rattle.replay.specs.Lines.{Word}
+use Rattle.replay.specs.World.{Seat, World, seat_of, with_seat}
+use Rattle.replay.specs.declared.seats.Seat as lone
+use Rattle.replay.specs.KeptWorlds.{KeptSeat, Seated, seat_kept, seated, StandsForSeat, StandForSeats, AreDistinct, words_in}
+use Rattle.replay.specs.KeptSeats.{has_word, Makes, Calls, cut_closed}
+use Rattle.replay.proofs.worlds.Connected.{connected-is, moment-connected}
+
+-- ---- words
+
+pub same_word : (v w : Word) → bytes_eq v w ≡ true → v ≡ w
+same_word v w h = (bytes_eq-Decides v w).0 h
+
+pub word_itself : (w : Word) → bytes_eq w w ≡ true
+word_itself w = (bytes_eq-Decides w w).1 refl
+
+pub other_way : (v w : Word) → bytes_eq v w ≡ false → bytes_eq w v ≡ false
+other_way v w h = by (bytes_eq w v) refl
+  where
+    by : (b : Bool) → bytes_eq w v ≡ b → b ≡ false
+    by true e = (let wrong : true ≡ false = sym (word_itself v) ∙ ap (bytes_eq v) (sym (same_word w v e)) ∙ h in absurd cc)
+    by false e = refl
+
+abbrev pub words_of : List Seat → List Word
+words_of seats = map (λ (s : Seat). s.word) seats
+
+abbrev pub is_of_word : Word → Seat → Bool
+is_of_word w s = bytes_eq s.word w
+
+abbrev pub put_seat : Word → Seat → List Seat → List Seat
+put_seat v x seats = map (λ (s : Seat). cond (bytes_eq s.word v) x s) seats
+
+pub words-put : (x : Seat) (seats : List Seat) → words_of (put_seat x.word x seats) ≡ words_of seats
+words-put x [] = refl
+words-put x (s ∷ ss) = by (bytes_eq s.word x.word) refl (words-put x ss)
+  where
+    by : (b : Bool) → bytes_eq s.word x.word ≡ b → words_of (put_seat x.word x ss) ≡ words_of ss → (cond b x s).word ∷ words_of (put_seat x.word x ss) ≡ s.word ∷ words_of ss
+    by true e h = λ i. sym (same_word s.word x.word e) i ∷ h i
+    by false e h = ap (λ (ws : List Word). s.word ∷ ws) h
+
+-- ---- one seat among others
+
+all-at : (P : Word → Type 0) (front back : List Seat) (s : Seat) → AllByRecursion P (words_of (front ++ s ∷ back)) → P s.word
+all-at P [] back s all = all.0
+all-at P (f ∷ front) back s all = all-at P front back s all.1
+
+untouched : (x : Seat) (v : Word) (seats : List Seat) → AllByRecursion (λ y. bytes_eq v y ≡ false) (words_of seats) → put_seat v x seats ≡ seats
+untouched x v [] all = refl
+untouched x v (s ∷ ss) all = λ i. cond (other_way v s.word all.0 i) x s ∷ untouched x v ss all.1 i
+
+-- it alone is another one
+pub put-at : (v : Word) (front back : List Seat) (s x : Seat) → AreDistinct (words_of (front ++ s ∷ back)) → s.word ≡ v → put_seat v x (front ++ s ∷ back) ≡ front ++ x ∷ back
+unfolding IsDistinct
+put-at v [] back s x distinct same =
+    let here : bytes_eq s.word v ≡ true = ap (bytes_eq s.word) (sym same) ∙ word_itself s.word in
+    let rest = untouched x v back (subst (λ (u : Word). AllByRecursion (λ y. bytes_eq u y ≡ false) (words_of back)) same distinct.0) in
+    λ i. cond (here i) x s ∷ rest i
+put-at v (f ∷ front) back s x distinct same =
+    let other : bytes_eq f.word v ≡ false = ap (bytes_eq f.word) (sym same) ∙ all-at (λ y. bytes_eq f.word y ≡ false) front back s distinct.0 in
+    let rest = put-at v front back s x distinct.1 same in
+    λ i. cond (other i) x f ∷ rest i
+
+-- ---- what is kept of them
+
+pub seat-at : (front back : List Seat) (s : Seat) (ks : Seated) (k : KeptSeat) → StandForSeats ks (front ++ s ∷ back) → k ≡ get_or ks (length front) k → StandsForSeat k s
+seat-at [] back s [] k h is = absurd h
+seat-at [] back s (l ∷ ks) k h is = subst (λ (m : KeptSeat). StandsForSeat m s) (sym is) h.0
+seat-at (f ∷ front) back s [] k h is = absurd h
+seat-at (f ∷ front) back s (l ∷ ks) k h is = seat-at front back s ks k h.1 is
+
+pub set-at : (front back : List Seat) (s x : Seat) (ks : Seated) (k : KeptSeat) → StandForSeats ks (front ++ s ∷ back) → StandsForSeat k x → StandForSeats (set ks (length front) k) (front ++ x ∷ back)
+set-at [] back s x [] k h new = absurd h
+set-at [] back s x (l ∷ ks) k h new = (new, h.1)
+set-at (f ∷ front) back s x [] k h new = absurd h
+set-at (f ∷ front) back s x (l ∷ ks) k h new = (h.0, set-at front back s x ks k h.1 new)
+
+pub stand-more : (ks : Seated) (ss : List Seat) (k : KeptSeat) (s : Seat) → StandForSeats ks ss → StandsForSeat k s → StandForSeats (ks ++ k ∷ []) (ss ++ s ∷ [])
+stand-more [] [] k s h new = (new, tt)
+stand-more [] (t ∷ ss) k s h new = absurd h
+stand-more (l ∷ ks) [] k s h new = absurd h
+stand-more (l ∷ ks) (t ∷ ss) k s h new = (h.0, stand-more ks ss k s h.1 new)
+
+-- ---- what the code has
+
+pub seat-there : (seats : List lone.Seat) (place : ℕ) (s : lone.Seat) (k : KeptSeat) → place < length seats → s ≡ get_or seats place s → k ≡ get_or (seated seats) place k → seat_kept s ≡ k
+seat-there seats place s k within is there = ap seat_kept is ∙ sym (get_or-map seat_kept seats place s k within) ∙ sym there
+
+-- where the client of a word stands
+pub place-known : (w : Word) (seats slice : List lone.Seat) (o : Option ℕ) → slice ≡ seats → o ≡ position (λ s. has_word w (seat_kept s)) slice → position (has_word w) (seated seats) ≡ o
+place-known w seats slice o same is = position-map seat_kept (has_word w) seats ∙ ap (λ (ss : List lone.Seat). position (λ s. has_word w (seat_kept s)) ss) (sym same) ∙ sym is
+
+-- a client at a place is another one
+pub calls-made : (answers : Client → Type 0) (next : Client → Client) (seats later : List lone.Seat) (place : ℕ) (s after : lone.Seat) → place < length seats → s ≡ get_or seats place s
+    → later ≡ set seats place after → Makes answers next (seat_kept (get_or seats place s)) (seat_kept after) → Calls answers next (seated seats) place (seated later)
+calls-made answers next seats later place s after within is later_is makes = record {
+  seat = seat_kept (get_or seats place s);
+  after = seat_kept after;
+  there = sym (get_or-map seat_kept seats place s (seat_kept (get_or seats place s)) within);
+  is = ap seated later_is ∙ map-set seat_kept seats place after;
+  makes = makes;
+}
+
+-- ---- the client of a word
+
+pub record Splits (w : Word) (ss : List Seat) (place : ℕ) : Type 0 where
+  pub front : List Seat
+  pub seat : Seat
+  pub back : List Seat
+  pub is : ss ≡ front ++ seat ∷ back
+  pub count : length front ≡ place
+  pub found : find (is_of_word w) ss ≡ Some seat
+  pub word : seat.word ≡ w
+
+some_place : (m n : ℕ) → Some m ≡ Some n → m ≡ n
+some_place m n e = cc
+
+pub splits : (w : Word) (ks : Seated) (ss : List Seat) (place : ℕ) → StandForSeats ks ss → position (has_word w) ks ≡ Some place → Splits w ss place
+splits w [] [] place h at = absurd cc
+splits w [] (s ∷ ss) place h at = absurd h
+splits w (k ∷ ks) [] place h at = absurd h
+splits w (k ∷ ks) (s ∷ ss) place h at = by (λ j there. splits w ks ss j h.1 there) (bytes_eq k.word w) refl (position (has_word w) ks) refl (sym (position-cons (has_word w) k ks) ∙ at)
+  where
+    tested : (b : Bool) → bytes_eq k.word w ≡ b → bytes_eq s.word w ≡ b
+    tested b e = ap (λ (v : Word). bytes_eq v w) (sym h.0.word) ∙ e
+
+    behind : (j : ℕ) → suc j ≡ place → bytes_eq s.word w ≡ false → Splits w ss j → Splits w (s ∷ ss) place
+    behind j next other rest = record {
+      front = s ∷ rest.front;
+      seat = rest.seat;
+      back = rest.back;
+      is = ap (λ (ts : List Seat). s ∷ ts) rest.is;
+      count = ap suc rest.count ∙ next;
+      found = ap (λ (b : Bool). cond b (Some s) (find (is_of_word w) ss)) other ∙ rest.found;
+      word = rest.word;
+    }
+
+    by : ((j : ℕ) → position (has_word w) ks ≡ Some j → Splits w ss j) → (b : Bool) → bytes_eq k.word w ≡ b → (o : Option ℕ) → position (has_word w) ks ≡ o → cond b (Some 0) (option_map suc o) ≡ Some place → Splits w (s ∷ ss) place
+    by rest true e o there e' = record {
+      front = [];
+      seat = s;
+      back = ss;
+      is = refl;
+      count = some_place 0 place e';
+      found = ap (λ (b : Bool). cond b (Some s) (find (is_of_word w) ss)) (tested true e);
+      word = same_word s.word w (tested true e);
+    }
+    by rest false e None there e' = absurd cc
+    by rest false e (Some j) there e' = behind j (some_place (suc j) place e') (tested false e) (rest j there)
+
+pub absent : (w : Word) (ks : Seated) (ss : List Seat) → StandForSeats ks ss → position (has_word w) ks ≡ None → find (is_of_word w) ss ≡ None
+absent w [] [] h at = refl
+absent w [] (s ∷ ss) h at = absurd h
+absent w (k ∷ ks) [] h at = absurd h
+absent w (k ∷ ks) (s ∷ ss) h at = by (absent w ks ss h.1) (bytes_eq k.word w) refl (position (has_word w) ks) refl (sym (position-cons (has_word w) k ks) ∙ at)
+  where
+    by : (position (has_word w) ks ≡ None → find (is_of_word w) ss ≡ None) → (b : Bool) → bytes_eq k.word w ≡ b → (o : Option ℕ) → position (has_word w) ks ≡ o → cond b (Some 0) (option_map suc o) ≡ None → find (is_of_word w) (s ∷ ss) ≡ None
+    by rest true e o there e' = absurd cc
+    by rest false e None there e' = ap (λ (b : Bool). cond b (Some s) (find (is_of_word w) ss)) (ap (λ (v : Word). bytes_eq v w) (sym h.0.word) ∙ e) ∙ rest there
+    by rest false e (Some j) there e' = absurd cc
+
+-- ---- a call of it
+
+-- the client of the word answers so, and any seat with what the call makes of it may stand in its place
+pub record IsCalled (w : Word) (later : Seated) (world : World) (answers : Client → Type 0) (next : Client → Client) : Type 0 where
+  pub seat : Seat
+  pub found : seat_of world w ≡ Some seat
+  pub word : seat.word ≡ w
+  pub is_lone : seat.is_lone ≡ true
+  pub session : seat.session ≡ None
+  pub answer : answers seat.client
+  pub stands : (x : Seat) → x.word ≡ seat.word → x.is_lone ≡ true → x.session ≡ None → x.client ≡ next seat.client → StandForSeats later (with_seat x world).seats
+
+pub called : (w : Word) (ks later : Seated) (world : World) (place : ℕ) (answers : Client → Type 0) (next : Client → Client) → StandForSeats ks world.seats → AreDistinct (words_in world)
+    → position (has_word w) ks ≡ Some place → Calls answers next ks place later → IsCalled w later world answers next
+called w ks later world place answers next h distinct at c =
+    let p = splits w ks world.seats place h at in
+    let apart : AreDistinct (words_of (p.front ++ p.seat ∷ p.back)) = subst (λ (ss : List Seat). AreDistinct (words_of ss)) p.is distinct in
+    let all : StandForSeats ks (p.front ++ p.seat ∷ p.back) = subst (StandForSeats ks) p.is h in
+    let there : c.seat ≡ get_or ks (length p.front) c.seat = c.there ∙ ap (λ (n : ℕ). get_or ks n c.seat) (sym p.count) in
+    let here : StandsForSeat c.seat p.seat = seat-at p.front p.back p.seat ks c.seat all there in
+    record {
+      seat = p.seat;
+      found = p.found;
+      word = p.word;
+      is_lone = here.is_lone;
+      session = here.session;
+      answer = c.makes.answer p.seat.client here.client;
+      stands = λ x word lone session client.
+          let new : StandsForSeat c.after x = record {
+            word = c.makes.word ∙ here.word ∙ sym word;
+            is_lone = lone;
+            session = session;
+            is_open = c.makes.is_open p.seat.client here.is_open here.client ∙ ap is_connected (sym client);
+            client = subst (StandsFor c.after.client) (sym client) (c.makes.client p.seat.client here.client);
+          } in
+          let seats : put_seat x.word x world.seats ≡ p.front ++ x ∷ p.back = ap (put_seat x.word x) p.is ∙ put-at x.word p.front p.back p.seat x apart (sym word) in
+          let kept : later ≡ set ks (length p.front) c.after = c.is ∙ ap (λ (n : ℕ). set ks n c.after) (sym p.count) in
+          subst (λ (l : Seated). StandForSeats l (put_seat x.word x world.seats)) (sym kept)
+          (subst (StandForSeats (set ks (length p.front) c.after)) (sym seats) (set-at p.front p.back p.seat x ks c.after all new));
+    }
+
+-- ---- what one client makes of a call
+
+-- a call that leaves its connection, or that it has none
+pub stays-makes : (answers : Client → Type 0) (next : Client → Client) (k : KeptSeat) (client : KeptClient) → ((plain : Client) → StandsFor k.client plain → answers plain × StandsFor client (next plain))
+    → ((plain : Client) → is_connected (next plain) ≡ is_connected plain) → Makes answers next k (record k { client = client })
+stays-makes answers next k client does keeps = record {
+  word = refl;
+  answer = λ plain s. (does plain s).0;
+  client = λ plain s. (does plain s).1;
+  is_open = λ plain e s. e ∙ sym (keeps plain);
+}
+
+pub opened-makes : (t : ℕ) (k : KeptSeat) (client : KeptClient) → ((plain : Client) → StandsFor k.client plain → StandsFor client (connected t plain)) → Makes (λ c. Unit {0}) (connected t) k (record k { is_open = true; client = client })
+opened-makes t k client does = record { word = refl; answer = λ plain s. tt; client = does; is_open = λ plain e s. sym (connected-is t plain) }
+
+pub cut-makes : (k : KeptSeat) (client : KeptClient) → ((plain : Client) → StandsFor k.client plain → StandsFor client (cut plain)) → Makes (λ c. Unit {0}) cut k (record k { is_open = false; client = client })
+cut-makes k client does = record { word = refl; answer = λ plain s. tt; client = does; is_open = λ plain e s. refl }
+
+abbrev pub ClosesAs : ℕ → Option CloseReason → Client → Type 0
+ClosesAs t closing c = closing ≡ closed_as (moment c t)
+
+abbrev pub then_cut : ℕ → Option CloseReason → Client → Client
+then_cut t closing c = cut_closed closing (moment c t)
+
+module _ (t : ℕ) (k : KeptSeat) (client : KeptClient) (closing : Option CloseReason) (does : (plain : Client) → StandsFor k.client plain → StandsFor client (moment plain t)) (tells : (plain : Client) → StandsFor client plain → closing ≡ closed_as plain) where
+  pub goes-on-makes : closing ≡ None → Makes (ClosesAs t None) (then_cut t None) k (record k { client = client })
+  goes-on-makes none =
+      stays-makes (ClosesAs t None) (then_cut t None) k client (λ plain s. (let m = does plain s in (sym none ∙ tells (moment plain t) m, m))) (moment-connected t)
+
+  pub closes-makes : (reason : CloseReason) (last : KeptClient) → closing ≡ Some reason → ((plain : Client) → StandsFor client plain → StandsFor last (cut plain)) → Makes (ClosesAs t (Some reason)) (then_cut t (Some reason)) k (record k { is_open = false; client = last })
+  closes-makes reason last some cuts = record {
+    word = refl;
+    answer = λ plain s. sym some ∙ tells (moment plain t) (does plain s);
+    client = λ plain s. cuts (moment plain t) (does plain s);
+    is_open = λ plain e s. refl;
+  }
+
+-- what is known of an answer, said in other words
+pub calls-told : (answers told : Client → Type 0) (next : Client → Client) (before later : Seated) (place : ℕ) → ((plain : Client) → answers plain → told plain) → Calls answers next before place later → Calls told next before place later
+calls-told answers told next before later place tells c = record {
+  seat = c.seat;
+  after = c.after;
+  there = c.there;
+  is = c.is;
+  makes = record { word = c.makes.word; answer = λ plain s. tells plain (c.makes.answer plain s); client = c.makes.client; is_open = c.makes.is_open };
+}
+
+-- the client at a place
+pub record IsThere (seats : Seated) (place : ℕ) : Type 0 where
+  pub kept : KeptSeat
+  pub there : kept ≡ get_or seats place kept
+
+pub is-there : (seats : Seated) (place : ℕ) → place < length seats → IsThere seats place
+is-there [] place within = absurd (omega (arith, within))
+is-there (k ∷ ks) zero within = record { kept = k; there = refl }
+is-there (k ∷ ks) (suc place) within = (let r : IsThere ks place = is-there ks place (omega (arith, within)) in record { kept = r.kept; there = r.there })
+
+-- the same of the vectors that slices were lent from
+pub calls-moved : (answers : Client → Type 0) (next : Client → Client) (items slice changed later : List lone.Seat) (place : ℕ) → slice ≡ items → later ≡ changed → Calls answers next (seated slice) place (seated changed) → Calls answers next (seated items) place (seated later)
+calls-moved answers next items slice changed later place same later_is c =
+    subst (λ (l : List lone.Seat). Calls answers next (seated items) place (seated l)) (sym later_is) (subst (λ (l : List lone.Seat). Calls answers next (seated l) place (seated changed)) same c)
