@@ -27,7 +27,7 @@ use Rattle.flight_laws.specs.Turns.{BehindGiving}
 
 -- ---- no message ends it
 
--- the session has neither ended nor been stopped
+-- the answer tells no end and no stop
 abbrev pub gives_on : Given → Bool
 gives_on (Bytes n) = true
 gives_on Worked = true
@@ -41,7 +41,7 @@ pub record GoesOn (g : Giving) (number : ℕ) : Type 0 where
   pub live : later.standing ≡ Live
   pub given : IsTrue (gives_on g.given)
 
--- of a live session of a sound hub, whatever waits to go or came: it hands on octets, reacts to the client's first message, packs a PUSH, or does nothing
+-- of a live session of a sound hub, whatever waits to go, and whatever of the client's messages came
 abbrev pub SessionsGoOn : Type 0
 SessionsGoOn = (hub : Hub) (number room : ℕ) (told : List (ℕ × ℕ)) (session : Session) (client : Client) (c : Connection) (up_wire down_wire : List ℕ)
     → IsSoundHub hub → session_of hub number ≡ Some session → session.standing ≡ Live
@@ -58,7 +58,7 @@ pub record IsDelayed (session : Session) (flying : List Flying) (reason : CloseR
   pub closes_so : reason ≡ closes.Delay delay rcode
   pub stopped : is_open session.standing ≡ false
 
--- an open client closes by a step where such a message comes down, and nowhere else; the IDs of active subscriptions differ
+-- an open client closes by a step only where such a message comes down; the IDs of active subscriptions differ
 abbrev pub ClientsGoOn : Type 0
 ClientsGoOn = (hub : Hub) (told : List (ℕ × ℕ)) (session : Session) (client : Client) (c : Connection) (up_wire down_wire : List ℕ) (reason : CloseReason)
     → IsDistinct (λ s t. s.id == t.id) session.subscriptions → open_connection client ≡ Some c
@@ -104,7 +104,7 @@ ClientsGiveOctets = (hub : Hub) (n : ℕ) (told : List (ℕ × ℕ)) (session : 
 
 -- ---- what was taken
 
--- the octets of the messages taken, and those that come down, are those of what was made
+-- the octets of the messages taken, and those that come down, are as many as those of what was made
 abbrev pub TakenIsCounted : Type 0
 TakenIsCounted = (e : BothEnds) (up down : List ℕ) (i : InFlight e up down) → size_of_made i.taken + length down ≡ size_of_made e.made
 

@@ -52,7 +52,7 @@ HoldsAtLast = (hub : Hub) (session : Session) (e : BothEnds) (taken : List Made)
     → FitsHistory hub session e taken flying → FirstAnswersEnd session → EndsBeforeNext e.timers taken flying reached
     → AreHeldAtLast hub e.told taken reached e.wishes
 
--- once further messages are taken, each question that is held by then has this set
+-- once further messages are taken, each question that is held by then, and whose first answer has arrived by then, has this set
 abbrev pub WillHold : List (ℕ × ℕ) → List Made → List Flying → (Question → RecordSet) → List Wish → Type 0
 WillHold told made more set wishes = AllByRecursion (λ w. (id : ℕ) → will_hold more w ≡ Some id → HoldsThen told made id w.question (set w.question)) wishes
 
@@ -75,7 +75,7 @@ pub record HoldsHistory (hub : Hub) (told : List (ℕ × ℕ)) (session : Sessio
   pub known : AllByRecursion (λ w. (id : ℕ) → w.standing ≡ answered id → IsSome (told_end told id)) client.wishes
   -- and once that has arrived, it has the records that the history has at the note of the last message taken
   pub last : AreHeldAtLast hub told i.taken (size_of_made i.taken + length c.input) client.wishes
-  -- so it will after each message that comes down, at that message's note, and after all of them with what counts as sent
+  -- so it will after each message that comes down, at that message's note, and, while the session goes on, after all of them with what counts as sent
   pub along : (front back : List Flying) (f : Flying) → i.flying ≡ front ++ f ∷ back
       → WillHold told (i.taken ++ map (made_of hub.timers) (front ++ f ∷ [])) (front ++ f ∷ []) (λ question. records_noted hub f.note question) client.wishes
   pub sent_all : IsTrue (is_open session.standing) → WillHold told session.made i.flying (λ question. matching question (sent hub session question.name)) client.wishes

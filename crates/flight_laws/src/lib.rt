@@ -216,8 +216,8 @@ pub fn what_is_held()
     ensures sent { HoldsAllSent }
 {}
 
-/// No message ends it: each call of `give` leaves a live session live, whatever came up, and the client's step closes the connection
-/// at a Retry Delay alone, the last word of a session that doesn't go on (RFC 8490, 6.6.1).
+/// No message ends it: on a sound hub without links each call of `give` leaves a live session live, whatever of the client's messages
+/// came up, and the client's step closes the connection at a Retry Delay alone, of a session that doesn't go on (RFC 8490, 6.6.1).
 pub fn no_message_ends_it()
     ensures ends { NoMessageEndsIt }
 {}
@@ -239,12 +239,13 @@ pub fn taken_stays()
 
 /// What a client holds of a session under way is the history: each question that is held, and whose first answer has arrived whole, has
 /// by the notices taken exactly the records that the history has at the note of the last message taken, and so it will after each
-/// message that comes down.
+/// message that comes down. The session was told the history, its first answers end where messages do, and no whole message waits.
 pub fn held_is_history()
     ensures held { HeldIsHistory }
 {}
 
-/// The client has taken the same messages behind each call of the hub, a `give` of its session among them, as before it.
+/// The client has taken the same messages behind a `give` of its session as before it, and behind each call of the hub that is neither
+/// that, nor octets for its session, nor its end.
 pub fn calls_take_nothing()
     ensures gives { GivesTakeNothing }
     ensures others { OtherCallsTakeNothing }

@@ -1,4 +1,4 @@
--- Words for worlds that the rule on what is under way refuses: from each a step would do harm.
+-- Words for worlds that the rule on what is under way refuses, and for their neighbours.
 --     idle, begun, holding      what both ends know, of small worlds
 --     address, wish, active, down      their parts
 use Rattle.std.specs.Prelude.{ℕ, zero, suc, List, [], ◌∷◌, codes, None, true, false}
@@ -41,6 +41,12 @@ removal = notices.RemoveAll address.name
 
 abbrev pub something : ServerMessage
 something = tells (removal ∷ [])
+
+abbrev pub addition : Notice
+addition = notices.Add (record { owner = address.name; class = 1; kind = 1; ttl = 60; rdata = 192 ∷ 0 ∷ 2 ∷ 1 ∷ [] })
+
+abbrev pub added : ServerMessage
+added = tells (addition ∷ [])
 
 -- so many questions that were refused, each of another type
 abbrev pub refusals : ℕ → List Wish

@@ -4,8 +4,8 @@
 ghost use Rattle.std.specs.Prelude.{◌≡◌, [], ◌∷◌, true, false, codes, replicate};
 ghost use Rattle.pushclient.specs.Clients.{unanswered, answered, refused};
 ghost use Rattle.pushclient.specs.ServerMessages.{accepts, refuses, tells, grants};
-ghost use Rattle.inflight.specs.Messages.{answer_comes_first, unsubscribes};
-ghost use Rattle.inflight.specs.RefusedWorlds.{address, active, begun, down, elsewhere, holding, idle, refusals, removal, serving, something, took, wish};
+ghost use Rattle.inflight.specs.Messages.{answer_comes_first, subscribes, unsubscribes};
+ghost use Rattle.inflight.specs.RefusedWorlds.{added, addition, address, active, begun, down, elsewhere, holding, idle, refusals, removal, serving, something, took, wish};
 ghost use Rattle.inflight.specs.Worked.{unmet_together};
 
 /// Examples of messages that come down before the client is established.
@@ -21,7 +21,7 @@ pub fn fitting_worlds()
     ensures idle { unmet_together idle [] [] [] ≡ [] }
     ensures refused { unmet_together (record idle { wishes = refusals 2 }) [] [] [] ≡ [] }
     ensures holding { unmet_together (holding 7) (took 7 (accepts 7) ∷ []) [] [] ≡ [] }
-    ensures told { unmet_together (record (holding 7) { wishes = record (wish address (answered 7)) { notices = removal ∷ [] } ∷ [] }) (took 7 (accepts 7) ∷ took 7 something ∷ []) [] [] ≡ [] }
+    ensures told { unmet_together (record (holding 7) { wishes = record (wish address (answered 7)) { notices = addition ∷ [] } ∷ [] }) (took 7 (accepts 7) ∷ took 7 added ∷ []) [] [] ≡ [] }
     ensures let_go { unmet_together (serving 7) (took 7 (accepts 7) ∷ []) [] (unsubscribes 7 ∷ []) ≡ [] }
     ensures readable { unmet_together idle [] (down (tells (replicate 1000 removal)) [] ∷ []) [] ≡ [] }
 {}
@@ -36,17 +36,17 @@ pub fn refused_worlds()
     ensures fit { unmet_together (record idle { wishes = wish (record elsewhere { kind = 65536 }) (refused 9) ∷ [] }) [] [] [] ≡ codes "fit" ∷ [] }
     // The message is too long for a frame: the first two octets give another length, and what follows is read as messages.
     ensures readable { unmet_together idle [] (down (tells (replicate 3000 removal)) [] ∷ []) [] ≡ codes "readable" ∷ [] }
-    // The client goes on to show an address that it was told is gone.
-    ensures notices { unmet_together (holding 7) (took 7 (accepts 7) ∷ took 7 something ∷ []) [] [] ≡ codes "notices" ∷ [] }
-    // The client writes an UNSUBSCRIBE or a RECONFIRM, and the session ends for a message without an ID that comes too early.
+    // The client doesn't show an address that it was told.
+    ensures notices { unmet_together (holding 7) (took 7 (accepts 7) ∷ took 7 added ∷ []) [] [] ≡ codes "notices" ∷ [] }
+    // The client writes a RECONFIRM, and the session ends for a message without an ID that comes too early (RFC 8490, 5.1).
     ensures established { unmet_together (record idle { established = false }) [] [] [] ≡ codes "established" ∷ [] }
     // The client takes a PUSH before it is established, and closes (RFC 8490, 5.1).
     ensures first { unmet_together begun [] (down something [] ∷ []) [] ≡ codes "first" ∷ [] }
-    // Nothing on its way establishes the client, so it closes if the session is stopped now and says so.
+    // Nothing on its way establishes the client, so it closes with an error if the session is stopped now and says so (RFC 8490, 5.1).
     ensures first_of_none { unmet_together begun [] [] [] ≡ codes "first" ∷ [] }
-    // The first UNSUBSCRIBE ends the subscription; the second ends nothing, or what was accepted since with this ID.
-    ensures let_go_once { unmet_together (serving 7) (took 7 (accepts 7) ∷ []) [] (unsubscribes 7 ∷ unsubscribes 7 ∷ []) ≡ codes "let_go_once" ∷ [] }
-    // The client holds an address of which no change is told any more.
+    // The second UNSUBSCRIBE ends what was accepted since with the same ID.
+    ensures let_go_once { unmet_together (record (serving 7) { wishes = wish address (unanswered 7) ∷ [] }) (took 7 (accepts 7) ∷ []) [] (unsubscribes 7 ∷ subscribes 7 address ∷ unsubscribes 7 ∷ []) ≡ codes "let_go_once" ∷ [] }
+    // The client holds a question of which no change is told any more.
     ensures held { unmet_together (record (holding 7) { subscriptions = [] }) (took 7 (accepts 7) ∷ []) [] [] ≡ codes "held" ∷ [] }
     // Nothing ends the subscription; if the client asks the question again, that ends the session.
     ensures active { unmet_together (serving 7) (took 7 (accepts 7) ∷ []) [] [] ≡ codes "active" ∷ [] }
