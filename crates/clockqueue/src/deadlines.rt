@@ -67,6 +67,22 @@ impl<K: Ord + Drop> Deadlines<K> {
         }
     }
 
+    /// Deadlines that are in the order in which they fall due, each key once.
+    pub fn from_entries(entries: Vec<(u64, K)>) -> Self
+        requires { AreDeadlines K.cmp entries.items }
+        ensures { result.deadlines ≡ entries.items }
+    {
+        Deadlines { entries }
+    }
+
+    /// All deadlines, in the order in which they fall due.
+    pub fn entries(&self) -> &[(u64, K)]
+        ensures deadlines { result.now ≡ self.now.deadlines }
+        ensures order { AreDeadlines K.cmp result.now }
+    {
+        &self.entries
+    }
+
     /// Makes room for so many further keys. Where memory runs out the deadlines and the room stay.
     pub fn reserve(&mut self, keys: usize) -> Result<(), NoMemory>
         ensures deadlines { self.new.deadlines ≡ self.old.deadlines }
@@ -166,7 +182,8 @@ impl<K: Ord + Drop> Deadlines<K> {
 
     /// The least moment; nothing where there is no key.
     pub fn next(&self) -> Option<u64>
-        ensures { result ≡ first_moment self.now.deadlines }
+        ensures moment { result ≡ first_moment self.now.deadlines }
+        ensures order { AreDeadlines K.cmp self.now.deadlines }
     {
         let first = self.entries.first()?;
         Some(first.0)

@@ -23,7 +23,8 @@ use Rattle.rrset.proofs.Sets.{shown_at-only}
 use Rattle.subscr.specs.Asked.{Asked, wants}
 use Rattle.dsotlv.specs.Notices.{removed_by, applied_all, last_ttl}
 use Rattle.dsotlv.specs.declared.message.Notice.TheVariants.{RemoveClass}
-use Rattle.coalesce.specs.Net.{additions, all_anew, push_message, max_net_message}
+use Rattle.dsotlv.specs.Answers.{push_message}
+use Rattle.coalesce.specs.Net.{additions, all_anew, max_net_message}
 use Rattle.coalesce.specs.Laws.{can_be_sent, is_side, speaks_of}
 use Rattle.coalesce.specs.Waiting.{WaitingName, differs, is_changed, is_named, old_side, new_side}
 use Rattle.coalesce.specs.FirstAnswers.{wanted_with, told_first}

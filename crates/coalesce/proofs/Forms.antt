@@ -23,10 +23,11 @@ use Rattle.rrset.specs.declared.record.Shown.{Shown}
 use Rattle.rrset.proofs.Places.{and_left, and_right}
 use Rattle.rrset.proofs.LowerNames.{lower-twice}
 use Rattle.rrset.proofs.SameRows.{same_key-same}
+use Rattle.dsotlv.specs.Answers.{push_message}
 use Rattle.dsotlv.specs.Notices.{notice_octets, last_ttl}
 use Rattle.dsotlv.specs.declared.message.Notice.{Notice}
 use Rattle.coalesce.specs.Laws.{is_sent_so, can_be_sent}
-use Rattle.coalesce.specs.Net.{net, net_frame, push_frame, push_message, additions, kinds_of, single_changes, all_anew, all_gone, owner_of, size_of_notices, shorter, max_net_message, max_net_size}
+use Rattle.coalesce.specs.Net.{net, net_frame, push_frame, additions, kinds_of, single_changes, all_anew, all_gone, owner_of, size_of_notices, shorter, max_net_message, max_net_size}
 use Rattle.coalesce.specs.Sides.{IsOneSide, AreOfOneName}
 use Rattle.coalesce.specs.Steps.{removals_behind, additions_to, gone_form, head_of}
 use Rattle.coalesce.specs.declared.form.Form.TheVariants.{AllKinds}

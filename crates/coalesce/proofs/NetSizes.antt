@@ -21,7 +21,8 @@ use Rattle.dsotlv.specs.Notices.{notice_octets, push_record, last_ttl, remove_on
 use Rattle.dsotlv.specs.declared.message.Notice.{Notice}
 use Rattle.dsotlv.specs.declared.message.Notice.TheVariants.{Add, RemoveOne, RemoveSet, RemoveClass, RemoveAll, Odd}
 use Rattle.dsotlv.proofs.PushRecords.{length-record}
-use Rattle.coalesce.specs.Net.{additions, single_changes, all_anew, all_gone, owner_of, size_of_notices, net, push_message, kinds_of}
+use Rattle.dsotlv.specs.Answers.{push_message}
+use Rattle.coalesce.specs.Net.{additions, single_changes, all_anew, all_gone, owner_of, size_of_notices, net, kinds_of}
 use Rattle.coalesce.specs.Laws.{is_sent_so, NetFitsOneMessage}
 use Rattle.coalesce.proofs.Sides.{Sent, sent, Side, side}
 

@@ -15,7 +15,8 @@ use Rattle.rrset.proofs.SameRows.{same_key-same}
 use Rattle.dsotlv.specs.Notices.{removed_by, added_by, applied, applied_all}
 use Rattle.dsotlv.specs.declared.message.Notice.{Notice}
 use Rattle.dsotlv.specs.declared.message.Notice.TheVariants.{Add, RemoveOne, RemoveSet, RemoveClass, RemoveAll, Odd}
-use Rattle.coalesce.specs.Laws.{Nets, all_notices, speaks_of, are_others, OneOfSeveral, OthersChangeNothing}
+use Rattle.coalesce.specs.Net.{Nets}
+use Rattle.coalesce.specs.Laws.{all_notices, speaks_of, are_others, OneOfSeveral, OthersChangeNothing}
 use Rattle.coalesce.proofs.Filters.{all-filter}
 use Rattle.coalesce.proofs.SameNames.{same_name-apart, same_name-lower}
 

@@ -11,8 +11,8 @@ use Rattle.rrset.specs.RecordSet.{RecordSet, matching}
 use Rattle.rrset.specs.declared.record.Question.{Question}
 use Rattle.dsotlv.specs.Notices.{applied, applied_all}
 use Rattle.dsotlv.specs.declared.message.Notice.{Notice}
-use Rattle.coalesce.specs.Net.{net, size_of_notices, max_push, packed_behind, packed}
-use Rattle.coalesce.specs.Laws.{is_side, can_be_sent, Nets, all_notices, speaks_of, are_others, is_named_in, are_apart, nets_of, HaveSides, IsAlike, PackedLeads, PackedIsReadBack}
+use Rattle.coalesce.specs.Net.{net, size_of_notices, max_push, packed_behind, packed, Nets}
+use Rattle.coalesce.specs.Laws.{is_side, can_be_sent, all_notices, speaks_of, are_others, is_named_in, are_apart, nets_of, HaveSides, IsAlike, PackedLeads, PackedIsReadBack}
 use Rattle.coalesce.proofs.SameNames.{same_name-joined, same_name-swapped}
 use Rattle.coalesce.proofs.Sides.{side, net_leads_to_new}
 use Rattle.coalesce.proofs.ReadBack.{AreWritten, IsWritten, each-append, written_are_read_back, net_is_written}

@@ -6,8 +6,9 @@ use Rattle.std.proofs.lemmas.Bool.{eqb-false, ne_eqb, leb-true, leb-false, or_pa
 use Rattle.push_base.specs.Cases.{is_empty}
 use Rattle.dnsname.specs.Names.{Labels}
 use Rattle.dsotlv.specs.declared.message.Notice.{Notice}
-use Rattle.coalesce.specs.Net.{size_of_notices, max_push, packed_behind, packed, push_message, max_net_message}
-use Rattle.coalesce.specs.Laws.{Nets, all_notices, telling, StopsBefore, PacksTheFront, PacksNothingOfNothing, PackedFitsOneMessage}
+use Rattle.dsotlv.specs.Answers.{push_message}
+use Rattle.coalesce.specs.Net.{size_of_notices, max_push, packed_behind, packed, max_net_message, Nets}
+use Rattle.coalesce.specs.Laws.{all_notices, telling, StopsBefore, PacksTheFront, PacksNothingOfNothing, PackedFitsOneMessage}
 use Rattle.coalesce.proofs.NetSizes.{length-push_message, size_of_notices-append, net-takes}
 
 -- Behind so many octets: at most one of the names that go tells something, where nothing stands there, and else none; or the message isn't too long.

@@ -8,10 +8,11 @@ use Rattle.std.proofs.lemmas.List.{length-append, length-map}
 use Rattle.dnsname.specs.Names.{Labels}
 use Rattle.rrset.specs.RecordSet.{RecordSet, at_name}
 use Rattle.subscr.specs.Asked.{Asked, wants}
+use Rattle.dsotlv.specs.Answers.{push_message}
 use Rattle.dsotlv.specs.Notices.{notice_octets}
 use Rattle.dsotlv.specs.declared.message.Notice.{Notice}
-use Rattle.coalesce.specs.Laws.{Nets, all_notices, can_be_sent}
-use Rattle.coalesce.specs.Net.{net, packed, packed_behind, max_push, size_of_notices, push_message, push_frame, max_net_frame, max_net_size}
+use Rattle.coalesce.specs.Laws.{all_notices, can_be_sent}
+use Rattle.coalesce.specs.Net.{net, packed, packed_behind, max_push, size_of_notices, push_frame, max_net_frame, max_net_size, Nets}
 use Rattle.coalesce.specs.Sides.{AreOfOneName, frame_octets}
 use Rattle.coalesce.specs.Steps.{head_of}
 use Rattle.coalesce.specs.Waiting.{WaitingName, old_side, new_side, IsPackable, asked_net, nets_in, packed_of}

@@ -13,7 +13,8 @@ use Rattle.rrset.specs.RecordSet.{RecordSet, matching, at_name}
 use Rattle.rrset.specs.declared.record.Question.{Question}
 use Rattle.subscr.specs.Asked.{Asked}
 use Rattle.dsotlv.specs.Notices.{applied_all, notice_octets, notices_of}
-use Rattle.coalesce.specs.Net.{push_message, max_net_message}
+use Rattle.dsotlv.specs.Answers.{push_message}
+use Rattle.coalesce.specs.Net.{max_net_message}
 use Rattle.coalesce.specs.Laws.{is_side, can_be_sent}
 use Rattle.coalesce.specs.Sides.{IsOneSide}
 use Rattle.coalesce.specs.Waiting.{WaitingName, is_named, differs}

@@ -12,15 +12,16 @@ use Rattle.push_base.specs.Limits.{max_octets_at_name}
 use Rattle.dnsname.specs.Names.{Labels, is_name, same_name}
 use Rattle.rrset.specs.Kinds.{in_class, any_kind}
 use Rattle.rrset.specs.Rdata.{shape_fits}
-use Rattle.rrset.specs.Records.{matches}
 use Rattle.rrset.specs.RecordSet.{RecordSet, is_record_set, only, matching, same_rows, size_of}
 use Rattle.rrset.specs.declared.record.Key.{Key}
 use Rattle.rrset.specs.declared.record.Shown.{Shown}
 use Rattle.rrset.specs.declared.record.Question.{Question}
+use Rattle.subscr.specs.Asked.{one_asks}
 use Rattle.dsotlv.specs.Notices.{applied_all, last_ttl, notice_octets, notices_of}
 use Rattle.dsotlv.specs.declared.message.Notice.{Notice}
 use Rattle.dsotlv.specs.declared.message.Notice.TheVariants.{Add, RemoveOne, RemoveSet, RemoveClass, RemoveAll, Odd}
-use Rattle.coalesce.specs.Net.{net, push_message, max_push, packed, max_net_message}
+use Rattle.dsotlv.specs.Answers.{push_message}
+use Rattle.coalesce.specs.Net.{Nets, net, each_net, max_push, packed, max_net_message}
 
 -- a record of the name and of class IN, with fields as wide as those of a message, no meta kind 255, and rdata that fits
 abbrev pub is_sent_so : Labels → Key × Shown → Bool
@@ -40,7 +41,7 @@ NetLeadsToNew = (name : Labels) (old new : RecordSet) (question : Question) → 
 
 -- what one of several questions asks for
 abbrev pub is_wanted : List Question → Key → Bool
-is_wanted questions key = list_any (λ question. matches question key) questions
+is_wanted questions key = one_asks (λ question. question) questions key
 
 abbrev pub wanted_of : List Question → RecordSet → RecordSet
 wanted_of questions set = only (is_wanted questions) set
@@ -70,10 +71,6 @@ NetIsReadBack = (name : Labels) (old new : RecordSet) → IsTrue (is_side name o
     → notices_of (flat_map notice_octets (net old new)) ≡ Ok (net old new)
 
 -- ---- packing
-
--- a queue: names in order, each with its net
-abbrev pub Nets : Type 0
-Nets = List (Labels × List Notice)
 
 abbrev pub all_notices : Nets → List Notice
 all_notices names = flat_map (λ e. e.1) names
@@ -147,7 +144,7 @@ are_apart (n ∷ ns) = not (is_named_in n ns) && are_apart ns
 
 -- the nets of some names, from what was sent of each to what is there now
 abbrev pub nets_of : (Labels → RecordSet) → (Labels → RecordSet) → List Labels → Nets
-nets_of sent now names = map (λ n. (n, net (sent n) (now n))) names
+nets_of sent now names = each_net (λ n. n) sent now names
 
 abbrev pub HaveSides : (Labels → RecordSet) → (Labels → RecordSet) → List Labels → Type 0
 HaveSides sent now names = AllByRecursion (λ n. IsTrue (is_side n (sent n)) × IsTrue (is_side n (now n))) names

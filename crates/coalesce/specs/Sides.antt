@@ -2,13 +2,13 @@
 --     frame_octets      the octets that a frame has room for
 --     is_asked      a key is among those that are asked for
 --     IsOneSide, AreOfOneName      the records of one name; both sides of one name
-use Rattle.std.specs.Prelude.{ℕ, Bool, true, ◌||◌, IsTrue}
+use Rattle.std.specs.Prelude.{ℕ, Bool, true, IsTrue}
 use Rattle.dnsname.specs.Names.{Labels}
 use Rattle.rrset.specs.Records.{matches}
 use Rattle.rrset.specs.RecordSet.{RecordSet}
 use Rattle.rrset.specs.declared.record.Key.{Key}
 use Rattle.dsotlv.specs.Messages.{max_frame}
-use Rattle.subscr.specs.Asked.{wants}
+use Rattle.subscr.specs.Asked.{wants, asks_with}
 use Rattle.coalesce.specs.Laws.{is_side}
 use Rattle.coalesce.specs.declared.asking.Asking.{Asking}
 use Rattle.coalesce.specs.declared.asking.Asking.TheVariants as asking
@@ -28,4 +28,4 @@ abbrev pub is_asked : Asking → Key → Bool
 is_asked asking.All key = true
 is_asked (asking.Questions asked) key = wants key asked.now
 is_asked (asking.One question) key = matches question.now key
-is_asked (asking.OneOr question asked) key = matches question.now key || wants key asked.now
+is_asked (asking.OneOr question asked) key = asks_with question.now (λ k. wants k asked.now) key

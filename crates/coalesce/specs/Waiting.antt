@@ -6,15 +6,15 @@
 --     tells      whether a name waits with something to tell
 --     packed_of, left_in      what goes into one message, and the names that stay
 --     CanBePacked      records as nets are made of
-use Rattle.std.specs.Prelude.{ℕ, ◌-◌, Bool, false, not, List, [], ◌∷◌, ◌++◌, map, drop, length, filter, find, Option, Some, None, option_map, IsTrue, nat_lt, if◌then◌else◌}
+use Rattle.std.specs.Prelude.{ℕ, ◌-◌, Bool, false, not, List, [], ◌∷◌, ◌++◌, drop, length, filter, find, Option, Some, None, option_map, IsTrue, nat_lt, if◌then◌else◌}
 use Rattle.std.specs.List.{list_any, AllByRecursion, IsDistinct}
 use Rattle.push_base.specs.Cases.{is_empty}
 use Rattle.dnsname.specs.Names.{Labels, same_name}
 use Rattle.rrset.specs.RecordSet.{RecordSet, only, at_name, same_rows}
 use Rattle.subscr.specs.Asked.{Asked, wants}
 use Rattle.dsotlv.specs.declared.message.Notice.{Notice}
-use Rattle.coalesce.specs.Net.{net, packed}
-use Rattle.coalesce.specs.Laws.{Nets, can_be_sent}
+use Rattle.coalesce.specs.Net.{Nets, net, each_net, packed}
+use Rattle.coalesce.specs.Laws.{can_be_sent}
 use Rattle.coalesce.specs.Sides.{AreOfOneName}
 
 pub record WaitingName : Type 0 where
@@ -71,7 +71,7 @@ tells asked rows None = false
 tells asked rows (Some w) = not (is_empty (asked_net asked rows w))
 
 abbrev pub nets_in : Asked → RecordSet → List WaitingName → Nets
-nets_in asked rows queue = map (λ w. (w.name, asked_net asked rows w)) queue
+nets_in asked rows queue = each_net (λ w. w.name) (old_side asked) (new_side asked rows) queue
 
 abbrev pub packed_of : Asked → RecordSet → List WaitingName → List Notice × List Labels
 packed_of asked rows queue = packed (nets_in asked rows queue)

@@ -4,11 +4,13 @@ use Rattle.std.proofs.lemmas.List.{append_cancel_left}
 use Rattle.push_base.specs.Causes.{Rose}
 use Rattle.replay.specs.declared.outcome.Outcome.{Outcome}
 use Rattle.replay.specs.declared.outcome.Outcome.TheVariants.{WriteFault}
+use Rattle.replay.specs.TextWords.{by_history, by_notices}
 use Rattle.replay.specs.BuiltScripts.{front_read, reply_to_script}
 use Rattle.replay.specs.Outcomes.{status_of}
 use Rattle.replay.specs.Reply.{IsFrontOf, Answers, Took, In_full}
 use Rattle.replay.specs.Sources.{Gave}
 use Rattle.replay.proofs.replies.Written.{Replied, answers_with_cause}
+use Rattle.script_laws.specs.Replies.{RepliesAreOne}
 use Rattle.dnspush.specs.declared.outside.OpenFault.{OpenFault}
 use Rattle.dnspush.specs.declared.outside.OpenFault.TheVariants.{Failed}
 use Rattle.dnspush.specs.declared.status.Status.{Status}
@@ -21,7 +23,7 @@ use Rattle.dnspush.specs.Words.{Request, Replay_input, Replay_path, usage}
 
 -- what a script of these octets is answered
 abbrev pub RepliedTo : Type 0 → Option (List ℕ) → Option (List ℕ) → Outcome → List ℕ → Type 0
-RepliedTo cause taken taken_now result octets = Took taken taken_now (Answers cause (reply_to_script (front_read octets)) (status_of result))
+RepliedTo cause taken taken_now result octets = Took taken taken_now (Answers cause (reply_to_script by_notices (front_read octets)) (status_of result))
 
 -- where one more was added at its end, a list isn't what it was, and the added one is known
 one_added : (before now : List Used) (u : Used) (octets : List ℕ) → now ≡ before ++ u ∷ [] → MayHaveGiven (Some before) (Some now) octets → u.gave ++ u.left ≡ octets
@@ -85,16 +87,23 @@ usage_answered input_rose outside_rose request octets taken taken_now result cod
           said.2,
     )
 
-pub input_answered : (input_rose outside_rose : Type 0) (request : Option Request) (input taken taken_now : Option (List ℕ)) (before now : Option (List Used)) (octets : List ℕ) (result : Outcome) (code : ℕ)
+-- told from the notices it is what is told from the history
+as_history : RepliesAreOne → (cause : Type 0) (taken taken_now : Option (List ℕ)) (octets : List ℕ) (result : Outcome)
+    → RepliedTo cause taken taken_now result octets → Took taken taken_now (Answers cause (reply_to_script by_history (front_read octets)) (status_of result))
+as_history one cause taken taken_now octets result h = subst (λ r. Took taken taken_now (Answers cause r (status_of result))) (one (front_read octets)) h
+
+pub input_answered : RepliesAreOne → (input_rose outside_rose : Type 0) (request : Option Request) (input taken taken_now : Option (List ℕ)) (before now : Option (List Used)) (octets : List ℕ) (result : Outcome) (code : ℕ)
     → Some Replay_input ≡ request → code ≡ status_of result → Replied input_rose input taken taken_now result → MayBeOctets request input before now octets
     → Took taken taken_now (Answers (SourceRose request input_rose outside_rose) (reply_to request octets) code)
-input_answered input_rose outside_rose request input taken taken_now before now octets result code is code_is replied may =
+input_answered one input_rose outside_rose request input taken taken_now before now octets result code is code_is replied may =
     let told : input ≡ Some octets = subst (λ r. MayBeOctets r input before now octets) (sym is) may in
-    answers_by (λ r. SourceRose r input_rose outside_rose) request (Some Replay_input) octets taken taken_now result code is code_is (subst (λ i. Replied input_rose i taken taken_now result) told replied)
+    answers_by (λ r. SourceRose r input_rose outside_rose) request (Some Replay_input) octets taken taken_now result code is code_is
+    (as_history one input_rose taken taken_now octets result (subst (λ i. Replied input_rose i taken taken_now result) told replied))
 
-pub path_answered : (input_rose outside_rose : Type 0) (request : Option Request) (path : List ℕ) (input taken taken_now : Option (List ℕ)) (before now : Option (List Used)) (octets : List ℕ) (result : Outcome) (code : ℕ)
+pub path_answered : RepliesAreOne → (input_rose outside_rose : Type 0) (request : Option Request) (path : List ℕ) (input taken taken_now : Option (List ℕ)) (before now : Option (List Used)) (octets : List ℕ) (result : Outcome) (code : ℕ)
     → Some (Replay_path path) ≡ request → code ≡ status_of result → (MayHaveGiven before now octets → RepliedTo outside_rose taken taken_now result octets) → MayBeOctets request input before now octets
     → Took taken taken_now (Answers (SourceRose request input_rose outside_rose) (reply_to request octets) code)
-path_answered input_rose outside_rose request path input taken taken_now before now octets result code is code_is replied may =
+path_answered one input_rose outside_rose request path input taken taken_now before now octets result code is code_is replied may =
     let told : MayHaveGiven before now octets = subst (λ r. MayBeOctets r input before now octets) (sym is) may in
-    answers_by (λ r. SourceRose r input_rose outside_rose) request (Some (Replay_path path)) octets taken taken_now result code is code_is (replied told)
+    answers_by (λ r. SourceRose r input_rose outside_rose) request (Some (Replay_path path)) octets taken taken_now result code is code_is
+    (as_history one outside_rose taken taken_now octets result (replied told))

@@ -1,13 +1,16 @@
 -- What a run does for what its words ask.
 --     reply_to request octets      what is answered, given the octets of the source that the request names
---     AsksServed request script asked, AsksInPieces request script sent      the script that is asked for is one of which a promise speaks
+--     AsksServed request script asked, AsksInPieces request script sent, AsksFor request octets script      the script that is asked for is one of which a promise speaks
 --     IsAnswered request .. octets reply      where these may be the octets of the source, this reply was written, or what a fault leaves of it
 --     LeavesRest, OpensPath, InputStays      what becomes of the source, the path, and the input
-use Rattle.std.specs.Prelude.{◌≡◌, ◌⊎◌, ⊤, ℕ, Some, None, List, [], ◌∷◌, ◌++◌}
+use Rattle.std.specs.Prelude.{◌≡◌, ◌⊎◌, ⊤, ℕ, Some, None, Ok, List, [], ◌∷◌, ◌++◌}
 use Rattle.std.specs.declared.option.Option.{Option}
 use Rattle.push_base.specs.Causes.{Rose}
+use Rattle.replay.specs.Lines.{ScriptLine}
+use Rattle.replay.specs.Scripts.{script_of}
 use Rattle.replay.specs.Reply.{Reply, Answers, Took}
-use Rattle.replay.specs.BuiltScripts.{front_read, left_behind, reply_to_script}
+use Rattle.replay.specs.TextWords.{by_history}
+use Rattle.replay.specs.BuiltScripts.{front_read, left_behind, first_later, reply_to_script}
 use Rattle.replay.specs.Sources.{HasRead, LeftBehind}
 use Rattle.replay.specs.Serving.{Asked, AsksFirst}
 use Rattle.replay.specs.Pieces.{SentInPieces, SendsPieces}
@@ -17,7 +20,7 @@ use Rattle.dnspush.specs.Words.{Request, Replay_input, Replay_path, usage}
 -- what is answered, given the octets of the source that the request names
 abbrev pub reply_to : Option Request → List ℕ → Reply
 reply_to None octets = record { status = 1; text = usage }
-reply_to (Some request) octets = reply_to_script (front_read octets)
+reply_to (Some request) octets = reply_to_script by_history (front_read octets)
 
 -- a script is asked for in which a peer's first SUBSCRIBE is accepted
 abbrev pub AsksServed : Option Request → List ℕ → Asked → Type 0
@@ -28,6 +31,11 @@ AsksServed (Some request) script asked = AsksFirst script asked
 abbrev pub AsksInPieces : Option Request → List ℕ → SentInPieces → Type 0
 AsksInPieces None script sent = ⊥
 AsksInPieces (Some request) script sent = SendsPieces script sent
+
+-- a script is asked for whose lines are built, and these are its lines
+abbrev pub AsksFor : Option Request → List ℕ → List ScriptLine → Type 0
+AsksFor None octets script = ⊥
+AsksFor (Some request) octets script = (first_later octets ≡ None) × (script_of octets ≡ Ok script)
 
 -- by what is told, these may be the octets of the source that the request names
 abbrev pub MayBeOctets : Option Request → Option (List ℕ) → Option (List Used) → Option (List Used) → List ℕ → Type 0

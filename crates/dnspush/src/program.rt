@@ -2,6 +2,8 @@
 
 ghost use Rattle.std.specs.Prelude.{◌≡◌, ◌+◌, ◌⊎◌, ℕ, List, IsNone};
 ghost use Rattle.push_base.specs.Causes.{Rose};
+ghost use Rattle.replay.specs.Headline.{KeepsPromises};
+ghost use Rattle.replay.specs.Lines.{ScriptLine};
 ghost use Rattle.replay.specs.Scripts.{max_script};
 ghost use Rattle.replay.specs.BuiltScripts.{front_read, reply_to_script};
 ghost use Rattle.replay.specs.Outcomes.{status_of};
@@ -9,8 +11,9 @@ ghost use Rattle.replay.specs.Pieces.{SentInPieces, TellsInTurn, pieces_reply};
 ghost use Rattle.replay.specs.Reply.{Answers, IsFrontOf, Took};
 ghost use Rattle.replay.specs.Serving.{Asked, served_reply};
 ghost use Rattle.replay.specs.Sources.{HasRead, LostAtMost};
+ghost use Rattle.replay.specs.TextWords.{by_history, by_notices};
 ghost use Rattle.dnspush.specs.Outside.{Adds, MayHaveGiven};
-ghost use Rattle.dnspush.specs.Runs.{AsksInPieces, AsksServed, InputStays, IsAnswered, LeavesRest, OpensPath, SourceRose, UsesWhole, reply_to};
+ghost use Rattle.dnspush.specs.Runs.{AsksFor, AsksInPieces, AsksServed, InputStays, IsAnswered, LeavesRest, OpensPath, SourceRose, UsesWhole, reply_to};
 ghost use Rattle.dnspush.specs.Status.{code_of};
 ghost use Rattle.dnspush.specs.Words.{request_in, usage};
 ghost use Rattle.dnspush.specs.declared.status.Status.{Status};
@@ -20,6 +23,7 @@ use crate::status::Status;
 use crate::words::{Command, read_words};
 use push_base::{Failed, Sink};
 use replay::{NO_MEMORY, Outcome, READ_FAULT, replay, tell, write_all};
+use script_laws::{built_scripts_keep_promises, replies_are_one};
 use std::alloc::Global;
 
 /// What is written where the words aren't as they should be: a line that names all commands, also those that aren't
@@ -43,12 +47,16 @@ pub fn run<O: Outside>(
     // In every built script a peer's first SUBSCRIBE that a new session accepts is answered NOERROR, and the records follow.
     ensures served { (octets : List ℕ) (asked : Asked) → AsksServed (request_in words.now) (front_read octets) asked →
         IsAnswered (request_in words.now) (O.In.left input.old) (O.used outside.old) (O.used outside.new) (O.Out.taken out.old) (O.Out.taken out.new)
-        (O.In.faults input.old) (O.In.faults input.new) (O.reads outside.old) (O.reads outside.new) result octets (served_reply asked) }
+        (O.In.faults input.old) (O.In.faults input.new) (O.reads outside.old) (O.reads outside.new) result octets (served_reply by_history asked) }
 
     // In every built script, as long as no entry is made, what is told of the pieces in which a peer sends its octets answers the whole messages that they complete.
     ensures pieces { (octets : List ℕ) (sent : SentInPieces) → AsksInPieces (request_in words.now) (front_read octets) sent → (told : List (List ℕ)) × TellsInTurn sent told ×
         IsAnswered (request_in words.now) (O.In.left input.old) (O.used outside.old) (O.used outside.new) (O.Out.taken out.old) (O.Out.taken out.new)
-        (O.In.faults input.old) (O.In.faults input.new) (O.reads outside.old) (O.reads outside.new) result octets (pieces_reply sent told) }
+        (O.In.faults input.old) (O.In.faults input.new) (O.reads outside.old) (O.reads outside.new) result octets (pieces_reply by_history sent told) }
+
+    // In every built script no `held` line shows an earlier point than one before it of that client and question, and right after a settle each
+    // question that a client wants, and that is served, is held with the newest records.
+    ensures promises { (octets : List ℕ) (script : List ScriptLine) → AsksFor (request_in words.now) (front_read octets) script → KeepsPromises script }
 
     // When each status comes.
     ensures statuses { (status : Status) × (result ≡ code_of status) }
@@ -67,9 +75,11 @@ pub fn run<O: Outside>(
     ensures opened { OpensPath (request_in words.now) (O.opened outside.old) (O.opened outside.new) result }
     ensures input { InputStays (request_in words.now) input.old input.new }
 {
+    replies_are_one();
+    built_scripts_keep_promises();
     match read_words(words) {
         None => tell_usage(out).code(),
-        Some(Command::ReplayInput) => Status::Ended(replay(alloc, input, out)).code(),
+        Some(Command::ReplayInput) => Status::Ended(replay(alloc, input, out).outcome).code(),
         Some(Command::ReplayPath(path)) => {
             let outcome = replay_path(alloc, path, out, outside);
             Status::Ended(outcome).code()
@@ -93,7 +103,7 @@ fn tell_usage<K: Sink>(out: &mut K) -> Status
 fn replay_path<O: Outside>(alloc: Global, path: &str, out: &mut O::Out, outside: &mut O) -> Outcome
     ensures replied { (octets : List ℕ) → MayHaveGiven (O.used outside.old) (O.used outside.new) octets →
         Took (O.Out.taken out.old) (O.Out.taken out.new)
-        (Answers (Rose (O.reads outside.old) (O.reads outside.new)) (reply_to_script (front_read octets)) (status_of result)) }
+        (Answers (Rose (O.reads outside.old) (O.reads outside.new)) (reply_to_script by_notices (front_read octets)) (status_of result)) }
     ensures read_fault { result ≡ Outcome.ReadFault → Rose (O.reads outside.old) (O.reads outside.new) }
     ensures write_fault { result ≡ Outcome.WriteFault → Rose (O.Out.faults out.old) (O.Out.faults out.new) }
     ensures rest { HasRead (status_of result) → UsesWhole (O.used outside.old) (O.used outside.new) }
@@ -102,9 +112,9 @@ fn replay_path<O: Outside>(alloc: Global, path: &str, out: &mut O::Out, outside:
 {
     match outside.open(path) {
         Ok(mut source) => {
-            let outcome = replay(alloc, &mut source, out);
+            let replayed = replay(alloc, &mut source, out);
             outside.back_in(source);
-            outcome
+            replayed.outcome
         }
         Err(OpenFault::Failed) => tell(out, Outcome::ReadFault, READ_FAULT),
         Err(OpenFault::NoMemory) => tell(out, Outcome::NoMemory, NO_MEMORY),

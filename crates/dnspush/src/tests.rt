@@ -9,6 +9,9 @@ use push_base::{Failed, MemSink, MemSource, Octets, Sink, Source};
 use std::alloc::{AllocError, Global};
 use std::test::Fail;
 
+const TOLD: &[u8] =
+    b"open c\nasked c new\nsettle c\nshow c printer.example.com. 1 1 held 0\nupdate 0\nsettle c\nshow c printer.example.com. 1 1 held 1\nrr printer.example.com. 120 1 1 c0000201\n";
+
 // What a run answered and wrote.
 #[derive(Drop)]
 struct Ran {
@@ -80,6 +83,24 @@ fn a_sink_that_takes_nothing(rt: HostRuntime) -> Result<(), Fail> {
     let ran = replay_pieces(alloc, &[b"x"], Vec::new(alloc), vec![in alloc; 3, 0]?)?;
     assert_eq!(rt; ran.status, 5);
     assert_eq!(rt; ran.wrote.as_slice(), b"lat".as_slice());
+    Ok(())
+}
+
+// A client is told of the address that it asks for by the first settle behind the update which adds it.
+#[test]
+fn a_client_that_is_told_of_an_update(rt: HostRuntime) -> Result<(), Fail> {
+    let alloc = rt.alloc();
+    let pieces: [&[u8]; 6] = [
+        b"zone example.com. 1 open\nclient c\nopen c\n",
+        b"ask c printer.example.com. 1 1\nsettle c\n",
+        b"show c printer.example.com. 1 1\n",
+        b"update 000128000001000000010000076578616d706c6503636f6d0000060001077072696e74657",
+        b"2076578616d706c6503636f6d0000010001000000780004c0000201\n",
+        b"settle c\nshow c printer.example.com. 1 1\n",
+    ];
+    let ran = replay_pieces(alloc, &pieces, Vec::new(alloc), Vec::new(alloc))?;
+    assert_eq!(rt; ran.status, 0);
+    assert_eq!(rt; ran.wrote.as_slice(), TOLD);
     Ok(())
 }
 

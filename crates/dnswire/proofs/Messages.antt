@@ -7,13 +7,14 @@ use Rattle.rrset.specs.Header.{two_octets, id_of, flags_of, is_response, opcode_
 use Rattle.rrset.specs.declared.record.Rr.{Rr}
 use Rattle.rrset.specs.declared.record.Question.{Question}
 use Rattle.rrset.specs.declared.record.Hearing.{Hearing}
+use Rattle.dnswire.specs.declared.section.Sections.{Sections}
 use Rattle.dnswire.specs.declared.message.Update.{Update}
 use Rattle.dnswire.specs.declared.message.WireFault.{WireFault}
 use Rattle.dnswire.specs.declared.message.WireFault.TheVariants.{Trailing}
 use Rattle.dnswire.specs.declared.message.HearFault.{HearFault}
 use Rattle.dnswire.specs.declared.message.HearFault.TheVariants as hear
-use Rattle.dnswire.specs.Spelling.{SpellsQuestion, SpellsRecord, SpellsSeveral, SpellsSection, IsUpdateRequest, SpellsUpdate, SpellsHearing}
-use Rattle.dnswire.specs.Reading.{several, question_at, record_at, update_shape, heard_shape, update_of, entries_heard, hearing_of}
+use Rattle.dnswire.specs.Spelling.{SpellsQuestion, SpellsRecord, SpellsSeveral, SpellsSection, SpellsSections, IsUpdateRequest, SpellsUpdate, SpellsHearing}
+use Rattle.dnswire.specs.Reading.{several, question_at, record_at, sections_of, update_shape, heard_shape, update_of, entries_heard, hearing_of}
 use Rattle.dnswire.proofs.Entries.{done, then_done, done_then, done_as, same_done, question-spelled, question-found, record-spelled, record-found}
 
 -- ---- entries one behind the other
@@ -44,7 +45,7 @@ section-spelled : {X : Type 0} (read : Reader X) (spells : List ℕ → ℕ → 
     → (count at : ℕ) (xs : List X) (after : ℕ) → SpellsSection spells message count at xs after → several read (two_octets message count) message at ≡ done (xs, after)
 section-spelled read spells message each count at xs after s = ap (λ (n : ℕ). several read n message at) (sym s.0) ∙ several-spelled read spells message each xs at after s.1
 
--- ---- updates
+-- ---- the four sections
 
 questions-spelled : (message : List ℕ) (count at : ℕ) (xs : List Question) (after : ℕ) → SpellsSection SpellsQuestion message count at xs after → several question_at (two_octets message count) message at ≡ done (xs, after)
 questions-spelled message = section-spelled question_at SpellsQuestion message (question-spelled message)
@@ -58,15 +59,38 @@ questions-found message below count at found e = several-found question_at Spell
 records-found : (test : ℕ → ℕ → Bool) (message : List ℕ) → AllByRecursion (λ o. o < 256) message → (count at : ℕ) (found : List Rr × ℕ) → several (record_at test) (two_octets message count) message at ≡ done found → SpellsSection (SpellsRecord test) message count at found.0 found.1
 records-found test message below count at found e = several-found (record_at test) (SpellsRecord test) message (record-found test message below) (two_octets message count) at found e
 
+sections-spelled : (test : ℕ → ℕ → Bool) (message : List ℕ) (sections : Sections) → SpellsSections test message sections → sections_of test message ≡ done sections
+sections-spelled test message sections s =
+    then_done _ _ (sections.questions, s.questions_end) _ (questions-spelled message 4 12 sections.questions s.questions_end s.questions)
+    (then_done _ _ (sections.answers, s.answers_end) _ (records-spelled test message 6 s.questions_end sections.answers s.answers_end s.answers)
+    (then_done _ _ (sections.authority, s.authority_end) _ (records-spelled test message 8 s.answers_end sections.authority s.authority_end s.authority)
+    (then_done _ _ (sections.additional, sections.end) _ (records-spelled test message 10 s.authority_end sections.additional sections.end s.additional) refl)))
+
+sections-found : (test : ℕ → ℕ → Bool) (message : List ℕ) (sections : Sections) → AllByRecursion (λ o. o < 256) message → sections_of test message ≡ done sections → SpellsSections test message sections
+sections-found test message sections below e =
+    let questions = done_then {A = List Question × ℕ} _ _ sections e in
+    let answers = done_then {A = List Rr × ℕ} _ _ sections questions.2 in
+    let authority = done_then {A = List Rr × ℕ} _ _ sections answers.2 in
+    let additional = done_then {A = List Rr × ℕ} _ _ sections authority.2 in
+    subst (SpellsSections test message) (same_done _ sections additional.2) (record {
+      questions_end = questions.0.1;
+      answers_end = answers.0.1;
+      authority_end = authority.0.1;
+      questions = questions-found message below 4 12 questions.0 questions.1;
+      answers = records-found test message below 6 questions.0.1 answers.0 answers.1;
+      authority = records-found test message below 8 answers.0.1 authority.0 authority.1;
+      additional = records-found test message below 10 authority.0.1 additional.0 additional.1;
+    })
+
+-- ---- updates
+
 pub update-spelled : (message : List ℕ) (update : Update) → SpellsUpdate message update → update_of message ≡ Ok update
 update-spelled message update s =
+    let sections : Sections = record { questions = update.zones; answers = update.prereqs; authority = update.changes; additional = s.others; end = length message } in
     let whole : eqb (length message) (length message) ≡ true = eq-eqb _ _ refl in
-    then_done _ _ (update.zones, s.zones_end) _ (questions-spelled message 4 12 update.zones s.zones_end s.zones)
-    (then_done _ _ (update.prereqs, s.prereqs_end) _ (records-spelled update_shape message 6 s.zones_end update.prereqs s.prereqs_end s.prereqs)
-    (then_done _ _ (update.changes, s.changes_end) _ (records-spelled update_shape message 8 s.prereqs_end update.changes s.changes_end s.changes)
-    (then_done _ _ (s.others, length message) _ (records-spelled update_shape message 10 s.changes_end s.others (length message) s.dropped)
+    then_done _ _ sections _ (sections-spelled update_shape message sections s.sections)
     (ap (λ (b : Bool). cond {A = Result Update WireFault} b (Ok (record { id = id_of message; zones = update.zones; prereqs = update.prereqs; changes = update.changes })) (Err (Trailing (length message)))) whole
-    ∙ ap (λ (n : ℕ). Ok (record { id = n; zones = update.zones; prereqs = update.prereqs; changes = update.changes })) (sym s.id)))))
+    ∙ ap (λ (n : ℕ). Ok (record { id = n; zones = update.zones; prereqs = update.prereqs; changes = update.changes })) (sym s.id))
 
 to_the_end : (message : List ℕ) (place : ℕ) (made update : Update) → cond {A = Result Update WireFault} (eqb place (length message)) (Ok made) (Err (Trailing place)) ≡ done update → (place ≡ length message) × (made ≡ update)
 to_the_end message place made update e = by_test (eqb place (length message)) refl e
@@ -77,24 +101,15 @@ to_the_end message place made update e = by_test (eqb place (length message)) re
 
 pub update-found : (message : List ℕ) (update : Update) → AllByRecursion (λ o. o < 256) message → 12 ≤ length message → IsUpdateRequest message → update_of message ≡ Ok update → SpellsUpdate message update
 update-found message update below header request e =
-    let zones = done_then {A = List Question × ℕ} _ _ update e in
-    let prereqs = done_then {A = List Rr × ℕ} _ _ update zones.2 in
-    let changes = done_then {A = List Rr × ℕ} _ _ update prereqs.2 in
-    let others = done_then {A = List Rr × ℕ} _ _ update changes.2 in
-    let end = to_the_end message others.0.1 _ update others.2 in
-    let dropped = records-found update_shape message below 10 changes.0.1 others.0 others.1 in
+    let read = done_then {A = Sections} _ _ update e in
+    let there = sections-found update_shape message read.0 below read.1 in
+    let end = to_the_end message read.0.end _ update read.2 in
     subst (SpellsUpdate message) end.1 (record {
       header = header;
       request = request;
       id = refl;
-      zones_end = zones.0.1;
-      prereqs_end = prereqs.0.1;
-      changes_end = changes.0.1;
-      others = others.0.0;
-      zones = questions-found message below 4 12 zones.0 zones.1;
-      prereqs = records-found update_shape message below 6 zones.0.1 prereqs.0 prereqs.1;
-      changes = records-found update_shape message below 8 prereqs.0.1 changes.0 changes.1;
-      dropped = subst (λ (p : ℕ). SpellsSection (SpellsRecord update_shape) message 10 changes.0.1 others.0.0 p) end.0 dropped;
+      others = read.0.additional;
+      sections = subst (λ (n : ℕ). SpellsSections update_shape message (record read.0 { end = n })) end.0 there;
     })
 
 -- ---- hearings
@@ -125,11 +140,7 @@ passed false false true true true r hearing e = record { long_is = refl; short_i
 pub hearing-spelled : (datagram : List ℕ) (hearing : Hearing) → SpellsHearing datagram hearing → hearing_of datagram ≡ Ok hearing
 hearing-spelled datagram hearing s =
     let entries : entries_heard datagram ≡ done hearing =
-    then_done _ _ (s.questions, s.questions_end) _ (questions-spelled datagram 4 12 s.questions s.questions_end s.asked)
-    (then_done _ _ (s.answers, s.answers_end) _ (records-spelled heard_shape datagram 6 s.questions_end s.answers s.answers_end s.answered)
-    (then_done _ _ (s.authority, s.authority_end) _ (records-spelled heard_shape datagram 8 s.answers_end s.authority s.authority_end s.authorities)
-    (then_done _ _ (s.additional, s.all_end) _ (records-spelled heard_shape datagram 10 s.authority_end s.additional s.all_end s.added)
-    (ap (λ rrs. Ok (record { rrs = rrs })) (sym s.used))))) in
+    then_done _ _ s.sections _ (sections-spelled heard_shape datagram s.sections s.spelled) (ap (λ rrs. Ok (record { rrs = rrs })) (sym s.used)) in
     let flags = flags_of datagram in
     tests_passed (ltb 9000 (length datagram)) (ltb (length datagram) 12) (is_response flags) (eqb (opcode_of flags) 0) (eqb (rcode_of flags) 0) _
     (le-ltb _ _ s.header.1) (le-ltb _ _ s.header.0) s.response (eq-eqb _ _ s.plain.0) (eq-eqb _ _ s.plain.1)
@@ -140,25 +151,12 @@ hearing-found datagram hearing below e =
     let flags = flags_of datagram in
     let tests = passed (ltb 9000 (length datagram)) (ltb (length datagram) 12) (is_response flags) (eqb (opcode_of flags) 0) (eqb (rcode_of flags) 0) _ hearing e in
     let entries = done_as hear.Wire (entries_heard datagram) hearing tests.read in
-    let questions = done_then {A = List Question × ℕ} _ _ hearing entries in
-    let answers = done_then {A = List Rr × ℕ} _ _ hearing questions.2 in
-    let authority = done_then {A = List Rr × ℕ} _ _ hearing answers.2 in
-    let additional = done_then {A = List Rr × ℕ} _ _ hearing authority.2 in
-    subst (SpellsHearing datagram) (same_done _ hearing additional.2) (record {
+    let read = done_then {A = Sections} _ _ hearing entries in
+    subst (SpellsHearing datagram) (same_done _ hearing read.2) (record {
       header = (ltb-false _ _ tests.short_is, ltb-false _ _ tests.long_is);
       response = tests.response_is;
       plain = (eqb-true _ _ tests.opcode_is, eqb-true _ _ tests.rcode_is);
-      questions = questions.0.0;
-      answers = answers.0.0;
-      authority = authority.0.0;
-      additional = additional.0.0;
-      questions_end = questions.0.1;
-      answers_end = answers.0.1;
-      authority_end = authority.0.1;
-      all_end = additional.0.1;
-      asked = questions-found datagram below 4 12 questions.0 questions.1;
-      answered = records-found heard_shape datagram below 6 questions.0.1 answers.0 answers.1;
-      authorities = records-found heard_shape datagram below 8 answers.0.1 authority.0 authority.1;
-      added = records-found heard_shape datagram below 10 authority.0.1 additional.0 additional.1;
+      sections = read.0;
+      spelled = sections-found heard_shape datagram read.0 below read.1;
       used = refl;
     })

@@ -1,5 +1,6 @@
 -- Reading messages from left to right, with the first fault that is met and its place (RFC 1035, 4.1; RFC 2136, 2; RFC 6762, 18).
 --     number_at, question_at, record_at, several      a field, an entry, a count of entries, each with the place after it
+--     sections_of      the four sections of a message
 --     update_of, hearing_of      a whole update; what a datagram of a link says
 use Rattle.std.specs.Prelude.{ℕ, zero, suc, ◌+◌, ◌%◌, Bool, ◌&&◌, ◌||◌, not, List, [], ◌∷◌, ◌++◌, map, length, Result, Ok, Err, nat_lt, nat_le, ◌==◌, slice_range, if◌then◌else◌}
 use Rattle.std.specs.Int.{Width, w16, w32, byte_len, from_be_bytes}
@@ -14,6 +15,7 @@ use Rattle.rrset.specs.declared.record.Question.{Question}
 use Rattle.rrset.specs.declared.record.HeardRr.{HeardRr}
 use Rattle.rrset.specs.declared.record.Hearing.{Hearing}
 use Rattle.dnswire.specs.declared.hearing.TheConstants as hearing
+use Rattle.dnswire.specs.declared.section.Sections.{Sections}
 use Rattle.dnswire.specs.declared.message.Update.{Update}
 use Rattle.dnswire.specs.declared.message.WireFault.{WireFault}
 use Rattle.dnswire.specs.declared.message.WireFault.TheVariants.{Short, Trailing, Name, Rdata}
@@ -57,18 +59,24 @@ record_at by_shape message at = do
   rdata ← rdata_of (by_shape class.0 size.0) kind.0 message size.1 size.0
   Ok (record { owner = owner.0; class = class.0; kind = kind.0; ttl = ttl.0; rdata = rdata.0 }, rdata.1)
 
+-- the four sections behind the header, each with as many entries as it counts (RFC 1035, 4.1)
+abbrev pub sections_of : (ℕ → ℕ → Bool) → List ℕ → Result Sections WireFault
+sections_of by_shape message = do
+  questions ← several question_at (two_octets message 4) message header_octets
+  answers ← several (record_at by_shape) (two_octets message 6) message questions.1
+  authority ← several (record_at by_shape) (two_octets message 8) message answers.1
+  additional ← several (record_at by_shape) (two_octets message 10) message authority.1
+  Ok (record { questions = questions.0; answers = answers.0; authority = authority.0; additional = additional.0; end = additional.1 })
+
 -- of an update, rdata of class IN is read by shape, and of class NONE where there is any (RFC 2136, 2.4 and 2.5)
 abbrev pub update_shape : ℕ → ℕ → Bool
 update_shape class size = class == in_class || (class == none_class && nat_lt 0 size)
 
--- zones, prerequisites, changes, and additional records that are dropped, to the last octet (RFC 2136, 2)
+-- zones, prerequisites, changes, and additional records that are dropped, in place of the four sections, to the last octet (RFC 2136, 2)
 abbrev pub update_of : List ℕ → Result Update WireFault
 update_of message = do
-  zones ← several question_at (two_octets message 4) message header_octets
-  prereqs ← several (record_at update_shape) (two_octets message 6) message zones.1
-  changes ← several (record_at update_shape) (two_octets message 8) message prereqs.1
-  others ← several (record_at update_shape) (two_octets message 10) message changes.1
-  if others.1 == length message then Ok (record { id = id_of message; zones = zones.0; prereqs = prereqs.0; changes = changes.0 }) else Err (Trailing others.1)
+  sections ← sections_of update_shape message
+  if sections.end == length message then Ok (record { id = id_of message; zones = sections.questions; prereqs = sections.answers; changes = sections.authority }) else Err (Trailing sections.end)
 
 -- the class without the cache-flush bit (RFC 6762, 10.2)
 abbrev pub heard_shape : ℕ → ℕ → Bool
@@ -80,11 +88,8 @@ heard_rr rr = record { rr = record rr { class = rr.class % hearing.CACHE_FLUSH }
 -- questions and the authority section are skipped, octets after the counted entries ignored (RFC 6762, 6 and 18)
 abbrev pub entries_heard : List ℕ → Result Hearing WireFault
 entries_heard message = do
-  questions ← several question_at (two_octets message 4) message header_octets
-  answers ← several (record_at heard_shape) (two_octets message 6) message questions.1
-  authority ← several (record_at heard_shape) (two_octets message 8) message answers.1
-  additional ← several (record_at heard_shape) (two_octets message 10) message authority.1
-  Ok (record { rrs = map heard_rr (answers.0 ++ additional.0) })
+  sections ← sections_of heard_shape message
+  Ok (record { rrs = map heard_rr (sections.answers ++ sections.additional) })
 
 -- the size, and the bits of the header (RFC 6762, 17, 18.2, 18.3 and 18.11)
 abbrev pub hearing_of : List ℕ → Result Hearing HearFault

@@ -1,5 +1,6 @@
 -- Which octets spell entries and whole messages (RFC 1035, 4.1; RFC 2136, 2).
 --     SpellsQuestion, SpellsRecord, SpellsSeveral      from one place to another the message spells the entry; so many entries
+--     SpellsSections      the four sections of a message
 --     SpellsUpdate, SpellsHearing      the message is the update; the datagram says the hearing
 use Rattle.std.specs.Prelude.{◌≡◌, ℕ, ◌+◌, ◌≤◌, Bool, false, MatchBool, List, [], ◌∷◌, ◌++◌, map, length, IsTrue, slice_range}
 use Rattle.std.specs.Int.{Width, w16, w32, byte_len, from_be_bytes}
@@ -10,8 +11,9 @@ use Rattle.rrset.specs.Spelling.{SpellsShape}
 use Rattle.rrset.specs.declared.record.Rr.{Rr}
 use Rattle.rrset.specs.declared.record.Question.{Question}
 use Rattle.rrset.specs.declared.record.Hearing.{Hearing}
+use Rattle.dnswire.specs.declared.section.Sections.{Sections}
 use Rattle.dnswire.specs.declared.message.Update.{Update}
-use Rattle.rrset.specs.Header.{id_of, flags_of, is_response, opcode_of, update_opcode, rcode_of, two_octets}
+use Rattle.rrset.specs.Header.{header_octets, id_of, flags_of, is_response, opcode_of, update_opcode, rcode_of, two_octets}
 use Rattle.dnswire.specs.Reading.{update_shape, heard_shape, heard_rr}
 
 abbrev pub SpellsNumber : Width → List ℕ → ℕ → ℕ → ℕ → Type 0
@@ -46,34 +48,29 @@ SpellsSection spells message count at xs after = (length xs ≡ two_octets messa
 abbrev pub IsUpdateRequest : List ℕ → Type 0
 IsUpdateRequest message = (is_response (flags_of message) ≡ false) × (opcode_of (flags_of message) ≡ update_opcode)
 
-pub record SpellsUpdate (message : List ℕ) (update : Update) : Type 0 where
-  pub header : 12 ≤ length message
-  pub request : IsUpdateRequest message
-  pub id : update.id ≡ id_of message
-  pub zones_end : ℕ
-  pub prereqs_end : ℕ
-  pub changes_end : ℕ
-  pub others : List Rr
-  pub zones : SpellsSection SpellsQuestion message 4 12 update.zones zones_end
-  pub prereqs : SpellsSection (SpellsRecord update_shape) message 6 zones_end update.prereqs prereqs_end
-  pub changes : SpellsSection (SpellsRecord update_shape) message 8 prereqs_end update.changes changes_end
-  pub dropped : SpellsSection (SpellsRecord update_shape) message 10 changes_end others (length message)
-
--- the counted entries of a datagram; octets may follow them
-pub record SpellsHearing (datagram : List ℕ) (hearing : Hearing) : Type 0 where
-  pub header : (12 ≤ length datagram) × (length datagram ≤ max_datagram)
-  pub response : IsTrue (is_response (flags_of datagram))
-  pub plain : (opcode_of (flags_of datagram) ≡ 0) × (rcode_of (flags_of datagram) ≡ 0)
-  pub questions : List Question
-  pub answers : List Rr
-  pub authority : List Rr
-  pub additional : List Rr
+-- the four sections behind the header, each with as many entries as it counts (RFC 1035, 4.1)
+pub record SpellsSections (by_shape : ℕ → ℕ → Bool) (message : List ℕ) (sections : Sections) : Type 0 where
   pub questions_end : ℕ
   pub answers_end : ℕ
   pub authority_end : ℕ
-  pub all_end : ℕ
-  pub asked : SpellsSection SpellsQuestion datagram 4 12 questions questions_end
-  pub answered : SpellsSection (SpellsRecord heard_shape) datagram 6 questions_end answers answers_end
-  pub authorities : SpellsSection (SpellsRecord heard_shape) datagram 8 answers_end authority authority_end
-  pub added : SpellsSection (SpellsRecord heard_shape) datagram 10 authority_end additional all_end
-  pub used : hearing.rrs ≡ map heard_rr (answers ++ additional)
+  pub questions : SpellsSection SpellsQuestion message 4 header_octets sections.questions questions_end
+  pub answers : SpellsSection (SpellsRecord by_shape) message 6 questions_end sections.answers answers_end
+  pub authority : SpellsSection (SpellsRecord by_shape) message 8 answers_end sections.authority authority_end
+  pub additional : SpellsSection (SpellsRecord by_shape) message 10 authority_end sections.additional sections.end
+
+-- the sections have zones, prerequisites and changes, and others that are dropped, to the last octet (RFC 2136, 2)
+pub record SpellsUpdate (message : List ℕ) (update : Update) : Type 0 where
+  pub header : header_octets ≤ length message
+  pub request : IsUpdateRequest message
+  pub id : update.id ≡ id_of message
+  pub others : List Rr
+  pub sections : SpellsSections update_shape message (record { questions = update.zones; answers = update.prereqs; authority = update.changes; additional = others; end = length message })
+
+-- the counted entries of a datagram; octets may follow them
+pub record SpellsHearing (datagram : List ℕ) (hearing : Hearing) : Type 0 where
+  pub header : (header_octets ≤ length datagram) × (length datagram ≤ max_datagram)
+  pub response : IsTrue (is_response (flags_of datagram))
+  pub plain : (opcode_of (flags_of datagram) ≡ 0) × (rcode_of (flags_of datagram) ≡ 0)
+  pub sections : Sections
+  pub spelled : SpellsSections heard_shape datagram sections
+  pub used : hearing.rrs ≡ map heard_rr (sections.answers ++ sections.additional)

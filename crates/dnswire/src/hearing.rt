@@ -4,10 +4,10 @@ ghost use Rattle.std.specs.Prelude.{◌≡◌, ◌≤◌, ◌++◌, map, length,
 ghost use Rattle.dnswire.specs.Reading.{heard_rr, entries_heard, hearing_of};
 ghost use Rattle.dnswire.specs.Gives.{GivesWire, GivesHearing};
 
-use crate::header::{ANCOUNT, ARCOUNT, FLAGS, NSCOUNT, header_field, rcode};
+use crate::header::{FLAGS, header_field, rcode};
 use crate::message::{HearFault, WireFault};
 use crate::record::Shaped;
-use crate::section::{question_section, record_section};
+use crate::section::read_sections;
 use push_base::limits::MAX_DATAGRAM;
 use rrset::header::{HEADER, is_response, opcode_of};
 use rrset::{HeardRr, HeardRrs, Hearing, NoMemory, Rr, Rrs};
@@ -64,12 +64,9 @@ fn read_entries(alloc: Global, datagram: &[u8]) -> Result<Hearing, WireFault>
     requires { 12 ≤ length datagram.now }
     ensures { GivesWire result (entries_heard datagram.now) }
 {
-    let (_, place) = question_section(alloc, datagram)?;
-    let (answers, place) = record_section(alloc, Shaped::Hearing, datagram, ANCOUNT, place)?;
-    let (_, place) = record_section(alloc, Shaped::Hearing, datagram, NSCOUNT, place)?;
-    let (additional, _) = record_section(alloc, Shaped::Hearing, datagram, ARCOUNT, place)?;
+    let sections = read_sections(alloc, Shaped::Hearing, datagram)?;
     Ok(Hearing {
-        rrs: all_heard(alloc, answers, additional)?,
+        rrs: all_heard(alloc, sections.answers, sections.additional)?,
     })
 }
 

@@ -2,15 +2,26 @@
 
 ghost use Rattle.std.specs.Prelude.{◌+◌, ◌≤◌, length};
 ghost use Rattle.rrset.specs.Header.{two_octets};
-ghost use Rattle.dnswire.specs.Reading.{question_at, record_at, several};
+ghost use Rattle.dnswire.specs.Reading.{question_at, record_at, sections_of, several};
 ghost use Rattle.dnswire.specs.Gives.{GivesWire, shape_test};
 
-use crate::header::{QDCOUNT, header_field};
+use crate::header::{ANCOUNT, ARCOUNT, NSCOUNT, QDCOUNT, header_field};
 use crate::message::WireFault;
 use crate::record::{Shaped, read_question, read_record};
 use rrset::header::HEADER;
 use rrset::{Questions, Rrs};
 use std::alloc::Global;
+
+/// The sections of a message, and the place after the last. Of an update they are zones, prerequisites, changes, and
+/// additional records (RFC 2136, 2).
+#[derive(Drop)]
+pub(crate) struct Sections {
+    pub questions: Questions,
+    pub answers: Rrs,
+    pub authority: Rrs,
+    pub additional: Rrs,
+    pub end: usize,
+}
 
 /// So many questions from a place on, and the place after them.
 fn read_questions(
@@ -52,10 +63,7 @@ fn read_records(
 }
 
 /// The questions behind the header, as many as it counts, and the place after them.
-pub(crate) fn question_section(
-    alloc: Global,
-    message: &[u8],
-) -> Result<(Questions, usize), WireFault>
+fn question_section(alloc: Global, message: &[u8]) -> Result<(Questions, usize), WireFault>
     requires { 12 ≤ length message.now }
     ensures { GivesWire result (several question_at (two_octets message.now 4) message.now 12) }
 {
@@ -63,7 +71,7 @@ pub(crate) fn question_section(
 }
 
 /// The records from a place on, as many as the number at a place of the header, and the place after them.
-pub(crate) fn record_section(
+fn record_section(
     alloc: Global,
     shaped: Shaped,
     message: &[u8],
@@ -74,4 +82,27 @@ pub(crate) fn record_section(
     ensures { GivesWire result (several (record_at (shape_test shaped)) (two_octets message.now count) message.now at) }
 {
     read_records(alloc, shaped, header_field(message, count), message, at)
+}
+
+/// The four sections behind the header, each with as many entries as it counts. The fault is the first one in reading
+/// order, with its place.
+pub(crate) fn read_sections(
+    alloc: Global,
+    shaped: Shaped,
+    message: &[u8],
+) -> Result<Sections, WireFault>
+    requires { 12 ≤ length message.now }
+    ensures { GivesWire result (sections_of (shape_test shaped) message.now) }
+{
+    let (questions, place) = question_section(alloc, message)?;
+    let (answers, place) = record_section(alloc, shaped, message, ANCOUNT, place)?;
+    let (authority, place) = record_section(alloc, shaped, message, NSCOUNT, place)?;
+    let (additional, end) = record_section(alloc, shaped, message, ARCOUNT, place)?;
+    Ok(Sections {
+        questions,
+        answers,
+        authority,
+        additional,
+        end,
+    })
 }

@@ -7,7 +7,7 @@ use Rattle.push_base.specs.Cases.{chosen}
 use Rattle.rrset.specs.Rcodes.{formerr, dsotypeni}
 use Rattle.rrset.specs.Header.{is_response, opcode_of, update_opcode}
 use Rattle.dsotlv.specs.Messages.{dso_opcode}
-use Rattle.dsotlv.specs.TlvKinds.{keepalive_tlv, retry_delay_tlv, padding_tlv, subscribe_tlv, push_tlv, unsubscribe_tlv, reconfirm_tlv}
+use Rattle.dsotlv.specs.TlvKinds.{keepalive_tlv, retry_delay_tlv, padding_tlv, subscribe_tlv, push_tlv, unsubscribe_tlv, reconfirm_tlv, keepalive_size, retry_delay_size, unsubscribe_size}
 use Rattle.dsotlv.specs.declared.message.DsoHead.{DsoHead}
 use Rattle.dsosession.specs.declared.session.EndReason.{EndReason}
 use Rattle.dsosession.specs.declared.session.EndReason.TheVariants as ends
@@ -33,12 +33,12 @@ answer_or_end head rcode reason = if head.id == 0 then Abort reason else Answer 
 -- by the primary TLV, of which kind and length are given
 abbrev pub primary_reaction : DsoHead → ℕ → ℕ → Reaction
 primary_reaction head kind size = chosen (
-    (kind == keepalive_tlv, if head.id == 0 then Abort (ends.Misuse kind) else if size == 8 then Grant else Answer formerr)
+    (kind == keepalive_tlv, if head.id == 0 then Abort (ends.Misuse kind) else if size == keepalive_size then Grant else Answer formerr)
     ∷ (kind == retry_delay_tlv, Abort (ends.Misuse kind))
     ∷ (kind == padding_tlv, answer_or_end head formerr (ends.Misuse kind))
     ∷ (kind == subscribe_tlv, if head.id == 0 then Abort (ends.Misuse kind) else Subscribe)
     ∷ (kind == push_tlv, Abort (ends.Misuse kind))
-    ∷ (kind == unsubscribe_tlv, if not (head.id == 0) then Abort (ends.Misuse kind) else if size == 2 then Unsubscribe else Abort (ends.BadData kind))
+    ∷ (kind == unsubscribe_tlv, if not (head.id == 0) then Abort (ends.Misuse kind) else if size == unsubscribe_size then Unsubscribe else Abort (ends.BadData kind))
     ∷ (kind == reconfirm_tlv, if head.id == 0 then Reconfirm else Abort (ends.Misuse kind))
     ∷ []) (answer_or_end head dsotypeni (ends.Unknown kind))
 
@@ -70,7 +70,7 @@ told_reaction head established kind size = chosen (
     ∷ (not (head.id == 0), clients.Typeless)
     ∷ (not established, close closes.Early)
     ∷ (kind == keepalive_tlv, clients.Keepalive)
-    ∷ (kind == retry_delay_tlv, if size == 4 then clients.Delay else close (closes.BadData kind))
+    ∷ (kind == retry_delay_tlv, if size == retry_delay_size then clients.Delay else close (closes.BadData kind))
     ∷ (kind == push_tlv, clients.Push)
     ∷ (is_known kind, close (closes.Misuse kind))
     ∷ []) (close (closes.Unknown kind))

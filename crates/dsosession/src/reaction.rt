@@ -4,17 +4,10 @@ ghost use Rattle.std.specs.Prelude.{◌≡◌};
 ghost use Rattle.dsosession.specs.Reactions.{is_keepalive, may_be_keepalive, answer_or_end, primary_reaction, dso_reaction, server_reaction, is_known, told_reaction, client_reaction};
 
 use crate::session::{ClientReaction, CloseReason, EndReason, Reaction};
-use dsotlv::DsoHead;
 use dsotlv::kinds::{KEEPALIVE, PADDING, PUSH, RECONFIRM, RETRY_DELAY, SUBSCRIBE, UNSUBSCRIBE};
+use dsotlv::{DsoHead, data_sizes};
 use rrset::header::{DSO_OPCODE, UPDATE_OPCODE, is_response, opcode_of};
 use rrset::rcodes::{DSOTYPENI, FORMERR};
-
-/// The octets of a Keepalive's two numbers (RFC 8490, 7.1).
-const KEEPALIVE_SIZE: u16 = 8;
-/// The octets of the ID that an UNSUBSCRIBE names (RFC 8765, 6.4.1).
-const UNSUBSCRIBE_SIZE: u16 = 2;
-/// The octets of the delay in a Retry Delay (RFC 8490, 7.2).
-const RETRY_DELAY_SIZE: u16 = 4;
 
 /// Whether a message is a Keepalive that is no answer (RFC 8490, 7.1).
 pub(crate) fn is_keepalive(head: &DsoHead) -> bool
@@ -51,12 +44,12 @@ fn primary_reaction(head: &DsoHead, kind: u16, size: u16) -> Reaction
     let is_request = head.id != 0;
     match kind {
         KEEPALIVE if !is_request => Reaction::Abort(EndReason::Misuse(kind)),
-        KEEPALIVE if size == KEEPALIVE_SIZE => Reaction::Grant,
+        KEEPALIVE if size == data_sizes::KEEPALIVE => Reaction::Grant,
         KEEPALIVE => Reaction::Answer(FORMERR),
         PADDING => answer_or_end(head, FORMERR, EndReason::Misuse(kind)),
         SUBSCRIBE if is_request => Reaction::Subscribe,
         UNSUBSCRIBE if is_request => Reaction::Abort(EndReason::Misuse(kind)),
-        UNSUBSCRIBE if size == UNSUBSCRIBE_SIZE => Reaction::Unsubscribe,
+        UNSUBSCRIBE if size == data_sizes::UNSUBSCRIBE => Reaction::Unsubscribe,
         UNSUBSCRIBE => Reaction::Abort(EndReason::BadData(kind)),
         RECONFIRM if !is_request => Reaction::Reconfirm,
         RETRY_DELAY | SUBSCRIBE | PUSH | RECONFIRM => Reaction::Abort(EndReason::Misuse(kind)),
@@ -126,7 +119,7 @@ fn told_reaction(head: &DsoHead, established: bool, kind: u16, size: u16) -> Cli
     }
     match kind {
         KEEPALIVE => ClientReaction::Keepalive,
-        RETRY_DELAY if size == RETRY_DELAY_SIZE => ClientReaction::Delay,
+        RETRY_DELAY if size == data_sizes::RETRY_DELAY => ClientReaction::Delay,
         RETRY_DELAY => ClientReaction::Close(CloseReason::BadData(kind)),
         PUSH => ClientReaction::Push,
         _ if is_known(kind) => ClientReaction::Close(CloseReason::Misuse(kind)),

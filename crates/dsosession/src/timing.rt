@@ -1,8 +1,8 @@
 //! Moments, and whether they have come (RFC 8490, 6).
 
-ghost use Rattle.std.specs.Prelude.{◌≡◌, ◌≤◌, IfSome, ◌||◌, ◌&&◌, ◌==◌, ℕ, not};
+ghost use Rattle.std.specs.Prelude.{◌≡◌, ◌≤◌, IfSome, ◌||◌, ℕ};
 ghost use Rattle.push_base.specs.Limits.{max_number};
-ghost use Rattle.dsosession.specs.Timing.{infinite, has_passed, has_run_out, reason_of, default_timers};
+ghost use Rattle.dsosession.specs.Timing.{has_passed_of, has_run_out, reason_of, default_timers};
 ghost use Rattle.dsosession.specs.SessionStates.{has_come};
 
 use crate::session::{EndReason, Timers};
@@ -21,7 +21,7 @@ pub(crate) fn default_timers() -> Timers
 /// The moment at which a span has passed since another one; none where the timer is infinite, or the moment lies
 /// beyond all moments.
 pub(crate) fn end_of(timer: u32, span: u64, since: u64) -> Option<u64>
-    ensures { (now : ℕ) → now ≤ max_number → has_come result now ≡ (not (timer == infinite) && has_passed span since now) }
+    ensures { (now : ℕ) → now ≤ max_number → has_come result now ≡ has_passed_of timer span since now }
 {
     if timer == INFINITE {
         return None;

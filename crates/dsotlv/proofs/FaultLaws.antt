@@ -10,14 +10,13 @@ use Rattle.dsotlv.specs.declared.message.Tlv.{Tlv}
 use Rattle.dsotlv.specs.declared.message.DsoMessage.{DsoMessage}
 use Rattle.dsotlv.specs.declared.message.DsoFault.{DsoFault}
 use Rattle.dsotlv.specs.declared.message.DsoFault.TheVariants.{Short, Opcode, Counts, Tlv as TlvAt, NoMemory}
-use Rattle.dsotlv.specs.Messages.{tlv_octets, tlvs_from, tlvs_of, dso_opcode, has_zero_counts, dso_of}
-use Rattle.dsotlv.specs.Giving.{tlv_end}
+use Rattle.dsotlv.specs.Messages.{tlv_octets, tlvs_from, tlvs_of, dso_opcode, has_zero_counts, dso_of, tlv_end}
 use Rattle.dsotlv.specs.Laws.{AreOctets, HasSize}
 use Rattle.dsotlv.specs.Faults.{HasDsoOpcode, HasDsoHeader, IsCutFrom, IsDsoFault}
 use Rattle.dsotlv.proofs.Results.{not_done}
 use Rattle.dsotlv.proofs.Numbers.{room}
 use Rattle.dsotlv.proofs.Sizes.{length-tlv}
-use Rattle.dsotlv.proofs.Walks.{IsWhole, tlv_at, behind, whole-end, none-end, tlvs-end, tlvs-more, tlvs-fault}
+use Rattle.dsotlv.proofs.Walks.{IsWhole, tlv_at, behind, whole-end, end-whole, tlvs-end, tlvs-more, tlvs-fault}
 use Rattle.dsotlv.proofs.TlvLaws.{tlv_stands, tlv_found}
 use Rattle.dsotlv.proofs.DsoLaws.{by_tests, same_tests}
 
@@ -30,10 +29,10 @@ same_failed f g e = cc
 -- ---- a TLV that isn't whole
 
 not_whole : (text : List ℕ) (at end : ℕ) → tlv_end text at ≡ None → IsWhole text at end → ⊥
-not_whole text at end none whole = elim (none-end text at none) [
-  | inl no_head ↦ omega (arith, ltb-true (length text) (at + 4) no_head, whole.head)
-  | inr both ↦ omega (arith, ltb-true _ _ both.1, whole.end_is, whole.fits)
-]
+not_whole text at end none whole = absurd (nothing_is (sym (end-whole text at end whole) ∙ none))
+  where
+    nothing_is : (Some end ≡ None) → ⊥
+    nothing_is e = cc
 
 none_begins : (text : List ℕ) (at : ℕ) → at ≤ length text → tlv_end text at ≡ None → (tlv : Tlv) (rest : List ℕ) → HasSize tlv → drop at text ≢ tlv_octets tlv ++ rest
 none_begins text at within none tlv rest sized e = not_whole text at (at + 4 + length tlv.octets) none (tlv_stands text at tlv rest sized within e).whole

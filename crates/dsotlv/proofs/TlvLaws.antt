@@ -11,8 +11,7 @@ use Rattle.rrset.specs.Header.{two_octets}
 use Rattle.dsotlv.specs.declared.message.Tlv.{Tlv}
 use Rattle.dsotlv.specs.declared.message.DsoFault.{DsoFault}
 use Rattle.dsotlv.specs.declared.message.DsoFault.TheVariants.{Tlv as TlvAt}
-use Rattle.dsotlv.specs.Messages.{tlv_octets, tlvs_from}
-use Rattle.dsotlv.specs.Giving.{tlv_end}
+use Rattle.dsotlv.specs.Messages.{tlv_octets, tlvs_from, tlv_end}
 use Rattle.dsotlv.specs.Laws.{AreOctets, HasSize}
 use Rattle.dsotlv.proofs.Results.{done, same_done, not_done}
 use Rattle.dsotlv.proofs.Numbers.{drop_next, nothing, range_at, room, length-range, two_read, two_there, two_below}

@@ -1,5 +1,5 @@
 -- The walk over the TLVs of a message.
-use Rattle.std.proofs.Common.{◌≡◌, ℕ, zero, suc, ◌+◌, ◌<◌, ◌≤◌, Bool, true, false, cond, ltb, Option, Some, None, inl, inr, ◌⊎◌, List, [], ◌∷◌, ◌++◌, length, Result, Ok, Err, refl, sym, ap, subst, ◌∙◌, append_assoc, arith}
+use Rattle.std.proofs.Common.{◌≡◌, ℕ, zero, suc, ◌+◌, ◌<◌, ◌≤◌, Bool, true, false, cond, ltb, Option, Some, None, List, [], ◌∷◌, ◌++◌, length, Result, Ok, Err, refl, sym, ap, subst, ◌∙◌, append_assoc, arith}
 use Rattle.std.specs.Prelude.{slice_range}
 use Rattle.std.proofs.lemmas.Bool.{le-ltb, ne_eqb, eq-eqb}
 use Rattle.std.proofs.lemmas.Bool.Decides.{nat_tests}
@@ -9,8 +9,7 @@ use Rattle.rrset.specs.Header.{two_octets}
 use Rattle.dsotlv.specs.declared.message.Tlv.{Tlv}
 use Rattle.dsotlv.specs.declared.message.DsoFault.{DsoFault}
 use Rattle.dsotlv.specs.declared.message.DsoFault.TheVariants.{Tlv as TlvAt}
-use Rattle.dsotlv.specs.Messages.{tlvs_from, tlvs_of}
-use Rattle.dsotlv.specs.Giving.{tlv_end}
+use Rattle.dsotlv.specs.Messages.{tlvs_from, tlvs_of, tlv_end}
 
 abbrev pub tlv_at : List ℕ → ℕ → ℕ → Tlv
 tlv_at message place end = record { kind = two_octets message place; octets = slice_range message (place + 4) end }
@@ -49,32 +48,31 @@ with_others : (tlv : Tlv) (r : Result (List Tlv) DsoFault) → (r >>= λ others.
 with_others tlv (Ok others) = refl
 with_others tlv (Err fault) = refl
 
+-- the place after a whole TLV
+pub end-whole : (message : List ℕ) (place end : ℕ) → IsWhole message place end → tlv_end message place ≡ Some end
+end-whole message place end whole =
+    let fits : place + 4 + two_octets message (place + 2) ≤ length message = subst (λ (n : ℕ). n ≤ length message) whole.end_is whole.fits in
+    rw (le-ltb (length message) (place + 4) whole.head)
+    (rw (le-ltb (length message) (place + 4 + two_octets message (place + 2)) fits)
+    (ap (λ (n : ℕ). Some n) (sym whole.end_is)))
+
+-- what is read behind the TLV before a place
+abbrev read_behind : ℕ → List ℕ → ℕ → Option ℕ → Result (List Tlv) DsoFault
+read_behind more message place end = elim end as (λ _. Result (List Tlv) DsoFault) [
+  | None ↦ Err (TlvAt place)
+  | Some next ↦ tlvs_from more message next >>= λ others. Ok (tlv_at message place next ∷ others)
+]
+
 -- a whole TLV stands before the others
 pub tlvs-more : (more : ℕ) (message : List ℕ) (place end : ℕ) → IsWhole message place end → tlvs_from (suc more) message place ≡ behind (tlv_at message place end ∷ []) (tlvs_from more message end)
 tlvs-more more message place end whole =
-    let fits : place + 4 + two_octets message (place + 2) ≤ length message = subst (λ (n : ℕ). n ≤ length message) whole.end_is whole.fits in
     rw (ne_eqb place (length message) (λ e. omega (arith, e, whole.head)), tlvs_from)
-    (rw (le-ltb (length message) (place + 4) whole.head)
-    (rw (le-ltb (length message) (place + 4 + two_octets message (place + 2)) fits)
-    (subst (λ (n : ℕ). (tlvs_from more message (place + 4 + two_octets message (place + 2)) >>= λ others. Ok (tlv_at message place (place + 4 + two_octets message (place + 2)) ∷ others)) ≡ behind (tlv_at message place n ∷ []) (tlvs_from more message n)) (sym whole.end_is)
-    (with_others (tlv_at message place (place + 4 + two_octets message (place + 2))) (tlvs_from more message (place + 4 + two_octets message (place + 2)))))))
-
--- what is missing of a TLV that isn't whole
-pub none-end : (message : List ℕ) (place : ℕ) → tlv_end message place ≡ None → (ltb (length message) (place + 4) ≡ true) ⊎ ((ltb (length message) (place + 4) ≡ false) × (ltb (length message) (place + 4 + two_octets message (place + 2)) ≡ true))
-none-end message place e = by_tests (ltb (length message) (place + 4)) (ltb (length message) (place + 4 + two_octets message (place + 2))) e
-  where
-    by_tests : (no_head cut : Bool) → cond {A = Option ℕ} no_head None (cond cut None (Some (place + 4 + two_octets message (place + 2)))) ≡ None → (no_head ≡ true) ⊎ ((no_head ≡ false) × (cut ≡ true))
-    by_tests true cut e = inl refl
-    by_tests false true e = inr (refl, refl)
-    by_tests false false e = absurd cc
+    (ap (read_behind more message place) (end-whole message place end whole) ∙ with_others (tlv_at message place end) (tlvs_from more message end))
 
 -- a TLV that isn't whole is the fault
 pub tlvs-fault : (more : ℕ) (message : List ℕ) (place : ℕ) → place < length message → tlv_end message place ≡ None → tlvs_from more message place ≡ Err (TlvAt place)
 tlvs-fault zero message place before none = rw (ne_eqb place (length message) (λ e. omega (arith, e, before)), tlvs_from) refl
-tlvs-fault (suc more) message place before none = rw (ne_eqb place (length message) (λ e. omega (arith, e, before)), tlvs_from) (elim (none-end message place none) [
-  | inl no_head ↦ rw no_head refl
-  | inr both ↦ rw both.0 (rw both.1 refl)
-])
+tlvs-fault (suc more) message place before none = rw (ne_eqb place (length message) (λ e. omega (arith, e, before)), tlvs_from) (ap (read_behind more message place) none)
 
 -- ---- as far as a loop has come
 

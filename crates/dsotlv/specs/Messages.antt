@@ -1,5 +1,7 @@
 -- DSO messages and frames (RFC 8490, 5.4; RFC 7766, 8).
---     head_of, dso_of      what a reaction needs to know of a message; the whole message, or the first fault
+--     tlv_end, tlvs_of      the place after a TLV; all TLVs, or the first that isn't whole
+--     dso_of      the whole message, or the first fault
+--     head_of      what a reaction needs to know of a message, which may have any of these faults, but for a header that is cut off
 --     dso_octets, frame, max_frame      the octets of a message; a message behind its length; the most octets of that
 --     messages_in      the whole messages of a stream, and what is left
 --     primary_data      the data of a message's primary TLV
@@ -21,19 +23,21 @@ use Rattle.dsotlv.specs.declared.message.DsoFault.TheVariants.{Short, Opcode, Co
 abbrev pub tlv_octets : Tlv → List ℕ
 tlv_octets tlv = to_be_bytes w16 tlv.kind ++ to_be_bytes w16 (length tlv.octets) ++ tlv.octets
 
+-- the place after the TLV at a place, where it is whole (RFC 8490, 5.4.4)
+abbrev pub tlv_end : List ℕ → ℕ → Option ℕ
+tlv_end message at =
+    if nat_lt (length message) (at + 4) then None
+    else (if nat_lt (length message) (at + 4 + two_octets message (at + 2)) then None else Some (at + 4 + two_octets message (at + 2)))
+
 -- Whole TLVs from a place to the end, at most so many; the fault is at the first that isn't whole.
 abbrev pub tlvs_from : ℕ → List ℕ → ℕ → Result (List Tlv) DsoFault
 tlvs_from zero message at = if at == length message then Ok [] else Err (TlvAt at)
 tlvs_from (suc more) message at =
     elim (at == length message) [
       | true ↦ Ok []
-      | false ↦ elim (nat_lt (length message) (at + 4)) [
-        | true ↦ Err (TlvAt at)
-        | false ↦ elim (nat_lt (length message) (at + 4 + two_octets message (at + 2))) [
-          | true ↦ Err (TlvAt at)
-          | false ↦ tlvs_from more message (at + 4 + two_octets message (at + 2))
-              >>= λ others. Ok ((record { kind = two_octets message at; octets = slice_range message (at + 4) (at + 4 + two_octets message (at + 2)) }) ∷ others)
-        ]
+      | false ↦ elim (tlv_end message at) [
+        | None ↦ Err (TlvAt at)
+        | Some end ↦ tlvs_from more message end >>= λ others. Ok ((record { kind = two_octets message at; octets = slice_range message (at + 4) end }) ∷ others)
       ]
     ]
 

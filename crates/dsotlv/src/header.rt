@@ -2,8 +2,7 @@
 
 ghost use Rattle.std.specs.Prelude.{◌≡◌, ◌≤◌, length, is_ok, None, Ok, Err};
 ghost use Rattle.rrset.specs.Header.{header_octets};
-ghost use Rattle.dsotlv.specs.Messages.{has_zero_counts, tlvs_of, primary_of, primary_data, head_of};
-ghost use Rattle.dsotlv.specs.Giving.{tlv_end};
+ghost use Rattle.dsotlv.specs.Messages.{has_zero_counts, tlvs_of, primary_of, primary_data, head_of, tlv_end};
 
 use crate::message::DsoHead;
 use crate::number::number_at;

@@ -1,6 +1,7 @@
 //! DSO messages and notices: reading and writing them (RFC 8490, 5.4; RFC 8765, 6).
 #![tactic(auto)]
 
+pub mod data_sizes;
 pub mod delays;
 pub mod flags;
 mod framer;

@@ -7,10 +7,9 @@ use Rattle.std.proofs.Math.Seq.{take-nil, drop-nil}
 use Rattle.push_base.specs.Cases.{is_empty}
 use Rattle.rrset.specs.Rcodes.{noerror, notauth}
 use Rattle.rrset.specs.declared.record.Question.{Question}
-use Rattle.dsotlv.specs.Answers.{answer_to, grant_to, refusal_to}
+use Rattle.dsotlv.specs.Answers.{answer_to, grant_to, refusal_to, push_message}
 use Rattle.dsotlv.specs.Messages.{frame}
 use Rattle.dsotlv.specs.declared.message.Notice.{Notice}
-use Rattle.coalesce.specs.Net.{push_message}
 use Rattle.history.specs.States.{state_at}
 use Rattle.pushsession.specs.declared.standing.Standing.{Standing}
 use Rattle.pushsession.specs.declared.standing.Standing.TheVariants.{Live}

@@ -1,4 +1,5 @@
 -- Where no whole message waits at the client, the next one hasn't arrived whole.
+--     never_none, shorter      a stream that begins with a frame has a whole message; one without is shorter than its first frame
 --     ends_before_next
 use Rattle.std.proofs.Common.{◌≡◌, ℕ, ◌+◌, ◌≤◌, ◌<◌, ◌^◌, Bool, true, false, List, [], ◌∷◌, ◌++◌, length, take, drop, None, ltb, sym, ◌∙◌, ap, subst, refl, arith}
 use Rattle.std.proofs.Math.Seq.{take-append_seam}
@@ -14,7 +15,7 @@ use Rattle.inflight.specs.Messages.{flying_octets}
 use Rattle.flight_laws.specs.Holding.{EndsBeforeNextWhereNoneWaits}
 
 -- a stream that begins with a frame has a whole message
-never_none : (m : List ℕ) → length m < 2 ^ 16 → (rest : List ℕ) → first_message (frame m ++ rest) ≡ None → ⊥
+pub never_none : (m : List ℕ) → length m < 2 ^ 16 → (rest : List ℕ) → first_message (frame m ++ rest) ≡ None → ⊥
 never_none m small rest none =
     let one : messages_in (frame m) ≡ (m ∷ [], []) = ap messages_in (sym (append-nil (frame m))) ∙ frames_again (m ∷ []) (All-cons (λ message. length message < 2 ^ 16) m [] small (All-nil (λ message. length message < 2 ^ 16))) in
     let whole : messages_in (frame m ++ rest) ≡ with_piece (m ∷ [], []) rest = cut_anywhere (frame m) rest ∙ ap (λ had. with_piece had rest) one in
@@ -23,7 +24,7 @@ never_none m small rest none =
 
 -- a stream that begins with the front of a frame
 module _ (m input more rest : List ℕ) (small : length m < 2 ^ 16) (begins : input ++ more ≡ frame m ++ rest) (none : first_message input ≡ None) where
-  shorter : (b : Bool) → ltb (length input) (length (frame m)) ≡ b → length input < length (frame m)
+  pub shorter : (b : Bool) → ltb (length input) (length (frame m)) ≡ b → length input < length (frame m)
   shorter true is = ltb-true (length input) (length (frame m)) is
   shorter false is =
       let enough : length (frame m) ≤ length input = ltb-false (length input) (length (frame m)) is in

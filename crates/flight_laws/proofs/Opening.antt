@@ -32,7 +32,7 @@ next-is-new (w ∷ ws) q qs h =
     let own = all_at (λ y. same_question w.question y ≡ false) (map question_of ws) q qs h.0 in
     ap (λ (b : Bool). cond b (Some w) (find (λ (v : Wish). same_question v.question q) ws)) own ∙ next-is-new ws q qs h.1
 
-still-open : (p : Client) (d : Connection) → p.connection ≡ Some d → d.closed ≡ None → open_connection p ≡ Some d
+pub still-open : (p : Client) (d : Connection) → p.connection ≡ Some d → d.closed ≡ None → open_connection p ≡ Some d
 still-open p d there closed =
     ap (λ (o : Option Connection). elim o as (λ _. Option Connection) [ None ↦ None | Some c ↦ cond (is_some c.closed) None (Some c) ]) there ∙ ap (λ (r : Option CloseReason). cond (is_some r) None (Some d)) closed
 

@@ -4,6 +4,7 @@ use Rattle.std.proofs.Common.{◌≡◌, ◌+◌, ◌<◌, ◌≤◌, ◌^◌, B
 use Rattle.std.specs.Prelude.{flat_map}
 use Rattle.std.proofs.lemmas.List.{append-nil}
 use Rattle.std.proofs.lemmas.List.Elements.{All-nil, All-cons}
+use Rattle.dsotlv.specs.Answers.{push_message}
 use Rattle.dsotlv.specs.Laws.{HasSize}
 use Rattle.dsotlv.specs.Messages.{tlv_octets, tlvs_of}
 use Rattle.dsotlv.specs.Notices.{notices_of, notice_octets}
@@ -19,7 +20,7 @@ use Rattle.pushserver.specs.ToldMessages.{notices_in_tlvs, notices_in, notices_s
 use Rattle.pushtelling.proofs.Quiet.{other_flags}
 use Rattle.pushtelling.proofs.Messages.{notices_since-append}
 use Rattle.pushclient.specs.Clients.{Wish, RequestState, not_asked, unanswered, refused, answered}
-use Rattle.pushclient.specs.ServerMessages.{tells, push_octets}
+use Rattle.pushclient.specs.ServerMessages.{tells}
 use Rattle.pushclient.specs.Steps.{is_answered}
 use Rattle.pushclient.specs.SoundClients.{count_of}
 use Rattle.pushclient.proofs.SoundWishes.{all_map}
@@ -37,19 +38,19 @@ abbrev push_of : List Notice → Tlv
 push_of notices = record { kind = push_tlv; octets = flat_map notice_octets notices }
 
 -- what it was made of is read from a PUSH that fits into a frame
-pub push-read : (notices : List Notice) → notices_of (flat_map notice_octets notices) ≡ Ok notices → length (push_octets notices) < 2 ^ 16 → notices_in (push_octets notices) ≡ notices
+pub push-read : (notices : List Notice) → notices_of (flat_map notice_octets notices) ≡ Ok notices → length (push_message notices) < 2 ^ 16 → notices_in (push_message notices) ≡ notices
 push-read notices read small =
     ap (λ (r : Result (List Tlv) DsoFault). elim r as (λ _. List Notice) [ Err fault ↦ [] | Ok tlvs ↦ notices_in_tlvs tlvs ]) one
     ∙ ap (λ (r : Result (List Notice) PushFault). elim r as (λ _. List Notice) [ Err fault ↦ [] | Ok found ↦ found ]) read
   where
-    whole : length (push_octets notices) ≡ 16 + length (flat_map notice_octets notices)
+    whole : length (push_message notices) ≡ 16 + length (flat_map notice_octets notices)
     whole = length-push_message notices
 
     fits : HasSize (push_of notices)
     fits = (omega arith, omega (arith, whole, small))
 
-    one : tlvs_of (push_octets notices) ≡ Ok (push_of notices ∷ [])
-    one = tlvs_there (length (push_octets notices)) (push_octets notices) 12 (push_of notices ∷ []) (All-cons HasSize (push_of notices) [] fits (All-nil HasSize)) (omega (arith, whole)) (omega arith)
+    one : tlvs_of (push_message notices) ≡ Ok (push_of notices ∷ [])
+    one = tlvs_there (length (push_message notices)) (push_message notices) 12 (push_of notices ∷ []) (All-cons HasSize (push_of notices) [] fits (All-nil HasSize)) (omega (arith, whole)) (omega arith)
         (sym (append-nil (tlv_octets (push_of notices))))
 
 -- ---- the wishes
@@ -84,14 +85,14 @@ module _ (notices : List Notice) where
     abbrev made : Made
     made = made_of e.timers the_push
 
-    took : notices_in (push_octets notices) ≡ notices → (w : Wish) (standing : RequestState) → w.standing ≡ standing → TookNotices taken w → TookNotices (taken ++ made ∷ []) (with_these w)
+    took : notices_in (push_message notices) ≡ notices → (w : Wish) (standing : RequestState) → w.standing ≡ standing → TookNotices taken w → TookNotices (taken ++ made ∷ []) (with_these w)
     took read w not_asked is h = subst (λ s. TookNotices (taken ++ made ∷ []) (cond (is_answered s) (record w { standing = s; notices = w.notices ++ notices }) (record w { standing = s }))) (sym is) tt
     took read w (unanswered id) is h = subst (λ s. TookNotices (taken ++ made ∷ []) (cond (is_answered s) (record w { standing = s; notices = w.notices ++ notices }) (record w { standing = s }))) (sym is) tt
     took read w (refused rcode) is h = subst (λ s. TookNotices (taken ++ made ∷ []) (cond (is_answered s) (record w { standing = s; notices = w.notices ++ notices }) (record w { standing = s }))) (sym is) tt
     took read w (answered id) is h =
         let before : w.notices ≡ notices_since id taken = subst (λ s. TookNotices taken (record w { standing = s })) is h in
         let after : w.notices ++ notices ≡ notices_since id (taken ++ made ∷ []) =
-        ap (λ ns. ns ++ notices) before ∙ sym (notices_since-append id taken made (other_flags (push_octets notices) id refl) ∙ ap (λ ns. notices_since id taken ++ ns) read) in
+        ap (λ ns. ns ++ notices) before ∙ sym (notices_since-append id taken made (other_flags (push_message notices) id refl) ∙ ap (λ ns. notices_since id taken ++ ns) read) in
         subst (λ s. TookNotices (taken ++ made ∷ []) (cond (is_answered s) (record w { standing = s; notices = w.notices ++ notices }) (record w { standing = s }))) (sym is) after
 
     push-down : Downward e taken (the_push ∷ fs) → Downward (with_notices notices e) (taken ++ made ∷ []) fs

@@ -27,7 +27,7 @@ use Rattle.flight_laws.proofs.Asked.{answers-weaken}
 use Rattle.flight_laws.proofs.Refusals.{all-counted, or-weaken, isn't-held, questions-differ}
 
 -- no other wish has the question of one of them
-none-other : (before : List Wish) (w : Wish) (behind : List Wish) → Differ (before ++ w ∷ behind) → list_any (λ v. same_question v.question w.question) (before ++ behind) ≡ false
+pub none-other : (before : List Wish) (w : Wish) (behind : List Wish) → Differ (before ++ w ∷ behind) → list_any (λ v. same_question v.question w.question) (before ++ behind) ≡ false
 unfolding IsDistinct
 none-other [] w behind h = none behind h.0
   where

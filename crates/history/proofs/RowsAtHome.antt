@@ -1,18 +1,17 @@
 -- The rows after an update lie in the zone, as those before it do.
-use Rattle.std.proofs.Common.{◌≡◌, ℕ, Bool, true, false, cond, not, ◌||◌, List, [], ◌∷◌, map, fold, Option, Some, None, Ok, Err, refl, sym, ap, subst, ◌∙◌}
-use Rattle.std.specs.Prelude.{if◌then◌else◌}
+use Rattle.std.proofs.Common.{◌≡◌, ℕ, Bool, true, false, cond, not, ◌||◌, List, [], ◌∷◌, map, fold, Option, Some, None, Ok, refl, sym, ap, subst, ◌∙◌}
 use Rattle.std.specs.List.{list_all, AllByRecursion}
 use Rattle.push_base.specs.Cases.{first_refused}
 use Rattle.dnsname.specs.Names.{Labels, lower}
 use Rattle.dnswire.specs.declared.message.Update.{Update}
 use Rattle.rrset.specs.Kinds.{in_class, soa_kind}
-use Rattle.rrset.specs.Rcodes.{nxrrset, refused}
 use Rattle.rrset.specs.Records.{key_of, shown_of}
 use Rattle.rrset.specs.RecordSet.{RecordSet, is_in_order, shows_its_key, is_of_rrset, put_rr, without, same_rows}
 use Rattle.rrset.specs.declared.record.Rr.{Rr}
 use Rattle.rrset.specs.declared.record.Key.{Key}
 use Rattle.zoneupdate.specs.Zones.{ZoneState, is_inside, set_at}
-use Rattle.zoneupdate.specs.Updates.{judged, rows_after, changed_by, with_risen_serial, risen_soa, change_refusal, prerequisite_refusal, accepted_or, with_counted_ttl, sets_agree, is_within_limits}
+use Rattle.zoneupdate.specs.Updates.{judged, rows_after, changed_by, with_risen_serial, risen_soa, change_refusal, with_counted_ttl}
+use Rattle.zoneupdate.proofs.KeptZone.{judged-accepted}
 use Rattle.zoneupdate.proofs.Filters.{and-left, and-right}
 use Rattle.zoneupdate.proofs.SomeAndAll.{all-filter}
 use Rattle.zoneupdate.proofs.Owners.{same_name-lower}
@@ -85,22 +84,9 @@ good-after homes zone rrs all good =
 
 -- ---- an update that is accepted
 
-accepted-parts : (o p : Option ℕ) (a b c : Bool) (after rows : RecordSet)
-    → accepted_or o (if a then Err nxrrset else if b then Err refused else accepted_or p (if c then Ok after else Err refused)) ≡ Ok rows
-    → (p ≡ None) × (after ≡ rows)
-accepted-parts (Some code) p a b c after rows e = cc
-accepted-parts None p true b c after rows e = cc
-accepted-parts None p false true c after rows e = cc
-accepted-parts None (Some code) false false c after rows e = cc
-accepted-parts None None false false true after rows e = (refl, cc)
-accepted-parts None None false false false after rows e = cc
-
 pub judged-rows : (homes : List Labels) (zone : ZoneState) (update : Update) (rows : RecordSet) → judged homes zone update ≡ Ok rows
     → (first_refused (change_refusal homes zone) (map with_counted_ttl update.changes) ≡ None) × (rows_after zone (map with_counted_ttl update.changes) ≡ rows)
-judged-rows homes zone update rows e =
-    let prereqs : List Rr = map with_counted_ttl update.prereqs in
-    let changes : List Rr = map with_counted_ttl update.changes in
-    accepted-parts (first_refused (prerequisite_refusal homes zone) prereqs) (first_refused (change_refusal homes zone) changes) (not (sets_agree prereqs zone.rows)) (not zone.writable) (is_within_limits (rows_after zone changes)) (rows_after zone changes) rows e
+judged-rows homes zone update rows e = let made = judged-accepted homes zone update rows e in (made.passed, made.after)
 
 none-refused : (refusal : Rr → Option ℕ) (rr : Rr) (rrs : List Rr) → first_refused refusal (rr ∷ rrs) ≡ None → (refusal rr ≡ None) × (first_refused refusal rrs ≡ None)
 none-refused refusal rr rrs e = by (refusal rr) e

@@ -1,4 +1,5 @@
 -- The state of all homes, what an entry makes of it, and the records that it shows.
+--     lacks_update_header, update_in      a message has no header of an update; the update that a message is
 --     verdict state message      what an update gets: the update that is entered, or an RCODE
 --     accepts state entry, after state entry      whether the entry is made; the state after it
 --     state_at, records_at      the state and the records after the first entries of a history
@@ -72,11 +73,14 @@ updated state update = do
   rows ← judged (home_names state) zone update
   Ok (with_rows state zone.apex rows)
 
+-- a message doesn't have the length of one, or not the header of an update (RFC 2136, 2.2)
+abbrev pub lacks_update_header : List ℕ → Bool
+lacks_update_header message =
+    nat_lt (length message) header_octets || nat_lt max_message (length message) || is_response (flags_of message) || not (opcode_of (flags_of message) == update_opcode)
+
 -- a message that is no update is a format error (RFC 2136, 2.2)
 abbrev pub update_in : List ℕ → Result Update ℕ
-update_in message =
-    if nat_lt (length message) header_octets || nat_lt max_message (length message) || is_response (flags_of message) || not (opcode_of (flags_of message) == update_opcode) then Err formerr
-    else fault_as (λ _. formerr) (update_of message)
+update_in message = if lacks_update_header message then Err formerr else fault_as (λ _. formerr) (update_of message)
 
 abbrev pub verdict : State → List ℕ → Result Update ℕ
 verdict state message = update_in message >>= λ update. updated state update >>= λ _. Ok update

@@ -2,8 +2,9 @@
 --     heard domain rows now hearing      the rows after a hearing, in two passes
 --     at_moment rows now      the rows that have not ended
 --     reconfirmed rows key now      a row that ends soon unless it is heard again
+--     next_end rows      the least moment at which a row ends
 --     shown_rows domain rows      the records that the link shows
-use Rattle.std.specs.Prelude.{ℕ, ◌+◌, ◌*◌, Bool, ◌&&◌, ◌||◌, cond, List, [], map, length, filter, fold, sum_by, min, Some, None, nat_lt, nat_le, ◌==◌, if◌then◌else◌}
+use Rattle.std.specs.Prelude.{ℕ, ◌+◌, ◌*◌, Bool, ◌&&◌, ◌||◌, cond, List, [], map, length, filter, fold, sum_by, min, Option, Some, None, nat_lt, nat_le, ◌==◌, if◌then◌else◌}
 use Rattle.std.specs.List.{list_any}
 use Rattle.std.specs.FinMap.{put as map_put}
 use Rattle.push_base.specs.Limits.{max_octets_at_name}
@@ -14,13 +15,9 @@ use Rattle.rrset.specs.declared.record.Rr.{Rr}
 use Rattle.rrset.specs.declared.record.Key.{Key}
 use Rattle.rrset.specs.declared.record.Shown.{Shown}
 use Rattle.rrset.specs.declared.record.HeardRr.{HeardRr}
+use Rattle.linkcache.specs.declared.row.HeardRow.{HeardRow}
+use Rattle.linkcache.specs.declared.row.TheConstants as constants
 use Rattle.linkmap.specs.Translation.{local, is_usable, shown_as, renamed_rr}
-
--- a record that was heard: what is shown of it, when it was heard, and when it ends; names are those of the link
-pub record HeardRow : Type 0 where
-  pub shown : Shown
-  pub heard : ℕ
-  pub ends : ℕ
 
 abbrev pub ttl_of : HeardRr → ℕ
 ttl_of h = counted_ttl h.rr.ttl
@@ -44,24 +41,24 @@ size_under domain owner rows = sum_by (λ row. rr_size (renamed_rr local domain 
 
 -- the most rows of a link (this project's own)
 abbrev pub max_rows : ℕ
-max_rows = 16384
+max_rows = constants.MAX_ROWS
 
--- few enough rows, and few enough octets of an owner (this project's own)
-abbrev pub row_has_room : Labels → LinkRows → Rr → Bool
-row_has_room domain rows rr = nat_lt (length rows) max_rows && nat_le (size_under domain rr.owner rows + rr_size (renamed_rr local domain rr)) max_octets_at_name
+-- few enough rows, with so many others that the link has, and few enough octets of an owner (this project's own)
+abbrev pub row_has_room : Labels → ℕ → LinkRows → Rr → Bool
+row_has_room domain others rows rr = nat_lt (length rows + others) max_rows && nat_le (size_under domain rr.owner rows + rr_size (renamed_rr local domain rr)) max_octets_at_name
 
 -- in milliseconds
 abbrev pub second : ℕ
-second = 1000
+second = constants.SECOND
 
 abbrev pub heard_at : ℕ → HeardRr → HeardRow
 heard_at now h = record { shown = record (shown_of h.rr) { ttl = ttl_of h }; heard = now; ends = now + second * ttl_of h }
 
 -- the first pass: a record is put with its TTL; a TTL of 0 lets the row go after a second (RFC 6762, 10 and 10.1)
-abbrev pub put_heard : Labels → ℕ → LinkRows → HeardRr → LinkRows
-put_heard domain now rows h =
+abbrev pub put_heard : Labels → ℕ → ℕ → LinkRows → HeardRr → LinkRows
+put_heard domain now others rows h =
     if ttl_of h == 0 then map (λ row. cond (same_key (key_of h.rr) row.0) (ending_by (now + second) row) row) rows
-    else if has_key (key_of h.rr) rows || row_has_room domain rows h.rr then map_put key_cmp (key_of h.rr) (heard_at now h) rows
+    else if has_key (key_of h.rr) rows || row_has_room domain others rows h.rr then map_put key_cmp (key_of h.rr) (heard_at now h) rows
     else rows
 
 abbrev pub is_of_set : Rr → Key × HeardRow → Bool
@@ -74,20 +71,34 @@ flushed_by now rows h = map (λ row. cond (is_of_set h.rr row && nat_lt (row.1.h
 abbrev pub usable_of : Labels → List HeardRr → List HeardRr
 usable_of domain hearing = filter (λ h. is_usable domain h.rr) hearing
 
+-- both passes, on rows of a link that has so many others
+abbrev pub heard_beside : ℕ → Labels → LinkRows → ℕ → List HeardRr → LinkRows
+heard_beside others domain rows now usable = fold (flushed_by now) (fold (put_heard domain now others) rows usable) (filter (λ h. h.flush) usable)
+
 abbrev pub heard : Labels → LinkRows → ℕ → List HeardRr → LinkRows
-heard domain rows now hearing =
-    let usable = usable_of domain hearing in
-    fold (flushed_by now) (fold (put_heard domain now) rows usable) (filter (λ h. h.flush) usable)
+heard domain rows now hearing = heard_beside 0 domain rows now (usable_of domain hearing)
 
 abbrev pub at_moment : LinkRows → ℕ → LinkRows
 at_moment rows now = filter (λ row. nat_lt now row.1.ends) rows
 
+-- in milliseconds (RFC 6762, 10.4)
+abbrev pub reconfirmation : ℕ
+reconfirmation = constants.RECONFIRMATION
+
 -- a row that is reconfirmed and isn't heard goes after ten seconds (RFC 6762, 10.4)
 abbrev pub reconfirmed : LinkRows → Key → ℕ → LinkRows
-reconfirmed rows key now = map (λ row. cond (same_key key row.0) (ending_by (now + 10 * second) row) row) rows
+reconfirmed rows key now = map (λ row. cond (same_key key row.0) (ending_by (now + reconfirmation) row) row) rows
 
 abbrev pub put_shown : Labels → RecordSet → Key × HeardRow → RecordSet
 put_shown domain set row = elim (shown_as domain (rr_of_row row)) [ None ↦ set | Some rr ↦ put_rr set rr ]
 
 abbrev pub shown_rows : Labels → LinkRows → RecordSet
 shown_rows domain rows = fold (put_shown domain) [] rows
+
+abbrev pub earlier : Option ℕ → Key × HeardRow → Option ℕ
+earlier None row = Some row.1.ends
+earlier (Some moment) row = Some (min moment row.1.ends)
+
+-- the least moment at which a row ends
+abbrev pub next_end : LinkRows → Option ℕ
+next_end rows = fold earlier None rows

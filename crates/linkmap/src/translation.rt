@@ -110,6 +110,15 @@ fn renamed_rr(alloc: Global, rr: &Rr, old: &Name, new: &Name) -> Result<Rr, NoMe
     })
 }
 
+/// A usable record of the link as it would stand under the domain, an address that isn't shown too.
+pub fn translated(alloc: Global, domain: &Name, rr: &Rr) -> Result<Rr, NoMemory>
+    requires { is_usable domain.now rr.now ≡ true }
+    ensures { IfOk result (λ later. later ≡ renamed_rr local domain.now rr.now) }
+{
+    let local = local_name(alloc)?;
+    renamed_rr(alloc, rr, &local, domain)
+}
+
 /// The record of the link's domain as which a usable record of the link is shown (RFC 8766, 5.5). Nothing exactly where
 /// it is an address of its link alone (RFC 8766, 5.5.2).
 pub fn show(alloc: Global, domain: &Name, rr: &Rr) -> Result<Option<Rr>, NoMemory>
@@ -119,8 +128,7 @@ pub fn show(alloc: Global, domain: &Name, rr: &Rr) -> Result<Option<Rr>, NoMemor
     if is_link_local(rr) {
         return Ok(None);
     }
-    let local = local_name(alloc)?;
-    Ok(Some(renamed_rr(alloc, rr, &local, domain)?))
+    Ok(Some(translated(alloc, domain, rr)?))
 }
 
 /// The record of the link that would be shown with the key of this record of its domain. Nothing exactly where its owner

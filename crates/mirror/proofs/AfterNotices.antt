@@ -5,6 +5,7 @@ use denote.Param.Members.{Mut, Called}
 use Rattle.std.proofs.lemmas.Fn.{always_returns_same}
 use Rattle.rrset.specs.RecordSet.{RecordSet, only, without}
 use Rattle.rrset.specs.Tables.{TableState}
+use Rattle.rrset.specs.declared.record.Shown.{Shown}
 use Rattle.rrset.specs.declared.record.Key.{Key}
 use Rattle.rrset.specs.declared.record.Question.{Question}
 use Rattle.dsotlv.specs.declared.message.Notice.{Notice}
@@ -23,7 +24,7 @@ all_stay [] = refl
 all_stay (e ∷ set) = ap (λ (l : RecordSet). e ∷ l) (all_stay set)
 
 -- the questions stay as they are
-held_questions : (entries : List (Question × TableState)) → questions_of (held_of entries) ≡ questions_of entries
+held_questions : (entries : List (Question × TableState Shown)) → questions_of (held_of entries) ≡ questions_of entries
 held_questions [] = refl
 held_questions (e ∷ entries) = ap (λ (l : List Question). e.0 ∷ l) (held_questions entries)
 
@@ -31,6 +32,6 @@ applied_questions : (notices : List Notice) (held : Held) → questions_of (appl
 applied_questions notices [] = refl
 applied_questions notices (e ∷ held) = ap (λ (l : List Question). e.0 ∷ l) (applied_questions notices held)
 
-pub still_held : (notices : List Notice) (entries after : List (Question × TableState)) → held_of after ≡ applied_to notices (held_of entries) → AreHeld entries → AreHeld after
+pub still_held : (notices : List Notice) (entries after : List (Question × TableState Shown)) → held_of after ≡ applied_to notices (held_of entries) → AreHeld entries → AreHeld after
 still_held notices entries after is =
     same_questions entries after (sym (held_questions entries) ∙ sym (applied_questions notices (held_of entries)) ∙ ap (λ (held : Held). questions_of held) (sym is) ∙ held_questions after)

@@ -5,12 +5,13 @@ use Rattle.std.specs.Option.{option_map}
 use Rattle.std.proofs.lemmas.List.Quantifiers.{position-Some}
 use Rattle.rrset.specs.RecordSet.{RecordSet}
 use Rattle.rrset.specs.Tables.{TableState}
+use Rattle.rrset.specs.declared.record.Shown.{Shown}
 use Rattle.rrset.specs.declared.record.Question.{Question}
 use Rattle.rrset.proofs.Distinct.{failing, or_false}
 use Rattle.mirror.specs.Held.{Held, held_of, is_of, has, set_of, begun, ended}
 
 abbrev Entries : Type 0
-Entries = List (Question × TableState)
+Entries = List (Question × TableState Shown)
 
 module _ (question : Question) where
   pub held_any : (entries : Entries) → has question (held_of entries) ≡ list_any (is_of question) entries
@@ -36,7 +37,7 @@ module _ (question : Question) where
       by false rest = rest
 
   -- behind the others
-  pub begun_behind : (entries : Entries) (table : TableState) → list_any (is_of question) entries ≡ false → table.rows ≡ [] → held_of (entries ++ (question, table) ∷ []) ≡ begun question (held_of entries)
+  pub begun_behind : (entries : Entries) (table : TableState Shown) → list_any (is_of question) entries ≡ false → table.rows ≡ [] → held_of (entries ++ (question, table) ∷ []) ≡ begun question (held_of entries)
   begun_behind [] table none empty = ap (λ (rows : RecordSet). (question, rows) ∷ []) empty
   begun_behind (e ∷ entries) table none empty =
       let both = or_false (is_of question e) (list_any (is_of question) entries) none in
@@ -44,7 +45,7 @@ module _ (question : Question) where
       ∙ sym (ap (λ (b : Bool). cond b ((e.0, []) ∷ held_of entries) ((e.0, e.1.rows) ∷ begun question (held_of entries))) both.0)
 
   -- in its place
-  begun_at : (entries : Entries) (i : ℕ) (d : Question × TableState) (table : TableState) → i < length entries → is_of question (get_or entries i d) ≡ true
+  begun_at : (entries : Entries) (i : ℕ) (d : Question × TableState Shown) (table : TableState Shown) → i < length entries → is_of question (get_or entries i d) ≡ true
       → ((k : ℕ) → k < i → is_of question (get_or entries k d) ≡ false) → table.rows ≡ [] → held_of (set entries i ((get_or entries i d).0, table)) ≡ begun question (held_of entries)
   begun_at [] i d table within here before empty = absurd (omega arith)
   begun_at (e ∷ entries) zero d table within here before empty =
@@ -54,6 +55,6 @@ module _ (question : Question) where
       ap (λ (l : Held). (e.0, e.1.rows) ∷ l) (begun_at entries i d table (omega arith) here (λ k below. before (suc k) (omega arith)) empty)
       ∙ sym (ap (λ (b : Bool). cond b ((e.0, []) ∷ held_of entries) ((e.0, e.1.rows) ∷ begun question (held_of entries))) (before 0 (omega arith)))
 
-  pub begun_there : (entries : Entries) (i : ℕ) (d : Question × TableState) (table : TableState) → position (is_of question) entries ≡ Some i → table.rows ≡ []
+  pub begun_there : (entries : Entries) (i : ℕ) (d : Question × TableState Shown) (table : TableState Shown) → position (is_of question) entries ≡ Some i → table.rows ≡ []
       → held_of (set entries i ((get_or entries i d).0, table)) ≡ begun question (held_of entries)
   begun_there entries i d table is empty = let at = position-Some (is_of question) entries i d is in begun_at entries i d table at.0 at.1 at.2 empty

@@ -8,6 +8,7 @@ use Rattle.std.specs.List.{list_any, IsDistinct}
 use Rattle.rrset.specs.Records.{same_question}
 use Rattle.rrset.specs.RecordSet.{RecordSet}
 use Rattle.rrset.specs.Tables.{TableState}
+use Rattle.rrset.specs.declared.record.Shown.{Shown}
 use Rattle.rrset.specs.declared.record.Question.{Question}
 use Rattle.dsotlv.specs.declared.message.Notice.{Notice}
 use Rattle.dsotlv.specs.Notices.{applied_all}
@@ -17,7 +18,7 @@ abbrev pub Held : Type 0
 Held = List (Question × RecordSet)
 
 -- what tables hold, each with its question
-abbrev pub held_of : List (Question × TableState) → Held
+abbrev pub held_of : List (Question × TableState Shown) → Held
 held_of entries = map (λ e. (e.0, e.1.rows)) entries
 
 abbrev pub is_of : {S : Type 0} → Question → Question × S → Bool

@@ -10,7 +10,7 @@ use Rattle.std.proofs.lemmas.Nat.{from_be_bytes-to_be_bytes_4}
 use Rattle.push_base.specs.Cases.{chosen}
 use Rattle.rrset.specs.Header.{is_response, opcode_of, rcode_of, answer_octets}
 use Rattle.rrset.specs.Rcodes.{noerror, notauth}
-use Rattle.dsotlv.specs.Answers.{refusal_delay}
+use Rattle.dsotlv.specs.Answers.{refusal_delay, push_message}
 use Rattle.dsotlv.specs.Laws.{HasSize}
 use Rattle.dsotlv.specs.Messages.{first_message, dso_opcode, dso_flags, tlv_octets, data_of_first}
 use Rattle.dsotlv.specs.Notices.{notice_octets}
@@ -29,7 +29,7 @@ use Rattle.pushclient.specs.declared.client.Step.TheVariants as steps
 use Rattle.pushclient.specs.Clients.{Client, Connection, Wish, refused, answered, writes, unsubscribe_message, without_wish, open_connection, closed_as}
 use Rattle.pushclient.specs.Rule.{stood_wish}
 use Rattle.pushclient.specs.Steps.{step, request_of, is_keepalive_out, by_reaction, answer_taken, keepalive_answered, timers_in, counts_as_keepalive, closes_as, push_taken}
-use Rattle.pushclient.specs.ServerMessages.{ServerMessage, accepts, refuses, grants, tells, delays, server_octets, push_octets}
+use Rattle.pushclient.specs.ServerMessages.{ServerMessage, accepts, refuses, grants, tells, delays, server_octets}
 use Rattle.pushclient.specs.FittingMessages.{HasFirst, IsAwaited, IsStranger, Fits, behind_first, StepIs, Closes, IsTaken, TakesWhatFits, OnlyDelayCloses, ClosesOnStranger, ClosesOnEarly, MeetsTheFirst}
 use Rattle.pushclient.proofs.EveryCut.{is-at}
 use Rattle.pushclient.proofs.MessageSteps.{step-first}
@@ -179,7 +179,7 @@ module _ (timers : Timers) (client : Client) (c : Connection) (rest : List ℕ) 
   abbrev PushStep : List Notice → ClientReaction → Type 0
   PushStep notices reaction = step client ≡ by_reaction reaction (dso_text 0 0x3000 (push_tlv_of notices ∷ [])) 0 0 (here false)
 
-  push-written : (notices : List Notice) → length (push_octets notices) < 2 ^ 16 → Written (dso_text 0 0x3000 (push_tlv_of notices ∷ [])) 0 0x3000 (push_tlv_of notices ∷ [])
+  push-written : (notices : List Notice) → length (push_message notices) < 2 ^ 16 → Written (dso_text 0 0x3000 (push_tlv_of notices ∷ [])) 0 0x3000 (push_tlv_of notices ∷ [])
   push-written notices small = written 0 0x3000 (push_tlv_of notices ∷ []) (omega arith) (omega arith) (one_size (push_tlv_of notices) (omega arith, omega (arith, small)))
 
   push-step : (notices : List Notice) (established : Bool) (reaction : ClientReaction) → HasFirst timers (tells notices) client c rest → c.established ≡ established

@@ -8,7 +8,7 @@ use Rattle.std.specs.Int.{w16, to_be_bytes}
 use Rattle.std.specs.List.{list_any}
 use Rattle.push_base.specs.Limits.{max_questions, max_input}
 use Rattle.dnsname.specs.Names.{octets}
-use Rattle.rrset.specs.Header.{answer_octets}
+use Rattle.rrset.specs.Header.{answer_octets, max_message}
 use Rattle.rrset.specs.Records.{same_question}
 use Rattle.rrset.specs.RecordSet.{RecordSet}
 use Rattle.rrset.specs.declared.record.Rr.{Rr}
@@ -96,8 +96,11 @@ abbrev pub reconfirm_message : Rr → List ℕ
 reconfirm_message rr = answer_octets 0 (dso_flags false 0) ++ tlv_octets (record { kind = reconfirm_tlv; octets = octets rr.owner ++ to_be_bytes w16 rr.kind ++ to_be_bytes w16 rr.class ++ rr.rdata })
 
 -- a connection that is there and hasn't closed
+abbrev pub opened : Option Connection → Option Connection
+opened connection = elim connection [ None ↦ None | Some c ↦ cond (is_some c.closed) None (Some c) ]
+
 abbrev pub open_connection : Client → Option Connection
-open_connection client = elim client.connection [ None ↦ None | Some c ↦ cond (is_some c.closed) None (Some c) ]
+open_connection client = opened client.connection
 
 abbrev pub with_connection : Connection → Client → Client
 with_connection connection client = record client { connection = Some connection }
@@ -160,7 +163,7 @@ unsubscribe client question = elim (wish_for client question) [
 abbrev pub reconfirm : Client → Rr → Bool × Client
 reconfirm client rr = elim (open_connection client) [
   | None ↦ (false, client)
-  | Some c ↦ if c.established && nat_le (length (reconfirm_message rr)) 65535 then (true, with_connection (writes false client.now (reconfirm_message rr) c) client) else (false, client)
+  | Some c ↦ if c.established && nat_le (length (reconfirm_message rr)) max_message then (true, with_connection (writes false client.now (reconfirm_message rr) c) client) else (false, client)
 ]
 
 abbrev pub room_of : Client → ℕ

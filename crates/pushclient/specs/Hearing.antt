@@ -4,7 +4,7 @@
 --     told_on told c kept      what it does, where the connection is this one behind the message
 --     kept_heard kept      the step
 --     IsUntold wishes      no wish was told anything
-use Rattle.std.specs.Prelude.{◌≡◌, ℕ, Bool, true, false, List, map, find, Option, Some, None, Ok, Err, nat_lt, ◌==◌, if◌then◌else◌}
+use Rattle.std.specs.Prelude.{◌≡◌, ℕ, Bool, true, false, List, map, find, Option, Some, None, Ok, Err, ◌==◌, if◌then◌else◌}
 use Rattle.std.specs.Int.{w32, from_be_bytes}
 use Rattle.rrset.specs.declared.record.Question.{Question}
 use Rattle.rrset.specs.Header.{id_of, flags_of, is_response, rcode_of}
@@ -16,7 +16,7 @@ use Rattle.dsotlv.specs.TlvKinds.{keepalive_tlv, push_tlv}
 use Rattle.dsotlv.specs.declared.message.DsoHead.{DsoHead}
 use Rattle.dsosession.specs.Reactions.{client_reaction, is_keepalive}
 use Rattle.dsosession.specs.SessionStates.{SessionState}
-use Rattle.dsosession.specs.Timing.{least_keepalive, restarted}
+use Rattle.dsosession.specs.Timing.{is_short, restarted}
 use Rattle.dsosession.specs.declared.session.CloseReason.{CloseReason}
 use Rattle.dsosession.specs.declared.session.CloseReason.TheVariants as closes
 use Rattle.dsosession.specs.declared.session.ClientReaction.{ClientReaction}
@@ -63,7 +63,7 @@ closed_by reason c = (steps.Closed reason, record c { closed = Some reason })
 -- the two numbers hold; an interval under ten seconds is an error (RFC 8490, 6.5.2 and 7.1)
 abbrev pub adopted_on : Option (ℕ × ℕ) → Connection → Step × Connection
 adopted_on None c = closed_by (closes.BadData keepalive_tlv) c
-adopted_on (Some numbers) c = if nat_lt numbers.1 least_keepalive then closed_by (closes.Interval numbers.1) c
+adopted_on (Some numbers) c = if is_short numbers.1 then closed_by (closes.Interval numbers.1) c
     else (steps.Kept numbers.0 numbers.1, record c { established = true; clocks = record c.clocks { timers = record { inactivity = numbers.0; keepalive = numbers.1 } } })
 
 -- an answer to no wish

@@ -9,6 +9,7 @@ use Rattle.std.specs.Int.{w16, to_be_bytes}
 use Rattle.std.specs.List.{list_any}
 use Rattle.push_base.specs.Limits.{max_input, max_questions}
 use Rattle.dnsname.specs.Names.{octets}
+use Rattle.rrset.specs.Header.{max_message}
 use Rattle.rrset.specs.Records.{same_question}
 use Rattle.rrset.specs.RecordSet.{RecordSet}
 use Rattle.rrset.specs.Rcodes.{noerror}
@@ -27,7 +28,7 @@ use Rattle.pushclient.specs.declared.client.Held.TheVariants as tolds
 use Rattle.pushclient.specs.declared.client.Asked.TheVariants as asked
 use Rattle.pushclient.specs.declared.client.Step.{Step}
 use Rattle.pushclient.specs.declared.client.Step.TheVariants as steps
-use Rattle.pushclient.specs.Clients.{Client, Connection, Wish, RequestState, not_asked, unanswered, refused, answered, id_asked, Held, off, asked_only, refused_with, set_held, next_id, new_connection, unasked, without_wish, writes, subscribe_message, unsubscribe_message, reconfirm_message}
+use Rattle.pushclient.specs.Clients.{Client, Connection, Wish, RequestState, not_asked, unanswered, refused, answered, id_asked, Held, off, asked_only, refused_with, set_held, next_id, new_connection, opened, unasked, without_wish, writes, subscribe_message, unsubscribe_message, reconfirm_message}
 use Rattle.pushclient.specs.Steps.{is_active, is_unanswered, keepalive_message, step}
 use Rattle.pushclient.specs.Rule.{KeptClient, dropped_wish, without_told}
 
@@ -37,10 +38,6 @@ told_once id kind data' = record { id = id; response = false; rcode = 0; tlvs = 
 -- the data of a RECONFIRM (RFC 8765, 6.5.1)
 abbrev pub reconfirm_data : Rr → List ℕ
 reconfirm_data rr = octets rr.owner ++ to_be_bytes w16 rr.kind ++ to_be_bytes w16 rr.class ++ rr.rdata
-
--- a connection that is there and hasn't closed
-abbrev pub opened : Option Connection → Option Connection
-opened connection = elim connection [ None ↦ None | Some c ↦ cond (is_some c.closed) None (Some c) ]
 
 -- a question is asked where the connection is open
 abbrev pub asked_on : List Wish → Question → ℕ → Option Connection → RequestState × Option Connection
@@ -55,7 +52,7 @@ ended_on id now connection = elim (opened connection) [ None ↦ connection | So
 abbrev pub reconfirmed_on : Rr → ℕ → Option Connection → Bool × Option Connection
 reconfirmed_on rr now connection = elim (opened connection) [
   | None ↦ (false, connection)
-  | Some c ↦ if c.established && nat_le (length (reconfirm_message rr)) 65535 then (true, Some (writes false now (reconfirm_message rr) c)) else (false, connection)
+  | Some c ↦ if c.established && nat_le (length (reconfirm_message rr)) max_message then (true, Some (writes false now (reconfirm_message rr) c)) else (false, connection)
 ]
 
 abbrev pub room_on : Option Connection → ℕ

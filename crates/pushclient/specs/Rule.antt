@@ -4,6 +4,7 @@
 --     without_told      a wish of whose notices nothing is known
 --     set_told      what the notices taken since the answer lead to
 --     StandsFor kept plain      each set kept is what the notices taken since the answer lead to
+--     IsClient kept      some plain client is stood for
 --     BothAnswer      one answer, and what is kept stands for the plain client
 use Rattle.std.specs.Prelude.{◌≡◌, ℕ, Bool, false, cond, ◌&&◌, List, [], map, find, Option, option_map}
 use Rattle.rrset.specs.Records.{same_question}
@@ -55,6 +56,10 @@ pub record StandsFor (kept : KeptClient) (plain : Client) : Type 0 where
   pub now : kept.now ≡ plain.now
   pub sets : (question : Question) → find (is_of question) kept.sets ≡ option_map set_told (find (is_answered_for question) plain.wishes)
   pub sound : IsSound plain
+
+-- some plain client is stood for
+abbrev pub IsClient : KeptClient → Type 0
+IsClient kept = (plain : Client) × StandsFor kept plain
 
 -- one answer, and what is kept stands for the plain client
 abbrev pub BothAnswer : {X : Type 0} → X × KeptClient → X × Client → Type 0

@@ -3,13 +3,10 @@
 --     ServerMessage      answers to SUBSCRIBE and Keepalive, PUSH, and Retry Delay
 --     server_octets timers message      its octets
 --     IsReadable, CanBeGranted      what is read from them is what they were made of
-use Rattle.std.specs.Prelude.{◌≡◌, ℕ, ◌≤◌, ◌<◌, ◌^◌, Ok, false, List, ◌++◌, flat_map}
-use Rattle.rrset.specs.Header.{answer_octets}
+use Rattle.std.specs.Prelude.{◌≡◌, ℕ, ◌≤◌, ◌<◌, ◌^◌, Ok, List, flat_map}
 use Rattle.rrset.specs.Rcodes.{noerror, notauth}
-use Rattle.dsotlv.specs.Answers.{answer_to, grant_to, refusal_to, stop_message}
-use Rattle.dsotlv.specs.Messages.{tlv_octets, dso_flags}
+use Rattle.dsotlv.specs.Answers.{answer_to, grant_to, refusal_to, stop_message, push_message}
 use Rattle.dsotlv.specs.Notices.{notices_of, notice_octets}
-use Rattle.dsotlv.specs.TlvKinds.{push_tlv}
 use Rattle.dsotlv.specs.declared.message.Notice.{Notice}
 use Rattle.dsosession.specs.Timing.{least_keepalive}
 use Rattle.dsosession.specs.declared.session.Timers.{Timers}
@@ -21,15 +18,11 @@ pub data ServerMessage : Type 0 where
   tells : List Notice → ServerMessage
   delays : ℕ → ℕ → ServerMessage
 
--- header, the TLV's kind and length, and the records (RFC 8765, 6.3)
-abbrev pub push_octets : List Notice → List ℕ
-push_octets notices = answer_octets 0 (dso_flags false 0) ++ tlv_octets (record { kind = push_tlv; octets = flat_map notice_octets notices })
-
 abbrev pub server_octets : Timers → ServerMessage → List ℕ
 server_octets timers (accepts id) = answer_to id noerror
 server_octets timers (refuses id) = refusal_to id notauth
 server_octets timers (grants id) = grant_to id timers.inactivity timers.keepalive
-server_octets timers (tells notices) = push_octets notices
+server_octets timers (tells notices) = push_message notices
 server_octets timers (delays rcode delay) = stop_message rcode delay
 
 -- a PUSH is read as what it was made of, and the numbers of a Retry Delay fit their fields

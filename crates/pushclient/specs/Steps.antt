@@ -1,7 +1,7 @@
 -- The client's reaction to one message, and what is due at a moment (RFC 8490, 5 to 7; RFC 8765, 6).
 --     step client      one whole message is reacted to
 --     moment client now      the client at a moment
-use Rattle.std.specs.Prelude.{ℕ, Bool, true, false, not, ◌&&◌, cond, List, [], ◌∷◌, ◌++◌, map, length, take, drop, find, Option, Some, None, Ok, Err, is_some, nat_lt, ◌==◌, if◌then◌else◌}
+use Rattle.std.specs.Prelude.{ℕ, Bool, true, false, not, ◌&&◌, cond, List, [], ◌∷◌, ◌++◌, map, length, take, drop, find, Option, Some, None, Ok, Err, is_some, ◌==◌, if◌then◌else◌}
 use Rattle.std.specs.Int.{w32, from_be_bytes}
 use Rattle.std.specs.List.{list_any}
 use Rattle.rrset.specs.Rcodes.{noerror, dsotypeni}
@@ -13,9 +13,9 @@ use Rattle.dsotlv.specs.Notices.{notices_of}
 use Rattle.dsotlv.specs.declared.message.Tlv.{Tlv}
 use Rattle.dsotlv.specs.declared.message.DsoHead.{DsoHead}
 use Rattle.dsotlv.specs.declared.message.Notice.{Notice}
-use Rattle.dsotlv.specs.TlvKinds.{keepalive_tlv, push_tlv}
+use Rattle.dsotlv.specs.TlvKinds.{keepalive_tlv, push_tlv, keepalive_size}
 use Rattle.dsosession.specs.Reactions.{client_reaction, is_keepalive}
-use Rattle.dsosession.specs.Timing.{default_timers, least_keepalive, restarted, client_due}
+use Rattle.dsosession.specs.Timing.{default_timers, is_short, restarted, client_due}
 use Rattle.dsosession.specs.declared.session.CloseReason.{CloseReason}
 use Rattle.dsosession.specs.declared.session.CloseReason.TheVariants as closes
 use Rattle.dsosession.specs.declared.session.ClientReaction.{ClientReaction}
@@ -61,7 +61,7 @@ subscribe_answered wish id rcode client =
 -- two numbers of a Keepalive TLV that stands first
 abbrev pub timers_in : List Tlv → Option (ℕ × ℕ)
 timers_in [] = None
-timers_in (tlv ∷ tlvs) = if tlv.kind == keepalive_tlv && length tlv.octets == 8 then Some (from_be_bytes w32 (take 4 tlv.octets), from_be_bytes w32 (drop 4 tlv.octets)) else None
+timers_in (tlv ∷ tlvs) = if tlv.kind == keepalive_tlv && length tlv.octets == keepalive_size then Some (from_be_bytes w32 (take 4 tlv.octets), from_be_bytes w32 (drop 4 tlv.octets)) else None
 
 abbrev pub timers_of : List ℕ → Option (ℕ × ℕ)
 timers_of message = elim (tlvs_of message) [ Err fault ↦ None | Ok tlvs ↦ timers_in tlvs ]
@@ -70,7 +70,7 @@ timers_of message = elim (tlvs_of message) [ Err fault ↦ None | Ok tlvs ↦ ti
 abbrev pub adopts : List ℕ → Client → Step × Client
 adopts message client = elim (timers_of message) [
   | None ↦ closes_as (closes.BadData keepalive_tlv) client
-  | Some numbers ↦ if nat_lt numbers.1 least_keepalive then closes_as (closes.Interval numbers.1) client
+  | Some numbers ↦ if is_short numbers.1 then closes_as (closes.Interval numbers.1) client
       else (steps.Kept numbers.0 numbers.1, establishes (in_connection (λ c. record c { clocks = record c.clocks { timers = record { inactivity = numbers.0; keepalive = numbers.1 } } }) client))
 ]
 

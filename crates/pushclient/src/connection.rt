@@ -4,7 +4,7 @@ ghost use Rattle.std.specs.Prelude.{◌≡◌, ◌-◌, ◌++◌, ◌==◌, ◌&
 ghost use Rattle.std.specs.List.{list_any};
 ghost use Rattle.push_base.specs.Limits.{max_input};
 ghost use Rattle.pushclient.specs.Clients.{free_id, id_after, ids_in_use, new_connection, next_id, reconfirm_message, subscribe_message, unsubscribe_message, writes};
-ghost use Rattle.rrset.specs.Header.{is_response};
+ghost use Rattle.rrset.specs.Header.{is_response, max_message};
 ghost use Rattle.rrset.specs.Rcodes.{dsotypeni};
 ghost use Rattle.dsotlv.specs.Answers.{answer_to};
 ghost use Rattle.dsotlv.specs.Messages.{first_message};
@@ -151,7 +151,7 @@ impl Connection {
     /// Says that a record may be out of date, where the session is established and a frame holds the message, and says
     /// whether it did (RFC 8765, 6.5.1).
     pub(crate) fn reconfirm(&mut self, rr: &Rr, now: u64) -> Result<bool, NoMemory>
-        ensures said { IfOk result (λ said. said ≡ (self.old.established && nat_le (length (reconfirm_message rr.now)) 65535)) }
+        ensures said { IfOk result (λ said. said ≡ (self.old.established && nat_le (length (reconfirm_message rr.now)) max_message)) }
         ensures ok { IfOk result (λ said. self.new ≡ cond said (writes false now (reconfirm_message rr.now) self.old) self.old) }
         ensures err { OnErr result (self.new ≡ self.old) }
     {

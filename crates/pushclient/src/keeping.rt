@@ -1,13 +1,13 @@
 //! A client as it is kept.
 
-ghost use Rattle.std.specs.Prelude.{◌≡◌, ◌++◌, [], None, IfOk, OnOk, OnErr, drop, length, min, take};
+ghost use Rattle.std.specs.Prelude.{◌≡◌, ◌++◌, [], None, IfOk, OnOk, OnErr, drop, is_some, length, min, take};
 ghost use Rattle.pushclient.specs.Kept.{HoldsAs, asked_wanted, closed_on, kept_ask, kept_ask_first, kept_connected, kept_cut, kept_drop, kept_give, kept_held, kept_id_of, kept_moment, kept_reconfirm, kept_subscribe, kept_take, kept_unsubscribe, output_on, room_on};
 ghost use Rattle.pushclient.specs.Hearing.{kept_heard};
 ghost use Rattle.pushclient.specs.Rule.{standing_of};
 
 use crate::client::{Asked, Held, Step};
 use crate::connection::Connection;
-use crate::wish::{Standing, Wish, copied};
+use crate::wish::{Standing, Wish};
 use crate::{NoMemory, opened, reacting, wishes};
 use dsosession::session::CloseReason;
 use mirror::Mirror;
@@ -130,7 +130,7 @@ impl Keeping {
     {
         'wishes: for wish in wishes {
             if wish.wanted {
-                self.ask(copied(&wish.question)?)?;
+                self.ask(wish.question.copy()?)?;
             }
         }
         Ok(())
@@ -180,7 +180,7 @@ impl Keeping {
             return Ok(Asked::Already);
         }
         let again = Wish {
-            question: copied(&wish.question)?,
+            question: wish.question.copy()?,
             wanted: true,
             standing: wish.standing,
         };
@@ -224,6 +224,13 @@ impl Keeping {
         let standing = wish.standing;
         self.drop_wish(question, standing)?;
         Ok(true)
+    }
+
+    /// Whether there is a connection, open or closed.
+    pub(crate) fn is_connected(&self) -> bool
+        ensures { result ≡ is_some self.now.connection }
+    {
+        self.connection.is_some()
     }
 
     /// Why the connection closed.

@@ -5,6 +5,7 @@ ghost use Rattle.std.specs.Int.{w32, to_be_bytes};
 ghost use Rattle.rrset.specs.Header.{max_message};
 ghost use Rattle.dsotlv.specs.Answers.{answer_to};
 ghost use Rattle.dsotlv.specs.Messages.{dso_octets, frame};
+ghost use Rattle.dsosession.specs.Timing.{default_timers};
 ghost use Rattle.pushclient.specs.Clients.{question_octets, reconfirm_message, subscribe_message, unsubscribe_message};
 ghost use Rattle.pushclient.specs.Kept.{reconfirm_data, told_once};
 ghost use Rattle.pushclient.specs.Steps.{keepalive_message};
@@ -97,7 +98,7 @@ fn reconfirm_octets(alloc: Global, rr: &Rr) -> Result<Vec<u8>, NoMemory>
 
 /// Appends a RECONFIRM behind its length, where a frame holds it, and says whether it does (RFC 8765, 6.5.1).
 pub(crate) fn append_reconfirm(alloc: Global, rr: &Rr, out: &mut Vec<u8>) -> Result<bool, NoMemory>
-    ensures taken { IfOk result (λ taken. taken ≡ nat_le (length (reconfirm_message rr.now)) 65535) }
+    ensures taken { IfOk result (λ taken. taken ≡ nat_le (length (reconfirm_message rr.now)) max_message) }
     ensures ok { IfOk result (λ taken. out.new.items ≡ cond taken (out.old.items ++ frame (reconfirm_message rr.now)) out.old.items) }
     ensures err { OnErr result (out.new.items ≡ out.old.items) }
 {
@@ -112,7 +113,7 @@ pub(crate) fn append_reconfirm(alloc: Global, rr: &Rr, out: &mut Vec<u8>) -> Res
 
 /// The data of a Keepalive with the default timers (RFC 8490, 6.2 and 7.1).
 fn keepalive_data() -> [u8; 8]
-    ensures { result ≡ to_be_bytes w32 15000 ++ to_be_bytes w32 15000 }
+    ensures { result ≡ to_be_bytes w32 default_timers.inactivity ++ to_be_bytes w32 default_timers.keepalive }
 {
     let [a, b, c, d] = DEFAULT_TIMER.to_be_bytes();
     [a, b, c, d, a, b, c, d]

@@ -8,7 +8,7 @@ ghost use Rattle.pushclient.specs.Hearing.{answer_heard, dropped_on, kept_heard,
 use crate::client::Step;
 use crate::connection::Connection;
 use crate::told::{Answer, Told};
-use crate::wish::{Standing, Wish, copied};
+use crate::wish::{Standing, Wish};
 use crate::{NoMemory, wishes};
 use dsosession::ClientSession;
 use mirror::Mirror;
@@ -38,7 +38,7 @@ fn answer_wanted(
         connection.take_up(session);
         return Ok(());
     }
-    mirror.begin(copied(question)?)?;
+    mirror.begin(question.copy()?)?;
     wishes::stand(wishes, question, Standing::Answered(answer.id));
     connection.establish(session);
     Ok(())
@@ -89,7 +89,7 @@ fn take_answer(
         connection.take_up(session);
         return Ok(connection.take_other(answer));
     };
-    let question = copied(&wish.question)?;
+    let question = wish.question.copy()?;
     if wish.wanted {
         answer_wanted(connection, wishes, mirror, &question, answer, session)?;
     } else {

@@ -4,6 +4,7 @@ ghost use Rattle.std.specs.Prelude.{◌≡◌, ◌≤◌, ◌==◌, None, Some, 
 ghost use Rattle.std.specs.Int.{w32, from_be_bytes};
 ghost use Rattle.rrset.specs.Header.{header_octets, flags_of, id_of, rcode_of};
 ghost use Rattle.dsotlv.specs.Messages.{head_of, primary_data};
+ghost use Rattle.dsotlv.specs.TlvKinds.{keepalive_size, retry_delay_size};
 ghost use Rattle.dsosession.specs.Reactions.{client_reaction};
 ghost use Rattle.pushclient.specs.Hearing.{pushed, told_of};
 ghost use Rattle.pushclient.specs.Steps.{timers_of};
@@ -40,9 +41,9 @@ pub(crate) enum Told {
     Close(CloseReason),
 }
 
-/// A number of four octets.
+/// The number of a Retry Delay (RFC 8490, 7.2).
 fn number(octets: &[u8]) -> Option<u32>
-    ensures { result ≡ (if length octets.now == 4 then Some (from_be_bytes w32 octets.now) else None) }
+    ensures { result ≡ (if length octets.now == retry_delay_size then Some (from_be_bytes w32 octets.now) else None) }
 {
     let [a, b, c, d] = *octets else {
         return None;
@@ -50,9 +51,9 @@ fn number(octets: &[u8]) -> Option<u32>
     Some(u32::from_be_bytes([a, b, c, d]))
 }
 
-/// Two numbers of four octets each.
+/// The two numbers of a Keepalive (RFC 8490, 7.1).
 fn two_numbers(octets: &[u8]) -> Option<(u32, u32)>
-    ensures { result ≡ (if length octets.now == 8 then Some (from_be_bytes w32 (take 4 octets.now), from_be_bytes w32 (drop 4 octets.now)) else None) }
+    ensures { result ≡ (if length octets.now == keepalive_size then Some (from_be_bytes w32 (take 4 octets.now), from_be_bytes w32 (drop 4 octets.now)) else None) }
 {
     let [a, b, c, d, e, f, g, h] = *octets else {
         return None;
@@ -93,7 +94,7 @@ pub(crate) fn told_of(
     message: &[u8],
 ) -> Result<Told, NoMemory>
     requires head { head_of message.now ≡ Some head.now }
-    requires reaction { reaction ≡ ClientReaction.Delay → length (primary_data message.now) ≡ 4 }
+    requires reaction { reaction ≡ ClientReaction.Delay → length (primary_data message.now) ≡ retry_delay_size }
     ensures { IfOk result (λ told. told ≡ told_of reaction message.now (id_of message.now) (rcode_of (flags_of message.now))) }
 {
     let rcode = (head.flags % 16) as u8;

@@ -1,12 +1,11 @@
 //! A wish as it is kept.
 
-ghost use Rattle.std.specs.Prelude.{◌≡◌, ◌==◌, IfOk};
+ghost use Rattle.std.specs.Prelude.{◌≡◌, ◌==◌};
 ghost use Rattle.std.specs.List.{list_any};
 ghost use Rattle.pushclient.specs.Clients.{id_asked, id_in_use};
 ghost use Rattle.pushclient.specs.Rule.{standing_of};
 ghost use Rattle.pushclient.specs.Steps.{is_active, is_unanswered};
 
-use crate::NoMemory;
 use rrset::record::Question;
 use std::marker::Model;
 
@@ -81,15 +80,4 @@ impl Standing {
             Standing::NotAsked | Standing::Refused(_) => false,
         }
     }
-}
-
-/// The same question.
-pub(crate) fn copied(question: &Question) -> Result<Question, NoMemory>
-    ensures { IfOk result (λ copy. copy ≡ question.now) }
-{
-    Ok(Question {
-        name: question.name.copy()?,
-        kind: question.kind,
-        class: question.class,
-    })
 }

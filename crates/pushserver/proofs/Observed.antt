@@ -11,7 +11,7 @@ use Rattle.pushsession.specs.Kept.{KeptSession, filled_of}
 use Rattle.pushserver.specs.PlainHubs.{Hub, Session, Subscription, Queue, point_in, subscription_of}
 use Rattle.pushserver.specs.Hubs.{newest, session_of}
 use Rattle.pushserver.specs.Observing as observing
-use Rattle.pushserver.specs.Observing.{filled_in, told_of, told_in}
+use Rattle.pushserver.specs.Observing.{all_filled_in, filled_in, told_of, told_in}
 use Rattle.pushserver.specs.KeptHubs.{KeptHub, StandsFor, filled_kept}
 use Rattle.pushserver.proofs.hub_steps.Standing.{FoundBoth, both_found, fitting}
 
@@ -57,6 +57,19 @@ filled-both hub number id (Some s) (Some p) b = ap (filled_of id) b.stands.fille
 
 pub filled-seen : (k : KeptHub) (hub : Hub) (number id : ℕ) (o : Option KeptSession) (r : Option ℕ) → session_of k number ≡ o → r ≡ filled_kept_in id o → StandsFor k hub → r ≡ filled_in hub number id
 filled-seen k hub number id o r at is stands = is ∙ ap (filled_kept_in id) (sym at) ∙ filled-both hub number id (session_of k number) (session_of hub number) (both k hub number stands)
+
+abbrev pub ends_kept_in : Option KeptSession → List (ℕ × ℕ)
+ends_kept_in None = []
+ends_kept_in (Some s) = s.subscriptions.filled
+
+ends-both : (hub : Hub) (number : ℕ) (o : Option KeptSession) (q : Option Session) → FoundBoth hub number o q → ends_kept_in o ≡ observing.all_filled_of q
+ends-both hub number None None b = refl
+ends-both hub number None (Some p) b = absurd b
+ends-both hub number (Some s) None b = absurd b
+ends-both hub number (Some s) (Some p) b = b.stands.filled
+
+pub ends-seen : (k : KeptHub) (hub : Hub) (number : ℕ) (o : Option KeptSession) (r : List (ℕ × ℕ)) → session_of k number ≡ o → r ≡ ends_kept_in o → StandsFor k hub → r ≡ all_filled_in hub number
+ends-seen k hub number o r at is stands = is ∙ ap ends_kept_in (sym at) ∙ ends-both hub number (session_of k number) (session_of hub number) (both k hub number stands)
 
 -- ---- the point up to which a name was told
 

@@ -6,15 +6,15 @@
 use Rattle.std.specs.Prelude.{ℕ, ◌+◌, Bool, not, List, [], ◌∷◌, ◌++◌, map, length, filter, sum_by, find, if◌then◌else◌, Option, is_some, option_map, unwrap_or, ◌==◌}
 use Rattle.std.specs.List.{list_any, IsDistinct}
 use Rattle.dnsname.specs.Names.{Labels, same_name}
-use Rattle.rrset.specs.Records.{matches, same_question}
+use Rattle.rrset.specs.Records.{same_question}
 use Rattle.rrset.specs.RecordSet.{RecordSet, only, at_name, same_rows}
 use Rattle.rrset.specs.declared.record.Key.{Key}
 use Rattle.rrset.specs.declared.record.Question.{Question}
 use Rattle.dsotlv.specs.Messages.{frame}
-use Rattle.subscr.specs.Asked.{Asked}
+use Rattle.subscr.specs.Asked.{Asked, one_asks}
 use Rattle.dsotlv.specs.declared.message.Notice.{Notice}
 use Rattle.coalesce.specs.FirstAnswers.{told_first}
-use Rattle.coalesce.specs.Net.{net, packed}
+use Rattle.coalesce.specs.Net.{Nets, each_net, packed}
 use Rattle.dsosession.specs.declared.session.Timers.{Timers}
 use Rattle.history.specs.Keeping.{records_now}
 use Rattle.history.specs.States.{State, records_at}
@@ -64,7 +64,7 @@ abbrev pub asked_of : List Subscription → Asked
 asked_of subscriptions = map (λ s. (s.id, s.question)) subscriptions
 
 abbrev pub asks_for : List Subscription → Key → Bool
-asks_for subscriptions key = list_any (λ s. matches s.question key) subscriptions
+asks_for subscriptions key = one_asks (λ s. s.question) subscriptions key
 
 -- the records that one of the questions matches
 abbrev pub wanted : List Subscription → RecordSet → RecordSet
@@ -113,8 +113,8 @@ first_notices start history question subscriptions queue =
     told_first changed question (asks_for subscriptions) (at_name question.name (records_now (record { start = start; history = history })))
 
 -- each queued name with its net
-abbrev pub nets_of : State → List Entry → List Subscription → Queue → List (Labels × List Notice)
-nets_of start history subscriptions queue = map (λ e. (e.0, net (sent_of start history subscriptions queue e.0) (shown_of start history subscriptions e.0))) queue
+abbrev pub nets_of : State → List Entry → List Subscription → Queue → Nets
+nets_of start history subscriptions queue = each_net (λ e. e.0) (λ e. sent_of start history subscriptions queue e.0) (λ e. shown_of start history subscriptions e.0) queue
 
 -- ---- its sessions
 

@@ -4,7 +4,7 @@ ghost use Rattle.std.specs.Prelude.{◌≡◌, is_some};
 ghost use Rattle.history.specs.Totals.{totals};
 ghost use Rattle.pushserver.specs.Hubs.{newest, now, session_of};
 ghost use Rattle.pushserver.specs.PlainHubs.{Hub as Plain};
-ghost use Rattle.pushserver.specs.Observing.{filled_in, told_in};
+ghost use Rattle.pushserver.specs.Observing.{all_filled_in, filled_in, told_in};
 ghost use Rattle.pushserver.specs.KeptHubs.{StandsFor};
 
 use crate::hub::Hub;
@@ -60,6 +60,16 @@ impl Hub {
         match self.keeping.sessions.get(session) {
             Some(session) => session.filled(id),
             None => None,
+        }
+    }
+
+    /// The same of all IDs that a session asks with, each with its number, and none where there is no such session.
+    pub fn all_filled(&self, session: u64) -> &[(u16, u64)]
+        ensures { (hub : Plain) → StandsFor self.now hub → result.now ≡ all_filled_in hub session }
+    {
+        match self.keeping.sessions.get(session) {
+            Some(session) => session.all_filled(),
+            None => &[],
         }
     }
 

@@ -1,9 +1,9 @@
 //! The update that a message is (RFC 2136, 2).
 
-ghost use Rattle.std.specs.Prelude.{◌≡◌, ◌+◌, ◌≤◌, ◌||◌, ◌==◌, not, nat_lt, length, IfOk, ok_or};
+ghost use Rattle.std.specs.Prelude.{◌≡◌, ◌+◌, ◌≤◌, not, length, IfOk, ok_or};
 ghost use Rattle.rrset.specs.Rcodes.{formerr};
-ghost use Rattle.rrset.specs.Header.{flags_of, is_response, opcode_of, two_octets, update_opcode};
-ghost use Rattle.history.specs.States.{update_in};
+ghost use Rattle.rrset.specs.Header.{two_octets};
+ghost use Rattle.history.specs.States.{lacks_update_header, update_in};
 
 use dnswire::{Update, WireFault, read_update};
 use pushsession::NoMemory;
@@ -20,7 +20,7 @@ fn number_at(octets: &[u8], at: usize) -> u16
 
 /// Whether a message has the length of one, and the header of an update (RFC 2136, 2.2).
 fn has_update_header(message: &[u8]) -> bool
-    ensures { result ≡ not (nat_lt (length message.now) 12 || nat_lt 65535 (length message.now) || is_response (flags_of message.now) || not (opcode_of (flags_of message.now) == update_opcode)) }
+    ensures { result ≡ not (lacks_update_header message.now) }
 {
     if message.len() < HEADER || message.len() > MAX_MESSAGE {
         return false;

@@ -6,9 +6,9 @@ use Rattle.rrset.specs.RecordSet.{RecordSet}
 use Rattle.rrset.specs.declared.record.Question.{Question}
 use Rattle.rrset.specs.Tables.{counted}
 use Rattle.dsotlv.specs.Messages.{frame}
-use Rattle.dsotlv.specs.Answers.{answer_to}
+use Rattle.dsotlv.specs.Answers.{answer_to, push_message}
 use Rattle.dsotlv.specs.declared.message.Notice.{Notice}
-use Rattle.coalesce.specs.Net.{push_frame, push_message}
+use Rattle.coalesce.specs.Net.{push_frame}
 use Rattle.coalesce.specs.Waiting.{without_name}
 use Rattle.dsosession.specs.Timing.{restarted}
 use Rattle.pushsession.specs.Subscribing.{accepts, first_answer_octets, first_answer_size, says_first_answer, subscribed}

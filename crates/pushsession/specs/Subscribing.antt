@@ -10,9 +10,9 @@ use Rattle.rrset.specs.Kinds.{in_class, any_class}
 use Rattle.rrset.specs.Rcodes.{noerror, formerr, notauth, refused}
 use Rattle.rrset.specs.declared.record.Question.{Question}
 use Rattle.dsotlv.specs.Messages.{frame}
-use Rattle.dsotlv.specs.Answers.{answer_to, refusal_to}
+use Rattle.dsotlv.specs.Answers.{answer_to, refusal_to, push_message}
 use Rattle.dsotlv.specs.declared.message.Notice.{Notice}
-use Rattle.coalesce.specs.Net.{push_message, push_frame}
+use Rattle.coalesce.specs.Net.{push_frame}
 use Rattle.dsosession.specs.declared.session.EndReason.{EndReason}
 use Rattle.dsosession.specs.declared.session.EndReason.TheVariants as ends
 use Rattle.pushsession.specs.Sessions.{SessionOf, Keeps, establishes, says, answers, ended_with}

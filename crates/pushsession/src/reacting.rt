@@ -2,7 +2,9 @@
 
 ghost use Rattle.std.specs.Prelude.{◌≡◌, ◌≤◌, [], length, Some, is_some};
 ghost use Rattle.std.specs.Int.{w16, from_be_bytes};
+ghost use Rattle.rrset.specs.Header.{header_octets};
 ghost use Rattle.dsotlv.specs.Messages.{primary_data};
+ghost use Rattle.dsotlv.specs.TlvKinds.{unsubscribe_size};
 ghost use Rattle.pushsession.specs.Kept.{keeping, without_filled};
 ghost use Rattle.pushsession.specs.Reactions.{granted, unsubscribed};
 ghost use Rattle.pushsession.specs.Requests.{reacted, reconfirmed, request_of, updated};
@@ -18,18 +20,17 @@ use rrset::Rr;
 use rrset::header::{HEADER, KEPT_FLAGS, RESPONSE, UPDATE_ANSWER};
 use rrset::rcodes::{NOERROR, NOTIMP};
 
-/// The number in the first TLV of a message, where it has the two octets of one (RFC 8765, 6.4.1).
+/// The ID in the first TLV of a message, where its data has the size of one (RFC 8765, 6.4.1).
 fn first_number(message: &[u8]) -> Option<u16>
-    ensures { 12 ≤ length message.now → length (primary_data message.now) ≡ 2 → result ≡ Some (from_be_bytes w16 (primary_data message.now)) }
+    ensures { header_octets ≤ length message.now → length (primary_data message.now) ≡ unsubscribe_size → result ≡ Some (from_be_bytes w16 (primary_data message.now)) }
 {
     if message.len() < HEADER {
         return None;
     }
-    let number = primary_data(message);
-    if number.len() != 2 {
+    let [high, low] = *primary_data(message) else {
         return None;
-    }
-    Some(u16::from_be_bytes([number[0], number[1]]))
+    };
+    Some(u16::from_be_bytes([high, low]))
 }
 
 /// Takes out the end of a first answer.

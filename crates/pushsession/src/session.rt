@@ -111,4 +111,11 @@ impl PushSession {
     {
         found(&self.filled, id)
     }
+
+    /// The same of all IDs, each with its number.
+    pub fn all_filled(&self) -> &[(u16, u64)]
+        ensures { result.now ≡ self.now.subscriptions.filled }
+    {
+        &self.filled
+    }
 }

@@ -7,11 +7,11 @@ use Rattle.dnsname.specs.Names.{Labels, same_name}
 use Rattle.rrset.specs.Rcodes.{noerror}
 use Rattle.rrset.specs.Records.{same_question}
 use Rattle.rrset.specs.declared.record.Question.{Question}
-use Rattle.dsotlv.specs.Answers.{answer_to}
+use Rattle.dsotlv.specs.Answers.{answer_to, push_message}
 use Rattle.dsotlv.specs.Messages.{frame}
 use Rattle.dsotlv.specs.Notices.{applied_all}
 use Rattle.dsotlv.specs.declared.message.Notice.{Notice}
-use Rattle.coalesce.specs.Net.{push_message, push_frame}
+use Rattle.coalesce.specs.Net.{push_frame}
 use Rattle.history.specs.States.{State}
 use Rattle.history.specs.declared.entry.Entry.{Entry}
 use Rattle.coalesce.proofs.ReadBack.{each-append}

@@ -8,14 +8,14 @@ use Rattle.std.specs.List.{list_any, AllByRecursion}
 use Rattle.std.proofs.Math.Nat.{le_trans}
 use Rattle.std.proofs.lemmas.List.{length-append}
 use Rattle.coalesce.proofs.ReadBack.{each-append}
-use Rattle.coalesce.specs.Net.{push_message, packed}
+use Rattle.coalesce.specs.Net.{packed}
 use Rattle.dnsname.specs.Names.{Labels, same_name}
 use Rattle.dsosession.specs.Reactions.{server_reaction}
 use Rattle.dsosession.specs.declared.session.EndReason.{EndReason}
 use Rattle.dsosession.specs.declared.session.EndReason.TheVariants as ends
 use Rattle.dsosession.specs.declared.session.Reaction.{Reaction}
 use Rattle.dsosession.specs.declared.session.Reaction.TheVariants.{Answer, Grant, Abort, Subscribe, Unsubscribe, Reconfirm, Update, NotImplemented}
-use Rattle.dsotlv.specs.Answers.{answer_to, refusal_to, grant_to, not_implemented, answer_to_update, stop_message}
+use Rattle.dsotlv.specs.Answers.{answer_to, refusal_to, grant_to, not_implemented, answer_to_update, stop_message, push_message}
 use Rattle.dsotlv.specs.Messages.{head_of, primary_data}
 use Rattle.dsotlv.specs.Notices.{question_of}
 use Rattle.dsotlv.specs.declared.message.DsoHead.{DsoHead}

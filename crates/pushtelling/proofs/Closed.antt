@@ -1,109 +1,35 @@
 -- A session that was stopped or has ended takes nothing in and reacts to nothing.
---     closed-step      each step of one session leaves it closed
+--     closed-step, closed-timed      each step of one session leaves it closed, and so does a moment
 --     closed_ones_rest
 use Rattle.std.proofs.Common.{◌≡◌, ℕ, ◌-◌, ◌<◌, Bool, true, false, cond, List, [], ◌∷◌, ◌++◌, length, take, min, Option, Some, None, sym, ◌∙◌, ap, subst, refl, true≢false, arith}
 use Rattle.std.specs.Prelude.{◌==◌, ◌&&◌}
 use Rattle.push_base.specs.Cases.{is_empty}
 use Rattle.push_base.specs.Limits.{max_input}
-use Rattle.dsosession.specs.Reactions.{server_reaction}
-use Rattle.dsosession.specs.declared.session.EndReason.{EndReason}
-use Rattle.dsosession.specs.declared.session.Reaction.{Reaction}
-use Rattle.dsosession.specs.declared.session.Reaction.TheVariants.{Answer, Grant, Abort, Subscribe, Unsubscribe, Reconfirm, Update, NotImplemented}
-use Rattle.dsotlv.specs.Answers.{answer_to}
-use Rattle.dsotlv.specs.Messages.{head_of, primary_data}
-use Rattle.dsotlv.specs.Notices.{question_of}
-use Rattle.dsotlv.specs.declared.message.DsoHead.{DsoHead}
-use Rattle.dsotlv.specs.declared.message.Notice.{Notice}
-use Rattle.pushsession.specs.Reactions.{reacts_itself, by_itself}
-use Rattle.pushsession.specs.Sessions.{room_of, takes, is_open, asked_to_stop, ended_with, due, ended_where, timed, says_stop, without_first}
-use Rattle.pushsession.specs.Subscribing.{Verdict, says_notices, subscribed, says_first_answer, first_answer_size, decided, answered}
+use Rattle.pushsession.specs.Sessions.{room_of, takes, is_open, asked_to_stop, timed, without_first}
 use Rattle.pushsession.specs.declared.standing.Standing.{Standing}
 use Rattle.pushsession.specs.declared.standing.Standing.TheVariants.{Live, AskedToStop, Stopped, Ended}
-use Rattle.dsosession.specs.declared.session.EndReason.TheVariants as ends
 use Rattle.pushserver.specs.Calls.{HubCall, updates, hears, moves, connects, takes as taking, gives, stops, ends as ending, called}
-use Rattle.pushserver.specs.Giving.{has_home}
-use Rattle.pushserver.specs.Hubs.{now, keeps_now, tells_now, session_of, in_session, taken_by}
-use Rattle.pushserver.specs.PlainHubs.{Hub, Session, Queue, plain_keeps}
+use Rattle.pushserver.specs.Hubs.{session_of, in_session, taken_by}
+use Rattle.pushserver.specs.PlainHubs.{Hub, Session, plain_keeps}
 use Rattle.pushserver.proofs.SessionLists.{same-number}
-use Rattle.pushserver.proofs.Subscribing.{verdict-holds}
-use Rattle.pushserver.proofs.Walks.{AnyMessage, bring_any, Step, restarts, reacts, answers_subscribe, answers_update, packs_names, comes_to_stop, ends_with, copies_front, IsKept, keeps-called}
-use Rattle.pushserver.proofs.hub_steps.Cases.{itself_as}
-use Rattle.rrset.specs.Header.{id_of}
-use Rattle.rrset.specs.Rcodes.{noerror}
-use Rattle.rrset.specs.declared.record.Question.{Question}
+use Rattle.pushserver.proofs.Walks.{AnyMessage, bring_any, Step, IsKept, keeps-called}
 use Rattle.pushtelling.specs.Runs.{takes_in, is_live, first_of, message_up, reacts_to, taken_in, reacted_to, ClosedOnesRest}
+use Rattle.pushtelling.proofs.Standings.{has-step, has-timed}
 use Rattle.pushtelling.proofs.OneSession.{OfOne, one-changed, one-last, one-left}
 use Rattle.pushtelling.proofs.Tells.{by_entry}
 
-abbrev IsClosed : Session → Type 0
+abbrev pub IsClosed : Session → Type 0
 IsClosed session = is_open session.standing ≡ false
 
 -- ---- the steps
 
-closed-notices : (point t : ℕ) (notices : List Notice) (session : Session) → IsClosed session → IsClosed (says_notices (plain_keeps point) t notices session)
-closed-notices point t [] session c = c
-closed-notices point t (n ∷ ns) session c = c
+closed-step : (hub : Hub) {f : Session → Session} → Step AnyMessage hub f → (session : Session) → IsClosed session → IsClosed (f session)
+closed-step hub step session c = has-step (λ standing. is_open standing ≡ false) (λ reason. refl) (λ since. refl) hub step session c
 
-closed-first : (point t : ℕ) (answer : List ℕ) (notices : List Notice) (before : Queue) (session : Session) → IsClosed session → IsClosed (says_first_answer (plain_keeps point) t answer notices before session)
-closed-first point t answer [] before session c = c
-closed-first point t answer (n ∷ ns) before session c = c
+pub closed-timed : (point t : ℕ) (session : Session) → IsClosed session → IsClosed (timed (plain_keeps point) t session)
+closed-timed point t session c = has-timed (λ standing. is_open standing ≡ false) (λ reason. refl) (λ since. refl) point t session c
 
-module _ (hub : Hub) where
-  closed-by_itself : (reaction : Reaction) (message : List ℕ) (session : Session) → IsClosed session → IsClosed (by_itself (keeps_now hub) reaction hub.timers (now hub) message session)
-  closed-by_itself (Answer rcode) message session c = c
-  closed-by_itself Grant message session c = c
-  closed-by_itself (Abort reason) message session c = refl
-  closed-by_itself Unsubscribe message session c = c
-  closed-by_itself NotImplemented message session c = c
-  closed-by_itself Subscribe message session c = c
-  closed-by_itself Reconfirm message session c = c
-  closed-by_itself Update message session c = c
-
-  closed-itself : (message : List ℕ) (session : Session) → IsClosed session → IsClosed (reacts_itself (keeps_now hub) hub.timers (now hub) message session)
-  closed-itself message session c = by (head_of message)
-    where
-      by : (o : Option DsoHead) → IsClosed (itself_as (keeps_now hub) hub.timers (now hub) message session o)
-      by None = refl
-      by (Some head) = closed-by_itself (server_reaction head session.established) message session c
-
-  closed-answered : (id : ℕ) (question : Option Question) (session : Session) → IsClosed session → IsClosed (answered (keeps_now hub) (tells_now hub) (now hub) id question (has_home hub question) session)
-  closed-answered id question session c =
-      verdict-holds (keeps_now hub) id question (has_home hub question) session.subscriptions (λ (v : Verdict). IsClosed (decided (keeps_now hub) (tells_now hub) (now hub) id v session))
-      c c c (λ reason. refl) (λ q read new_id new_question. accepting q)
-    where
-      notices : Question → List Notice
-      notices q = (tells_now hub).first_notices q session.subscriptions session.queue
-
-      begun : Question → Session
-      begun q = subscribed (keeps_now hub) id q ((keeps_now hub).end_behind (first_answer_size (answer_to id noerror) (notices q)) session.made) session
-
-      accepting : (q : Question) → IsClosed (says_first_answer (keeps_now hub) (now hub) (answer_to id noerror) (notices q) session.queue (begun q))
-      accepting q = closed-first _ (now hub) (answer_to id noerror) (notices q) session.queue (begun q) c
-
-  closed-step : {f : Session → Session} → Step AnyMessage hub f → (session : Session) → IsClosed session → IsClosed (f session)
-  closed-step (restarts message) session c = c
-  closed-step (reacts message) session c = closed-itself message session c
-  closed-step (answers_subscribe message any) session c = closed-answered (id_of message) (question_of (primary_data message)) session c
-  closed-step (answers_update before message) session c = c
-  closed-step packs_names session c =
-      let pack = (tells_now hub).packed session.subscriptions session.queue in
-      closed-notices _ (now hub) pack.0 (record session { queue = pack.1 }) c
-  closed-step (comes_to_stop rcode delay) session c = by session.established
-    where
-      by : (b : Bool) → IsClosed (cond b (says_stop (keeps_now hub) rcode delay (now hub) session) (ended_with (keeps_now hub) ends.Stopped session))
-      by true = refl
-      by false = refl
-  closed-step (ends_with reason) session c = refl
-  closed-step (copies_front room) session c = c
-
-closed-timed : (point t : ℕ) (session : Session) → IsClosed session → IsClosed (timed (plain_keeps point) t session)
-closed-timed point t session c = by (due (plain_keeps point) t session)
-  where
-    by : (o : Option EndReason) → IsClosed (ended_where (plain_keeps point) o session)
-    by None = c
-    by (Some reason) = refl
-
-closed-asked : (rcode delay : ℕ) (session : Session) → IsClosed session → IsClosed (asked_to_stop rcode delay session)
+pub closed-asked : (rcode delay : ℕ) (session : Session) → IsClosed session → IsClosed (asked_to_stop rcode delay session)
 closed-asked rcode delay session c = ap (λ (b : Bool). is_open (cond b (record session { standing = AskedToStop rcode delay }) session).standing) c ∙ c
 
 -- ---- a hub

@@ -15,7 +15,7 @@ use Rattle.dnswire.specs.Reading.{update_of}
 use Rattle.dnswire.specs.declared.message.Update.{Update}
 use Rattle.dnswire.specs.declared.message.WireFault.{WireFault}
 use Rattle.zoneupdate.specs.Zones.{ZoneState, is_inside, set_at}
-use Rattle.zoneupdate.specs.Updates.{with_counted_ttl, prerequisite_refusal, change_refusal, accepted_or, sets_agree, rows_after, is_within_limits, judged}
+use Rattle.zoneupdate.specs.Updates.{with_counted_ttl, prerequisite_refusal, change_refusal, accepted_or, or_later, refused_first, sets_agree, rows_after, is_within_limits, judged}
 use Rattle.history.specs.States.{State, home_names, zone_of, with_rows, zone_asked, zone_for, updated, update_in, verdict}
 use Rattle.history.specs.declared.entry.Entry.TheVariants as entries
 use Rattle.pushserver.specs.PlainHubs.{Hub}
@@ -82,19 +82,31 @@ small-change homes zone rr =
     ∷ (not (rr.class == in_class || rr.class == any_class || rr.class == none_class), 1)
     ∷ []) (omega arith, (omega arith, (omega arith, (omega arith, (omega arith, tt)))))
 
-pub small-judged : (homes : List Labels) (zone : ZoneState) (u : Update) → SmallErr (judged homes zone u)
-small-judged homes zone u =
+small-or_later : (o later : Option ℕ) → SmallSome o → SmallSome later → SmallSome (or_later o later)
+small-or_later None later h g = g
+small-or_later (Some code) later h g = h
+
+small-case : (b : Bool) (code : ℕ) (later : Option ℕ) → code < 2048 → SmallSome later → SmallSome (cond b (Some code) later)
+small-case true code later h g = h
+small-case false code later h g = g
+
+small-refused_first : (homes : List Labels) (zone : ZoneState) (u : Update) → SmallSome (refused_first homes zone u)
+small-refused_first homes zone u =
     let prereqs = map with_counted_ttl u.prereqs in
     let changes = map with_counted_ttl u.changes in
-    let last : Result RecordSet ℕ = cond (is_within_limits (rows_after zone changes)) (Ok (rows_after zone changes)) (Err refused) in
-    let after_prescan : Result RecordSet ℕ = accepted_or (first_refused (change_refusal homes zone) changes) last in
-    small-accepted (first_refused (prerequisite_refusal homes zone) prereqs)
-    (cond (not (sets_agree prereqs zone.rows)) (Err nxrrset) (cond (not zone.writable) (Err refused) after_prescan))
+    let prescan : Option ℕ = first_refused (change_refusal homes zone) changes in
+    let permission : Option ℕ = cond (not zone.writable) (Some refused) prescan in
+    small-or_later (first_refused (prerequisite_refusal homes zone) prereqs) (cond (not (sets_agree prereqs zone.rows)) (Some nxrrset) permission)
     (small-refused (prerequisite_refusal homes zone) prereqs (small-prerequisite homes zone))
-    (small-either (not (sets_agree prereqs zone.rows)) (Err nxrrset) (cond (not zone.writable) (Err refused) after_prescan) (omega arith)
-    (small-either (not zone.writable) (Err refused) after_prescan (omega arith)
-    (small-accepted (first_refused (change_refusal homes zone) changes) last (small-refused (change_refusal homes zone) changes (small-change homes zone))
-    (small-either (is_within_limits (rows_after zone changes)) (Ok (rows_after zone changes)) (Err refused) tt (omega arith)))))
+    (small-case (not (sets_agree prereqs zone.rows)) nxrrset permission (omega arith)
+    (small-case (not zone.writable) refused prescan (omega arith)
+    (small-refused (change_refusal homes zone) changes (small-change homes zone))))
+
+pub small-judged : (homes : List Labels) (zone : ZoneState) (u : Update) → SmallErr (judged homes zone u)
+small-judged homes zone u =
+    let after : RecordSet = rows_after zone (map with_counted_ttl u.changes) in
+    small-accepted (refused_first homes zone u) (cond (is_within_limits after) (Ok after) (Err refused)) (small-refused_first homes zone u)
+    (small-either (is_within_limits after) (Ok after) (Err refused) tt (omega arith))
 
 pub small-zone_asked : (questions : List Question) → SmallErr (zone_asked questions)
 small-zone_asked [] = omega arith

@@ -1,5 +1,6 @@
 -- That each session tells the history is kept by every call.
 --     HubTells hub      each session tells the history, and each state can be told
+--     unmet      without links no test of one is met
 use Rattle.std.proofs.Common.{◌≡◌, ℕ, ◌<◌, Bool, true, false, cond, not, List, [], ◌∷◌, ◌++◌, take, zero, suc, Some, ◌∙◌, ap, sym, refl, arith}
 use Rattle.std.specs.Prelude.{◌==◌}
 use Rattle.std.specs.List.{AllByRecursion}
@@ -53,7 +54,7 @@ octets-found hub number session found there is h =
 
 -- ---- entries, where there are no links
 
-unmet : (state : State) (link : ℕ) (test : LinkState → Bool) → state.links ≡ [] → link_meets test state link ≡ false
+pub unmet : (state : State) (link : ℕ) (test : LinkState → Bool) → state.links ≡ [] → link_meets test state link ≡ false
 unmet state link test none = ap (λ ls. link_meets test (record { zones = state.zones; links = ls; now = state.now }) link) none ∙ by link
   where
     by : (n : ℕ) → link_meets test (record { zones = state.zones; links = []; now = state.now }) n ≡ false

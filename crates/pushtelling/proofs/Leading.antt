@@ -13,11 +13,12 @@ use Rattle.rrset.specs.declared.record.Key.{Key}
 use Rattle.rrset.specs.declared.record.Question.{Question}
 use Rattle.zoneupdate.proofs.Owners.{same_name-itself}
 use Rattle.history.proofs.Together.{same_name-turned}
+use Rattle.dsotlv.specs.Answers.{push_message}
 use Rattle.dsotlv.specs.Notices.{applied_all, notice_octets, notices_of}
 use Rattle.dsotlv.specs.declared.message.Notice.{Notice}
 use Rattle.subscr.specs.Asked.{wants}
 use Rattle.coalesce.specs.Laws.{is_side, can_be_sent}
-use Rattle.coalesce.specs.Net.{push_message, max_net_message}
+use Rattle.coalesce.specs.Net.{max_net_message}
 use Rattle.coalesce.specs.Waiting.{WaitingName}
 use Rattle.coalesce.specs.FirstAnswers.{first_notices, told_first}
 use Rattle.coalesce.proofs.FirstLeads.{first_fills_the_new, first_leads_the_others, first_leaves_other_names, first_fits_one_message, first_is_read_back}

@@ -16,5 +16,6 @@ pub mod Following
 pub mod OneSession
 pub mod Running
 pub mod Between
+pub mod Standings
 pub mod Closed
 pub mod Calls

@@ -10,8 +10,9 @@ use Rattle.rrset.specs.declared.record.Question.{Question}
 use Rattle.dsotlv.specs.Messages.{frame}
 use Rattle.dsotlv.specs.Notices.{applied_all, notice_octets, notices_of}
 use Rattle.dsotlv.specs.declared.message.Notice.{Notice}
-use Rattle.coalesce.specs.Net.{net, packed, push_message, max_net_message}
-use Rattle.coalesce.specs.Laws.{Nets, is_side, can_be_sent, is_named_in, are_apart, nets_of, HaveSides, IsAlike}
+use Rattle.dsotlv.specs.Answers.{push_message}
+use Rattle.coalesce.specs.Net.{net, packed, max_net_message, Nets}
+use Rattle.coalesce.specs.Laws.{is_side, can_be_sent, is_named_in, are_apart, nets_of, HaveSides, IsAlike}
 use Rattle.coalesce.proofs.Sides.{parts_stay_sides}
 use Rattle.coalesce.proofs.NetSizes.{net_fits_one_message}
 use Rattle.coalesce.proofs.Packing.{packed_fits_one_message}

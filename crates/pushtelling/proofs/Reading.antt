@@ -13,7 +13,8 @@ use Rattle.dsotlv.specs.declared.message.Notice.{Notice}
 use Rattle.dsotlv.specs.declared.message.PushFault.{PushFault}
 use Rattle.dsotlv.specs.declared.message.Tlv.{Tlv}
 use Rattle.dsotlv.proofs.TlvLaws.{tlvs_there}
-use Rattle.coalesce.specs.Net.{push_message, max_net_message}
+use Rattle.dsotlv.specs.Answers.{push_message}
+use Rattle.coalesce.specs.Net.{max_net_message}
 use Rattle.coalesce.proofs.NetSizes.{length-push_message}
 use Rattle.pushserver.specs.ToldMessages.{notices_in_tlvs}
 use Rattle.pushtelling.proofs.Tells.{IsReadBack}

@@ -9,11 +9,10 @@ use Rattle.std.proofs.lemmas.List.{append-nil, append_assoc}
 use Rattle.rrset.specs.Header.{id_of}
 use Rattle.rrset.specs.Rcodes.{noerror, formerr, refused, notauth}
 use Rattle.rrset.specs.declared.record.Question.{Question}
-use Rattle.dsotlv.specs.Answers.{answer_to, refusal_to, grant_to, not_implemented, answer_to_update, stop_message}
+use Rattle.dsotlv.specs.Answers.{answer_to, refusal_to, grant_to, not_implemented, answer_to_update, stop_message, push_message}
 use Rattle.dsotlv.specs.Messages.{frame, head_of, primary_data}
 use Rattle.dsotlv.specs.Notices.{question_of}
 use Rattle.dsotlv.specs.declared.message.Notice.{Notice}
-use Rattle.coalesce.specs.Net.{push_message}
 use Rattle.dsotlv.specs.declared.message.DsoHead.{DsoHead}
 use Rattle.dsosession.specs.Reactions.{server_reaction}
 use Rattle.dsosession.specs.declared.session.EndReason.{EndReason}

@@ -12,10 +12,9 @@ use Rattle.rrset.specs.Rcodes.{noerror}
 use Rattle.rrset.specs.Records.{same_question}
 use Rattle.rrset.specs.RecordSet.{changes}
 use Rattle.rrset.specs.declared.record.Changed.{Changed}
-use Rattle.dsotlv.specs.Answers.{answer_to}
+use Rattle.dsotlv.specs.Answers.{answer_to, push_message}
 use Rattle.dsotlv.specs.Messages.{frame}
 use Rattle.dsotlv.specs.declared.message.Notice.{Notice}
-use Rattle.coalesce.specs.Net.{push_message}
 use Rattle.history.specs.States.{State, records_at}
 use Rattle.history.specs.declared.entry.Entry.{Entry}
 use Rattle.pushsession.specs.declared.standing.Standing.{Standing}

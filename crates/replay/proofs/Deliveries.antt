@@ -25,7 +25,7 @@ use Rattle.replay.specs.Deliveries.{delivered_all, DeliversPieces, fed_all, Feed
 
 -- ---- steps
 
-abbrev stepped_by : ℕ → Client → Step × Client → Client
+abbrev pub stepped_by : ℕ → Client → Step × Client → Client
 stepped_by turns client one = elim one.0 as (λ _. Client) [
   | steps.Waiting ↦ client
   | steps.Closed reason ↦ one.1
@@ -58,17 +58,17 @@ stepped-closed (suc turns) ws now c reason closed = ap (stepped_by turns (at ws 
 abbrev IsDelivered : OnOctets → Delivered → Type 0
 IsDelivered s d = (d.client ≡ s.client) × (d.left ≡ s.left)
 
-abbrev later_of : List ℕ → Delivered → ℕ → Delivered
+abbrev pub later_of : List ℕ → Delivered → ℕ → Delivered
 later_of octets so_far k = record { client = stepped enough (clients.take_octets (take k octets) so_far.client); count = so_far.count + k; left = drop k octets }
 
-abbrev delivered_by : ℕ → List ℕ → Delivered → ℕ → Bool → Delivered
+abbrev pub delivered_by : ℕ → List ℕ → Delivered → ℕ → Bool → Delivered
 delivered_by times octets so_far k true = later_of octets so_far k
 delivered_by times octets so_far k false = delivered times (drop k octets) (later_of octets so_far k)
 
-abbrev stops_at : List ℕ → ℕ → Bool
+abbrev pub stops_at : List ℕ → ℕ → Bool
 stops_at octets k = k == 0 || k == length octets
 
-one-delivered : (times : ℕ) (octets : List ℕ) (so_far : Delivered) (k : ℕ) (stops : Bool) → min (length octets) (room_of so_far.client) ≡ k → stops_at octets k ≡ stops → delivered (suc times) octets so_far ≡ delivered_by times octets so_far k stops
+pub one-delivered : (times : ℕ) (octets : List ℕ) (so_far : Delivered) (k : ℕ) (stops : Bool) → min (length octets) (room_of so_far.client) ≡ k → stops_at octets k ≡ stops → delivered (suc times) octets so_far ≡ delivered_by times octets so_far k stops
 one-delivered times octets so_far k stops is test = ap (λ (n : ℕ). delivered_by times octets so_far n (stops_at octets n)) is ∙ ap (delivered_by times octets so_far k) test
 
 abbrev begins : Client → ℕ → List ℕ → Delivered

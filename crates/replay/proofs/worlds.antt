@@ -1,18 +1,23 @@
 -- Calls kept over the plain world, line by line.
+pub mod OneWorld
+pub mod FedSeats
 pub mod Keeping
+pub mod SettledWorlds
 pub mod BuiltWorlds
 pub mod Numbers
 pub mod BuiltHeads
 pub mod Longer
+pub mod ClientOutputs
 pub mod StepInputs
 pub mod InputOctets
 pub mod BetweenLines
 pub mod Connected
 pub mod Seats
 pub mod TimedSeats
-pub mod AloneSeats
+pub mod SeatLines
 pub mod SeatWords
 pub mod Doing
 pub mod SeatsDoing
+pub mod FedDoing
 pub mod Naming
 pub mod ScriptTurns

@@ -1,13 +1,14 @@
 -- Which scripts are built, and what a script is answered.
 --     is_built line      the lines that are built so far
 --     first_later octets      the number of the first line that isn't built
---     reply_to_script octets      the status and the text for the octets that were read
+--     reply_to_script records octets      the status and the text for the octets that were read
 use Rattle.std.specs.Prelude.{ℕ, ◌+◌, Bool, true, false, Some, None, List, [], ◌∷◌, ◌++◌, take, drop, codes}
 use Rattle.std.specs.declared.option.Option.{Option}
 use Rattle.std.specs.Fmt.{decimal}
-use Rattle.replay.specs.Lines.{Word, ScriptLine, silent, timers, zone, lone, at_moment, update, ask, drop_question, open_connection, cut, send, stop, point}
+use Rattle.replay.specs.Lines.{Word, ScriptLine, silent, timers, zone, lone, at_moment, update, ask, drop_question, open_connection, cut, send, feed, stop, point, show, client, settle}
 use Rattle.replay.specs.Scripts.{Known, nothing_known, fits, client_words, lines_read, max_script}
-use Rattle.replay.specs.Text.{text_of}
+use Rattle.replay.specs.TextWords.{HeldRecords}
+use Rattle.replay.specs.Text.{text_with}
 use Rattle.replay.specs.Reply.{Reply, line}
 
 -- of the octets of a source, those that are read: all, or one more than a script may have
@@ -18,11 +19,12 @@ front_read octets = take (max_script + 1) octets
 unfoldable pub left_behind : List ℕ → List ℕ
 left_behind octets = drop (max_script + 1) octets
 
--- the lines that are built so far: lines that say nothing, timers, zones, moments, updates, points, what peers send, are asked to stop, and are cut, and what lone clients ask, drop, open and cut
+-- the lines that are built so far: lines that say nothing, timers, zones, moments, updates, points, what peers send, are asked to stop, and are cut, what clients ask, drop, open, cut and settle, what lone clients are fed, and what clients show
 abbrev pub is_built : ScriptLine → Bool
 is_built silent = true
 is_built (timers i k) = true
 is_built (zone apex serial mode) = true
+is_built (client w) = true
 is_built (lone w) = true
 is_built (at_moment t) = true
 is_built (update message) = true
@@ -30,9 +32,12 @@ is_built (ask w question) = true
 is_built (drop_question w question) = true
 is_built (open_connection w) = true
 is_built (cut w) = true
+is_built (settle w) = true
 is_built (send w octets) = true
+is_built (feed w octets) = true
 is_built (stop w rcode delay) = true
 is_built point = true
+is_built (show w question written) = true
 is_built _ = false
 
 -- the number of the first line that isn't built or may not stand there, from a number on
@@ -50,10 +55,10 @@ first_later octets = let lines = lines_read octets in first_unbuilt (client_word
 abbrev pub later : ℕ → List ℕ
 later number = line (codes "later " ++ decimal number)
 
-abbrev pub reply_at : Option ℕ → List ℕ → Reply
-reply_at None octets = record { status = (text_of octets).0; text = (text_of octets).1 }
-reply_at (Some number) octets = record { status = 8; text = later number }
+abbrev pub reply_at : HeldRecords → Option ℕ → List ℕ → Reply
+reply_at records None octets = record { status = (text_with records octets).0; text = (text_with records octets).1 }
+reply_at records (Some number) octets = record { status = 8; text = later number }
 
 -- the text of the script, or the first line that isn't built
-unfoldable pub reply_to_script : List ℕ → Reply
-reply_to_script octets = reply_at (first_later octets) octets
+unfoldable pub reply_to_script : HeldRecords → List ℕ → Reply
+reply_to_script records octets = reply_at records (first_later octets) octets

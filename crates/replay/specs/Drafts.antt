@@ -1,5 +1,8 @@
 -- A further line behind those of a script, and the lines that are left.
---     Taken, taken_of draft      the head, the events and the lone clients' words so far
+--     Taken, taken_of draft      the head, the events and the clients so far
+--     known_clients clients      their words, and whether each is a lone one
+--     lone_in clients w, is_hub_client_in clients w, is_lone_client_in clients w      whether the client of a word is a lone one; whether there is one of the hub, and a lone one
+--     client_added line      the client that a line adds
 --     known_of taken      what the lines so far have made
 --     may_stand all known line      whether a line is built and may stand there
 --     may_happen all clients event      whether the word of an event may stand there: that of a peer, of a client that there is, or of one more
@@ -7,7 +10,7 @@
 --     TakesLine all draft line later taken      the line is taken where it may stand there
 --     lines_left too_long text      the lines of what is left of a script
 --     client_in line, has_client w clients      the client that a line names, and whether one of the clients has a word
-use Rattle.std.specs.Prelude.{◌≡◌, ℕ, Bool, true, false, not, ◌&&◌, ◌||◌, ◌==◌, List, [], ◌∷◌, ◌++◌, map, length, Option, Some, None, is_some, string_bytes, if◌then◌else◌}
+use Rattle.std.specs.Prelude.{◌≡◌, ℕ, Bool, true, false, not, ◌&&◌, ◌||◌, ◌==◌, List, [], ◌∷◌, ◌++◌, map, find, length, Option, Some, None, is_some, option_map, string_bytes, if◌then◌else◌}
 use Rattle.std.specs.List.{list_any}
 use Rattle.std.specs.Str.{bytes_eq}
 use Rattle.std.specs.declared.alloc.Global.{Global}
@@ -17,14 +20,15 @@ use Rattle.dsosession.specs.declared.session.Timers.{Timers}
 use Rattle.zoneupdate.specs.Zones.{ZoneState, new_zone}
 use Rattle.history.specs.States.{State}
 use Rattle.history.specs.Keeping.{HomesKept, state_of, named_homes}
-use Rattle.replay.specs.Lines.{Word, ScriptLine, line_of}
-use Rattle.replay.specs.Scripts.{Known, fits, is_among, is_peer, client_word, lines_in, last_is_outside}
+use Rattle.replay.specs.Lines.{Word, ScriptLine, client, lone, line_of}
+use Rattle.replay.specs.Scripts.{Known, fits, is_peer, client_word, lines_in, last_is_outside}
 use Rattle.replay.specs.declared.line.ZoneLine.{ZoneLine}
 use Rattle.replay.specs.declared.line.Event.{Event}
 use Rattle.replay.specs.declared.line.Event.TheVariants as events
 use Rattle.replay.specs.declared.line.Line.{Line}
 use Rattle.replay.specs.declared.line.Line.TheVariants as lines
 use Rattle.replay.specs.declared.script.Draft.{Draft}
+use Rattle.replay.specs.declared.clients.KnownClient.{KnownClient}
 use Rattle.replay.specs.KeptLines.{event_said, said}
 use Rattle.replay.specs.BuiltScripts.{is_built}
 
@@ -33,36 +37,66 @@ abbrev pub in_list : Option Word → List Word
 in_list None = []
 in_list (Some w) = w ∷ []
 
--- the head, the events and the lone clients' words so far; no timers where no line has named them
+-- ---- clients
+
+-- their words, and whether each is a lone one
+abbrev pub known_clients : List KnownClient → List (Word × Bool)
+known_clients clients = map (λ (c : KnownClient). (string_bytes c.word, c.is_lone)) clients
+
+-- whether the client of a word is a lone one
+abbrev pub lone_in : List (Word × Bool) → Word → Option Bool
+lone_in clients w = option_map (λ e. e.1) (find (λ e. bytes_eq w e.0) clients)
+
+-- whether it is one of the hub
+abbrev pub is_hub_client_in : List (Word × Bool) → Word → Bool
+is_hub_client_in clients w = elim (lone_in clients w) [ None ↦ false | Some is_lone ↦ not is_lone ]
+
+-- whether it is a lone one
+abbrev pub is_lone_client_in : List (Word × Bool) → Word → Bool
+is_lone_client_in clients w = elim (lone_in clients w) [ None ↦ false | Some is_lone ↦ is_lone ]
+
+-- the client that a line adds
+abbrev pub client_added : ScriptLine → List (Word × Bool)
+client_added (client w) = (w, false) ∷ []
+client_added (lone w) = (w, true) ∷ []
+client_added _ = []
+
+-- ---- a line that is taken
+
+-- the head, the events and the clients so far; no timers where no line has named them
 pub record Taken : Type 0 where
   pub timers : Option Timers
   pub homes : HomesKept
   pub events : List Event
-  pub clients : List Word
+  pub clients : List (Word × Bool)
 
 abbrev pub taken_of : Draft → Taken
-taken_of draft = record { timers = draft.timers; homes = draft.homes; events = draft.events.items; clients = map (λ c. string_bytes c) draft.clients.items }
+taken_of draft = record { timers = draft.timers; homes = draft.homes; events = draft.events.items; clients = known_clients draft.clients.items }
 
 -- what the lines so far have made
 abbrev pub known_of : Taken → Known
-known_of taken = record { in_head = length taken.events == 0; has_timers = is_some taken.timers; homes = named_homes taken.homes; links = []; clients = map (λ w. (w, true)) taken.clients }
+known_of taken = record { in_head = length taken.events == 0; has_timers = is_some taken.timers; homes = named_homes taken.homes; links = []; clients = taken.clients }
 
 -- the line is built, and may stand there
 abbrev pub may_stand : List Word → Known → ScriptLine → Bool
 may_stand all known line = is_built line && is_some (fits all known line)
 
--- the word of an event may stand there, where these are the words of all clients of the script, and of the lone ones so far
-abbrev pub may_happen : List Word → List Word → Event → Bool
+-- the word of an event may stand there, where these are the words of all clients of the script, and the clients so far
+abbrev pub may_happen : List Word → List (Word × Bool) → Event → Bool
 may_happen all clients (events.Send s) = is_peer all (string_bytes s.word)
-may_happen all clients (events.Stop s) = is_peer all (string_bytes s.word)
-may_happen all clients (events.Cut c) = is_among clients (string_bytes c.word) || is_peer all (string_bytes c.word)
-may_happen all clients (events.Lone l) = not (is_among clients (string_bytes l.word))
-may_happen all clients (events.Ask a) = is_among clients (string_bytes a.word)
-may_happen all clients (events.Drop a) = is_among clients (string_bytes a.word)
-may_happen all clients (events.Open o) = is_among clients (string_bytes o.word)
+may_happen all clients (events.Stop s) = is_hub_client_in clients (string_bytes s.word) || is_peer all (string_bytes s.word)
+may_happen all clients (events.Cut c) = is_some (lone_in clients (string_bytes c.word)) || is_peer all (string_bytes c.word)
+may_happen all clients (events.Client j) = not (is_some (lone_in clients (string_bytes j.word)))
+may_happen all clients (events.Lone l) = not (is_some (lone_in clients (string_bytes l.word)))
+may_happen all clients (events.Ask a) = is_some (lone_in clients (string_bytes a.word))
+may_happen all clients (events.Drop a) = is_some (lone_in clients (string_bytes a.word))
+may_happen all clients (events.Open o) = is_some (lone_in clients (string_bytes o.word))
+may_happen all clients (events.Settle s) = is_some (lone_in clients (string_bytes s.word))
+may_happen all clients (events.Feed s) = is_lone_client_in clients (string_bytes s.word)
+may_happen all clients (events.Show s) = is_some (lone_in clients (string_bytes s.word))
 may_happen all clients _ = true
 
--- ---- a line that is taken
+-- ---- the draft behind it
 
 abbrev pub with_zone : State → ZoneState → State
 with_zone state zone = record state { zones = state.zones ++ zone ∷ [] }
@@ -77,7 +111,7 @@ abbrev pub GrowsBy : Taken → Line → Taken → Type 0
 GrowsBy taken lines.Silent later = later ≡ taken
 GrowsBy taken (lines.Timers t) later = later ≡ record taken { timers = Some t }
 GrowsBy taken (lines.Zone z) later = HasZone taken.homes z later.homes × (later ≡ record taken { homes = later.homes })
-GrowsBy taken (lines.Event e) later = later ≡ record taken { events = taken.events ++ e ∷ []; clients = taken.clients ++ in_list (client_word (event_said e)) }
+GrowsBy taken (lines.Event e) later = later ≡ record taken { events = taken.events ++ e ∷ []; clients = taken.clients ++ client_added (event_said e) }
 
 -- the line was taken, which may stand there, or wasn't, which may not
 abbrev pub TakesLine : List Word → Draft → Line → Draft → Bool → Type 0
@@ -96,7 +130,7 @@ client_in line = line_of line >>= client_word
 
 -- whether a client has a word, and whether one of them has
 abbrev pub is_client_of : Word → String Global → Bool
-is_client_of w client = bytes_eq w (string_bytes client)
+is_client_of w c = bytes_eq w (string_bytes c)
 
 abbrev pub has_client : Word → List (String Global) → Bool
 has_client w clients = list_any (is_client_of w) clients

@@ -4,9 +4,9 @@
 --     HoldsAfterEachLine      after each line, of each connected client, what is under way fits
 --     HoldsTheHistory      where it fits, the client holds the history at the points of the notes that came with it
 --     EverySettleEmptiesBothWays      a settle that prints its line alone leaves nothing under way
---     NoMessageEnds      no message of a hub's client ends its session, and none of the hub but Retry Delay closes the client
+--     NoMessageEnds      what is printed of a hub's client tells no end and no close that a message makes, but Retry Delay
 --     EveryCutGivesOneOutput      a peer is sent the same, however its octets are cut
---     EndsStandFor kept clients world      the hub and the clients that ran a script
+--     EndsStandFor records kept clients world      the hub and the clients that ran a script
 use Rattle.std.specs.Prelude.{◌≡◌, ℕ, ◌+◌, ◌≤◌, ◌<◌, Bool, true, false, not, ◌||◌, List, [], ◌∷◌, ◌++◌, map, length, filter_map, Some, None, is_none, option_map, Ok, IsTrue, codes, decimal, if◌then◌else◌}
 use Rattle.std.specs.List.{list_any, AllByRecursion, AllZip, IsDistinct}
 use Rattle.std.specs.Str.{bytes_eq}
@@ -20,6 +20,8 @@ use Rattle.dsosession.specs.declared.session.EndReason.{EndReason}
 use Rattle.dsosession.specs.declared.session.EndReason.TheVariants as ends
 use Rattle.dsosession.specs.declared.session.CloseReason.{CloseReason}
 use Rattle.dsosession.specs.declared.session.CloseReason.TheVariants as closes
+use Rattle.pushsession.specs.declared.standing.Standing.{Standing}
+use Rattle.pushsession.specs.declared.standing.Standing.TheVariants.{Ended}
 use Rattle.pushsession.specs.Sessions.{is_open}
 use Rattle.pushserver.specs.PlainHubs.{Session, Made, size_of_made, Hub, told, note_of, sent}
 use Rattle.pushserver.specs.Hubs.{newest, state_now, records_now, session_of}
@@ -37,7 +39,7 @@ use Rattle.inflight.specs.Holding.{will_hold, HoldsThen}
 use Rattle.replay.specs.Lines.{Word, ScriptLine, show, settle}
 use Rattle.replay.specs.Scripts.{script_of}
 use Rattle.replay.specs.World.{World, Seat, seat_of, start_world, last_of}
-use Rattle.replay.specs.TextWords.{by_history, show_at, with_records, is_filling, records_told, record_line, spaced, end_words, close_words}
+use Rattle.replay.specs.TextWords.{HeldRecords, by_history, show_at, with_records, is_filling, records_told, record_line, spaced, end_words, close_words}
 use Rattle.replay.specs.Text.{line_does, world_after, text_of_script, text_by_notices}
 use Rattle.replay.specs.Cuts.{AnswersEveryCutNow}
 use Rattle.replay.specs.PassedOctets.{max_wire}
@@ -89,6 +91,19 @@ ShowsNoLater shown point = (question : Question) → AllByRecursion (λ p. p ≤
 abbrev pub point_taken : ℕ → List Made → Question → ℕ
 point_taken start taken question = elim (last_of taken) [ None ↦ start | Some m ↦ told m.note question.name ]
 
+-- ends that no message makes
+abbrev pub is_end_by_itself : EndReason → Bool
+is_end_by_itself ends.Silent = true
+is_end_by_itself ends.Idle = true
+is_end_by_itself ends.Stopped = true
+is_end_by_itself (ends.Behind point) = true
+is_end_by_itself _ = false
+
+-- if it has ended, then for such a reason
+abbrev pub EndedByItself : Standing → Type 0
+EndedByItself (Ended reason) = IsTrue (is_end_by_itself reason)
+EndedByItself _ = Unit {0}
+
 -- no wire and no input holds more than it may
 pub record AreWithinBounds (seat : Seat) (session : Session) (c : Connection) : Type 0 where
   pub up_wire : length seat.up_wire ≤ max_wire
@@ -105,7 +120,8 @@ pub record ConnectionHolds (hub : Hub) (shown : ShownPoints) (seat : Seat) (sess
   pub waits : first_message c.input ≡ None
   pub unclosed : c.closed ≡ None
   pub bounds : AreWithinBounds seat session c
-  -- a point, as the newest when it was opened: no note gives an earlier one, and no greater one was shown before a message was taken
+  pub ended : EndedByItself session.standing
+  -- a point: no note gives an earlier one, and no greater one was shown before a message was taken; so it is of the newest when the connection was opened
   pub start : ℕ
   pub since : AllByRecursion (λ n. (name : Labels) → start ≤ told n name) (map (λ m. m.note) session.made ++ note_of (newest hub) session ∷ [])
   pub shown_before : ShowsNoLater shown (point_taken start flight.taken)
@@ -188,14 +204,6 @@ EverySettleEmptiesBothWays = (text : List ℕ) (script before after : List Scrip
     → let world = world_after (before ++ settle w ∷ []) (start_world script) in
     seat_of world w ≡ Some seat → SeatIsQuiet world.hub seat
 
--- ends that no message makes
-abbrev pub is_end_by_itself : EndReason → Bool
-is_end_by_itself ends.Silent = true
-is_end_by_itself ends.Idle = true
-is_end_by_itself ends.Stopped = true
-is_end_by_itself (ends.Behind point) = true
-is_end_by_itself _ = false
-
 -- the client's own timer, and Retry Delay
 abbrev pub is_close_by_itself : CloseReason → Bool
 is_close_by_itself closes.Idle = true
@@ -205,7 +213,7 @@ is_close_by_itself _ = false
 abbrev pub tells_line : List (List ℕ) → List ℕ → Bool
 tells_line lines l = list_any (bytes_eq l) lines
 
--- what a line prints of a hub's client tells no other end and no other close
+-- what a line prints of a hub's client tells no end but of such a reason, and no close but of such a one
 pub record EndsByItself (world : World) (line : ScriptLine) (seat : Seat) : Type 0 where
   pub end : (reason : EndReason) → IsTrue (tells_line (line_does by_history line world).1 (spaced (codes "end" ∷ seat.word ∷ end_words reason ∷ []))) → IsTrue (is_end_by_itself reason)
   pub close : (reason : CloseReason) → IsTrue (tells_line (line_does by_history line world).1 (spaced (codes "closed" ∷ seat.word ∷ close_words reason ∷ []))) → IsTrue (is_close_by_itself reason)
@@ -221,16 +229,16 @@ shows_records seat (set_held id set) = if seat.is_lone then true else not (is_fi
 shows_records seat _ = false
 
 -- the set that is kept of a question is the one that `show` tells, where it tells one
-pub record ClientStandsFor (world : World) (kept : KeptClient) (seat : Seat) : Type 0 where
+pub record ClientStandsFor (records : HeldRecords) (world : World) (kept : KeptClient) (seat : Seat) : Type 0 where
   pub wishes : kept.wishes ≡ map without_told seat.client.wishes
   pub connection : kept.connection ≡ seat.client.connection
   pub now : kept.now ≡ seat.client.now
-  pub sets : (question : Question) → IsTrue (shows_records seat (held seat.client question)) → set_of question kept.sets ≡ Some (show_at by_history world seat question).1
+  pub sets : (question : Question) → IsTrue (shows_records seat (held seat.client question)) → set_of question kept.sets ≡ Some (show_at records world seat question).1
 
 -- the hub and the clients, in the order of their lines, that ran the script
-pub record EndsStandFor (kept : KeptHub) (clients : List KeptClient) (world : World) : Type 0 where
+pub record EndsStandFor (records : HeldRecords) (kept : KeptHub) (clients : List KeptClient) (world : World) : Type 0 where
   pub hub : StandsFor kept world.hub
-  pub seats : AllZip (ClientStandsFor world) clients world.seats
+  pub seats : AllZip (ClientStandsFor records world) clients world.seats
 
 -- between two lines of a script
 abbrev pub EveryCutGivesOneOutput : Type 0

@@ -1,19 +1,25 @@
--- Octets to the session of a peer, and back.
+-- What a session has to say, and octets to the session of a peer and back.
 --     written given buffer      the octets that a call of give copied
---     Gives      one call of give, with room for a frame
 --     turn_of given      what follows a call of give
---     Emits, Exchanges      calls of give until there is no more; an exchange
-use Rattle.std.specs.Prelude.{◌≡◌, ◌++◌, ℕ, List, [], take, Option, Some, None}
-use Rattle.coalesce.specs.Sides.{frame_octets}
+--     has_worked given      whether it reacted to a message
+--     has_end told id, not_told told entry      whether the end of an ID is told
+--     Remembers, Gives      one call of give: what it told of first answers, and all
+--     Emits, Exchanges      calls of give until there is no more or so many octets came; an exchange
+use Rattle.std.specs.Prelude.{◌≡◌, ◌≤◌, ◌⊎◌, ◌++◌, ◌==◌, ℕ, Bool, true, false, not, List, [], take, Option, Some, None}
+use Rattle.std.specs.List.{list_any}
+use Rattle.push_base.specs.Limits.{max_number}
 use Rattle.dsosession.specs.declared.session.EndReason.{EndReason}
 use Rattle.pushserver.specs.declared.given.Given.{Given}
 use Rattle.pushserver.specs.declared.given.Given.TheVariants.{Bytes, Worked, Nothing, Ending, End}
 use Rattle.pushserver.specs.PlainHubs.{Hub, Giving}
 use Rattle.pushserver.specs.Giving.{give}
 use Rattle.pushserver.specs.KeptHubs.{KeptHub, StandsFor}
+use Rattle.inflight.specs.Ends.{remembers}
 use Rattle.replay.specs.declared.exchanging.Turn.{Turn}
 use Rattle.replay.specs.declared.exchanging.Turn.TheVariants.{More, Last}
-use Rattle.replay.specs.PassedOctets.{Emitted, Exchanged, emitted, exchanged, nothing_emitted, enough}
+use Rattle.replay.specs.declared.exchanging.Emission.{Emission}
+use Rattle.replay.specs.PassedOctets.{Emitted, Exchanged, emitted, exchanged, nothing_emitted, subscriptions_in, enough}
+use Rattle.replay.specs.KeptWorlds.{TellsEnds}
 
 -- the octets that a call of give copied into a buffer
 abbrev pub written : Given → List ℕ → List ℕ
@@ -28,23 +34,47 @@ turn_of Nothing = Last None
 turn_of Ending = Last None
 turn_of (End reason) = Last (Some reason)
 
+-- whether a message was reacted to, or a stop, without octets
+abbrev pub has_worked : Given → Bool
+has_worked Worked = true
+has_worked _ = false
+
+-- the ends of first answers that were told, where a session has these subscriptions behind a call
+abbrev pub Remembers : Hub → ℕ → List (ℕ × ℕ) → List (ℕ × ℕ) → Type 0
+Remembers hub number before later = (plain : List (ℕ × ℕ)) → TellsEnds before plain → TellsEnds later (remembers (subscriptions_in hub number) plain)
+
+-- whether the end of an ID is told; a pair whose ID's isn't
+abbrev pub has_end : List (ℕ × ℕ) → ℕ → Bool
+has_end told id = list_any (λ e. e.0 == id) told
+
+abbrev pub not_told : List (ℕ × ℕ) → ℕ × ℕ → Bool
+not_told told entry = not (has_end told entry.0)
+
 -- one call of give was this
-pub record IsGiven (g : Giving) (before : List ℕ) (later : KeptHub) (octets : List ℕ) (next : Turn) : Type 0 where
-  pub follows : next ≡ turn_of g.given
+pub record IsGiven (g : Giving) (number : ℕ) (before : List ℕ) (told : List (ℕ × ℕ)) (later : KeptHub) (octets : List ℕ) (told_later : List (ℕ × ℕ)) (given : Given) : Type 0 where
+  pub answers : given ≡ g.given
   pub written : octets ≡ before ++ g.octets
+  pub ends : Remembers g.hub number told told_later
   pub stands : StandsFor later g.hub
 
-unfoldable pub Gives : KeptHub → ℕ → List ℕ → KeptHub → List ℕ → Turn → Type 0
-Gives kept number before later octets next = (hub : Hub) → StandsFor kept hub → IsGiven (give hub number frame_octets) before later octets next
+unfoldable pub Gives : ℕ → KeptHub → ℕ → List ℕ → List (ℕ × ℕ) → KeptHub → List ℕ → List (ℕ × ℕ) → Given → Type 0
+Gives room kept number before told later octets told_later given = (hub : Hub) → StandsFor kept hub → IsGiven (give hub number room) number before told later octets told_later given
 
 -- calls of give made these octets behind others, and this end
-pub record IsEmitted (e : Emitted) (before : List ℕ) (later : KeptHub) (octets : List ℕ) (over : Option EndReason) : Type 0 where
-  pub end_told : over ≡ e.over
+pub record IsEmitted (e : Emitted) (before : List ℕ) (later : KeptHub) (octets : List ℕ) (told : List (ℕ × ℕ)) (emission : Emission) : Type 0 where
+  pub end_told : emission.over ≡ e.over
+  pub reacts : emission.reacted ≡ e.reacted
   pub written : octets ≡ before ++ e.octets
+  pub ends : TellsEnds told e.filled
   pub stands : StandsFor later e.hub
 
-unfoldable pub Emits : KeptHub → ℕ → List ℕ → KeptHub → List ℕ → Option EndReason → Type 0
-Emits kept number before later octets over = (hub : Hub) → StandsFor kept hub → IsEmitted (emitted enough number enough (nothing_emitted hub [])) before later octets over
+-- a number of octets that are allowed, or the greatest number for any greater one
+abbrev pub Allows : ℕ → ℕ → Type 0
+Allows count budget = (count ≤ budget) × ((count ≡ budget) ⊎ (count ≡ max_number))
+
+unfoldable pub Emits : ℕ → KeptHub → ℕ → List ℕ → List (ℕ × ℕ) → KeptHub → List ℕ → List (ℕ × ℕ) → Emission → Type 0
+Emits count kept number before told later octets told_later emission = (budget : ℕ) (hub : Hub) (plain : List (ℕ × ℕ)) → Allows count budget → StandsFor kept hub → TellsEnds told plain
+    → IsEmitted (emitted enough number budget (nothing_emitted hub plain)) before later octets told_later emission
 
 -- an exchange made these octets and this end
 pub record IsExchanged (x : Exchanged) (later : KeptHub) (octets : List ℕ) (over : Option EndReason) : Type 0 where

@@ -12,7 +12,7 @@ use Rattle.std.specs.List.{slice_split}
 use Rattle.push_base.specs.Limits.{max_moment}
 use Rattle.push_base.specs.Optional.{◌>>=◌}
 use Rattle.dsosession.specs.declared.session.Timers.{Timers}
-use Rattle.replay.specs.Lines.{Word, ScriptLine, silent, timers, zone, lone, at_moment, update, ask, drop_question, open_connection, cut, send, stop, point, is, alone, of_word, of_octets, of_word_and_octets, of_word_and_question, timers_line, zone_line, at_line, stop_line}
+use Rattle.replay.specs.Lines.{Word, ScriptLine, silent, timers, zone, lone, at_moment, update, ask, drop_question, open_connection, cut, send, feed, stop, point, show, is, alone, of_word, of_octets, of_word_and_octets, of_word_and_question, timers_line, zone_line, at_line, show_line, stop_line, client, settle}
 use Rattle.replay.specs.BuiltScripts.{is_built}
 use Rattle.replay.specs.declared.line.ZoneLine.{ZoneLine}
 use Rattle.replay.specs.declared.line.Event.{Event}
@@ -38,10 +38,14 @@ event_said events.Point = point
 event_said (events.At t) = at_moment t
 event_said (events.Stop s) = stop (string_bytes s.word) s.rcode s.delay
 event_said (events.Cut c) = cut (string_bytes c.word)
+event_said (events.Client j) = client (string_bytes j.word)
 event_said (events.Lone l) = lone (string_bytes l.word)
 event_said (events.Ask a) = ask (string_bytes a.word) a.question
 event_said (events.Drop a) = drop_question (string_bytes a.word) a.question
 event_said (events.Open o) = open_connection (string_bytes o.word)
+event_said (events.Feed s) = feed (string_bytes s.word) s.octets
+event_said (events.Show s) = show (string_bytes s.word) s.question (string_bytes s.written)
+event_said (events.Settle s) = settle (string_bytes s.word)
 
 -- what a line that was read says
 abbrev pub said : Line → ScriptLine
@@ -94,10 +98,14 @@ kind_of w =
     else if is w (codes "send") then kinds.Send
     else if is w (codes "stop") then kinds.Stop
     else if is w (codes "point") then kinds.Point
+    else if is w (codes "client") then kinds.Client
     else if is w (codes "lone") then kinds.Lone
     else if is w (codes "ask") then kinds.Ask
     else if is w (codes "drop") then kinds.Drop
     else if is w (codes "open") then kinds.Open
+    else if is w (codes "feed") then kinds.Feed
+    else if is w (codes "show") then kinds.Show
+    else if is w (codes "settle") then kinds.Settle
     else kinds.Other
 
 -- what a line of a kind says, by the words behind its first
@@ -110,24 +118,32 @@ said_behind kinds.Cut ws = of_word cut ws
 said_behind kinds.Send ws = of_word_and_octets send ws
 said_behind kinds.Stop ws = stop_line ws
 said_behind kinds.Point ws = alone point ws
+said_behind kinds.Client ws = of_word client ws
 said_behind kinds.Lone ws = of_word lone ws
 said_behind kinds.Ask ws = of_word_and_question ask ws
 said_behind kinds.Drop ws = of_word_and_question drop_question ws
 said_behind kinds.Open ws = of_word open_connection ws
+said_behind kinds.Feed ws = of_word_and_octets feed ws
+said_behind kinds.Show ws = show_line ws
+said_behind kinds.Settle ws = of_word settle ws
 said_behind kinds.Other ws = None
 
 -- an event line: octets that are no more than a frame's (RFC 7766, 8), a moment, an RCODE and a delay, each within its bounds
 abbrev pub IsEvent : ScriptLine → Type 0
 IsEvent (at_moment t) = t ≤ max_moment
 IsEvent (update octets) = length octets ≤ 65537
+IsEvent (client w) = Unit {0}
 IsEvent (lone w) = Unit {0}
 IsEvent (ask w question) = Unit {0}
 IsEvent (drop_question w question) = Unit {0}
 IsEvent (open_connection w) = Unit {0}
 IsEvent (cut w) = Unit {0}
+IsEvent (settle w) = Unit {0}
 IsEvent (send w octets) = length octets ≤ 65537
+IsEvent (feed w octets) = length octets ≤ 65537
 IsEvent (stop w rcode delay) = (rcode < 16) × (delay < 2 ^ 32)
 IsEvent point = Unit {0}
+IsEvent (show w question written) = Unit {0}
 IsEvent _ = ⊥
 
 -- an event is within its bounds

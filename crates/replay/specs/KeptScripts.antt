@@ -10,8 +10,8 @@ use Rattle.history.specs.Plans.{IsStart}
 use Rattle.replay.specs.Lines.{Word, ScriptLine}
 use Rattle.replay.specs.Scripts.{script_of, client_word}
 use Rattle.replay.specs.World.{World, world_of, start_world}
-use Rattle.replay.specs.TextWords.{by_history}
-use Rattle.replay.specs.Text.{printed_by}
+use Rattle.replay.specs.TextWords.{by_notices}
+use Rattle.replay.specs.Text.{printed_by, world_after}
 use Rattle.replay.specs.declared.line.Event.{Event}
 use Rattle.replay.specs.declared.script.Script.{Script}
 use Rattle.replay.specs.declared.script.ReadScript.{ReadScript}
@@ -34,13 +34,14 @@ abbrev pub seats_named : List ScriptLine → List Word
 seats_named [] = []
 seats_named (line ∷ lines) = in_list (client_word line) ++ seats_named lines
 
--- all lines are built; the head lines make the script's timers and homes, and the others that say something are its events
+-- all lines are built; the head lines make the script's timers and homes, and the others that say something are its events, which print and leave the same
 pub record IsBuilt (octets : List ℕ) (script : Script) : Type 0 where
   pub all : first_later octets ≡ None
   pub lines : List ScriptLine
   pub read : script_of octets ≡ Ok lines
   pub head : world_at_start script ≡ start_world lines
-  pub text : printed_by by_history lines (start_world lines) ≡ printed_by by_history (events_said script.events.items) (start_world lines)
+  pub text : printed_by by_notices lines (start_world lines) ≡ printed_by by_notices (events_said script.events.items) (start_world lines)
+  pub last : world_after lines (start_world lines) ≡ world_after (events_said script.events.items) (start_world lines)
   pub start : IsStart (state_of script.homes)
   pub are_events : AllByRecursion IsEvent (events_said script.events.items)
   pub distinct : AreDistinct (seats_named (events_said script.events.items))

@@ -1,24 +1,27 @@
--- The world that a run stands for: it has a hub, peers and lone clients, and no links.
+-- The world that a run stands for: it has a hub, peers and clients, and no links.
 --     named peers      the words of the peers with the numbers of their sessions
 --     seated seats      the clients as they are kept
---     StandsForSeat kept seat      what is kept of a lone client stands for its seat
+--     TellsEnds kept plain      the ends of first answers, counted up to the last number
+--     StandsForSeat kept seat      what is kept of a client stands for its seat
 --     AreDistinct words      no word twice
 --     StandsForWorld kept parties world, IsWorld kept world      what is kept stands for the world
 --     HasPrinted kept parties text printed      this text was printed, and what is kept stands for the world behind it
 --     Acts act .., Does act before text after      so it is of the act, whatever world is stood for in which each client has its own word
-use Rattle.std.specs.Prelude.{◌≡◌, ℕ, Bool, true, None, List, [], ◌∷◌, map, string_bytes}
+use Rattle.std.specs.Prelude.{◌≡◌, ℕ, ◌<◌, Bool, Option, option_map, min, List, [], ◌∷◌, map, string_bytes}
 use Rattle.std.specs.List.{IsDistinct}
 use Rattle.std.specs.Str.{bytes_eq}
+use Rattle.push_base.specs.Limits.{max_number}
 use Rattle.pushserver.specs.KeptHubs as hubs
 use Rattle.pushserver.specs.KeptHubs.{KeptHub}
 use Rattle.pushclient.specs.Clients.{is_connected}
 use Rattle.pushclient.specs.Rule as clients
 use Rattle.pushclient.specs.Rule.{KeptClient}
+use Rattle.inflight.specs.Ends.{told_end}
 use Rattle.replay.specs.Lines.{Word}
 use Rattle.replay.specs.World.{Seat, World}
 use Rattle.replay.specs.Text.{Printed, ended_lines}
 use Rattle.replay.specs.declared.world.Peer.{Peer}
-use Rattle.replay.specs.declared.seats.Seat as lone
+use Rattle.replay.specs.declared.seats.Seat as program_seats
 use Rattle.replay.specs.declared.world.World as program
 
 abbrev pub Named : Type 0
@@ -27,22 +30,38 @@ Named = List (Word × ℕ)
 abbrev pub named : List Peer → Named
 named peers = map (λ (p : Peer). (string_bytes p.word, p.session)) peers
 
--- a lone client as it is kept: its word, whether it has a connection, and the client
+-- a client as it is kept: its word, whether it is a lone one and has a connection, the client, and what there is of the connection
 pub record KeptSeat : Type 0 where
   pub word : Word
+  pub is_lone : Bool
   pub is_open : Bool
   pub client : KeptClient
+  pub session : Option ℕ
+  pub up_wire : List ℕ
+  pub down_wire : List ℕ
+  pub reached : ℕ
+  pub filled : List (ℕ × ℕ)
 
 abbrev pub Seated : Type 0
 Seated = List KeptSeat
 
-abbrev pub seat_kept : lone.Seat → KeptSeat
-seat_kept s = record { word = string_bytes s.word; is_open = s.is_open; client = s.client }
+abbrev pub seat_kept : program_seats.Seat → KeptSeat
+seat_kept s = record {
+  word = string_bytes s.word;
+  is_lone = s.is_lone;
+  is_open = s.is_open;
+  client = s.client;
+  session = s.session;
+  up_wire = s.up_wire.items;
+  down_wire = s.down_wire.items;
+  reached = s.reached;
+  filled = s.filled.items;
+}
 
-abbrev pub seated : List lone.Seat → Seated
+abbrev pub seated : List program_seats.Seat → Seated
 seated seats = map seat_kept seats
 
--- the peers and the lone clients
+-- the peers and the clients
 pub record Parties : Type 0 where
   pub peers : Named
   pub seats : Seated
@@ -50,13 +69,22 @@ pub record Parties : Type 0 where
 abbrev pub parties_of : program.World → Parties
 parties_of kept = record { peers = named kept.peers.items; seats = seated kept.seats.items }
 
--- what is kept of a lone client stands for its seat, which has no session
+-- of each ID the end of the first answer that was told last, counted up to the last number
+abbrev pub TellsEnds : List (ℕ × ℕ) → List (ℕ × ℕ) → Type 0
+TellsEnds kept plain = (id : ℕ) → told_end kept id ≡ option_map (λ n. min n max_number) (told_end plain id)
+
+-- What is kept of a client stands for its seat. Fewer octets have reached it than the last number.
 pub record StandsForSeat (kept : KeptSeat) (seat : Seat) : Type 0 where
   pub word : kept.word ≡ seat.word
-  pub is_lone : seat.is_lone ≡ true
-  pub session : seat.session ≡ None
+  pub is_lone : kept.is_lone ≡ seat.is_lone
   pub is_open : kept.is_open ≡ is_connected seat.client
   pub client : clients.StandsFor kept.client seat.client
+  pub session : kept.session ≡ seat.session
+  pub up_wire : kept.up_wire ≡ seat.up_wire
+  pub down_wire : kept.down_wire ≡ seat.down_wire
+  pub reached : kept.reached ≡ seat.reached
+  pub few : kept.reached < max_number
+  pub filled : TellsEnds kept.filled seat.filled
 
 -- each for its seat
 abbrev pub StandForSeats : Seated → List Seat → Type 0
@@ -71,7 +99,7 @@ AreDistinct words = IsDistinct bytes_eq words
 abbrev pub words_in : World → List Word
 words_in world = map (λ (s : Seat). s.word) world.seats
 
--- a hub, peers and lone clients that are kept stand for a world
+-- a hub, peers and clients that are kept stand for a world
 pub record StandsForWorld (kept : KeptHub) (known : Parties) (world : World) : Type 0 where
   pub hub : hubs.StandsFor kept world.hub
   pub peers : known.peers ≡ world.peers

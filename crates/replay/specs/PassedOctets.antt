@@ -14,7 +14,7 @@ use Rattle.replay.specs.Lines.{max_octets_passed}
 use Rattle.replay.specs.World.{Seat, World}
 use Rattle.inflight.specs.Ends.{remembers}
 
--- A number of turns that no run uses up: each turn moves an octet or reacts to a message.
+-- A number of turns: each moves an octet or reacts to a message.
 abbrev pub enough : ℕ
 enough = 2 ^ 64
 

@@ -2,7 +2,7 @@
 --     SentInPieces      a peer's word, the pieces that it sends in lines with those of others between them, its session, and the lines before and behind
 --     SendsPieces script sent      the script is built, these are its lines, no entry is made, and the session goes on
 --     TellsInTurn sent told      what is told of each piece answers the messages that it completes
---     pieces_reply sent told      the status and the text, where this is told
+--     pieces_reply records sent told      the status and the text, where this is told
 use Rattle.std.specs.Prelude.{◌≡◌, ℕ, Bool, true, not, List, [], ◌∷◌, ◌++◌, map, take, length, flat_map, codes, Some, None, Ok}
 use Rattle.std.specs.List.{concat, list_all, AllByRecursion}
 use Rattle.std.specs.Str.{bytes_eq}
@@ -12,7 +12,7 @@ use Rattle.pushserver.specs.PlainHubs.{Session, Hub}
 use Rattle.replay.specs.Lines.{Word, ScriptLine, cut, send, stop}
 use Rattle.replay.specs.Scripts.{script_of}
 use Rattle.replay.specs.World.{World, start_world}
-use Rattle.replay.specs.TextWords.{spaced, octets_text, by_history}
+use Rattle.replay.specs.TextWords.{spaced, octets_text, HeldRecords, by_history}
 use Rattle.replay.specs.Text.{ended_lines, placed, line_does, printed_by, world_after}
 use Rattle.replay.specs.Cuts.{IsAtRest, ArePassable, answers_to, standing_of}
 use Rattle.replay.specs.Reply.{Reply}
@@ -85,17 +85,17 @@ pub record TellsInTurn (sent : SentInPieces) (told : List (List ℕ)) : Type 0 w
   pub turns : (n : ℕ) → concat (take n told) ≡ (answered_to_first n sent).0
 
 -- a line with each of these, and behind it what the lines of others print
-abbrev pub printed_turns : Word → List Turn → List (List ℕ) → World → List (List ℕ)
-printed_turns w [] told world = []
-printed_turns w (turn ∷ turns) [] world = []
-printed_turns w (turn ∷ turns) (octets ∷ told) world =
+abbrev pub printed_turns : HeldRecords → Word → List Turn → List (List ℕ) → World → List (List ℕ)
+printed_turns records w [] told world = []
+printed_turns records w (turn ∷ turns) [] world = []
+printed_turns records w (turn ∷ turns) (octets ∷ told) world =
     let later = (line_does by_history (send w turn.0) world).0 in
-    spaced (codes "bytes" ∷ w ∷ octets_text octets ∷ []) ∷ (printed_by by_history turn.1 later ++ printed_turns w turns told (world_after turn.1 later))
+    spaced (codes "bytes" ∷ w ∷ octets_text octets ∷ []) ∷ (printed_by records turn.1 later ++ printed_turns records w turns told (world_after turn.1 later))
 
 -- those lines alone stand between what the lines before print and what those behind do
-abbrev pub pieces_reply : SentInPieces → List (List ℕ) → Reply
-pieces_reply sent told = record {
+abbrev pub pieces_reply : HeldRecords → SentInPieces → List (List ℕ) → Reply
+pieces_reply records sent told = record {
   status = 0;
-  text = ended_lines (printed_by by_history sent.before (world_start sent))
-      ++ (ended_lines (printed_turns sent.word sent.turns told (world_then sent)) ++ ended_lines (printed_by by_history sent.behind (world_behind sent)));
+  text = ended_lines (printed_by records sent.before (world_start sent))
+      ++ (ended_lines (printed_turns records sent.word sent.turns told (world_then sent)) ++ ended_lines (printed_by records sent.behind (world_behind sent)));
 }

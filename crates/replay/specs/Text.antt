@@ -1,6 +1,7 @@
 -- The text of a script.
 --     line_does line world      the world after a line, and the lines that it prints
---     text_of text      what is written for the octets of a script
+--     text_by records script      the text of a script
+--     text_with records text, text_of text      what is written for the octets of a script
 use Rattle.std.specs.Prelude.{ℕ, Bool, true, false, cond, List, [], ◌∷◌, ◌++◌, map, length, flat_map, fold, position, Option, Some, None, Ok, Err, option_map, codes, decimal, unwrap_or, if◌then◌else◌}
 use Rattle.std.specs.Str.{bytes_eq}
 use Rattle.rrset.specs.declared.record.Question.{Question}
@@ -226,13 +227,20 @@ printed_by records (line ∷ lines) world = (let one = line_does records line wo
 abbrev pub ended_lines : List (List ℕ) → List ℕ
 ended_lines lines = flat_map (λ l. line l) lines
 
+abbrev pub text_by : HeldRecords → List ScriptLine → List ℕ
+text_by records script = ended_lines (printed_by records script (start_world script))
+
+-- the text, where what is held is that of the history
 abbrev pub text_of_script : List ScriptLine → List ℕ
-text_of_script script = ended_lines (printed_by by_history script (start_world script))
+text_of_script script = text_by by_history script
 
 -- the same text, where what is held is worked out from the notices alone
 abbrev pub text_by_notices : List ScriptLine → List ℕ
-text_by_notices script = ended_lines (printed_by by_notices script (start_world script))
+text_by_notices script = text_by by_notices script
 
 -- the status and the whole text for the octets of a script
+abbrev pub text_with : HeldRecords → List ℕ → ℕ × List ℕ
+text_with records text = elim (script_of text) [ Ok script ↦ (0, text_by records script) | Err n ↦ (2, ended_lines (spaced (codes "line" ∷ decimal n ∷ []) ∷ [])) ]
+
 abbrev pub text_of : List ℕ → ℕ × List ℕ
-text_of text = elim (script_of text) [ Ok script ↦ (0, text_of_script script) | Err n ↦ (2, ended_lines (spaced (codes "line" ∷ decimal n ∷ []) ∷ [])) ]
+text_of text = text_with by_history text

@@ -1,31 +1,54 @@
-//! The lines that events of lone clients print.
+//! The lines that events of clients print.
 
-ghost use Rattle.std.specs.Prelude.{◌≡◌, ◌++◌, ◌∷◌, [], codes, true, IfOk, string_bytes};
+ghost use Rattle.std.specs.Prelude.{◌≡◌, ◌<◌, ◌++◌, ◌∷◌, [], codes, length, position, Some, IfOk, string_bytes};
+ghost use Rattle.replay.specs.World.{new_seat};
 ghost use Rattle.replay.specs.TextWords.{close_words};
-ghost use Rattle.replay.specs.Text.{asked_words, asks, opens, seated as takes_seat, subscribing, unsubscribing, yes_or_no};
-ghost use Rattle.replay.specs.KeptWorlds.{Does, seated};
-ghost use Rattle.replay.specs.KeptSeats.{Times, closing_text};
+ghost use Rattle.replay.specs.Text.{asked_words, asks, opens, opens_hub, opens_lone, seated as takes_seat, subscribing, unsubscribing, yes_or_no};
+ghost use Rattle.replay.specs.KeptWorlds.{Does, StandsForSeat, seat_kept, seated};
+ghost use Rattle.replay.specs.KeptSeats.{Times, by_seat, closing_text, has_word};
 
-use crate::seats::{Seat, ask_at, drop_at, is_open_at, moment_at, open_at, place_of};
+use crate::seats::{
+    Seat, ask_at, drop_at, is_lone_at, is_open_at, join_at, moment_at, open_at, place_of,
+};
 use crate::world::World;
 use dsosession::session::CloseReason;
 use push_base::NoMemory;
 use pushclient::Client;
 use pushclient::client::Asked;
+use pushserver::{ConnectFault, Hub};
 use rrset::record::Question;
 use std::alloc::Global;
 
-/// There is one lone client more.
-pub(crate) fn lone_line(alloc: Global, world: &mut World, word: &str) -> Result<String, NoMemory>
-    ensures { IfOk result (λ text. Does (takes_seat word.now true) world.old (string_bytes text) world.new) }
+/// There is one client more.
+pub(crate) fn client_line(
+    alloc: Global,
+    world: &mut World,
+    word: &str,
+    is_lone: bool,
+) -> Result<String, NoMemory>
+    ensures { IfOk result (λ text. Does (takes_seat word.now is_lone) world.old (string_bytes text) world.new) }
 {
-    let seat = Seat {
-        word: String::from_str(alloc, word)?,
-        is_open: false,
-        client: Client::new(alloc),
-    };
+    let seat = new_seat(alloc, word, is_lone)?;
     world.seats.push(seat)?;
     Ok(String::new(alloc))
+}
+
+// A client without a connection, that wants nothing.
+fn new_seat(alloc: Global, word: &str, is_lone: bool) -> Result<Seat, NoMemory>
+    ensures { IfOk result (λ seat. StandsForSeat (seat_kept seat) (new_seat word.now is_lone)) }
+{
+    let word = String::from_str(alloc, word)?;
+    Ok(Seat {
+        word,
+        is_lone,
+        is_open: false,
+        client: Client::new(alloc),
+        session: None,
+        up_wire: Vec::new(alloc),
+        down_wire: Vec::new(alloc),
+        reached: 0,
+        filled: Vec::new(alloc),
+    })
 }
 
 /// A client asks a question.
@@ -74,32 +97,64 @@ pub(crate) fn open_line(alloc: Global, world: &mut World, word: &str) -> Result<
             if is_open_at(&world.seats, place) {
                 return already_text(alloc, word);
             }
-            let now = world.hub.now();
-            open_at(&mut world.seats, place, now)?;
+            if is_lone_at(&world.seats, place) {
+                return open_lone(alloc, world, place, word);
+            }
+            open_hub(alloc, world, place, word)
+        }
+    }
+}
+
+// The lone client at a place opens a connection.
+fn open_lone(alloc: Global, world: &mut World, place: usize, word: &str) -> Result<String, NoMemory>
+    requires { place < length world.old.seats.items }
+    ensures { position (has_word word.now) (seated world.old.seats.items) ≡ Some place → IfOk result (λ text. Does (by_seat opens_lone word.now) world.old (string_bytes text) world.new) }
+{
+    let now = world.hub.now();
+    open_at(&mut world.seats, place, now)?;
+    open_text(alloc, word)
+}
+
+// The client at a place opens a connection to the hub, if that has a seat.
+fn open_hub(alloc: Global, world: &mut World, place: usize, word: &str) -> Result<String, NoMemory>
+    requires { place < length world.old.seats.items }
+    ensures { position (has_word word.now) (seated world.old.seats.items) ≡ Some place → IfOk result (λ text. Does (by_seat opens_hub word.now) world.old (string_bytes text) world.new) }
+{
+    let now = world.hub.now();
+    match world.hub.connect() {
+        Ok(session) => {
+            join_at(&mut world.seats, place, now, session)?;
             open_text(alloc, word)
         }
+        Err(ConnectFault::NoSeat) => noseat_text(alloc, word),
+        Err(ConnectFault::NoMemory) => Err(NoMemory),
     }
 }
 
 /// It is a moment for each client, in order; what they print stands behind a text.
 pub(crate) fn timed_lines(
     alloc: Global,
+    hub: &mut Hub,
     seats: &mut [Seat],
     now: u64,
     mut text: String,
 ) -> Result<String, NoMemory>
-    ensures { IfOk result (λ told. Times now (seated seats.old) (string_bytes text) (seated seats.new) (string_bytes told)) }
+    ensures { IfOk result (λ told. Times now hub.old (seated seats.old) (string_bytes text) hub.new (seated seats.new) (string_bytes told)) }
 {
     'seats: for place in 0..seats.len() {
-        let closing = moment_at(seats, place, now)?;
+        let closing = moment_at(hub, seats, place, now)?;
         let line = closing_line(alloc, seats[place].word.as_str(), closing)?;
         text.push_str(line.as_str())?;
     }
     Ok(text)
 }
 
-// The line of a client that has closed its connection, if it has.
-fn closing_line(alloc: Global, word: &str, closing: Option<CloseReason>) -> Result<String, NoMemory>
+/// The line of a client that has closed its connection, if it has.
+pub(crate) fn closing_line(
+    alloc: Global,
+    word: &str,
+    closing: Option<CloseReason>,
+) -> Result<String, NoMemory>
     ensures { IfOk result (λ text. string_bytes text ≡ closing_text word.now closing) }
 {
     match closing {
@@ -171,6 +226,13 @@ fn open_text(alloc: Global, word: &str) -> Result<String, NoMemory>
     ensures { IfOk result (λ text. string_bytes text ≡ codes "open " ++ (word.now ++ 10 ∷ [])) }
 {
     format!(in alloc; "open {word}\n")
+}
+
+/// The line of a client, or a peer, for which the hub has no seat.
+pub(crate) fn noseat_text(alloc: Global, word: &str) -> Result<String, NoMemory>
+    ensures { IfOk result (λ text. string_bytes text ≡ codes "noseat " ++ (word.now ++ 10 ∷ [])) }
+{
+    format!(in alloc; "noseat {word}\n")
 }
 
 fn closed_text(alloc: Global, word: &str, words: &str) -> Result<String, NoMemory>

@@ -1,15 +1,24 @@
 //! The words of a script's clients, which its peers do not have.
 
-ghost use Rattle.std.specs.Prelude.{◌≡◌, ◌++◌, ◌||◌, map, option_map, IfOk, OnOk, string_bytes};
-ghost use Rattle.replay.specs.Scripts.{client_word, client_words, lines_read, is_among, is_peer};
+ghost use Rattle.std.specs.Prelude.{◌≡◌, ◌++◌, ◌∷◌, [], ◌||◌, Some, false, is_some, map, option_map, IfOk, OnOk, string_bytes};
+ghost use Rattle.replay.specs.Scripts.{client_words, lines_read, is_among, is_peer};
 ghost use Rattle.replay.specs.KeptLines.{event_said};
-ghost use Rattle.replay.specs.Drafts.{client_in, in_list, may_happen, is_client_of, has_client};
+ghost use Rattle.replay.specs.Drafts.{client_in, client_added, in_list, known_clients, lone_in, is_hub_client_in, is_lone_client_in, may_happen, is_client_of, has_client};
 
 use crate::line::Event;
 use crate::line_words::plain_word;
 use crate::text_lines::{is_outside, is_too_long, split_line};
 use push_base::NoMemory;
 use std::alloc::Global;
+
+/// A client that there is: its word, and whether it is a lone one.
+#[derive(Debug, Drop)]
+pub(crate) struct KnownClient {
+    /// Its word.
+    pub word: String,
+    /// Whether its connections lead to no hub.
+    pub is_lone: bool,
+}
 
 /// The words of all clients that a script has, in the order of their lines.
 pub(crate) fn client_words(alloc: Global, octets: &[u8]) -> Result<Vec<String>, NoMemory>
@@ -57,45 +66,108 @@ fn client_in(alloc: Global, line: &[u8]) -> Result<Option<String>, NoMemory>
 
 /// Whether the word of an event, if it has one, may stand there: a peer has a word that no client has anywhere, one more
 /// client a word that none has yet, and a client that is spoken of one that there is.
-pub(crate) fn may_happen(all: &[String], clients: &[String], event: &Event) -> bool
-    ensures { result ≡ may_happen (map (λ w. string_bytes w) all.now) (map (λ w. string_bytes w) clients.now) event.now }
+pub(crate) fn may_happen(all: &[String], clients: &[KnownClient], event: &Event) -> bool
+    ensures { result ≡ may_happen (map (λ w. string_bytes w) all.now) (known_clients clients.now) event.now }
 {
     match event {
         Event::Update(_) | Event::Point | Event::At(_) => true,
         Event::Send(sent) => !has_client(all, sent.word.as_bytes()),
-        Event::Stop(stopping) => !has_client(all, stopping.word.as_bytes()),
+        Event::Stop(stopping) => may_be_stopped(all, clients, stopping.word.as_bytes()),
         Event::Cut(cutting) => may_be_cut(all, clients, cutting.word.as_bytes()),
-        Event::Lone(lone) => !has_client(clients, lone.word.as_bytes()),
-        Event::Ask(asking) => has_client(clients, asking.word.as_bytes()),
-        Event::Drop(asking) => has_client(clients, asking.word.as_bytes()),
-        Event::Open(opening) => has_client(clients, opening.word.as_bytes()),
+        Event::Client(joining) => !is_known(clients, joining.word.as_bytes()),
+        Event::Lone(lone) => !is_known(clients, lone.word.as_bytes()),
+        Event::Ask(asking) => is_known(clients, asking.word.as_bytes()),
+        Event::Drop(asking) => is_known(clients, asking.word.as_bytes()),
+        Event::Open(opening) => is_known(clients, opening.word.as_bytes()),
+        Event::Settle(settling) => is_known(clients, settling.word.as_bytes()),
+        Event::Feed(sent) => is_lone_client(clients, sent.word.as_bytes()),
+        Event::Show(showing) => is_known(clients, showing.word.as_bytes()),
     }
 }
 
 // Whether a word is that of a client that there is, or of a peer.
-fn may_be_cut(all: &[String], clients: &[String], word: &[u8]) -> bool
-    ensures { result ≡ (is_among (map (λ w. string_bytes w) clients.now) word.now || is_peer (map (λ w. string_bytes w) all.now) word.now) }
+fn may_be_cut(all: &[String], clients: &[KnownClient], word: &[u8]) -> bool
+    ensures { result ≡ (is_some (lone_in (known_clients clients.now) word.now) || is_peer (map (λ w. string_bytes w) all.now) word.now) }
 {
-    has_client(clients, word) || !has_client(all, word)
+    is_known(clients, word) || !has_client(all, word)
+}
+
+// Whether a word is that of a client of the hub, or of a peer.
+fn may_be_stopped(all: &[String], clients: &[KnownClient], word: &[u8]) -> bool
+    ensures { result ≡ (is_hub_client_in (known_clients clients.now) word.now || is_peer (map (λ w. string_bytes w) all.now) word.now) }
+{
+    is_hub_client(clients, word) || !has_client(all, word)
+}
+
+// Whether a word is that of a client that there is.
+fn is_known(clients: &[KnownClient], word: &[u8]) -> bool
+    ensures { result ≡ is_some (lone_in (known_clients clients.now) word.now) }
+{
+    lone_of(clients, word).is_some()
+}
+
+// Whether a word is that of a client of the hub.
+fn is_hub_client(clients: &[KnownClient], word: &[u8]) -> bool
+    ensures { result ≡ is_hub_client_in (known_clients clients.now) word.now }
+{
+    match lone_of(clients, word) {
+        None => false,
+        Some(is_lone) => !is_lone,
+    }
+}
+
+// Whether a word is that of a lone client.
+fn is_lone_client(clients: &[KnownClient], word: &[u8]) -> bool
+    ensures { result ≡ is_lone_client_in (known_clients clients.now) word.now }
+{
+    match lone_of(clients, word) {
+        None => false,
+        Some(is_lone) => is_lone,
+    }
+}
+
+// Whether the client of a word is a lone one, if there is one.
+fn lone_of(clients: &[KnownClient], word: &[u8]) -> Option<bool>
+    ensures { result ≡ lone_in (known_clients clients.now) word.now }
+{
+    'clients: for client in clients {
+        if is_client(&client.word, word) {
+            return Some(client.is_lone);
+        }
+    }
+    None
 }
 
 /// The word of the client that an event adds, if it adds one, goes to those that there are.
 pub(crate) fn add_seat(
     alloc: Global,
     event: &Event,
-    clients: &mut Vec<String>,
+    clients: &mut Vec<KnownClient>,
 ) -> Result<(), NoMemory>
-    ensures { OnOk result (map (λ w. string_bytes w) clients.new.items ≡ map (λ w. string_bytes w) clients.old.items ++ in_list (client_word (event_said event.now))) }
+    ensures { OnOk result (known_clients clients.new.items ≡ known_clients clients.old.items ++ client_added (event_said event.now)) }
 {
     match event {
-        Event::Lone(lone) => {
-            clients.push(String::from_str(alloc, lone.word.as_str())?)?;
-            Ok(())
-        }
+        Event::Client(joining) => push_client(alloc, joining.word.as_str(), false, clients),
+        Event::Lone(lone) => push_client(alloc, lone.word.as_str(), true, clients),
         Event::Update(_) | Event::Point | Event::At(_) => Ok(()),
         Event::Send(_) | Event::Stop(_) | Event::Cut(_) => Ok(()),
-        Event::Ask(_) | Event::Drop(_) | Event::Open(_) => Ok(()),
+        Event::Ask(_) | Event::Drop(_) | Event::Open(_) | Event::Settle(_) => Ok(()),
+        Event::Feed(_) | Event::Show(_) => Ok(()),
     }
+}
+
+// One client more.
+fn push_client(
+    alloc: Global,
+    word: &str,
+    is_lone: bool,
+    clients: &mut Vec<KnownClient>,
+) -> Result<(), NoMemory>
+    ensures { OnOk result (known_clients clients.new.items ≡ known_clients clients.old.items ++ (word.now, is_lone) ∷ []) }
+{
+    let word = String::from_str(alloc, word)?;
+    clients.push(KnownClient { word, is_lone })?;
+    Ok(())
 }
 
 // Whether one of the clients has that word.

@@ -1,26 +1,31 @@
 //! The lines that events print.
 
 ghost use Rattle.std.specs.Prelude.{◌≡◌, ◌++◌, ◌∷◌, [], codes, decimal, IfOk, string_bytes};
-ghost use Rattle.replay.specs.TextWords.{by_history, end_words, octets_text};
+ghost use Rattle.replay.specs.TextWords.{by_notices, end_words, octets_text};
 ghost use Rattle.replay.specs.Text.{cuts, exchanges, line_does, moments, printing, sends, stops, updates};
 ghost use Rattle.pushserver.specs.Hubs.{newest, now};
+ghost use Rattle.pushserver.specs.KeptHubs.{StandsFor};
+ghost use Rattle.pushserver.specs.PlainHubs.{Hub as PlainHub};
 ghost use Rattle.replay.specs.KeptLines.{event_said};
 ghost use Rattle.replay.specs.KeptWorlds.{Does, parties_of};
-ghost use Rattle.replay.specs.KeptSeats.{TimesWorld};
+ghost use Rattle.replay.specs.KeptSeats.{TimesWorld, stopped_hub};
 
-use crate::client_lines::{ask_line, drop_line, lone_line, open_line, timed_lines};
+use crate::client_lines::{ask_line, client_line, drop_line, noseat_text, open_line, timed_lines};
 use crate::exchanging::{Exchanged, exchange};
+use crate::feed_lines::feed_lines;
 use crate::line::Event;
-use crate::seats::{cut_at, place_of};
+use crate::seats::{cut_at, place_of, session_at};
+use crate::settle_lines::settle_line;
+use crate::show_lines::show_lines;
 use crate::world::{Peer, World};
 use dsosession::session::EndReason;
 use push_base::{NoMemory, hex_text};
-use pushserver::{ConnectFault, HubFault};
+use pushserver::{ConnectFault, Hub, HubFault};
 use std::alloc::Global;
 
 /// What an event prints, each line with its end.
 pub fn event_line(alloc: Global, world: &mut World, event: &Event) -> Result<String, NoMemory>
-    ensures { IfOk result (λ text. Does (line_does by_history (event_said event.now)) world.old (string_bytes text) world.new) }
+    ensures { IfOk result (λ text. Does (line_does by_notices (event_said event.now)) world.old (string_bytes text) world.new) }
 {
     match event {
         Event::Update(message) => update_line(alloc, world, message.as_slice()),
@@ -34,10 +39,16 @@ pub fn event_line(alloc: Global, world: &mut World, event: &Event) -> Result<Str
             stop_line(alloc, world, word, stopping.rcode, stopping.delay)
         }
         Event::Cut(cutting) => cut_line(alloc, world, cutting.word.as_str()),
-        Event::Lone(lone) => lone_line(alloc, world, lone.word.as_str()),
+        Event::Client(joining) => client_line(alloc, world, joining.word.as_str(), false),
+        Event::Lone(lone) => client_line(alloc, world, lone.word.as_str(), true),
         Event::Ask(asking) => ask_line(alloc, world, asking.word.as_str(), &asking.question),
         Event::Drop(asking) => drop_line(alloc, world, asking.word.as_str(), &asking.question),
         Event::Open(opening) => open_line(alloc, world, opening.word.as_str()),
+        Event::Feed(sent) => {
+            feed_lines(alloc, world, sent.word.as_str(), sent.octets.as_slice())
+        }
+        Event::Show(showing) => show_lines(alloc, world, showing),
+        Event::Settle(settling) => settle_line(alloc, world, settling.word.as_str()),
     }
 }
 
@@ -78,11 +89,11 @@ fn clients_timed(alloc: Global, world: &mut World, text: String) -> Result<Strin
     ensures { IfOk result (λ told. TimesWorld world.old.hub (parties_of world.old) (string_bytes text) world.new.hub (parties_of world.new) (string_bytes told)) }
 {
     let now = world.hub.now();
-    let told = timed_lines(alloc, &mut world.seats, now, text)?;
+    let told = timed_lines(alloc, &mut world.hub, &mut world.seats, now, text)?;
     Ok(told)
 }
 
-// The session of a peer is asked to stop; a lone client has none.
+// The session of a client is asked to stop, or else that of a peer.
 fn stop_line(
     alloc: Global,
     world: &mut World,
@@ -93,11 +104,24 @@ fn stop_line(
     ensures { IfOk result (λ text. Does (stops word.now rcode delay) world.old (string_bytes text) world.new) }
 {
     match place_of(&world.seats, word) {
-        Some(_) => stop_text(alloc, word),
+        Some(place) => {
+            let session = session_at(&world.seats, place);
+            stop_session(&mut world.hub, session, rcode, delay);
+            stop_text(alloc, word)
+        }
         None => {
             world.stop(word, rcode, delay);
             stop_text(alloc, word)
         }
+    }
+}
+
+// A session is asked to stop, if there is one.
+fn stop_session(hub: &mut Hub, session: Option<u64>, rcode: u8, delay: u32)
+    ensures { (plain : PlainHub) → StandsFor hub.old plain → StandsFor hub.new (stopped_hub session rcode delay plain) }
+{
+    if let Some(session) = session {
+        hub.stop(session, rcode, delay);
     }
 }
 
@@ -107,7 +131,7 @@ fn cut_line(alloc: Global, world: &mut World, word: &str) -> Result<String, NoMe
 {
     match place_of(&world.seats, word) {
         Some(place) => {
-            cut_at(&mut world.seats, place);
+            cut_at(&mut world.hub, &mut world.seats, place);
             cut_text(alloc, word)
         }
         None => {
@@ -164,8 +188,8 @@ fn exchange_lines(
     }
 }
 
-// The line of the octets that come back.
-fn bytes_line(alloc: Global, word: &str, octets: &[u8]) -> Result<String, NoMemory>
+/// The line of the octets that come back.
+pub(crate) fn bytes_line(alloc: Global, word: &str, octets: &[u8]) -> Result<String, NoMemory>
     ensures { IfOk result (λ text. string_bytes text ≡ codes "bytes " ++ (word.now ++ 32 ∷ (octets_text octets.now ++ 10 ∷ []))) }
 {
     let digits = octets_text(alloc, octets)?;
@@ -217,14 +241,8 @@ fn cut_text(alloc: Global, word: &str) -> Result<String, NoMemory>
     format!(in alloc; "cut {word}\n")
 }
 
-fn noseat_text(alloc: Global, word: &str) -> Result<String, NoMemory>
-    ensures { IfOk result (λ text. string_bytes text ≡ codes "noseat " ++ (word.now ++ 10 ∷ [])) }
-{
-    format!(in alloc; "noseat {word}\n")
-}
-
-// Octets in hexadecimal, and `-` for none.
-fn octets_text(alloc: Global, octets: &[u8]) -> Result<String, NoMemory>
+/// Octets in hexadecimal, and `-` for none.
+pub(crate) fn octets_text(alloc: Global, octets: &[u8]) -> Result<String, NoMemory>
     ensures { IfOk result (λ text. string_bytes text ≡ octets_text octets.now) }
 {
     if octets.is_empty() {
@@ -240,14 +258,15 @@ fn bytes_text(alloc: Global, word: &str, digits: &str) -> Result<String, NoMemor
     format!(in alloc; "bytes {word} {digits}\n")
 }
 
-fn end_text(alloc: Global, word: &str, words: &str) -> Result<String, NoMemory>
+/// The line of the end of a session.
+pub(crate) fn end_text(alloc: Global, word: &str, words: &str) -> Result<String, NoMemory>
     ensures { IfOk result (λ text. string_bytes text ≡ codes "end " ++ (word.now ++ 32 ∷ (words.now ++ 10 ∷ []))) }
 {
     format!(in alloc; "end {word} {words}\n")
 }
 
-// The words of the reason of an end.
-fn end_words(alloc: Global, reason: EndReason) -> Result<String, NoMemory>
+/// The words of the reason of an end.
+pub(crate) fn end_words(alloc: Global, reason: EndReason) -> Result<String, NoMemory>
     ensures { IfOk result (λ text. string_bytes text ≡ end_words reason) }
 {
     match reason {

@@ -1,10 +1,13 @@
-//! Octets to the session of a peer, and back.
+//! What a session has to say, and octets to the session of a peer and back.
 
-ghost use Rattle.std.specs.Prelude.{◌≡◌, ◌==◌, ◌||◌, ◌≤◌, ◌<◌, ◌^◌, nat_le, false, length, IfOk};
+ghost use Rattle.std.specs.Prelude.{◌≡◌, ◌==◌, ◌||◌, ◌≤◌, ◌<◌, ◌-◌, ◌^◌, nat_le, false, length, min, IfOk, OnOk};
 ghost use Rattle.coalesce.specs.Sides.{frame_octets};
 ghost use Rattle.pushserver.specs.Counting.{octets_of};
-ghost use Rattle.replay.specs.KeptExchanges.{turn_of, written, Gives, Emits, Exchanges};
+ghost use Rattle.pushserver.specs.PlainHubs.{Hub as PlainHub};
+ghost use Rattle.pushserver.specs.KeptHubs.{StandsFor};
+ghost use Rattle.replay.specs.KeptExchanges.{has_worked, turn_of, written, Gives, Emits, Exchanges, Remembers};
 
+use crate::filling::put_in_front;
 use coalesce::MAX_FRAME;
 use dsosession::session::EndReason;
 use push_base::NoMemory;
@@ -17,6 +20,15 @@ use std::alloc::Global;
 pub struct Exchanged {
     /// The octets that came back.
     pub octets: Vec<u8>,
+    /// Why the session ended, if its end was told.
+    pub over: Option<EndReason>,
+}
+
+/// Whether a session reacted to a message without octets, and its end, if it was told.
+#[derive(Clone, Copy)]
+pub struct Emission {
+    /// Whether a message, or a stop, was reacted to without octets.
+    pub reacted: bool,
     /// Why the session ended, if its end was told.
     pub over: Option<EndReason>,
 }
@@ -59,7 +71,10 @@ fn exchange_over(
     let mut left = u64::MAX;
     'rounds: loop {
         let count = hub.take(session, rest);
-        let over = emit(hub, session, buffer, &mut answer)?;
+        // A peer asks nothing of first answers.
+        let mut filled = Vec::new(alloc);
+        let emission = emit(hub, session, u64::MAX, buffer, &mut answer, &mut filled)?;
+        let over = emission.over;
         if is_done(count, rest.len()) {
             return Ok(Exchanged {
                 octets: answer,
@@ -85,27 +100,81 @@ fn is_done(count: usize, size: usize) -> bool
     count == 0 || count >= size
 }
 
-// What a session has to say, until it has nothing more to say or has ended.
-fn emit(
+/// What a session has to say, until so many octets came, or it has nothing more to say or has ended. Where the first
+/// answers of its questions end is noted behind each call.
+pub(crate) fn emit(
     hub: &mut Hub,
     session: u64,
+    most: u64,
     buffer: &mut [u8],
     octets: &mut Vec<u8>,
-) -> Result<Option<EndReason>, NoMemory>
-    requires { length buffer.old ≡ frame_octets }
-    ensures { IfOk result (λ over. Emits hub.old session octets.old.items hub.new octets.new.items over) }
+    filled: &mut Vec<(u16, u64)>,
+) -> Result<Emission, NoMemory>
+    requires { frame_octets ≤ length buffer.old }
+    ensures { IfOk result (λ emission. Emits most hub.old session octets.old.items filled.old.items hub.new octets.new.items filled.new.items emission) }
 {
     kept_hubs_stand();
+    let mut reacted = false;
+    let mut budget = most;
     let mut left = u64::MAX;
     'turns: loop {
-        let turn = give(hub, session, buffer, octets)?;
-        if let Turn::Last(over) = turn {
-            return Ok(over);
+        if is_used_up(budget, octets) {
+            return Ok(Emission {
+                reacted,
+                over: None,
+            });
+        }
+        let room = room_for(budget, buffer.len());
+        let given = give(hub, session, &mut buffer[..room], octets, filled)?;
+        reacted = either(reacted, has_worked(given));
+        budget = left_of(budget, given);
+        if let Turn::Last(over) = turn_of(given) {
+            return Ok(Emission { reacted, over });
         }
         if left == 0 {
-            return Ok(None);
+            return Ok(Emission {
+                reacted,
+                over: None,
+            });
         }
         left -= 1;
+    }
+}
+
+// Whether no more octets may come.
+fn is_used_up(budget: u64, octets: &Vec<u8>) -> bool
+    ensures test { result ≡ (budget == 0) }
+    ensures short { length octets.now.items < 2 ^ 63 }
+{
+    budget == 0
+}
+
+// Whether either is so.
+fn either(first: bool, second: bool) -> bool
+    ensures { result ≡ (first || second) }
+{
+    first || second
+}
+
+// As many octets as may still come, and as there is room for.
+fn room_for(budget: u64, size: usize) -> usize
+    ensures { result ≡ min budget size }
+{
+    if budget < size as u64 {
+        budget as usize
+    } else {
+        size
+    }
+}
+
+// How many octets may come behind those that were copied.
+fn left_of(budget: u64, given: Given) -> u64
+    requires { octets_of given ≤ budget }
+    ensures { result ≡ budget - octets_of given }
+{
+    match given {
+        Given::Bytes(count) => budget - count as u64,
+        Given::Worked | Given::Nothing | Given::Ending | Given::End(_) => budget,
     }
 }
 
@@ -115,10 +184,11 @@ fn give(
     session: u64,
     buffer: &mut [u8],
     octets: &mut Vec<u8>,
-) -> Result<Turn, NoMemory>
-    requires { length buffer.old ≡ frame_octets }
-    ensures given { IfOk result (λ turn. Gives hub.old session octets.old.items hub.new octets.new.items turn) }
+    filled: &mut Vec<(u16, u64)>,
+) -> Result<Given, NoMemory>
+    ensures given { IfOk result (λ given. Gives (length buffer.old) hub.old session octets.old.items filled.old.items hub.new octets.new.items filled.new.items given) }
     ensures short { length octets.new.items < 2 ^ 63 }
+    ensures bound { IfOk result (λ given. octets_of given ≤ length buffer.old) }
 {
     let given = match hub.give(session, buffer) {
         Ok(given) => given,
@@ -126,7 +196,15 @@ fn give(
         Err(HubFault::Full) => unreachable!(),
     };
     octets.extend_from_slice(front_of(buffer, given))?;
-    Ok(turn_of(given))
+    remember(hub, session, filled)?;
+    Ok(given)
+}
+
+// Where the first answers of a session's questions end is noted, before what was noted earlier.
+fn remember(hub: &Hub, session: u64, filled: &mut Vec<(u16, u64)>) -> Result<(), NoMemory>
+    ensures { (plain : PlainHub) → StandsFor hub.now plain → OnOk result (Remembers plain session filled.old.items filled.new.items) }
+{
+    put_in_front(hub.all_filled(session), filled)
 }
 
 // The octets that were copied.
@@ -148,5 +226,15 @@ fn turn_of(given: Given) -> Turn
         Given::Bytes(_) | Given::Worked => Turn::More,
         Given::Nothing | Given::Ending => Turn::Last(None),
         Given::End(reason) => Turn::Last(Some(reason)),
+    }
+}
+
+// Whether a call of `give` reacted to a message, or a stop, without octets.
+fn has_worked(given: Given) -> bool
+    ensures { result ≡ has_worked given }
+{
+    match given {
+        Given::Worked => true,
+        Given::Bytes(_) | Given::Nothing | Given::Ending | Given::End(_) => false,
     }
 }

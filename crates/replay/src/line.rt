@@ -1,12 +1,12 @@
 //! The lines of a script that are built.
 
 ghost use Rattle.std.specs.Prelude.{◌≡◌, false, ◌∷◌, [], IfOk, IfSome, IfNone, None, position, ◌==◌, ◌<◌, option_map, length};
-ghost use Rattle.replay.specs.Lines.{lone, ask, drop_question, open_connection, cut, send, update, timers_line, zone_line, at_line, stop_line, of_word, of_octets, of_word_and_octets, of_word_and_question, line_of, question};
+ghost use Rattle.replay.specs.Lines.{lone, ask, drop_question, open_connection, cut, feed, send, update, timers_line, zone_line, at_line, show_line, stop_line, of_word, of_octets, of_word_and_octets, of_word_and_question, line_of, question, client, settle};
 ghost use Rattle.replay.specs.KeptLines.{said, IsSound, words_in, one_in, two_in, three_in, four_in, understood, begins_silent, kind_of, said_behind};
 
 use crate::line_words::{
     moment_of_word, name_of_word, number_of_word, octets_of_word, plain_word, rcode_of_word,
-    short_number_of_word, writable_of_word,
+    short_number_of_word, text_of_word, writable_of_word,
 };
 use dnsname::name::{Name, Octets};
 use dsosession::session::Timers;
@@ -26,12 +26,12 @@ pub struct ZoneLine {
     pub writable: bool,
 }
 
-/// The octets that a peer sends, and the peer's word.
+/// Octets, and the word of the peer that sends them, or of the lone client that gets them.
 #[derive(Debug, Drop)]
 pub struct Sent {
-    /// The peer's word.
+    /// The peer's word, or the client's.
     pub word: String,
-    /// What it sends: messages behind their lengths, or any part of that (RFC 7766, 8).
+    /// What is sent: messages behind their lengths, or any part of that (RFC 7766, 8).
     pub octets: Octets,
 }
 
@@ -54,6 +54,13 @@ pub struct Cutting {
     pub word: String,
 }
 
+/// The word of a client that there is from now on, whose connections lead to the hub.
+#[derive(Debug, Drop)]
+pub struct Joining {
+    /// The client's word.
+    pub word: String,
+}
+
 /// The word of a lone client that there is from now on.
 #[derive(Debug, Drop)]
 pub struct Alone {
@@ -70,9 +77,27 @@ pub struct Asking {
     pub question: Question,
 }
 
+/// The word of a client, and a question of which it is shown what the client knows.
+#[derive(Debug, Drop)]
+pub struct Showing {
+    /// The client's word.
+    pub word: String,
+    /// The question.
+    pub question: Question,
+    /// The question's name as it is written.
+    pub written: String,
+}
+
 /// The word of a client that opens a connection.
 #[derive(Debug, Drop)]
 pub struct Opening {
+    /// The client's word.
+    pub word: String,
+}
+
+/// The word of a client whose octets go to its session and back until nothing moves.
+#[derive(Debug, Drop)]
+pub struct Settling {
     /// The client's word.
     pub word: String,
 }
@@ -92,6 +117,8 @@ pub enum Event {
     Stop(Stopping),
     /// A peer's connection is cut, or a client's.
     Cut(Cutting),
+    /// There is one client more, whose connections lead to the hub.
+    Client(Joining),
     /// There is one client more, whose connections lead to no hub.
     Lone(Alone),
     /// A client asks a question (RFC 8765, 6.2).
@@ -100,6 +127,12 @@ pub enum Event {
     Drop(Asking),
     /// A client opens a connection.
     Open(Opening),
+    /// A lone client gets octets.
+    Feed(Sent),
+    /// What a client knows of a question is shown.
+    Show(Showing),
+    /// A client's octets go to its session and back until nothing moves.
+    Settle(Settling),
 }
 
 /// A line of a script that is built.
@@ -126,10 +159,14 @@ enum Kind {
     Send,
     Stop,
     Point,
+    Client,
     Lone,
     Ask,
     Drop,
     Open,
+    Feed,
+    Show,
+    Settle,
     Other,
 }
 
@@ -188,6 +225,8 @@ fn kind_of(word: &[u8]) -> Kind
         Kind::Stop
     } else if word == b"point".as_slice() {
         Kind::Point
+    } else if word == b"client".as_slice() {
+        Kind::Client
     } else if word == b"lone".as_slice() {
         Kind::Lone
     } else if word == b"ask".as_slice() {
@@ -196,6 +235,12 @@ fn kind_of(word: &[u8]) -> Kind
         Kind::Drop
     } else if word == b"open".as_slice() {
         Kind::Open
+    } else if word == b"feed".as_slice() {
+        Kind::Feed
+    } else if word == b"show".as_slice() {
+        Kind::Show
+    } else if word == b"settle".as_slice() {
+        Kind::Settle
     } else {
         Kind::Other
     }
@@ -210,7 +255,9 @@ fn single_word(kind: Kind) -> Option<Line>
         Kind::Point => Some(Line::Event(Event::Point)),
         Kind::Timers | Kind::Zone | Kind::At | Kind::Update => None,
         Kind::Cut | Kind::Send | Kind::Stop | Kind::Other => None,
-        Kind::Lone | Kind::Ask | Kind::Drop | Kind::Open => None,
+        Kind::Client | Kind::Lone | Kind::Ask | Kind::Drop => None,
+        Kind::Open | Kind::Settle => None,
+        Kind::Feed | Kind::Show => None,
     }
 }
 
@@ -227,10 +274,14 @@ fn longer_line(alloc: Global, kind: Kind, text: &[u8]) -> Result<Option<Line>, N
         Kind::Cut => cut_line(alloc, text),
         Kind::Send => send_line(alloc, text),
         Kind::Stop => stop_line(alloc, text),
+        Kind::Client => client_line(alloc, text),
         Kind::Lone => lone_line(alloc, text),
         Kind::Ask => ask_line(alloc, text),
         Kind::Drop => drop_line(alloc, text),
         Kind::Open => open_line(alloc, text),
+        Kind::Feed => feed_line(alloc, text),
+        Kind::Show => show_line(alloc, text),
+        Kind::Settle => settle_line(alloc, text),
         Kind::Point | Kind::Other => Ok(None),
     }
 }
@@ -351,6 +402,20 @@ fn stop_line(alloc: Global, text: &[u8]) -> Result<Option<Line>, NoMemory>
     Ok(Some(Line::Event(Event::Stop(Stopping { word, rcode, delay }))))
 }
 
+// What follows the first word of a line of a client of the hub: its word.
+fn client_line(alloc: Global, text: &[u8]) -> Result<Option<Line>, NoMemory>
+    ensures exact { IfOk result (λ found. option_map (λ l. said l) found ≡ of_word client (words_in text.now)) }
+    ensures sound { IfOk result (λ found. IfSome found IsSound) }
+{
+    let Some(word) = one_word(text) else {
+        return Ok(None);
+    };
+    let Some(word) = plain_word(alloc, word)? else {
+        return Ok(None);
+    };
+    Ok(Some(Line::Event(Event::Client(Joining { word }))))
+}
+
 // What follows the first word of a line of a lone client: its word.
 fn lone_line(alloc: Global, text: &[u8]) -> Result<Option<Line>, NoMemory>
     ensures exact { IfOk result (λ found. option_map (λ l. said l) found ≡ of_word lone (words_in text.now)) }
@@ -377,6 +442,20 @@ fn open_line(alloc: Global, text: &[u8]) -> Result<Option<Line>, NoMemory>
         return Ok(None);
     };
     Ok(Some(Line::Event(Event::Open(Opening { word }))))
+}
+
+// What follows the first word of a line that settles: the client's word.
+fn settle_line(alloc: Global, text: &[u8]) -> Result<Option<Line>, NoMemory>
+    ensures exact { IfOk result (λ found. option_map (λ l. said l) found ≡ of_word settle (words_in text.now)) }
+    ensures sound { IfOk result (λ found. IfSome found IsSound) }
+{
+    let Some(word) = one_word(text) else {
+        return Ok(None);
+    };
+    let Some(word) = plain_word(alloc, word)? else {
+        return Ok(None);
+    };
+    Ok(Some(Line::Event(Event::Settle(Settling { word }))))
 }
 
 // What follows the first word of a line that asks: the client's word, and the question.
@@ -411,6 +490,47 @@ fn drop_line(alloc: Global, text: &[u8]) -> Result<Option<Line>, NoMemory>
         return Ok(None);
     };
     Ok(Some(Line::Event(Event::Drop(Asking { word, question }))))
+}
+
+// What follows the first word of a feed line: the client's word, and the octets.
+fn feed_line(alloc: Global, text: &[u8]) -> Result<Option<Line>, NoMemory>
+    ensures exact { IfOk result (λ found. option_map (λ l. said l) found ≡ of_word_and_octets feed (words_in text.now)) }
+    ensures sound { IfOk result (λ found. IfSome found IsSound) }
+{
+    let Some((word, octets)) = two_words(text) else {
+        return Ok(None);
+    };
+    let Some(word) = plain_word(alloc, word)? else {
+        return Ok(None);
+    };
+    let Some(octets) = octets_of_word(alloc, octets)? else {
+        return Ok(None);
+    };
+    Ok(Some(Line::Event(Event::Feed(Sent { word, octets }))))
+}
+
+// What follows the first word of a line that shows what a client knows: the client's word, and the question.
+fn show_line(alloc: Global, text: &[u8]) -> Result<Option<Line>, NoMemory>
+    ensures exact { IfOk result (λ found. option_map (λ l. said l) found ≡ show_line (words_in text.now)) }
+    ensures sound { IfOk result (λ found. IfSome found IsSound) }
+{
+    let Some((word, name, kind, class)) = four_words(text) else {
+        return Ok(None);
+    };
+    let Some(word) = plain_word(alloc, word)? else {
+        return Ok(None);
+    };
+    let Some(question) = question_of(alloc, name, kind, class)? else {
+        return Ok(None);
+    };
+    let Some(written) = text_of_word(alloc, name)? else {
+        return Ok(None);
+    };
+    Ok(Some(Line::Event(Event::Show(Showing {
+        word,
+        question,
+        written,
+    }))))
 }
 
 // The question that three words are: its name, its TYPE and its CLASS.

@@ -1,6 +1,6 @@
 //! The words of a script's lines.
 
-ghost use Rattle.std.specs.Prelude.{◌≡◌, ◌≤◌, ◌<◌, ◌*◌, length, IfOk, IfSome, option_map, string_bytes};
+ghost use Rattle.std.specs.Prelude.{◌≡◌, ◌≤◌, ◌<◌, ◌*◌, length, None, IfOk, IfNone, IfSome, option_map, string_bytes};
 ghost use Rattle.dnsname.specs.Text.{name_of_text};
 ghost use Rattle.std.specs.List.{list_all};
 ghost use Rattle.std.specs.Result.{result_ok};
@@ -40,6 +40,17 @@ pub(crate) fn name_of_word(alloc: Global, text: &[u8]) -> Result<Option<Name>, N
         Err(TextFault::Form) => Ok(None),
         Err(TextFault::NoMemory) => Err(NoMemory),
     }
+}
+
+/// A word as text, where it is UTF-8, as each name's is.
+pub(crate) fn text_of_word(alloc: Global, text: &[u8]) -> Result<Option<String>, NoMemory>
+    ensures text { IfOk result (λ found. IfSome found (λ copy. string_bytes copy ≡ text.now)) }
+    ensures none { IfOk result (λ found. IfNone found (name_of_text text.now ≡ None)) }
+{
+    let Ok(text) = str::from_utf8(text) else {
+        return Ok(None);
+    };
+    Ok(Some(String::from_str(alloc, text)?))
 }
 
 /// The octets that a word stands for: two hexadecimal digits for each, or `-` for none.

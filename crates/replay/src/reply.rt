@@ -1,35 +1,44 @@
 //! What a script is answered.
 
-ghost use Rattle.std.specs.Prelude.{◌≡◌, ◌⊎◌, IfOk, string_bytes};
+ghost use Rattle.std.specs.Prelude.{◌≡◌, ◌⊎◌, IfOk, IfSome, string_bytes};
+ghost use Rattle.replay.specs.TextWords.{by_notices};
 ghost use Rattle.replay.specs.BuiltScripts.{later, reply_to_script};
+ghost use Rattle.replay.specs.KeptEnds.{AreEnds, EndsWhenDone};
 ghost use Rattle.replay.specs.Outcomes.{reply_of};
 
+use crate::ends::{Ends, ends_of};
 use crate::outcome::Outcome;
 use crate::script::{ReadScript, read_script_lines};
-use crate::script_text::script_text;
+use crate::script_text::{Played, script_text};
 use push_base::NoMemory;
 use std::alloc::Global;
 
-/// How a replay ends if all goes well, and the text that is then written.
+/// How a replay ends if all goes well, the text that is then written, and what the script leaves.
 #[derive(Drop)]
 pub struct Reply {
     /// `Done` or `Later`.
     pub outcome: Outcome,
     /// What is written.
     pub text: String,
+    /// The hub and the clients, where the script was run.
+    pub ends: Option<Ends>,
 }
 
 /// The text of the script, or the first line that isn't built.
 pub fn reply_to(alloc: Global, octets: &[u8]) -> Result<Reply, NoMemory>
-    ensures exact { IfOk result (λ reply. reply_of reply ≡ reply_to_script octets.now) }
+    ensures exact { IfOk result (λ reply. reply_of reply ≡ reply_to_script by_notices octets.now) }
     ensures outcome { IfOk result (λ reply. (reply.outcome ≡ Outcome.Done) ⊎ (reply.outcome ≡ Outcome.Later)) }
+    ensures there { IfOk result (λ reply. EndsWhenDone reply.outcome reply.ends) }
+    ensures ends { IfOk result (λ reply. IfSome reply.ends (AreEnds octets.now)) }
 {
     match read_script_lines(alloc, octets)? {
         ReadScript::Built(script) => {
-            let text = script_text(alloc, script)?;
+            let Played { text, world } = script_text(alloc, script)?;
+            let ends = ends_of(alloc, world)?;
             Ok(Reply {
                 outcome: Outcome::Done,
                 text,
+                ends: Some(ends),
             })
         }
         ReadScript::Later(number) => {
@@ -37,6 +46,7 @@ pub fn reply_to(alloc: Global, octets: &[u8]) -> Result<Reply, NoMemory>
             Ok(Reply {
                 outcome: Outcome::Later,
                 text,
+                ends: None,
             })
         }
     }

@@ -7,7 +7,7 @@ ghost use Rattle.replay.specs.declared.line.Line.TheVariants as lines;
 ghost use Rattle.replay.specs.KeptScripts.{ReadsAs};
 ghost use Rattle.replay.specs.Drafts.{TakesLine};
 
-use crate::clients::{add_seat, client_words, may_happen};
+use crate::clients::{KnownClient, add_seat, client_words, may_happen};
 use crate::line::{Event, Line, ZoneLine, read_line};
 use crate::text_lines::{is_outside, is_too_long, split_line};
 use dsosession::session::Timers;
@@ -38,13 +38,13 @@ pub enum ReadScript {
     Later(usize),
 }
 
-// What was read of a script so far, with the words of the clients that there are; no timers where no line has said them.
+// What was read of a script so far, with the clients that there are; no timers where no line has said them.
 #[derive(Drop)]
 struct Draft {
     timers: Option<Timers>,
     homes: Homes,
     events: Vec<Event>,
-    clients: Vec<String>,
+    clients: Vec<KnownClient>,
 }
 
 /// Reads a script: all of it where each line is built, and else the number of the first line that isn't built or

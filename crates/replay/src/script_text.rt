@@ -1,12 +1,12 @@
-//! The text of a script.
+//! The text of a script, and the world that it leaves.
 
 ghost use Rattle.std.specs.Prelude.{◌≡◌, IfOk, string_bytes};
 ghost use Rattle.history.specs.Keeping.{state_of};
 ghost use Rattle.history.specs.Plans.{IsStart};
-ghost use Rattle.replay.specs.TextWords.{by_history};
-ghost use Rattle.replay.specs.Text.{ended_lines, printed_by};
+ghost use Rattle.replay.specs.TextWords.{by_notices};
+ghost use Rattle.replay.specs.Text.{ended_lines, printed_by, world_after};
 ghost use Rattle.replay.specs.KeptScripts.{events_said, seats_named, world_at_start};
-ghost use Rattle.replay.specs.KeptWorlds.{AreDistinct};
+ghost use Rattle.replay.specs.KeptWorlds.{AreDistinct, IsWorld};
 
 use crate::event_lines::event_line;
 use crate::script::Script;
@@ -14,11 +14,21 @@ use crate::world::World;
 use push_base::NoMemory;
 use std::alloc::Global;
 
-/// The text of a script whose lines are built: what its events print, one behind another.
-pub fn script_text(alloc: Global, script: Script) -> Result<String, NoMemory>
+/// The text of a script, and the world behind its last line.
+#[derive(Drop)]
+pub struct Played {
+    /// What its events print, one behind another.
+    pub text: String,
+    /// The hub, the peers and the clients.
+    pub world: World,
+}
+
+/// Runs a script whose lines are built.
+pub fn script_text(alloc: Global, script: Script) -> Result<Played, NoMemory>
     requires start { IsStart (state_of script.homes) }
     requires distinct { AreDistinct (seats_named (events_said script.events.items)) }
-    ensures { IfOk result (λ text. string_bytes text ≡ ended_lines (printed_by by_history (events_said script.events.items) (world_at_start script))) }
+    ensures text { IfOk result (λ played. string_bytes played.text ≡ ended_lines (printed_by by_notices (events_said script.events.items) (world_at_start script))) }
+    ensures world { IfOk result (λ played. IsWorld played.world (world_after (events_said script.events.items) (world_at_start script))) }
 {
     let Script {
         timers,
@@ -31,5 +41,5 @@ pub fn script_text(alloc: Global, script: Script) -> Result<String, NoMemory>
         let line = event_line(alloc, &mut world, event)?;
         text.push_str(line.as_str())?;
     }
-    Ok(text)
+    Ok(Played { text, world })
 }

@@ -13,7 +13,8 @@ use Rattle.std.proofs.lemmas.List.Sorted.{searchable_from_sorted}
 use Rattle.std.proofs.lemmas.List.{take_more}
 use Rattle.std.proofs.lemmas.List.Sums.{sum_by_push}
 use Rattle.rrset.specs.Records.{key_cmp, same_key, rr_of, rr_size}
-use Rattle.rrset.specs.RecordSet.{RecordSet, is_in_order, put, without, size_of}
+use Rattle.rrset.specs.RecordSet.{RecordSet, size_of}
+use Rattle.rrset.specs.KeyedRows.{Rows, is_rising, put_row, without_rows}
 use Rattle.rrset.specs.Tables.{HasLowerOwner, HaveLowerOwners, IsAt, IsGapFor, counted}
 use Rattle.rrset.specs.declared.record.Key.{Key}
 use Rattle.rrset.specs.declared.record.Shown.{Shown}
@@ -27,76 +28,77 @@ is_true : (b : Bool) → T b → b ≡ true
 is_true true h = refl
 is_true false h = absurd h
 
--- what a table's rows are
-abbrev pub AreRows : RecordSet → Type 0
-AreRows rows = (is_in_order rows ≡ true) × HaveLowerOwners rows
+module _ {X : Type 0} where
+  -- what a table's rows are
+  abbrev pub AreRows : Rows X → Type 0
+  AreRows rows = (is_rising rows ≡ true) × HaveLowerOwners rows
 
--- ---- a search
+  -- ---- a search
 
-keys_rise_to : (key : Key) (rows : RecordSet) → AreRows rows → IsNonDecreasingBy (λ e. ordering_index (key_cmp e.0 key)) rows
-keys_rise_to key rows are =
-    searchable_from_sorted key_cmp_total (λ (e : Key × Shown). e.0) rows key
-    (sorted_by key_cmp_total key_cmp key_cmp_total (λ e. e.0) (λ a b e. ap is_gt e) rows (is_T _ are.0))
+  keys_rise_to : (key : Key) (rows : Rows X) → AreRows rows → IsNonDecreasingBy (λ e. ordering_index (key_cmp e.0 key)) rows
+  keys_rise_to key rows are =
+      searchable_from_sorted key_cmp_total (λ (e : Key × X). e.0) rows key
+      (sorted_by key_cmp_total key_cmp key_cmp_total (λ e. e.0) (λ a b e. ap is_gt e) rows (is_T _ are.0))
 
--- from the clause `position` of a search, where each call gives ord of the entry
-pub position-from_clause : {F : Type 0} {g : Mut F (Bor (Key × Shown) × Unit {0}) Ordering} {f : F} (ord : Key × Shown → Ordering) (rows : RecordSet) (r : Result ℕ ℕ)
-    → ((o : Key × Shown → Ordering) → ComputesKey g o f → IsBinarySearchResult o rows r)
-    → ((a : Bor (Key × Shown) × Unit {0}) (b : Ordering) (f' : F) → Called g f a b f' → (b ≡ ord a.0.now) × (f' ≡ f)) → IsBinarySearchResult ord rows r
-position-from_clause {g = g} {f = f} ord rows r clause h = clause ord (always_returns_same g (λ a b. b ≡ ord a.0.now) f h)
+  -- from the clause `position` of a search, where each call gives ord of the entry
+  pub position-from_clause : {F : Type 0} {g : Mut F (Bor (Key × X) × Unit {0}) Ordering} {f : F} (ord : Key × X → Ordering) (rows : Rows X) (r : Result ℕ ℕ)
+      → ((o : Key × X → Ordering) → ComputesKey g o f → IsBinarySearchResult o rows r)
+      → ((a : Bor (Key × X) × Unit {0}) (b : Ordering) (f' : F) → Called g f a b f' → (b ≡ ord a.0.now) × (f' ≡ f)) → IsBinarySearchResult ord rows r
+  position-from_clause {g = g} {f = f} ord rows r clause h = clause ord (always_returns_same g (λ a b. b ≡ ord a.0.now) f h)
 
-pub search_found : (key : Key) (rows : RecordSet) (r : Result ℕ ℕ) → IsSearchInRange r (length rows) → IsBinarySearchResult (λ e. key_cmp e.0 key) rows r → IfOk r (IsAt key rows)
-search_found key rows (Ok index) within is = record { within = within; equal = is }
-search_found key rows (Err index) within is = tt
+  pub search_found : (key : Key) (rows : Rows X) (r : Result ℕ ℕ) → IsSearchInRange r (length rows) → IsBinarySearchResult (λ e. key_cmp e.0 key) rows r → IfOk r (IsAt key rows)
+  search_found key rows (Ok index) within is = record { within = within; equal = is }
+  search_found key rows (Err index) within is = tt
 
-pub search_absent : (key : Key) (rows : RecordSet) (r : Result ℕ ℕ) → AreRows rows → IsSearchInRange r (length rows) → IsBinarySearchResult (λ e. key_cmp e.0 key) rows r → IfErr r (IsGapFor key rows)
-search_absent key rows (Ok index) are within is = tt
-search_absent key rows (Err index) are within is = record { within = within; between = is (keys_rise_to key rows are) }
+  pub search_absent : (key : Key) (rows : Rows X) (r : Result ℕ ℕ) → AreRows rows → IsSearchInRange r (length rows) → IsBinarySearchResult (λ e. key_cmp e.0 key) rows r → IfErr r (IsGapFor key rows)
+  search_absent key rows (Ok index) are within is = tt
+  search_absent key rows (Err index) are within is = record { within = within; between = is (keys_rise_to key rows are) }
 
-pub row_at : (key : Key) (rows : RecordSet) (index : ℕ) (d : Key × Shown) → AreRows rows → IsAt key rows index → StandsAt key_cmp key rows index d
-row_at key rows index d are at = stands_at key_cmp_total key rows (is_T _ are.0) index d at.within (at.equal d)
+  pub row_stands : (key : Key) (rows : Rows X) (index : ℕ) (d : Key × X) → AreRows rows → IsAt key rows index → StandsAt key_cmp key rows index d
+  row_stands key rows index d are at = stands_at key_cmp_total key rows (is_T _ are.0) index d at.within (at.equal d)
 
-pub no_row : (key : Key) (rows : RecordSet) (index : ℕ) → IsGapFor key rows index → GoesTo key_cmp key rows index
-no_row key rows index gap = goes_to key_cmp_total key rows index gap.within gap.between.0 gap.between.1
+  pub no_row : (key : Key) (rows : Rows X) (index : ℕ) → IsGapFor key rows index → GoesTo key_cmp key rows index
+  no_row key rows index gap = goes_to key_cmp_total key rows index gap.within gap.between.0 gap.between.1
 
--- ---- the rows after a change
+  -- ---- the rows after a change
 
-pub rows_chosen : (bs : List Bool) (rows : RecordSet) → AreRows rows → AreRows (items_where_true bs rows)
-rows_chosen bs rows are = (is_true _ (is_sorted-chosen key_cmp bs rows (is_T _ are.0)), all_chosen (λ e. HasLowerOwner e.0) bs rows are.1)
+  pub rows_chosen : (bs : List Bool) (rows : Rows X) → AreRows rows → AreRows (items_where_true bs rows)
+  rows_chosen bs rows are = (is_true _ (is_sorted-chosen key_cmp bs rows (is_T _ are.0)), all_chosen (λ e. HasLowerOwner e.0) bs rows are.1)
 
-rows_put : (key : Key) (shown : Shown) (rows : RecordSet) → AreRows rows → HasLowerOwner key → AreRows (put key shown rows)
-rows_put key shown rows are low = (is_true _ (is_sorted-put key_cmp key_cmp_total key shown rows (is_T _ are.0)), all_put key_cmp HasLowerOwner key shown rows low are.1)
+  rows_put : (key : Key) (value : X) (rows : Rows X) → AreRows rows → HasLowerOwner key → AreRows (put_row key value rows)
+  rows_put key value rows are low = (is_true _ (is_sorted-put key_cmp key_cmp_total key value rows (is_T _ are.0)), all_put key_cmp HasLowerOwner key value rows low are.1)
 
-rows_without : (test : Key → Bool) (rows : RecordSet) → AreRows rows → AreRows (without test rows)
-rows_without test rows are = (is_true _ (is_sorted-where_key key_cmp (λ key. not (test key)) rows (is_T _ are.0)), all_filter (λ e. HasLowerOwner e.0) (λ e. not (test e.0)) rows are.1)
+  rows_without : (test : Key → Bool) (rows : Rows X) → AreRows rows → AreRows (without_rows test rows)
+  rows_without test rows are = (is_true _ (is_sorted-where_key key_cmp (λ key. not (test key)) rows (is_T _ are.0)), all_filter (λ e. HasLowerOwner e.0) (λ e. not (test e.0)) rows are.1)
 
-pub record Puts (key : Key) (shown : Shown) (rows new : RecordSet) : Type 0 where
-  pub are : AreRows new
-  pub is : new ≡ put key shown rows
+  pub record Puts (key : Key) (value : X) (rows new : Rows X) : Type 0 where
+    pub are : AreRows new
+    pub is : new ≡ put_row key value rows
 
-puts : (key : Key) (shown : Shown) (rows new : RecordSet) → AreRows rows → HasLowerOwner key → new ≡ put key shown rows → Puts key shown rows new
-puts key shown rows new are low is = record { are = subst AreRows (sym is) (rows_put key shown rows are low); is = is }
+  puts : (key : Key) (value : X) (rows new : Rows X) → AreRows rows → HasLowerOwner key → new ≡ put_row key value rows → Puts key value rows new
+  puts key value rows new are low is = record { are = subst AreRows (sym is) (rows_put key value rows are low); is = is }
 
--- another value stands at the key's index
-pub replaced : (key : Key) (shown now : Shown) (rows new : RecordSet) (index : ℕ) (entry : Key × Shown) → AreRows rows → HasLowerOwner key → IsAt key rows index
-    → entry ≡ get_or rows index entry → now ≡ shown → new ≡ set rows index (entry.0, now) → Puts key shown rows new
-replaced key shown now rows new index entry are low at entry-is now-is new-is =
-    puts key shown rows new are low
-    (new-is ∙ ap (λ (k : Key). set rows index (k, now)) (ap (λ (e : Key × Shown). e.0) entry-is) ∙ ap (λ (s : Shown). set rows index ((get_or rows index entry).0, s)) now-is
-    ∙ sym ((row_at key rows index entry are at).puts shown))
+  -- another value stands at the key's index
+  pub replaced : (key : Key) (value now : X) (rows new : Rows X) (index : ℕ) (entry : Key × X) → AreRows rows → HasLowerOwner key → IsAt key rows index
+      → entry ≡ get_or rows index entry → now ≡ value → new ≡ set rows index (entry.0, now) → Puts key value rows new
+  replaced key value now rows new index entry are low at entry-is now-is new-is =
+      puts key value rows new are low
+      (new-is ∙ ap (λ (k : Key). set rows index (k, now)) (ap (λ (e : Key × X). e.0) entry-is) ∙ ap (λ (s : X). set rows index ((get_or rows index entry).0, s)) now-is
+      ∙ sym ((row_stands key rows index entry are at).puts value))
 
--- a new entry stands where its key goes
-pub inserted : (key : Key) (shown : Shown) (rows new : RecordSet) (index : ℕ) → AreRows rows → HasLowerOwner key → IsGapFor key rows index
-    → new ≡ insert rows index (key, shown) → Puts key shown rows new
-inserted key shown rows new index are low gap new-is = puts key shown rows new are low (new-is ∙ sym ((no_row key rows index gap).puts shown))
+  -- a new entry stands where its key goes
+  pub inserted : (key : Key) (value : X) (rows new : Rows X) (index : ℕ) → AreRows rows → HasLowerOwner key → IsGapFor key rows index
+      → new ≡ insert rows index (key, value) → Puts key value rows new
+  inserted key value rows new index are low gap new-is = puts key value rows new are low (new-is ∙ sym ((no_row key rows index gap).puts value))
 
-pub record Removes (key : Key) (rows new : RecordSet) : Type 0 where
-  pub are : AreRows new
-  pub is : new ≡ without (same_key key) rows
+  pub record Removes (key : Key) (rows new : Rows X) : Type 0 where
+    pub are : AreRows new
+    pub is : new ≡ without_rows (same_key key) rows
 
-pub removed : (key : Key) (rows new : RecordSet) (index : ℕ) (d : Key × Shown) → AreRows rows → IsAt key rows index → new ≡ remove rows index → Removes key rows new
-removed key rows new index d are at new-is =
-    let is : new ≡ without (same_key key) rows = new-is ∙ sym ((row_at key rows index d are at).left) in
-    record { are = subst AreRows (sym is) (rows_without (same_key key) rows are); is = is }
+  pub removed : (key : Key) (rows new : Rows X) (index : ℕ) (d : Key × X) → AreRows rows → IsAt key rows index → new ≡ remove rows index → Removes key rows new
+  removed key rows new index d are at new-is =
+      let is : new ≡ without_rows (same_key key) rows = new-is ∙ sym ((row_stands key rows index d are at).left) in
+      record { are = subst AreRows (sym is) (rows_without (same_key key) rows are); is = is }
 
 -- ---- sizes
 

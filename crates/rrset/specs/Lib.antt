@@ -4,6 +4,8 @@ pub mod Rdata
 pub mod Parts
 pub mod ReadParts
 pub mod Records
+pub mod KeyOrder
+pub mod KeyedRows
 pub mod RecordSet
 pub mod Rcodes
 pub mod Spelling

@@ -6,25 +6,25 @@
 --     matching      the part that a question asks for
 --     changes      what is shown otherwise in one set than in another
 --     with_changes      a set with such changes made to it
-use Rattle.std.specs.Prelude.{◌≡◌, ℕ, ◌<◌, Bool, not, ◌&&◌, List, [], map, length, take, Option, Some, None, fold, filter, sum_by, ◌==◌}
+use Rattle.std.specs.Prelude.{◌≡◌, ℕ, ◌<◌, Bool, not, ◌&&◌, List, [], map, length, take, Option, Some, None, fold, sum_by, ◌==◌}
 use Rattle.std.specs.Option.{option_eq}
 use Rattle.std.specs.Cmp.Lexicographic.{pointwise}
 use Rattle.std.specs.List.{list_all}
-use Rattle.std.specs.FinMap.{put as map_put, find as map_find, is_sorted as map_is_sorted}
 use Rattle.dnsname.specs.Names.{Labels, same_name}
+use Rattle.rrset.specs.KeyedRows.{Rows, is_rising, row_at, put_row, without_rows, only_rows, rows_of}
 use Rattle.rrset.specs.declared.record.Rr.{Rr}
 use Rattle.rrset.specs.declared.record.Key.{Key}
 use Rattle.rrset.specs.declared.record.Shown.{Shown}
 use Rattle.rrset.specs.declared.record.Question.{Question}
 use Rattle.rrset.specs.declared.record.Changed.{Changed}
-use Rattle.rrset.specs.Records.{key_of, shown_of, rr_of, rr_size, key_cmp, same_key, same_shown, matches}
+use Rattle.rrset.specs.Records.{key_of, shown_of, rr_of, rr_size, same_key, same_shown, matches}
 
 abbrev pub RecordSet : Type 0
-RecordSet = List (Key × Shown)
+RecordSet = Rows Shown
 
 -- keys rise strictly
 abbrev pub is_in_order : RecordSet → Bool
-is_in_order set = map_is_sorted key_cmp set
+is_in_order set = is_rising set
 
 -- what is shown at a key has that key
 abbrev pub shows_its_key : Key × Shown → Bool
@@ -34,24 +34,24 @@ abbrev pub is_record_set : RecordSet → Bool
 is_record_set set = is_in_order set && list_all shows_its_key set
 
 abbrev pub put : Key → Shown → RecordSet → RecordSet
-put key shown set = map_put key_cmp key shown set
+put key shown set = put_row key shown set
 
 -- the records whose keys don't pass
 abbrev pub without : (Key → Bool) → RecordSet → RecordSet
-without test set = filter (λ e. not (test e.0)) set
+without test set = without_rows test set
 
 abbrev pub only : (Key → Bool) → RecordSet → RecordSet
-only test set = filter (λ e. test e.0) set
+only test set = only_rows test set
 
 abbrev pub shown_at : Key → RecordSet → Option Shown
-shown_at key set = map_find key_cmp key set
+shown_at key set = row_at key set
 
 -- the keys of one owner, class and kind (RFC 2181, 5)
 abbrev pub is_of_rrset : Labels → ℕ → ℕ → Key → Bool
 is_of_rrset owner class kind key = same_name owner key.owner && class == key.class && kind == key.kind
 
 abbrev pub at_name : Labels → RecordSet → RecordSet
-at_name name set = only (λ key. same_name name key.owner) set
+at_name name set = rows_of name set
 
 abbrev pub size_of : RecordSet → ℕ
 size_of set = sum_by (λ e. rr_size (rr_of e.0 e.1)) set

@@ -5,7 +5,7 @@ ghost use Rattle.rrset.specs.Records.{same_octets, same_key, same_shown};
 ghost use Rattle.rrset.specs.RecordSet.{IsUnionWithFront, changes, same_keys, same_rows, shown_at, shown_the_same, union};
 ghost use Rattle.rrset.specs.Tables.{HaveLowerOwners};
 
-use crate::record::{Changed, Key, NoMemory, Shown};
+use crate::record::{Changed, Key, NoMemory, Question, Shown};
 use crate::table::Table;
 use dnsname::name::Octets;
 use std::alloc::Global;
@@ -133,7 +133,7 @@ pub fn same_rows(first: &[(Key, Shown)], second: &[(Key, Shown)]) -> bool
 }
 
 /// The same octets.
-fn copied(octets: &Octets) -> Result<Octets, NoMemory>
+pub(crate) fn copied(octets: &Octets) -> Result<Octets, NoMemory>
     ensures { IfOk result (λ copy. copy ≡ octets.now) }
 {
     Octets::from_slice(octets.allocator(), octets.as_slice())
@@ -162,6 +162,19 @@ impl Shown {
             owner: self.owner.copy()?,
             ttl: self.ttl,
             rdata: copied(&self.rdata)?,
+        })
+    }
+}
+
+impl Question {
+    /// The same question, to the letter.
+    pub fn copy(&self) -> Result<Question, NoMemory>
+        ensures { IfOk result (λ question. question ≡ self.now) }
+    {
+        Ok(Question {
+            name: self.name.copy()?,
+            kind: self.kind,
+            class: self.class,
         })
     }
 }

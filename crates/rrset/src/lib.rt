@@ -3,6 +3,7 @@
 
 pub mod classes;
 mod comparing;
+mod copying;
 pub mod header;
 pub mod kinds;
 mod lists;
@@ -13,6 +14,7 @@ mod reading;
 pub mod record;
 mod renaming;
 pub mod shape;
+mod shown;
 mod table;
 
 ghost use Rattle.std.specs.Prelude.{◌≡◌, [], ◌∷◌, true, false, codes, Some, None, Ok, Err, length};
@@ -23,6 +25,7 @@ ghost use Rattle.rrset.specs.Records.{key_of, shown_of, rr_size, matches, same_k
 ghost use Rattle.rrset.specs.RecordSet.{RecordSet, put, shown_at, at_name, size_at, matching, set_of, changes};
 
 pub use comparing::{changes, put_all, same_key, same_keys, same_rows, same_shown};
+pub use copying::Copied;
 pub use matching::{FIXED_FIELDS, matches, rr_size, same_question};
 pub use order::compare_keys;
 pub use reading::{RdataFault, read_rdata};
@@ -31,6 +34,7 @@ pub use record::{
 };
 pub use renaming::{NameChange, with_names};
 pub use shape::shape_fits;
+pub use shown::counted_ttl;
 pub use table::Table;
 
 /// Examples of rdata and keys.

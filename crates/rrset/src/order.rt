@@ -1,10 +1,14 @@
 //! The order of keys, and of their owners and names.
 
-ghost use Rattle.std.specs.Prelude.{◌≡◌, map};
+ghost use Rattle.std.specs.Prelude.{◌≡◌, map, refl};
 ghost use Rattle.std.specs.Char.{to_ascii_lowercase};
+ghost use Rattle.std.specs.Cmp.{eq_by_cmp_equiv, partial_equiv_from_equiv, partial_order_from_total};
+ghost use Rattle.std.specs.Ordering.{as_partial_cmp};
 ghost use Rattle.dnsname.specs.Names.{octets, lower};
-ghost use Rattle.rrset.specs.Records.{key_cmp, octets_cmp};
+ghost use Rattle.rrset.specs.KeyOrder.{key_cmp_total};
+ghost use Rattle.rrset.specs.Records.{key_cmp, octets_cmp, same_key};
 
+use crate::comparing::same_key;
 use crate::record::Key;
 use dnsname::Name;
 use std::cmp::Ordering;
@@ -18,6 +22,44 @@ pub fn compare_keys(first: &Key, second: &Key) -> Ordering
     let rdata = first.rdata.as_slice().cmp(second.rdata.as_slice());
     let classes = first.class.cmp(&second.class);
     owners.then(kinds.then(rdata.then(classes)))
+}
+
+impl PartialEq for Key {
+    ghost eq = { same_key };
+
+    ghost laws = { partial_equiv_from_equiv (eq_by_cmp_equiv key_cmp_total) };
+
+    fn eq(&self, other: &Key) -> bool {
+        same_key(self, other)
+    }
+}
+
+impl Eq for Key {
+    ghost laws = { eq_by_cmp_equiv key_cmp_total };
+}
+
+impl PartialOrd for Key {
+    ghost partial_cmp = { as_partial_cmp key_cmp };
+
+    ghost laws = { partial_order_from_total key_cmp_total };
+
+    fn partial_cmp(&self, other: &Key) -> Option<Ordering> {
+        Some(compare_keys(self, other))
+    }
+}
+
+impl Ord for Key {
+    ghost cmp = { key_cmp };
+
+    ghost total = { key_cmp_total };
+
+    ghost matches_partial_cmp = { λ x y. refl };
+
+    ghost matches_eq = { λ x y. refl };
+
+    fn cmp(&self, other: &Key) -> Ordering {
+        compare_keys(self, other)
+    }
 }
 
 /// The order of octets and of others in lower case.

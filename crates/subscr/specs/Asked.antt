@@ -4,7 +4,8 @@
 --     id_of      the ID of a question
 --     without      what is left where an ID goes
 --     watches name, wants key      a question has the name; a question asks for the key
-use Rattle.std.specs.Prelude.{ℕ, ◌≤◌, Bool, not, ◌==◌, List, length, Option, option_map, find, filter}
+--     one_asks, asks_with      one of several asks for a key; a question does, or others do
+use Rattle.std.specs.Prelude.{ℕ, ◌≤◌, Bool, not, ◌||◌, ◌==◌, List, length, Option, option_map, find, filter}
 use Rattle.std.specs.List.{list_any, IsDistinct}
 use Rattle.push_base.specs.Limits.{max_questions}
 use Rattle.dnsname.specs.Names.{Labels, same_name}
@@ -45,6 +46,14 @@ without id asked = filter (λ e. not (is_id id e)) asked
 abbrev pub watches : Labels → Asked → Bool
 watches name asked = list_any (λ e. same_name e.1.name name) asked
 
+-- of several, each with a question, one asks for records of this key
+abbrev pub one_asks : {X : Type 0} → (X → Question) → List X → Key → Bool
+one_asks question xs key = list_any (λ x. matches (question x) key) xs
+
 -- a question asks for records of this key
 abbrev pub wants : Key → Asked → Bool
-wants key asked = list_any (λ e. matches e.1 key) asked
+wants key asked = one_asks (λ e. e.1) asked key
+
+-- the question asks for records of this key, or others do
+abbrev pub asks_with : Question → (Key → Bool) → Key → Bool
+asks_with question others key = matches question key || others key

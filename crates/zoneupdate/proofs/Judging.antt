@@ -1,10 +1,10 @@
 -- The check of an update by the touched part of a zone, and what it means for the update step.
-use Rattle.std.proofs.Common.{◌≡◌, ℕ, ◌+◌, ◌≤◌, Bool, true, false, cond, not, ◌&&◌, ◌||◌, List, [], ◌∷◌, map, length, fold, Option, Some, None, Result, Ok, Err, refl, sym, ap, ◌∙◌, subst, arith}
-use Rattle.std.specs.Prelude.{nat_le, if◌then◌else◌}
+use Rattle.std.proofs.Common.{◌≡◌, ℕ, ◌+◌, ◌≤◌, Bool, true, cond, ◌&&◌, ◌||◌, List, [], ◌∷◌, map, length, fold, Option, Some, None, Result, Ok, Err, refl, sym, ap, ◌∙◌, subst, arith}
+use Rattle.std.specs.Prelude.{nat_le}
 use Rattle.std.specs.List.{list_any, list_all}
 use Rattle.push_base.specs.Limits.{max_octets_at_name}
 use Rattle.dnsname.specs.Names.{Labels, same_name}
-use Rattle.rrset.specs.Rcodes.{nxrrset, refused}
+use Rattle.rrset.specs.Rcodes.{refused}
 use Rattle.rrset.specs.RecordSet.{RecordSet, only, changes, size_at}
 use Rattle.rrset.specs.declared.record.Changed.{Changed}
 use Rattle.rrset.specs.declared.record.Rr.{Rr}
@@ -13,10 +13,10 @@ use Rattle.rrset.proofs.Selected.{length-parts}
 use Rattle.dnswire.specs.declared.message.Update.{Update}
 use Rattle.zoneupdate.specs.declared.plan.Verdict.TheVariants.{Accept}
 use Rattle.zoneupdate.specs.Zones.{ZoneState}
-use Rattle.zoneupdate.specs.Updates.{with_counted_ttl, changed_by, with_risen_serial, rows_after, is_within_limits, max_zone_records, accepted_or, judged}
+use Rattle.zoneupdate.specs.Updates.{with_counted_ttl, changed_by, with_risen_serial, rows_after, is_within_limits, max_zone_records, accepted_or, refused_first, judged}
 use Rattle.zoneupdate.specs.Keeping.{Judges}
 use Rattle.zoneupdate.specs.Touched.{is_touched, part_of, part_after}
-use Rattle.zoneupdate.specs.Checking.{is_within, or_later, refused_first, Plans}
+use Rattle.zoneupdate.specs.Checking.{is_within, Plans}
 use Rattle.zoneupdate.proofs.Filters.{filter_same}
 use Rattle.zoneupdate.proofs.RecordSets.{IsSet}
 use Rattle.zoneupdate.proofs.TouchedParts.{after-changes, after-length}
@@ -74,19 +74,12 @@ module _ (zone : ZoneState) (rrs : List Rr) (before work : RecordSet) (set : IsS
 
 -- ---- what the steps together mean
 
-passed : (p q : Option ℕ) (agree writable : Bool) (last : Result RecordSet ℕ)
-    → or_later p (if not agree then Some nxrrset else if not writable then Some refused else q) ≡ None
-    → accepted_or p (if not agree then Err nxrrset else if not writable then Err refused else accepted_or q last) ≡ last
-passed (Some code) q agree writable last e = absurd cc
-passed None q false writable last e = absurd cc
-passed None q true false last e = absurd cc
-passed None (Some code) true true last e = absurd cc
-passed None None true true last e = refl
-
 pub accepts : (homes : List Labels) (zone : ZoneState) (update : Update) (changed : List Changed) → refused_first homes zone update ≡ None
     → Plans zone (map with_counted_ttl update.changes) (Some changed) → Judges zone (Accept changed) (judged homes zone update)
-accepts homes zone update changed passes plan = (
-  rows_after zone (map with_counted_ttl update.changes),
-  passed _ _ _ _ _ passes ∙ ap (λ b. cond b (Ok (rows_after zone (map with_counted_ttl update.changes))) (Err refused)) plan.0,
-  plan.1,
-)
+accepts homes zone update changed passes plan =
+    let after : RecordSet = rows_after zone (map with_counted_ttl update.changes) in
+    let last : Result RecordSet ℕ = cond (is_within_limits after) (Ok after) (Err refused) in (
+      after,
+      ap (λ (o : Option ℕ). accepted_or o last) passes ∙ ap (λ (b : Bool). cond {A = Result RecordSet ℕ} b (Ok after) (Err refused)) plan.0,
+      plan.1,
+    )

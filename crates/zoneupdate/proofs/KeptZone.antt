@@ -1,9 +1,11 @@
 -- A zone stays a zone.
 use Rattle.std.proofs.Common.{◌≡◌, ℕ, ◌+◌, ◌%◌, ◌^◌, Bool, true, false, cond, not, ◌&&◌, eqb, List, [], ◌∷◌, map, length, fold, Option, Some, None, is_some, Result, Ok, Err, ◌==◌, refl, sym, ap, ◌∙◌, eqb-true, arith}
+use Rattle.std.specs.Prelude.{if◌then◌else◌}
 use Rattle.std.specs.List.{list_all}
 use Rattle.push_base.specs.Cases.{first_refused}
 use Rattle.dnsname.specs.Names.{Labels, same_name}
 use Rattle.rrset.specs.Kinds.{in_class, soa_kind}
+use Rattle.rrset.specs.Rcodes.{nxrrset, refused}
 use Rattle.rrset.specs.Records.{key_of, shown_of}
 use Rattle.rrset.specs.RecordSet.{RecordSet, shows_its_key, is_record_set, put_rr, without}
 use Rattle.rrset.specs.declared.record.Rr.{Rr}
@@ -11,7 +13,7 @@ use Rattle.rrset.specs.declared.record.Key.{Key}
 use Rattle.rrset.specs.declared.record.Shown.{Shown}
 use Rattle.dnswire.specs.declared.message.Update.{Update}
 use Rattle.zoneupdate.specs.Zones.{ZoneState, set_at, serial_of, with_serial, serial_of_zone, is_zone}
-use Rattle.zoneupdate.specs.Updates.{with_counted_ttl, prerequisite_refusal, sets_agree, change_refusal, changed_by, risen_soa, with_risen_serial, is_within_limits, accepted_or, rows_after, judged}
+use Rattle.zoneupdate.specs.Updates.{with_counted_ttl, prerequisite_refusal, sets_agree, change_refusal, changed_by, risen_soa, with_risen_serial, is_within_limits, accepted_or, or_later, refused_first, rows_after, judged}
 use Rattle.zoneupdate.proofs.Filters.{and-left, and-right, and-both}
 use Rattle.zoneupdate.proofs.SomeAndAll.{all-filter, all_itself}
 use Rattle.zoneupdate.proofs.RecordSets.{all-put, IsSet, set-in_order, set-without, set-put_rrs, set-changed_by, set-changes, shown_owner}
@@ -139,22 +141,26 @@ pub accepted : (o : Option ℕ) (r : Result RecordSet ℕ) (rows : RecordSet) �
 accepted None r rows e = (refl, e)
 accepted (Some code) r rows e = absurd (not_done code rows e)
 
-pub passed_test : (b : Bool) (code : ℕ) (r : Result RecordSet ℕ) (rows : RecordSet) → cond (not b) (Err code) r ≡ rows_done rows → (b ≡ true) × (r ≡ rows_done rows)
-passed_test true code r rows e = (refl, e)
-passed_test false code r rows e = absurd (not_done code rows e)
-
 pub within : (b : Bool) (code : ℕ) (after rows : RecordSet) → cond b (rows_done after) (Err code) ≡ rows_done rows → (b ≡ true) × (after ≡ rows)
 within true code after rows e = (refl, same_done after rows e)
 within false code after rows e = absurd (not_done code rows e)
 
+-- what nothing refuses has passed each test
+none-refuses : (p q : Option ℕ) (agree writable : Bool) → or_later p (if not agree then Some nxrrset else if not writable then Some refused else q) ≡ None
+    → (p ≡ None) × (agree ≡ true) × (writable ≡ true) × (q ≡ None)
+none-refuses (Some code) q agree writable e = absurd cc
+none-refuses None q false writable e = absurd cc
+none-refuses None q true false e = absurd cc
+none-refuses None (Some code) true true e = absurd cc
+none-refuses None None true true e = (refl, refl, refl, refl)
+
 pub judged-accepted : (homes : List Labels) (zone : ZoneState) (update : Update) (rows : RecordSet) → judged homes zone update ≡ Ok rows → IsAccepted homes zone update rows
 judged-accepted homes zone update rows e =
-    let first = accepted _ _ rows e in
-    let second = passed_test _ _ _ rows first.1 in
-    let third = passed_test _ _ _ rows second.1 in
-    let fourth = accepted _ _ rows third.1 in
-    let last = within _ _ _ rows fourth.1 in
-    record { prereqs = first.0; agree = second.0; writable = third.0; passed = fourth.0; limits = ap is_within_limits (sym last.1) ∙ last.0; after = last.1 }
+    let first = accepted (refused_first homes zone update) _ rows e in
+    let tests = none-refuses (first_refused (prerequisite_refusal homes zone) (map with_counted_ttl update.prereqs)) (first_refused (change_refusal homes zone) (changes_of update))
+    (sets_agree (map with_counted_ttl update.prereqs) zone.rows) zone.writable first.0 in
+    let last = within _ _ _ rows first.1 in
+    record { prereqs = tests.0; agree = tests.1; writable = tests.2; passed = tests.3; limits = ap is_within_limits (sym last.1) ∙ last.0; after = last.1 }
 
 pub zone-judged : (homes : List Labels) (zone : ZoneState) (update : Update) (rows : RecordSet) → is_zone zone ≡ true → judged homes zone update ≡ Ok rows → is_zone (record zone { rows = rows }) ≡ true
 zone-judged homes zone update rows h e =

@@ -5,21 +5,17 @@
 --     runs_into under name      the name ends in one of these homes
 --     is_within all apex changes work      the limits, by the number of all records and the touched part alone
 --     Plans zone changes plan      the keys that changes show otherwise, or nothing where the zone would pass its limits
---     refused_first homes zone update      the RCODE that refuses an update before its changes are made
-use Rattle.std.specs.Prelude.{◌≡◌, ℕ, Bool, true, false, not, ◌&&◌, ◌||◌, List, map, Option, Some, None, nat_le, ◌==◌, if◌then◌else◌}
+use Rattle.std.specs.Prelude.{◌≡◌, ℕ, Bool, true, false, not, ◌&&◌, ◌||◌, List, Option, Some, None, nat_le, ◌==◌}
 use Rattle.std.specs.List.{list_any, list_all}
-use Rattle.push_base.specs.Cases.{first_refused}
 use Rattle.push_base.specs.Limits.{max_octets_at_name}
 use Rattle.dnsname.specs.Names.{Labels, ends_in}
 use Rattle.rrset.specs.Kinds.{in_class}
-use Rattle.rrset.specs.Rcodes.{nxrrset, refused}
 use Rattle.rrset.specs.RecordSet.{RecordSet, same_keys, size_at, changes}
 use Rattle.rrset.specs.declared.record.Key.{Key}
 use Rattle.rrset.specs.declared.record.Rr.{Rr}
 use Rattle.rrset.specs.declared.record.Changed.{Changed}
-use Rattle.dnswire.specs.declared.message.Update.{Update}
 use Rattle.zoneupdate.specs.Zones.{ZoneState, set_at}
-use Rattle.zoneupdate.specs.Updates.{with_counted_ttl, prerequisite_refusal, change_refusal, sets_agree, max_zone_records, is_within_limits, rows_after}
+use Rattle.zoneupdate.specs.Updates.{max_zone_records, is_within_limits, rows_after}
 
 -- a key of class IN and this kind
 abbrev pub is_of_kind : ℕ → Key → Bool
@@ -36,19 +32,6 @@ has_same_set wanted rows rr = not (rr.class == in_class) || same_keys (set_at rr
 -- the name ends in one of these homes
 abbrev pub runs_into : List Labels → Labels → Bool
 runs_into under name = list_any (λ home. ends_in name home) under
-
-abbrev pub or_later : Option ℕ → Option ℕ → Option ℕ
-or_later (Some code) later = Some code
-or_later None later = later
-
--- what prerequisites, permission and prescan refuse with, in this order
-abbrev pub refused_first : List Labels → ZoneState → Update → Option ℕ
-refused_first homes zone update =
-    let prereqs = map with_counted_ttl update.prereqs in
-    or_later (first_refused (prerequisite_refusal homes zone) prereqs)
-    (if not (sets_agree prereqs zone.rows) then Some nxrrset
-    else if not zone.writable then Some refused
-    else first_refused (change_refusal homes zone) (map with_counted_ttl update.changes))
 
 -- the limits, by the number of all records and the touched part alone
 abbrev pub is_within : ℕ → Labels → List Rr → RecordSet → Bool

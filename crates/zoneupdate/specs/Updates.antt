@@ -1,5 +1,6 @@
 -- The update of a zone (RFC 2136, 3).
 --     judged homes zone update      the rows after the update, or the RCODE that refuses it; homes are all names of zones and links
+--     refused_first homes zone update      the RCODE that refuses an update before its changes are made
 --     prerequisite_refusal, change_refusal homes zone rr      the RCODE that a prerequisite or a change is refused with
 --     changed_by apex rows rr      the rows after one change
 use Rattle.std.specs.Prelude.{ℕ, ◌+◌, ◌%◌, ◌^◌, Bool, false, not, ◌&&◌, ◌||◌, List, [], ◌∷◌, map, length, filter, fold, Option, Some, None, Result, Ok, Err, nat_le, ◌==◌, option_and_then, if◌then◌else◌}
@@ -126,13 +127,22 @@ accepted_or None after = after
 abbrev pub rows_after : ZoneState → List Rr → RecordSet
 rows_after zone changes = with_risen_serial zone.apex zone.rows (fold (changed_by zone.apex) zone.rows changes)
 
--- prerequisites, permission, prescan and limits, in this order; the first that fails answers (RFC 2136, 3.2 to 3.4)
+-- a refusal, or where there is none a later one
+abbrev pub or_later : Option ℕ → Option ℕ → Option ℕ
+or_later (Some code) later = Some code
+or_later None later = later
+
+-- what prerequisites, permission and prescan refuse with, in this order; the first that fails answers (RFC 2136, 3.2 to 3.4)
+abbrev pub refused_first : List Labels → ZoneState → Update → Option ℕ
+refused_first homes zone update =
+    let prereqs = map with_counted_ttl update.prereqs in
+    or_later (first_refused (prerequisite_refusal homes zone) prereqs)
+    (if not (sets_agree prereqs zone.rows) then Some nxrrset
+    else if not zone.writable then Some refused
+    else first_refused (change_refusal homes zone) (map with_counted_ttl update.changes))
+
+-- behind these tests the changes are made, and the limits come last
 abbrev pub judged : List Labels → ZoneState → Update → Result RecordSet ℕ
 judged homes zone update =
-    let prereqs = map with_counted_ttl update.prereqs in
-    let changes = map with_counted_ttl update.changes in
-    accepted_or (first_refused (prerequisite_refusal homes zone) prereqs)
-    (if not (sets_agree prereqs zone.rows) then Err nxrrset
-    else if not zone.writable then Err refused
-    else accepted_or (first_refused (change_refusal homes zone) changes)
-    (let after = rows_after zone changes in if is_within_limits after then Ok after else Err refused))
+    accepted_or (refused_first homes zone update)
+    (let after = rows_after zone (map with_counted_ttl update.changes) in if is_within_limits after then Ok after else Err refused)

@@ -3,8 +3,8 @@
 ghost use Rattle.std.specs.Prelude.{◌≡◌, List, true, map, fold, IfOk, IsTrue};
 ghost use Rattle.dnsname.specs.Names.{Labels};
 ghost use Rattle.rrset.specs.RecordSet.{is_record_set};
-ghost use Rattle.zoneupdate.specs.Checking.{refused_first, Plans};
-ghost use Rattle.zoneupdate.specs.Updates.{changed_by, with_risen_serial, is_within_limits, with_counted_ttl};
+ghost use Rattle.zoneupdate.specs.Checking.{Plans};
+ghost use Rattle.zoneupdate.specs.Updates.{changed_by, refused_first, with_risen_serial, is_within_limits, with_counted_ttl};
 ghost use Rattle.zoneupdate.specs.Keeping.{IsUnder};
 
 use crate::agreeing::sets_agree;

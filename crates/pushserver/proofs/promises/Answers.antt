@@ -8,7 +8,8 @@ use Rattle.push_base.specs.Cases.{is_empty}
 use Rattle.dnsname.specs.Names.{Labels}
 use Rattle.dsotlv.specs.Messages.{frame, first_message}
 use Rattle.dsotlv.specs.declared.message.Notice.{Notice}
-use Rattle.coalesce.specs.Net.{packed, push_message}
+use Rattle.dsotlv.specs.Answers.{push_message}
+use Rattle.coalesce.specs.Net.{packed}
 use Rattle.coalesce.proofs.Packing.{packs_nothing_of_nothing}
 use Rattle.pushsession.specs.declared.standing.Standing.{Standing}
 use Rattle.pushsession.specs.declared.standing.Standing.TheVariants.{Live, AskedToStop, Stopped, Ended}

@@ -15,12 +15,12 @@ use Rattle.rrset.specs.declared.record.Question.{Question}
 use Rattle.rrset.proofs.Distinct.{distinct_push, distinct_filter, any_found}
 use Rattle.rrset.proofs.Places.{all_filter}
 use Rattle.dsotlv.specs.Messages.{frame}
-use Rattle.dsotlv.specs.Answers.{answer_to, refusal_to}
+use Rattle.dsotlv.specs.Answers.{answer_to, refusal_to, push_message}
 use Rattle.dsotlv.specs.declared.message.Notice.{Notice}
 use Rattle.dsosession.specs.declared.session.EndReason.TheVariants as ends
 use Rattle.subscr.specs.Asked.{Asked, has, is_id, is_question, id_of}
 use Rattle.coalesce.specs.FirstAnswers.{first_notices}
-use Rattle.coalesce.specs.Net.{push_message, max_net_message}
+use Rattle.coalesce.specs.Net.{max_net_message}
 use Rattle.coalesce.specs.Waiting.{WaitingName, is_named, without_name}
 use Rattle.coalesce.proofs.FirstLeads.{first_fits_one_message}
 use Rattle.coalesce.proofs.KindsOf.{any-map}

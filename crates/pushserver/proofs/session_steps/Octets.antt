@@ -9,7 +9,7 @@ use Rattle.push_base.specs.Cases.{◌>>=◌}
 use Rattle.dnsname.specs.Names.{is_name}
 use Rattle.rrset.specs.Header.{two_octets}
 use Rattle.rrset.specs.declared.record.Question.{Question}
-use Rattle.dsotlv.specs.Messages.{first_message, tlvs_from, data_of_first, primary_data}
+use Rattle.dsotlv.specs.Messages.{first_message, tlv_end, tlvs_from, data_of_first, primary_data}
 use Rattle.dsotlv.specs.Notices.{question_of}
 use Rattle.dsotlv.specs.declared.message.DsoFault.{DsoFault}
 use Rattle.dsotlv.specs.declared.message.DsoFault.TheVariants.{Tlv as TlvAt}
@@ -53,29 +53,29 @@ none = All-nil (λ o. o < 256)
 abbrev data_in : Result (List Tlv) DsoFault → List ℕ
 data_in r = elim r as (λ _. List ℕ) [ Err fault ↦ [] | Ok tlvs ↦ data_of_first tlvs ]
 
+behind-octets : (message : List ℕ) (at end : ℕ) (rest : Result (List Tlv) DsoFault) → AreOctets message
+    → AreOctets (data_in (rest >>= λ others. Ok ((record { kind = two_octets message at; octets = slice_range message (at + 4) end }) ∷ others)))
+behind-octets message at end (Err fault) octets = none
+behind-octets message at end (Ok others) octets = slice-octets message (at + 4) end octets
+
 tlvs-octets : (more : ℕ) (message : List ℕ) (at : ℕ) → AreOctets message → AreOctets (data_in (tlvs_from more message at))
 tlvs-octets zero message at octets = by (at == length message)
   where
     by : (b : Bool) → AreOctets (data_in (cond b (Ok []) (Err (TlvAt at))))
     by true = none
     by false = none
-tlvs-octets (suc more) message at octets = by (at == length message) (nat_lt (length message) (at + 4)) (nat_lt (length message) (at + 4 + two_octets message (at + 2))) (tlvs_from more message (at + 4 + two_octets message (at + 2)))
+tlvs-octets (suc more) message at octets = by (at == length message) (tlv_end message at)
   where
-    by : (a b c : Bool) (rest : Result (List Tlv) DsoFault) → AreOctets (data_in (elim a as (λ _. Result (List Tlv) DsoFault) [
+    by : (a : Bool) (end : Option ℕ) → AreOctets (data_in (elim a as (λ _. Result (List Tlv) DsoFault) [
       | true ↦ Ok []
-      | false ↦ elim b as (λ _. Result (List Tlv) DsoFault) [
-        | true ↦ Err (TlvAt at)
-        | false ↦ elim c as (λ _. Result (List Tlv) DsoFault) [
-          | true ↦ Err (TlvAt at)
-          | false ↦ rest >>= λ others. Ok ((record { kind = two_octets message at; octets = slice_range message (at + 4) (at + 4 + two_octets message (at + 2)) }) ∷ others)
-        ]
+      | false ↦ elim end as (λ _. Result (List Tlv) DsoFault) [
+        | None ↦ Err (TlvAt at)
+        | Some next ↦ tlvs_from more message next >>= λ others. Ok ((record { kind = two_octets message at; octets = slice_range message (at + 4) next }) ∷ others)
       ]
     ]))
-    by true b c rest = none
-    by false true c rest = none
-    by false false true rest = none
-    by false false false (Err fault) = none
-    by false false false (Ok others) = slice-octets message (at + 4) (at + 4 + two_octets message (at + 2)) octets
+    by true end = none
+    by false None = none
+    by false (Some end) = behind-octets message at end (tlvs_from more message end) octets
 
 pub data-octets : (message : List ℕ) → AreOctets message → AreOctets (primary_data message)
 data-octets message octets = tlvs-octets (length message) message 12 octets

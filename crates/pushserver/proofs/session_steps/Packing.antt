@@ -7,10 +7,11 @@ use Rattle.dnsname.specs.Names.{Labels, same_name}
 use Rattle.rrset.specs.RecordSet.{RecordSet, only, at_name}
 use Rattle.rrset.proofs.Distinct.{distinct_filter}
 use Rattle.rrset.proofs.Places.{all_filter}
+use Rattle.dsotlv.specs.Answers.{push_message}
 use Rattle.dsotlv.specs.declared.message.Notice.{Notice}
 use Rattle.subscr.specs.Asked.{Asked, wants}
-use Rattle.coalesce.specs.Net.{packed, push_message, max_net_message}
-use Rattle.coalesce.specs.Laws.{Nets, IsPacked}
+use Rattle.coalesce.specs.Net.{packed, max_net_message, Nets}
+use Rattle.coalesce.specs.Laws.{IsPacked}
 use Rattle.coalesce.specs.Waiting.{WaitingName, CanBePacked, IsPackable, asked_net, nets_in, packed_of, left_in}
 use Rattle.coalesce.proofs.NetSizes.{net_fits_one_message}
 use Rattle.coalesce.proofs.Packing.{packs_the_front, packed_fits_one_message}

@@ -9,7 +9,6 @@ use Rattle.rrset.proofs.Distinct.{distinct_filter}
 use Rattle.rrset.proofs.Places.{all_filter}
 use Rattle.dsotlv.specs.Messages.{frame, first_message, head_of}
 use Rattle.dsotlv.specs.declared.message.Notice.{Notice}
-use Rattle.coalesce.specs.Net.{push_message}
 use Rattle.coalesce.specs.Sides.{frame_octets}
 use Rattle.coalesce.specs.Waiting.{WaitingName}
 use Rattle.dsosession.specs.Timing.{Clocks, restarted}
@@ -17,7 +16,7 @@ use Rattle.dsosession.specs.declared.session.Timers.{Timers}
 use Rattle.dsosession.specs.declared.session.EndReason.TheVariants as ends
 use Rattle.subscr.specs.Asked.{is_id, without}
 use Rattle.pushsession.specs.Kept.{KeptSession, keeping, without_filled}
-use Rattle.dsotlv.specs.Answers.{stop_message}
+use Rattle.dsotlv.specs.Answers.{stop_message, push_message}
 use Rattle.pushsession.specs.Sessions.{SessionOf, Keeps, says, answers, ended_with, says_stop, stopped, without_first}
 use Rattle.pushsession.specs.Subscribing.{says_notices}
 use Rattle.pushsession.specs.Reactions.{restarted_by, granted, unsubscribed}

@@ -85,4 +85,4 @@ pub changes_read : (message : List ℕ) (update : Update) → AreOctets message 
 changes_read message update below e =
     let is = is_update message update e in
     let spelled = update-found message update (recursion_from_All (λ o. o < 256) message below) is.long (is.response, is.opcode) is.read in
-    records_read message below update.changes spelled.prereqs_end spelled.changes_end spelled.changes.1
+    records_read message below update.changes spelled.sections.answers_end spelled.sections.authority_end spelled.sections.authority.1

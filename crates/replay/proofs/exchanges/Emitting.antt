@@ -1,5 +1,8 @@
--- Calls of `give` until it answers that there is no more, turn by turn.
-use Rattle.std.proofs.Common.{◌≡◌, ℕ, suc, ◌+◌, ◌-◌, ◌^◌, ◌≤◌, ◌<◌, ◌==◌, true, false, List, [], ◌++◌, length, drop, Option, Some, None, sym, ◌∙◌, ap, subst, refl, arith, append_assoc, append-nil, length-append, ne_eqb}
+-- Calls of `give` until so many octets came or it answers that there is no more, turn by turn.
+use Rattle.std.specs.Prelude.{nat_le}
+use Rattle.std.proofs.lemmas.Bool.{leb-true, leb-false}
+use Rattle.std.proofs.Common.{T, eqb→eq, ◌≡◌, ◌⊎◌, inl, inr, ℕ, suc, ◌+◌, ◌-◌, ◌^◌, ◌≤◌, ◌<◌, ◌==◌, Bool, true, false, ◌||◌, List, ◌++◌, length, drop, min, Option, Some, None, sym, ◌∙◌, ap, subst, refl, arith, append_assoc, append-nil, length-append, ne_eqb}
+use Rattle.push_base.specs.Limits.{max_number}
 use Rattle.coalesce.specs.Sides.{frame_octets}
 use Rattle.dsosession.specs.declared.session.EndReason.{EndReason}
 use Rattle.pushserver.specs.declared.given.Given.{Given}
@@ -10,175 +13,295 @@ use Rattle.pushserver.specs.Counting.{octets_of}
 use Rattle.pushserver.specs.KeptHubs.{KeptHub, StandsFor}
 use Rattle.pushserver.specs.Simulation.{GivesStand}
 use Rattle.replay.specs.PassedOctets.{Emitted, emitted, nothing_emitted, with_giving, enough}
-use Rattle.replay.specs.declared.exchanging.Turn.{Turn}
 use Rattle.replay.specs.declared.exchanging.Turn.TheVariants.{More, Last}
-use Rattle.replay.specs.KeptExchanges.{written, turn_of, IsGiven, Gives, IsEmitted, Emits}
+use Rattle.replay.specs.KeptWorlds.{TellsEnds}
+use Rattle.replay.specs.KeptExchanges.{written, turn_of, has_worked, Remembers, IsGiven, Gives, IsEmitted, Allows, Emits}
 use Rattle.replay.proofs.turns.Turns.{emitted-turn, turn}
 use Rattle.replay.proofs.exchanges.Walks.{gives-counted, gives-whole, written-given}
 
--- what calls of give made so far leads to the whole; no vector has as many octets as are allowed
-pub record IsTurning (whole : Emitted) (number turns : ℕ) (before : List ℕ) (kept : KeptHub) (octets : List ℕ) : Type 0 where
+-- What calls of give made so far leads to the whole; so many octets are left of those that are allowed, or fewer as no vector has as many.
+pub record IsTurning (most limit : ℕ) (whole : Emitted) (number turns left : ℕ) (before : List ℕ) (kept : KeptHub) (octets : List ℕ) (told : List (ℕ × ℕ)) (reacted : Bool) : Type 0 where
   pub so_far : Emitted
   pub budget : ℕ
   pub stands : StandsFor kept so_far.hub
   pub written : octets ≡ before ++ so_far.octets
+  pub ends : TellsEnds told so_far.filled
+  pub reacts : reacted ≡ so_far.reacted
   pub unended : so_far.over ≡ None
-  pub allowed : budget + length so_far.octets ≡ 2 ^ 64
+  pub counted : left + length so_far.octets ≡ most
+  pub allowed : budget + length so_far.octets ≡ limit
   pub same : whole ≡ emitted turns number budget so_far
 
-unfoldable pub Turning : KeptHub → ℕ → ℕ → List ℕ → KeptHub → List ℕ → Type 0
-Turning start number turns before kept octets = (hub : Hub) → StandsFor start hub → IsTurning (emitted enough number enough (nothing_emitted hub [])) number turns before kept octets
+unfoldable pub Turning : ℕ → KeptHub → ℕ → ℕ → ℕ → List ℕ → List (ℕ × ℕ) → KeptHub → List ℕ → List (ℕ × ℕ) → Bool → Type 0
+Turning most start number turns left before told_before kept octets told reacted = (limit : ℕ) (hub : Hub) (plain : List (ℕ × ℕ)) → Allows most limit → StandsFor start hub → TellsEnds told_before plain
+    → IsTurning most limit (emitted enough number limit (nothing_emitted hub plain)) number turns left before kept octets told reacted
 
-begins : (start : KeptHub) (number : ℕ) (before : List ℕ) → Turning start number enough before start before
+begins : (most : ℕ) (start : KeptHub) (number : ℕ) (before : List ℕ) (told : List (ℕ × ℕ)) → Turning most start number enough most before told start before told false
 unfolding Turning
-begins start number before hub stands = record {
-  so_far = nothing_emitted hub [];
-  budget = enough;
+begins most start number before told limit hub plain allows stands ends = record {
+  so_far = nothing_emitted hub plain;
+  budget = limit;
   stands = stands;
   written = sym (append-nil before);
+  ends = ends;
+  reacts = refl;
   unended = refl;
-  allowed = refl;
+  counted = omega arith;
+  allowed = omega arith;
   same = refl;
 }
 
-module _ (law : GivesStand) (whole : Emitted) (number left : ℕ) (before : List ℕ) (kept later : KeptHub) (octets now : List ℕ) (next : Turn)
-    (t : IsTurning whole number (suc left) before kept octets) (made : (hub : Hub) → StandsFor kept hub → IsGiven (give hub number frame_octets) octets later now next) (short : length now < 2 ^ 63) where
-  abbrev g : Giving
-  g = give t.so_far.hub number frame_octets
+-- a call with as much room as there is, and no more than octets may come
+abbrev pub room_in : ℕ → ℕ → ℕ
+room_in left size = min left size
 
-  abbrev given : IsGiven g octets later now next
-  given = made t.so_far.hub t.stands
+or_true : (b : Bool) → (b || true) ≡ true
+or_true true = refl
+or_true false = refl
 
-  abbrev then : Emitted
-  then = with_giving g number t.so_far
+or_false : (b : Bool) → (b || false) ≡ b
+or_false true = refl
+or_false false = refl
 
-  now_is : now ≡ before ++ then.octets
-  now_is = given.written ∙ ap (λ o. o ++ g.octets) t.written ∙ append_assoc before t.so_far.octets g.octets
+module _ (law : GivesStand) (most limit : ℕ) (allows : Allows most limit) (whole : Emitted) (number turns left : ℕ) (before : List ℕ) (kept : KeptHub) (octets : List ℕ) (told : List (ℕ × ℕ)) (reacted : Bool)
+    (t : IsTurning most limit whole number (suc turns) left before kept octets told reacted) (short : length octets < 2 ^ 63) where
+  size : length octets ≡ length before + length t.so_far.octets
+  size = ap length t.written ∙ length-append before t.so_far.octets
 
-  small : (n b o v k m : ℕ) → n < 2 ^ 63 → n ≡ b + m → m ≡ o + k → v + o ≡ 2 ^ 64 → 65537 + k ≤ v
-  small n b o v k m h e f a = omega arith
+  -- as many are left, or very many
+  left_or_many : (t.budget ≡ left) ⊎ (frame_octets ≤ left × frame_octets ≤ t.budget)
+  left_or_many = by allows.1
+    where
+      same_left : (b l o m v : ℕ) → l + o ≡ m → b + o ≡ v → m ≡ v → b ≡ l
+      same_left b l o m v c a e = omega arith
 
-  wide : frame_octets + length g.octets ≤ t.budget
-  wide = small (length now) (length before) (length t.so_far.octets) t.budget (length g.octets) (length then.octets) short
-      (ap length now_is ∙ length-append before then.octets) (length-append t.so_far.octets g.octets) t.allowed
+      many : (b l o m v n f : ℕ) → l + o ≡ m → b + o ≡ v → m ≤ v → m ≡ 18446744073709551615 → n < 9223372036854775808 → n ≡ f + o → (65537 ≤ l) × (65537 ≤ b)
+      many b l o m v n f c a le e h s = (omega (arith, c, e, h, s), omega (arith, c, a, le, e, h, s))
 
-  wider : (v k : ℕ) → 65537 + k ≤ v → 65537 ≤ v
-  wider v k h = omega arith
+      by : (most ≡ limit) ⊎ (most ≡ max_number) → (t.budget ≡ left) ⊎ (frame_octets ≤ left × frame_octets ≤ t.budget)
+      by (inl e) = inl (same_left t.budget left (length t.so_far.octets) most limit t.counted t.allowed e)
+      by (inr e) = inr (many t.budget left (length t.so_far.octets) most limit (length octets) (length before) t.counted t.allowed allows.0 e short size)
 
-  not_zero : (v k : ℕ) → 65537 + k ≤ v → (v == 0) ≡ false
-  not_zero v k h = ne_eqb v 0 (omega arith)
+  -- nothing is left: no octet may come
+  pub none_left : left ≡ 0 → t.budget ≡ 0
+  none_left e = by left_or_many
+    where
+      by : (t.budget ≡ left) ⊎ (frame_octets ≤ left × frame_octets ≤ t.budget) → t.budget ≡ 0
+      by (inl is) = is ∙ e
+      by (inr wide) = absurd (omega (arith, wide.0, e))
 
-  turned : whole ≡ turn (λ n. emitted left number (t.budget - n) then) (emitted left number t.budget (record then { reacted = true })) then g.given
-  turned = t.same ∙ emitted-turn left number t.budget t.so_far (not_zero t.budget (length g.octets) wide) g (gives-whole law kept t.so_far.hub number t.budget t.stands (wider t.budget (length g.octets) wide))
+  pub used_up_budget : left ≡ 0 → IsEmitted whole before kept octets told (record { reacted = reacted; over = None })
+  used_up_budget e =
+      let is : whole ≡ t.so_far = t.same ∙ ap (λ b. emitted (suc turns) number b t.so_far) (none_left e) in
+      record {
+        end_told = sym t.unended ∙ sym (ap (λ x. x.over) is);
+        reacts = t.reacts ∙ sym (ap (λ x. x.reacted) is);
+        written = t.written ∙ sym (ap (λ x. before ++ x.octets) is);
+        ends = subst (λ (x : Emitted). TellsEnds told x.filled) (sym is) t.ends;
+        stands = subst (λ (x : Emitted). StandsFor kept x.hub) (sym is) t.stands;
+      }
 
-  counted : octets_of g.given ≡ length g.octets
-  counted = gives-counted t.so_far.hub number frame_octets
+  module _ (size_of_buffer : ℕ) (roomy : frame_octets ≤ size_of_buffer) (some : left ≡ 0 → ⊥) (later : KeptHub) (now : List ℕ) (told_later : List (ℕ × ℕ)) (given : Given)
+      (made : (hub : Hub) → StandsFor kept hub → IsGiven (give hub number (room_in left size_of_buffer)) number octets told later now told_later given) where
+    some_budget : (t.budget == 0) ≡ false
+    some_budget = ne_eqb t.budget 0 (λ e. by e left_or_many)
+      where
+        by : t.budget ≡ 0 → (t.budget ≡ left) ⊎ (frame_octets ≤ left × frame_octets ≤ t.budget) → ⊥
+        by e (inl is) = some (sym is ∙ e)
+        by e (inr wide) = omega (arith, wide.1, e)
 
-  with_bytes : (n v o k m : ℕ) → n ≡ k → 65537 + k ≤ v → m ≡ o + k → v + o ≡ 2 ^ 64 → v - n + m ≡ 2 ^ 64
-  with_bytes n v o k m e h f a = omega arith
+    -- more room than a frame changes nothing
+    same_giving : give t.so_far.hub number t.budget ≡ give t.so_far.hub number (room_in left size_of_buffer)
+    same_giving = by left_or_many
+      where
+        wide : (room : ℕ) → frame_octets ≤ room → give t.so_far.hub number room ≡ give t.so_far.hub number frame_octets
+        wide room h = gives-whole law kept t.so_far.hub number room t.stands h
 
-  with_none : (v o k m : ℕ) → 0 ≡ k → m ≡ o + k → v + o ≡ 2 ^ 64 → v + m ≡ 2 ^ 64
-  with_none v o k m e f a = omega arith
+        narrow : (l n : ℕ) → l < frame_octets → frame_octets ≤ n → l ≡ min l n
+        narrow l n h r = omega arith
 
-  abbrev by_given : Given → Emitted
-  by_given w = turn (λ n. emitted left number (t.budget - n) then) (emitted left number t.budget (record then { reacted = true })) then w
+        both_wide : (l n : ℕ) → frame_octets ≤ l → frame_octets ≤ n → frame_octets ≤ min l n
+        both_wide l n h r = omega arith
 
-  goes_on : (w : Given) → g.given ≡ w → turn_of w ≡ More → IsTurning whole number left before later now
-  goes_on (Bytes n) e is = record {
-    so_far = then;
-    budget = t.budget - n;
-    stands = given.stands;
-    written = now_is;
-    unended = t.unended;
-    allowed = with_bytes n t.budget (length t.so_far.octets) (length g.octets) (length then.octets) (sym (ap octets_of e) ∙ counted) wide (length-append t.so_far.octets g.octets) t.allowed;
-    same = turned ∙ ap by_given e;
-  }
-  goes_on Worked e is = record {
-    so_far = record then { reacted = true };
-    budget = t.budget;
-    stands = given.stands;
-    written = now_is;
-    unended = t.unended;
-    allowed = with_none t.budget (length t.so_far.octets) (length g.octets) (length then.octets) (sym (ap octets_of e) ∙ counted) (length-append t.so_far.octets g.octets) t.allowed;
-    same = turned ∙ ap by_given e;
-  }
-  goes_on Nothing e is = absurd cc
-  goes_on Ending e is = absurd cc
-  goes_on (End reason) e is = absurd cc
+        room_wide : frame_octets ≤ left → give t.so_far.hub number frame_octets ≡ give t.so_far.hub number (room_in left size_of_buffer)
+        room_wide h = sym (wide (room_in left size_of_buffer) (both_wide left size_of_buffer h roomy))
 
-  pub more : next ≡ More → IsTurning whole number left before later now
-  more is = goes_on g.given refl (sym given.follows ∙ is)
+        by_size : t.budget ≡ left → (b : Bool) → nat_le frame_octets left ≡ b → give t.so_far.hub number t.budget ≡ give t.so_far.hub number (room_in left size_of_buffer)
+        by_size e false less = ap (give t.so_far.hub number) (e ∙ narrow left size_of_buffer (leb-false frame_octets left less) roomy)
+        by_size e true more = ap (give t.so_far.hub number) e ∙ wide left (leb-true frame_octets left more) ∙ room_wide (leb-true frame_octets left more)
 
-  same_over : (a b : Option EndReason) → Last a ≡ Last b → a ≡ b
-  same_over a b e = cc
+        by : (t.budget ≡ left) ⊎ (frame_octets ≤ left × frame_octets ≤ t.budget) → give t.so_far.hub number t.budget ≡ give t.so_far.hub number (room_in left size_of_buffer)
+        by (inl e) = by_size e (nat_le frame_octets left) refl
+        by (inr both) = wide t.budget both.1 ∙ room_wide both.0
 
-  is_over : (over : Option EndReason) (w : Given) → g.given ≡ w → turn_of w ≡ Last over → IsEmitted whole before later now over
-  is_over over (Bytes n) e is = absurd cc
-  is_over over Worked e is = absurd cc
-  is_over over Nothing e is = record {
-    end_told = sym (same_over None over is) ∙ sym t.unended ∙ sym (ap (λ x. x.over) (turned ∙ ap by_given e));
-    written = now_is ∙ sym (ap (λ x. before ++ x.octets) (turned ∙ ap by_given e));
-    stands = subst (λ (x : Emitted). StandsFor later x.hub) (sym (turned ∙ ap by_given e)) given.stands;
-  }
-  is_over over Ending e is = record {
-    end_told = sym (same_over None over is) ∙ sym t.unended ∙ sym (ap (λ x. x.over) (turned ∙ ap by_given e));
-    written = now_is ∙ sym (ap (λ x. before ++ x.octets) (turned ∙ ap by_given e));
-    stands = subst (λ (x : Emitted). StandsFor later x.hub) (sym (turned ∙ ap by_given e)) given.stands;
-  }
-  is_over over (End reason) e is = record {
-    end_told = sym (same_over (Some reason) over is) ∙ sym (ap (λ x. x.over) (turned ∙ ap by_given e));
-    written = now_is ∙ sym (ap (λ x. before ++ x.octets) (turned ∙ ap by_given e));
-    stands = subst (λ (x : Emitted). StandsFor later x.hub) (sym (turned ∙ ap by_given e)) given.stands;
-  }
+    abbrev g : Giving
+    g = give t.so_far.hub number (room_in left size_of_buffer)
 
-  pub last : (over : Option EndReason) → next ≡ Last over → IsEmitted whole before later now over
-  last over is = is_over over g.given refl (sym given.follows ∙ is)
+    abbrev done : IsGiven g number octets told later now told_later given
+    done = made t.so_far.hub t.stands
+
+    abbrev then : Emitted
+    then = with_giving g number t.so_far
+
+    now_is : now ≡ before ++ then.octets
+    now_is = done.written ∙ ap (λ o. o ++ g.octets) t.written ∙ append_assoc before t.so_far.octets g.octets
+
+    ends_then : TellsEnds told_later then.filled
+    ends_then = done.ends t.so_far.filled t.ends
+
+    turned : whole ≡ turn (λ n. emitted turns number (t.budget - n) then) (emitted turns number t.budget (record then { reacted = true })) then g.given
+    turned = t.same ∙ emitted-turn turns number t.budget t.so_far some_budget g same_giving
+
+    counted : octets_of g.given ≡ length g.octets
+    counted = gives-counted t.so_far.hub number (room_in left size_of_buffer)
+
+    size_then : length then.octets ≡ length t.so_far.octets + length g.octets
+    size_then = length-append t.so_far.octets g.octets
+
+    abbrev by_given : Given → Emitted
+    by_given w = turn (λ n. emitted turns number (t.budget - n) then) (emitted turns number t.budget (record then { reacted = true })) then w
+
+    fewer : (n b o k m v : ℕ) → n ≡ k → n ≤ b → m ≡ o + k → b + o ≡ v → b - n + m ≡ v
+    fewer n b o k m v e le f a = omega arith
+
+    same_sum : (b o k m v : ℕ) → 0 ≡ k → m ≡ o + k → b + o ≡ v → b + m ≡ v
+    same_sum b o k m v e f a = omega arith
+
+    -- no more octets came than there was room for
+    within : octets_of given ≤ room_in left size_of_buffer → (n : ℕ) → g.given ≡ Bytes n → n ≤ left
+    within h n e = least n left size_of_buffer (subst (λ (w : Given). octets_of w ≤ room_in left size_of_buffer) (done.answers ∙ e) h)
+      where
+        least : (n l m : ℕ) → n ≤ min l m → n ≤ l
+        least n l m h = omega arith
+
+    within_budget : octets_of given ≤ room_in left size_of_buffer → (n : ℕ) → g.given ≡ Bytes n → n ≤ t.budget
+    within_budget h n e = below n left t.budget (length t.so_far.octets) most limit (within h n e) t.counted t.allowed allows.0
+      where
+        below : (n l b o m v : ℕ) → n ≤ l → l + o ≡ m → b + o ≡ v → m ≤ v → n ≤ b
+        below n l b o m v h c a le = omega arith
+
+    goes_on : octets_of given ≤ room_in left size_of_buffer → (w : Given) → g.given ≡ w → turn_of w ≡ More → IsTurning most limit whole number turns (left - octets_of w) before later now told_later (reacted || has_worked w)
+    goes_on h (Bytes n) e is = record {
+      so_far = then;
+      budget = t.budget - n;
+      stands = done.stands;
+      written = now_is;
+      ends = ends_then;
+      reacts = or_false reacted ∙ t.reacts;
+      unended = t.unended;
+      counted = fewer n left (length t.so_far.octets) (length g.octets) (length then.octets) most (sym (ap octets_of e) ∙ counted) (within h n e) size_then t.counted;
+      allowed = fewer n t.budget (length t.so_far.octets) (length g.octets) (length then.octets) limit (sym (ap octets_of e) ∙ counted) (within_budget h n e) size_then t.allowed;
+      same = turned ∙ ap by_given e;
+    }
+    goes_on h Worked e is = record {
+      so_far = record then { reacted = true };
+      budget = t.budget;
+      stands = done.stands;
+      written = now_is;
+      ends = ends_then;
+      reacts = or_true reacted;
+      unended = t.unended;
+      counted = fewer 0 left (length t.so_far.octets) (length g.octets) (length then.octets) most (sym (ap octets_of e) ∙ counted) (omega arith) size_then t.counted;
+      allowed = same_sum t.budget (length t.so_far.octets) (length g.octets) (length then.octets) limit (sym (ap octets_of e) ∙ counted) size_then t.allowed;
+      same = turned ∙ ap by_given e;
+    }
+    goes_on h Nothing e is = absurd cc
+    goes_on h Ending e is = absurd cc
+    goes_on h (End reason) e is = absurd cc
+
+    pub more : octets_of given ≤ room_in left size_of_buffer → turn_of given ≡ More → IsTurning most limit whole number turns (left - octets_of given) before later now told_later (reacted || has_worked given)
+    more h is = subst (λ (w : Given). IsTurning most limit whole number turns (left - octets_of w) before later now told_later (reacted || has_worked w)) (sym done.answers) (goes_on h g.given refl (ap turn_of (sym done.answers) ∙ is))
+
+    same_over : (a b : Option EndReason) → Last a ≡ Last b → a ≡ b
+    same_over a b e = cc
+
+    ended : (over : Option EndReason) (x : Emitted) → whole ≡ x → x.hub ≡ g.hub → x.octets ≡ then.octets → x.filled ≡ then.filled → x.reacted ≡ t.so_far.reacted → over ≡ x.over
+        → IsEmitted whole before later now told_later (record { reacted = reacted || false; over = over })
+    ended over x is hub octets filled reacts end = record {
+      end_told = end ∙ sym (ap (λ (y : Emitted). y.over) is);
+      reacts = or_false reacted ∙ t.reacts ∙ sym reacts ∙ sym (ap (λ (y : Emitted). y.reacted) is);
+      written = now_is ∙ ap (λ (o : List ℕ). before ++ o) (sym octets) ∙ sym (ap (λ (y : Emitted). before ++ y.octets) is);
+      ends = subst (TellsEnds told_later) (sym filled ∙ sym (ap (λ (y : Emitted). y.filled) is)) ends_then;
+      stands = subst (StandsFor later) (sym hub ∙ sym (ap (λ (y : Emitted). y.hub) is)) done.stands;
+    }
+
+    is_over : (over : Option EndReason) (w : Given) → g.given ≡ w → turn_of w ≡ Last over → IsEmitted whole before later now told_later (record { reacted = reacted || has_worked w; over = over })
+    is_over over (Bytes n) e is = absurd cc
+    is_over over Worked e is = absurd cc
+    is_over over Nothing e is = ended over then (turned ∙ ap by_given e) refl refl refl refl (sym (same_over None over is) ∙ sym t.unended)
+    is_over over Ending e is = ended over then (turned ∙ ap by_given e) refl refl refl refl (sym (same_over None over is) ∙ sym t.unended)
+    is_over over (End reason) e is = ended over (record then { over = Some reason }) (turned ∙ ap by_given e) refl refl refl refl (sym (same_over (Some reason) over is))
+
+    pub last : (over : Option EndReason) → turn_of given ≡ Last over → IsEmitted whole before later now told_later (record { reacted = reacted || has_worked given; over = over })
+    last over is = subst (λ (w : Given). IsEmitted whole before later now told_later (record { reacted = reacted || has_worked w; over = over })) (sym done.answers) (is_over over g.given refl (ap turn_of (sym done.answers) ∙ is))
 
 -- all turns are made
-pub used_up : (whole : Emitted) (number : ℕ) (before : List ℕ) (kept : KeptHub) (octets : List ℕ) → IsTurning whole number 0 before kept octets → IsEmitted whole before kept octets None
-used_up whole number before kept octets t = record {
+pub used_up : (most limit : ℕ) (whole : Emitted) (number left : ℕ) (before : List ℕ) (kept : KeptHub) (octets : List ℕ) (told : List (ℕ × ℕ)) (reacted : Bool) → IsTurning most limit whole number 0 left before kept octets told reacted
+    → IsEmitted whole before kept octets told (record { reacted = reacted; over = None })
+used_up most limit whole number left before kept octets told reacted t = record {
   end_told = sym t.unended ∙ sym (ap (λ x. x.over) t.same);
+  reacts = t.reacts ∙ sym (ap (λ x. x.reacted) t.same);
   written = t.written ∙ sym (ap (λ x. before ++ x.octets) t.same);
+  ends = subst (λ (x : Emitted). TellsEnds told x.filled) (sym t.same) t.ends;
   stands = subst (λ (x : Emitted). StandsFor kept x.hub) (sym t.same) t.stands;
 }
 
 -- ---- the same of all hubs that are stood for
 
-pub gives-once : (kept later : KeptHub) (number : ℕ) (before octets buffer after : List ℕ) (given : Given) (next : Turn)
+pub gives-once : (kept later : KeptHub) (number : ℕ) (before octets buffer after : List ℕ) (told told_later : List (ℕ × ℕ)) (given : Given)
     → ((hub : Hub) → StandsFor kept hub → (given ≡ (give hub number (length buffer)).given)
     × (after ≡ (give hub number (length buffer)).octets ++ drop (length (give hub number (length buffer)).octets) buffer) × StandsFor later (give hub number (length buffer)).hub)
-    → length buffer ≡ frame_octets → octets ≡ before ++ written given after → next ≡ turn_of given → Gives kept number before later octets next
+    → octets ≡ before ++ written given after → ((hub : Hub) → StandsFor later hub → Remembers hub number told told_later) → Gives (length buffer) kept number before told later octets told_later given
 unfolding Gives
-gives-once kept later number before octets buffer after given next made size octets_are follows hub stands =
+gives-once kept later number before octets buffer after told told_later given made octets_are remembers hub stands =
     let m = made hub stands in
     let g = give hub number (length buffer) in
-    subst (λ (r : ℕ). IsGiven (give hub number r) before later octets next) size (record {
-      follows = follows ∙ ap turn_of m.0;
+    record {
+      answers = m.0;
       written = octets_are ∙ ap (λ o. before ++ o) ((λ i. written (m.0 i) (m.1 i)) ∙ written-given g.given g.octets buffer (gives-counted hub number (length buffer)));
+      ends = remembers g.hub m.2;
       stands = m.2;
-    })
+    }
 
-pub turning-begins : (start : KeptHub) (number : ℕ) (before : List ℕ) → Turning start number enough before start before
+pub turning-begins : (most : ℕ) (start : KeptHub) (number : ℕ) (before : List ℕ) (told : List (ℕ × ℕ)) → Turning most start number enough most before told start before told false
 turning-begins = begins
 
-pub emits-last : GivesStand → (start kept later : KeptHub) (number left : ℕ) (before octets now : List ℕ) (next : Turn) (over : Option EndReason)
-    → Turning start number (suc left) before kept octets → Gives kept number octets later now next → length now < 2 ^ 63 → next ≡ Last over → Emits start number before later now over
-unfolding Turning Gives Emits
-emits-last law start kept later number left before octets now next over t made short is hub stands =
-    last law (emitted enough number enough (nothing_emitted hub [])) number left before kept later octets now next (t hub stands) made short over is
-
-pub turning-more : GivesStand → (start kept later : KeptHub) (number left : ℕ) (before octets now : List ℕ) (next : Turn)
-    → Turning start number (suc left) before kept octets → Gives kept number octets later now next → length now < 2 ^ 63 → next ≡ More → Turning start number left before later now
-unfolding Turning Gives
-turning-more law start kept later number left before octets now next t made short is hub stands =
-    more law (emitted enough number enough (nothing_emitted hub [])) number left before kept later octets now next (t hub stands) made short is
-
-pub emits-used_up : (start kept : KeptHub) (number left : ℕ) (before octets : List ℕ) → left ≡ 0 → Turning start number left before kept octets → Emits start number before kept octets None
+pub emits-used_up_budget : GivesStand → (most : ℕ) (start kept : KeptHub) (number turns left : ℕ) (before octets : List ℕ) (told_before told : List (ℕ × ℕ)) (reacted : Bool)
+    → Turning most start number (suc turns) left before told_before kept octets told reacted → length octets < 2 ^ 63 → left ≡ 0 → Emits most start number before told_before kept octets told (record { reacted = reacted; over = None })
 unfolding Turning Emits
-emits-used_up start kept number left before octets none t hub stands =
-    let whole = emitted enough number enough (nothing_emitted hub []) in
-    used_up whole number before kept octets (subst (λ (n : ℕ). IsTurning whole number n before kept octets) none (t hub stands))
+emits-used_up_budget law most start kept number turns left before octets told_before told reacted t short none limit hub plain allows stands ends =
+    used_up_budget law most limit allows (emitted enough number limit (nothing_emitted hub plain)) number turns left before kept octets told reacted (t limit hub plain allows stands ends) short none
+
+pub emits-last : GivesStand → (most : ℕ) (start kept later : KeptHub) (number turns left : ℕ) (before octets now : List ℕ) (told_before told told_later : List (ℕ × ℕ)) (reacted : Bool) (size : ℕ) (given : Given) (over : Option EndReason)
+    → Turning most start number (suc turns) left before told_before kept octets told reacted → length octets < 2 ^ 63 → frame_octets ≤ size → (left ≡ 0 → ⊥) → Gives (room_in left size) kept number octets told later now told_later given → turn_of given ≡ Last over
+    → Emits most start number before told_before later now told_later (record { reacted = reacted || has_worked given; over = over })
+unfolding Turning Gives Emits
+emits-last law most start kept later number turns left before octets now told_before told told_later reacted size given over t short wide some made is limit hub plain allows stands ends =
+    last law most limit allows (emitted enough number limit (nothing_emitted hub plain)) number turns left before kept octets told reacted (t limit hub plain allows stands ends) short size wide some later now told_later given made over is
+
+pub turning-more : GivesStand → (most : ℕ) (start kept later : KeptHub) (number turns left : ℕ) (before octets now : List ℕ) (told_before told told_later : List (ℕ × ℕ)) (reacted : Bool) (size : ℕ) (given : Given)
+    → Turning most start number (suc turns) left before told_before kept octets told reacted → length octets < 2 ^ 63 → frame_octets ≤ size → (left ≡ 0 → ⊥) → Gives (room_in left size) kept number octets told later now told_later given
+    → octets_of given ≤ room_in left size → turn_of given ≡ More → Turning most start number turns (left - octets_of given) before told_before later now told_later (reacted || has_worked given)
+unfolding Turning Gives
+turning-more law most start kept later number turns left before octets now told_before told told_later reacted size given t short wide some made bound is limit hub plain allows stands ends =
+    more law most limit allows (emitted enough number limit (nothing_emitted hub plain)) number turns left before kept octets told reacted (t limit hub plain allows stands ends) short size wide some later now told_later given made bound is
+
+pub emits-used_up : (most : ℕ) (start kept : KeptHub) (number left turns : ℕ) (before octets : List ℕ) (told_before told : List (ℕ × ℕ)) (reacted : Bool) → turns ≡ 0 → Turning most start number turns left before told_before kept octets told reacted
+    → Emits most start number before told_before kept octets told (record { reacted = reacted; over = None })
+unfolding Turning Emits
+emits-used_up most start kept number left turns before octets told_before told reacted none t limit hub plain allows stands ends =
+    let whole = emitted enough number limit (nothing_emitted hub plain) in
+    used_up most limit whole number left before kept octets told reacted (subst (λ (n : ℕ). IsTurning most limit whole number n left before kept octets told reacted) none (t limit hub plain allows stands ends))
 
 -- one turn less
 pub stepped : (n : ℕ) → (n ≡ 0 → ⊥) → n ≡ suc (n - 1)
 stepped n h = omega (arith, h)
+
+pub is_zero : (n : ℕ) → (n == 0) ≡ true → n ≡ 0
+is_zero n h = eqb→eq n 0 (subst T (sym h) tt)
+
+pub not_zero : (n : ℕ) → (n == 0) ≡ false → n ≡ 0 → ⊥
+not_zero n h e = (let wrong : true ≡ false = sym (ap (λ (m : ℕ). m == 0) e) ∙ h in absurd cc)
+
+pub narrower : (budget size : ℕ) → min (min budget size) size ≡ room_in budget size
+narrower budget size = omega arith

@@ -1,13 +1,14 @@
 -- An exchange, round by round.
-use Rattle.std.proofs.Common.{◌≡◌, ℕ, suc, ◌≤◌, ◌==◌, ◌||◌, Bool, true, false, List, [], ◌++◌, length, take, drop, min, Option, Some, None, sym, ◌∙◌, ap, subst, refl, arith, eq-eqb, ne_eqb, ◌<◌}
+use Rattle.std.proofs.Common.{◌≡◌, inr, ℕ, suc, ◌≤◌, ◌==◌, ◌||◌, Bool, true, false, List, [], ◌++◌, length, take, drop, min, Option, Some, None, sym, ◌∙◌, ap, subst, refl, arith, eq-eqb, ne_eqb, ◌<◌}
 use Rattle.std.specs.Prelude.{nat_le}
 use Rattle.std.proofs.lemmas.Bool.{leb-true, leb-false}
 use Rattle.pushserver.specs.PlainHubs.{Session, Hub}
-use Rattle.dsosession.specs.declared.session.EndReason.{EndReason}
 use Rattle.pushsession.specs.Sessions.{room_of}
 use Rattle.pushserver.specs.Hubs.{session_of, taken_by, take_octets}
 use Rattle.pushserver.specs.KeptHubs.{KeptHub, StandsFor}
 use Rattle.replay.specs.PassedOctets.{Emitted, Exchanged, emitted, exchanged, nothing_emitted, enough}
+use Rattle.inflight.specs.Ends.{told_end}
+use Rattle.replay.specs.declared.exchanging.Emission.{Emission}
 use Rattle.replay.specs.KeptExchanges.{Emits, IsEmitted, IsExchanged, Exchanges}
 use Rattle.replay.proofs.exchanges.Taking.{take-front}
 
@@ -27,16 +28,16 @@ rounds-begin start number sent hub stands = record { hub = hub; stands = stands;
 abbrev pub Takes : KeptHub → ℕ → List ℕ → ℕ → KeptHub → Type 0
 Takes kept number piece count later = (hub : Hub) → StandsFor kept hub → (count ≡ taken_by hub number piece) × StandsFor later (take_octets hub number piece)
 
-module _ (whole : Exchanged) (number left count : ℕ) (rest : List ℕ) (kept between later : KeptHub) (answer now : List ℕ) (over : Option EndReason)
-    (r : IsRound whole number (suc left) kept rest answer) (takes : Takes kept number rest count between) (made : (hub : Hub) → StandsFor between hub → IsEmitted (emitted enough number enough (nothing_emitted hub [])) answer later now over) where
+module _ (whole : Exchanged) (number left count : ℕ) (rest : List ℕ) (kept between later : KeptHub) (answer now : List ℕ) (told : List (ℕ × ℕ)) (emission : Emission)
+    (r : IsRound whole number (suc left) kept rest answer) (takes : Takes kept number rest count between) (made : (hub : Hub) → StandsFor between hub → IsEmitted (emitted enough number enough (nothing_emitted hub [])) answer later now told emission) where
   abbrev taken : (count ≡ taken_by r.hub number rest) × StandsFor between (take_octets r.hub number rest)
   taken = takes r.hub r.stands
 
   abbrev fed : ℕ → Emitted
   fed k = emitted enough number enough (nothing_emitted (take_octets r.hub number (take k rest)) [])
 
-  given : IsEmitted (fed count) answer later now over
-  given = subst (λ (h : Hub). IsEmitted (emitted enough number enough (nothing_emitted h [])) answer later now over)
+  given : IsEmitted (fed count) answer later now told emission
+  given = subst (λ (h : Hub). IsEmitted (emitted enough number enough (nothing_emitted h [])) answer later now told emission)
       (sym (take-front kept r.hub number rest r.stands) ∙ ap (λ k. take_octets r.hub number (take k rest)) (sym taken.0))
       (made (take_octets r.hub number rest) taken.1)
 
@@ -73,7 +74,7 @@ module _ (whole : Exchanged) (number left count : ℕ) (rest : List ℕ) (kept b
   tested : (b : Bool) → (count == 0 || nat_le (length rest) count) ≡ b → (count == 0 || count == length rest) ≡ b
   tested b e = ap (λ t. count == 0 || t) (same_test (nat_le (length rest) count) refl) ∙ e
 
-  pub round-last : (count == 0 || nat_le (length rest) count) ≡ true → IsExchanged whole later now over
+  pub round-last : (count == 0 || nat_le (length rest) count) ≡ true → IsExchanged whole later now emission.over
   round-last e =
       let is = sym (rounded true (tested true e)) in
       record {
@@ -98,19 +99,26 @@ rounds-used_up whole number kept rest answer r = record {
 
 -- ---- the same of all hubs that are stood for
 
-pub exchanges-last : (start kept between later : KeptHub) (number left count : ℕ) (sent rest answer now : List ℕ) (over : Option EndReason)
-    → Rounds start number sent (suc left) kept rest answer → Takes kept number rest count between → Emits between number answer later now over
-    → (count == 0 || nat_le (length rest) count) ≡ true → Exchanges start number sent later now over
-unfolding Rounds Emits Exchanges
-exchanges-last start kept between later number left count sent rest answer now over r takes made is hub stands =
-    round-last (exchanged enough number sent hub []) number left count rest kept between later answer now over (r hub stands) takes made is
+-- a peer is told nothing of first answers, and octets come without a bound
+emits-all : (between later : KeptHub) (number : ℕ) (answer now : List ℕ) (nothing told : List (ℕ × ℕ)) (emission : Emission) → nothing ≡ [] → Emits 18446744073709551615 between number answer nothing later now told emission
+    → (hub : Hub) → StandsFor between hub → IsEmitted (emitted enough number enough (nothing_emitted hub [])) answer later now told emission
+unfolding Emits
+emits-all between later number answer now nothing told emission none made hub stands =
+    made enough hub [] (omega arith, inr refl) stands (λ id. ap (λ (l : List (ℕ × ℕ)). told_end l id) none)
 
-pub rounds-more : (start kept between later : KeptHub) (number left count : ℕ) (sent rest answer now : List ℕ) (over : Option EndReason)
-    → Rounds start number sent (suc left) kept rest answer → Takes kept number rest count between → Emits between number answer later now over
+pub exchanges-last : (start kept between later : KeptHub) (number left count : ℕ) (sent rest answer now : List ℕ) (nothing told : List (ℕ × ℕ)) (emission : Emission)
+    → Rounds start number sent (suc left) kept rest answer → Takes kept number rest count between → nothing ≡ [] → Emits 18446744073709551615 between number answer nothing later now told emission
+    → (count == 0 || nat_le (length rest) count) ≡ true → Exchanges start number sent later now emission.over
+unfolding Rounds Exchanges
+exchanges-last start kept between later number left count sent rest answer now nothing told emission r takes none made is hub stands =
+    round-last (exchanged enough number sent hub []) number left count rest kept between later answer now told emission (r hub stands) takes (emits-all between later number answer now nothing told emission none made) is
+
+pub rounds-more : (start kept between later : KeptHub) (number left count : ℕ) (sent rest answer now : List ℕ) (nothing told : List (ℕ × ℕ)) (emission : Emission)
+    → Rounds start number sent (suc left) kept rest answer → Takes kept number rest count between → nothing ≡ [] → Emits 18446744073709551615 between number answer nothing later now told emission
     → (count == 0 || nat_le (length rest) count) ≡ false → Rounds start number sent left later (drop count rest) now
-unfolding Rounds Emits
-rounds-more start kept between later number left count sent rest answer now over r takes made is hub stands =
-    round-more (exchanged enough number sent hub []) number left count rest kept between later answer now over (r hub stands) takes made is
+unfolding Rounds
+rounds-more start kept between later number left count sent rest answer now nothing told emission r takes none made is hub stands =
+    round-more (exchanged enough number sent hub []) number left count rest kept between later answer now told emission (r hub stands) takes (emits-all between later number answer now nothing told emission none made) is
 
 pub exchanges-used_up : (start kept : KeptHub) (number left : ℕ) (sent rest answer : List ℕ) → left ≡ 0 → Rounds start number sent left kept rest answer → Exchanges start number sent kept answer None
 unfolding Rounds Exchanges

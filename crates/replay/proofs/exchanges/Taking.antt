@@ -67,7 +67,7 @@ smaller k n room h = omega arith
 turned : (n room : ℕ) → min n room ≡ min room n
 turned n room = omega arith
 
-front : (room : ℕ) (piece : List ℕ) → take room (take (min (length piece) room) piece) ≡ take room piece
+pub front : (room : ℕ) (piece : List ℕ) → take room (take (min (length piece) room) piece) ≡ take room piece
 front room piece =
     let k = min (length piece) room in
     take_all room (take k piece) (smaller (length (take k piece)) (length piece) room (length-take k piece))

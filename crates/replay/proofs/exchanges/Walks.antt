@@ -1,5 +1,5 @@
 -- What holds of all that a call of `give` may do.
---     give-walk      by its leaves: something was done without octets, or the output of the session is copied
+--     give-walk      by its leaves: something was done without octets, or an output of the session is copied that isn't empty
 --     gives-written      the octets copied are as many as it tells, and none come with another answer
 --     gives-whole      with room for a frame, more room changes nothing
 use Rattle.std.proofs.Common.{◌≡◌, ℕ, ◌≤◌, ◌==◌, Bool, true, false, cond, List, [], ◌∷◌, ◌++◌, min, map, length, take, drop, find, Option, Some, None, option_map, sym, ◌∙◌, ap, subst, refl, arith, take_all}
@@ -34,13 +34,13 @@ is_bytes _ = false
 
 module _ (number : ℕ) (P : (ℕ → Giving) → Type 0)
     (done : (given : Given) (hub : Hub) → is_bytes given ≡ false → P (λ room. did given hub))
-    (copied : (session : Session) (hub : Hub) → session_of hub number ≡ Some session → P (λ room. copies number room session hub)) where
+    (copied : (session : Session) (hub : Hub) → session_of hub number ≡ Some session → is_empty session.output ≡ false → P (λ room. copies number room session hub)) where
   copies_or-walk : (given : Given) (session : Session) (hub : Hub) → is_bytes given ≡ false → session_of hub number ≡ Some session → P (λ room. copies_or given number room session hub)
-  copies_or-walk given session hub is found = by (is_empty session.output)
+  copies_or-walk given session hub is found = by (is_empty session.output) refl
     where
-      by : (b : Bool) → P (λ room. copies_as hub number room session given b)
-      by true = done given hub is
-      by false = copied session hub found
+      by : (b : Bool) → is_empty session.output ≡ b → P (λ room. copies_as hub number room session given b)
+      by true none = done given hub is
+      by false some = copied session hub found some
 
   given_after-is : (s : Standing) → is_bytes (given_after s) ≡ false
   given_after-is Live = refl
@@ -74,13 +74,13 @@ module _ (number : ℕ) (P : (ℕ → Giving) → Type 0)
   pub give-walk : (hub : Hub) → P (λ room. give hub number room)
   give-walk hub = by (session_of hub number) refl
     where
-      by_output : (session : Session) → session_of hub number ≡ Some session → (b : Bool) → P (λ room. output_as hub number room session b)
-      by_output session e false = copied session hub e
-      by_output session e true = standing-walk session.standing session hub
+      by_output : (session : Session) → session_of hub number ≡ Some session → (b : Bool) → is_empty session.output ≡ b → P (λ room. output_as hub number room session b)
+      by_output session e false some = copied session hub e some
+      by_output session e true none = standing-walk session.standing session hub
 
       by : (o : Option Session) → session_of hub number ≡ o → P (λ room. give_as hub number room o)
       by None e = done (End ends.Gone) hub refl
-      by (Some session) e = by_output session e (is_empty session.output)
+      by (Some session) e = by_output session e (is_empty session.output) refl
 
 -- ---- the octets copied
 
@@ -96,7 +96,7 @@ counts_done Ending hub is = refl
 counts_done (End reason) hub is = refl
 
 pub gives-counted : (hub : Hub) (number room : ℕ) → IsCounted (give hub number room)
-gives-counted hub number room = give-walk number (λ f. (room : ℕ) → IsCounted (f room)) (λ given h is r. counts_done given h is) (λ session h found r. sym (length-take r session.output)) hub room
+gives-counted hub number room = give-walk number (λ f. (room : ℕ) → IsCounted (f room)) (λ given h is r. counts_done given h is) (λ session h found some r. sym (length-take r session.output)) hub room
 
 none_are : (xs : List ℕ) → 0 ≡ length xs → [] ≡ xs
 none_are [] e = refl
@@ -190,4 +190,4 @@ pub gives-whole : GivesStand → (k : KeptHub) (hub : Hub) (number room : ℕ) �
 gives-whole law k hub number room stands wide =
     let g = give hub number 0 in
     let both = law k hub number 0 stands in
-    give-walk number IsRoomy roomy_done (roomy_copied number) hub (all-weaken (IsSoundSession g.hub) Fits (λ e sound. sound.output_fits) g.hub.sessions both.hub.sound.sessions) room wide
+    give-walk number IsRoomy roomy_done (λ session h found some. roomy_copied number session h found) hub (all-weaken (IsSoundSession g.hub) Fits (λ e sound. sound.output_fits) g.hub.sessions both.hub.sound.sessions) room wide

@@ -1,6 +1,6 @@
 -- Which lines are those of a client, the words of the clients, and the lines that are left.
 use Rattle.std.proofs.Common.{◌≡◌, ℕ, ◌<◌, ◌⊎◌, Bool, true, false, cond, eqb, ◌&&◌, ◌||◌, Option, Some, None, List, [], ◌∷◌, ◌++◌, length, map, refl, sym, ◌∙◌, ap, subst, inl, inr, arith, append_assoc, ⊎_elim}
-use Rattle.std.specs.Prelude.{option_map, codes, string_bytes}
+use Rattle.std.specs.Prelude.{find, drop, get_or, ◌+◌, option_map, codes, string_bytes}
 use Rattle.std.specs.declared.alloc.Global.{Global}
 use Rattle.std.specs.declared.string.String.{String}
 use Rattle.std.specs.List.{onto_first, list_all, join_with_byte}
@@ -8,7 +8,7 @@ use Rattle.std.specs.Str.{is_utf8, bytes_eq}
 use Rattle.std.proofs.lemmas.Bool.{cases_Bool}
 use Rattle.std.proofs.lemmas.Bool.Decides.{nat_tests}
 use Rattle.std.proofs.lemmas.Option.{cond_some}
-use Rattle.std.proofs.lemmas.List.{append-nil}
+use Rattle.std.proofs.lemmas.List.{append-nil, at_drop_more}
 use Rattle.std.proofs.lemmas.List.Splits.{join_with_byte-slice_split}
 use Rattle.push_base.specs.Cases.{is_empty}
 use Rattle.push_base.specs.Optional.{◌>>=◌}
@@ -16,7 +16,8 @@ use Rattle.dnsname.proofs.Decisions.{and_true}
 use Rattle.replay.specs.Lines.{lines_by, Word, ScriptLine, silent, client, lone, update, hear, ask, drop_question, open_connection, cut, say, up, emit, down, settle, send, feed, point, word, is, of_word, by_first_word, of_words, line_of, is_word_octet}
 use Rattle.replay.specs.Scripts.{onto_line, lines_in, client_word, client_words, is_among, last_is_outside}
 use Rattle.replay.specs.KeptLines.{words_in}
-use Rattle.replay.specs.Drafts.{lines_left, client_in, in_list, has_client}
+use Rattle.replay.specs.Drafts.{lines_left, client_in, in_list, has_client, known_clients, lone_in}
+use Rattle.replay.specs.declared.clients.KnownClient.{KnownClient}
 use Rattle.replay.proofs.lines.LineKinds.{chosen_none, timers_none, zone_none, link_none, word_none, at_none, octets_none, word_octets_none, word_question_none, reconfirm_none, word_number_none, stop_none, alone_none, show_none, is_that}
 
 -- ---- the client that a line names
@@ -221,6 +222,25 @@ words_more (Some line) lines = by_word (client_word line)
 pub any_client : (clients : List (String Global)) (w : Word) → has_client w clients ≡ is_among (map (λ c. string_bytes c) clients) w
 any_client [] w = refl
 any_client (c ∷ cs) w = ap (λ (b : Bool). bytes_eq w (string_bytes c) || b) (any_client cs w)
+
+-- ---- a client that there is
+
+abbrev pub known_from : Word → List KnownClient → Option Bool
+known_from w clients = lone_in (known_clients clients) w
+
+abbrev known_by : Word → KnownClient → List KnownClient → Bool → Option Bool
+known_by w c rest b = option_map (λ (e : Word × Bool). e.1) (cond b (Some (string_bytes c.word, c.is_lone)) (find (λ (e : Word × Bool). bytes_eq w e.0) (known_clients rest)))
+
+at_known : (clients : List KnownClient) (i : ℕ) (c : KnownClient) (w : Word) → i < length clients → c ≡ get_or clients i c → known_from w (drop i clients) ≡ known_by w c (drop (i + 1) clients) (bytes_eq w (string_bytes c.word))
+at_known clients i c w within is = at_drop_more (known_from w) clients i c within ∙ ap (λ (d : KnownClient). known_from w (d ∷ drop (i + 1) clients)) (sym is)
+
+pub known_passed : (clients : List KnownClient) (i : ℕ) (c : KnownClient) (w : Word) (whole : Option Bool) → i < length clients → c ≡ get_or clients i c → bytes_eq w (string_bytes c.word) ≡ false
+    → known_from w (drop i clients) ≡ whole → known_from w (drop (i + 1) clients) ≡ whole
+known_passed clients i c w whole within is other so_far = sym (at_known clients i c w within is ∙ ap (known_by w c (drop (i + 1) clients)) other) ∙ so_far
+
+pub known_found : (clients : List KnownClient) (i : ℕ) (c : KnownClient) (w : Word) (whole : Option Bool) → i < length clients → c ≡ get_or clients i c → bytes_eq w (string_bytes c.word) ≡ true
+    → known_from w (drop i clients) ≡ whole → Some c.is_lone ≡ whole
+known_found clients i c w whole within is same so_far = sym (at_known clients i c w within is ∙ ap (known_by w c (drop (i + 1) clients)) same) ∙ so_far
 
 -- ---- the lines that are left
 

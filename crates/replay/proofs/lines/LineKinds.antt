@@ -135,10 +135,14 @@ record IsOther (w : Word) : Type 0 where
   no_send : is w (codes "send") ≡ false
   no_stop : is w (codes "stop") ≡ false
   no_point : is w (codes "point") ≡ false
+  no_client : is w (codes "client") ≡ false
   no_lone : is w (codes "lone") ≡ false
   no_ask : is w (codes "ask") ≡ false
   no_drop : is w (codes "drop") ≡ false
   no_open : is w (codes "open") ≡ false
+  no_feed : is w (codes "feed") ≡ false
+  no_show : is w (codes "show") ≡ false
+  no_settle : is w (codes "settle") ≡ false
 
 other_built : (w : Word) (ws : List Word) → IsOther w → understood (by_first_word w ws) ≡ None
 other_built w ws o = chosen_none built_line (lines_by w ws) (
@@ -148,7 +152,7 @@ other_built w ws o = chosen_none built_line (lines_by w ws) (
     (
       inr (link_none built_line (λ v n. refl) ws),
       (
-        inr (word_none built_line client (λ v. refl) ws),
+        inl o.no_client,
         (
           inl o.no_lone,
           (
@@ -176,16 +180,16 @@ other_built w ws o = chosen_none built_line (lines_by w ws) (
                                 (
                                   inr (word_number_none built_line down (λ v n. refl) ws),
                                   (
-                                    inr (word_none built_line settle (λ v. refl) ws),
+                                    inl o.no_settle,
                                     (
                                       inl o.no_send,
                                       (
-                                        inr (word_octets_none built_line feed (λ v o. refl) ws),
+                                        inl o.no_feed,
                                         (
                                           inl o.no_stop,
                                           (
                                             inl o.no_point,
-                                            (inr (show_none built_line (λ v q n. refl) ws), tt),
+                                            (inl o.no_show, tt),
                                           ),
                                         ),
                                       ),
@@ -241,10 +245,10 @@ at_built [] = refl
 at_built (t ∷ []) = map_built (number max_moment t) (λ n. at_moment n) (λ n. refl)
 at_built (t ∷ v ∷ ws) = refl
 
-cut_built : (ws : List Word) → understood (of_word cut ws) ≡ of_word cut ws
-cut_built [] = refl
-cut_built (w ∷ []) = map_built (word w) (λ p. cut p) (λ p. refl)
-cut_built (w ∷ v ∷ ws) = refl
+word_built : (line : Word → ScriptLine) → ((w : Word) → built_line (line w) ≡ Some (line w)) → (ws : List Word) → understood (of_word line ws) ≡ of_word line ws
+word_built line h [] = refl
+word_built line h (w ∷ []) = map_built (word w) (λ p. line p) h
+word_built line h (w ∷ v ∷ ws) = refl
 
 stop_built : (ws : List Word) → understood (stop_line ws) ≡ stop_line ws
 stop_built [] = refl
@@ -268,15 +272,19 @@ point_built : (ws : List Word) → understood (alone point ws) ≡ alone point w
 point_built [] = refl
 point_built (w ∷ ws) = refl
 
-lone_built : (ws : List Word) → understood (of_word lone ws) ≡ of_word lone ws
-lone_built [] = refl
-lone_built (w ∷ []) = map_built (word w) (λ p. lone p) (λ p. refl)
-lone_built (w ∷ v ∷ ws) = refl
+feed_built : (ws : List Word) → understood (of_word_and_octets feed ws) ≡ of_word_and_octets feed ws
+feed_built [] = refl
+feed_built (w ∷ []) = refl
+feed_built (w ∷ o ∷ []) = bind_built (word w) _ (λ p. bind_built (octets_written o) _ (λ r. refl))
+feed_built (w ∷ o ∷ v ∷ ws) = refl
 
-open_built : (ws : List Word) → understood (of_word open_connection ws) ≡ of_word open_connection ws
-open_built [] = refl
-open_built (w ∷ []) = map_built (word w) (λ p. open_connection p) (λ p. refl)
-open_built (w ∷ v ∷ ws) = refl
+show_built : (ws : List Word) → understood (show_line ws) ≡ show_line ws
+show_built [] = refl
+show_built (w ∷ []) = refl
+show_built (w ∷ n ∷ []) = refl
+show_built (w ∷ n ∷ k ∷ []) = refl
+show_built (w ∷ n ∷ k ∷ c ∷ []) = bind_built (word w) _ (λ p. bind_built (question n k c) _ (λ q. refl))
+show_built (w ∷ n ∷ k ∷ c ∷ v ∷ ws) = refl
 
 question_built : (line : Word → Question → ScriptLine) → ((w : Word) (q : Question) → built_line (line w q) ≡ Some (line w q)) → (ws : List Word) → understood (of_word_and_question line ws) ≡ of_word_and_question line ws
 question_built line h [] = refl
@@ -289,23 +297,27 @@ question_built line h (w ∷ n ∷ k ∷ c ∷ v ∷ ws) = refl
 pub is_that : (w v : Word) → is w v ≡ true → w ≡ v
 is_that w v h = (bytes_eq-Decides w v).0 h
 
-abbrev kind_by : Bool → Bool → Bool → Bool → Bool → Bool → Bool → Bool → Bool → Bool → Bool → Bool → Kind
-kind_by a b c d e f g h i j k l = cond a kinds.Timers (cond b kinds.Zone (cond c kinds.At (cond d kinds.Update (cond e kinds.Cut (cond f kinds.Send (cond g kinds.Stop (cond h kinds.Point (cond i kinds.Lone (cond j kinds.Ask (cond k kinds.Drop (cond l kinds.Open kinds.Other)))))))))))
+abbrev kind_by : Bool → Bool → Bool → Bool → Bool → Bool → Bool → Bool → Bool → Bool → Bool → Bool → Bool → Bool → Bool → Bool → Kind
+kind_by a b c d e f g h i j k l m n o p = cond a kinds.Timers (cond b kinds.Zone (cond c kinds.At (cond d kinds.Update (cond e kinds.Cut (cond f kinds.Send (cond g kinds.Stop (cond h kinds.Point (cond i kinds.Client (cond j kinds.Lone (cond k kinds.Ask (cond l kinds.Drop (cond m kinds.Open (cond n kinds.Feed (cond o kinds.Show (cond p kinds.Settle kinds.Other)))))))))))))))
 
 other_kind : (w : Word) → IsOther w → kind_of w ≡ kinds.Other
 other_kind w o =
-    ap (λ (x : Bool). kind_by x (is w (codes "zone")) (is w (codes "at")) (is w (codes "update")) (is w (codes "cut")) (is w (codes "send")) (is w (codes "stop")) (is w (codes "point")) (is w (codes "lone")) (is w (codes "ask")) (is w (codes "drop")) (is w (codes "open"))) o.no_timers
-    ∙ ap (λ (x : Bool). kind_by false x (is w (codes "at")) (is w (codes "update")) (is w (codes "cut")) (is w (codes "send")) (is w (codes "stop")) (is w (codes "point")) (is w (codes "lone")) (is w (codes "ask")) (is w (codes "drop")) (is w (codes "open"))) o.no_zone
-    ∙ ap (λ (x : Bool). kind_by false false x (is w (codes "update")) (is w (codes "cut")) (is w (codes "send")) (is w (codes "stop")) (is w (codes "point")) (is w (codes "lone")) (is w (codes "ask")) (is w (codes "drop")) (is w (codes "open"))) o.no_at
-    ∙ ap (λ (x : Bool). kind_by false false false x (is w (codes "cut")) (is w (codes "send")) (is w (codes "stop")) (is w (codes "point")) (is w (codes "lone")) (is w (codes "ask")) (is w (codes "drop")) (is w (codes "open"))) o.no_update
-    ∙ ap (λ (x : Bool). kind_by false false false false x (is w (codes "send")) (is w (codes "stop")) (is w (codes "point")) (is w (codes "lone")) (is w (codes "ask")) (is w (codes "drop")) (is w (codes "open"))) o.no_cut
-    ∙ ap (λ (x : Bool). kind_by false false false false false x (is w (codes "stop")) (is w (codes "point")) (is w (codes "lone")) (is w (codes "ask")) (is w (codes "drop")) (is w (codes "open"))) o.no_send
-    ∙ ap (λ (x : Bool). kind_by false false false false false false x (is w (codes "point")) (is w (codes "lone")) (is w (codes "ask")) (is w (codes "drop")) (is w (codes "open"))) o.no_stop
-    ∙ ap (λ (x : Bool). kind_by false false false false false false false x (is w (codes "lone")) (is w (codes "ask")) (is w (codes "drop")) (is w (codes "open"))) o.no_point
-    ∙ ap (λ (x : Bool). kind_by false false false false false false false false x (is w (codes "ask")) (is w (codes "drop")) (is w (codes "open"))) o.no_lone
-    ∙ ap (λ (x : Bool). kind_by false false false false false false false false false x (is w (codes "drop")) (is w (codes "open"))) o.no_ask
-    ∙ ap (λ (x : Bool). kind_by false false false false false false false false false false x (is w (codes "open"))) o.no_drop
-    ∙ ap (λ (x : Bool). kind_by false false false false false false false false false false false x) o.no_open
+    ap (λ (x : Bool). kind_by x (is w (codes "zone")) (is w (codes "at")) (is w (codes "update")) (is w (codes "cut")) (is w (codes "send")) (is w (codes "stop")) (is w (codes "point")) (is w (codes "client")) (is w (codes "lone")) (is w (codes "ask")) (is w (codes "drop")) (is w (codes "open")) (is w (codes "feed")) (is w (codes "show")) (is w (codes "settle"))) o.no_timers
+    ∙ ap (λ (x : Bool). kind_by false x (is w (codes "at")) (is w (codes "update")) (is w (codes "cut")) (is w (codes "send")) (is w (codes "stop")) (is w (codes "point")) (is w (codes "client")) (is w (codes "lone")) (is w (codes "ask")) (is w (codes "drop")) (is w (codes "open")) (is w (codes "feed")) (is w (codes "show")) (is w (codes "settle"))) o.no_zone
+    ∙ ap (λ (x : Bool). kind_by false false x (is w (codes "update")) (is w (codes "cut")) (is w (codes "send")) (is w (codes "stop")) (is w (codes "point")) (is w (codes "client")) (is w (codes "lone")) (is w (codes "ask")) (is w (codes "drop")) (is w (codes "open")) (is w (codes "feed")) (is w (codes "show")) (is w (codes "settle"))) o.no_at
+    ∙ ap (λ (x : Bool). kind_by false false false x (is w (codes "cut")) (is w (codes "send")) (is w (codes "stop")) (is w (codes "point")) (is w (codes "client")) (is w (codes "lone")) (is w (codes "ask")) (is w (codes "drop")) (is w (codes "open")) (is w (codes "feed")) (is w (codes "show")) (is w (codes "settle"))) o.no_update
+    ∙ ap (λ (x : Bool). kind_by false false false false x (is w (codes "send")) (is w (codes "stop")) (is w (codes "point")) (is w (codes "client")) (is w (codes "lone")) (is w (codes "ask")) (is w (codes "drop")) (is w (codes "open")) (is w (codes "feed")) (is w (codes "show")) (is w (codes "settle"))) o.no_cut
+    ∙ ap (λ (x : Bool). kind_by false false false false false x (is w (codes "stop")) (is w (codes "point")) (is w (codes "client")) (is w (codes "lone")) (is w (codes "ask")) (is w (codes "drop")) (is w (codes "open")) (is w (codes "feed")) (is w (codes "show")) (is w (codes "settle"))) o.no_send
+    ∙ ap (λ (x : Bool). kind_by false false false false false false x (is w (codes "point")) (is w (codes "client")) (is w (codes "lone")) (is w (codes "ask")) (is w (codes "drop")) (is w (codes "open")) (is w (codes "feed")) (is w (codes "show")) (is w (codes "settle"))) o.no_stop
+    ∙ ap (λ (x : Bool). kind_by false false false false false false false x (is w (codes "client")) (is w (codes "lone")) (is w (codes "ask")) (is w (codes "drop")) (is w (codes "open")) (is w (codes "feed")) (is w (codes "show")) (is w (codes "settle"))) o.no_point
+    ∙ ap (λ (x : Bool). kind_by false false false false false false false false x (is w (codes "lone")) (is w (codes "ask")) (is w (codes "drop")) (is w (codes "open")) (is w (codes "feed")) (is w (codes "show")) (is w (codes "settle"))) o.no_client
+    ∙ ap (λ (x : Bool). kind_by false false false false false false false false false x (is w (codes "ask")) (is w (codes "drop")) (is w (codes "open")) (is w (codes "feed")) (is w (codes "show")) (is w (codes "settle"))) o.no_lone
+    ∙ ap (λ (x : Bool). kind_by false false false false false false false false false false x (is w (codes "drop")) (is w (codes "open")) (is w (codes "feed")) (is w (codes "show")) (is w (codes "settle"))) o.no_ask
+    ∙ ap (λ (x : Bool). kind_by false false false false false false false false false false false x (is w (codes "open")) (is w (codes "feed")) (is w (codes "show")) (is w (codes "settle"))) o.no_drop
+    ∙ ap (λ (x : Bool). kind_by false false false false false false false false false false false false x (is w (codes "feed")) (is w (codes "show")) (is w (codes "settle"))) o.no_open
+    ∙ ap (λ (x : Bool). kind_by false false false false false false false false false false false false false x (is w (codes "show")) (is w (codes "settle"))) o.no_feed
+    ∙ ap (λ (x : Bool). kind_by false false false false false false false false false false false false false false x (is w (codes "settle"))) o.no_show
+    ∙ ap (λ (x : Bool). kind_by false false false false false false false false false false false false false false false x) o.no_settle
 
 abbrev IsBuiltBy : List Word → Word → Type 0
 IsBuiltBy ws w = understood (by_first_word w ws) ≡ said_behind (kind_of w) ws
@@ -323,16 +335,20 @@ first_word_built w ws =
     by_word (codes "zone") w ws (zone_built ws) (λ no_zone.
     by_word (codes "at") w ws (at_built ws) (λ no_at.
     by_word (codes "update") w ws (update_built ws) (λ no_update.
-    by_word (codes "cut") w ws (cut_built ws) (λ no_cut.
+    by_word (codes "cut") w ws (word_built cut (λ p. refl) ws) (λ no_cut.
     by_word (codes "send") w ws (send_built ws) (λ no_send.
     by_word (codes "stop") w ws (stop_built ws) (λ no_stop.
     by_word (codes "point") w ws (point_built ws) (λ no_point.
-    by_word (codes "lone") w ws (lone_built ws) (λ no_lone.
+    by_word (codes "client") w ws (word_built client (λ p. refl) ws) (λ no_client.
+    by_word (codes "lone") w ws (word_built lone (λ p. refl) ws) (λ no_lone.
     by_word (codes "ask") w ws (question_built ask (λ p q. refl) ws) (λ no_ask.
     by_word (codes "drop") w ws (question_built drop_question (λ p q. refl) ws) (λ no_drop.
-    by_word (codes "open") w ws (open_built ws) (λ no_open.
-    let o : IsOther w = record { no_timers = no_timers; no_zone = no_zone; no_at = no_at; no_update = no_update; no_cut = no_cut; no_send = no_send; no_stop = no_stop; no_point = no_point; no_lone = no_lone; no_ask = no_ask; no_drop = no_drop; no_open = no_open } in
-    other_built w ws o ∙ sym (ap (λ (k : Kind). said_behind k ws) (other_kind w o))))))))))))))
+    by_word (codes "open") w ws (word_built open_connection (λ p. refl) ws) (λ no_open.
+    by_word (codes "feed") w ws (feed_built ws) (λ no_feed.
+    by_word (codes "show") w ws (show_built ws) (λ no_show.
+    by_word (codes "settle") w ws (word_built settle (λ p. refl) ws) (λ no_settle.
+    let o : IsOther w = record { no_timers = no_timers; no_zone = no_zone; no_at = no_at; no_update = no_update; no_cut = no_cut; no_send = no_send; no_stop = no_stop; no_point = no_point; no_client = no_client; no_lone = no_lone; no_ask = no_ask; no_drop = no_drop; no_open = no_open; no_feed = no_feed; no_show = no_show; no_settle = no_settle } in
+    other_built w ws o ∙ sym (ap (λ (k : Kind). said_behind k ws) (other_kind w o))))))))))))))))))
 
 -- ---- a line
 

@@ -19,7 +19,7 @@ use Rattle.history.specs.States.{State}
 use Rattle.history.specs.Plans.{IsStart}
 use Rattle.history.specs.Keeping.{HomesKept, state_of}
 use Rattle.replay.specs.Lines.{Word, ScriptLine}
-use Rattle.replay.specs.Scripts.{Known, fits, allowed, is_among, is_peer, client_word}
+use Rattle.replay.specs.Scripts.{Known, fits, allowed, client_word}
 use Rattle.replay.specs.World.{Head, empty_head, with_head_line}
 use Rattle.replay.specs.declared.line.ZoneLine.{ZoneLine}
 use Rattle.replay.specs.declared.line.Event.{Event}
@@ -29,7 +29,7 @@ use Rattle.replay.specs.declared.line.Line.TheVariants as lines
 use Rattle.replay.specs.KeptLines.{timers_said, zone_said, event_said, said, IsEvent, IsSound}
 use Rattle.replay.specs.KeptScripts.{events_said, seats_named}
 use Rattle.replay.specs.KeptWorlds.{AreDistinct}
-use Rattle.replay.specs.Drafts.{Taken, known_of, may_happen, may_stand, in_list, with_zone, HasZone, GrowsBy}
+use Rattle.replay.specs.Drafts.{Taken, known_of, lone_in, client_added, may_happen, may_stand, in_list, with_zone, HasZone, GrowsBy}
 use Rattle.replay.specs.BuiltScripts.{is_built}
 use Rattle.replay.proofs.worlds.Seats.{same_word, word_itself, other_way}
 use Rattle.replay.proofs.lines.Happening.{happening, happening-more, head_behind, head-more}
@@ -40,14 +40,17 @@ head_of timers start = record { timers = unwrap_or timers default_timers; start 
 abbrev pub head_taken : Taken → Head
 head_taken taken = head_of taken.timers (state_of taken.homes)
 
+abbrev pub words_known : List (Word × Bool) → List Word
+words_known clients = map (λ e. e.0) clients
+
 -- the lines so far make this head, and those that happen are these events
 pub record AreLines (front : List ScriptLine) (taken : Taken) : Type 0 where
   pub happen : happening front ≡ events_said taken.events
   pub head : head_behind empty_head front ≡ head_taken taken
   pub start : IsStart (state_of taken.homes)
   pub are_events : AllByRecursion IsEvent (events_said taken.events)
-  pub named : seats_named (events_said taken.events) ≡ taken.clients
-  pub distinct : AreDistinct taken.clients
+  pub named : seats_named (events_said taken.events) ≡ words_known taken.clients
+  pub distinct : AreDistinct (words_known taken.clients)
 
 abbrev pub nothing_taken : Taken
 nothing_taken = record { timers = None; homes = []; events = []; clients = [] }
@@ -130,42 +133,17 @@ zone_adds all taken homes z h has = record {
 -- ---- an event
 
 abbrev with_event : Taken → Event → Taken
-with_event taken e = record taken { events = taken.events ++ e ∷ []; clients = taken.clients ++ in_list (client_word (event_said e)) }
+with_event taken e = record taken { events = taken.events ++ e ∷ []; clients = taken.clients ++ client_added (event_said e) }
 
 not_empty : {X : Type 0} (xs : List X) (x : X) → false ≡ (length (xs ++ x ∷ []) == 0)
 not_empty xs x = let size : length (xs ++ x ∷ []) ≡ length xs + 1 = length-append xs (x ∷ []) in grind (arith, nat_tests)
 
-abbrev all_lone : List Word → List (Word × Bool)
-all_lone ws = map (λ w. (w, true)) ws
-
 -- the head is over
-abbrev known_with : Taken → List Word → Bool → Known
-known_with taken clients head = record (known_of taken) { in_head = head; clients = all_lone clients }
+abbrev known_with : Taken → List (Word × Bool) → Bool → Known
+known_with taken clients head = record (known_of taken) { in_head = head; clients = clients }
 
-known_then : (taken : Taken) (e : Event) (clients : List Word) → taken.clients ++ in_list (client_word (event_said e)) ≡ clients → Some (known_with taken clients false) ≡ Some (known_of (with_event taken e))
+known_then : (taken : Taken) (e : Event) (clients : List (Word × Bool)) → taken.clients ++ client_added (event_said e) ≡ clients → Some (known_with taken clients false) ≡ Some (known_of (with_event taken e))
 known_then taken e clients same = λ i. Some (known_with taken (sym same i) (not_empty taken.events e i))
-
--- one of the lone clients
-client-known : (ws : List Word) (w : Word) → is_some (option_map (λ (e : Word × Bool). e.1) (find (λ (e : Word × Bool). bytes_eq w e.0) (all_lone ws))) ≡ is_among ws w
-client-known [] w = refl
-client-known (v ∷ ws) w = by (bytes_eq w v) (client-known ws w)
-  where
-    by : (b : Bool) → is_some (option_map (λ (e : Word × Bool). e.1) (find (λ (e : Word × Bool). bytes_eq w e.0) (all_lone ws))) ≡ is_among ws w
-        → is_some (option_map (λ (e : Word × Bool). e.1) (cond b (Some (v, true)) (find (λ (e : Word × Bool). bytes_eq w e.0) (all_lone ws)))) ≡ (b || is_among ws w)
-    by true h = refl
-    by false h = h
-
--- none of them is a hub's
-no-hub-client : (ws : List Word) (w : Word)
-    → elim (option_map (λ (e : Word × Bool). e.1) (find (λ (e : Word × Bool). bytes_eq w e.0) (all_lone ws))) as (λ _. Bool) [ None ↦ false | Some is_lone ↦ not is_lone ] ≡ false
-no-hub-client [] w = refl
-no-hub-client (v ∷ ws) w = by (bytes_eq w v) (no-hub-client ws w)
-  where
-    by : (b : Bool)
-        → elim (option_map (λ (e : Word × Bool). e.1) (find (λ (e : Word × Bool). bytes_eq w e.0) (all_lone ws))) as (λ _. Bool) [ None ↦ false | Some is_lone ↦ not is_lone ] ≡ false
-        → elim (option_map (λ (e : Word × Bool). e.1) (cond b (Some (v, true)) (find (λ (e : Word × Bool). bytes_eq w e.0) (all_lone ws)))) as (λ _. Bool) [ None ↦ false | Some is_lone ↦ not is_lone ] ≡ false
-    by true h = refl
-    by false h = h
 
 some-allowed : (b : Bool) (known : Known) → is_some (allowed b known) ≡ b
 some-allowed true known = refl
@@ -177,12 +155,16 @@ may-happen all taken (events.Update o) = refl
 may-happen all taken (events.Send s) = some-allowed _ _
 may-happen all taken events.Point = refl
 may-happen all taken (events.At t) = refl
-may-happen all taken (events.Stop s) = some-allowed _ _ ∙ ap (λ (b : Bool). b || is_peer all (string_bytes s.word)) (no-hub-client taken.clients (string_bytes s.word))
-may-happen all taken (events.Cut c) = some-allowed _ _ ∙ ap (λ (b : Bool). b || is_peer all (string_bytes c.word)) (client-known taken.clients (string_bytes c.word))
-may-happen all taken (events.Lone l) = some-allowed _ _ ∙ ap not (client-known taken.clients (string_bytes l.word))
-may-happen all taken (events.Ask a) = some-allowed _ _ ∙ client-known taken.clients (string_bytes a.word)
-may-happen all taken (events.Drop a) = some-allowed _ _ ∙ client-known taken.clients (string_bytes a.word)
-may-happen all taken (events.Open o) = some-allowed _ _ ∙ client-known taken.clients (string_bytes o.word)
+may-happen all taken (events.Stop s) = some-allowed _ _
+may-happen all taken (events.Cut c) = some-allowed _ _
+may-happen all taken (events.Client j) = some-allowed _ _
+may-happen all taken (events.Lone l) = some-allowed _ _
+may-happen all taken (events.Ask a) = some-allowed _ _
+may-happen all taken (events.Drop a) = some-allowed _ _
+may-happen all taken (events.Open o) = some-allowed _ _
+may-happen all taken (events.Settle s) = some-allowed _ _
+may-happen all taken (events.Feed s) = some-allowed _ _
+may-happen all taken (events.Show s) = some-allowed _ _
 
 event_fits : (all : List Word) (taken : Taken) (e : Event) → is_some (fits all (known_of taken) (event_said e)) ≡ true → fits all (known_of taken) (event_said e) ≡ Some (known_of (with_event taken e))
 event_fits all taken (events.Update o) h = known_then taken (events.Update o) taken.clients (append-nil taken.clients)
@@ -191,13 +173,14 @@ event_fits all taken events.Point h = known_then taken events.Point taken.client
 event_fits all taken (events.At t) h = known_then taken (events.At t) taken.clients (append-nil taken.clients)
 event_fits all taken (events.Stop s) h = allowed_some _ _ h ∙ known_then taken (events.Stop s) taken.clients (append-nil taken.clients)
 event_fits all taken (events.Cut c) h = allowed_some _ _ h ∙ known_then taken (events.Cut c) taken.clients (append-nil taken.clients)
-event_fits all taken (events.Lone l) h =
-    allowed_some _ _ h
-    ∙ ap (λ (cs : List (Word × Bool)). Some (record (known_of taken) { in_head = false; clients = cs })) (sym (map-append (λ (w : Word). (w, true)) taken.clients (string_bytes l.word ∷ [])))
-    ∙ known_then taken (events.Lone l) (taken.clients ++ string_bytes l.word ∷ []) refl
+event_fits all taken (events.Client j) h = allowed_some _ _ h ∙ known_then taken (events.Client j) (taken.clients ++ (string_bytes j.word, false) ∷ []) refl
+event_fits all taken (events.Lone l) h = allowed_some _ _ h ∙ known_then taken (events.Lone l) (taken.clients ++ (string_bytes l.word, true) ∷ []) refl
 event_fits all taken (events.Ask a) h = allowed_some _ _ h ∙ known_then taken (events.Ask a) taken.clients (append-nil taken.clients)
 event_fits all taken (events.Drop a) h = allowed_some _ _ h ∙ known_then taken (events.Drop a) taken.clients (append-nil taken.clients)
 event_fits all taken (events.Open o) h = allowed_some _ _ h ∙ known_then taken (events.Open o) taken.clients (append-nil taken.clients)
+event_fits all taken (events.Feed s) h = allowed_some _ _ h ∙ known_then taken (events.Feed s) taken.clients (append-nil taken.clients)
+event_fits all taken (events.Show s) h = allowed_some _ _ h ∙ known_then taken (events.Show s) taken.clients (append-nil taken.clients)
+event_fits all taken (events.Settle s) h = allowed_some _ _ h ∙ known_then taken (events.Settle s) taken.clients (append-nil taken.clients)
 
 event_happens : (e : Event) → happening (event_said e ∷ []) ≡ event_said e ∷ []
 event_happens (events.Update o) = refl
@@ -206,10 +189,14 @@ event_happens events.Point = refl
 event_happens (events.At t) = refl
 event_happens (events.Stop s) = refl
 event_happens (events.Cut c) = refl
+event_happens (events.Client j) = refl
 event_happens (events.Lone l) = refl
 event_happens (events.Ask a) = refl
 event_happens (events.Drop a) = refl
 event_happens (events.Open o) = refl
+event_happens (events.Feed s) = refl
+event_happens (events.Show s) = refl
+event_happens (events.Settle s) = refl
 
 event_heads : (head : Head) (e : Event) → with_head_line head (event_said e) ≡ head
 event_heads head (events.Update o) = refl
@@ -218,10 +205,14 @@ event_heads head events.Point = refl
 event_heads head (events.At t) = refl
 event_heads head (events.Stop s) = refl
 event_heads head (events.Cut c) = refl
+event_heads head (events.Client j) = refl
 event_heads head (events.Lone l) = refl
 event_heads head (events.Ask a) = refl
 event_heads head (events.Drop a) = refl
 event_heads head (events.Open o) = refl
+event_heads head (events.Feed s) = refl
+event_heads head (events.Show s) = refl
+event_heads head (events.Settle s) = refl
 
 pub event-built : (e : Event) → is_built (event_said e) ≡ true
 event-built (events.Update o) = refl
@@ -230,10 +221,14 @@ event-built events.Point = refl
 event-built (events.At t) = refl
 event-built (events.Stop s) = refl
 event-built (events.Cut c) = refl
+event-built (events.Client j) = refl
 event-built (events.Lone l) = refl
 event-built (events.Ask a) = refl
 event-built (events.Drop a) = refl
 event-built (events.Open o) = refl
+event-built (events.Feed s) = refl
+event-built (events.Show s) = refl
+event-built (events.Settle s) = refl
 
 -- ---- the words of the clients
 
@@ -245,29 +240,61 @@ not_true : (b : Bool) → not b ≡ true → b ≡ false
 not_true true h = absurd cc
 not_true false h = refl
 
-among-either : (ws : List Word) (w : Word) → list_any (λ (v : Word). bytes_eq v w) ws ≡ is_among ws w
-among-either [] w = refl
-among-either (v ∷ ws) w = λ i. word-either v w i || among-either ws w i
+-- no client has the word of one that is new
+among-known : (clients : List (Word × Bool)) (w : Word) → list_any (λ (v : Word). bytes_eq v w) (words_known clients) ≡ is_some (lone_in clients w)
+among-known [] w = refl
+among-known (e ∷ es) w = by (bytes_eq w e.0) refl (among-known es w)
   where
-    word-either : (v w : Word) → bytes_eq v w ≡ bytes_eq w v
-    word-either v w = by (bytes_eq w v) refl
-      where
-        by : (b : Bool) → bytes_eq w v ≡ b → bytes_eq v w ≡ b
-        by true e = ap (bytes_eq v) (same_word w v e) ∙ word_itself v
-        by false e = other_way w v e
+    either : (b : Bool) → bytes_eq w e.0 ≡ b → bytes_eq e.0 w ≡ b
+    either true h = ap (bytes_eq e.0) (same_word w e.0 h) ∙ word_itself e.0
+    either false h = other_way w e.0 h
 
-distinct-more : (all : List Word) (taken : Taken) (e : Event) → may_happen all taken.clients e ≡ true → AreDistinct taken.clients → AreDistinct (taken.clients ++ in_list (client_word (event_said e)))
-distinct-more all taken (events.Lone l) h d =
-    distinct_push bytes_eq taken.clients (string_bytes l.word) d (among-either taken.clients (string_bytes l.word) ∙ not_true (is_among taken.clients (string_bytes l.word)) h)
-distinct-more all taken (events.Update o) h d = subst AreDistinct (sym (append-nil taken.clients)) d
-distinct-more all taken (events.Send s) h d = subst AreDistinct (sym (append-nil taken.clients)) d
-distinct-more all taken events.Point h d = subst AreDistinct (sym (append-nil taken.clients)) d
-distinct-more all taken (events.At t) h d = subst AreDistinct (sym (append-nil taken.clients)) d
-distinct-more all taken (events.Stop s) h d = subst AreDistinct (sym (append-nil taken.clients)) d
-distinct-more all taken (events.Cut c) h d = subst AreDistinct (sym (append-nil taken.clients)) d
-distinct-more all taken (events.Ask a) h d = subst AreDistinct (sym (append-nil taken.clients)) d
-distinct-more all taken (events.Drop a) h d = subst AreDistinct (sym (append-nil taken.clients)) d
-distinct-more all taken (events.Open o) h d = subst AreDistinct (sym (append-nil taken.clients)) d
+    by : (b : Bool) → bytes_eq w e.0 ≡ b → list_any (λ (v : Word). bytes_eq v w) (words_known es) ≡ is_some (lone_in es w)
+        → (bytes_eq e.0 w || list_any (λ (v : Word). bytes_eq v w) (words_known es)) ≡ is_some (option_map (λ (x : Word × Bool). x.1) (cond (bytes_eq w e.0) (Some e) (find (λ (x : Word × Bool). bytes_eq w x.0) es)))
+    by true h rest = ap (λ (b : Bool). b || list_any (λ (v : Word). bytes_eq v w) (words_known es)) (either true h) ∙ ap (λ (b : Bool). is_some (option_map (λ (x : Word × Bool). x.1) (cond b (Some e) (find (λ (x : Word × Bool). bytes_eq w x.0) es)))) (sym h)
+    by false h rest = ap (λ (b : Bool). b || list_any (λ (v : Word). bytes_eq v w) (words_known es)) (either false h) ∙ rest ∙ ap (λ (b : Bool). is_some (option_map (λ (x : Word × Bool). x.1) (cond b (Some e) (find (λ (x : Word × Bool). bytes_eq w x.0) es)))) (sym h)
+
+-- the words with those of a client more
+words-more : (clients : List (Word × Bool)) (line : ScriptLine) → words_known (clients ++ client_added line) ≡ words_known clients ++ words_known (client_added line)
+words-more clients line = map-append (λ (e : Word × Bool). e.0) clients (client_added line)
+
+words-added : (e : Event) → words_known (client_added (event_said e)) ≡ in_list (client_word (event_said e))
+words-added (events.Update o) = refl
+words-added (events.Send s) = refl
+words-added events.Point = refl
+words-added (events.At t) = refl
+words-added (events.Stop s) = refl
+words-added (events.Cut c) = refl
+words-added (events.Client j) = refl
+words-added (events.Lone l) = refl
+words-added (events.Ask a) = refl
+words-added (events.Drop a) = refl
+words-added (events.Open o) = refl
+words-added (events.Settle s) = refl
+words-added (events.Feed s) = refl
+words-added (events.Show s) = refl
+
+words-then : (taken : Taken) (e : Event) → words_known (taken.clients ++ client_added (event_said e)) ≡ words_known taken.clients ++ in_list (client_word (event_said e))
+words-then taken e = words-more taken.clients (event_said e) ∙ ap (λ (ws : List Word). words_known taken.clients ++ ws) (words-added e)
+
+distinct-new : (clients : List (Word × Bool)) (w : Word) → not (is_some (lone_in clients w)) ≡ true → AreDistinct (words_known clients) → AreDistinct (words_known clients ++ w ∷ [])
+distinct-new clients w h d = distinct_push bytes_eq (words_known clients) w d (among-known clients w ∙ not_true (is_some (lone_in clients w)) h)
+
+distinct-more : (all : List Word) (taken : Taken) (e : Event) → may_happen all taken.clients e ≡ true → AreDistinct (words_known taken.clients) → AreDistinct (words_known taken.clients ++ in_list (client_word (event_said e)))
+distinct-more all taken (events.Client j) h d = distinct-new taken.clients (string_bytes j.word) h d
+distinct-more all taken (events.Lone l) h d = distinct-new taken.clients (string_bytes l.word) h d
+distinct-more all taken (events.Update o) h d = subst AreDistinct (sym (append-nil (words_known taken.clients))) d
+distinct-more all taken (events.Send s) h d = subst AreDistinct (sym (append-nil (words_known taken.clients))) d
+distinct-more all taken events.Point h d = subst AreDistinct (sym (append-nil (words_known taken.clients))) d
+distinct-more all taken (events.At t) h d = subst AreDistinct (sym (append-nil (words_known taken.clients))) d
+distinct-more all taken (events.Stop s) h d = subst AreDistinct (sym (append-nil (words_known taken.clients))) d
+distinct-more all taken (events.Cut c) h d = subst AreDistinct (sym (append-nil (words_known taken.clients))) d
+distinct-more all taken (events.Ask a) h d = subst AreDistinct (sym (append-nil (words_known taken.clients))) d
+distinct-more all taken (events.Drop a) h d = subst AreDistinct (sym (append-nil (words_known taken.clients))) d
+distinct-more all taken (events.Open o) h d = subst AreDistinct (sym (append-nil (words_known taken.clients))) d
+distinct-more all taken (events.Settle s) h d = subst AreDistinct (sym (append-nil (words_known taken.clients))) d
+distinct-more all taken (events.Feed s) h d = subst AreDistinct (sym (append-nil (words_known taken.clients))) d
+distinct-more all taken (events.Show s) h d = subst AreDistinct (sym (append-nil (words_known taken.clients))) d
 
 event_adds : (all : List Word) (taken : Taken) (e : Event) → IsEvent (event_said e) → may_stand all (known_of taken) (event_said e) ≡ true → Adds all taken (lines.Event e) (with_event taken e)
 event_adds all taken e sound h =
@@ -288,8 +315,9 @@ event_adds all taken e sound h =
         named =
             ap seats_named more
             ∙ seats_named-append (events_said taken.events) (event_said e ∷ [])
-            ∙ (λ i. are.named i ++ append-nil (in_list (client_word (event_said e))) i);
-        distinct = distinct-more all taken e (sym (may-happen all taken e) ∙ h) are.distinct;
+            ∙ (λ i. are.named i ++ append-nil (in_list (client_word (event_said e))) i)
+            ∙ sym (words-then taken e);
+        distinct = subst AreDistinct (sym (words-then taken e)) (distinct-more all taken e (sym (may-happen all taken e) ∙ h) are.distinct);
       };
     }
 

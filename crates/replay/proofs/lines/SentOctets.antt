@@ -1,9 +1,10 @@
 -- What holds of the octets of every word of a script holds of those that each line brings to the hub.
---     sent_by line      the octets of an update, or those that a peer sends, if the line is such a line
+--     sent_by line      the octets of an update, those that a peer sends, or those of a name that is asked for, if the line is such a line
+--     read-name      the name that a word is read as is one
 --     written-by      the octets that a word stands for are none, or those of its digits
 --     sends-pass      the law: a test that the octets of every word pass
-use Rattle.std.proofs.Common.{◌≡◌, ℕ, ◌+◌, Bool, true, false, cond, ◌||◌, List, [], ◌∷◌, map, length, Option, Some, None, Result, Ok, Err, nat_lt, refl, ◌∙◌, ap, subst, inr, codes}
-use Rattle.std.specs.Prelude.{option_map, unwrap_or, ◌==◌}
+use Rattle.std.proofs.Common.{◌≡◌, ℕ, ◌+◌, Bool, true, false, cond, ◌||◌, List, [], ◌∷◌, map, length, Option, Some, None, Result, Ok, Err, nat_lt, refl, sym, ◌∙◌, ap, subst, inr, codes}
+use Rattle.std.specs.Prelude.{option_map, option_and_then, unwrap_or, ◌==◌}
 use Rattle.std.specs.List.{AllByRecursion, slice_split}
 use Rattle.std.specs.Result.{result_ok}
 use Rattle.std.specs.Str.{bytes_eq, is_utf8}
@@ -11,14 +12,18 @@ use Rattle.push_base.specs.Cases.{is_empty}
 use Rattle.push_base.specs.Optional.{◌>>=◌}
 use Rattle.push_base.specs.Hexadecimal.{hex_octets}
 use Rattle.push_base.specs.declared.hexadecimal.HexFault.{HexFault}
-use Rattle.replay.specs.Lines.{lines_by, Word, ScriptLine, silent, client, lone, update, hear, ask, drop_question, open_connection, cut, say, up, emit, down, settle, send, feed, point, word, octets_written, of_octets, of_word_and_octets, by_first_word, of_words, line_of}
+use Rattle.dnsname.specs.Names.{Labels, octets, is_name}
+use Rattle.dnsname.specs.Text.{name_of_text, labels_in_text}
+use Rattle.rrset.specs.declared.record.Question.{Question}
+use Rattle.replay.specs.Lines.{question, number16, of_word_and_question, lines_by, Word, ScriptLine, silent, client, lone, update, hear, ask, drop_question, open_connection, cut, say, up, emit, down, settle, send, feed, point, word, octets_written, of_octets, of_word_and_octets, by_first_word, of_words, line_of}
 use Rattle.replay.specs.Scripts.{Known, nothing_known, fits, with_line, lines_from, lines_in, lines_read, last_is_outside, client_words, max_script, script_of}
 use Rattle.replay.proofs.lines.LineKinds.{if_none, bind_none, alone_none, word_none, word_octets_none, word_number_none, word_question_none, timers_none, zone_none, link_none, at_none, reconfirm_none, stop_none, show_none, chosen_none}
 
--- the octets of an update, or those that a peer sends
+-- the octets of an update, those that a peer sends, or those of the name that a client asks for
 abbrev pub sent_by : ScriptLine → List ℕ
 sent_by (update octets) = octets
 sent_by (send w octets) = octets
+sent_by (ask w question) = octets question.name
 sent_by _ = []
 
 -- ---- the octets that a word stands for
@@ -57,11 +62,36 @@ abbrev pub lines_or : List ScriptLine → Result (List ScriptLine) ℕ → List 
 lines_or other (Ok lines) = lines
 lines_or other (Err n) = other
 
-module _ (test : List ℕ → Bool) (written : (h octets : List ℕ) → octets_written h ≡ Some octets → test octets ≡ true) where
+same_labels : (a b : Labels) → Some a ≡ Some b → a ≡ b
+same_labels a b e = cc
+
+abbrev question_as : Labels → ℕ → ℕ → Question
+question_as name kind class = record { name = name; kind = kind; class = class }
+
+-- a name that was read is one
+pub read-name : (text : List ℕ) (name : Labels) → name_of_text text ≡ Some name → is_name name ≡ true
+read-name [] name e = absurd cc
+read-name (c ∷ []) name e = by (c == 46) e
+  where
+    by : (b : Bool) → cond {A = Option Labels} b (Some []) None ≡ Some name → is_name name ≡ true
+    by true e = ap is_name (sym (same_labels [] name e))
+    by false e = absurd cc
+read-name (c ∷ d ∷ rest) name e = by (labels_in_text 128 (c ∷ d ∷ rest)) e
+  where
+    by_test : (n : Labels) (b : Bool) → is_name n ≡ b → cond {A = Option Labels} b (Some n) None ≡ Some name → is_name name ≡ true
+    by_test n true is e = ap is_name (sym (same_labels n name e)) ∙ is
+    by_test n false is e = absurd cc
+
+    by : (o : Option Labels) → option_and_then (λ n. cond {A = Option Labels} (is_name n) (Some n) None) o ≡ Some name → is_name name ≡ true
+    by None e = absurd cc
+    by (Some n) e = by_test n (is_name n) refl e
+
+module _ (test : List ℕ → Bool) (written : (h octets : List ℕ) → octets_written h ≡ Some octets → test octets ≡ true) (named : (name : Labels) → is_name name ≡ true → test (octets name) ≡ true) where
   -- a line of octets that fail, and nothing of any other
   abbrev fails : ScriptLine → Option ScriptLine
   fails (update o) = cond (test o) None (Some point)
   fails (send w o) = cond (test o) None (Some point)
+  fails (ask w q) = cond (test (octets q.name)) None (Some point)
   fails _ = None
 
   none_pass : test [] ≡ true
@@ -93,6 +123,24 @@ module _ (test : List ℕ → Bool) (written : (h octets : List ℕ) → octets_
   send_none (w ∷ h ∷ []) = bind_none fails (word w) _ (λ p. none_fail p h)
   send_none (w ∷ h ∷ v ∷ ws) = refl
 
+  name_fails : (p : Word) (n k c : Word) → ((question n k c >>= λ q. Some (ask p q)) >>= fails) ≡ None
+  name_fails p n k c = by (name_of_text n) refl (number16 k) (number16 c)
+    where
+      by : (o : Option Labels) → name_of_text n ≡ o → (a b : Option ℕ)
+          → (((o >>= λ name. a >>= λ kind. b >>= λ class. Some (question_as name kind class)) >>= λ q. Some (ask p q)) >>= fails) ≡ None
+      by None e a b = refl
+      by (Some name) e None b = refl
+      by (Some name) e (Some kind) None = refl
+      by (Some name) e (Some kind) (Some class) = ap (λ b. cond {A = Option ScriptLine} b None (Some point)) (named name (read-name n name e))
+
+  ask_none : (ws : List Word) → (of_word_and_question ask ws >>= fails) ≡ None
+  ask_none [] = refl
+  ask_none (w ∷ []) = refl
+  ask_none (w ∷ n ∷ []) = refl
+  ask_none (w ∷ n ∷ k ∷ []) = refl
+  ask_none (w ∷ n ∷ k ∷ c ∷ []) = bind_none fails (word w) _ (λ p. name_fails p n k c)
+  ask_none (w ∷ n ∷ k ∷ c ∷ v ∷ ws) = refl
+
   first_word_none : (w : Word) (ws : List Word) → (by_first_word w ws >>= fails) ≡ None
   first_word_none w ws = chosen_none fails (lines_by w ws) (
     inr (timers_none fails (λ i k. refl) ws),
@@ -111,7 +159,7 @@ module _ (test : List ℕ → Bool) (written : (h octets : List ℕ) → octets_
                 (
                   inr (word_octets_none fails hear (λ v o. refl) ws),
                   (
-                    inr (word_question_none fails ask (λ v q. refl) ws),
+                    inr (ask_none ws),
                     (
                       inr (word_question_none fails drop_question (λ v q. refl) ws),
                       (
@@ -206,6 +254,7 @@ module _ (test : List ℕ → Bool) (written : (h octets : List ℕ) → octets_
   passes : (line : ScriptLine) → fails line ≡ None → Passes line
   passes (send w o) e = tested o e
   passes (update o) e = tested o e
+  passes (ask w q) e = tested (octets q.name) e
   passes _ e = none_pass
 
   from_free : (all : List Word) (known : Known) (n : ℕ) (os : List (Option ScriptLine)) (lines : List ScriptLine) → AllByRecursion IsFree os → lines_from all known n os ≡ done lines → AllByRecursion Passes lines

@@ -1,8 +1,7 @@
 -- A script that is read line by line.
-use Rattle.std.proofs.Common.{◌≡◌, ℕ, ◌+◌, ◌≤◌, Bool, true, false, cond, ◌&&◌, Option, Some, None, Result, Ok, Err, List, [], ◌∷◌, ◌++◌, map, length, nat_lt, refl, sym, ◌∙◌, ap, subst, inl, inr, arith, append_assoc}
-use Rattle.std.specs.Prelude.{is_some, string_bytes, unwrap_or}
-use Rattle.std.specs.declared.alloc.Global.{Global}
-use Rattle.std.specs.declared.string.String.{String}
+use Rattle.std.proofs.Common.{◌≡◌, ℕ, ◌+◌, ◌≤◌, Bool, true, false, cond, ◌&&◌, Option, Some, None, Result, Ok, Err, List, [], ◌∷◌, ◌++◌, length, nat_lt, refl, sym, ◌∙◌, ap, subst, inl, inr, arith, append_assoc}
+use Rattle.std.specs.Prelude.{is_some, unwrap_or}
+use Rattle.replay.specs.declared.clients.KnownClient.{KnownClient}
 use Rattle.std.specs.List.{AllByRecursion}
 use Rattle.std.proofs.lemmas.Bool.{cases_Bool}
 use Rattle.std.proofs.lemmas.Option.{cond_some}
@@ -15,18 +14,18 @@ use Rattle.history.specs.Plans.{IsStart}
 use Rattle.replay.specs.Lines.{Word, ScriptLine, line_of}
 use Rattle.replay.specs.Scripts.{Known, nothing_known, fits, client_words, lines_in, lines_read, lines_from, with_line, max_script}
 use Rattle.replay.specs.World.{Head, world_of, start_world}
-use Rattle.replay.specs.TextWords.{by_history}
-use Rattle.replay.specs.Text.{printed_by}
+use Rattle.replay.specs.TextWords.{by_notices}
+use Rattle.replay.specs.Text.{printed_by, world_after}
 use Rattle.replay.specs.declared.line.Event.{Event}
 use Rattle.replay.specs.declared.line.Line.{Line}
 use Rattle.replay.specs.declared.script.Script.{Script}
 use Rattle.replay.specs.KeptLines.{said, built_line, understood, IsEvent, IsSound}
 use Rattle.replay.specs.KeptScripts.{IsBuilt, events_said, seats_named, world_at_start}
 use Rattle.replay.specs.KeptWorlds.{AreDistinct}
-use Rattle.replay.specs.Drafts.{Taken, known_of, may_stand, GrowsBy, lines_left}
+use Rattle.replay.specs.Drafts.{Taken, known_clients, known_of, may_stand, GrowsBy, lines_left}
 use Rattle.replay.specs.BuiltScripts.{is_built, first_unbuilt, first_later}
 use Rattle.replay.proofs.lines.ClientLines.{left_more, left_none, outside_last}
-use Rattle.replay.proofs.lines.Happening.{prints-happening}
+use Rattle.replay.proofs.lines.Happening.{prints-happening, after-happening}
 use Rattle.replay.proofs.lines.MoreLines.{AreLines, nothing_taken, no_lines, head_of, adds}
 
 -- lines before those that are left
@@ -129,14 +128,14 @@ pub record SoFar (octets : List ℕ) (taken : Taken) (number : ℕ) (rest : List
 begun : (octets : List ℕ) → SoFar octets nothing_taken 0 octets
 begun octets = record { unbuilt = refl; front = []; lines = onto_none _; are = no_lines; counted = omega arith }
 
-abbrev without_timers : HomesKept → List Event → List Word → Taken
+abbrev without_timers : HomesKept → List Event → List (Word × Bool) → Taken
 without_timers homes events clients = record { timers = None; homes = homes; events = events; clients = clients }
 
-pub begins : (octets : List ℕ) (homes : HomesKept) (events : List Event) (clients : List (String Global)) → homes ≡ [] → events ≡ [] → clients ≡ [] → SoFar octets (without_timers homes events (map (λ c. string_bytes c) clients)) 0 octets
+pub begins : (octets : List ℕ) (homes : HomesKept) (events : List Event) (clients : List KnownClient) → homes ≡ [] → events ≡ [] → clients ≡ [] → SoFar octets (without_timers homes events (known_clients clients)) 0 octets
 begins octets homes events clients no_homes no_events no_clients =
-    subst (λ (hs : HomesKept). SoFar octets (without_timers hs events (map (λ c. string_bytes c) clients)) 0 octets) (sym no_homes)
-    (subst (λ (es : List Event). SoFar octets (without_timers [] es (map (λ c. string_bytes c) clients)) 0 octets) (sym no_events)
-    (subst (λ (cs : List (String Global)). SoFar octets (without_timers [] [] (map (λ c. string_bytes c) cs)) 0 octets) (sym no_clients) (begun octets)))
+    subst (λ (hs : HomesKept). SoFar octets (without_timers hs events (known_clients clients)) 0 octets) (sym no_homes)
+    (subst (λ (es : List Event). SoFar octets (without_timers [] es (known_clients clients)) 0 octets) (sym no_events)
+    (subst (λ (cs : List KnownClient). SoFar octets (without_timers [] [] (known_clients cs)) 0 octets) (sym no_clients) (begun octets)))
 
 -- the line that is outside
 pub outside : (octets : List ℕ) (taken : Taken) (number : ℕ) (rest text after : List ℕ) → SoFar octets taken number rest → lines_in rest ≡ text ∷ lines_in after → (too_long_of octets && is_empty after) ≡ true
@@ -224,7 +223,8 @@ ends octets script taken number rest of so none =
           ∙ ap (λ (ls : List (Option ScriptLine)). onto so.front (lines_after octets taken number ls)) is
           ∙ ap (λ (ls : List ScriptLine). Ok ls) (append-nil so.front);
       head = head_is script taken of ∙ ap world_of (sym so.are.head);
-      text = prints-happening so.front (start_world so.front) ∙ ap (λ (ls : List ScriptLine). printed_by by_history ls (start_world so.front)) (so.are.happen ∙ happen);
+      text = prints-happening so.front (start_world so.front) ∙ ap (λ (ls : List ScriptLine). printed_by by_notices ls (start_world so.front)) (so.are.happen ∙ happen);
+      last = after-happening so.front (start_world so.front) ∙ ap (λ (ls : List ScriptLine). world_after ls (start_world so.front)) (so.are.happen ∙ happen);
       start = subst (λ (hs : HomesKept). IsStart (state_of hs)) (sym of.homes) so.are.start;
       are_events = subst (AllByRecursion IsEvent) happen so.are.are_events;
       distinct = subst AreDistinct (sym so.are.named ∙ ap seats_named happen) so.are.distinct;

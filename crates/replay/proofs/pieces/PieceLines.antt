@@ -17,7 +17,7 @@ use Rattle.pushserver.specs.PlainHubs.{Session, Hub}
 use Rattle.replay.specs.Lines.{Word, ScriptLine, send}
 use Rattle.replay.specs.World.{World, session_number, hub_without, cut_peer}
 use Rattle.replay.specs.PassedOctets.{Exchanged, exchanged, enough}
-use Rattle.replay.specs.TextWords.{spaced, octets_text, by_history}
+use Rattle.replay.specs.TextWords.{spaced, octets_text, HeldRecords, by_history}
 use Rattle.replay.specs.Text.{Printed, end_lines, exchanges, sends, line_does, printed_by, world_after}
 use Rattle.replay.specs.Pieces.{is_of_others, Turn, printed_turns}
 use Rattle.replay.proofs.turns.ZoneSizes.{IsBounded}
@@ -126,7 +126,7 @@ pub record TellsTurns (hub : Hub) (core : Core) (input : List ℕ) (w : Word) (t
   pub told : List (List ℕ)
   pub count : length told ≡ length turns
   pub in_turn : (n : ℕ) → Makes hub (messages_in (input ++ concat (take n (pieces_in turns)))).0 core (concat (take n told))
-  pub lines : printed_by by_history (lines_in w turns) world ≡ printed_turns w turns told world
+  pub lines : (records : HeldRecords) → printed_by records (lines_in w turns) world ≡ printed_turns records w turns told world
 
 -- of no octets nothing is made
 makes-nothing : (hub : Hub) (core : Core) (input : List ℕ) → first_message input ≡ None → Makes hub (messages_in (input ++ [])).0 core []
@@ -154,21 +154,21 @@ turns_with hub piece pieces core input none r octets told is live same turns (su
     (makes-both hub (first_part input piece).0 (second_part input piece behind).0 core r octets (concat (take n told)) is live same (turns n))
 
 -- the lines of a turn before those of others
-turn-before : (w : Word) (turn : Turn) (turns : List Turn) (octets : List ℕ) (told : List (List ℕ)) (world : World)
+turn-before : (records : HeldRecords) (w : Word) (turn : Turn) (turns : List Turn) (octets : List ℕ) (told : List (List ℕ)) (world : World)
     → (line_does by_history (send w turn.0) world).1 ≡ told_line w octets ∷ []
-    → printed_by by_history (lines_in w turns) (world_after turn.1 (line_does by_history (send w turn.0) world).0) ≡ printed_turns w turns told (world_after turn.1 (line_does by_history (send w turn.0) world).0)
-    → printed_by by_history (lines_in w (turn ∷ turns)) world ≡ printed_turns w (turn ∷ turns) (octets ∷ told) world
-turn-before w turn turns octets told world one rest =
+    → printed_by records (lines_in w turns) (world_after turn.1 (line_does by_history (send w turn.0) world).0) ≡ printed_turns records w turns told (world_after turn.1 (line_does by_history (send w turn.0) world).0)
+    → printed_by records (lines_in w (turn ∷ turns)) world ≡ printed_turns records w (turn ∷ turns) (octets ∷ told) world
+turn-before records w turn turns octets told world one rest =
     let later : World = (line_does by_history (send w turn.0) world).0 in
-    ap (λ (lines : List (List ℕ)). lines ++ printed_by by_history (turn.1 ++ lines_in w turns) later) one
-    ∙ ap (λ (lines : List (List ℕ)). told_line w octets ∷ lines) (printed-append turn.1 (lines_in w turns) later ∙ ap (λ (lines : List (List ℕ)). printed_by by_history turn.1 later ++ lines) rest)
+    ap (λ (lines : List (List ℕ)). lines ++ printed_by records (turn.1 ++ lines_in w turns) later) one
+    ∙ ap (λ (lines : List (List ℕ)). told_line w octets ∷ lines) (printed-append records turn.1 (lines_in w turns) later ∙ ap (λ (lines : List (List ℕ)). printed_by records turn.1 later ++ lines) rest)
 
 -- what is said of turns
 abbrev pub PrintsTurns : Hub → ℕ → Word → List Turn → Type 0
 PrintsTurns hub number w turns = (world : World) (core : Core) (input : List ℕ) → Waits hub number w turns world core input → TellsTurns hub core input w turns world
 
 no-turn : (hub : Hub) (number : ℕ) (w : Word) → PrintsTurns hub number w []
-no-turn hub number w world core input h = record { told = []; count = refl; in_turn = first; lines = refl }
+no-turn hub number w world core input h = record { told = []; count = refl; in_turn = first; lines = λ records. refl }
   where
     first : (n : ℕ) → Makes hub (messages_in (input ++ concat (take n []))).0 core (concat (take n []))
     first zero = makes-nothing hub core input h.none
@@ -264,7 +264,7 @@ module _ (hub : Hub) (number : ℕ) (w : Word) (turn : Turn) (turns : List Turn)
       told = x.octets ∷ rest.told;
       count = ap suc rest.count;
       in_turn = turns_with hub piece (pieces_in turns) core input h.none g.first x.octets rest.told g.made_first g.over g.told.octets rest.in_turn;
-      lines = turn-before w turn turns x.octets rest.told world (ap (λ (p : Printed). p.1) one) rest.lines;
+      lines = λ records. turn-before records w turn turns x.octets rest.told world (ap (λ (p : Printed). p.1) one) (rest.lines records);
     }
 
 module _ (stays-longer : (hub : Hub) → StaysLonger hub) (emits-as-ran : EmitsAsRan) (hub : Hub) (number : ℕ) (bounded : IsBounded (state_now hub)) (w : Word) where

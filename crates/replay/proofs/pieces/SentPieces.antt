@@ -12,9 +12,9 @@ use Rattle.pushserver.specs.PlainHubs.{Session, Hub}
 use Rattle.pushserver.specs.Hubs.{state_now}
 use Rattle.replay.specs.Lines.{Word, ScriptLine}
 use Rattle.replay.specs.World.{World}
-use Rattle.replay.specs.TextWords.{spaced, octets_text, by_history}
+use Rattle.replay.specs.TextWords.{spaced, octets_text, HeldRecords}
 use Rattle.replay.specs.Cuts.{answers_to, standing_of}
-use Rattle.replay.specs.Text.{Printed, ended_lines, sends, printed_by, text_of_script, world_after}
+use Rattle.replay.specs.Text.{Printed, ended_lines, sends, printed_by, text_by, world_after}
 use Rattle.replay.specs.Pieces.{Turn, SentInPieces, pieces_of, lines_sent, lines_of, world_start, world_then, world_behind, answered_to_first, answered_to_all, SendsPieces, TellsInTurn, printed_turns, pieces_reply}
 use Rattle.replay.specs.BuiltScripts.{reply_to_script}
 use Rattle.replay.proofs.turns.ZoneSizes.{IsBounded}
@@ -64,16 +64,16 @@ module _ (w : Word) (earlier : World) (number : ℕ) (world : World) (p : IsPlac
   does-same octets = p.does octets ∙ sym (sends-known w number octets world p.known)
 
   -- so all lines print the same
-  printed-placed : (turns : List Turn) → printed_by by_history (lines_in w turns) earlier ≡ printed_by by_history (lines_in w turns) world
-  printed-placed [] = refl
-  printed-placed (turn ∷ turns) = ap (λ (one : Printed). one.1 ++ printed_by by_history (turn.1 ++ lines_in w turns) one.0) (does-same turn.0)
+  printed-placed : (records : HeldRecords) (turns : List Turn) → printed_by records (lines_in w turns) earlier ≡ printed_by records (lines_in w turns) world
+  printed-placed records [] = refl
+  printed-placed records (turn ∷ turns) = ap (λ (one : Printed). one.1 ++ printed_by records (turn.1 ++ lines_in w turns) one.0) (does-same turn.0)
 
   -- the same is told
-  turns-placed : (turns : List Turn) (told : List (List ℕ)) → printed_turns w turns told earlier ≡ printed_turns w turns told world
-  turns-placed [] told = refl
-  turns-placed (turn ∷ turns) [] = refl
-  turns-placed (turn ∷ turns) (octets ∷ told) =
-      ap (λ (one : Printed). spaced (codes "bytes" ∷ w ∷ octets_text octets ∷ []) ∷ (printed_by by_history turn.1 one.0 ++ printed_turns w turns told (world_after turn.1 one.0))) (does-same turn.0)
+  turns-placed : (records : HeldRecords) (turns : List Turn) (told : List (List ℕ)) → printed_turns records w turns told earlier ≡ printed_turns records w turns told world
+  turns-placed records [] told = refl
+  turns-placed records (turn ∷ turns) [] = refl
+  turns-placed records (turn ∷ turns) (octets ∷ told) =
+      ap (λ (one : Printed). spaced (codes "bytes" ∷ w ∷ octets_text octets ∷ []) ∷ (printed_by records turn.1 one.0 ++ printed_turns records w turns told (world_after turn.1 one.0))) (does-same turn.0)
 
   -- and no entry is made
   entries-placed : (turns : List Turn) → (world_after (lines_in w turns) earlier).hub.history ≡ world.hub.history → (world_after (lines_in w turns) world).hub.history ≡ world.hub.history
@@ -82,22 +82,22 @@ module _ (w : Word) (earlier : World) (number : ℕ) (world : World) (p : IsPlac
 
 -- ---- the text
 
-abbrev printed_then : SentInPieces → List (List ℕ)
-printed_then sent = printed_by by_history sent.before (world_start sent)
+abbrev printed_then : HeldRecords → SentInPieces → List (List ℕ)
+printed_then records sent = printed_by records sent.before (world_start sent)
 
-abbrev printed_behind : SentInPieces → List (List ℕ)
-printed_behind sent = printed_by by_history sent.behind (world_behind sent)
+abbrev printed_behind : HeldRecords → SentInPieces → List (List ℕ)
+printed_behind records sent = printed_by records sent.behind (world_behind sent)
 
-abbrev printed_between : SentInPieces → List (List ℕ) → List (List ℕ)
-printed_between sent told = printed_turns sent.word sent.turns told (world_then sent)
+abbrev printed_between : HeldRecords → SentInPieces → List (List ℕ) → List (List ℕ)
+printed_between records sent told = printed_turns records sent.word sent.turns told (world_then sent)
 
-text-is : (sent : SentInPieces) (told : List (List ℕ)) → printed_by by_history (lines_sent sent) (world_then sent) ≡ printed_between sent told → text_of_script (lines_of sent) ≡ (pieces_reply sent told).text
-text-is sent told lines =
-    ap ended_lines (printed-append sent.before (lines_sent sent ++ sent.behind) (world_start sent))
-    ∙ lines-append (printed_then sent) (printed_by by_history (lines_sent sent ++ sent.behind) (world_then sent))
-    ∙ ap (λ (rest : List (List ℕ)). ended_lines (printed_then sent) ++ ended_lines rest)
-    (printed-append (lines_sent sent) sent.behind (world_then sent) ∙ ap (λ (told : List (List ℕ)). told ++ printed_behind sent) lines)
-    ∙ ap (λ (rest : List ℕ). ended_lines (printed_then sent) ++ rest) (lines-append (printed_between sent told) (printed_behind sent))
+text-is : (records : HeldRecords) (sent : SentInPieces) (told : List (List ℕ)) → printed_by records (lines_sent sent) (world_then sent) ≡ printed_between records sent told → text_by records (lines_of sent) ≡ (pieces_reply records sent told).text
+text-is records sent told lines =
+    ap ended_lines (printed-append records sent.before (lines_sent sent ++ sent.behind) (world_start sent))
+    ∙ lines-append (printed_then records sent) (printed_by records (lines_sent sent ++ sent.behind) (world_then sent))
+    ∙ ap (λ (rest : List (List ℕ)). ended_lines (printed_then records sent) ++ ended_lines rest)
+    (printed-append records (lines_sent sent) sent.behind (world_then sent) ∙ ap (λ (told : List (List ℕ)). told ++ printed_behind records sent) lines)
+    ∙ ap (λ (rest : List ℕ). ended_lines (printed_then records sent) ++ rest) (lines-append (printed_between records sent told) (printed_behind records sent))
 
 -- ---- the law
 
@@ -180,10 +180,10 @@ module _ (script : List ℕ) (sent : SentInPieces) (s : SendsPieces script sent)
         made-answered hub sent.number input (answered_to_first n sent) first core (concat (take n tells.told)) (tells.in_turn n) (answered first);
   }
 
-  pub pieces-told : (told : List (List ℕ)) × TellsInTurn sent told × (reply_to_script script ≡ pieces_reply sent told)
+  pub pieces-told : (told : List (List ℕ)) × TellsInTurn sent told × ((records : HeldRecords) → reply_to_script records script ≡ pieces_reply records sent told)
   pieces-told =
-      let lines =
-      printed-placed sent.word (world_then sent) sent.number sent.world place sent.turns
-      ∙ tells.lines
-      ∙ sym (turns-placed sent.word (world_then sent) sent.number sent.world place sent.turns tells.told) in
-      (tells.told, in-turn, reply-is script (lines_of sent) (pieces_reply sent tells.told).text s.built s.read (text-is sent tells.told lines))
+      let lines : (records : HeldRecords) → printed_by records (lines_sent sent) (world_then sent) ≡ printed_between records sent tells.told = λ records.
+      printed-placed sent.word (world_then sent) sent.number sent.world place records sent.turns
+      ∙ tells.lines records
+      ∙ sym (turns-placed sent.word (world_then sent) sent.number sent.world place records sent.turns tells.told) in
+      (tells.told, in-turn, λ records. reply-is records script (lines_of sent) (pieces_reply records sent tells.told).text s.built s.read (text-is records sent tells.told (lines records)))

@@ -11,10 +11,11 @@ use Rattle.pushserver.specs.Hubs.{connect}
 use Rattle.replay.specs.Lines.{ScriptLine, silent, zone, send, point}
 use Rattle.replay.specs.Scripts.{nothing_known, lines_from, client_words, lines_read}
 use Rattle.replay.specs.World.{World, start_world}
+use Rattle.replay.specs.TextWords.{by_notices}
 use Rattle.replay.specs.Text.{world_after}
 use Rattle.replay.specs.BuiltScripts.{first_unbuilt, first_later}
 use Rattle.replay.specs.Pieces.{Turn, SentInPieces, lines_of, answered_to_first, SendsPieces, printed_turns}
-use Rattle.replay.proofs.worlds.InputOctets.{all_octets}
+use Rattle.replay.proofs.worlds.ClientOutputs.{all_octets}
 use Rattle.replay.proofs.lines.LineWords.{word_utf8}
 use Rattle.replay.proofs.serving.WorkedServing.{frame_sent}
 
@@ -79,6 +80,6 @@ both_told : (answered_to_first 2 sent).0 ≡ answers
 both_told = refl
 
 -- the line of the other peer stands between these two, behind the point
-printed : printed_turns (codes "p") turns ([] ∷ answers ∷ []) earlier ≡ codes "bytes p -" ∷ codes "point 0 0" ∷ codes "bytes q -" ∷ (codes "bytes p " ++ answers_text) ∷ []
+printed : printed_turns by_notices (codes "p") turns ([] ∷ answers ∷ []) earlier ≡ codes "bytes p -" ∷ codes "point 0 0" ∷ codes "bytes q -" ∷ (codes "bytes p " ++ answers_text) ∷ []
 unfolding digits
 printed = refl

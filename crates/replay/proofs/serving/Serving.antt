@@ -2,8 +2,8 @@
 --     served_is      the reply of the script
 use Rattle.std.proofs.Common.{◌≡◌, ℕ, List, [], ◌∷◌, ◌++◌, ◌∙◌, ap}
 use Rattle.replay.specs.Lines.{ScriptLine, send}
-use Rattle.replay.specs.TextWords.{by_history}
-use Rattle.replay.specs.Text.{ended_lines, printed_by, sends, text_of_script}
+use Rattle.replay.specs.TextWords.{HeldRecords}
+use Rattle.replay.specs.Text.{ended_lines, printed_by, sends, text_by}
 use Rattle.replay.specs.BuiltScripts.{reply_to_script}
 use Rattle.replay.specs.Serving.{Asked, lines_of, world_start, world_then, world_behind, served_line, AsksFirst, served_reply}
 use Rattle.replay.proofs.worlds.BetweenLines.{printed-append, lines-append, from-between, bounded-between, reply-is}
@@ -17,18 +17,18 @@ line_printed script asked asks =
     sent-line (world_then asked) asked.word asked.octets asked.message asked.question (from-between script asked.before behind asks.built asks.read).below (bounded-between script asked.before behind asks.built asks.read) asks.found
     (sends-short script asked.before asked.behind asked.word asked.octets asks.read) asks.new_peer asks.seat asks.acceptable
 
-abbrev printed_then : Asked → List (List ℕ)
-printed_then asked = printed_by by_history asked.before (world_start asked)
+abbrev printed_then : HeldRecords → Asked → List (List ℕ)
+printed_then records asked = printed_by records asked.before (world_start asked)
 
-abbrev printed_behind : Asked → List (List ℕ)
-printed_behind asked = printed_by by_history asked.behind (world_behind asked)
+abbrev printed_behind : HeldRecords → Asked → List (List ℕ)
+printed_behind records asked = printed_by records asked.behind (world_behind asked)
 
-text_is : (script : List ℕ) (asked : Asked) → AsksFirst script asked → text_of_script (lines_of asked) ≡ (served_reply asked).text
-text_is script asked asks =
-    ap ended_lines (printed-append asked.before (send asked.word asked.octets ∷ asked.behind) (world_start asked))
-    ∙ ap (λ (lines : List (List ℕ)). ended_lines (printed_then asked ++ (lines ++ printed_behind asked))) (line_printed script asked asks)
-    ∙ lines-append (printed_then asked) (served_line asked ∷ printed_behind asked)
-    ∙ ap (λ (rest : List ℕ). ended_lines (printed_then asked) ++ rest) (lines-append (served_line asked ∷ []) (printed_behind asked))
+text_is : (records : HeldRecords) (script : List ℕ) (asked : Asked) → AsksFirst script asked → text_by records (lines_of asked) ≡ (served_reply records asked).text
+text_is records script asked asks =
+    ap ended_lines (printed-append records asked.before (send asked.word asked.octets ∷ asked.behind) (world_start asked))
+    ∙ ap (λ (lines : List (List ℕ)). ended_lines (printed_then records asked ++ (lines ++ printed_behind records asked))) (line_printed script asked asks)
+    ∙ lines-append (printed_then records asked) (served_line asked ∷ printed_behind records asked)
+    ∙ ap (λ (rest : List ℕ). ended_lines (printed_then records asked) ++ rest) (lines-append (served_line asked ∷ []) (printed_behind records asked))
 
-pub served_is : (script : List ℕ) (asked : Asked) → AsksFirst script asked → reply_to_script script ≡ served_reply asked
-served_is script asked asks = reply-is script (lines_of asked) (served_reply asked).text asks.built asks.read (text_is script asked asks)
+pub served_is : (records : HeldRecords) (script : List ℕ) (asked : Asked) → AsksFirst script asked → reply_to_script records script ≡ served_reply records asked
+served_is records script asked asks = reply-is records script (lines_of asked) (served_reply records asked).text asks.built asks.read (text_is records script asked asks)

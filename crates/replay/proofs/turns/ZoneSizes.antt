@@ -1,20 +1,20 @@
 -- How large the records of one name are in a state that began with zones: at most 60,000 octets for each zone.
 --     IsSmall, IsBounded, bounded-after      the bound, and that every entry keeps it
 --     records-size      the records of a name in such a state
-use Rattle.std.proofs.Common.{◌≡◌, ◌⊎◌, inl, inr, ℕ, ◌+◌, ◌*◌, ◌≤◌, Bool, true, false, cond, not, List, [], ◌∷◌, ◌++◌, map, fold, length, Option, Some, None, Result, Ok, Err, nat_le, nat_lt, refl, sym, ◌∙◌, ap, subst, arith, take_all, le_refl, append-nil}
+use Rattle.std.proofs.Common.{◌≡◌, ◌⊎◌, inl, inr, ℕ, ◌+◌, ◌*◌, ◌≤◌, Bool, true, false, cond, List, [], ◌∷◌, ◌++◌, map, fold, length, Option, Some, None, Result, Ok, Err, nat_le, nat_lt, refl, sym, ◌∙◌, ap, subst, arith, take_all, le_refl, append-nil}
 use Rattle.std.proofs.lemmas.List.{length-map}
 use Rattle.std.specs.List.{AllByRecursion, list_all}
 use Rattle.std.proofs.lemmas.Bool.Decides.{nat_tests}
-use Rattle.push_base.specs.Cases.{◌>>=◌, changed_at, first_refused}
+use Rattle.push_base.specs.Cases.{◌>>=◌, changed_at}
 use Rattle.dnsname.specs.Names.{Labels, octets, lower, same_name}
 use Rattle.std.specs.Str.{bytes_eq}
-use Rattle.rrset.specs.Rcodes.{refused, nxrrset}
+use Rattle.rrset.specs.Rcodes.{refused}
 use Rattle.rrset.specs.RecordSet.{RecordSet, only, at_name, size_at, size_of, union}
 use Rattle.rrset.proofs.Sets.{both_true}
 use Rattle.rrset.proofs.Sizes.{size_of-only-union}
 use Rattle.dnswire.specs.declared.message.Update.{Update}
 use Rattle.zoneupdate.specs.Zones.{ZoneState}
-use Rattle.zoneupdate.specs.Updates.{judged, accepted_or, is_within_limits, with_counted_ttl, rows_after, prerequisite_refusal, change_refusal, sets_agree}
+use Rattle.zoneupdate.specs.Updates.{judged, refused_first, accepted_or, is_within_limits, with_counted_ttl, rows_after}
 use Rattle.linkcache.specs.Rows.{reconfirmed, shown_rows}
 use Rattle.history.specs.States.{State, LinkState, home_names, with_rows, zone_for, updated, after, state_at, records, link_heard, link_at_moment}
 use Rattle.history.specs.declared.entry.Entry.{Entry}
@@ -73,27 +73,14 @@ small-or : (o : Option ℕ) (r : Result RecordSet ℕ) → GivesSmall r → Give
 small-or (Some code) r h = tt
 small-or None r h = h
 
-small-cond : (b : Bool) (code : ℕ) (r : Result RecordSet ℕ) → GivesSmall r → GivesSmall (cond b (Err code) r)
-small-cond true code r h = tt
-small-cond false code r h = h
-
 small-limited : (rows : RecordSet) (code : ℕ) (b : Bool) → is_within_limits rows ≡ b → GivesSmall (cond b (Ok rows) (Err code))
 small-limited rows code true e = small-within rows e
 small-limited rows code false e = tt
 
 pub judged-small : (homes : List Labels) (zone : ZoneState) (update : Update) → GivesSmall (judged homes zone update)
 judged-small homes zone update =
-    let prereqs = map with_counted_ttl update.prereqs in
-    let changes = map with_counted_ttl update.changes in
-    let later = rows_after zone changes in
-    let limited : Result RecordSet ℕ = cond (is_within_limits later) (Ok later) (Err refused) in
-    let scanned : Result RecordSet ℕ = accepted_or (first_refused (change_refusal homes zone) changes) limited in
-    let permitted : Result RecordSet ℕ = cond (not zone.writable) (Err refused) scanned in
-    let agreed : Result RecordSet ℕ = cond (not (sets_agree prereqs zone.rows)) (Err nxrrset) permitted in
-    small-or (first_refused (prerequisite_refusal homes zone) prereqs) agreed
-    (small-cond (not (sets_agree prereqs zone.rows)) nxrrset permitted
-    (small-cond (not zone.writable) refused scanned
-    (small-or (first_refused (change_refusal homes zone) changes) limited (small-limited later refused (is_within_limits later) refl))))
+    let later = rows_after zone (map with_counted_ttl update.changes) in
+    small-or (refused_first homes zone update) (cond (is_within_limits later) (Ok later) (Err refused)) (small-limited later refused (is_within_limits later) refl)
 
 -- ---- all zones
 

@@ -15,9 +15,10 @@ use Rattle.pushserver.proofs.Walks.{with_new}
 use Rattle.replay.specs.Lines.{ScriptLine}
 use Rattle.replay.specs.Scripts.{script_of}
 use Rattle.replay.specs.World.{World, start_world}
-use Rattle.replay.specs.TextWords.{by_history}
-use Rattle.replay.specs.Text.{ended_lines, line_does, printed_by, text_of_script, world_after}
+use Rattle.replay.specs.TextWords.{HeldRecords, by_history}
+use Rattle.replay.specs.Text.{ended_lines, line_does, printed_by, text_by, world_after}
 use Rattle.replay.specs.BuiltScripts.{first_later, reply_at, reply_to_script}
+use Rattle.replay.proofs.worlds.OneWorld.{one-world}
 use Rattle.replay.proofs.worlds.BuiltHeads.{built-script}
 use Rattle.replay.proofs.worlds.BuiltWorlds.{IsBuiltLine}
 use Rattle.replay.proofs.worlds.Numbers.{IsFrom, from-lines}
@@ -32,12 +33,14 @@ lines-append [] ys = refl
 lines-append (x ∷ xs) ys = ap (λ (rest : List ℕ). (x ++ 10 ∷ []) ++ rest) (lines-append xs ys) ∙ sym (append_assoc (x ++ 10 ∷ []) (ended_lines xs) (ended_lines ys))
 
 -- so is what they print
-pub printed-append : (before behind : List ScriptLine) (world : World) → printed_by by_history (before ++ behind) world ≡ printed_by by_history before world ++ printed_by by_history behind (world_after before world)
-printed-append [] behind world = refl
-printed-append (l ∷ ls) behind world =
-    let one = line_does by_history l world in
-    ap (λ (rest : List (List ℕ)). one.1 ++ rest) (printed-append ls behind one.0)
-    ∙ sym (append_assoc one.1 (printed_by by_history ls one.0) (printed_by by_history behind (world_after ls one.0)))
+pub printed-append : (records : HeldRecords) (before behind : List ScriptLine) (world : World) → printed_by records (before ++ behind) world ≡ printed_by records before world ++ printed_by records behind (world_after before world)
+printed-append records [] behind world = refl
+printed-append records (l ∷ ls) behind world =
+    let one = line_does records l world in
+    let told = one.1 ++ printed_by records ls one.0 in
+    ap (λ (rest : List (List ℕ)). one.1 ++ rest) (printed-append records ls behind one.0)
+    ∙ sym (append_assoc one.1 (printed_by records ls one.0) (printed_by records behind (world_after ls one.0)))
+    ∙ ap (λ (later : World). told ++ printed_by records behind (world_after ls later)) (one-world records l world)
 
 -- the world behind both parts
 pub after-append : (before behind : List ScriptLine) (world : World) → world_after (before ++ behind) world ≡ world_after behind (world_after before world)
@@ -75,9 +78,9 @@ bounded-connected hub bounded = by (nat_lt (length hub.sessions) max_sessions &&
 
 -- ---- the reply
 
-pub reply-is : (script : List ℕ) (lines : List ScriptLine) (text : List ℕ) → first_later script ≡ None → script_of script ≡ Ok lines → text_of_script lines ≡ text → reply_to_script script ≡ record { status = 0; text = text }
+pub reply-is : (records : HeldRecords) (script : List ℕ) (lines : List ScriptLine) (text : List ℕ) → first_later script ≡ None → script_of script ≡ Ok lines → text_by records lines ≡ text → reply_to_script records script ≡ record { status = 0; text = text }
 unfolding reply_to_script
-reply-is script lines text built read is =
-    ap (λ (f : Option ℕ). reply_at f script) built
-    ∙ ap (λ (p : ℕ × List ℕ). record { status = p.0; text = p.1 }) (ap told read)
+reply-is records script lines text built read is =
+    ap (λ (f : Option ℕ). reply_at records f script) built
+    ∙ ap (λ (p : ℕ × List ℕ). record { status = p.0; text = p.1 }) (ap (told records) read)
     ∙ ap (λ (t : List ℕ). record { status = 0; text = t }) is

@@ -12,7 +12,7 @@ use Rattle.zoneupdate.specs.Zones.{ZoneState, new_zone}
 use Rattle.history.specs.Homes.{NamedHome, home_fault}
 use Rattle.history.specs.declared.entry.HomeFault.{HomeFault}
 use Rattle.history.specs.declared.entry.HomeFault.TheVariants.{Many, Long}
-use Rattle.replay.specs.Lines.{Word, ScriptLine, silent, timers, zone, lone, at_moment, update, ask, drop_question, open_connection, cut, send, stop, point}
+use Rattle.replay.specs.Lines.{Word, ScriptLine, silent, timers, zone, lone, at_moment, update, ask, drop_question, open_connection, cut, send, feed, stop, point, show, client, settle}
 use Rattle.replay.specs.Scripts.{Known, nothing_known, fits, allowed, with_line, lines_from, lines_read, client_words, script_of}
 use Rattle.replay.specs.World.{Head, empty_head, with_head_line, start_world}
 use Rattle.replay.specs.BuiltScripts.{is_built, first_unbuilt, first_later}
@@ -80,12 +80,16 @@ turn all known later head (zone apex serial mode) is fit h =
     subst (λ n. HeadIs n (with_head_line head (zone apex serial mode))) a.1 (zone-turn known head apex serial mode (both_true known.in_head (is_none (home_fault known.homes (apex, false))) a.0).1 h)
 turn all known later head (at_moment t) is fit h = subst (λ n. HeadIs n head) (some_is _ later fit) (record { count = h.count; bounded = h.bounded })
 turn all known later head (update o) is fit h = subst (λ n. HeadIs n head) (some_is _ later fit) (record { count = h.count; bounded = h.bounded })
+turn all known later head (client w) is fit h = subst (λ n. HeadIs n head) (is_allowed _ _ later fit).1 (record { count = h.count; bounded = h.bounded })
+turn all known later head (settle w) is fit h = subst (λ n. HeadIs n head) (is_allowed _ _ later fit).1 (record { count = h.count; bounded = h.bounded })
 turn all known later head (lone w) is fit h = subst (λ n. HeadIs n head) (is_allowed _ _ later fit).1 (record { count = h.count; bounded = h.bounded })
 turn all known later head (ask w q) is fit h = subst (λ n. HeadIs n head) (is_allowed _ _ later fit).1 (record { count = h.count; bounded = h.bounded })
 turn all known later head (drop_question w q) is fit h = subst (λ n. HeadIs n head) (is_allowed _ _ later fit).1 (record { count = h.count; bounded = h.bounded })
 turn all known later head (open_connection w) is fit h = subst (λ n. HeadIs n head) (is_allowed _ _ later fit).1 (record { count = h.count; bounded = h.bounded })
 turn all known later head (cut w) is fit h = subst (λ n. HeadIs n head) (is_allowed _ _ later fit).1 (record { count = h.count; bounded = h.bounded })
 turn all known later head (send w o) is fit h = subst (λ n. HeadIs n head) (is_allowed _ _ later fit).1 (record { count = h.count; bounded = h.bounded })
+turn all known later head (feed w o) is fit h = subst (λ n. HeadIs n head) (is_allowed _ _ later fit).1 (record { count = h.count; bounded = h.bounded })
+turn all known later head (show w q n) is fit h = subst (λ n. HeadIs n head) (is_allowed _ _ later fit).1 (record { count = h.count; bounded = h.bounded })
 turn all known later head (stop w r d) is fit h = subst (λ n. HeadIs n head) (is_allowed _ _ later fit).1 (record { count = h.count; bounded = h.bounded })
 turn all known later head point is fit h = subst (λ n. HeadIs n head) (some_is _ later fit) (record { count = h.count; bounded = h.bounded })
 turn all known later head _ is fit h = absurd cc

@@ -2,7 +2,7 @@
 use Rattle.std.proofs.Common.{◌≡◌, ℕ, Bool, true, false, cond, List, [], ◌∷◌, ◌++◌, fold, Option, Some, None, sym, ◌∙◌, ap, subst, refl, append_assoc, append-nil, codes, decimal, string_bytes, IfOk, Result, Ok, Err, Global}
 use Rattle.std.specs.Result.{IsErrOf}
 use Rattle.std.specs.declared.string.String.{String}
-use Rattle.std.specs.Prelude.{find, position, nat_lt, option_map, ◌&&◌, length}
+use Rattle.std.specs.Prelude.{find, get_or, position, nat_lt, option_map, ◌&&◌, length}
 use Rattle.push_base.specs.Limits.{max_number}
 use Rattle.std.specs.Str.{bytes_eq}
 use Rattle.dsosession.specs.declared.session.EndReason.{EndReason}
@@ -17,10 +17,10 @@ use Rattle.replay.specs.PassedOctets.{exchanged, enough}
 use Rattle.replay.specs.TextWords.{spaced, end_words, octets_text}
 use Rattle.replay.specs.Text.{Printed, ended_lines, printing, updates, moments, timed, asked_to_stop, stops, cuts, exchanges, sends, end_lines}
 use Rattle.replay.specs.KeptExchanges.{Exchanges}
-use Rattle.replay.specs.KeptWorlds.{Parties, StandsForWorld, HasPrinted, Acts}
-use Rattle.replay.specs.KeptSeats.{has_word, IsTimed, Times, TimesWorld}
-use Rattle.replay.proofs.worlds.Seats.{absent}
-use Rattle.replay.proofs.worlds.TimedSeats.{HasNone, none-found, stand-alone, hub-timed, peers-timed, links-timed}
+use Rattle.replay.specs.KeptWorlds.{KeptSeat, Parties, StandsForWorld, HasPrinted, Acts}
+use Rattle.replay.specs.KeptSeats.{has_word, stopped_hub, IsTimed, Times, TimesWorld}
+use Rattle.replay.proofs.worlds.Seats.{absent, IsSeated, is-seated}
+use Rattle.replay.proofs.worlds.TimedSeats.{peers-timed, links-timed}
 
 -- ---- lines
 
@@ -71,12 +71,11 @@ moments-act kept between later known known_later t full text written does is tim
     let after = (hubs.moment world.hub t).1 in
     let first = hub_timed t world in
     let same : at ≡ now after = timed_so.moment after r.1 in
-    let told : IsTimed at known_later.seats written first.0 first.1 = timed_so.times first.0 first.1 w.seats d (is ∙ ap (λ (b : Bool). ended_lines (cond b (codes "full" ∷ []) [])) (sym r.0)) in
-    let alone = stand-alone known.seats world.seats w.seats in
+    let told : IsTimed at later known_later.seats written first.0 first.1 = timed_so.times first.0 first.1 r.1 w.seats d (is ∙ ap (λ (b : Bool). ended_lines (cond b (codes "full" ∷ []) [])) (sym r.0)) in
     subst (λ (n : ℕ). HasPrinted later known_later written (fold (timed n) first world.seats)) same (record {
       text = told.text;
       stands = record {
-        hub = subst (StandsFor later) (sym (hub-timed at world.seats first alone)) (subst (λ (k : KeptHub). StandsFor k after) (sym timed_so.hub) r.1);
+        hub = told.hub;
         peers = timed_so.peers ∙ w.peers ∙ sym (peers-timed at world.seats first);
         seats = told.stands;
         links = links-timed at world.seats first ∙ w.links;
@@ -108,14 +107,20 @@ stops-act kept later known known_later w rcode delay written none does is world 
     subst (λ (o : Option Seat). HasPrinted later known_later written (stops_by w rcode delay world o)) (sym (no_seat w kept known world none s))
     (record { text = is ∙ one_line (codes "stop " ++ w); stands = does world s })
 
--- a lone client has no session
-pub stops-lone : (kept : KeptHub) (known : Parties) (w : Word) (rcode delay place : ℕ) (written : List ℕ) → position (has_word w) known.seats ≡ Some place → written ≡ codes "stop " ++ (w ++ 10 ∷ []) → Acts (stops w rcode delay) kept known written kept known
+stops-so : (session : Option ℕ) (rcode delay : ℕ) (world : World) → record world { hub = stopped_hub session rcode delay world.hub } ≡ stopped_by rcode delay world session
+stops-so None rcode delay world = refl
+stops-so (Some number) rcode delay world = refl
+
+-- a client's session
+pub stops-seat : (kept later : KeptHub) (known : Parties) (w : Word) (rcode delay place : ℕ) (k : KeptSeat) (session : Option ℕ) (written : List ℕ) → position (has_word w) known.seats ≡ Some place → k ≡ get_or known.seats place k → session ≡ k.session
+    → ((hub : Hub) → StandsFor kept hub → StandsFor later (stopped_hub session rcode delay hub)) → written ≡ codes "stop " ++ (w ++ 10 ∷ []) → Acts (stops w rcode delay) kept known written later known
 unfolding Acts
-stops-lone kept known w rcode delay place written at is world s d =
-    let f : HasNone w world.seats = none-found w known.seats world.seats place s.seats at in
-    subst (λ (o : Option Seat). HasPrinted kept known written (stops_by w rcode delay world o)) (sym f.found)
-    (subst (λ (o : Option ℕ). HasPrinted kept known written (printing (codes "stop" ∷ w ∷ []) (stopped_by rcode delay world o))) (sym f.session)
-    (record { text = is ∙ one_line (codes "stop " ++ w); stands = s }))
+stops-seat kept later known w rcode delay place k session written at there session_is does is world s d =
+    let p : IsSeated w known.seats place world = is-seated w known.seats world place s.seats at in
+    let same : session ≡ p.seat.session = session_is ∙ (p.here k there).session in
+    subst (λ (o : Option Seat). HasPrinted later known written (stops_by w rcode delay world o)) (sym p.found)
+    (subst (λ (o : Option ℕ). HasPrinted later known written (printing (codes "stop" ∷ w ∷ []) (stopped_by rcode delay world o))) same
+    (record { text = is ∙ one_line (codes "stop " ++ w); stands = subst (StandsForWorld later known) (stops-so session rcode delay world) (with_hub later (stopped_hub session rcode delay world.hub) kept known world s (does world.hub s.hub)) }))
 
 -- what a cut leaves
 abbrev pub CutsPeer : Word → KeptHub → Parties → KeptHub → Parties → Type 0
@@ -199,7 +204,7 @@ exchanges-some kept between later known known_later w number sent octets slice l
 -- ---- what peers send
 
 -- a hub that has no seat stays as it is
-refused-same : (hub : Hub) → (hubs.connect hub).0 ≡ None → (hubs.connect hub).1 ≡ hub
+pub refused-same : (hub : Hub) → (hubs.connect hub).0 ≡ None → (hubs.connect hub).1 ≡ hub
 refused-same hub none = by (nat_lt (length hub.sessions) hubs.max_sessions && nat_lt hub.numbers_given max_number) none
   where
     made : Option ℕ × Hub

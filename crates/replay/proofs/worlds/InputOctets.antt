@@ -1,13 +1,14 @@
 -- In a script that is built, each session's input holds octets.
 --     octets-kept      the steps of which calls are made keep octets in all inputs
 --     octets-lines, octets-connected      so they stand there between lines, and with one session more
-use Rattle.std.proofs.Common.{◌≡◌, ℕ, ◌+◌, ◌*◌, ◌<◌, Bool, true, false, cond, ◌&&◌, not, List, [], ◌∷◌, ◌++◌, map, take, find, Option, Some, None, option_map, Ok, nat_lt, refl, sym, ◌∙◌, ap, subst, arith}
+use Rattle.std.proofs.Common.{length, ◌≡◌, ℕ, ◌+◌, ◌*◌, ◌<◌, ◌≤◌, Bool, true, false, cond, ◌&&◌, not, List, [], ◌∷◌, ◌++◌, map, take, find, Option, Some, None, option_map, Ok, nat_lt, refl, sym, ◌∙◌, ap, subst, arith}
 use Rattle.std.specs.Prelude.{◌==◌}
 use Rattle.std.specs.List.{All, AllByRecursion, list_all}
 use Rattle.std.specs.Char.{is_ascii_hexdigit}
-use Rattle.std.proofs.lemmas.Bool.{ltb-true}
 use Rattle.std.proofs.lemmas.Bool.Decides.{nat_tests}
-use Rattle.std.proofs.lemmas.List.Elements.{All-nil, All-cons, All-append, All-take, All-drop}
+use Rattle.std.proofs.lemmas.List.Elements.{All-nil, All-append, All-take, All-drop, recursion_from_All}
+use Rattle.dnsname.specs.Names.{Labels, IsLabel, label_octets, labels_octets, octets, is_name}
+use Rattle.dnsname.proofs.Decisions.{is_name-Decides}
 use Rattle.push_base.specs.Hexadecimal.{first_other, digit_value, octets_of_digits, octets_or_fault, hex_octets}
 use Rattle.push_base.proofs.HexLaws.{digits_all}
 use Rattle.rrset.proofs.Places.{all_filter}
@@ -32,7 +33,9 @@ use Rattle.replay.specs.World.{start_world}
 use Rattle.replay.specs.Text.{world_after}
 use Rattle.replay.specs.BuiltScripts.{first_later}
 use Rattle.replay.proofs.worlds.BuiltHeads.{built-script}
-use Rattle.replay.proofs.worlds.BuiltWorlds.{IsBuiltLine, keeps-lines}
+use Rattle.replay.specs.PassedOctets.{enough}
+use Rattle.replay.proofs.worlds.BuiltWorlds.{IsBuiltLine, KeepsClients, keeps-lines}
+use Rattle.replay.proofs.worlds.ClientOutputs.{SaysOctets, all_octets, says-new, so-subscribe, so-unsubscribe, so-connected, so-cut, so-moment, so-gives, so-delivered, output-octets}
 use Rattle.replay.proofs.worlds.StepInputs.{step-input}
 use Rattle.replay.proofs.worlds.Keeping.{InParts}
 use Rattle.replay.proofs.lines.SentOctets.{sent_by, some_octets, written-by, sends-pass}
@@ -40,7 +43,7 @@ use Rattle.replay.proofs.lines.SentOctets.{sent_by, some_octets, written-by, sen
 abbrev IsOctet : ℕ → Type 0
 IsOctet o = o < 256
 
-abbrev are_octets : List ℕ → Bool
+abbrev pub are_octets : List ℕ → Bool
 are_octets octets = list_all (λ o. nat_lt o 256) octets
 
 -- ---- a word stands for octets
@@ -82,19 +85,44 @@ read_octets text octets e = by (first_other text) refl (octets_of_digits text) r
     by None there None is e = absurd cc
     by None there (Some os) is e = digits_octets text octets (digits_all text there) (is ∙ same os octets e)
 
-written_octets : (h octets : List ℕ) → octets_written h ≡ Some octets → are_octets octets ≡ true
+pub written_octets : (h octets : List ℕ) → octets_written h ≡ Some octets → are_octets octets ≡ true
 written_octets h octets e = written-by (λ (o : List ℕ). are_octets o ≡ true) h octets refl (λ o small read. read_octets h o read) e
 
--- ---- what lines bring
+-- ---- a name is octets
 
-pub all_octets : (octets : List ℕ) → are_octets octets ≡ true → AreOctets octets
-all_octets [] h = All-nil IsOctet
-all_octets (o ∷ os) h = let parts = and_true (nat_lt o 256) (are_octets os) h in All-cons IsOctet o os (ltb-true o 256 parts.0) (all_octets os parts.1)
+below : (o : ℕ) → o < 256 → nat_lt o 256 ≡ true
+below o h = grind (arith, nat_tests)
+
+each_below : (os : List ℕ) → AllByRecursion IsOctet os → are_octets os ≡ true
+each_below [] h = refl
+each_below (o ∷ os) h = both (nat_lt o 256) (are_octets os) (below o h.0) (each_below os h.1)
+
+pub test_octets : (os : List ℕ) → AreOctets os → are_octets os ≡ true
+test_octets os h = each_below os (recursion_from_All IsOctet os h)
+
+append_octets : (xs ys : List ℕ) → are_octets xs ≡ true → are_octets ys ≡ true → are_octets (xs ++ ys) ≡ true
+append_octets [] ys h k = k
+append_octets (x ∷ xs) ys h k = (let parts = and_true (nat_lt x 256) (are_octets xs) h in both (nat_lt x 256) (are_octets (xs ++ ys)) parts.0 (append_octets xs ys parts.1 k))
+
+label-octets : (label : List ℕ) → IsLabel label → are_octets (label_octets label) ≡ true
+label-octets label is = both (nat_lt (length label) 256) (are_octets label) (below (length label) (small (length label) is.few)) (each_below label is.octets)
+  where
+    small : (n : ℕ) → n ≤ 63 → n < 256
+    small n h = omega arith
+
+labels-octets : (labels : Labels) → AllByRecursion IsLabel labels → are_octets (labels_octets labels) ≡ true
+labels-octets [] all = refl
+labels-octets (l ∷ ls) all = append_octets (label_octets l) (labels_octets ls) (label-octets l all.0) (labels-octets ls all.1)
+
+named_octets : (name : Labels) → is_name name ≡ true → are_octets (octets name) ≡ true
+named_octets name is = append_octets (labels_octets name) (0 ∷ []) (labels-octets name ((is_name-Decides name).0 is).labels) refl
+
+-- ---- what lines bring
 
 octets-sent : (text : List ℕ) (lines : List ScriptLine) → script_of text ≡ Ok lines → AllByRecursion (λ line. AreOctets (sent_by line)) lines
 octets-sent text lines read =
     all-weaken (λ (line : ScriptLine). are_octets (sent_by line) ≡ true) (λ (line : ScriptLine). AreOctets (sent_by line)) (λ line h. all_octets (sent_by line) h) lines
-    (sends-pass are_octets written_octets text lines read)
+    (sends-pass are_octets written_octets named_octets text lines read)
 
 -- ---- what sessions hold
 
@@ -157,14 +185,28 @@ octets-kept = record {
         by false = i
 
 pub octets-parts : InParts AreOctets
-octets-parts = record { front = All-take IsOctet; rest = All-drop IsOctet }
+octets-parts = record { front = All-take IsOctet; rest = All-drop IsOctet; nothing = All-nil IsOctet; behind = All-append IsOctet }
+
+-- what clients have to send
+pub octets-clients : KeepsClients AreOctets SaysOctets
+octets-clients = record {
+  new = says-new;
+  subscribes = λ client q name c. so-subscribe client q (test_octets (octets q.name) name) c;
+  unsubscribes = so-unsubscribe;
+  connects = so-connected;
+  cuts = so-cut;
+  times = so-moment;
+  gives = so-gives;
+  delivers = λ client piece c. so-delivered enough piece (record { client = client; count = 0; left = piece }) c;
+  says = output-octets;
+}
 
 pub octets-lines : (text : List ℕ) (before behind : List ScriptLine) → first_later text ≡ None → script_of text ≡ Ok (before ++ behind)
     → AllByRecursion (λ e. All (λ o. o < 256) e.1.input) (world_after before (start_world (before ++ behind))).hub.sessions
 octets-lines text before behind built read =
     let lines = built-script text (before ++ behind) built read in
     let sent = octets-sent text (before ++ behind) read in
-    keeps-lines AreOctets HoldsOctets octets-kept octets-parts before (start_world (before ++ behind)) (each-front IsBuiltLine before behind lines.0) (each-front (λ (line : ScriptLine). AreOctets (sent_by line)) before behind sent) tt
+    keeps-lines AreOctets HoldsOctets octets-kept octets-parts SaysOctets octets-clients before (start_world (before ++ behind)) (each-front IsBuiltLine before behind lines.0) (each-front (λ (line : ScriptLine). AreOctets (sent_by line)) before behind sent) tt tt
 
 pub octets-connected : (hub : Hub) → AllByRecursion (λ e. All (λ o. o < 256) e.1.input) hub.sessions → AllByRecursion (λ e. All (λ o. o < 256) e.1.input) (connect hub).1.sessions
 octets-connected hub h = keeps-called AreOctets HoldsOctets octets-kept connects hub tt h

@@ -13,13 +13,15 @@ use Rattle.pushserver.specs.Calls.{gives as giving}
 use Rattle.pushserver.proofs.Walks.{AnyMessage, IsKept, keeps-called}
 use Rattle.replay.specs.PassedOctets.{Emitted, Exchanged, emitted, exchanged, nothing_emitted, with_giving, enough}
 
--- a piece that comes in two pieces
+-- a piece that comes in two pieces, or of two
 pub record InParts (Good : List ℕ → Type 0) : Type 0 where
   pub front : (n : ℕ) (piece : List ℕ) → Good piece → Good (take n piece)
   pub rest : (n : ℕ) (piece : List ℕ) → Good piece → Good (drop n piece)
+  pub nothing : Good []
+  pub behind : (first second : List ℕ) → Good first → Good second → Good (first ++ second)
 
 pub any-parts : InParts AnyMessage
-any-parts = record { front = λ n piece any. tt; rest = λ n piece any. tt }
+any-parts = record { front = λ n piece any. tt; rest = λ n piece any. tt; nothing = tt; behind = λ first second any both. tt }
 
 module _ (P : Hub → Type 0) (number : ℕ) (gives : (hub : Hub) (room : ℕ) → P hub → P (give hub number room).hub) where
   pub keeps-emitted : (turns budget : ℕ) (so_far : Emitted) → P so_far.hub → P (emitted turns number budget so_far).hub

@@ -10,7 +10,7 @@ use Rattle.replay.specs.Lines.{ScriptLine}
 use Rattle.replay.specs.World.{World}
 use Rattle.replay.specs.Text.{world_after}
 use Rattle.replay.proofs.rest.AtRest.{Longer, StaysLonger}
-use Rattle.replay.proofs.worlds.BuiltWorlds.{IsBuiltLine, keeps-lines}
+use Rattle.replay.proofs.worlds.BuiltWorlds.{IsBuiltLine, AnyClient, any-clients, any-ready, keeps-lines}
 use Rattle.replay.proofs.worlds.Keeping.{any-parts, keeps-emitted, give-keeps, exchanged-keeps}
 use Rattle.replay.proofs.worlds.Numbers.{any_sent}
 
@@ -43,4 +43,4 @@ stays-longer hub =
     }
 
 pub longer-lines : (hub : Hub) (lines : List ScriptLine) (world : World) → AllByRecursion IsBuiltLine lines → Longer hub world.hub → Longer hub (world_after lines world).hub
-longer-lines hub lines world built h = keeps-lines AnyMessage (Longer hub) (longer-kept hub) any-parts lines world built (any_sent lines) h
+longer-lines hub lines world built h = keeps-lines AnyMessage (Longer hub) (longer-kept hub) any-parts AnyClient any-clients lines world built (any_sent lines) (any-ready world) h

@@ -15,7 +15,7 @@ use Rattle.pushserver.proofs.Walks.{AnyMessage, IsKept}
 use Rattle.replay.specs.Lines.{ScriptLine}
 use Rattle.replay.specs.World.{World}
 use Rattle.replay.specs.Text.{world_after}
-use Rattle.replay.proofs.worlds.BuiltWorlds.{IsBuiltLine, keeps-lines}
+use Rattle.replay.proofs.worlds.BuiltWorlds.{IsBuiltLine, AnyClient, any-clients, any-ready, keeps-lines}
 use Rattle.replay.proofs.worlds.Keeping.{any-parts}
 use Rattle.replay.proofs.serving.LastSession.{AreBelow, IsBehind, below-more}
 use Rattle.replay.proofs.lines.SentOctets.{sent_by}
@@ -56,4 +56,4 @@ any_sent [] = tt
 any_sent (line ∷ lines) = (tt, any_sent lines)
 
 pub from-lines : (start : State) (lines : List ScriptLine) (world : World) → AllByRecursion IsBuiltLine lines → IsFrom start world.hub → IsFrom start (world_after lines world).hub
-from-lines start lines world built h = keeps-lines AnyMessage (IsFrom start) (from-kept start) any-parts lines world built (any_sent lines) h
+from-lines start lines world built h = keeps-lines AnyMessage (IsFrom start) (from-kept start) any-parts AnyClient any-clients lines world built (any_sent lines) (any-ready world) h

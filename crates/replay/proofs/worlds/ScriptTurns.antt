@@ -1,11 +1,12 @@
 -- The lines that events print, one by one.
 --     text_from world events      the text from there on
 --     turn      one event more
-use Rattle.std.proofs.Common.{◌≡◌, ℕ, ◌+◌, ◌<◌, List, [], ◌∷◌, ◌++◌, length, drop, get_or, sym, ◌∙◌, ap, subst, refl, append_assoc}
-use Rattle.std.proofs.lemmas.List.{at_drop_more}
+--     written      the text is written, and the world is left
+use Rattle.std.proofs.Common.{◌≡◌, ℕ, ◌+◌, ◌<◌, ◌≤◌, List, [], ◌∷◌, ◌++◌, length, drop, get_or, sym, ◌∙◌, ap, subst, refl, append_assoc, append-nil}
+use Rattle.std.proofs.lemmas.List.{at_drop_more, drop_all}
 use Rattle.replay.specs.World.{World}
-use Rattle.replay.specs.TextWords.{by_history}
-use Rattle.replay.specs.Text.{ended_lines, printed_by, line_does}
+use Rattle.replay.specs.TextWords.{by_notices}
+use Rattle.replay.specs.Text.{ended_lines, printed_by, line_does, world_after}
 use Rattle.replay.specs.declared.line.Event.{Event}
 use Rattle.replay.specs.declared.world.World as program
 use Rattle.replay.specs.Lines.{Word, ScriptLine}
@@ -14,30 +15,32 @@ use Rattle.replay.specs.Drafts.{in_list}
 use Rattle.replay.specs.KeptLines.{event_said}
 use Rattle.replay.specs.KeptScripts.{events_said, seats_named}
 use Rattle.replay.specs.KeptWorlds.{IsWorld, AreDistinct, words_in, Acts, Does}
+use Rattle.replay.proofs.worlds.OneWorld.{one-world}
 use Rattle.replay.proofs.worlds.SeatWords.{distinct-front, words-line}
 use Rattle.replay.proofs.lines.MoreLines.{event-built}
 
 -- the text from a world on
 abbrev pub text_from : World → List Event → List ℕ
-text_from world happened = ended_lines (printed_by by_history (events_said happened) world)
+text_from world happened = ended_lines (printed_by by_notices (events_said happened) world)
 
--- what was written, and the text from here, in a world that is stood for, whose clients and those to come have each a word of their own
-pub record IsWritten (kept : program.World) (text : List ℕ) (happened : List Event) (whole : List ℕ) : Type 0 where
+-- what was written, and the text and the lines from here, in a world that is stood for, whose clients and those to come have each a word of their own
+pub record IsWritten (kept : program.World) (text : List ℕ) (happened : List Event) (whole : List ℕ) (last : World) : Type 0 where
   pub world : World
   pub stands : IsWorld kept world
   pub distinct : AreDistinct (words_in world ++ seats_named (events_said happened))
   pub said : text ++ text_from world happened ≡ whole
+  pub left : world_after (events_said happened) world ≡ last
 
 ended-append : (first rest : List (List ℕ)) → ended_lines (first ++ rest) ≡ ended_lines first ++ ended_lines rest
 ended-append [] rest = refl
 ended-append (l ∷ first) rest = ap (λ t. (l ++ 10 ∷ []) ++ t) (ended-append first rest) ∙ sym (append_assoc (l ++ 10 ∷ []) (ended_lines first) (ended_lines rest))
 
 -- one event more
-pub turn : (before after : program.World) (happened : List Event) (i : ℕ) (e : Event) (text line now whole : List ℕ) → i < length happened → e ≡ get_or happened i e
-    → IsWritten before text (drop i happened) whole → Does (line_does by_history (event_said e)) before line after → now ≡ text ++ line → IsWritten after now (drop (i + 1) happened) whole
+pub turn : (before after : program.World) (happened : List Event) (i : ℕ) (e : Event) (text line now whole : List ℕ) (last : World) → i < length happened → e ≡ get_or happened i e
+    → IsWritten before text (drop i happened) whole last → Does (line_does by_notices (event_said e)) before line after → now ≡ text ++ line → IsWritten after now (drop (i + 1) happened) whole last
 unfolding Acts
-turn before after happened i e text line now whole within is w does now_is =
-    let printed = line_does by_history (event_said e) w.world in
+turn before after happened i e text line now whole last within is w does now_is =
+    let printed = line_does by_notices (event_said e) w.world in
     let rest = drop (i + 1) happened in
     let here : events_said (drop i happened) ≡ event_said e ∷ events_said rest = at_drop_more events_said happened i e within ∙ ap (λ (f : Event). events_said (f ∷ rest)) (sym is) in
     let named : AreDistinct (words_in w.world ++ seats_named (event_said e ∷ events_said rest)) = subst (λ (ls : List ScriptLine). AreDistinct (words_in w.world ++ seats_named ls)) here w.distinct in
@@ -48,11 +51,23 @@ turn before after happened i e text line now whole within is w does now_is =
       distinct =
           subst AreDistinct
           (sym (append_assoc (words_in w.world) (in_list (client_word (event_said e))) (seats_named (events_said rest)))
-          ∙ ap (λ (ws : List Word). ws ++ seats_named (events_said rest)) (sym (words-line (event_said e) w.world (event-built e)))) named;
+          ∙ ap (λ (ws : List Word). ws ++ seats_named (events_said rest)) (sym (ap words_in (one-world by_notices (event_said e) w.world) ∙ words-line (event_said e) w.world (event-built e)))) named;
       said = ap (λ t. t ++ text_from printed.0 rest) (now_is ∙ ap (λ l. text ++ l) p.text)
           ∙ append_assoc text (ended_lines printed.1) (text_from printed.0 rest)
-          ∙ ap (λ t. text ++ t) (sym (ended-append printed.1 (printed_by by_history (events_said rest) printed.0)))
+          ∙ ap (λ t. text ++ t) (sym (ended-append printed.1 (printed_by by_notices (events_said rest) printed.0)))
           ∙ ap (λ (f : Event). text ++ text_from w.world (f ∷ rest)) is
           ∙ ap (λ t. text ++ t) (sym (at_drop_more (text_from w.world) happened i e within))
           ∙ w.said;
+      left =
+          ap (world_after (events_said rest)) (one-world by_notices (event_said e) w.world)
+          ∙ ap (λ (ls : List ScriptLine). world_after ls w.world) (sym here)
+          ∙ w.left;
     }
+
+-- all lines are done
+pub written : (kept : program.World) (text : List ℕ) (happened : List Event) (i : ℕ) (whole : List ℕ) (last : World) → length happened ≤ i → IsWritten kept text (drop i happened) whole last → (text ≡ whole) × IsWorld kept last
+written kept text happened i whole last all w =
+    let none : drop i happened ≡ [] = drop_all i happened all in (
+      sym (append-nil text) ∙ ap (λ (es : List Event). text ++ text_from w.world es) (sym none) ∙ w.said,
+      subst (IsWorld kept) (ap (λ (es : List Event). world_after (events_said es) w.world) (sym none) ∙ w.left) w.stands,
+    )

@@ -1,7 +1,7 @@
 -- The words of a world's clients behind built lines: those that there were, and those that the lines name.
 --     words-line      the law of a line
 --     distinct-front      no word twice among the first
-use Rattle.std.proofs.Common.{◌≡◌, ℕ, Bool, true, false, cond, List, [], ◌∷◌, ◌++◌, fold, Option, Some, None, option_map, refl, sym, ◌∙◌, codes, append-nil}
+use Rattle.std.proofs.Common.{◌≡◌, ℕ, Bool, true, false, cond, List, [], ◌∷◌, ◌++◌, fold, Option, Some, None, option_map, ap, refl, sym, ◌∙◌, codes, append-nil}
 use Rattle.std.specs.List.{IsDistinct}
 use Rattle.std.specs.Str.{bytes_eq}
 use Rattle.std.proofs.lemmas.List.{map-append}
@@ -11,14 +11,18 @@ use Rattle.pushserver.specs.Hubs as hubs
 use Rattle.pushserver.specs.Hubs.{now, connect}
 use Rattle.pushclient.specs.Clients.{Client, closed_as, connected, is_connected}
 use Rattle.pushclient.specs.Steps as steps
-use Rattle.replay.specs.Lines.{Word, ScriptLine, silent, timers, zone, lone, at_moment, update, ask, drop_question, open_connection, cut, send, stop, point}
+use Rattle.replay.specs.Lines.{Word, ScriptLine, silent, timers, zone, lone, at_moment, update, ask, drop_question, open_connection, cut, send, feed, stop, point, show, client, settle}
 use Rattle.replay.specs.Scripts.{client_word}
 use Rattle.replay.specs.World.{Seat, World, new_seat, seat_of, with_seat, session_number, cut_seat, cut_connection, cut_peer}
 use Rattle.replay.specs.PassedOctets.{Exchanged, exchanged, enough}
 use Rattle.replay.specs.TextWords.{by_history}
-use Rattle.replay.specs.Text.{Printed, quietly, printing, cut_where, close_lines, timed, asks, subscribing, unsubscribing, opens_lone, opens_hub, opens, exchanges, session_of_word, line_does}
+use Rattle.replay.specs.Text.{Printed, quietly, printing, cut_where, end_lines, close_lines, feeds, timed, asks, subscribing, unsubscribing, opens_lone, opens_hub, opens, exchanges, session_of_word, line_does, finished}
 use Rattle.replay.specs.Drafts.{in_list}
 use Rattle.replay.specs.KeptWorlds.{AreDistinct, words_in}
+use Rattle.replay.proofs.worlds.OneWorld.{shows-leave}
+use Rattle.replay.proofs.worlds.FedSeats.{fed, fed_ending, feeds_as, feeds_by}
+use Rattle.replay.specs.KeptPassings.{settling}
+use Rattle.replay.proofs.worlds.SettledWorlds.{settled-world}
 use Rattle.replay.proofs.worlds.BuiltWorlds.{IsBuiltLine}
 use Rattle.replay.proofs.worlds.Seats.{words-put}
 
@@ -137,6 +141,34 @@ module _ (world : World) where
       by None = refl
       by (Some seat) = by_open seat (is_connected seat.client)
 
+  -- a client that settles keeps its word
+  same-settles : (w : Word) → Keeps (line_does by_history (settle w) world).0
+  same-settles w = by (seat_of world w)
+    where
+      by_seat : (seat : Seat) → Keeps (finished (codes "settle" ∷ w ∷ []) (settling world seat)).0
+      by_seat seat =
+          let p = settling world seat in
+          let same : words_in p.world ≡ words_in world = ap words_in (settled-world world seat) in
+          let ending = end_lines p.seat.word p.over ++ close_lines p.seat.word (closed_as p.seat.client) in
+          same-cut_where ending p.seat (with_seat p.seat p.world) ∙ same-put p.seat p.world ∙ same
+
+      by : (o : Option Seat) → Keeps (elim o as (λ _. Printed) [ None ↦ quietly world | Some seat ↦ finished (codes "settle" ∷ w ∷ []) (settling world seat) ]).0
+      by None = refl
+      by (Some seat) = by_seat seat
+
+  same-feeds : (w : Word) (octets : List ℕ) → Keeps (feeds w octets world).0
+  same-feeds w octets = by (seat_of world w)
+    where
+      by_open : (seat : Seat) (b : Bool) → Keeps (feeds_as w octets world seat b).0
+      by_open seat true =
+          let p = fed octets world seat in
+          same-cut_where (fed_ending octets world seat) p.seat (with_seat p.seat world) ∙ same-put p.seat world
+      by_open seat false = refl
+
+      by : (o : Option Seat) → Keeps (feeds_by w octets world o).0
+      by None = refl
+      by (Some seat) = by_open seat (is_connected seat.client)
+
   quiet : (later : World) → Keeps later → words_in later ≡ words_in world ++ []
   quiet later h = h ∙ sym (append-nil (words_in world))
 
@@ -144,6 +176,8 @@ pub words-line : (line : ScriptLine) (world : World) → IsBuiltLine line → wo
 words-line silent world is = quiet world world refl
 words-line (timers i k) world is = quiet world world refl
 words-line (zone apex serial mode) world is = quiet world world refl
+words-line (client w) world is = map-append (λ (s : Seat). s.word) world.seats (new_seat w false ∷ [])
+words-line (settle w) world is = quiet world (line_does by_history (settle w) world).0 (same-settles world w)
 words-line (lone w) world is = map-append (λ (s : Seat). s.word) world.seats (new_seat w true ∷ [])
 words-line (at_moment t) world is =
     let r = hubs.moment world.hub t in
@@ -154,6 +188,8 @@ words-line (drop_question w question) world is = quiet world (line_does by_histo
 words-line (open_connection w) world is = quiet world (line_does by_history (open_connection w) world).0 (same-opens world w)
 words-line (cut w) world is = quiet world (line_does by_history (cut w) world).0 (same-cuts world w)
 words-line (send w octets) world is = quiet world (line_does by_history (send w octets) world).0 (same-sends world w octets)
+words-line (feed w octets) world is = quiet world (line_does by_history (feed w octets) world).0 (same-feeds world w octets)
+words-line (show w question written) world is = quiet world (line_does by_history (show w question written) world).0 (ap words_in (shows-leave by_history w question written world))
 words-line (stop w rcode delay) world is = quiet world (line_does by_history (stop w rcode delay) world).0 (same-stops world w rcode delay)
 words-line point world is = quiet world world refl
 words-line _ world is = absurd cc

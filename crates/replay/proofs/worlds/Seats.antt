@@ -1,8 +1,9 @@
--- Lone clients, each where it stands.
+-- Clients, each where it stands.
 --     splits      the client of a word, and those before and behind it
 --     absent      where no client has a word, no seat has
 --     called      what a call of the client of a word makes of the seats
 --     words-put      a client that is another one keeps its word
+--     put-put      one that becomes another one twice is the latter
 --     seat-there, calls-made      what the code has of a client at a place
 use Rattle.std.proofs.Common.{◌≡◌, ℕ, zero, suc, ◌<◌, Bool, true, false, cond, List, [], ◌∷◌, ◌++◌, map, find, length, set, get_or, Option, Some, None, option_map, refl, sym, ◌∙◌, ap, subst, arith}
 use Rattle.std.specs.Prelude.{position}
@@ -13,14 +14,17 @@ use Rattle.std.proofs.lemmas.Slice.Eq.{bytes_eq-Decides}
 use Rattle.history.proofs.Positions.{position-cons}
 use Rattle.history.proofs.ZoneLists.{position-map}
 use Rattle.dsosession.specs.declared.session.CloseReason.{CloseReason}
+use Rattle.pushserver.specs.PlainHubs.{Hub}
+use Rattle.pushserver.specs.KeptHubs as hubs
+use Rattle.pushserver.specs.KeptHubs.{KeptHub}
 use Rattle.pushclient.specs.Clients.{Client, is_connected, connected, cut, closed_as}
 use Rattle.pushclient.specs.Steps.{moment}
 use Rattle.pushclient.specs.Rule.{KeptClient, StandsFor}
 use Rattle.replay.specs.Lines.{Word}
-use Rattle.replay.specs.World.{Seat, World, seat_of, with_seat}
-use Rattle.replay.specs.declared.seats.Seat as lone
+use Rattle.replay.specs.World.{Seat, World, seat_of, with_seat, cut_seat, hub_without}
+use Rattle.replay.specs.declared.seats.Seat as program
 use Rattle.replay.specs.KeptWorlds.{KeptSeat, Seated, seat_kept, seated, StandsForSeat, StandForSeats, AreDistinct, words_in}
-use Rattle.replay.specs.KeptSeats.{has_word, Makes, Calls, cut_closed}
+use Rattle.replay.specs.KeptSeats.{has_word, with_client, joined, timed_seat, Makes, Calls, Answers, HasCut, HasTimed}
 use Rattle.replay.proofs.worlds.Connected.{connected-is, moment-connected}
 
 -- ---- words
@@ -54,6 +58,17 @@ words-put x (s ∷ ss) = by (bytes_eq s.word x.word) refl (words-put x ss)
     by : (b : Bool) → bytes_eq s.word x.word ≡ b → words_of (put_seat x.word x ss) ≡ words_of ss → (cond b x s).word ∷ words_of (put_seat x.word x ss) ≡ s.word ∷ words_of ss
     by true e h = λ i. sym (same_word s.word x.word e) i ∷ h i
     by false e h = ap (λ (ws : List Word). s.word ∷ ws) h
+
+pub put-put : (v : Word) (x y : Seat) (seats : List Seat) → x.word ≡ v → put_seat v y (put_seat v x seats) ≡ put_seat v y seats
+put-put v x y [] same = refl
+put-put v x y (s ∷ ss) same = (λ i. by (bytes_eq s.word v) refl i ∷ put-put v x y ss same i)
+  where
+    here : bytes_eq x.word v ≡ true
+    here = ap (bytes_eq x.word) (sym same) ∙ word_itself x.word
+
+    by : (b : Bool) → bytes_eq s.word v ≡ b → cond (bytes_eq (cond b x s).word v) y (cond b x s) ≡ cond b y s
+    by true e = ap (λ (c : Bool). cond c y x) here
+    by false e = ap (λ (c : Bool). cond c y s) e
 
 -- ---- one seat among others
 
@@ -99,15 +114,15 @@ stand-more (l ∷ ks) (t ∷ ss) k s h new = (h.0, stand-more ks ss k s h.1 new)
 
 -- ---- what the code has
 
-pub seat-there : (seats : List lone.Seat) (place : ℕ) (s : lone.Seat) (k : KeptSeat) → place < length seats → s ≡ get_or seats place s → k ≡ get_or (seated seats) place k → seat_kept s ≡ k
+pub seat-there : (seats : List program.Seat) (place : ℕ) (s : program.Seat) (k : KeptSeat) → place < length seats → s ≡ get_or seats place s → k ≡ get_or (seated seats) place k → seat_kept s ≡ k
 seat-there seats place s k within is there = ap seat_kept is ∙ sym (get_or-map seat_kept seats place s k within) ∙ sym there
 
 -- where the client of a word stands
-pub place-known : (w : Word) (seats slice : List lone.Seat) (o : Option ℕ) → slice ≡ seats → o ≡ position (λ s. has_word w (seat_kept s)) slice → position (has_word w) (seated seats) ≡ o
-place-known w seats slice o same is = position-map seat_kept (has_word w) seats ∙ ap (λ (ss : List lone.Seat). position (λ s. has_word w (seat_kept s)) ss) (sym same) ∙ sym is
+pub place-known : (w : Word) (seats slice : List program.Seat) (o : Option ℕ) → slice ≡ seats → o ≡ position (λ s. has_word w (seat_kept s)) slice → position (has_word w) (seated seats) ≡ o
+place-known w seats slice o same is = position-map seat_kept (has_word w) seats ∙ ap (λ (ss : List program.Seat). position (λ s. has_word w (seat_kept s)) ss) (sym same) ∙ sym is
 
 -- a client at a place is another one
-pub calls-made : (answers : Client → Type 0) (next : Client → Client) (seats later : List lone.Seat) (place : ℕ) (s after : lone.Seat) → place < length seats → s ≡ get_or seats place s
+pub calls-made : (answers : Seat → Type 0) (next : Seat → Seat) (seats later : List program.Seat) (place : ℕ) (s after : program.Seat) → place < length seats → s ≡ get_or seats place s
     → later ≡ set seats place after → Makes answers next (seat_kept (get_or seats place s)) (seat_kept after) → Calls answers next (seated seats) place (seated later)
 calls-made answers next seats later place s after within is later_is makes = record {
   seat = seat_kept (get_or seats place s);
@@ -177,90 +192,168 @@ absent w (k ∷ ks) (s ∷ ss) h at = by (absent w ks ss h.1) (bytes_eq k.word w
 
 -- ---- a call of it
 
--- the client of the word answers so, and any seat with what the call makes of it may stand in its place
-pub record IsCalled (w : Word) (later : Seated) (world : World) (answers : Client → Type 0) (next : Client → Client) : Type 0 where
+-- the client of the word answers so, and behind the call its seat is what the call makes of it
+pub record IsCalled (w : Word) (before later : Seated) (place : ℕ) (world : World) (answers : Seat → Type 0) (next : Seat → Seat) : Type 0 where
   pub seat : Seat
   pub found : seat_of world w ≡ Some seat
   pub word : seat.word ≡ w
-  pub is_lone : seat.is_lone ≡ true
-  pub session : seat.session ≡ None
-  pub answer : answers seat.client
-  pub stands : (x : Seat) → x.word ≡ seat.word → x.is_lone ≡ true → x.session ≡ None → x.client ≡ next seat.client → StandForSeats later (with_seat x world).seats
+  pub here : (k : KeptSeat) → k ≡ get_or before place k → StandsForSeat k seat
+  pub answer : answers seat
+  pub next_word : (next seat).word ≡ seat.word
+  pub stands : StandForSeats later (with_seat (next seat) world).seats
 
-pub called : (w : Word) (ks later : Seated) (world : World) (place : ℕ) (answers : Client → Type 0) (next : Client → Client) → StandForSeats ks world.seats → AreDistinct (words_in world)
-    → position (has_word w) ks ≡ Some place → Calls answers next ks place later → IsCalled w later world answers next
+pub called : (w : Word) (ks later : Seated) (world : World) (place : ℕ) (answers : Seat → Type 0) (next : Seat → Seat) → StandForSeats ks world.seats → AreDistinct (words_in world)
+    → position (has_word w) ks ≡ Some place → Calls answers next ks place later → IsCalled w ks later place world answers next
 called w ks later world place answers next h distinct at c =
     let p = splits w ks world.seats place h at in
     let apart : AreDistinct (words_of (p.front ++ p.seat ∷ p.back)) = subst (λ (ss : List Seat). AreDistinct (words_of ss)) p.is distinct in
     let all : StandForSeats ks (p.front ++ p.seat ∷ p.back) = subst (StandForSeats ks) p.is h in
-    let there : c.seat ≡ get_or ks (length p.front) c.seat = c.there ∙ ap (λ (n : ℕ). get_or ks n c.seat) (sym p.count) in
-    let here : StandsForSeat c.seat p.seat = seat-at p.front p.back p.seat ks c.seat all there in
+    let standing : (k : KeptSeat) → k ≡ get_or ks place k → StandsForSeat k p.seat = λ k there. seat-at p.front p.back p.seat ks k all (there ∙ ap (λ (n : ℕ). get_or ks n k) (sym p.count)) in
+    let here : StandsForSeat c.seat p.seat = standing c.seat c.there in
+    let x : Seat = next p.seat in
+    let new : StandsForSeat c.after x = c.makes.stands p.seat here in
+    let named : x.word ≡ p.seat.word = sym new.word ∙ c.makes.word ∙ here.word in
+    let seats : put_seat x.word x world.seats ≡ p.front ++ x ∷ p.back = ap (put_seat x.word x) p.is ∙ put-at x.word p.front p.back p.seat x apart (sym named) in
+    let kept : later ≡ set ks (length p.front) c.after = c.is ∙ ap (λ (n : ℕ). set ks n c.after) (sym p.count) in
     record {
       seat = p.seat;
       found = p.found;
       word = p.word;
-      is_lone = here.is_lone;
-      session = here.session;
-      answer = c.makes.answer p.seat.client here.client;
-      stands = λ x word lone session client.
-          let new : StandsForSeat c.after x = record {
-            word = c.makes.word ∙ here.word ∙ sym word;
-            is_lone = lone;
-            session = session;
-            is_open = c.makes.is_open p.seat.client here.is_open here.client ∙ ap is_connected (sym client);
-            client = subst (StandsFor c.after.client) (sym client) (c.makes.client p.seat.client here.client);
-          } in
-          let seats : put_seat x.word x world.seats ≡ p.front ++ x ∷ p.back = ap (put_seat x.word x) p.is ∙ put-at x.word p.front p.back p.seat x apart (sym word) in
-          let kept : later ≡ set ks (length p.front) c.after = c.is ∙ ap (λ (n : ℕ). set ks n c.after) (sym p.count) in
-          subst (λ (l : Seated). StandForSeats l (put_seat x.word x world.seats)) (sym kept)
+      here = standing;
+      answer = c.makes.answer p.seat here;
+      next_word = named;
+      stands = subst (λ (l : Seated). StandForSeats l (put_seat x.word x world.seats)) (sym kept)
           (subst (StandForSeats (set ks (length p.front) c.after)) (sym seats) (set-at p.front p.back p.seat x ks c.after all new));
     }
+
+-- the client of a word
+pub record IsSeated (w : Word) (ks : Seated) (place : ℕ) (world : World) : Type 0 where
+  pub seat : Seat
+  pub found : seat_of world w ≡ Some seat
+  pub word : seat.word ≡ w
+  pub here : (k : KeptSeat) → k ≡ get_or ks place k → StandsForSeat k seat
+
+pub is-seated : (w : Word) (ks : Seated) (world : World) (place : ℕ) → StandForSeats ks world.seats → position (has_word w) ks ≡ Some place → IsSeated w ks place world
+is-seated w ks world place h at =
+    let p = splits w ks world.seats place h at in
+    let all : StandForSeats ks (p.front ++ p.seat ∷ p.back) = subst (StandForSeats ks) p.is h in
+    record { seat = p.seat; found = p.found; word = p.word; here = λ k there. seat-at p.front p.back p.seat ks k all (there ∙ ap (λ (n : ℕ). get_or ks n k) (sym p.count)) }
 
 -- ---- what one client makes of a call
 
 -- a call that leaves its connection, or that it has none
 pub stays-makes : (answers : Client → Type 0) (next : Client → Client) (k : KeptSeat) (client : KeptClient) → ((plain : Client) → StandsFor k.client plain → answers plain × StandsFor client (next plain))
-    → ((plain : Client) → is_connected (next plain) ≡ is_connected plain) → Makes answers next k (record k { client = client })
+    → ((plain : Client) → is_connected (next plain) ≡ is_connected plain) → Makes (Answers answers) (with_client next) k (record k { client = client })
 stays-makes answers next k client does keeps = record {
   word = refl;
-  answer = λ plain s. (does plain s).0;
-  client = λ plain s. (does plain s).1;
-  is_open = λ plain e s. e ∙ sym (keeps plain);
+  answer = λ seat s. (does seat.client s.client).0;
+  stands = λ seat s. record {
+    word = s.word;
+    is_lone = s.is_lone;
+    is_open = s.is_open ∙ sym (keeps seat.client);
+    client = (does seat.client s.client).1;
+    session = s.session;
+    up_wire = s.up_wire;
+    down_wire = s.down_wire;
+    reached = s.reached;
+    few = s.few;
+    filled = s.filled;
+  };
 }
 
-pub opened-makes : (t : ℕ) (k : KeptSeat) (client : KeptClient) → ((plain : Client) → StandsFor k.client plain → StandsFor client (connected t plain)) → Makes (λ c. Unit {0}) (connected t) k (record k { is_open = true; client = client })
-opened-makes t k client does = record { word = refl; answer = λ plain s. tt; client = does; is_open = λ plain e s. sym (connected-is t plain) }
+pub opened-makes : (t : ℕ) (k : KeptSeat) (client : KeptClient) → ((plain : Client) → StandsFor k.client plain → StandsFor client (connected t plain)) → Makes (λ s. Unit {0}) (with_client (connected t)) k (record k { is_open = true; client = client })
+opened-makes t k client does = record {
+  word = refl;
+  answer = λ seat s. tt;
+  stands = λ seat s. record {
+    word = s.word;
+    is_lone = s.is_lone;
+    is_open = sym (connected-is t seat.client);
+    client = does seat.client s.client;
+    session = s.session;
+    up_wire = s.up_wire;
+    down_wire = s.down_wire;
+    reached = s.reached;
+    few = s.few;
+    filled = s.filled;
+  };
+}
 
-pub cut-makes : (k : KeptSeat) (client : KeptClient) → ((plain : Client) → StandsFor k.client plain → StandsFor client (cut plain)) → Makes (λ c. Unit {0}) cut k (record k { is_open = false; client = client })
-cut-makes k client does = record { word = refl; answer = λ plain s. tt; client = does; is_open = λ plain e s. refl }
+-- a session for it
+pub joined-makes : (t number : ℕ) (k after : KeptSeat) → Makes (λ s. Unit {0}) (with_client (connected t)) k after → Makes (λ s. Unit {0}) (joined t number) k (record after { session = Some number })
+joined-makes t number k after m = record {
+  word = m.word;
+  answer = λ seat s. tt;
+  stands = λ seat s. (let n = m.stands seat s in record {
+    word = n.word;
+    is_lone = n.is_lone;
+    is_open = n.is_open;
+    client = n.client;
+    session = refl;
+    up_wire = n.up_wire;
+    down_wire = n.down_wire;
+    reached = n.reached;
+    few = n.few;
+    filled = n.filled;
+  });
+}
 
-abbrev pub ClosesAs : ℕ → Option CloseReason → Client → Type 0
-ClosesAs t closing c = closing ≡ closed_as (moment c t)
+-- what is kept of a seat that was cut
+abbrev pub cut_kept : KeptSeat → KeptClient → KeptSeat
+cut_kept k client = record k { is_open = false; client = client; session = None; up_wire = []; down_wire = []; reached = 0; filled = [] }
 
-abbrev pub then_cut : ℕ → Option CloseReason → Client → Client
-then_cut t closing c = cut_closed closing (moment c t)
+pub cut-makes : (k after : KeptSeat) (client : KeptClient) → after ≡ cut_kept k client → ((plain : Client) → StandsFor k.client plain → StandsFor client (cut plain)) → Makes (λ s. Unit {0}) cut_seat k after
+cut-makes k after client is does = subst (Makes (λ s. Unit {0}) cut_seat k) (sym is) (record {
+  word = refl;
+  answer = λ seat s. tt;
+  stands = λ seat s. record {
+    word = s.word;
+    is_lone = s.is_lone;
+    is_open = refl;
+    client = does seat.client s.client;
+    session = refl;
+    up_wire = refl;
+    down_wire = refl;
+    reached = refl;
+    few = omega arith;
+    filled = λ id. refl;
+  };
+})
 
-module _ (t : ℕ) (k : KeptSeat) (client : KeptClient) (closing : Option CloseReason) (does : (plain : Client) → StandsFor k.client plain → StandsFor client (moment plain t)) (tells : (plain : Client) → StandsFor client plain → closing ≡ closed_as plain) where
-  pub goes-on-makes : closing ≡ None → Makes (ClosesAs t None) (then_cut t None) k (record k { client = client })
-  goes-on-makes none =
-      stays-makes (ClosesAs t None) (then_cut t None) k client (λ plain s. (let m = does plain s in (sym none ∙ tells (moment plain t) m, m))) (moment-connected t)
+-- its session is gone from the hub
+pub cuts-both : (hub later : KeptHub) (k after : KeptSeat) → ((plain : Hub) → hubs.StandsFor hub plain → hubs.StandsFor later (hub_without k.session plain)) → Makes (λ s. Unit {0}) cut_seat k after → Makes (HasCut hub later) cut_seat k after
+cuts-both hub later k after ends m = record {
+  word = m.word;
+  answer = λ seat s plain stands. subst (λ (o : Option ℕ). hubs.StandsFor later (hub_without o plain)) s.session (ends plain stands);
+  stands = m.stands;
+}
 
-  pub closes-makes : (reason : CloseReason) (last : KeptClient) → closing ≡ Some reason → ((plain : Client) → StandsFor client plain → StandsFor last (cut plain)) → Makes (ClosesAs t (Some reason)) (then_cut t (Some reason)) k (record k { is_open = false; client = last })
-  closes-makes reason last some cuts = record {
+module _ (t : ℕ) (hub : KeptHub) (k : KeptSeat) (client : KeptClient) (closing : Option CloseReason) (does : (plain : Client) → StandsFor k.client plain → StandsFor client (moment plain t)) (tells : (plain : Client) → StandsFor client plain → closing ≡ closed_as plain) where
+  abbrev timed_first : Makes (λ s. closing ≡ closed_as (moment s.client t)) (with_client (λ c. moment c t)) k (record k { client = client })
+  timed_first = stays-makes (λ c. closing ≡ closed_as (moment c t)) (λ c. moment c t) k client (λ plain s. (let m = does plain s in (tells (moment plain t) m, m))) (moment-connected t)
+
+  pub goes-on-makes : closing ≡ None → Makes (HasTimed t None hub hub) (timed_seat t None) k (record k { client = client })
+  goes-on-makes none = record {
     word = refl;
-    answer = λ plain s. sym some ∙ tells (moment plain t) (does plain s);
-    client = λ plain s. cuts (moment plain t) (does plain s);
-    is_open = λ plain e s. refl;
+    answer = λ seat s. record { closes = sym none ∙ timed_first.answer seat s; hub = λ plain stands. stands };
+    stands = timed_first.stands;
+  }
+
+  pub closes-makes : (reason : CloseReason) (later : KeptHub) (after : KeptSeat) → closing ≡ Some reason → Makes (HasCut hub later) cut_seat (record k { client = client }) after → Makes (HasTimed t (Some reason) hub later) (timed_seat t (Some reason)) k after
+  closes-makes reason later after some cuts = record {
+    word = cuts.word;
+    answer = λ seat s. record { closes = sym some ∙ timed_first.answer seat s; hub = cuts.answer (with_client (λ c. moment c t) seat) (timed_first.stands seat s) };
+    stands = λ seat s. cuts.stands (with_client (λ c. moment c t) seat) (timed_first.stands seat s);
   }
 
 -- what is known of an answer, said in other words
-pub calls-told : (answers told : Client → Type 0) (next : Client → Client) (before later : Seated) (place : ℕ) → ((plain : Client) → answers plain → told plain) → Calls answers next before place later → Calls told next before place later
+pub calls-told : (answers told : Seat → Type 0) (next : Seat → Seat) (before later : Seated) (place : ℕ) → ((seat : Seat) → answers seat → told seat) → Calls answers next before place later → Calls told next before place later
 calls-told answers told next before later place tells c = record {
   seat = c.seat;
   after = c.after;
   there = c.there;
   is = c.is;
-  makes = record { word = c.makes.word; answer = λ plain s. tells plain (c.makes.answer plain s); client = c.makes.client; is_open = c.makes.is_open };
+  makes = record { word = c.makes.word; answer = λ seat s. tells seat (c.makes.answer seat s); stands = c.makes.stands };
 }
 
 -- the client at a place
@@ -274,6 +367,6 @@ is-there (k ∷ ks) zero within = record { kept = k; there = refl }
 is-there (k ∷ ks) (suc place) within = (let r : IsThere ks place = is-there ks place (omega (arith, within)) in record { kept = r.kept; there = r.there })
 
 -- the same of the vectors that slices were lent from
-pub calls-moved : (answers : Client → Type 0) (next : Client → Client) (items slice changed later : List lone.Seat) (place : ℕ) → slice ≡ items → later ≡ changed → Calls answers next (seated slice) place (seated changed) → Calls answers next (seated items) place (seated later)
+pub calls-moved : (answers : Seat → Type 0) (next : Seat → Seat) (items slice changed later : List program.Seat) (place : ℕ) → slice ≡ items → later ≡ changed → Calls answers next (seated slice) place (seated changed) → Calls answers next (seated items) place (seated later)
 calls-moved answers next items slice changed later place same later_is c =
-    subst (λ (l : List lone.Seat). Calls answers next (seated items) place (seated l)) (sym later_is) (subst (λ (l : List lone.Seat). Calls answers next (seated l) place (seated changed)) same c)
+    subst (λ (l : List program.Seat). Calls answers next (seated items) place (seated l)) (sym later_is) (subst (λ (l : List program.Seat). Calls answers next (seated l) place (seated changed)) same c)

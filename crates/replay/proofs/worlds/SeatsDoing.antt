@@ -1,45 +1,48 @@
--- What the events of lone clients print, and the world behind them.
-use Rattle.std.proofs.Common.{◌≡◌, ℕ, Bool, true, false, List, [], ◌∷◌, ◌++◌, get_or, Option, Some, None, refl, sym, ◌∙◌, ap, subst, append_assoc, codes, string_bytes, IfOk, Result, Global}
+-- What the events of clients print, and the world behind them.
+--     seat-made      one client more
+--     asks-none, asks-told      calls that answer a word
+--     opens-none, opens-already, opens-as_lone, opens-as_hub      a client opens a connection, by what is known of it
+--     opened-lone, opened-hub, opened-refused      the connection of a lone one, one to the hub, and one for which the hub has no seat
+--     cuts-seat      a client's connection is cut
+use Rattle.std.proofs.Common.{◌≡◌, ℕ, Bool, true, false, List, [], ◌∷◌, ◌++◌, get_or, Option, Some, None, sym, ◌∙◌, ap, subst, append_assoc, codes, string_bytes, IfOk, Result, Global}
 use Rattle.std.proofs.lemmas.List.{map-append}
 use Rattle.std.specs.Prelude.{position}
 use Rattle.std.specs.declared.string.String.{String}
-use Rattle.pushserver.specs.Hubs.{now}
+use Rattle.pushserver.specs.Hubs.{now, connect}
 use Rattle.pushserver.specs.PlainHubs.{Hub}
 use Rattle.pushserver.specs.KeptHubs as hubs
 use Rattle.pushserver.specs.KeptHubs.{KeptHub}
-use Rattle.pushclient.specs.Clients as clients
-use Rattle.pushclient.specs.Clients.{Client, new_client, connected, is_connected}
-use Rattle.pushclient.specs.Rule.{KeptClient, StandsFor}
+use Rattle.pushclient.specs.Clients.{Client, connected}
 use Rattle.replay.specs.Lines.{Word}
-use Rattle.replay.specs.World.{Seat, World, new_seat, hub_without, cut_seat, cut_connection, cut_peer}
+use Rattle.replay.specs.World.{Seat, World, new_seat, with_seat, cut_seat, cut_connection, cut_peer}
 use Rattle.replay.specs.TextWords.{spaced}
-use Rattle.replay.specs.Text.{Printed, ended_lines, printing, asks, opens, cuts, seated}
-use Rattle.replay.specs.declared.seats.Seat as lone
+use Rattle.replay.specs.Text.{Printed, quietly, ended_lines, printing, asks, opens, opens_lone, opens_hub, cuts, seated}
+use Rattle.replay.specs.declared.seats.Seat as program
 use Rattle.replay.specs.KeptWorlds.{KeptSeat, Seated, seat_kept, seated as seats_kept, Parties, StandsForSeat, StandForSeats, HasPrinted, Acts}
-use Rattle.replay.specs.KeptSeats.{has_word, Calls}
-use Rattle.replay.proofs.worlds.Doing.{one_line, two_parts, worded, if_acts}
-use Rattle.replay.proofs.worlds.AloneSeats.{asks_by, opens_as, opens_by}
-use Rattle.replay.proofs.worlds.Seats.{splits, absent, seat-at, called, IsCalled, stand-more}
+use Rattle.replay.specs.KeptSeats.{has_word, with_client, joined, Calls, Answers, HasCut, by_seat}
+use Rattle.replay.proofs.worlds.Doing.{one_line, two_parts, worded, if_acts, refused-same}
+use Rattle.replay.proofs.worlds.SeatLines.{asks_by, opens_as, opens_by, hub_opens}
+use Rattle.replay.proofs.worlds.Seats.{absent, called, IsCalled, is-seated, IsSeated, stand-more}
 
 abbrev pub with_seats : Parties → Seated → Parties
 with_seats known seats = record known { seats = seats }
 
 -- ---- one client more
 
-pub lone-act : (kept : KeptHub) (known : Parties) (w : Word) (client : KeptClient) (written : List ℕ) → StandsFor client new_client → written ≡ [] → Acts (seated w true) kept known written kept (with_seats known (known.seats ++ record { word = w; is_open = false; client = client } ∷ []))
+pub seat-made : (kept : KeptHub) (known : Parties) (items later : List program.Seat) (s : program.Seat) (w : Word) (is_lone : Bool) (written : List ℕ) → known.seats ≡ seats_kept items → later ≡ items ++ s ∷ []
+    → StandsForSeat (seat_kept s) (new_seat w is_lone) → written ≡ [] → Acts (seated w is_lone) kept known written kept (with_seats known (seats_kept later))
 unfolding Acts
-lone-act kept known w client written new is world s d =
-    let k : KeptSeat = record { word = w; is_open = false; client = client } in
-    let seat : StandsForSeat k (new_seat w true) = record { word = refl; is_lone = refl; session = refl; is_open = refl; client = new } in
-    record { text = is; stands = record { hub = s.hub; peers = s.peers; seats = stand-more known.seats world.seats k (new_seat w true) s.seats seat; links = s.links } }
-
--- a seat behind the others
-pub lone-made : (kept : KeptHub) (known : Parties) (items later : List lone.Seat) (s : lone.Seat) (w : Word) (written : List ℕ) → known.seats ≡ seats_kept items → later ≡ items ++ s ∷ [] → string_bytes s.word ≡ w → s.is_open ≡ false
-    → StandsFor s.client new_client → written ≡ [] → Acts (seated w true) kept known written kept (with_seats known (seats_kept later))
-lone-made kept known items later s w written same later_is word closed new is =
-    let made : known.seats ++ record { word = w; is_open = false; client = s.client } ∷ [] ≡ seats_kept later =
-    (λ i. same i ++ record { word = sym word i; is_open = sym closed i; client = s.client } ∷ []) ∙ sym (map-append seat_kept items (s ∷ [])) ∙ ap seats_kept (sym later_is) in
-    subst (λ (l : Seated). Acts (seated w true) kept known written kept (with_seats known l)) made (lone-act kept known w s.client written new is)
+seat-made kept known items later s w is_lone written same later_is new is world stands d =
+    let made : known.seats ++ seat_kept s ∷ [] ≡ seats_kept later = (λ i. same i ++ seat_kept s ∷ []) ∙ sym (map-append seat_kept items (s ∷ [])) ∙ ap seats_kept (sym later_is) in
+    record {
+      text = is;
+      stands = record {
+        hub = stands.hub;
+        peers = stands.peers;
+        seats = subst (λ (l : Seated). StandForSeats l (world.seats ++ new_seat w is_lone ∷ [])) made (stand-more known.seats world.seats (seat_kept s) (new_seat w is_lone) stands.seats new);
+        links = stands.links;
+      };
+    }
 
 -- ---- calls that answer a word
 
@@ -49,17 +52,17 @@ asks-none kept known verb w call written none is world s d =
     subst (λ (o : Option Seat). HasPrinted kept known written (asks_by verb w call world o)) (sym (absent w known.seats world.seats s.seats none)) (record { text = is; stands = s })
 
 pub asks-act : (kept : KeptHub) (known : Parties) (later : Seated) (verb : List ℕ) (w : Word) (call : Client → List ℕ × Client) (place : ℕ) (answer written : List ℕ) → position (has_word w) known.seats ≡ Some place
-    → Calls (λ c. answer ≡ (call c).0) (λ c. (call c).1) known.seats place later
+    → Calls (Answers (λ c. answer ≡ (call c).0)) (with_client (λ c. (call c).1)) known.seats place later
     → ((world : World) → written ≡ ended_lines (printing (verb ∷ w ∷ answer ∷ []) world).1)
     → Acts (asks verb w call) kept known written kept (with_seats known later)
 unfolding Acts
 asks-act kept known later verb w call place answer written at c is world s d =
-    let r : IsCalled w later world (λ c. answer ≡ (call c).0) (λ c. (call c).1) = called w known.seats later world place (λ c. answer ≡ (call c).0) (λ c. (call c).1) s.seats d at c in
-    let x : Seat = record r.seat { client = (call r.seat.client).1 } in
+    let r : IsCalled w known.seats later place world (Answers (λ c. answer ≡ (call c).0)) (with_client (λ c. (call c).1)) =
+    called w known.seats later world place (Answers (λ c. answer ≡ (call c).0)) (with_client (λ c. (call c).1)) s.seats d at c in
     subst (λ (o : Option Seat). HasPrinted kept (with_seats known later) written (asks_by verb w call world o)) (sym r.found)
     (record {
       text = is world ∙ ap (λ (a : List ℕ). ended_lines (printing (verb ∷ w ∷ a ∷ []) world).1) r.answer;
-      stands = record { hub = s.hub; peers = s.peers; seats = r.stands x refl r.is_lone r.session refl; links = s.links };
+      stands = record { hub = s.hub; peers = s.peers; seats = r.stands; links = s.links };
     })
 
 -- the line of an answer
@@ -67,77 +70,129 @@ pub answer-line : (verb : List ℕ) (w : Word) (answer : List ℕ) → (verb ++ 
 answer-line verb w answer = worded (verb ++ 32 ∷ []) w answer ∙ one_line ((verb ++ 32 ∷ []) ++ (w ++ 32 ∷ answer)) ∙ ap (λ (l : List ℕ). ended_lines (l ∷ [])) (append_assoc verb (32 ∷ []) (w ++ 32 ∷ answer))
 
 pub asks-told : {E : Type 0} (kept : KeptHub) (known : Parties) (later : Seated) (verb : List ℕ) (w : Word) (call : Client → List ℕ × Client) (place : ℕ) (answer : List ℕ) (r : Result (String Global) E) → position (has_word w) known.seats ≡ Some place
-    → Calls (λ c. answer ≡ (call c).0) (λ c. (call c).1) known.seats place later
+    → Calls (Answers (λ c. answer ≡ (call c).0)) (with_client (λ c. (call c).1)) known.seats place later
     → IfOk r (λ text. string_bytes text ≡ (verb ++ 32 ∷ []) ++ two_parts w answer)
     → IfOk r (λ text. Acts (asks verb w call) kept known (string_bytes text) kept (with_seats known later))
 asks-told kept known later verb w call place answer r at c is =
     if_acts (asks verb w call) kept kept known (with_seats known later) ((verb ++ 32 ∷ []) ++ two_parts w answer) r
     (λ written said. asks-act kept known later verb w call place answer written at c (λ world. said ∙ answer-line verb w answer)) is
 
--- ---- connections
+-- ---- a client opens a connection
 
 pub opens-none : (kept : KeptHub) (known : Parties) (w : Word) (written : List ℕ) → position (has_word w) known.seats ≡ None → written ≡ [] → Acts (opens w) kept known written kept known
 unfolding Acts
 opens-none kept known w written none is world s d =
     subst (λ (o : Option Seat). HasPrinted kept known written (opens_by w world o)) (sym (absent w known.seats world.seats s.seats none)) (record { text = is; stands = s })
 
--- what is told of whether the client at a place has a connection
+-- what is told of the client at a place
+abbrev pub Tells : {X : Type 0} → (KeptSeat → X) → Seated → ℕ → X → Type 0
+Tells field seats place answer = (seat : KeptSeat) → seat ≡ get_or seats place seat → answer ≡ field seat
+
+-- whether it has a connection, and whether it is a lone one
 abbrev pub TellsOpen : Seated → ℕ → Bool → Type 0
-TellsOpen seats place answer = (seat : KeptSeat) → seat ≡ get_or seats place seat → answer ≡ seat.is_open
+TellsOpen seats place answer = Tells (λ k. k.is_open) seats place answer
+
+abbrev pub TellsLone : Seated → ℕ → Bool → Type 0
+TellsLone seats place answer = Tells (λ k. k.is_lone) seats place answer
 
 pub opens-already : (kept : KeptHub) (known : Parties) (w : Word) (place : ℕ) (k : KeptSeat) (written : List ℕ) → position (has_word w) known.seats ≡ Some place → k ≡ get_or known.seats place k → TellsOpen known.seats place true
     → written ≡ codes "already " ++ (w ++ 10 ∷ []) → Acts (opens w) kept known written kept known
 unfolding Acts
 opens-already kept known w place k written at there tells is world s d =
-    let p = splits w known.seats world.seats place s.seats at in
-    let all : StandForSeats known.seats (p.front ++ p.seat ∷ p.back) = subst (StandForSeats known.seats) p.is s.seats in
-    let here : StandsForSeat k p.seat = seat-at p.front p.back p.seat known.seats k all (there ∙ ap (λ (n : ℕ). get_or known.seats n k) (sym p.count)) in
+    let p : IsSeated w known.seats place world = is-seated w known.seats world place s.seats at in
+    let here : StandsForSeat k p.seat = p.here k there in
     subst (λ (o : Option Seat). HasPrinted kept known written (opens_by w world o)) (sym p.found)
     (subst (λ (b : Bool). HasPrinted kept known written (opens_as w world p.seat b p.seat.is_lone)) (tells k there ∙ here.is_open)
     (record { text = is ∙ one_line (codes "already " ++ w); stands = s }))
 
-pub opens-act : (kept : KeptHub) (known : Parties) (later : Seated) (w : Word) (place t : ℕ) (written : List ℕ) → position (has_word w) known.seats ≡ Some place → TellsOpen known.seats place false
-    → ((hub : Hub) → hubs.StandsFor kept hub → t ≡ now hub) → Calls (λ c. Unit {0}) (connected t) known.seats place later
-    → written ≡ codes "open " ++ (w ++ 10 ∷ []) → Acts (opens w) kept known written kept (with_seats known later)
+abbrev seat_by : (Seat → World → Printed) → World → Option Seat → Printed
+seat_by act world o = elim o as (λ _. Printed) [ None ↦ quietly world | Some seat ↦ act seat world ]
+
+-- one that has none opens it as a lone one does, or as one of the hub does
+abbrev opens_with : Bool → Seat → World → Printed
+opens_with true = opens_lone
+opens_with false = opens_hub
+
+opens-with : (lone : Bool) (kept later : KeptHub) (known known_later : Parties) (w : Word) (place : ℕ) (k : KeptSeat) (written : List ℕ) → position (has_word w) known.seats ≡ Some place → k ≡ get_or known.seats place k
+    → TellsOpen known.seats place false → TellsLone known.seats place lone → Acts (by_seat (opens_with lone) w) kept known written later known_later → Acts (opens w) kept known written later known_later
 unfolding Acts
-opens-act kept known later w place t written at tells moment c is world s d =
-    let p = splits w known.seats world.seats place s.seats at in
-    let all : StandForSeats known.seats (p.front ++ p.seat ∷ p.back) = subst (StandForSeats known.seats) p.is s.seats in
-    let here : StandsForSeat c.seat p.seat = seat-at p.front p.back p.seat known.seats c.seat all (c.there ∙ ap (λ (n : ℕ). get_or known.seats n c.seat) (sym p.count)) in
-    let r : IsCalled w later world (λ c. Unit {0}) (connected t) = called w known.seats later world place (λ c. Unit {0}) (connected t) s.seats d at c in
-    let x : Seat = record p.seat { client = connected (now world.hub) p.seat.client } in
-    let same : p.seat ≡ r.seat = same_seat p.seat r.seat (sym p.found ∙ r.found) in
-    subst (λ (o : Option Seat). HasPrinted kept (with_seats known later) written (opens_by w world o)) (sym p.found)
-    (subst (λ (b : Bool). HasPrinted kept (with_seats known later) written (opens_as w world p.seat b p.seat.is_lone)) (tells c.seat c.there ∙ here.is_open)
-    (subst (λ (b : Bool). HasPrinted kept (with_seats known later) written (opens_as w world p.seat false b)) (sym here.is_lone)
-    (record {
-      text = is ∙ one_line (codes "open " ++ w) ∙ ap (λ (v : Word). ended_lines (printing (codes "open" ∷ v ∷ []) world).1) (sym p.word);
-      stands = record {
-        hub = s.hub;
-        peers = s.peers;
-        seats = r.stands x (ap (λ (y : Seat). y.word) same) here.is_lone here.session (λ i. connected (sym (moment world.hub s.hub) i) (same i).client);
-        links = s.links;
-      };
-    })))
+opens-with lone kept later known known_later w place k written at there shut tells does world s d =
+    let p : IsSeated w known.seats place world = is-seated w known.seats world place s.seats at in
+    let here : StandsForSeat k p.seat = p.here k there in
+    subst (λ (o : Option Seat). HasPrinted later known_later written (opens_by w world o)) (sym p.found)
+    (subst (λ (b : Bool). HasPrinted later known_later written (opens_as w world p.seat b p.seat.is_lone)) (shut k there ∙ here.is_open)
+    (subst (λ (b : Bool). HasPrinted later known_later written (opens_as w world p.seat false b)) (tells k there ∙ here.is_lone)
+    (by p.seat lone (subst (λ (o : Option Seat). HasPrinted later known_later written (seat_by (opens_with lone) world o)) p.found (does world s d)))))
   where
-    same_seat : (a b : Seat) → Some a ≡ Some b → a ≡ b
-    same_seat a b e = cc
+    by : (seat : Seat) (b : Bool) → HasPrinted later known_later written (opens_with b seat world) → HasPrinted later known_later written (opens_as w world seat false b)
+    by seat true h = h
+    by seat false h = h
+
+pub opens-as_lone : (kept later : KeptHub) (known known_later : Parties) (w : Word) (place : ℕ) (k : KeptSeat) (written : List ℕ) → position (has_word w) known.seats ≡ Some place → k ≡ get_or known.seats place k
+    → TellsOpen known.seats place false → TellsLone known.seats place true → Acts (by_seat opens_lone w) kept known written later known_later → Acts (opens w) kept known written later known_later
+opens-as_lone = opens-with true
+
+pub opens-as_hub : (kept later : KeptHub) (known known_later : Parties) (w : Word) (place : ℕ) (k : KeptSeat) (written : List ℕ) → position (has_word w) known.seats ≡ Some place → k ≡ get_or known.seats place k
+    → TellsOpen known.seats place false → TellsLone known.seats place false → Acts (by_seat opens_hub w) kept known written later known_later → Acts (opens w) kept known written later known_later
+opens-as_hub = opens-with false
+
+-- ---- the connection
+
+pub opened-lone : (kept : KeptHub) (known : Parties) (later : Seated) (w : Word) (place t : ℕ) (written : List ℕ) → position (has_word w) known.seats ≡ Some place → ((hub : Hub) → hubs.StandsFor kept hub → t ≡ now hub)
+    → Calls (λ s. Unit {0}) (with_client (connected t)) known.seats place later → written ≡ codes "open " ++ (w ++ 10 ∷ []) → Acts (by_seat opens_lone w) kept known written kept (with_seats known later)
+unfolding Acts
+opened-lone kept known later w place t written at moment c is world s d =
+    let r : IsCalled w known.seats later place world (λ s. Unit {0}) (with_client (connected t)) = called w known.seats later world place (λ s. Unit {0}) (with_client (connected t)) s.seats d at c in
+    subst (λ (o : Option Seat). HasPrinted kept (with_seats known later) written (seat_by opens_lone world o)) (sym r.found)
+    (subst (λ (n : ℕ). HasPrinted kept (with_seats known later) written (printing (codes "open" ∷ r.seat.word ∷ []) (with_seat (with_client (connected n) r.seat) world))) (moment world.hub s.hub)
+    (record {
+      text = is ∙ one_line (codes "open " ++ w) ∙ ap (λ (v : Word). ended_lines (printing (codes "open" ∷ v ∷ []) world).1) (sym r.word);
+      stands = record { hub = s.hub; peers = s.peers; seats = r.stands; links = s.links };
+    }))
+
+-- a session of the hub
+abbrev pub Connects : KeptHub → Option ℕ → KeptHub → Type 0
+Connects kept number later = (hub : Hub) → hubs.StandsFor kept hub → ((connect hub).0 ≡ number) × hubs.StandsFor later (connect hub).1
+
+pub opened-hub : (kept between : KeptHub) (known : Parties) (later : Seated) (w : Word) (place t number : ℕ) (written : List ℕ) → position (has_word w) known.seats ≡ Some place → ((hub : Hub) → hubs.StandsFor kept hub → t ≡ now hub)
+    → Connects kept (Some number) between → Calls (λ s. Unit {0}) (joined t number) known.seats place later → written ≡ codes "open " ++ (w ++ 10 ∷ []) → Acts (by_seat opens_hub w) kept known written between (with_seats known later)
+unfolding Acts
+opened-hub kept between known later w place t number written at moment connects c is world s d =
+    let r : IsCalled w known.seats later place world (λ s. Unit {0}) (joined t number) = called w known.seats later world place (λ s. Unit {0}) (joined t number) s.seats d at c in
+    let made = connects world.hub s.hub in
+    subst (λ (o : Option Seat). HasPrinted between (with_seats known later) written (seat_by opens_hub world o)) (sym r.found)
+    (subst (λ (o : Option ℕ). HasPrinted between (with_seats known later) written (hub_opens r.seat world o)) (sym made.0)
+    (subst (λ (n : ℕ). HasPrinted between (with_seats known later) written (printing (codes "open" ∷ r.seat.word ∷ []) (with_seat (joined n number r.seat) (record world { hub = (connect world.hub).1 })))) (moment world.hub s.hub)
+    (record {
+      text = is ∙ one_line (codes "open " ++ w) ∙ ap (λ (v : Word). ended_lines (printing (codes "open" ∷ v ∷ []) world).1) (sym r.word);
+      stands = record { hub = made.1; peers = s.peers; seats = r.stands; links = s.links };
+    })))
+
+pub opened-refused : (kept later : KeptHub) (known : Parties) (w : Word) (place : ℕ) (written : List ℕ) → position (has_word w) known.seats ≡ Some place → Connects kept None later
+    → written ≡ codes "noseat " ++ (w ++ 10 ∷ []) → Acts (by_seat opens_hub w) kept known written later known
+unfolding Acts
+opened-refused kept later known w place written at connects is world s d =
+    let p : IsSeated w known.seats place world = is-seated w known.seats world place s.seats at in
+    let made = connects world.hub s.hub in
+    subst (λ (o : Option Seat). HasPrinted later known written (seat_by opens_hub world o)) (sym p.found)
+    (subst (λ (o : Option ℕ). HasPrinted later known written (hub_opens p.seat world o)) (sym made.0)
+    (record {
+      text = is ∙ one_line (codes "noseat " ++ w) ∙ ap (λ (v : Word). ended_lines (printing (codes "noseat" ∷ v ∷ []) world).1) (sym p.word);
+      stands = record { hub = subst (hubs.StandsFor later) (refused-same world.hub made.0) made.1; peers = s.peers; seats = s.seats; links = s.links };
+    }))
+
+-- ---- cuts
 
 abbrev cuts_by : Word → World → Option Seat → Printed
 cuts_by w world o = printing (codes "cut" ∷ w ∷ []) (elim o as (λ _. World) [ None ↦ cut_peer w world | Some seat ↦ cut_connection seat world ])
 
-pub cuts-lone : (kept : KeptHub) (known : Parties) (later : Seated) (w : Word) (place : ℕ) (written : List ℕ) → position (has_word w) known.seats ≡ Some place
-    → Calls (λ c. Unit {0}) clients.cut known.seats place later → written ≡ codes "cut " ++ (w ++ 10 ∷ []) → Acts (cuts w) kept known written kept (with_seats known later)
+pub cuts-seat : (kept between : KeptHub) (known : Parties) (later : Seated) (w : Word) (place : ℕ) (written : List ℕ) → position (has_word w) known.seats ≡ Some place
+    → Calls (HasCut kept between) cut_seat known.seats place later → written ≡ codes "cut " ++ (w ++ 10 ∷ []) → Acts (cuts w) kept known written between (with_seats known later)
 unfolding Acts
-cuts-lone kept known later w place written at c is world s d =
-    let r : IsCalled w later world (λ c. Unit {0}) clients.cut = called w known.seats later world place (λ c. Unit {0}) clients.cut s.seats d at c in
-    subst (λ (o : Option Seat). HasPrinted kept (with_seats known later) written (cuts_by w world o)) (sym r.found)
+cuts-seat kept between known later w place written at c is world s d =
+    let r : IsCalled w known.seats later place world (HasCut kept between) cut_seat = called w known.seats later world place (HasCut kept between) cut_seat s.seats d at c in
+    subst (λ (o : Option Seat). HasPrinted between (with_seats known later) written (cuts_by w world o)) (sym r.found)
     (record {
       text = is ∙ one_line (codes "cut " ++ w);
-      stands = record {
-        hub = subst (λ (o : Option ℕ). hubs.StandsFor kept (hub_without o world.hub)) (sym r.session) s.hub;
-        peers = s.peers;
-        seats = r.stands (cut_seat r.seat) refl r.is_lone refl refl;
-        links = s.links;
-      };
+      stands = record { hub = r.answer world.hub s.hub; peers = s.peers; seats = r.stands; links = s.links };
     })

@@ -1,63 +1,24 @@
 -- Clients at a moment, one after the other.
---     stand-alone, none-found      lone clients have no session
---     hub-timed, peers-timed, links-timed      at a moment they leave the hub, the peers and the links
+--     peers-timed, links-timed      at a moment they leave the peers and the links
 --     Timing      the first clients have had their moment
 --     timing-begins, timing-more, timing-ends      one more has it
 use Rattle.std.proofs.Common.{◌≡◌, ℕ, suc, ◌+◌, ◌<◌, ◌≤◌, true, List, [], ◌∷◌, ◌++◌, fold, find, length, set, get_or, Option, Some, None, refl, sym, ◌∙◌, ap, subst, arith, append_assoc, append-nil, length-append}
-use Rattle.std.specs.Prelude.{position}
-use Rattle.std.specs.List.{AllByRecursion}
 use Rattle.std.proofs.lemmas.List.{get_or-set_same}
 use Rattle.dsosession.specs.declared.session.CloseReason.{CloseReason}
-use Rattle.pushserver.proofs.session_steps.Lists.{found-each}
+use Rattle.pushserver.specs.KeptHubs as hubs
+use Rattle.pushserver.specs.KeptHubs.{KeptHub}
 use Rattle.pushclient.specs.Clients.{closed_as}
 use Rattle.pushclient.specs.Steps as steps
 use Rattle.replay.specs.Lines.{Word}
 use Rattle.replay.specs.World.{Seat, World, with_seat, cut_seat, hub_without}
 use Rattle.replay.specs.Text.{Printed, ended_lines, close_lines, cut_where, timed}
 use Rattle.replay.specs.KeptWorlds.{KeptSeat, Seated, StandsForSeat, StandForSeats, AreDistinct, words_in}
-use Rattle.replay.specs.KeptSeats.{has_word, Makes, Calls, cut_closed, closing_text, IsTimed, Times}
-use Rattle.replay.proofs.worlds.Seats.{is_of_word, words_of, put_seat, words-put, put-at, seat-at, set-at, splits}
-
--- ---- lone clients have no session
-
-abbrev pub IsAlone : Seat → Type 0
-IsAlone s = (s.session ≡ None) × (s.is_lone ≡ true)
-
-abbrev pub AreAlone : List Seat → Type 0
-AreAlone seats = AllByRecursion IsAlone seats
-
-pub stand-alone : (ks : Seated) (ss : List Seat) → StandForSeats ks ss → AreAlone ss
-stand-alone [] [] h = tt
-stand-alone [] (s ∷ ss) h = absurd h
-stand-alone (k ∷ ks) [] h = absurd h
-stand-alone (k ∷ ks) (s ∷ ss) h = ((h.0.session, h.0.is_lone), stand-alone ks ss h.1)
-
-pub alone-found : (w : Word) (ss : List Seat) (seat : Seat) → AreAlone ss → find (is_of_word w) ss ≡ Some seat → IsAlone seat
-alone-found w ss seat all found = (found-each IsAlone (is_of_word w) ss seat all found).0
-
-pub record HasNone (w : Word) (ss : List Seat) : Type 0 where
-  pub seat : Seat
-  pub found : find (is_of_word w) ss ≡ Some seat
-  pub session : seat.session ≡ None
-
-pub none-found : (w : Word) (ks : Seated) (ss : List Seat) (place : ℕ) → StandForSeats ks ss → position (has_word w) ks ≡ Some place → HasNone w ss
-none-found w ks ss place h at =
-    let p = splits w ks ss place h at in
-    record { seat = p.seat; found = p.found; session = (alone-found w ss p.seat (stand-alone ks ss h) p.found).0 }
+use Rattle.replay.specs.KeptSeats.{timed_seat, hub_then, Calls, HasTimed, closing_text, IsTimed, Times}
+use Rattle.replay.proofs.worlds.Seats.{is_of_word, words_of, put_seat, put-at, put-put, seat-at, set-at}
 
 -- ---- what they leave
 
-hub-cut_where : (ls : List (List ℕ)) (seat : Seat) (world : World) → seat.session ≡ None → (cut_where ls seat world).hub ≡ world.hub
-hub-cut_where [] seat world none = refl
-hub-cut_where (l ∷ ls) seat world none = ap (λ (o : Option ℕ). hub_without o world.hub) none
-
-pub hub-timed : (t : ℕ) (seats : List Seat) (p : Printed) → AreAlone seats → (fold (timed t) p seats).0.hub ≡ p.0.hub
-hub-timed t [] p all = refl
-hub-timed t (seat ∷ seats) p all =
-    let later : Seat = record seat { client = steps.moment seat.client t } in
-    hub-timed t seats (timed t p seat) all.1 ∙ hub-cut_where (close_lines seat.word (closed_as later.client)) later (with_seat later p.0) all.0.0
-
-peers-cut_where : (ls : List (List ℕ)) (seat : Seat) (world : World) → (cut_where ls seat world).peers ≡ world.peers
+pub peers-cut_where : (ls : List (List ℕ)) (seat : Seat) (world : World) → (cut_where ls seat world).peers ≡ world.peers
 peers-cut_where [] seat world = refl
 peers-cut_where (l ∷ ls) seat world = refl
 
@@ -82,50 +43,44 @@ links-timed t (seat ∷ seats) p =
 abbrev at_moment : ℕ → Seat → Seat
 at_moment t s = record s { client = steps.moment s.client t }
 
--- the seat behind its moment
-abbrev seat_then : ℕ → Seat → Option CloseReason → Seat
-seat_then t s None = at_moment t s
-seat_then t s (Some reason) = cut_seat (at_moment t s)
-
 abbrev timed_as : ℕ → Printed → Seat → Option CloseReason → Printed
 timed_as t p s closing = (cut_where (close_lines s.word closing) (at_moment t s) (with_seat (at_moment t s) p.0), p.1 ++ close_lines s.word closing)
 
-seats-moved : (t : ℕ) (p : Printed) (front back : List Seat) (s : Seat) → AreDistinct (words_of (front ++ s ∷ back)) → p.0.seats ≡ front ++ s ∷ back → (with_seat (at_moment t s) p.0).seats ≡ front ++ at_moment t s ∷ back
-seats-moved t p front back s distinct is = ap (put_seat s.word (at_moment t s)) is ∙ put-at s.word front back s (at_moment t s) distinct refl
-
 seats-timed : (t : ℕ) (p : Printed) (front back : List Seat) (s : Seat) (closing : Option CloseReason) → AreDistinct (words_of (front ++ s ∷ back)) → p.0.seats ≡ front ++ s ∷ back
-    → (timed_as t p s closing).0.seats ≡ front ++ seat_then t s closing ∷ back
-seats-timed t p front back s None distinct is = seats-moved t p front back s distinct is
+    → (timed_as t p s closing).0.seats ≡ front ++ timed_seat t closing s ∷ back
+seats-timed t p front back s None distinct is = ap (put_seat s.word (at_moment t s)) is ∙ put-at s.word front back s (at_moment t s) distinct refl
 seats-timed t p front back s (Some reason) distinct is =
-    let first = seats-moved t p front back s distinct is in
-    let again : AreDistinct (words_of (front ++ at_moment t s ∷ back)) =
-    subst AreDistinct (sym (words-put (at_moment t s) (front ++ s ∷ back)) ∙ ap words_of (put-at s.word front back s (at_moment t s) distinct refl)) distinct in
-    ap (put_seat s.word (cut_seat (at_moment t s))) first ∙ put-at s.word front back (at_moment t s) (cut_seat (at_moment t s)) again refl
+    put-put s.word (at_moment t s) (cut_seat (at_moment t s)) p.0.seats refl ∙ ap (put_seat s.word (cut_seat (at_moment t s))) is ∙ put-at s.word front back s (cut_seat (at_moment t s)) distinct refl
+
+hub-then : (t : ℕ) (p : Printed) (s : Seat) (closing : Option CloseReason) → (timed_as t p s closing).0.hub ≡ hub_then closing s p.0.hub
+hub-then t p s None = refl
+hub-then t p s (Some reason) = refl
 
 -- ---- the clients so far
 
 -- what the first clients printed and made, and what is left to do
-pub record TimedSoFar (t : ℕ) (now : Seated) (text : List ℕ) (place : ℕ) (whole : Printed) : Type 0 where
+pub record TimedSoFar (t : ℕ) (kept : KeptHub) (now : Seated) (text : List ℕ) (place : ℕ) (whole : Printed) : Type 0 where
   pub done : Printed
   pub front : List Seat
   pub back : List Seat
   pub seats : done.0.seats ≡ front ++ back
   pub count : length front ≡ place
   pub distinct : AreDistinct (words_of (front ++ back))
+  pub hub : hubs.StandsFor kept done.0.hub
   pub stand : StandForSeats now (front ++ back)
   pub said : text ≡ ended_lines done.1
   pub left : fold (timed t) done back ≡ whole
 
-unfoldable pub Timing : ℕ → Seated → List ℕ → Seated → List ℕ → ℕ → Type 0
-Timing t before text now so_far place = (world : World) (lines : List (List ℕ)) → StandForSeats before world.seats → AreDistinct (words_in world) → text ≡ ended_lines lines
-    → TimedSoFar t now so_far place (fold (timed t) (world, lines) world.seats)
+unfoldable pub Timing : ℕ → KeptHub → Seated → List ℕ → KeptHub → Seated → List ℕ → ℕ → Type 0
+Timing t kept before text kept_now now so_far place = (world : World) (lines : List (List ℕ)) → hubs.StandsFor kept world.hub → StandForSeats before world.seats → AreDistinct (words_in world) → text ≡ ended_lines lines
+    → TimedSoFar t kept_now now so_far place (fold (timed t) (world, lines) world.seats)
 
-pub timing-begins : (t : ℕ) (before : Seated) (text : List ℕ) → Timing t before text before text 0
+pub timing-begins : (t : ℕ) (kept : KeptHub) (before : Seated) (text : List ℕ) → Timing t kept before text kept before text 0
 unfolding Timing
-timing-begins t before text world lines h distinct is =
-    record { done = (world, lines); front = []; back = world.seats; seats = refl; count = refl; distinct = distinct; stand = h; said = is; left = refl }
+timing-begins t kept before text world lines stands h distinct is =
+    record { done = (world, lines); front = []; back = world.seats; seats = refl; count = refl; distinct = distinct; hub = stands; stand = h; said = is; left = refl }
 
-lines-append : (xs ys : List (List ℕ)) → ended_lines (xs ++ ys) ≡ ended_lines xs ++ ended_lines ys
+pub lines-append : (xs ys : List (List ℕ)) → ended_lines (xs ++ ys) ≡ ended_lines xs ++ ended_lines ys
 lines-append [] ys = refl
 lines-append (x ∷ xs) ys = ap (λ (rest : List ℕ). (x ++ 10 ∷ []) ++ rest) (lines-append xs ys) ∙ sym (append_assoc (x ++ 10 ∷ []) (ended_lines xs) (ended_lines ys))
 
@@ -135,42 +90,39 @@ same-length [] (s ∷ ss) h = absurd h
 same-length (k ∷ ks) [] h = absurd h
 same-length (k ∷ ks) (s ∷ ss) h = ap suc (same-length ks ss h.1)
 
-word-then : (t : ℕ) (s : Seat) (closing : Option CloseReason) → (seat_then t s closing).word ≡ s.word
+word-then : (t : ℕ) (s : Seat) (closing : Option CloseReason) → (timed_seat t closing s).word ≡ s.word
 word-then t s None = refl
 word-then t s (Some reason) = refl
-
-stands-then : (t : ℕ) (k after : KeptSeat) (s : Seat) (closing : Option CloseReason) → StandsForSeat k s → Makes (λ c. closing ≡ closed_as (steps.moment c t)) (λ c. cut_closed closing (steps.moment c t)) k after → StandsForSeat after (seat_then t s closing)
-stands-then t k after s None h m = record { word = m.word ∙ h.word; is_lone = h.is_lone; session = h.session; is_open = m.is_open s.client h.is_open h.client; client = m.client s.client h.client }
-stands-then t k after s (Some reason) h m = record { word = m.word ∙ h.word; is_lone = h.is_lone; session = refl; is_open = m.is_open s.client h.is_open h.client; client = m.client s.client h.client }
 
 words-same : (front back : List Seat) (s x : Seat) → x.word ≡ s.word → words_of (front ++ x ∷ back) ≡ words_of (front ++ s ∷ back)
 words-same [] back s x e = ap (λ (w : Word). w ∷ words_of back) e
 words-same (f ∷ front) back s x e = ap (λ (ws : List Word). f.word ∷ ws) (words-same front back s x e)
 
-one-more : (t : ℕ) (now later : Seated) (so_far line text : List ℕ) (word : Word) (place : ℕ) (closing : Option CloseReason) (whole : Printed) → place < length now
-    → Calls (λ c. closing ≡ closed_as (steps.moment c t)) (λ c. cut_closed closing (steps.moment c t)) now place later
+one-more : (t : ℕ) (kept kept_later : KeptHub) (now later : Seated) (so_far line text : List ℕ) (word : Word) (place : ℕ) (closing : Option CloseReason) (whole : Printed) → place < length now
+    → Calls (HasTimed t closing kept kept_later) (timed_seat t closing) now place later
     → ((k : KeptSeat) → k ≡ get_or later place k → word ≡ k.word) → line ≡ closing_text word closing → text ≡ so_far ++ line
-    → TimedSoFar t now so_far place whole → TimedSoFar t later text (place + 1) whole
-one-more t now later so_far line text word place closing whole within c names line_is is r = by r.back refl
+    → TimedSoFar t kept now so_far place whole → TimedSoFar t kept_later later text (place + 1) whole
+one-more t kept kept_later now later so_far line text word place closing whole within c names line_is is r = by r.back refl
   where
-    kept : r.back ≡ [] → ⊥
-    kept e =
+    some_left : r.back ≡ [] → ⊥
+    some_left e =
         let size : length now ≡ length (r.front ++ []) = same-length now (r.front ++ r.back) r.stand ∙ ap (λ (b : List Seat). length (r.front ++ b)) e in
         let whole_front : length (r.front ++ []) ≡ length r.front = ap length (append-nil r.front) in
         omega (arith, within, size, whole_front, r.count)
 
-    by : (back : List Seat) → r.back ≡ back → TimedSoFar t later text (place + 1) whole
-    by [] e = absurd (kept e)
+    by : (back : List Seat) → r.back ≡ back → TimedSoFar t kept_later later text (place + 1) whole
+    by [] e = absurd (some_left e)
     by (s ∷ back) e =
         let here : r.front ++ r.back ≡ r.front ++ s ∷ back = ap (λ (b : List Seat). r.front ++ b) e in
         let all : StandForSeats now (r.front ++ s ∷ back) = subst (StandForSeats now) here r.stand in
         let distinct : AreDistinct (words_of (r.front ++ s ∷ back)) = subst (λ (ss : List Seat). AreDistinct (words_of ss)) here r.distinct in
         let there : c.seat ≡ get_or now (length r.front) c.seat = c.there ∙ ap (λ (n : ℕ). get_or now n c.seat) (sym r.count) in
         let stands : StandsForSeat c.seat s = seat-at r.front back s now c.seat all there in
-        let x : Seat = seat_then t s closing in
+        let x : Seat = timed_seat t closing s in
         let standing : c.after ≡ get_or later place c.after = sym (ap (λ (l : Seated). get_or l place c.after) c.is ∙ get_or-set_same now place c.after c.after within) in
         let named : word ≡ s.word = names c.after standing ∙ c.makes.word ∙ stands.word in
-        let step : timed t r.done s ≡ timed_as t r.done s closing = ap (timed_as t r.done s) (sym (c.makes.answer s.client stands.client)) in
+        let told : HasTimed t closing kept kept_later s = c.makes.answer s stands in
+        let step : timed t r.done s ≡ timed_as t r.done s closing = ap (timed_as t r.done s) (sym told.closes) in
         let grouped : (r.front ++ x ∷ []) ++ back ≡ r.front ++ x ∷ back = append_assoc r.front (x ∷ []) back in
         let kept_is : later ≡ set now (length r.front) c.after = c.is ∙ ap (λ (n : ℕ). set now n c.after) (sym r.count) in
         record {
@@ -180,39 +132,41 @@ one-more t now later so_far line text word place closing whole within c names li
           seats = seats-timed t r.done r.front back s closing distinct (r.seats ∙ here) ∙ sym grouped;
           count = length-append r.front (x ∷ []) ∙ ap (λ (n : ℕ). n + 1) r.count;
           distinct = subst (λ (ss : List Seat). AreDistinct (words_of ss)) (sym grouped) (subst AreDistinct (sym (words-same r.front back s x (word-then t s closing))) distinct);
-          stand = subst (StandForSeats later) (sym grouped) (subst (λ (l : Seated). StandForSeats l (r.front ++ x ∷ back)) (sym kept_is) (set-at r.front back s x now c.after all (stands-then t c.seat c.after s closing stands c.makes)));
+          hub = subst (hubs.StandsFor kept_later) (sym (hub-then t r.done s closing)) (told.hub r.done.0.hub r.hub);
+          stand = subst (StandForSeats later) (sym grouped) (subst (λ (l : Seated). StandForSeats l (r.front ++ x ∷ back)) (sym kept_is) (set-at r.front back s x now c.after all (c.makes.stands s stands)));
           said = is ∙ (λ i. r.said i ++ line_is i) ∙ ap (λ (w : Word). ended_lines r.done.1 ++ closing_text w closing) named ∙ sym (lines-append r.done.1 (close_lines s.word closing));
           left = ap (λ (p : Printed). fold (timed t) p back) (sym step) ∙ ap (fold (timed t) r.done) (sym e) ∙ r.left;
         }
 
-pub timing-more : (t : ℕ) (before now later : Seated) (text so_far line next : List ℕ) (word : Word) (place : ℕ) (closing : Option CloseReason) → place < length now
-    → Calls (λ c. closing ≡ closed_as (steps.moment c t)) (λ c. cut_closed closing (steps.moment c t)) now place later
+pub timing-more : (t : ℕ) (kept kept_now kept_later : KeptHub) (before now later : Seated) (text so_far line next : List ℕ) (word : Word) (place : ℕ) (closing : Option CloseReason) → place < length now
+    → Calls (HasTimed t closing kept_now kept_later) (timed_seat t closing) now place later
     → ((k : KeptSeat) → k ≡ get_or later place k → word ≡ k.word) → line ≡ closing_text word closing → next ≡ so_far ++ line
-    → Timing t before text now so_far place → Timing t before text later next (place + 1)
+    → Timing t kept before text kept_now now so_far place → Timing t kept before text kept_later later next (place + 1)
 unfolding Timing
-timing-more t before now later text so_far line next word place closing within c names line_is is timing world lines h distinct said =
-    one-more t now later so_far line next word place closing (fold (timed t) (world, lines) world.seats) within c names line_is is (timing world lines h distinct said)
+timing-more t kept kept_now kept_later before now later text so_far line next word place closing within c names line_is is timing world lines stands h distinct said =
+    one-more t kept_now kept_later now later so_far line next word place closing (fold (timed t) (world, lines) world.seats) within c names line_is is (timing world lines stands h distinct said)
 
-pub timing-ends : (t : ℕ) (before now : Seated) (text so_far : List ℕ) (place : ℕ) → length now ≤ place → Timing t before text now so_far place → Times t before text now so_far
+pub timing-ends : (t : ℕ) (kept kept_now : KeptHub) (before now : Seated) (text so_far : List ℕ) (place : ℕ) → length now ≤ place → Timing t kept before text kept_now now so_far place → Times t kept before text kept_now now so_far
 unfolding Timing Times
-timing-ends t before now text so_far place all timing world lines h distinct said = by r.back refl
+timing-ends t kept kept_now before now text so_far place all timing world lines stands h distinct said = by r.back refl
   where
     whole : Printed
     whole = fold (timed t) (world, lines) world.seats
 
-    r : TimedSoFar t now so_far place whole
-    r = timing world lines h distinct said
+    r : TimedSoFar t kept_now now so_far place whole
+    r = timing world lines stands h distinct said
 
-    ended : r.done ≡ whole → r.back ≡ [] → IsTimed t now so_far world lines
+    ended : r.done ≡ whole → r.back ≡ [] → IsTimed t kept_now now so_far world lines
     ended same none = record {
       text = r.said ∙ ap (λ (p : Printed). ended_lines p.1) same;
+      hub = subst (λ (p : Printed). hubs.StandsFor kept_now p.0.hub) same r.hub;
       stands = subst (λ (p : Printed). StandForSeats now p.0.seats) same (subst (StandForSeats now) (sym r.seats) r.stand);
     }
 
     size : (s : Seat) (back : List Seat) → length (r.front ++ s ∷ back) ≡ length r.front + suc (length back)
     size s back = length-append r.front (s ∷ back)
 
-    by : (back : List Seat) → r.back ≡ back → IsTimed t now so_far world lines
+    by : (back : List Seat) → r.back ≡ back → IsTimed t kept_now now so_far world lines
     by [] e = ended (ap (fold (timed t) r.done) (sym e) ∙ r.left) e
     by (s ∷ back) e =
         let same : length now ≡ length (r.front ++ s ∷ back) = same-length now (r.front ++ r.back) r.stand ∙ ap (λ (b : List Seat). length (r.front ++ b)) e in

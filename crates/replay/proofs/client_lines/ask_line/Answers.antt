@@ -3,6 +3,7 @@ use Rattle.std.proofs.lemmas.List.{with_items_is}
 use Rattle.pushclient.specs.Clients.{Client, subscribe}
 use Rattle.replay.specs.Text.{asked_words, subscribing}
 use Rattle.replay.specs.KeptWorlds.{parties_of}
+use Rattle.replay.specs.KeptSeats.{Answers, with_client}
 use Rattle.replay.proofs.worlds.Seats.{place-known, calls-moved, calls-told}
 use Rattle.replay.proofs.worlds.SeatsDoing.{asks-none, asks-told}
 use Rattle.replay.proofs.client_lines.ask_line.Goals as goal
@@ -24,8 +25,8 @@ returns-in_ok-asked-in-Some c =
     let answer = c.in_ok-asked-in-Some.asked in
     let changed = c.ask_at.new.seats in
     let known = place-known w world.seats.items c.deref.result.now c.place_of.result c.deref.ensures.value c.place_of.ensures.place ∙ c.in-Some.is in
-    let calls = calls-moved (λ (p : Client). answer ≡ (subscribe p q).0) (λ (p : Client). (subscribe p q).1) world.seats.items c.deref_mut.result.now changed _ place c.deref_mut.ensures.value
+    let calls = calls-moved (Answers (λ (p : Client). answer ≡ (subscribe p q).0)) (with_client (λ (p : Client). (subscribe p q).1)) world.seats.items c.deref_mut.result.now changed _ place c.deref_mut.ensures.value
     (with_items_is world.seats changed (c.ask_at.auto.seats ∙ c.deref_mut.ensures.len)) c.in_ok-asked-in-Some.ensures in
     asks-told world.hub (parties_of world) _ (codes "asked") w (subscribing q) place (asked_words answer) c.asked_line.result known
-    (calls-told (λ (p : Client). answer ≡ (subscribe p q).0) (λ (p : Client). asked_words answer ≡ asked_words (subscribe p q).0) (λ (p : Client). (subscribe p q).1) _ _ place (λ p is. ap asked_words is) calls)
+    (calls-told (Answers (λ (p : Client). answer ≡ (subscribe p q).0)) (Answers (λ (p : Client). asked_words answer ≡ asked_words (subscribe p q).0)) (with_client (λ (p : Client). (subscribe p q).1)) _ _ place (λ s is. ap asked_words is) calls)
     c.asked_line.ensures

@@ -3,6 +3,7 @@ use Rattle.std.proofs.lemmas.List.{with_items_is}
 use Rattle.pushclient.specs.Clients.{Client, unsubscribe}
 use Rattle.replay.specs.Text.{yes_or_no, unsubscribing}
 use Rattle.replay.specs.KeptWorlds.{parties_of}
+use Rattle.replay.specs.KeptSeats.{Answers, with_client}
 use Rattle.replay.proofs.worlds.Seats.{place-known, calls-moved, calls-told}
 use Rattle.replay.proofs.worlds.SeatsDoing.{asks-none, asks-told}
 use Rattle.replay.proofs.client_lines.drop_line.Goals as goal
@@ -24,8 +25,8 @@ returns-in_ok-wanted-in-Some c =
     let answer = c.in_ok-wanted-in-Some.wanted in
     let changed = c.drop_at.new.seats in
     let known = place-known w world.seats.items c.deref.result.now c.place_of.result c.deref.ensures.value c.place_of.ensures.place ∙ c.in-Some.is in
-    let calls = calls-moved (λ (p : Client). answer ≡ (unsubscribe p q).0) (λ (p : Client). (unsubscribe p q).1) world.seats.items c.deref_mut.result.now changed _ place c.deref_mut.ensures.value
+    let calls = calls-moved (Answers (λ (p : Client). answer ≡ (unsubscribe p q).0)) (with_client (λ (p : Client). (unsubscribe p q).1)) world.seats.items c.deref_mut.result.now changed _ place c.deref_mut.ensures.value
     (with_items_is world.seats changed (c.drop_at.auto.seats ∙ c.deref_mut.ensures.len)) c.in_ok-wanted-in-Some.ensures in
     asks-told world.hub (parties_of world) _ (codes "dropped") w (unsubscribing q) place (yes_or_no answer) c.dropped_line.result known
-    (calls-told (λ (p : Client). answer ≡ (unsubscribe p q).0) (λ (p : Client). yes_or_no answer ≡ yes_or_no (unsubscribe p q).0) (λ (p : Client). (unsubscribe p q).1) _ _ place (λ p is. ap yes_or_no is) calls)
+    (calls-told (Answers (λ (p : Client). answer ≡ (unsubscribe p q).0)) (Answers (λ (p : Client). yes_or_no answer ≡ yes_or_no (unsubscribe p q).0)) (with_client (λ (p : Client). (unsubscribe p q).1)) _ _ place (λ s is. ap yes_or_no is) calls)
     c.dropped_line.ensures

@@ -1,12 +1,12 @@
 use Rattle.std.proofs.Common.{◌<◌, ◌++◌, ◌∷◌, [], List, length, get_or, sym, ap, ◌∙◌, arith, codes, string_bytes}
-use Rattle.std.proofs.lemmas.List.{length-map, with_items_is}
-use Rattle.pushclient.specs.Clients.{Client, connected}
-use Rattle.replay.specs.Text.{opens}
+use Rattle.std.proofs.lemmas.List.{length-map}
+use Rattle.replay.specs.Text.{opens, opens_lone, opens_hub}
 use Rattle.replay.specs.declared.seats.Seat.{Seat}
 use Rattle.replay.specs.KeptWorlds.{seat_kept, seated, parties_of}
-use Rattle.replay.proofs.worlds.Doing.{if_acts}
-use Rattle.replay.proofs.worlds.Seats.{place-known, calls-moved, is-there}
-use Rattle.replay.proofs.worlds.SeatsDoing.{opens-none, opens-already, opens-act}
+use Rattle.replay.specs.KeptSeats.{by_seat}
+use Rattle.replay.proofs.worlds.Doing.{if_acts, if_then}
+use Rattle.replay.proofs.worlds.Seats.{place-known, is-there}
+use Rattle.replay.proofs.worlds.SeatsDoing.{opens-none, opens-already, opens-as_lone, opens-as_hub}
 use Rattle.replay.proofs.client_lines.open_line.Goals as goal
 
 -- no client has the word
@@ -31,20 +31,36 @@ returns-then-is_open_at c =
     (λ written is. opens-already world.hub known w place here.kept written at here.there
     (λ k there. sym c.if-is_open_at.true ∙ c.is_open_at.ensures k (there ∙ ap (λ (l : List Seat). get_or (seated l) place k) (sym c.deref-in-Some.ensures.value))) is) c.already_text.ensures
 
--- it has one now
-pub returns-in_ok-open_at-in-Some : goal.returns-in_ok-open_at-in-Some
-returns-in_ok-open_at-in-Some c =
+-- a lone one opens one
+pub returns-then-is_lone_at : goal.returns-then-is_lone_at
+returns-then-is_lone_at c =
     let w = c.args.word.now in
     let world = c.args.world.now in
     let seats = world.seats.items in
     let known = parties_of world in
     let place = c.in-Some.place in
-    let t = c.now-now.result in
-    let changed = c.open_at.new.seats in
     let at = place-known w seats c.deref.result.now c.place_of.result c.deref.ensures.value c.place_of.ensures.place ∙ c.in-Some.is in
-    let calls = calls-moved (λ (p : Client). Unit {0}) (connected t) seats c.deref_mut.result.now changed _ place c.deref_mut.ensures.value
-    (with_items_is world.seats changed (c.open_at.auto.seats ∙ c.deref_mut.ensures.len)) c.in_ok-open_at-in-Some.ensures in
-    if_acts (opens w) world.hub world.hub known _ (codes "open " ++ (w ++ 10 ∷ [])) c.open_text.result
-    (λ written is. opens-act world.hub known _ w place t written at
+    let within : place < length (seated seats) = omega (arith, c.in-Some.ensures.within, ap length c.deref.ensures.value, length-map seats seat_kept) in
+    let here = is-there (seated seats) place within in
+    if_then (by_seat opens_lone w) (opens w) world.hub world.hub c.open_lone.new.world.hub known known (parties_of c.open_lone.new.world) c.open_lone.result
+    (λ written does. opens-as_lone world.hub c.open_lone.new.world.hub known (parties_of c.open_lone.new.world) w place here.kept written at here.there
     (λ k there. sym c.if-is_open_at.false ∙ c.is_open_at.ensures k (there ∙ ap (λ (l : List Seat). get_or (seated l) place k) (sym c.deref-in-Some.ensures.value)))
-    c.now-now.ensures.hub calls is) c.open_text.ensures
+    (λ k there. sym c.if-is_lone_at.true ∙ c.is_lone_at.ensures k (there ∙ ap (λ (l : List Seat). get_or (seated l) place k) (sym c.deref-in-Some-2.ensures.value))) does)
+    (c.open_lone.ensures at)
+
+-- one of the hub opens one
+pub returns-else-is_lone_at : goal.returns-else-is_lone_at
+returns-else-is_lone_at c =
+    let w = c.args.word.now in
+    let world = c.args.world.now in
+    let seats = world.seats.items in
+    let known = parties_of world in
+    let place = c.in-Some.place in
+    let at = place-known w seats c.deref.result.now c.place_of.result c.deref.ensures.value c.place_of.ensures.place ∙ c.in-Some.is in
+    let within : place < length (seated seats) = omega (arith, c.in-Some.ensures.within, ap length c.deref.ensures.value, length-map seats seat_kept) in
+    let here = is-there (seated seats) place within in
+    if_then (by_seat opens_hub w) (opens w) world.hub world.hub c.open_hub.new.world.hub known known (parties_of c.open_hub.new.world) c.open_hub.result
+    (λ written does. opens-as_hub world.hub c.open_hub.new.world.hub known (parties_of c.open_hub.new.world) w place here.kept written at here.there
+    (λ k there. sym c.if-is_open_at.false ∙ c.is_open_at.ensures k (there ∙ ap (λ (l : List Seat). get_or (seated l) place k) (sym c.deref-in-Some.ensures.value)))
+    (λ k there. sym c.if-is_lone_at.false ∙ c.is_lone_at.ensures k (there ∙ ap (λ (l : List Seat). get_or (seated l) place k) (sym c.deref-in-Some-2.ensures.value))) does)
+    (c.open_hub.ensures at)

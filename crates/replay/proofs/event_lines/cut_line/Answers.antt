@@ -1,12 +1,12 @@
 use Rattle.std.proofs.Common.{◌++◌, ◌∷◌, [], ◌∙◌, codes}
 use Rattle.std.proofs.lemmas.List.{with_items_is}
-use Rattle.pushclient.specs.Clients as clients
-use Rattle.pushclient.specs.Clients.{Client}
+use Rattle.replay.specs.World.{cut_seat}
 use Rattle.replay.specs.Text.{cuts}
 use Rattle.replay.specs.KeptWorlds.{parties_of}
+use Rattle.replay.specs.KeptSeats.{HasCut}
 use Rattle.replay.proofs.worlds.Doing.{if_acts, cuts-act}
 use Rattle.replay.proofs.worlds.Seats.{place-known, calls-moved}
-use Rattle.replay.proofs.worlds.SeatsDoing.{cuts-lone}
+use Rattle.replay.proofs.worlds.SeatsDoing.{cuts-seat}
 use Rattle.replay.proofs.event_lines.cut_line.Goals as goal
 
 -- a client
@@ -19,10 +19,10 @@ returns-in-Some c =
     let place = c.in-Some.place in
     let changed = c.cut_at.new.seats in
     let at = place-known w seats c.deref.result.now c.place_of.result c.deref.ensures.value c.place_of.ensures.place ∙ c.in-Some.is in
-    let calls = calls-moved (λ (p : Client). Unit {0}) clients.cut seats c.deref_mut.result.now changed _ place c.deref_mut.ensures.value
+    let calls = calls-moved (HasCut world.hub c.cut_at.new.hub) cut_seat seats c.deref_mut.result.now changed _ place c.deref_mut.ensures.value
     (with_items_is world.seats changed (c.cut_at.auto.seats ∙ c.deref_mut.ensures.len)) c.cut_at.ensures in
-    if_acts (cuts w) world.hub world.hub known _ (codes "cut " ++ (w ++ 10 ∷ [])) c.cut_text.result
-    (λ written is. cuts-lone world.hub known _ w place written at calls is) c.cut_text.ensures
+    if_acts (cuts w) world.hub c.cut_at.new.hub known _ (codes "cut " ++ (w ++ 10 ∷ [])) c.cut_text.result
+    (λ written is. cuts-seat world.hub c.cut_at.new.hub known _ w place written at calls is) c.cut_text.ensures
 
 -- a peer
 pub returns-in-None : goal.returns-in-None

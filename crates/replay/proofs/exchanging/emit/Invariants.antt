@@ -10,5 +10,5 @@ decreases-turns l = l.left
 abbrev pub invariant-turns : goal.invariant-turns
 invariant-turns l = record {
   law : GivesStand;
-  turning : Turning l.fn.hub l.fn.session (suc l.left) l.fn.octets.items l.hub l.octets.items;
+  turning : Turning l.fn.most l.fn.hub l.fn.session (suc l.left) l.budget l.fn.octets.items l.fn.filled.items l.hub l.octets.items l.filled.items l.reacted;
 }

@@ -20,8 +20,8 @@ pub changes-preserved : goal.changes-preserved
 changes-preserved c = elim c.if-not-has_name.branch [
   | then-not-has_name+in_ok-copy_name-2 w ↦ touched-copied c.args.apex.now c.as_slice-rr-items.result.now c.changes.rr-index c.rr-item.result c.changes-test.true c.rr-item.is
       c.args.rows.now.rows c.changes.part.rows c.if-not-has_name.part.rows (set-in_order c.args.rows.now.rows c.requires) c.changes.invariant
-      (ap (λ (t : TableState). t.rows) w.part-is ∙ w.in_ok-copy_name-2.ensures)
-  | else-not-has_name w ↦ ap (λ (t : TableState). t.rows) w.part-is
+      (ap (λ (t : TableState _). t.rows) w.part-is ∙ w.in_ok-copy_name-2.ensures)
+  | else-not-has_name w ↦ ap (λ (t : TableState _). t.rows) w.part-is
       ∙ touched-there c.args.apex.now c.as_slice-rr-items.result.now c.changes.rr-index c.rr-item.result c.changes-test.true c.rr-item.is
       c.args.rows.now.rows c.changes.part.rows c.changes.invariant
       (not-true (is_empty (at_name c.rr-item.result.owner c.changes.part.rows)) (sym c.has_name.ensures ∙ w.if-not-has_name.false))

@@ -1,5 +1,6 @@
 use Rattle.std.proofs.Common.{◌≡◌, ◌∙◌, false, get_or, set, sym, ap, subst}
 use Rattle.rrset.specs.Tables.{TableState}
+use Rattle.rrset.specs.declared.record.Shown.{Shown}
 use Rattle.rrset.specs.declared.record.Question.{Question}
 use Rattle.rrset.proofs.Distinct.{distinct_push}
 use Rattle.mirror.specs.Held.{AreHeld, held_of, is_of, has, begun}
@@ -10,7 +11,7 @@ use Rattle.mirror.proofs.holding.Mirror.begin.Goals as goal
 set_is : (c : goal.After-drop-question)
     → set c.self.inside.entries.items c.in-Some.index (c.index_mut.result.now.0, c.new-set.result)
     ≡ set c.self.inside.entries.items c.in-Some.index ((get_or c.self.inside.entries.items c.in-Some.index c.index_mut.result.now).0, c.new-set.result)
-set_is c = ap (λ (e : Question × TableState). set c.self.inside.entries.items c.in-Some.index (e.0, c.new-set.result)) c.index_mut.ensures.value
+set_is c = ap (λ (e : Question × TableState Shown). set c.self.inside.entries.items c.in-Some.index (e.0, c.new-set.result)) c.index_mut.ensures.value
 
 pub invariant_of-self : goal.invariant_of-self
 invariant_of-self c =

@@ -7,3 +7,6 @@ use Rattle.pushclient.proofs.client.Client.new.Goals as goal
 
 pub returns : goal.returns
 returns c = subst (λ k. StandsFor k new_client) (sym c.new.ensures) new_stands
+
+pub invariant_of-result : goal.invariant_of-result
+invariant_of-result c = (new_client, subst (λ k. StandsFor k new_client) (sym c.new.ensures) new_stands)

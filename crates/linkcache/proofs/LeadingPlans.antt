@@ -1,0 +1,193 @@
+-- Plans of each kind lead where they should.
+use Rattle.std.proofs.Common.{◌≡◌, ℕ, ◌+◌, ◌≤◌, Bool, true, false, cond, not, ◌||◌, T, List, [], ◌∷◌, map, length, nat_lt, Option, Some, None, is_some, Result, Ok, Err, refl, sym, ap, subst, ◌∙◌, arith}
+use Rattle.std.specs.Result.{IfOk}
+use Rattle.std.specs.List.{AllByRecursion}
+use Rattle.push_base.specs.Cases.{is_empty}
+use Rattle.dnsname.specs.Names.{Labels}
+use Rattle.clockqueue.specs.Deadlines.{Deadlines, AreDeadlines, first_moment}
+use Rattle.rrset.specs.declared.record.Key.{Key}
+use Rattle.rrset.specs.declared.record.HeardRr.{HeardRr}
+use Rattle.rrset.specs.Records.{key_cmp, same_key}
+use Rattle.rrset.specs.Tables.{HasLowerOwner, HaveLowerOwners}
+use Rattle.rrset.specs.KeyedRows.{is_rising, only_rows, row_at}
+use Rattle.rrset.proofs.LowerNames.{key_of-lower}
+use Rattle.rrset.proofs.Places.{all_filter}
+use Rattle.rrset.proofs.SameRows.{changes-self}
+use Rattle.rrset.proofs.WithChanges.{same_key-turned}
+use Rattle.linkcache.specs.declared.plan.RowChange.{RowChange}
+use Rattle.linkcache.specs.declared.row.HeardRow.{HeardRow}
+use Rattle.linkcache.specs.Rows.{LinkRows, rr_of_row, usable_of, ending_by, has_key, heard_beside, heard, at_moment, reconfirmed, reconfirmation, shown_rows}
+use Rattle.linkcache.specs.Sound.{IsLinkRow, AreLinkRows}
+use Rattle.linkcache.specs.Ends.{AreEnds, has_come, is_due}
+use Rattle.linkcache.specs.Parts.{copied, is_touched, fails}
+use Rattle.linkcache.specs.Links.{LinkState, IsLink}
+use Rattle.linkcache.specs.Plans.{LinkPlan, HaveLowerKeys, with_row_changes, Leads, IsPlanBetween, IsPlanOf, IsHeardPlan, IsMomentPlan, IsReconfirmPlan}
+use Rattle.linkcache.proofs.KeyedParts.{Rising, KeepsKeys, rising-only, rising-map, rising-filter, length-parts, only-map, failed-map, not_both}
+use Rattle.linkcache.proofs.Touched.{heard-part}
+use Rattle.linkcache.proofs.SoundSteps.{sound-beside, sound-heard, sound-moment, sound-ending, sound-reconfirmed, usable-of}
+use Rattle.linkcache.proofs.Moves.{leads, rising-changes}
+use Rattle.linkcache.proofs.Copies.{copied-part, found-lower}
+use Rattle.linkcache.proofs.DueRows.{due-part, due-goes, none-come}
+use Rattle.linkcache.proofs.EndedRows.{end_none}
+use Rattle.linkcache.proofs.HeardSteps.{has-found}
+
+is_true : (b : Bool) → T b → b ≡ true
+is_true true h = refl
+is_true false h = absurd h
+
+pub rises : (domain : Labels) (rows : LinkRows) → IsLink (record { domain = domain; rows = rows }) → Rising rows
+rises domain rows link = subst T (sym link.order) tt
+
+-- the keys of a link's rows are in lower case
+pub rows-lower : (domain : Labels) (rows : LinkRows) → AreLinkRows domain rows → HaveLowerOwners rows
+rows-lower domain [] sound = tt
+rows-lower domain (e ∷ es) sound = (subst HasLowerOwner sound.0.key (key_of-lower (rr_of_row e)), rows-lower domain es sound.1)
+
+-- ---- parts
+
+pub part-order : (p : Key → Bool) (rows part : LinkRows) → is_rising rows ≡ true → part ≡ only_rows p rows → is_rising part ≡ true
+part-order p rows part order is = ap is_rising is ∙ is_true (is_rising (only_rows p rows)) (rising-only p rows (subst T (sym order) tt))
+
+pub part-sound : (domain : Labels) (p : Key → Bool) (rows part : LinkRows) → AreLinkRows domain rows → part ≡ only_rows p rows → AreLinkRows domain part
+part-sound domain p rows part sound is = subst (AreLinkRows domain) (sym is) (all_filter (IsLinkRow domain) (λ e. p e.0) rows sound)
+
+pub part-fits : (p : Key → Bool) (rows part : LinkRows) → part ≡ only_rows p rows → length part ≤ length rows
+part-fits p rows part is = let parts = length-parts p rows in let same = ap (λ (l : LinkRows). length l) is in omega arith
+
+-- ---- one key
+
+abbrev pub of_key : Key → Key → Bool
+of_key key q = same_key q key || false
+
+abbrev pub ended_soon : Key → ℕ → Key × HeardRow → Key × HeardRow
+ended_soon key now row = cond (same_key key row.0) (ending_by (now + reconfirmation) row) row
+
+ended-keeps : (key : Key) (now : ℕ) → KeepsKeys (ended_soon key now)
+ended-keeps key now e = by (same_key key e.0)
+  where
+    by : (b : Bool) → (cond b (ending_by (now + reconfirmation) e) e).0 ≡ e.0
+    by true = refl
+    by false = refl
+
+module _ (domain : Labels) (rows : LinkRows) (link : IsLink (record { domain = domain; rows = rows })) where
+  pub key-part : (key : Key) (part : LinkRows) → part ≡ copied rows [] key → part ≡ only_rows (of_key key) rows
+  key-part key part is = is ∙ copied-part (λ q. false) rows [] key (rises domain rows link) (nothing rows)
+    where
+      nothing : (es : LinkRows) → [] ≡ only_rows (λ q. false) es
+      nothing [] = refl
+      nothing (e ∷ es) = nothing es
+
+  pub key-lower : (key : Key) → has_key key rows ≡ true → HasLowerOwner key
+  key-lower key there = by (row_at key rows) refl (has-found key rows ∙ there)
+    where
+      by : (o : Option HeardRow) → row_at key rows ≡ o → is_some o ≡ true → HasLowerOwner key
+      by None is e = absurd cc
+      by (Some row) is e = found-lower key row rows (rows-lower domain rows link.sound) is
+
+-- ---- parts after a step
+
+pub heard-sound : (domain : Labels) (now others : ℕ) (hearing : List HeardRr) (part work : LinkRows) → AreLinkRows domain part → work ≡ heard_beside others domain part now (usable_of domain hearing) → AreLinkRows domain work
+heard-sound domain now others hearing part work sound is = subst (AreLinkRows domain) (sym is) (sound-beside domain now others (usable_of domain hearing) part (usable-of domain hearing) sound)
+
+pub reconfirm-sound : (domain : Labels) (key : Key) (now : ℕ) (part work : LinkRows) → AreLinkRows domain part → work ≡ map (ended_soon key now) part → AreLinkRows domain work
+reconfirm-sound domain key now part work sound is = subst (AreLinkRows domain) (sym is) (sound-ending domain (λ row. same_key key row.0) (now + reconfirmation) part sound)
+
+-- ---- nothing to change
+
+module _ (domain : Labels) (rows : LinkRows) (link : IsLink (record { domain = domain; rows = rows })) (plan : LinkPlan) where
+  stays : plan.rows ≡ [] → plan.changed ≡ [] → (later : LinkRows) → later ≡ rows → Leads domain rows plan later
+  stays none unchanged later is = subst (Leads domain rows plan) (sym is) (record {
+    keys = subst HaveLowerKeys (sym none) tt;
+    reached = ap (λ cs. with_row_changes cs rows) none;
+    shown = unchanged ∙ sym (changes-self (shown_rows domain rows));
+    sound = link.sound;
+  })
+
+  empty-none : {A : Type 0} (xs : List A) → not (is_empty xs) ≡ false → xs ≡ []
+  empty-none [] e = refl
+  empty-none (x ∷ xs) e = absurd cc
+
+  pub nothing-heard : (now : ℕ) (hearing : List HeardRr) → not (is_empty (usable_of domain hearing)) ≡ false → plan.usable ≡ false → plan.rows ≡ [] → plan.changed ≡ [] → IsHeardPlan domain rows now hearing plan
+  nothing-heard now hearing empty usable none unchanged = record {
+    usable = usable ∙ sym empty;
+    leads = stays none unchanged (heard domain rows now hearing) (ap (λ (us : List HeardRr). heard_beside 0 domain rows now us) (empty-none (usable_of domain hearing) empty));
+  }
+
+  pub nothing-due : (now : ℕ) (ds : Deadlines Key) → AreDeadlines key_cmp ds → AreEnds ds rows → has_come now (first_moment ds) ≡ false → plan.usable ≡ false → plan.rows ≡ [] → plan.changed ≡ [] → IsMomentPlan domain rows now plan
+  nothing-due now ds are ends none-due usable none unchanged = record {
+    usable = usable;
+    leads = stays none unchanged (at_moment rows now) (none-come now ds rows are (rises domain rows link) ends none-due);
+  }
+
+  none-found : (key : Key) → has_key key rows ≡ false → row_at key rows ≡ None
+  none-found key e = by (row_at key rows) (has-found key rows ∙ e)
+    where
+      by : (o : Option HeardRow) → is_some o ≡ false → o ≡ None
+      by None e = refl
+      by (Some row) e = absurd cc
+
+  pub nothing-reconfirmed : (key : Key) (now : ℕ) → has_key key rows ≡ false → plan.usable ≡ false → plan.rows ≡ [] → plan.changed ≡ [] → IsReconfirmPlan domain rows key now plan
+  nothing-reconfirmed key now absent usable none unchanged = record {
+    usable = usable;
+    leads = stays none unchanged (reconfirmed rows key now) (sym (end_none key (now + reconfirmation) rows link.order (none-found key absent)));
+  }
+
+  -- ---- a hearing
+
+  pub heard-leads : (now others : ℕ) (hearing : List HeardRr) (part work : LinkRows) → part ≡ only_rows (is_touched (usable_of domain hearing)) rows → others + length part ≡ length rows
+      → work ≡ heard_beside others domain part now (usable_of domain hearing) → not (is_empty (usable_of domain hearing)) ≡ true → plan.usable ≡ true → IsPlanBetween domain part work plan → IsHeardPlan domain rows now hearing plan
+  heard-leads now others hearing part work part-is count work-is some usable between = let whole = heard-part domain now hearing rows (rises domain rows link) in record {
+    usable = usable ∙ sym some;
+    leads = leads domain link.name p rows (heard domain rows now hearing) part work plan (rises domain rows link) whole.rising link.sound (sound-heard domain now hearing rows link.sound) (sym whole.outside) part-is
+        (work-is ∙ (λ i. heard_beside (others-are i) domain (part-is i) now (usable_of domain hearing)) ∙ sym whole.inside) between;
+  }
+    where
+      p : Key → Bool
+      p = is_touched (usable_of domain hearing)
+
+      others-are : others ≡ length (only_rows (fails p) rows)
+      others-are = let parts = length-parts p rows in let same = ap (λ (l : LinkRows). length l) part-is in omega arith
+
+  -- ---- a moment
+
+  pub moment-leads : (now : ℕ) (ds : Deadlines Key) (part work : LinkRows) → AreDeadlines key_cmp ds → AreEnds ds rows → part ≡ only_rows (is_due now ds) rows → work ≡ [] → plan.usable ≡ false → IsPlanBetween domain part work plan
+      → IsMomentPlan domain rows now plan
+  moment-leads now ds part work are ends part-is work-is usable between = let goes = due-goes now ds rows are (rises domain rows link) ends in record {
+    usable = usable;
+    leads = leads domain link.name (is_due now ds) rows (at_moment rows now) part work plan (rises domain rows link) later-rises link.sound (sound-moment domain now rows link.sound) goes.1 part-is (work-is ∙ sym goes.0) between;
+  }
+    where
+      later-rises : Rising (at_moment rows now)
+      later-rises = rising-filter (λ e. nat_lt now e.1.ends) rows (rises domain rows link)
+
+  -- ---- a reconfirmation
+
+  pub reconfirm-leads : (key : Key) (now : ℕ) (part work : LinkRows) → part ≡ only_rows (of_key key) rows → work ≡ map (ended_soon key now) part → plan.usable ≡ false → IsPlanBetween domain part work plan → IsReconfirmPlan domain rows key now plan
+  reconfirm-leads key now part work part-is work-is usable between = record {
+    usable = usable;
+    leads = leads domain link.name (of_key key) rows (reconfirmed rows key now) part work plan (rises domain rows link) (rising-map (ended_soon key now) (ended-keeps key now) rows (rises domain rows link)) link.sound
+        (sound-reconfirmed domain key now rows link.sound) (sym (failed-map (of_key key) (ended_soon key now) (ended-keeps key now) other rows)) part-is
+        (work-is ∙ ap (λ (l : LinkRows). map (ended_soon key now) l) part-is ∙ sym (only-map (of_key key) (ended_soon key now) (ended-keeps key now) rows)) between;
+  }
+    where
+      other : (e : Key × HeardRow) → of_key key e.0 ≡ false → ended_soon key now e ≡ e
+      other e h = ap (λ b. cond b (ending_by (now + reconfirmation) e) e) (same_key-turned key e.0 ∙ last (same_key e.0 key) h)
+        where
+          last : (b : Bool) → (b || false) ≡ false → b ≡ false
+          last true h = absurd cc
+          last false h = refl
+
+-- what is made of a plan holds of the plan that a call gives, if it gives one
+pub if_both : {A E : Type 0} (P Q R : A → Type 0) (r : Result A E) → IfOk r P → IfOk r Q → ((a : A) → P a → Q a → R a) → IfOk r R
+if_both P Q R (Ok a) p q makes = makes a p q
+if_both P Q R (Err e) p q makes = tt
+
+-- ---- a plan that is made
+
+pub applied : (domain : Labels) (rows later : LinkRows) (cs : List RowChange) (plan : LinkPlan) → IsLink (record { domain = domain; rows = rows }) → later ≡ with_row_changes cs rows → cs ≡ plan.rows → IsPlanOf domain rows plan
+    → IsLink (record { domain = domain; rows = later })
+applied domain rows later cs plan link later-is cs-is planned = record {
+  name = link.name;
+  order = ap is_rising later-is ∙ is_true (is_rising (with_row_changes cs rows)) (rising-changes cs rows (rises domain rows link));
+  sound = subst (AreLinkRows domain) (sym (later-is ∙ ap (λ (l : List RowChange). with_row_changes l rows) cs-is ∙ planned.1.reached)) planned.1.sound;
+}

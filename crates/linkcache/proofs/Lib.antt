@@ -1,0 +1,15 @@
+pub mod KeyedParts
+pub mod Touched
+pub mod ShownParts
+pub mod Moves
+pub mod SoundSteps
+pub mod RowEnds
+pub mod EndedRows
+pub mod Copies
+pub mod TouchedRows
+pub mod DueRows
+pub mod NextEnd
+pub mod Numbers
+pub mod HeardSteps
+pub mod LeadingPlans
+pub mod KeptEnds

@@ -1,0 +1,81 @@
+-- Each row of a link stays one that the link shows, with its key, whatever is heard.
+use Rattle.std.proofs.Common.{◌≡◌, ℕ, zero, suc, ◌<◌, length, get_or, arith, ◌+◌, Bool, true, false, cond, ◌&&◌, ◌||◌, List, [], ◌∷◌, map, filter, fold, nat_lt, refl, sym, ap, subst, ◌∙◌}
+use Rattle.std.specs.Prelude.{◌==◌, if◌then◌else◌}
+use Rattle.std.specs.List.{AllByRecursion}
+use Rattle.std.specs.FinMap.Entries.{by_order}
+use Rattle.std.specs.declared.cmp.Ordering.{Ordering}
+use Rattle.std.specs.declared.cmp.Ordering.TheVariants.{Less, Equal, Greater}
+use Rattle.dnsname.specs.Names.{Labels}
+use Rattle.rrset.specs.declared.record.Key.{Key}
+use Rattle.rrset.specs.declared.record.HeardRr.{HeardRr}
+use Rattle.rrset.specs.Records.{key_of, key_cmp, same_key}
+use Rattle.rrset.proofs.KeyOrder.{key_cmp-IsAntisymmetric}
+use Rattle.rrset.proofs.Places.{all_filter}
+use Rattle.linkmap.specs.Translation.{is_usable}
+use Rattle.linkcache.specs.declared.row.HeardRow.{HeardRow}
+use Rattle.rrset.specs.KeyedRows.{put_row}
+use Rattle.linkcache.specs.Rows.{LinkRows, ttl_of, second, reconfirmation, ending_by, has_key, row_has_room, heard_at, put_heard, is_of_set, flushed_by, usable_of, heard_beside, heard, at_moment, reconfirmed}
+use Rattle.linkcache.specs.Sound.{IsLinkRow, AreLinkRows}
+
+pub all-put : (P : Key × HeardRow → Type 0) (k : Key) (v : HeardRow) (rows : LinkRows) → P (k, v) → AllByRecursion P rows → AllByRecursion P (put_row k v rows)
+all-put P k v [] one h = (one, tt)
+all-put P k v (e ∷ es) one h = by (key_cmp k e.0) refl (all-put P k v es one h.1)
+  where
+    by : (r : Ordering) → key_cmp k e.0 ≡ r → AllByRecursion P (put_row k v es) → AllByRecursion P (by_order r ((k, v) ∷ e ∷ es) ((e.0, v) ∷ es) (e ∷ put_row k v es))
+    by Less is rest = (one, h)
+    by Equal is rest = (subst (λ x. P (x, v)) (key_cmp-IsAntisymmetric k e.0 is) one, h.1)
+    by Greater is rest = (h.0, rest)
+
+-- what holds of all holds of the one with an index
+pub all_at : (P : Key × HeardRow → Type 0) (rows : LinkRows) (i : ℕ) (d : Key × HeardRow) → AllByRecursion P rows → i < length rows → P (get_or rows i d)
+all_at P [] i d all within = absurd (omega arith)
+all_at P (e ∷ es) zero d all within = all.0
+all_at P (e ∷ es) (suc i) d all within = all_at P es i d all.1 (omega arith)
+
+pub sound-ending : (domain : Labels) (test : Key × HeardRow → Bool) (moment : ℕ) (rows : LinkRows) → AreLinkRows domain rows → AreLinkRows domain (map (λ row. cond (test row) (ending_by moment row) row) rows)
+sound-ending domain test moment [] h = tt
+sound-ending domain test moment (e ∷ es) h = (by (test e), sound-ending domain test moment es h.1)
+  where
+    by : (b : Bool) → IsLinkRow domain (cond b (ending_by moment e) e)
+    by true = record { usable = h.0.usable; key = h.0.key }
+    by false = h.0
+
+abbrev AreUsable : Labels → List HeardRr → Type 0
+AreUsable domain hs = AllByRecursion (λ h. is_usable domain h.rr ≡ true) hs
+
+pub usable-of : (domain : Labels) (hearing : List HeardRr) → AreUsable domain (usable_of domain hearing)
+usable-of domain [] = tt
+usable-of domain (h ∷ hs) = by (is_usable domain h.rr) refl (usable-of domain hs)
+  where
+    by : (b : Bool) → is_usable domain h.rr ≡ b → AreUsable domain (usable_of domain hs) → AreUsable domain (cond b (h ∷ usable_of domain hs) (usable_of domain hs))
+    by true is rest = (is, rest)
+    by false is rest = rest
+
+pub sound-put : (domain : Labels) (now others : ℕ) (rows : LinkRows) (h : HeardRr) → is_usable domain h.rr ≡ true → AreLinkRows domain rows → AreLinkRows domain (put_heard domain now others rows h)
+sound-put domain now others rows h usable sound = by (ttl_of h == 0) (has_key (key_of h.rr) rows || row_has_room domain others rows h.rr)
+  where
+    by : (t b : Bool) → AreLinkRows domain (if t then map (λ row. cond (same_key (key_of h.rr) row.0) (ending_by (now + second) row) row) rows else if b then put_row (key_of h.rr) (heard_at now h) rows else rows)
+    by true b = sound-ending domain (λ row. same_key (key_of h.rr) row.0) (now + second) rows sound
+    by false true = all-put (IsLinkRow domain) (key_of h.rr) (heard_at now h) rows (record { usable = usable; key = refl }) sound
+    by false false = sound
+
+sound-first : (domain : Labels) (now others : ℕ) (hs : List HeardRr) (rows : LinkRows) → AreUsable domain hs → AreLinkRows domain rows → AreLinkRows domain (fold (put_heard domain now others) rows hs)
+sound-first domain now others [] rows usable sound = sound
+sound-first domain now others (h ∷ hs) rows usable sound = sound-first domain now others hs (put_heard domain now others rows h) usable.1 (sound-put domain now others rows h usable.0 sound)
+
+sound-second : (domain : Labels) (now : ℕ) (hs : List HeardRr) (rows : LinkRows) → AreLinkRows domain rows → AreLinkRows domain (fold (flushed_by now) rows hs)
+sound-second domain now [] rows sound = sound
+sound-second domain now (h ∷ hs) rows sound =
+    sound-second domain now hs (flushed_by now rows h) (sound-ending domain (λ row. is_of_set h.rr row && nat_lt (row.1.heard + second) now) (now + second) rows sound)
+
+pub sound-beside : (domain : Labels) (now others : ℕ) (usable : List HeardRr) (rows : LinkRows) → AreUsable domain usable → AreLinkRows domain rows → AreLinkRows domain (heard_beside others domain rows now usable)
+sound-beside domain now others usable rows are sound = sound-second domain now (filter (λ h. h.flush) usable) (fold (put_heard domain now others) rows usable) (sound-first domain now others usable rows are sound)
+
+pub sound-heard : (domain : Labels) (now : ℕ) (hearing : List HeardRr) (rows : LinkRows) → AreLinkRows domain rows → AreLinkRows domain (heard domain rows now hearing)
+sound-heard domain now hearing rows sound = sound-beside domain now 0 (usable_of domain hearing) rows (usable-of domain hearing) sound
+
+pub sound-moment : (domain : Labels) (now : ℕ) (rows : LinkRows) → AreLinkRows domain rows → AreLinkRows domain (at_moment rows now)
+sound-moment domain now rows sound = all_filter (IsLinkRow domain) (λ row. nat_lt now row.1.ends) rows sound
+
+pub sound-reconfirmed : (domain : Labels) (key : Key) (now : ℕ) (rows : LinkRows) → AreLinkRows domain rows → AreLinkRows domain (reconfirmed rows key now)
+sound-reconfirmed domain key now rows sound = sound-ending domain (λ row. same_key key row.0) (now + reconfirmation) rows sound

@@ -1,0 +1,15 @@
+use Rattle.std.proofs.Common.{◌∙◌, sym, ap}
+use Rattle.std.specs.Option.{option_map}
+use Rattle.clockqueue.specs.Deadlines.{moment_of}
+use Rattle.rrset.specs.KeyedRows.{row_at}
+use Rattle.rrset.specs.Records.{key_cmp}
+use Rattle.linkcache.specs.Rows.{LinkRows}
+use Rattle.linkcache.specs.declared.row.HeardRow.{HeardRow}
+use Rattle.linkcache.proofs.RowEnds.{kept}
+use Rattle.linkcache.proofs.applying.make_change.Goals as goal
+
+pub returns-clause-ends : goal.returns-clause-ends
+returns-clause-ends c key =
+    ap (moment_of key_cmp key) c.change_end.ensures.deadlines
+    ∙ kept c.args.ends.now.deadlines c.args.rows.now.rows c.args.planned.change c.requires.ends key
+    ∙ ap (λ (l : LinkRows). option_map (λ (row : HeardRow). row.ends) (row_at key l)) (sym c.change_row.ensures.rows)

@@ -1,0 +1,8 @@
+use Rattle.std.proofs.Common.{◌≡◌, ◌+◌, ℕ, nat_lt, arith}
+use Rattle.std.specs.Prelude.{min}
+use Rattle.linkcache.specs.Rows.{second}
+use Rattle.linkcache.proofs.Numbers.{long_ago}
+use Rattle.linkcache.proofs.hearing.is_long_ago.Goals as goal
+
+pub returns : goal.returns
+returns c = long_ago c.args.moment c.args.now c.saturating_add.result (omega (arith, c.ranges.now.fits)) c.saturating_add.ensures

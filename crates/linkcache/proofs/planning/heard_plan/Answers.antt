@@ -1,0 +1,34 @@
+use Rattle.std.proofs.Common.{◌≡◌, ◌∙◌, true, sym}
+use Rattle.linkcache.specs.Parts.{is_touched}
+use Rattle.linkcache.specs.Plans.{IsHeardPlan, IsPlanBetween}
+use Rattle.linkcache.specs.Rows.{usable_of}
+use Rattle.linkcache.proofs.LeadingPlans.{heard-leads, heard-sound, if_both, nothing-heard, part-fits, part-sound, rows-lower}
+use Rattle.linkcache.proofs.planning.heard_plan.Goals as goal
+
+pub returns-then-not-some_usable : goal.returns-then-not-some_usable
+returns-then-not-some_usable c =
+    nothing-heard c.args.domain.now c.args.rows.now.rows c.requires.link c.nothing.result c.args.now c.args.hearing.now (sym c.some_usable.ensures ∙ c.if-not-some_usable.true) c.nothing.ensures.usable c.nothing.ensures.rows c.nothing.ensures.changed
+
+pub touched-requires-clause-lower : goal.touched-requires-clause-lower
+touched-requires-clause-lower c = rows-lower c.args.domain.now c.args.rows.now.rows c.requires.link.sound
+
+pub rows_beside-others-requires : goal.rows_beside-others-requires
+rows_beside-others-requires c = part-fits (is_touched (usable_of c.args.domain.now c.args.hearing.now)) c.args.rows.now.rows c.in_ok-part.part.rows c.in_ok-part.ensures
+
+pub heard-requires-clause-rows : goal.heard-requires-clause-rows
+heard-requires-clause-rows c = part-sound c.args.domain.now (is_touched (usable_of c.args.domain.now c.args.hearing.now)) c.args.rows.now.rows c.in_ok-part.part.rows c.requires.link.sound c.in_ok-part.ensures
+
+pub plan_between-requires-clause-part : goal.plan_between-requires-clause-part
+plan_between-requires-clause-part c = part-sound c.args.domain.now (is_touched (usable_of c.args.domain.now c.args.hearing.now)) c.args.rows.now.rows c.in_ok-part.part.rows c.requires.link.sound c.in_ok-part.ensures
+
+pub plan_between-requires-clause-work : goal.plan_between-requires-clause-work
+plan_between-requires-clause-work c =
+    heard-sound c.args.domain.now c.args.now c.rows_beside-others.result c.args.hearing.now c.in_ok-part.part.rows c.in_ok-work.work.rows
+    (part-sound c.args.domain.now (is_touched (usable_of c.args.domain.now c.args.hearing.now)) c.args.rows.now.rows c.in_ok-part.part.rows c.requires.link.sound c.in_ok-part.ensures) c.in_ok-work.ensures
+
+pub returns : goal.returns
+returns c =
+    if_both (λ plan. plan.usable ≡ true) (IsPlanBetween c.args.domain.now c.in_ok-part.part.rows c.in_ok-work.work.rows) (IsHeardPlan c.args.domain.now c.args.rows.now.rows c.args.now c.args.hearing.now)
+    c.plan_between.result c.plan_between.ensures.usable c.plan_between.ensures.between
+    (λ plan usable between. heard-leads c.args.domain.now c.args.rows.now.rows c.requires.link plan c.args.now c.rows_beside-others.result c.args.hearing.now c.in_ok-part.part.rows c.in_ok-work.work.rows c.in_ok-part.ensures
+    c.rows_beside-others.ensures c.in_ok-work.ensures (sym c.some_usable.ensures ∙ c.if-not-some_usable.false) usable between)

@@ -1,0 +1,33 @@
+-- Links as they are kept.
+--     LinkState      a link's domain, and the rows of what it has heard
+--     LinkKept      the same, with room for further rows
+--     IsLink link      what always holds of a link
+--     IsKept link moments      and of the moments at which its rows end
+use Rattle.std.specs.Prelude.{ℕ, IsTrue}
+use Rattle.clockqueue.specs.Deadlines.{Deadlines}
+use Rattle.dnsname.specs.Names.{Labels, IsName}
+use Rattle.rrset.specs.KeyedRows.{is_rising}
+use Rattle.rrset.specs.declared.record.Key.{Key}
+use Rattle.linkcache.specs.Rows.{LinkRows}
+use Rattle.linkcache.specs.Sound.{AreLinkRows}
+use Rattle.linkcache.specs.Ends.{AreEnds}
+
+pub record LinkState : Type 0 where
+  pub domain : Labels
+  pub rows : LinkRows
+
+-- a link, and how many new rows are sure to have room
+pub record LinkKept : Type 0 where
+  pub state : LinkState
+  pub spare : ℕ
+
+-- keys rise, and each row is one of a usable record
+pub record IsLink (link : LinkState) : Type 0 where
+  pub name : IsName link.domain
+  pub order : IsTrue (is_rising link.rows)
+  pub sound : AreLinkRows link.domain link.rows
+
+-- the moments are the ends of the rows
+pub record IsKept (link : LinkState) (moments : Deadlines Key) : Type 0 where
+  pub sound : IsLink link
+  pub ends : AreEnds moments link.rows

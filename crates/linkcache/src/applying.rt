@@ -1,0 +1,139 @@
+//! The changes of a plan, which take no memory.
+
+ghost use Rattle.std.specs.Prelude.{◌≡◌, ◌≤◌, ◌+◌, None, length, map, option_map};
+ghost use Rattle.std.specs.List.{AllByRecursion};
+ghost use Rattle.clockqueue.specs.Deadlines.{moment_of, without};
+ghost use Rattle.rrset.specs.KeyedRows.{put_row, row_at};
+ghost use Rattle.rrset.specs.Records.{key_cmp};
+ghost use Rattle.rrset.specs.Tables.{HasLowerOwner};
+ghost use Rattle.linkcache.specs.Ends.{AreEnds, with_end, with_end_change};
+ghost use Rattle.linkcache.specs.Plans.{with_row_change, with_row_changes};
+ghost use Rattle.linkcache.specs.declared.row.HeardRow.{HeardRow};
+
+use crate::plan::{PlannedRow, RowChange};
+use crate::row::HeardRow;
+use clockqueue::Deadlines;
+use rrset::{Key, Table};
+
+/// Puts a row at a key, where there is room for it.
+fn put_in_room(rows: &mut Table<HeardRow>, key: Key, row: HeardRow)
+    requires lower { HasLowerOwner key }
+    requires room { 1 ≤ rows.old.spare }
+    ensures rows { rows.new.rows ≡ put_row key row rows.old.rows }
+    ensures room { rows.old.spare ≤ rows.new.spare + 1 }
+{
+    match rows.put(key, row) {
+        Ok(_) => {}
+        Err(_) => unreachable!(),
+    }
+}
+
+/// Puts or takes out the row of a key as a change has it, where there is room for it.
+fn change_row(rows: &mut Table<HeardRow>, change: RowChange)
+    requires lower { HasLowerOwner change.key }
+    requires room { 1 ≤ rows.old.spare }
+    ensures rows { rows.new.rows ≡ with_row_change rows.old.rows change }
+    ensures room { rows.old.spare ≤ rows.new.spare + 1 }
+{
+    let RowChange { key, after } = change;
+    match after {
+        Some(row) => put_in_room(rows, key, row),
+        None => {
+            rows.remove(&key);
+        }
+    }
+}
+
+/// When the row of a key ends, if there is one.
+fn end_of(rows: &Table<HeardRow>, key: &Key) -> Option<u64>
+    ensures { result ≡ option_map (λ (row : HeardRow). row.ends) (row_at key.now rows.now.rows) }
+{
+    match rows.get(key) {
+        Some(row) => Some(row.ends),
+        None => None,
+    }
+}
+
+/// When a row ends, if there is one.
+fn end_after(after: &Option<HeardRow>) -> Option<u64>
+    ensures { result ≡ option_map (λ (row : HeardRow). row.ends) after.now }
+{
+    match after {
+        Some(row) => Some(row.ends),
+        None => None,
+    }
+}
+
+/// Takes out the moment of a key, if it has one.
+fn take_end(ends: &mut Deadlines<Key>, key: &Key, before: Option<u64>)
+    requires { moment_of key_cmp key.now ends.old.deadlines ≡ before }
+    ensures deadlines { ends.new.deadlines ≡ without key_cmp key.now ends.old.deadlines }
+    ensures room { ends.old.spare ≤ ends.new.spare }
+{
+    if let Some(moment) = before {
+        ends.take_at(key, moment);
+    }
+}
+
+/// Gives a key a moment, if there is one, where it has none and there is room for it.
+fn put_end(ends: &mut Deadlines<Key>, key: Key, after: Option<u64>)
+    requires none { moment_of key_cmp key ends.old.deadlines ≡ None }
+    requires room { 1 ≤ ends.old.spare }
+    ensures deadlines { ends.new.deadlines ≡ with_end ends.old.deadlines key after }
+    ensures room { ends.old.spare ≤ ends.new.spare + 1 }
+{
+    if let Some(moment) = after {
+        match ends.add(key, moment) {
+            Ok(()) => {}
+            Err(_) => unreachable!(),
+        }
+    }
+}
+
+/// Changes the moment of a key as a change of its row has it, where there is room for it.
+fn change_end(ends: &mut Deadlines<Key>, rows: &Table<HeardRow>, change: &RowChange, again: Key)
+    requires again { again ≡ change.now.key }
+    requires ends { AreEnds ends.old.deadlines rows.now.rows }
+    requires room { 1 ≤ ends.old.spare }
+    ensures deadlines { ends.new.deadlines ≡ with_end_change ends.old.deadlines change.now }
+    ensures room { ends.old.spare ≤ ends.new.spare + 1 }
+{
+    take_end(ends, &again, end_of(rows, &again));
+    put_end(ends, again, end_after(&change.after));
+}
+
+/// Makes a change of a row, and of the moment at which it ends, where there is room for both.
+fn make_change(rows: &mut Table<HeardRow>, ends: &mut Deadlines<Key>, planned: PlannedRow)
+    requires lower { HasLowerOwner planned.change.key }
+    requires again { planned.again ≡ planned.change.key }
+    requires ends { AreEnds ends.old.deadlines rows.old.rows }
+    requires row_room { 1 ≤ rows.old.spare }
+    requires end_room { 1 ≤ ends.old.spare }
+    ensures rows { rows.new.rows ≡ with_row_change rows.old.rows planned.change }
+    ensures ends { AreEnds ends.new.deadlines rows.new.rows }
+    ensures row_room { rows.old.spare ≤ rows.new.spare + 1 }
+    ensures end_room { ends.old.spare ≤ ends.new.spare + 1 }
+{
+    let PlannedRow { change, again } = planned;
+    change_end(ends, rows, &change, again);
+    change_row(rows, change);
+}
+
+/// Makes the changes of a plan, where there is room for all of its keys. It takes no memory.
+pub(crate) fn make_changes(
+    rows: &mut Table<HeardRow>,
+    ends: &mut Deadlines<Key>,
+    changes: Vec<PlannedRow>,
+)
+    requires lower { AllByRecursion (λ r. HasLowerOwner r.change.key) changes.items }
+    requires again { AllByRecursion (λ r. r.again ≡ r.change.key) changes.items }
+    requires ends { AreEnds ends.old.deadlines rows.old.rows }
+    requires row_room { length changes.items ≤ rows.old.spare }
+    requires end_room { length changes.items ≤ ends.old.spare }
+    ensures rows { rows.new.rows ≡ with_row_changes (map (λ r. r.change) changes.items) rows.old.rows }
+    ensures ends { AreEnds ends.new.deadlines rows.new.rows }
+{
+    'changes: for change in changes {
+        make_change(rows, ends, change);
+    }
+}

@@ -1,0 +1,170 @@
+//! Caches of links: the records that were heard, and when each ends (RFC 6762, 10).
+
+ghost use Rattle.std.specs.Prelude.{◌≡◌, ◌≤◌, [], length, IfOk, OnOk};
+ghost use Rattle.push_base.specs.Limits.{max_moment};
+ghost use Rattle.clockqueue.specs.Deadlines.{AreDeadlines};
+ghost use Rattle.rrset.specs.Records.{key_cmp};
+ghost use Rattle.linkcache.specs.Links.{IsLink};
+ghost use Rattle.linkcache.specs.Plans.{IsHeardPlan, IsMomentPlan, IsPlanOf, IsReconfirmPlan, with_row_changes};
+ghost use Rattle.linkcache.specs.Rows.{has_key, next_end};
+
+use crate::applying::make_changes;
+use crate::hearing::has;
+use crate::plan::HearPlan;
+use crate::planning::{heard_plan, moment_plan, reconfirm_plan};
+use crate::row::HeardRow;
+use clockqueue::Deadlines;
+use dnsname::Name;
+use rrset::{HeardRr, Key, NoMemory, Table};
+use std::alloc::Global;
+use std::marker::Model;
+
+/// A link: its domain, what it has heard, and the moments at which the rows end.
+#[derive(Debug, Drop)]
+pub struct Cache {
+    domain: Name,
+    rows: Table<HeardRow>,
+    ends: Deadlines<Key>,
+}
+
+impl Model for Cache {
+    ghost use Rattle.std.specs.Prelude.{min};
+    ghost use Rattle.linkcache.specs.Links.{LinkKept, IsKept};
+
+    ghost Value = { LinkKept };
+
+    ghost view = { λ c. record { state = record { domain = c.domain; rows = c.rows.rows }; spare = min c.rows.spare c.ends.spare } };
+
+    ghost invariant = { λ c. IsKept (record { domain = c.domain; rows = c.rows.rows }) c.ends.deadlines };
+}
+
+/// The same moments and keys.
+fn copied_ends(alloc: Global, ends: &[(u64, Key)]) -> Result<Vec<(u64, Key)>, NoMemory>
+    ensures { IfOk result (λ copy. copy.items ≡ ends.now) }
+{
+    let mut copy = Vec::new(alloc);
+    'ends: for (moment, key) in ends {
+        copy.push((*moment, key.copy()?))?;
+    }
+    Ok(copy)
+}
+
+impl Cache {
+    /// A link of this domain that has heard nothing.
+    pub fn new(alloc: Global, domain: Name) -> Self
+        ensures domain { result.state.domain ≡ domain }
+        ensures rows { result.state.rows ≡ [] }
+    {
+        let _name = domain.octets();
+        Cache {
+            domain,
+            rows: Table::new(alloc),
+            ends: Deadlines::new(alloc),
+        }
+    }
+
+    /// The domain under which the link is shown.
+    pub fn domain(&self) -> &Name
+        ensures { result.now ≡ self.now.state.domain }
+    {
+        &self.domain
+    }
+
+    /// What the link has heard, in key order.
+    pub fn rows(&self) -> &Table<HeardRow>
+        ensures rows { result.now.rows ≡ self.now.state.rows }
+        ensures link { IsLink self.now.state }
+    {
+        &self.rows
+    }
+
+    /// Whether there is a row of a key.
+    pub fn has(&self, key: &Key) -> bool
+        ensures { result ≡ has_key key.now self.now.state.rows }
+    {
+        has(&self.rows, key)
+    }
+
+    /// The least moment at which a row ends; nothing where there is no row.
+    pub fn next_end(&self) -> Option<u64>
+        ensures { result ≡ next_end self.now.state.rows }
+    {
+        self.ends.next()
+    }
+
+    /// Makes room for so many further rows.
+    fn make_room(&mut self, rows: usize) -> Result<(), NoMemory>
+        ensures state { self.new.state ≡ self.old.state }
+        ensures room { OnOk result (rows ≤ self.new.spare) }
+        ensures kept { self.old.spare ≤ self.new.spare }
+    {
+        self.rows.reserve(rows)?;
+        self.ends.reserve(rows)
+    }
+
+    /// What a hearing will change. The rows stay, and room is made for the plan beside that of earlier ones.
+    pub fn hear(
+        &mut self,
+        alloc: Global,
+        now: u64,
+        hearing: &[HeardRr],
+    ) -> Result<HearPlan, NoMemory>
+        requires { now ≤ max_moment }
+        ensures plan { IfOk result (IsHeardPlan self.old.state.domain self.old.state.rows now hearing.now) }
+        ensures state { self.new.state ≡ self.old.state }
+        ensures room { IfOk result (λ plan. length plan.rows ≤ self.new.spare) }
+        ensures kept { self.old.spare ≤ self.new.spare }
+    {
+        let plan = heard_plan(alloc, &self.domain, &self.rows, now, hearing)?;
+        self.make_room(plan.len())?;
+        Ok(plan)
+    }
+
+    /// What a moment will change. The rows stay, and room is made for the plan beside that of earlier ones.
+    pub fn moment(&mut self, alloc: Global, now: u64) -> Result<HearPlan, NoMemory>
+        ensures plan { IfOk result (IsMomentPlan self.old.state.domain self.old.state.rows now) }
+        ensures state { self.new.state ≡ self.old.state }
+        ensures room { IfOk result (λ plan. length plan.rows ≤ self.new.spare) }
+        ensures kept { self.old.spare ≤ self.new.spare }
+    {
+        let plan = moment_plan(alloc, &self.domain, &self.rows, &self.ends, now)?;
+        self.make_room(plan.len())?;
+        Ok(plan)
+    }
+
+    /// What a reconfirmation of a key will change (RFC 6762, 10.4). The rows stay, and room is made for the plan beside
+    /// that of earlier ones.
+    pub fn reconfirm(&mut self, alloc: Global, key: &Key, now: u64) -> Result<HearPlan, NoMemory>
+        requires { now ≤ max_moment }
+        ensures plan { IfOk result (IsReconfirmPlan self.old.state.domain self.old.state.rows key.now now) }
+        ensures state { self.new.state ≡ self.old.state }
+        ensures room { IfOk result (λ plan. length plan.rows ≤ self.new.spare) }
+        ensures kept { self.old.spare ≤ self.new.spare }
+    {
+        let plan = reconfirm_plan(alloc, &self.domain, &self.rows, key, now)?;
+        self.make_room(plan.len())?;
+        Ok(plan)
+    }
+
+    /// Makes the changes of a plan that was made of these rows. It takes no memory.
+    pub fn apply(&mut self, plan: HearPlan)
+        requires planned { IsPlanOf self.old.state.domain self.old.state.rows plan }
+        requires room { length plan.rows ≤ self.old.spare }
+        ensures { self.new.state ≡ record self.old.state { rows = with_row_changes plan.rows self.old.state.rows } }
+    {
+        let HearPlan { rows, .. } = plan;
+        make_changes(&mut self.rows, &mut self.ends, rows);
+    }
+
+    /// The same link.
+    pub fn copy(&self, alloc: Global) -> Result<Cache, NoMemory>
+        ensures { IfOk result (λ cache. cache.state ≡ self.now.state) }
+    {
+        let ends = copied_ends(alloc, self.ends.entries())?;
+        Ok(Cache {
+            domain: self.domain.copy()?,
+            rows: self.rows.copy()?,
+            ends: Deadlines::from_entries(ends),
+        })
+    }
+}

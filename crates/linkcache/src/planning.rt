@@ -1,0 +1,101 @@
+//! What hearings, moments and reconfirmations will change.
+
+ghost use Rattle.std.specs.Prelude.{◌≡◌, ◌≤◌, ◌+◌, length, IfOk};
+ghost use Rattle.clockqueue.specs.Deadlines.{AreDeadlines, first_moment};
+ghost use Rattle.push_base.specs.Limits.{max_moment};
+ghost use Rattle.rrset.specs.Records.{key_cmp};
+ghost use Rattle.linkcache.specs.Ends.{AreEnds, has_come};
+ghost use Rattle.linkcache.specs.Links.{IsLink};
+ghost use Rattle.linkcache.specs.Plans.{IsHeardPlan, IsMomentPlan, IsReconfirmPlan};
+
+use crate::hearing::{end_row, has, heard, some_usable};
+use crate::moving::plan_between;
+use crate::plan::HearPlan;
+use crate::row::{HeardRow, RECONFIRMATION};
+use crate::touching::{copy_row, due_rows, touched};
+use clockqueue::Deadlines;
+use dnsname::Name;
+use rrset::{HeardRr, Key, NoMemory, Table};
+use std::alloc::Global;
+
+/// How many rows there are beside a part of them.
+fn rows_beside(part: &Table<HeardRow>, rows: &Table<HeardRow>) -> usize
+    requires { length part.now.rows ≤ length rows.now.rows }
+    ensures { result + length part.now.rows ≡ length rows.now.rows }
+{
+    rows.len() - part.len()
+}
+
+/// The plan of a hearing. It looks at the records heard and the rows of their owners.
+pub(crate) fn heard_plan(
+    alloc: Global,
+    domain: &Name,
+    rows: &Table<HeardRow>,
+    now: u64,
+    hearing: &[HeardRr],
+) -> Result<HearPlan, NoMemory>
+    requires moment { now ≤ max_moment }
+    requires link { IsLink (record { domain = domain.now; rows = rows.now.rows }) }
+    ensures { IfOk result (IsHeardPlan domain.now rows.now.rows now hearing.now) }
+{
+    if !some_usable(domain, hearing) {
+        return Ok(HearPlan::nothing(alloc));
+    }
+    let part = touched(alloc, domain, rows, hearing)?;
+    let others = rows_beside(&part, rows);
+    let work = heard(alloc, domain, now, others, &part, hearing)?;
+    plan_between(alloc, domain, true, &part, &work)
+}
+
+/// Whether the least moment has come.
+fn some_due(ends: &Deadlines<Key>, now: u64) -> bool
+    ensures due { result ≡ has_come now (first_moment ends.now.deadlines) }
+    ensures order { AreDeadlines key_cmp ends.now.deadlines }
+{
+    match ends.next() {
+        Some(least) => least <= now,
+        None => false,
+    }
+}
+
+/// The plan of a moment. It looks at the rows that have ended, and at none where the least end lies later.
+pub(crate) fn moment_plan(
+    alloc: Global,
+    domain: &Name,
+    rows: &Table<HeardRow>,
+    ends: &Deadlines<Key>,
+    now: u64,
+) -> Result<HearPlan, NoMemory>
+    requires link { IsLink (record { domain = domain.now; rows = rows.now.rows }) }
+    requires ends { AreEnds ends.now.deadlines rows.now.rows }
+    ensures { IfOk result (IsMomentPlan domain.now rows.now.rows now) }
+{
+    if !some_due(ends, now) {
+        return Ok(HearPlan::nothing(alloc));
+    }
+    let part = due_rows(alloc, rows, ends, now)?;
+    let work = Table::new(alloc);
+    plan_between(alloc, domain, false, &part, &work)
+}
+
+/// The plan of a reconfirmation. It looks at the row of the key.
+pub(crate) fn reconfirm_plan(
+    alloc: Global,
+    domain: &Name,
+    rows: &Table<HeardRow>,
+    key: &Key,
+    now: u64,
+) -> Result<HearPlan, NoMemory>
+    requires moment { now ≤ max_moment }
+    requires link { IsLink (record { domain = domain.now; rows = rows.now.rows }) }
+    ensures { IfOk result (IsReconfirmPlan domain.now rows.now.rows key.now now) }
+{
+    if !has(rows, key) {
+        return Ok(HearPlan::nothing(alloc));
+    }
+    let mut part = Table::new(alloc);
+    copy_row(&mut part, rows, key)?;
+    let mut work = part.copy()?;
+    end_row(&mut work, key, now + RECONFIRMATION)?;
+    plan_between(alloc, domain, false, &part, &work)
+}

@@ -1,0 +1,104 @@
+//! The part of a link's rows that a step looks at.
+
+ghost use Rattle.std.specs.Prelude.{◌≡◌, ◌≤◌, Bool, ◌||◌, List, [], fold, IfOk, OnOk, IsTrue};
+ghost use Rattle.dnsname.specs.Names.{same_name};
+ghost use Rattle.rrset.specs.KeyedRows.{is_rising, only_rows};
+ghost use Rattle.rrset.specs.Tables.{HaveLowerOwners};
+ghost use Rattle.rrset.specs.declared.record.HeardRr.{HeardRr};
+ghost use Rattle.rrset.specs.declared.record.Key.{Key};
+ghost use Rattle.clockqueue.specs.Deadlines.{due};
+ghost use Rattle.linkcache.specs.Parts.{copied, is_touched};
+ghost use Rattle.linkcache.specs.Rows.{usable_of};
+
+use crate::row::HeardRow;
+use clockqueue::Deadlines;
+use dnsname::Name;
+use linkmap::usable;
+use rrset::{Copied, HeardRr, Key, NoMemory, Table};
+use std::alloc::Global;
+
+/// Copies what rows have of a key, if anything, into a part of them.
+pub(crate) fn copy_row(
+    part: &mut Table<HeardRow>,
+    rows: &Table<HeardRow>,
+    key: &Key,
+) -> Result<(), NoMemory>
+    requires { HaveLowerOwners rows.now.rows }
+    ensures { OnOk result (part.new.rows ≡ copied rows.now.rows part.old.rows key.now) }
+{
+    match rows.get(key) {
+        Some(row) => {
+            part.put(key.copy()?, row.copied()?)?;
+            Ok(())
+        }
+        None => Ok(()),
+    }
+}
+
+/// Copies what rows have of the keys of some of them into a part of them.
+fn copy_all(
+    part: &mut Table<HeardRow>,
+    rows: &Table<HeardRow>,
+    entries: &[(Key, HeardRow)],
+) -> Result<(), NoMemory>
+    requires { HaveLowerOwners rows.now.rows }
+    ensures { OnOk result (part.new.rows ≡ fold (λ part e. copied rows.now.rows part e.0) part.old.rows entries.now) }
+{
+    'entries: for (key, _) in entries {
+        copy_row(part, rows, key)?;
+    }
+    Ok(())
+}
+
+/// Copies the rows of an owner into a part of the rows, where none of them is there yet.
+fn touch(part: &mut Table<HeardRow>, rows: &Table<HeardRow>, owner: &Name) -> Result<(), NoMemory>
+    requires order { IsTrue (is_rising rows.now.rows) }
+    requires lower { HaveLowerOwners rows.now.rows }
+    ensures { (usable : List HeardRr) → part.old.rows ≡ only_rows (is_touched usable) rows.now.rows → OnOk result (part.new.rows ≡ only_rows (λ key. same_name owner.now key.owner || is_touched usable key) rows.now.rows) }
+{
+    if !part.at(owner).is_empty() {
+        return Ok(());
+    }
+    copy_all(part, rows, rows.at(owner))?;
+    Ok(())
+}
+
+/// The rows of the owners of usable records.
+pub(crate) fn touched(
+    alloc: Global,
+    domain: &Name,
+    rows: &Table<HeardRow>,
+    hearing: &[HeardRr],
+) -> Result<Table<HeardRow>, NoMemory>
+    requires order { IsTrue (is_rising rows.now.rows) }
+    requires lower { HaveLowerOwners rows.now.rows }
+    ensures { IfOk result (λ part. part.rows ≡ only_rows (is_touched (usable_of domain.now hearing.now)) rows.now.rows) }
+{
+    let mut part = Table::new(alloc);
+    'hearing: for heard in hearing {
+        if usable(domain, &heard.rr) {
+            touch(&mut part, rows, &heard.rr.owner)?;
+        }
+    }
+    Ok(part)
+}
+
+/// The rows whose keys are due, in the order in which they are.
+pub(crate) fn due_rows(
+    alloc: Global,
+    rows: &Table<HeardRow>,
+    ends: &Deadlines<Key>,
+    now: u64,
+) -> Result<Table<HeardRow>, NoMemory>
+    requires { HaveLowerOwners rows.now.rows }
+    ensures { IfOk result (λ part. part.rows ≡ fold (λ part d. copied rows.now.rows part d.1) [] (due now ends.now.deadlines)) }
+{
+    let mut part = Table::new(alloc);
+    'ends: for (moment, key) in ends.entries() {
+        if *moment > now {
+            return Ok(part);
+        }
+        copy_row(&mut part, rows, key)?;
+    }
+    Ok(part)
+}

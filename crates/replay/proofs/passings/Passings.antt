@@ -1,0 +1,263 @@
+-- What the code does of a round is what the plain one does.
+--     say-passes, up-passes, emit-passes, down-passes      each passing
+--     round-turns      the four of a round, one behind another
+use Rattle.std.proofs.Common.{take-take, ◌≡◌, inl, ℕ, ◌+◌, ◌-◌, ◌≤◌, ◌<◌, ◌==◌, Bool, true, false, cond, not, ◌&&◌, ◌||◌, List, ◌++◌, length, take, drop, min, Option, Some, None, option_map, refl, sym, ◌∙◌, ap, subst, arith, length-append}
+use Rattle.std.specs.Prelude.{is_some, nat_lt}
+use Rattle.std.proofs.lemmas.List.{length-take}
+use Rattle.std.proofs.lemmas.Bool.Decides.{nat_tests}
+use Rattle.std.proofs.Math.Seq.{take-append_seam}
+use Rattle.push_base.specs.Limits.{max_number}
+use Rattle.dsosession.specs.declared.session.EndReason.{EndReason}
+use Rattle.pushsession.specs.Sessions.{room_of}
+use Rattle.pushserver.specs.PlainHubs.{Session, Hub}
+use Rattle.pushserver.specs.Hubs.{session_of, taken_by, take_octets}
+use Rattle.pushserver.specs.KeptHubs as hubs
+use Rattle.pushserver.specs.KeptHubs.{KeptHub}
+use Rattle.pushclient.specs.Clients.{Client, Connection, output_of, give_octets, is_connected}
+use Rattle.pushclient.specs.Rule.{KeptClient, StandsFor}
+use Rattle.replay.specs.World.{World, Seat}
+use Rattle.replay.specs.PassedOctets.{Passed, emitted, nothing_emitted, enough, max_wire, say, up, emit, to_client, down, and_then}
+use Rattle.replay.specs.declared.exchanging.Emission.{Emission}
+use Rattle.replay.specs.KeptExchanges.{Emits, IsEmitted}
+use Rattle.replay.specs.KeptSteps.{Delivers, IsDelivered}
+use Rattle.replay.specs.KeptWorlds.{KeptSeat, StandsForSeat}
+use Rattle.replay.specs.KeptPassings.{Passes, Turns}
+use Rattle.replay.proofs.exchanges.Taking.{take-front}
+use Rattle.replay.proofs.exchanges.Rounds.{Takes}
+use Rattle.replay.proofs.steps.StepsConnected.{delivered-connected}
+
+-- ---- from the client
+
+give-connected : (n : ℕ) (client : Client) → is_connected (give_octets n client) ≡ is_connected client
+give-connected n client = by client.connection
+  where
+    by : (o : Option Connection) → is_some (option_map (λ (c : Connection). record c { output = drop n c.output }) o) ≡ is_some o
+    by None = refl
+    by (Some c) = refl
+
+abbrev pub room_on : List ℕ → ℕ
+room_on wire = min max_wire (max_wire - length wire)
+
+pub say-passes : (hub : KeptHub) (k : KeptSeat) (client : KeptClient) (count : ℕ) (buffer after slice wire : List ℕ) → length buffer ≡ room_on k.up_wire
+    → ((plain : Client) → StandsFor k.client plain → count ≡ min (length buffer) (length (output_of plain)))
+    → ((plain : Client) → StandsFor k.client plain → after ≡ take (length buffer) (output_of plain) ++ drop (length (output_of plain)) buffer)
+    → ((plain : Client) → StandsFor k.client plain → StandsFor client (give_octets (min (length buffer) (length (output_of plain))) plain))
+    → slice ≡ take count after → wire ≡ k.up_wire ++ slice
+    → Passes (say max_wire) hub k count false None hub (record k { client = client; up_wire = wire })
+unfolding Passes
+say-passes hub k client count buffer after slice wire size counts octets gives slice_is wire_is = (
+  refl,
+  λ world seat stands s. record {
+    moved = moved seat s;
+    reacts = refl;
+    end_told = refl;
+    stands = stands;
+    seat = record {
+      word = s.word;
+      is_lone = s.is_lone;
+      is_open = s.is_open ∙ sym (give-connected (length (piece seat)) seat.client);
+      client = subst (λ (n : ℕ). StandsFor client (give_octets n seat.client)) (sym (size_of seat s)) (gives seat.client s.client);
+      session = s.session;
+      up_wire = wire_is ∙ (λ i. s.up_wire i ++ (slice_is ∙ said seat s) i);
+      down_wire = s.down_wire;
+      reached = s.reached;
+      few = s.few;
+      filled = s.filled;
+    };
+  },
+)
+  where
+    piece : Seat → List ℕ
+    piece seat = take (min max_wire (max_wire - length seat.up_wire)) (output_of seat.client)
+
+    room_is : (seat : Seat) → StandsForSeat k seat → length buffer ≡ min max_wire (max_wire - length seat.up_wire)
+    room_is seat s = size ∙ ap room_on s.up_wire
+
+    size_of : (seat : Seat) → StandsForSeat k seat → length (piece seat) ≡ min (length buffer) (length (output_of seat.client))
+    size_of seat s = length-take (min max_wire (max_wire - length seat.up_wire)) (output_of seat.client) ∙ ap (λ (n : ℕ). min n (length (output_of seat.client))) (sym (room_is seat s))
+
+    moved : (seat : Seat) → StandsForSeat k seat → count ≡ length (piece seat)
+    moved seat s = counts seat.client s.client ∙ sym (size_of seat s)
+
+    said : (seat : Seat) → StandsForSeat k seat → take count after ≡ piece seat
+    said seat s =
+        (λ i. take (moved seat s i) ((octets seat.client s.client ∙ ap (λ (n : ℕ). take n (output_of seat.client) ++ drop (length (output_of seat.client)) buffer) (room_is seat s)) i))
+        ∙ take-append_seam (piece seat) (drop (length (output_of seat.client)) buffer)
+
+-- ---- into the session
+
+taken_within : (hub : Hub) (number : ℕ) (piece : List ℕ) → taken_by hub number piece ≤ length piece
+taken_within hub number piece = by (session_of hub number)
+  where
+    least : (m n : ℕ) → min m n ≤ m
+    least m n = omega arith
+
+    by : (o : Option Session) → (elim o as (λ _. ℕ) [ None ↦ 0 | Some session ↦ min (length piece) (room_of session) ]) ≤ length piece
+    by None = omega arith
+    by (Some session) = least (length piece) (room_of session)
+
+take-both : (k n : ℕ) (xs : List ℕ) → k ≤ length (take n xs) → take k (take n xs) ≡ take k xs
+take-both k n xs h = take-take k n xs (small k n (length xs) (subst (λ (m : ℕ). k ≤ m) (length-take n xs) h))
+  where
+    small : (k n m : ℕ) → k ≤ min n m → k ≤ n
+    small k n m h = omega arith
+
+pub up-passes : (hub later : KeptHub) (number : ℕ) (k : KeptSeat) (count : ℕ) (slice wire : List ℕ) → slice ≡ take max_wire k.up_wire → Takes hub number slice count later → wire ≡ drop count k.up_wire
+    → Passes (up number max_wire) hub k count false None later (record k { up_wire = wire })
+unfolding Passes
+up-passes hub later number k count slice wire slice_is takes wire_is = (
+  refl,
+  λ world seat stands s.
+      let piece = take max_wire seat.up_wire in
+      let same : slice ≡ piece = slice_is ∙ ap (take max_wire) s.up_wire in
+      let moved : count ≡ taken_by world.hub number piece = (takes world.hub stands).0 ∙ ap (taken_by world.hub number) same in
+      let gone : take_octets world.hub number slice ≡ take_octets world.hub number (take (taken_by world.hub number piece) seat.up_wire) =
+      ap (take_octets world.hub number) same ∙ sym (take-front hub world.hub number piece stands)
+      ∙ ap (take_octets world.hub number) (take-both (taken_by world.hub number piece) max_wire seat.up_wire (taken_within world.hub number piece)) in
+      record {
+        moved = moved;
+        reacts = refl;
+        end_told = refl;
+        stands = subst (hubs.StandsFor later) gone (takes world.hub stands).1;
+        seat = record {
+          word = s.word;
+          is_lone = s.is_lone;
+          is_open = s.is_open;
+          client = s.client;
+          session = s.session;
+          up_wire = wire_is ∙ (λ i. drop (moved i) (s.up_wire i));
+          down_wire = s.down_wire;
+          reached = s.reached;
+          few = s.few;
+          filled = s.filled;
+        };
+      },
+)
+
+-- ---- from the session
+
+size_behind : (before octets given : List ℕ) → octets ≡ before ++ given → length octets - length before ≡ length given
+size_behind before octets given e = (let size : length octets ≡ length before + length given = ap length e ∙ length-append before given in omega (arith, size))
+
+pub emit-passes : (hub later : KeptHub) (number : ℕ) (k : KeptSeat) (count : ℕ) (wire : List ℕ) (told : List (ℕ × ℕ)) (emission : Emission) → Emits (room_on k.down_wire) hub number k.down_wire k.filled later wire told emission
+    → count ≡ length wire - length k.down_wire
+    → Passes (emit number max_wire) hub k count (emission.reacted || nat_lt 0 count) emission.over later (record k { down_wire = wire; filled = told })
+unfolding Passes Emits
+emit-passes hub later number k count wire told emission made count_is = (
+  refl,
+  λ world seat stands s.
+      let whole = emitted enough number (min max_wire (max_wire - length seat.down_wire)) (nothing_emitted world.hub seat.filled) in
+      let e : IsEmitted whole k.down_wire later wire told emission =
+      subst (λ (b : ℕ). IsEmitted (emitted enough number b (nothing_emitted world.hub seat.filled)) k.down_wire later wire told emission) (ap room_on s.down_wire)
+      (made (room_on k.down_wire) world.hub seat.filled (least (room_on k.down_wire), inl refl) stands s.filled) in
+      let moved : count ≡ length whole.octets = count_is ∙ size_behind k.down_wire wire whole.octets e.written in
+      record {
+        moved = moved;
+        reacts = λ i. e.reacts i || nat_lt 0 (moved i);
+        end_told = e.end_told;
+        stands = e.stands;
+        seat = record {
+          word = s.word;
+          is_lone = s.is_lone;
+          is_open = s.is_open;
+          client = s.client;
+          session = s.session;
+          up_wire = s.up_wire;
+          down_wire = e.written ∙ ap (λ (w : List ℕ). w ++ whole.octets) s.down_wire;
+          reached = s.reached;
+          few = s.few;
+          filled = e.ends;
+        };
+      },
+)
+  where
+    least : (n : ℕ) → n ≤ n
+    least n = omega arith
+
+-- ---- to the client
+
+pub down-passes : (hub : KeptHub) (k : KeptSeat) (client : KeptClient) (count reached : ℕ) (slice wire : List ℕ) → slice ≡ take max_wire k.down_wire → Delivers k.client slice client count → wire ≡ drop count k.down_wire
+    → reached ≡ k.reached + count → reached < max_number
+    → Passes (down max_wire) hub k count (nat_lt 0 count) None hub (record k { client = client; down_wire = wire; reached = reached })
+unfolding Passes Delivers
+down-passes hub k client count reached slice wire slice_is delivers wire_is reached_is few = (
+  refl,
+  λ world seat stands s.
+      let piece = take max_wire seat.down_wire in
+      let d : IsDelivered (to_client piece seat.client) client count = subst (λ (o : List ℕ). IsDelivered (to_client o seat.client) client count) (slice_is ∙ ap (take max_wire) s.down_wire) (delivers seat.client s.client) in
+      record {
+        moved = d.counts;
+        reacts = ap (nat_lt 0) d.counts;
+        end_told = refl;
+        stands = stands;
+        seat = record {
+          word = s.word;
+          is_lone = s.is_lone;
+          is_open = s.is_open ∙ sym (delivered-connected enough piece (record { client = seat.client; count = 0; left = piece }));
+          client = d.stands;
+          session = s.session;
+          up_wire = s.up_wire;
+          down_wire = wire_is ∙ (λ i. drop (d.counts i) (s.down_wire i));
+          reached = reached_is ∙ (λ i. s.reached i + d.counts i);
+          few = few;
+          filled = s.filled;
+        };
+      },
+)
+
+-- ---- a round
+
+abbrev Passing : Type 0
+Passing = World → Seat → Passed
+
+abbrev either_end : Option EndReason → Option EndReason → Option EndReason
+either_end first second = cond (is_some first) first second
+
+-- one passing behind another
+both-pass : (first second : Passing) (hub between later : KeptHub) (k k_between k_later : KeptSeat) (m n : ℕ) (a b : Bool) (over over_then : Option EndReason)
+    → Passes first hub k m a over between k_between → Passes second between k_between n b over_then later k_later
+    → Passes (λ world seat. and_then (first world seat) second) hub k (m + n) (a || b) (either_end over over_then) later k_later
+unfolding Passes
+both-pass first second hub between later k k_between k_later m n a b over over_then one two = (
+  two.0 ∙ one.0,
+  λ world seat stands s.
+      let p = one.1 world seat stands s in
+      let q = two.1 (first world seat).world (first world seat).seat p.stands p.seat in
+      record { moved = λ i. p.moved i + q.moved i; reacts = λ i. p.reacts i || q.reacts i; end_told = λ i. either_end (p.end_told i) (q.end_told i); stands = q.stands; seat = q.seat },
+)
+
+-- whether octets moved, or the session reacted
+abbrev moves_by : ℕ → ℕ → ℕ → ℕ → Bool → Bool
+moves_by said taken given came reacted = not (said + taken + given + came == 0 && not reacted)
+
+moves-so : (said taken given came : ℕ) (reacted : Bool)
+    → moves_by said taken given came reacted ≡ not (said + taken + given + came == 0 && not (((false || false) || (reacted || nat_lt 0 given)) || nat_lt 0 came))
+moves-so said taken given came true = by (said + taken + given + came == 0)
+  where
+    by : (z : Bool) → not (z && false) ≡ not (z && false)
+    by z = refl
+moves-so said taken given came false = grind (arith, nat_tests)
+
+end-so : (over : Option EndReason) → over ≡ either_end (either_end (either_end None None) over) None
+end-so None = refl
+end-so (Some reason) = refl
+
+pub round-turns : (hub risen later : KeptHub) (number : ℕ) (k k_said k_risen k_given k_later : KeptSeat) (said taken given came : ℕ) (emission : Emission) (moves : Bool)
+    → Passes (say max_wire) hub k said false None hub k_said → Passes (up number max_wire) hub k_said taken false None risen k_risen
+    → Passes (emit number max_wire) risen k_risen given (emission.reacted || nat_lt 0 given) emission.over later k_given → Passes (down max_wire) later k_given came (nat_lt 0 came) None later k_later
+    → moves ≡ moves_by said taken given came emission.reacted → Turns number hub k moves emission.over later k_later
+unfolding Passes Turns
+round-turns hub risen later number k k_said k_risen k_given k_later said taken given came emission moves says ups emits downs is =
+    let first = both-pass (say max_wire) (up number max_wire) hub hub risen k k_said k_risen said taken false false None None says ups in
+    let second = both-pass (λ world seat. and_then (say max_wire world seat) (up number max_wire)) (emit number max_wire) hub risen later k k_risen k_given (said + taken) given (false || false) (emission.reacted || nat_lt 0 given) (either_end None None) emission.over first emits in
+    let third = both-pass (λ world seat. and_then (and_then (say max_wire world seat) (up number max_wire)) (emit number max_wire)) (down max_wire) hub later later k k_given k_later (said + taken + given) came ((false || false) || (emission.reacted || nat_lt 0 given)) (nat_lt 0 came) (either_end (either_end None None) emission.over) None second downs in (
+      third.0,
+      λ world seat stands s.
+          let p = third.1 world seat stands s in
+          record {
+            moved = is ∙ moves-so said taken given came emission.reacted ∙ (λ i. not (p.moved i == 0 && not (p.reacts i)));
+            end_told = end-so emission.over ∙ p.end_told;
+            stands = p.stands;
+            seat = p.seat;
+          },
+    )

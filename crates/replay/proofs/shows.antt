@@ -1,0 +1,3 @@
+-- What is shown of a question, word by word.
+pub mod ShowTexts
+pub mod SeatShows

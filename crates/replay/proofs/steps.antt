@@ -1,0 +1,5 @@
+-- Octets into a client and out of it, call by call.
+pub mod StepTurns
+pub mod DeliveryTurns
+pub mod OutputTurns
+pub mod StepsConnected

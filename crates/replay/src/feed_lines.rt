@@ -1,0 +1,92 @@
+//! Octets to a client, and the lines that these print.
+
+ghost use Rattle.std.specs.Prelude.{◌≡◌, ◌<◌, length, IfOk, string_bytes};
+ghost use Rattle.replay.specs.Text.{feeds};
+ghost use Rattle.replay.specs.KeptWorlds.{Does, seat_kept, seated};
+ghost use Rattle.replay.specs.KeptSeats.{Calls, Makes};
+ghost use Rattle.replay.specs.KeptFeeds.{HasFed, fed_seat, fed_text};
+
+use crate::client_lines::closing_line;
+use crate::event_lines::bytes_line;
+use crate::seats::{Seat, cut_one, is_open_at, place_of};
+use crate::stepping::{deliver, hand_out};
+use crate::world::World;
+use dsosession::session::CloseReason;
+use push_base::NoMemory;
+use pushserver::Hub;
+use std::alloc::Global;
+
+// What a client had to send once octets had gone in, and why it closed, if it did.
+#[derive(Drop)]
+struct Fed {
+    octets: Vec<u8>,
+    closing: Option<CloseReason>,
+}
+
+/// Octets go to a client, and what it has to send is told; one that closes is told too, and its connection cut. Where it
+/// has none, nothing goes in.
+pub(crate) fn feed_lines(
+    alloc: Global,
+    world: &mut World,
+    word: &str,
+    octets: &[u8],
+) -> Result<String, NoMemory>
+    ensures { IfOk result (λ text. Does (feeds word.now octets.now) world.old (string_bytes text) world.new) }
+{
+    match place_of(&world.seats, word) {
+        None => Ok(String::new(alloc)),
+        Some(place) => {
+            if !is_open_at(&world.seats, place) {
+                return bytes_line(alloc, word, &[]);
+            }
+            let fed = feed_at(alloc, &mut world.hub, &mut world.seats, place, octets)?;
+            fed_lines(alloc, word, &fed)
+        }
+    }
+}
+
+// The lines of what a client had to send, and of why it closed, if it did.
+fn fed_lines(alloc: Global, word: &str, fed: &Fed) -> Result<String, NoMemory>
+    ensures { IfOk result (λ text. string_bytes text ≡ fed_text word.now fed.now.octets.items fed.now.closing) }
+{
+    let mut text = bytes_line(alloc, word, fed.octets.as_slice())?;
+    let closed = closing_line(alloc, word, fed.closing)?;
+    text.push_str(closed.as_str())?;
+    Ok(text)
+}
+
+// Octets go to the client at a place.
+fn feed_at(
+    alloc: Global,
+    hub: &mut Hub,
+    seats: &mut [Seat],
+    place: usize,
+    octets: &[u8],
+) -> Result<Fed, NoMemory>
+    requires { place < length seats.old }
+    ensures { IfOk result (λ fed. Calls (HasFed octets.now fed.octets.items fed.closing hub.old hub.new) (fed_seat octets.now fed.closing) (seated seats.old) place (seated seats.new)) }
+{
+    let fed = feed_one(alloc, hub, &mut seats[place], octets)?;
+    Ok(fed)
+}
+
+// Octets go to a client, which hands out what it has to send. Where it has closed its connection is cut.
+fn feed_one(alloc: Global, hub: &mut Hub, seat: &mut Seat, octets: &[u8]) -> Result<Fed, NoMemory>
+    ensures { IfOk result (λ fed. Makes (HasFed octets.now fed.octets.items fed.closing hub.old hub.new) (fed_seat octets.now fed.closing) (seat_kept seat.old) (seat_kept seat.new)) }
+{
+    deliver(&mut seat.client, octets)?;
+    let octets = hand_out(alloc, &mut seat.client)?;
+    match seat.client.closed() {
+        None => Ok(Fed {
+            octets,
+            closing: None,
+        }),
+        Some(reason) => {
+            cut_one(hub, seat);
+            Ok(Fed {
+                octets,
+                closing: Some(reason),
+            })
+        }
+    }
+}

@@ -1,0 +1,210 @@
+//! Octets between a client and its session in the hub, until nothing moves.
+
+ghost use Rattle.std.specs.Prelude.{◌≡◌, ◌-◌, ◌<◌, ◌≤◌, ◌++◌, ◌==◌, ◌&&◌, ◌||◌, ◌+◌, not, false, true, None, length, min, take, drop, nat_lt, is_some, if◌then◌else◌, IfOk, OnOk};
+ghost use Rattle.push_base.specs.Limits.{max_number};
+ghost use Rattle.coalesce.specs.Sides.{frame_octets};
+ghost use Rattle.pushserver.specs.KeptHubs.{KeptHub};
+ghost use Rattle.replay.specs.World.{World as Plain, Seat as PlainSeat};
+ghost use Rattle.replay.specs.PassedOctets as passing;
+ghost use Rattle.replay.specs.PassedOctets.{max_wire, settled, enough};
+ghost use Rattle.replay.specs.KeptWorlds.{seat_kept};
+ghost use Rattle.replay.specs.KeptSeats.{Makes};
+ghost use Rattle.replay.specs.KeptPassings.{HasFinished, Passes, Settles, Turns, finished_seat, is_told};
+
+use crate::exchanging::{Emission, emit};
+use crate::seats::{Seat, cut_one};
+use crate::stepping::deliver;
+use dsosession::session::{CloseReason, EndReason};
+use push_base::NoMemory;
+use pushclient::Client;
+use pushserver::Hub;
+
+/// A wire holds at most so many octets.
+pub(crate) const MAX_WIRE: usize = 1_048_576;
+
+// What one round did: whether it moved an octet or reacted to a message, and the end of the session, if it was told.
+#[derive(Clone, Copy)]
+struct RoundDone {
+    moves: bool,
+    over: Option<EndReason>,
+}
+
+/// Rounds, each from the client to its session and back, until one moves no octet and reacts to no message. Gives the end
+/// of the session, if it was told.
+pub(crate) fn settle(
+    hub: &mut Hub,
+    session: u64,
+    seat: &mut Seat,
+    buffer: &mut [u8],
+) -> Result<Option<EndReason>, NoMemory>
+    requires { length buffer.old ≡ max_wire }
+    ensures { IfOk result (λ over. Settles (λ world s. settled enough session world s None) hub.old (seat_kept seat.old) over hub.new (seat_kept seat.new)) }
+{
+    let mut over = None;
+    let mut left = u64::MAX;
+    'rounds: loop {
+        let turn = round(hub, session, seat, buffer)?;
+        over = first_end(over, turn.over);
+        if !turn.moves {
+            return Ok(over);
+        }
+        if left == 0 {
+            return Ok(over);
+        }
+        left -= 1;
+    }
+}
+
+// The first end that was told.
+fn first_end(first: Option<EndReason>, second: Option<EndReason>) -> Option<EndReason>
+    ensures { result ≡ (if is_some first then first else second) }
+{
+    match first {
+        Some(_) => first,
+        None => second,
+    }
+}
+
+// Octets from the client onto the wire, into the session, from it onto the other wire, and to the client.
+fn round(
+    hub: &mut Hub,
+    session: u64,
+    seat: &mut Seat,
+    buffer: &mut [u8],
+) -> Result<RoundDone, NoMemory>
+    requires { length buffer.old ≡ max_wire }
+    ensures { IfOk result (λ turn. Turns session hub.old (seat_kept seat.old) turn.moves turn.over hub.new (seat_kept seat.new)) }
+{
+    let said = say(seat, buffer)?;
+    let taken = up(hub, session, seat);
+    let (given, emission) = emit_down(hub, session, seat, buffer)?;
+    let came = down(seat)?;
+    Ok(RoundDone {
+        moves: has_moved(said, taken, given, emission.reacted, came),
+        over: emission.over,
+    })
+}
+
+// Whether octets went from the client, into the session, from it, or to the client, or the session reacted.
+fn has_moved(said: usize, taken: usize, given: usize, reacted: bool, came: usize) -> bool
+    ensures { result ≡ not (said + taken + given + came == 0 && not reacted) }
+{
+    said > 0 || taken > 0 || given > 0 || reacted || came > 0
+}
+
+// How many octets a wire still has room for.
+fn room_on(wire: usize) -> usize
+    ensures { result ≡ min max_wire (max_wire - wire) }
+{
+    MAX_WIRE.saturating_sub(wire)
+}
+
+// From the client onto the upward wire, as far as that has room.
+fn say(seat: &mut Seat, buffer: &mut [u8]) -> Result<usize, NoMemory>
+    requires { length buffer.old ≡ max_wire }
+    ensures { (hub : KeptHub) → IfOk result (λ count. Passes (passing.say max_wire) hub (seat_kept seat.old) count false None hub (seat_kept seat.new)) }
+{
+    let room = room_on(seat.up_wire.len());
+    say_into(seat, &mut buffer[..room])
+}
+
+// As many as there is room for.
+fn say_into(seat: &mut Seat, buffer: &mut [u8]) -> Result<usize, NoMemory>
+    requires { length buffer.old ≡ min max_wire (max_wire - length seat.old.up_wire.items) }
+    ensures { (hub : KeptHub) → IfOk result (λ count. Passes (passing.say max_wire) hub (seat_kept seat.old) count false None hub (seat_kept seat.new)) }
+{
+    let count = seat.client.give(buffer);
+    seat.up_wire.extend_from_slice(front_of(buffer, count))?;
+    Ok(count)
+}
+
+// The first so many octets, or all.
+fn front_of(octets: &[u8], count: usize) -> &[u8]
+    ensures { result.now ≡ take count octets.now }
+{
+    &octets[..count.min(octets.len())]
+}
+
+// The octets behind the first so many.
+fn drop_front(wire: &mut Vec<u8>, count: usize)
+    ensures { wire.new.items ≡ drop count wire.old.items }
+{
+    if count >= wire.len() {
+        wire.clear();
+        return;
+    }
+    let left = wire.len() - count;
+    wire.rotate_left(count);
+    wire.truncate(left);
+}
+
+// From the upward wire into the session, as far as that has room.
+fn up(hub: &mut Hub, session: u64, seat: &mut Seat) -> usize
+    ensures { Passes (passing.up session max_wire) hub.old (seat_kept seat.old) result false None hub.new (seat_kept seat.new) }
+{
+    let count = hub.take(session, front_of(&seat.up_wire, MAX_WIRE));
+    drop_front(&mut seat.up_wire, count);
+    count
+}
+
+// From the session onto the downward wire, as far as that has room: how many octets, and what else was done.
+fn emit_down(
+    hub: &mut Hub,
+    session: u64,
+    seat: &mut Seat,
+    buffer: &mut [u8],
+) -> Result<(usize, Emission), NoMemory>
+    requires { frame_octets ≤ length buffer.old }
+    ensures { IfOk result (λ r. Passes (passing.emit session max_wire) hub.old (seat_kept seat.old) r.0 (r.1.reacted || nat_lt 0 r.0) r.1.over hub.new (seat_kept seat.new)) }
+{
+    let before = seat.down_wire.len();
+    let most = room_on(before) as u64;
+    let emission = emit(
+        hub,
+        session,
+        most,
+        buffer,
+        &mut seat.down_wire,
+        &mut seat.filled,
+    )?;
+    Ok((seat.down_wire.len().saturating_sub(before), emission))
+}
+
+// From the downward wire to the client, as far as it has room, and reacts.
+fn down(seat: &mut Seat) -> Result<usize, NoMemory>
+    ensures { (hub : KeptHub) → IfOk result (λ count. Passes (passing.down max_wire) hub (seat_kept seat.old) count (nat_lt 0 count) None hub (seat_kept seat.new)) }
+{
+    let count = deliver(&mut seat.client, front_of(&seat.down_wire, MAX_WIRE))?;
+    drop_front(&mut seat.down_wire, count);
+    seat.reached = counted(seat.reached, count)?;
+    Ok(count)
+}
+
+// So many octets more have reached the client; no connection that there is memory for carries as many as are not counted.
+fn counted(reached: u64, count: usize) -> Result<u64, NoMemory>
+    ensures { IfOk result (λ sum. (sum ≡ reached + count) × (sum < max_number)) }
+{
+    match reached.checked_add(count as u64) {
+        Some(u64::MAX) | None => Err(NoMemory),
+        Some(sum) => Ok(sum),
+    }
+}
+
+/// Where an end or a close is told, the connection of a client is cut at both ends; and why the client has closed, if it
+/// has.
+pub(crate) fn finish(hub: &mut Hub, seat: &mut Seat, over: Option<EndReason>) -> Option<CloseReason>
+    ensures { Makes (HasFinished over result hub.old hub.new) (finished_seat (is_told over result)) (seat_kept seat.old) (seat_kept seat.new) }
+{
+    let closing = seat.client.closed();
+    if is_told(over, closing) {
+        cut_one(hub, seat);
+    }
+    closing
+}
+
+// Whether an end or a close is told.
+fn is_told(over: Option<EndReason>, closing: Option<CloseReason>) -> bool
+    ensures { result ≡ is_told over closing }
+{
+    over.is_some() || closing.is_some()
+}

@@ -1,0 +1,178 @@
+//! The lines that show what a client knows of a question.
+
+ghost use Rattle.std.specs.Prelude.{◌≡◌, ◌++◌, ◌∷◌, [], codes, decimal, IfOk, string_bytes};
+ghost use Rattle.inflight.specs.Ends.{told_end};
+ghost use Rattle.replay.specs.TextWords.{by_notices, spaced, with_records};
+ghost use Rattle.replay.specs.Text.{shows};
+ghost use Rattle.replay.specs.KeptWorlds.{Does, seat_kept};
+ghost use Rattle.replay.specs.KeptShows.{IsFilling, ShowsSeat, ShowsSet, record_lines, showing_text};
+
+use crate::event_lines::octets_text;
+use crate::line::Showing;
+use crate::seats::{Seat, place_of};
+use crate::world::World;
+use push_base::NoMemory;
+use pushclient::client::Held;
+use rrset::Table;
+use rrset::record::{Key, Question, Shown};
+use std::alloc::Global;
+
+/// What a client knows of a question, and where it holds a set its records, each in a line.
+pub(crate) fn show_lines(
+    alloc: Global,
+    world: &World,
+    showing: &Showing,
+) -> Result<String, NoMemory>
+    ensures { IfOk result (λ text. Does (shows by_notices (string_bytes showing.now.word) showing.now.question (string_bytes showing.now.written)) world.now (string_bytes text) world.now) }
+{
+    match place_of(&world.seats, showing.word.as_str()) {
+        None => Ok(String::new(alloc)),
+        Some(place) => seat_lines(alloc, &world.seats[place], showing),
+    }
+}
+
+// What a client knows of a question.
+fn seat_lines(alloc: Global, seat: &Seat, showing: &Showing) -> Result<String, NoMemory>
+    ensures { IfOk result (λ text. ShowsSeat (seat_kept seat.now) showing.now (string_bytes text)) }
+{
+    match seat.client.mirror(&showing.question) {
+        Held::Off => state_lines(alloc, showing, "off"),
+        Held::Asked => state_lines(alloc, showing, "asked"),
+        Held::Refused(rcode) => refused_lines(alloc, showing, rcode),
+        Held::Answered(set) => held_lines(alloc, seat, showing, set),
+    }
+}
+
+// What is told of a set: all of it by a lone client, and by one of the hub once the first answer has arrived whole.
+fn held_lines(
+    alloc: Global,
+    seat: &Seat,
+    showing: &Showing,
+    set: &Table,
+) -> Result<String, NoMemory>
+    ensures { IfOk result (λ text. ShowsSet (seat_kept seat.now) showing.now set.now.rows (string_bytes text)) }
+{
+    if seat.is_lone {
+        return set_lines(alloc, showing, "answered", set);
+    }
+    if is_filling(seat, &showing.question) {
+        return state_lines(alloc, showing, "filling");
+    }
+    set_lines(alloc, showing, "held", set)
+}
+
+// Whether the first answer to a question hasn't arrived whole.
+fn is_filling(seat: &Seat, question: &Question) -> bool
+    ensures { IsFilling (seat_kept seat.now) question.now result }
+{
+    match seat.client.id_of(question) {
+        None => true,
+        Some(id) => match told_end(&seat.filled, id) {
+            None => true,
+            Some(end) => seat.reached < end,
+        },
+    }
+}
+
+// Where the first answer with an ID was told to end.
+fn told_end(filled: &[(u16, u64)], id: u16) -> Option<u64>
+    ensures { result ≡ told_end filled.now id }
+{
+    'ends: for told in filled {
+        if told.0 == id {
+            return Some(told.1);
+        }
+    }
+    None
+}
+
+// The line of a question that was refused.
+fn refused_lines(alloc: Global, showing: &Showing, rcode: u8) -> Result<String, NoMemory>
+    ensures { IfOk result (λ text. string_bytes text ≡ showing_text showing.now (spaced (codes "refused" ∷ decimal rcode ∷ []), [])) }
+{
+    let words = refused_text(alloc, rcode)?;
+    state_lines(alloc, showing, words.as_str())
+}
+
+fn refused_text(alloc: Global, rcode: u8) -> Result<String, NoMemory>
+    ensures { IfOk result (λ text. string_bytes text ≡ codes "refused " ++ decimal rcode) }
+{
+    format!(in alloc; "refused {rcode}")
+}
+
+// The line of a state that has no records.
+fn state_lines(alloc: Global, showing: &Showing, state: &str) -> Result<String, NoMemory>
+    ensures { IfOk result (λ text. string_bytes text ≡ showing_text showing.now (state.now, [])) }
+{
+    let kind = showing.question.kind;
+    let class = showing.question.class;
+    let word = showing.word.as_str();
+    state_text(alloc, word, showing.written.as_str(), kind, class, state)
+}
+
+fn state_text(
+    alloc: Global,
+    word: &str,
+    written: &str,
+    kind: u16,
+    class: u16,
+    state: &str,
+) -> Result<String, NoMemory>
+    ensures { IfOk result (λ text. string_bytes text ≡ codes "show " ++ (word.now ++ 32 ∷ (written.now ++ 32 ∷ (decimal kind ++ 32 ∷ (decimal class ++ 32 ∷ (state.now ++ 10 ∷ [])))))) }
+{
+    format!(in alloc; "show {word} {written} {kind} {class} {state}\n")
+}
+
+// The line of a state with its records, and a line for each of them.
+fn set_lines(alloc: Global, showing: &Showing, state: &str, set: &Table) -> Result<String, NoMemory>
+    ensures { IfOk result (λ text. string_bytes text ≡ showing_text showing.now (with_records state.now set.now.rows)) }
+{
+    let counted = count_text(alloc, state, set.len())?;
+    let text = state_lines(alloc, showing, counted.as_str())?;
+    with_record_lines(alloc, text, set.entries())
+}
+
+fn count_text(alloc: Global, state: &str, count: usize) -> Result<String, NoMemory>
+    ensures { IfOk result (λ text. string_bytes text ≡ state.now ++ 32 ∷ decimal count) }
+{
+    format!(in alloc; "{state} {count}")
+}
+
+// A text, and a line for each record behind it.
+fn with_record_lines(
+    alloc: Global,
+    mut text: String,
+    records: &[(Key, Shown)],
+) -> Result<String, NoMemory>
+    ensures { IfOk result (λ told. string_bytes told ≡ string_bytes text ++ record_lines records.now) }
+{
+    'records: for entry in records {
+        let line = record_text(alloc, entry)?;
+        text.push_str(line.as_str())?;
+    }
+    Ok(text)
+}
+
+// The line of a record.
+fn record_text(alloc: Global, entry: &(Key, Shown)) -> Result<String, NoMemory>
+    ensures { IfOk result (λ text. string_bytes text ≡ record_lines (entry.now ∷ [])) }
+{
+    let (key, shown) = entry;
+    let owner = shown.owner.text()?;
+    let rdata = octets_text(alloc, shown.rdata.as_slice())?;
+    let owner = owner.as_str();
+    rr_text(alloc, owner, shown.ttl, key.class, key.kind, rdata.as_str())
+}
+
+fn rr_text(
+    alloc: Global,
+    owner: &str,
+    ttl: u32,
+    class: u16,
+    kind: u16,
+    rdata: &str,
+) -> Result<String, NoMemory>
+    ensures { IfOk result (λ text. string_bytes text ≡ codes "rr " ++ (owner.now ++ 32 ∷ (decimal ttl ++ 32 ∷ (decimal class ++ 32 ∷ (decimal kind ++ 32 ∷ (rdata.now ++ 10 ∷ [])))))) }
+{
+    format!(in alloc; "rr {owner} {ttl} {class} {kind} {rdata}\n")
+}

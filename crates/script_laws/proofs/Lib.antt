@@ -1,0 +1,11 @@
+pub mod hubs
+pub mod texts
+pub mod lines
+pub mod emits
+pub mod downs
+pub mod settles
+pub mod newest
+pub mod ends
+pub mod Scripts
+pub mod sizes
+pub mod turns

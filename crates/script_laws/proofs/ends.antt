@@ -1,0 +1,5 @@
+-- No message of a hub's client ends its session.
+pub mod Words
+pub mod Before
+pub mod Passing
+pub mod Telling

@@ -1,0 +1,43 @@
+-- What is so before each line of a script without links.
+--     stands-before      the world stands, what is known of it fits, and the line may stand where it stands
+use Rattle.std.proofs.Common.{◌≡◌, ℕ, List, [], ◌∷◌, ◌++◌, Ok, Some, refl, subst}
+use Rattle.std.specs.List.{AllByRecursion}
+use Rattle.replay.specs.Lines.{Word, ScriptLine}
+use Rattle.replay.specs.Scripts.{Known, nothing_known, client_words, lines_read, fits, script_of}
+use Rattle.replay.specs.World.{World, start_world}
+use Rattle.replay.specs.TextWords.{by_history}
+use Rattle.replay.specs.Text.{line_does, world_after}
+use Rattle.script_laws.specs.Joined.{ShownToEach}
+use Rattle.script_laws.specs.Whole.{HasNoLinks}
+use Rattle.script_laws.specs.Lines.{IsRead, Follow}
+use Rattle.script_laws.proofs.lines.Premises.{LineLaws}
+use Rattle.script_laws.proofs.lines.Following.{read-script}
+use Rattle.script_laws.proofs.lines.Starting.{start-stands, start-fits}
+use Rattle.script_laws.proofs.lines.Walking.{Walked, walked-line}
+
+-- whatever was shown
+abbrev pub nothing_shown : ShownToEach
+nothing_shown w question = []
+
+pub record StandsBefore (all : List Word) (line : ScriptLine) (world : World) : Type 0 where
+  pub known : Known
+  pub next : Known
+  pub walked : Walked all known nothing_shown world
+  pub is : IsRead all line
+  pub fits : fits all known line ≡ Some next
+
+module _ (laws : LineLaws) (all : List Word) where
+  before-line : (known : Known) (before : List ScriptLine) (line : ScriptLine) (after : List ScriptLine) (world : World) → Follow all known (before ++ line ∷ after) → AllByRecursion (IsRead all) (before ++ line ∷ after)
+      → Walked all known nothing_shown world → StandsBefore all line (world_after before world)
+  before-line known [] line after world f read h = record { known = known; next = f.0; walked = h; is = read.0; fits = f.1 }
+  before-line known (l ∷ before) line after world f read h =
+      let later : World = (line_does by_history l world).0 in
+      before-line f.0 before line after later f.2 read.1 (walked-line laws all known f.0 nothing_shown world h l read.0 f.1)
+
+pub stands-before : LineLaws → (text : List ℕ) (script before after : List ScriptLine) (line : ScriptLine) → script_of text ≡ Ok script → HasNoLinks script → script ≡ before ++ line ∷ after
+    → StandsBefore (client_words (lines_read text)) line (world_after before (start_world script))
+stands-before laws text script before after line read none split =
+    let all = client_words (lines_read text) in
+    let r = read-script text script read none in
+    before-line laws all nothing_known before line after (start_world script) (subst (Follow all nothing_known) split r.0) (subst (AllByRecursion (IsRead all)) split r.1)
+    (record { stands = start-stands all script r.0 r.1; fits = start-fits all script r.0 r.1; clients = λ w e question. refl })

@@ -1,0 +1,145 @@
+-- Octets pass between a client and its session, and an end or a close that is told cuts the connection.
+--     passes-stand, settles-stand      lines by which octets pass
+--     finished-alone      a client without a session that passes nothing
+use Rattle.std.proofs.Common.{◌≡◌, ℕ, List, [], ◌∷◌, ◌++◌, Option, Some, None, refl, sym, ◌∙◌, ap, subst}
+use Rattle.std.specs.Prelude.{codes, decimal}
+use Rattle.dsosession.specs.declared.session.EndReason.{EndReason}
+use Rattle.dsosession.specs.declared.session.CloseReason.{CloseReason}
+use Rattle.pushserver.specs.PlainHubs.{Hub}
+use Rattle.pushserver.specs.Calls.{after_calls}
+use Rattle.pushclient.specs.Clients.{Connection, closed_as}
+use Rattle.replay.specs.Lines.{Word}
+use Rattle.replay.specs.World.{World, Seat, seat_of, with_seat, cut_seat, cut_connection, hub_without}
+use Rattle.replay.specs.PassedOctets.{Passed, passed, enough, settled}
+use Rattle.replay.specs.Text.{Printed, quietly, end_lines, close_lines, cut_where, finished, passes, settles}
+use Rattle.replay.specs.Headline.{IsUnconnected}
+use Rattle.script_laws.specs.Reached.{IsReached}
+use Rattle.script_laws.specs.Numbers.{KeepNumbers, AreForNoOther}
+use Rattle.script_laws.specs.Joined.{IsJoined, SeatStands, StandsWith, ShownToEach, WorldStands, PassesSo}
+use Rattle.script_laws.specs.Walk.{Keeps}
+use Rattle.script_laws.proofs.texts.Along.{seat-stands}
+use Rattle.script_laws.proofs.lines.Premises.{LineLaws}
+use Rattle.script_laws.proofs.lines.Cutting.{stands-with, with-stands, stands-alone, alone-stands, cut-alone, joined-cut}
+use Rattle.script_laws.proofs.lines.Knowing.{put-found, same-put, AreSameClients, LeadsTo, leads-none}
+
+-- what ends or closes is cut
+pub cut-where-told : (P : World → Type 0) (v : Word) (over : Option EndReason) (closing : Option CloseReason) (seat : Seat) (world : World)
+    → (over ≡ None → closing ≡ None → P world) → P (cut_connection seat world) → P (cut_where (end_lines v over ++ close_lines v closing) seat world)
+cut-where-told P v None None seat world stays cuts = stays refl refl
+cut-where-told P v None (Some reason) seat world stays cuts = cuts
+cut-where-told P v (Some end) None seat world stays cuts = cuts
+cut-where-told P v (Some end) (Some reason) seat world stays cuts = cuts
+
+-- the clients are the same behind a passing, and behind a cut with it
+pub same-cut : (world : World) (hub : Hub) (w : Word) (seat x : Seat) → seat_of world w ≡ Some seat → x.word ≡ seat.word → x.is_lone ≡ seat.is_lone → AreSameClients world (cut_connection x (with_seat x (record world { hub = hub })))
+same-cut world hub w seat x found word lone v =
+    let middle : World = record world { hub = hub } in
+    same-put (with_seat x middle) w x (cut_seat x) (put-found middle w seat x found word) refl refl v ∙ same-put middle w seat x found word lone v
+
+module _ (laws : LineLaws) (all : List Word) (shown : ShownToEach) (world : World) (w : Word) (seat : Seat) (stands : WorldStands shown world) (found : seat_of world w ≡ Some seat) where
+  abbrev Leads : World → Type 0
+  Leads later = LeadsTo all shown world later
+
+  -- ---- without a session
+
+  -- it has another client, which has closed or not
+  pub finished-alone : (later : Seat) → seat.session ≡ None → later.word ≡ seat.word → later.is_lone ≡ seat.is_lone → later.session ≡ seat.session → IsUnconnected world.hub (shown seat.word) later
+      → Leads (cut_where (end_lines later.word None ++ close_lines later.word (closed_as later.client)) later (with_seat later world))
+  finished-alone later none word lone session alone =
+      cut-where-told Leads later.word None (closed_as later.client) later (with_seat later world)
+      (λ over closing. record {
+        stands = laws.seats_pass shown world w seat later [] stands found word session tt tt tt (alone-stands world.hub (shown seat.word) later (session ∙ none) alone);
+        clients = same-put world w seat later found word lone;
+        peers = λ h. h;
+      })
+      (record {
+        stands = laws.seats_pass_and_are_cut shown world w seat later [] stands found word session tt tt tt
+            (subst (λ (o : Option ℕ). SeatStands (hub_without o world.hub) (shown seat.word) (cut_seat later)) session (cut-alone world.hub (shown seat.word) later (session ∙ none) alone));
+        clients = same-cut world world.hub w seat later found word lone;
+        peers = λ h. h;
+      })
+
+  -- ---- with a session
+
+  module _ (number : ℕ) (has : seat.session ≡ Some number) where
+    here : StandsWith world.hub (shown seat.word) seat number
+    here = stands-with world.hub (shown seat.word) seat number has (seat-stands shown world w seat stands found)
+
+    finishes : (p : Passed) → PassesSo number world (shown seat.word) seat here.connection p
+        → Leads (cut_where (end_lines p.seat.word p.over ++ close_lines p.seat.word (closed_as p.seat.client)) p.seat (with_seat p.seat p.world))
+    finishes p so =
+        subst (λ (v : World). Leads (cut_where (end_lines x.word p.over ++ close_lines x.word (closed_as x.client)) x (with_seat x v))) (sym so.world_is)
+        (cut-where-told Leads x.word p.over (closed_as x.client) x (with_seat x middle)
+        (λ over closing. record {
+          stands = laws.seats_pass shown world w seat x so.calls stands found so.word so.session so.fit own.1 (subst (λ (o : Option ℕ). AreForNoOther o so.calls) (sym has) own.0) (goes_on closing);
+          clients = same-put middle w seat x found so.word so.lone;
+          peers = λ h. h;
+        })
+        (record {
+          stands = laws.seats_pass_and_are_cut shown world w seat x so.calls stands found so.word so.session so.fit own.1 (subst (λ (o : Option ℕ). AreForNoOther o so.calls) (sym has) own.0)
+              (joined-cut laws.cuts later_hub (shown seat.word) x number so.later so.connection seat.session reached joined);
+          clients = same-cut world later_hub w seat x found so.word so.lone;
+          peers = λ h. h;
+        }))
+      where
+        x : Seat
+        x = p.seat
+
+        later_hub : Hub
+        later_hub = after_calls so.calls world.hub
+
+        middle : World
+        middle = record world { hub = later_hub }
+
+        own : AreForNoOther (Some number) so.calls × KeepNumbers so.calls
+        own = laws.own number so.calls so.own
+
+        reached : IsReached later_hub
+        reached = laws.go_on world.hub so.calls stands.reached so.fit
+
+        joined : IsJoined later_hub (shown seat.word) x number so.later so.connection
+        joined = subst (λ (v : World). IsJoined v.hub (shown seat.word) x number so.later so.connection) so.world_is so.joined
+
+        goes_on : closed_as x.client ≡ None → SeatStands later_hub (shown seat.word) x
+        goes_on closing =
+            let unclosed : so.connection.closed ≡ None = sym (ap (λ (o : Option Connection). elim o as (λ _. Option CloseReason) [ None ↦ None | Some c ↦ c.closed ]) so.joined.connected) ∙ closing in
+            with-stands later_hub (shown seat.word) x number (so.session ∙ has) (record {
+              lone = so.lone ∙ here.lone;
+              session = so.later;
+              connection = so.connection;
+              joined = joined;
+              waits = so.waits (λ e. here.waits) unclosed;
+              unclosed = unclosed;
+            })
+
+    kept-finishes : (passing : World → Seat → Passed) → Keeps passing number
+        → Leads (cut_where (end_lines (passing world seat).seat.word (passing world seat).over ++ close_lines (passing world seat).seat.word (closed_as (passing world seat).seat.client)) (passing world seat).seat (with_seat (passing world seat).seat (passing world seat).world))
+    kept-finishes passing keeps = finishes (passing world seat) (keeps world (shown seat.word) seat here.session here.connection stands.reached here.joined)
+
+  -- ---- either
+
+  abbrev passed_by : (ℕ → World → Seat → Passed) → Option ℕ → Passed
+  passed_by passing o = elim o as (λ _. Passed) [ None ↦ passed world seat 0 | Some number ↦ passing number world seat ]
+
+  leads-finished : (words : Passed → List (List ℕ)) (passing : ℕ → World → Seat → Passed) → ((number : ℕ) → Keeps (passing number) number) → (o : Option ℕ) → seat.session ≡ o → Leads (finished (words (passed_by passing o)) (passed_by passing o)).0
+  leads-finished words passing keeps None none =
+      finished-alone seat none refl refl refl (stands-alone world.hub (shown seat.word) seat none (seat-stands shown world w seat stands found))
+  leads-finished words passing keeps (Some number) has = kept-finishes number has (passing number) (keeps number)
+
+module _ (laws : LineLaws) (all : List Word) (shown : ShownToEach) (world : World) (stands : WorldStands shown world) where
+  abbrev finished_by : Word → (Passed → List (List ℕ)) → (ℕ → World → Seat → Passed) → Option Seat → Printed
+  finished_by w words passing o = elim o as (λ _. Printed) [
+    | None ↦ quietly world
+    | Some seat ↦ (let p : Passed = elim seat.session as (λ _. Passed) [ None ↦ passed world seat 0 | Some number ↦ passing number world seat ] in finished (words p) p)
+  ]
+
+  leads-by : (w : Word) (words : Passed → List (List ℕ)) (passing : ℕ → World → Seat → Passed) → ((number : ℕ) → Keeps (passing number) number) → (o : Option Seat) → seat_of world w ≡ o → LeadsTo all shown world (finished_by w words passing o).0
+  leads-by w words passing keeps None none = leads-none all shown world stands
+  leads-by w words passing keeps (Some seat) found = leads-finished laws all shown world w seat stands found words passing keeps seat.session refl
+
+  pub passes-stand : (verb : List ℕ) (w : Word) (passing : ℕ → World → Seat → Passed) → ((number : ℕ) → Keeps (passing number) number) → LeadsTo all shown world (passes verb w passing world).0
+  passes-stand verb w passing keeps = leads-by w (λ p. verb ∷ w ∷ decimal p.count ∷ []) passing keeps (seat_of world w) refl
+
+  pub settles-stand : (w : Word) → LeadsTo all shown world (settles w world).0
+  settles-stand w =
+      leads-by w (λ p. codes "settle" ∷ w ∷ []) (λ number world seat. settled enough number world seat None) (λ number. laws.settles enough number None (λ reason e. absurd cc)) (seat_of world w) refl

@@ -1,0 +1,34 @@
+-- What the walk over lines stands on.
+use Rattle.script_laws.specs.Reached.{ReachedOnesGoOn, ReachedOnesAreSound, ReachedSessions, BegunOnesTellSince, PointsRise}
+use Rattle.script_laws.specs.Numbers.{OwnCallsAreForNoOther, SeatsComeFit}
+use Rattle.script_laws.specs.Worlds.{SeatsPass, HubsGoOn, SeatsOpen, PeersOpen, SeatsAreCut, SeatsPassAndAreCut, PeersAreCut}
+use Rattle.script_laws.specs.Walk.{SaysPass, UpsPass, EmitsPass, DownsPass, SettlesPass, ExchangesAreCalls, AsksStay, MomentsStay, WishesStaySound, NewOnesAreJoined, CutsStandAlone}
+
+pub record LineLaws : Type 0 where
+  pub go_on : ReachedOnesGoOn
+  pub sound : ReachedOnesAreSound
+  pub sessions : ReachedSessions
+  pub since : BegunOnesTellSince
+  pub rise : PointsRise
+  pub own : OwnCallsAreForNoOther
+  -- the world behind a change
+  pub seats_pass : SeatsPass
+  pub hubs_go_on : HubsGoOn
+  pub seats_open : SeatsOpen
+  pub peers_open : PeersOpen
+  pub seats_are_cut : SeatsAreCut
+  pub seats_pass_and_are_cut : SeatsPassAndAreCut
+  pub seats_come : SeatsComeFit
+  pub peers_are_cut : PeersAreCut
+  -- a seat behind a change
+  pub says : SaysPass
+  pub ups : UpsPass
+  pub emits : EmitsPass
+  pub downs : DownsPass
+  pub settles : SettlesPass
+  pub exchanges : ExchangesAreCalls
+  pub asks : AsksStay
+  pub moments : MomentsStay
+  pub wishes : WishesStaySound
+  pub new_ones : NewOnesAreJoined
+  pub cuts : CutsStandAlone

@@ -1,0 +1,5 @@
+pub mod Silence
+pub mod Fronts
+pub mod StillRounds
+pub mod Stops
+pub mod Settling

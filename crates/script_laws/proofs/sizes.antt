@@ -1,0 +1,7 @@
+pub mod Asking
+pub mod Scripts
+pub mod Passing
+pub mod Lines
+pub mod EachLine
+pub mod Histories
+pub mod Queues

@@ -1,0 +1,7 @@
+pub mod Arrived
+pub mod HeldSets
+pub mod Shows
+pub mod Along
+pub mod NeverBack
+pub mod WhatIsHeld
+pub mod Replies

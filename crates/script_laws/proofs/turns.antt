@@ -1,0 +1,6 @@
+pub mod Shorter
+pub mod Owing
+pub mod Packing
+pub mod Reacting
+pub mod Giving
+pub mod Rounds

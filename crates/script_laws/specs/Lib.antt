@@ -1,0 +1,11 @@
+pub mod Reached
+pub mod Numbers
+pub mod Joined
+pub mod Worlds
+pub mod Walk
+pub mod Texts
+pub mod Whole
+pub mod Lines
+pub mod Settling
+pub mod Turns
+pub mod Replies

@@ -1,0 +1,98 @@
+-- A number that falls in each round of a settle, and how large it is behind the lines of a script.
+--     work_left number world seat      what is still to be done between a client and its session
+--     Lowers number world seat p      a passing leaves less by the octets that it moved, and less where a message was reacted to
+--     SaysLower, UpsLower, EmitsLower, DownsLower      each passing does
+--     QueuesAreShort, HistoriesAreShort, ScriptsAreShort      bounds of what a hub keeps, and of a script
+--     IsSized n seat, SizedAfterLines      what a client owes behind so many lines
+use Rattle.std.specs.Prelude.{◌≡◌, ℕ, ◌+◌, ◌*◌, ◌<◌, ◌≤◌, ◌^◌, true, false, List, ◌++◌, length, Option, Some, None, Ok}
+use Rattle.std.specs.List.{AllByRecursion}
+use Rattle.push_base.specs.Limits.{max_questions}
+use Rattle.history.specs.States.{max_journal_entries}
+use Rattle.pushsession.specs.declared.standing.Standing.{Standing}
+use Rattle.pushsession.specs.declared.standing.Standing.TheVariants.{AskedToStop}
+use Rattle.pushserver.specs.PlainHubs.{Hub, Session}
+use Rattle.pushserver.specs.Hubs.{newest, session_of}
+use Rattle.pushclient.specs.Clients.{Client, Connection, output_of}
+use Rattle.replay.specs.Lines.{ScriptLine}
+use Rattle.replay.specs.Scripts.{max_script, script_of}
+use Rattle.replay.specs.World.{World, Seat, start_world}
+use Rattle.replay.specs.PassedOctets.{Passed, say, up, emit, down}
+use Rattle.replay.specs.Text.{world_after}
+use Rattle.replay.specs.Headline.{ShownPoints}
+use Rattle.script_laws.specs.Reached.{IsReached}
+use Rattle.script_laws.specs.Joined.{IsJoined}
+use Rattle.script_laws.specs.Whole.{HasNoLinks}
+
+-- ---- what is to be done
+
+-- more than the octets of two of the longest frames (RFC 7766, 8): each octet of a session's output moves twice
+abbrev pub reaction_cost : ℕ
+reaction_cost = 131075
+
+-- a stop that was asked for and isn't said yet
+abbrev pub asked_stops : Standing → ℕ
+asked_stops (AskedToStop rcode delay) = 1
+asked_stops _ = 0
+
+-- octets to hand out; and an octet that came, a name that waits and a stop may each have a frame written
+abbrev pub work_of : Session → ℕ
+work_of session = 2 * length session.output + reaction_cost * (length session.input + length session.queue + asked_stops session.standing)
+
+abbrev pub work_in : Option Session → ℕ
+work_in None = 0
+work_in (Some session) = work_of session
+
+-- a client's octets to send, and an UNSUBSCRIBE of 20 octets for each question, which the answer may call for (RFC 8765, 6.4)
+abbrev pub owes : Client → ℕ
+owes client = length (output_of client) + 20 * length client.wishes
+
+-- one step more for each octet that is further from its end
+abbrev pub work_left : ℕ → World → Seat → ℕ
+work_left number world seat = work_in (session_of world.hub number) + length seat.down_wire + (reaction_cost + 1) * length seat.up_wire + (reaction_cost + 2) * owes seat.client
+
+-- ---- a passing
+
+pub record Lowers (number : ℕ) (world : World) (seat : Seat) (p : Passed) : Type 0 where
+  pub moved : work_left number p.world p.seat + p.count ≤ work_left number world seat
+  pub reacted : p.reacted ≡ true → work_left number p.world p.seat < work_left number world seat
+  pub owed : owes p.seat.client ≤ owes seat.client
+
+abbrev pub LowersAlways : (World → Seat → Passed) → ℕ → Type 0
+LowersAlways passing number = (world : World) (shown : ShownPoints) (seat : Seat) (session : Session) (c : Connection)
+    → IsReached world.hub → IsJoined world.hub shown seat number session c → Lowers number world seat (passing world seat)
+
+abbrev pub SaysLower : Type 0
+SaysLower = (n number : ℕ) → LowersAlways (say n) number
+
+abbrev pub UpsLower : Type 0
+UpsLower = (n number : ℕ) → LowersAlways (up number n) number
+
+abbrev pub EmitsLower : Type 0
+EmitsLower = (n number : ℕ) → LowersAlways (emit number n) number
+
+abbrev pub DownsLower : Type 0
+DownsLower = (n number : ℕ) → LowersAlways (down n) number
+
+-- ---- bounds
+
+-- an entry makes the names of at most 1,024 questions wait, and each waits once
+abbrev pub QueuesAreShort : Type 0
+QueuesAreShort = (hub : Hub) (number : ℕ) (session : Session) → IsReached hub → session_of hub number ≡ Some session → length session.queue ≤ max_questions * newest hub
+
+abbrev pub HistoriesAreShort : Type 0
+HistoriesAreShort = (hub : Hub) → IsReached hub → newest hub ≤ max_journal_entries
+
+-- a line has an octet at least
+abbrev pub ScriptsAreShort : Type 0
+ScriptsAreShort = (text : List ℕ) (script : List ScriptLine) → script_of text ≡ Ok script → length script ≤ max_script
+
+-- what a client of the hub may owe behind so many lines: all its questions are asked anew where its connection opens, and each other line adds one frame
+abbrev pub most_owed : ℕ → ℕ
+most_owed lines = 2 ^ 27 + 2 ^ 17 * lines
+
+abbrev pub IsSized : ℕ → Seat → Type 0
+IsSized lines seat = seat.is_lone ≡ false → owes seat.client ≤ most_owed lines
+
+abbrev pub SizedAfterLines : Type 0
+SizedAfterLines = (text : List ℕ) (script before after : List ScriptLine) → script_of text ≡ Ok script → HasNoLinks script → script ≡ before ++ after
+    → AllByRecursion (IsSized (length before)) (world_after before (start_world script)).seats
