@@ -9,6 +9,8 @@ use Rattle.replay.specs.Lines.{Word, ScriptLine, silent, timers, zone, lone, at_
 use Rattle.replay.specs.Scripts.{Known, nothing_known, fits, client_words, lines_read, max_script}
 use Rattle.replay.specs.TextWords.{HeldRecords}
 use Rattle.replay.specs.Text.{text_with}
+use Rattle.replay.specs.declared.outcome.Outcome.TheVariants as outcomes
+use Rattle.replay.specs.Outcomes.{status_of}
 use Rattle.replay.specs.Reply.{Reply, line}
 
 -- of the octets of a source, those that are read: all, or one more than a script may have
@@ -57,7 +59,7 @@ later number = line (codes "later " ++ decimal number)
 
 abbrev pub reply_at : HeldRecords → Option ℕ → List ℕ → Reply
 reply_at records None octets = record { status = (text_with records octets).0; text = (text_with records octets).1 }
-reply_at records (Some number) octets = record { status = 8; text = later number }
+reply_at records (Some number) octets = record { status = status_of outcomes.Later; text = later number }
 
 -- the text of the script, or the first line that isn't built
 unfoldable pub reply_to_script : HeldRecords → List ℕ → Reply

@@ -5,9 +5,9 @@
 use Rattle.std.specs.Prelude.{◌≡◌, ◌<◌, ℕ, List, [], ◌∷◌, ◌++◌, length}
 use Rattle.std.specs.List.{concat}
 use Rattle.dsotlv.specs.Laws.{AreOctets}
-use Rattle.pushclient.specs.Clients.{Client, Connection, output_of, give_octets}
+use Rattle.pushclient.specs.Clients.{Client, Connection, output_of}
 use Rattle.pushclient.specs.Pieces.{on_pieces, says_to, WaitsForOctets}
-use Rattle.replay.specs.PassedOctets.{to_client, enough}
+use Rattle.replay.specs.PassedOctets.{to_client, without_output, enough}
 
 abbrev pub delivered_all : List (List ℕ) → Client → Client × List ℕ
 delivered_all [] client = (client, [])
@@ -25,7 +25,7 @@ fed_all [] client = ([], client, [])
 fed_all (piece ∷ pieces) client = (
     let d = to_client piece client in
     let said = output_of d.client in
-    let later = fed_all pieces (give_octets (length said) d.client) in
+    let later = fed_all pieces (without_output d.client) in
     (said ++ later.0, later.1, d.left ++ later.2))
 
 abbrev pub FeedsPieces : Type 0

@@ -1,16 +1,15 @@
 -- A further line behind those of a script, and the lines that are left.
 --     Taken, taken_of draft      the head, the events and the clients so far
 --     known_clients clients      their words, and whether each is a lone one
---     lone_in clients w, is_hub_client_in clients w, is_lone_client_in clients w      whether the client of a word is a lone one; whether there is one of the hub, and a lone one
+--     known_by clients      what lines that made these alone have made
 --     client_added line      the client that a line adds
 --     known_of taken      what the lines so far have made
 --     may_stand all known line      whether a line is built and may stand there
---     may_happen all clients event      whether the word of an event may stand there: that of a peer, of a client that there is, or of one more
 --     GrowsBy taken line later      the head and the events with a further line
 --     TakesLine all draft line later taken      the line is taken where it may stand there
 --     lines_left too_long text      the lines of what is left of a script
 --     client_in line, has_client w clients      the client that a line names, and whether one of the clients has a word
-use Rattle.std.specs.Prelude.{◌≡◌, ℕ, Bool, true, false, not, ◌&&◌, ◌||◌, ◌==◌, List, [], ◌∷◌, ◌++◌, map, find, length, Option, Some, None, is_some, option_map, string_bytes, if◌then◌else◌}
+use Rattle.std.specs.Prelude.{◌≡◌, ℕ, Bool, true, false, ◌&&◌, ◌==◌, List, [], ◌∷◌, ◌++◌, map, length, Option, Some, is_some, string_bytes, if◌then◌else◌}
 use Rattle.std.specs.List.{list_any}
 use Rattle.std.specs.Str.{bytes_eq}
 use Rattle.std.specs.declared.alloc.Global.{Global}
@@ -21,10 +20,9 @@ use Rattle.zoneupdate.specs.Zones.{ZoneState, new_zone}
 use Rattle.history.specs.States.{State}
 use Rattle.history.specs.Keeping.{HomesKept, state_of, named_homes}
 use Rattle.replay.specs.Lines.{Word, ScriptLine, client, lone, line_of}
-use Rattle.replay.specs.Scripts.{Known, fits, is_peer, client_word, lines_in, last_is_outside}
+use Rattle.replay.specs.Scripts.{Known, nothing_known, fits, client_word, lines_in, last_is_outside}
 use Rattle.replay.specs.declared.line.ZoneLine.{ZoneLine}
 use Rattle.replay.specs.declared.line.Event.{Event}
-use Rattle.replay.specs.declared.line.Event.TheVariants as events
 use Rattle.replay.specs.declared.line.Line.{Line}
 use Rattle.replay.specs.declared.line.Line.TheVariants as lines
 use Rattle.replay.specs.declared.script.Draft.{Draft}
@@ -32,28 +30,15 @@ use Rattle.replay.specs.declared.clients.KnownClient.{KnownClient}
 use Rattle.replay.specs.KeptLines.{event_said, said}
 use Rattle.replay.specs.BuiltScripts.{is_built}
 
--- a word, if there is one
-abbrev pub in_list : Option Word → List Word
-in_list None = []
-in_list (Some w) = w ∷ []
-
 -- ---- clients
 
 -- their words, and whether each is a lone one
 abbrev pub known_clients : List KnownClient → List (Word × Bool)
 known_clients clients = map (λ (c : KnownClient). (string_bytes c.word, c.is_lone)) clients
 
--- whether the client of a word is a lone one
-abbrev pub lone_in : List (Word × Bool) → Word → Option Bool
-lone_in clients w = option_map (λ e. e.1) (find (λ e. bytes_eq w e.0) clients)
-
--- whether it is one of the hub
-abbrev pub is_hub_client_in : List (Word × Bool) → Word → Bool
-is_hub_client_in clients w = elim (lone_in clients w) [ None ↦ false | Some is_lone ↦ not is_lone ]
-
--- whether it is a lone one
-abbrev pub is_lone_client_in : List (Word × Bool) → Word → Bool
-is_lone_client_in clients w = elim (lone_in clients w) [ None ↦ false | Some is_lone ↦ is_lone ]
+-- what lines that made these clients alone have made
+abbrev pub known_by : List (Word × Bool) → Known
+known_by clients = record nothing_known { clients = clients }
 
 -- the client that a line adds
 abbrev pub client_added : ScriptLine → List (Word × Bool)
@@ -80,21 +65,6 @@ known_of taken = record { in_head = length taken.events == 0; has_timers = is_so
 -- the line is built, and may stand there
 abbrev pub may_stand : List Word → Known → ScriptLine → Bool
 may_stand all known line = is_built line && is_some (fits all known line)
-
--- the word of an event may stand there, where these are the words of all clients of the script, and the clients so far
-abbrev pub may_happen : List Word → List (Word × Bool) → Event → Bool
-may_happen all clients (events.Send s) = is_peer all (string_bytes s.word)
-may_happen all clients (events.Stop s) = is_hub_client_in clients (string_bytes s.word) || is_peer all (string_bytes s.word)
-may_happen all clients (events.Cut c) = is_some (lone_in clients (string_bytes c.word)) || is_peer all (string_bytes c.word)
-may_happen all clients (events.Client j) = not (is_some (lone_in clients (string_bytes j.word)))
-may_happen all clients (events.Lone l) = not (is_some (lone_in clients (string_bytes l.word)))
-may_happen all clients (events.Ask a) = is_some (lone_in clients (string_bytes a.word))
-may_happen all clients (events.Drop a) = is_some (lone_in clients (string_bytes a.word))
-may_happen all clients (events.Open o) = is_some (lone_in clients (string_bytes o.word))
-may_happen all clients (events.Settle s) = is_some (lone_in clients (string_bytes s.word))
-may_happen all clients (events.Feed s) = is_lone_client_in clients (string_bytes s.word)
-may_happen all clients (events.Show s) = is_some (lone_in clients (string_bytes s.word))
-may_happen all clients _ = true
 
 -- ---- the draft behind it
 

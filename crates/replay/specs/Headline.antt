@@ -7,7 +7,7 @@
 --     NoMessageEnds      what is printed of a hub's client tells no end and no close that a message makes, but Retry Delay
 --     EveryCutGivesOneOutput      a peer is sent the same, however its octets are cut
 --     EndsStandFor records kept clients world      the hub and the clients that ran a script
-use Rattle.std.specs.Prelude.{◌≡◌, ℕ, ◌+◌, ◌≤◌, ◌<◌, Bool, true, false, not, ◌||◌, List, [], ◌∷◌, ◌++◌, map, length, filter_map, Some, None, is_none, option_map, Ok, IsTrue, codes, decimal, if◌then◌else◌}
+use Rattle.std.specs.Prelude.{◌≡◌, ℕ, ◌+◌, ◌≤◌, ◌<◌, Bool, true, false, not, ◌||◌, List, [], ◌∷◌, ◌++◌, map, length, filter_map, Some, None, is_none, option_map, Ok, IsTrue, codes, if◌then◌else◌}
 use Rattle.std.specs.List.{list_any, AllByRecursion, AllZip, IsDistinct}
 use Rattle.std.specs.Str.{bytes_eq}
 use Rattle.push_base.specs.Limits.{max_input}
@@ -39,7 +39,7 @@ use Rattle.inflight.specs.Holding.{will_hold, HoldsThen}
 use Rattle.replay.specs.Lines.{Word, ScriptLine, show, settle}
 use Rattle.replay.specs.Scripts.{script_of}
 use Rattle.replay.specs.World.{World, Seat, seat_of, start_world, last_of}
-use Rattle.replay.specs.TextWords.{HeldRecords, by_history, show_at, with_records, is_filling, records_told, record_line, spaced, end_words, close_words}
+use Rattle.replay.specs.TextWords.{HeldRecords, by_history, show_at, with_records, is_filling, records_told, shown_lines, end_line, closed_line}
 use Rattle.replay.specs.Text.{line_does, world_after, text_of_script, text_by_notices}
 use Rattle.replay.specs.Cuts.{AnswersEveryCutNow}
 use Rattle.replay.specs.PassedOctets.{max_wire}
@@ -51,8 +51,7 @@ is_wanted client question = elim (wish_for client question) [ None ↦ false | S
 
 -- the lines of a `show` that tells records
 abbrev pub held_lines : Word → Question → List ℕ → RecordSet → List (List ℕ)
-held_lines w question written set =
-    spaced (codes "show" ∷ w ∷ written ∷ decimal question.kind ∷ decimal question.class ∷ (with_records (codes "held") set).0 ∷ []) ∷ map record_line set
+held_lines w question written set = shown_lines w question written (with_records (codes "held") set)
 
 -- a `show` of a question that the client wants, and that is served, prints the records of the newest point
 abbrev pub ShowsNewest : World → Word → Type 0
@@ -215,8 +214,8 @@ tells_line lines l = list_any (bytes_eq l) lines
 
 -- what a line prints of a hub's client tells no end but of such a reason, and no close but of such a one
 pub record EndsByItself (world : World) (line : ScriptLine) (seat : Seat) : Type 0 where
-  pub end : (reason : EndReason) → IsTrue (tells_line (line_does by_history line world).1 (spaced (codes "end" ∷ seat.word ∷ end_words reason ∷ []))) → IsTrue (is_end_by_itself reason)
-  pub close : (reason : CloseReason) → IsTrue (tells_line (line_does by_history line world).1 (spaced (codes "closed" ∷ seat.word ∷ close_words reason ∷ []))) → IsTrue (is_close_by_itself reason)
+  pub end : (reason : EndReason) → IsTrue (tells_line (line_does by_history line world).1 (end_line seat.word reason)) → IsTrue (is_end_by_itself reason)
+  pub close : (reason : CloseReason) → IsTrue (tells_line (line_does by_history line world).1 (closed_line seat.word reason)) → IsTrue (is_close_by_itself reason)
 
 abbrev pub NoMessageEnds : Type 0
 NoMessageEnds = (text : List ℕ) (script before after : List ScriptLine) (line : ScriptLine) (w : Word) (seat : Seat) → script_of text ≡ Ok script → script ≡ before ++ line ∷ after

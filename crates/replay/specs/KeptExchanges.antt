@@ -43,10 +43,11 @@ has_worked _ = false
 abbrev pub Remembers : Hub → ℕ → List (ℕ × ℕ) → List (ℕ × ℕ) → Type 0
 Remembers hub number before later = (plain : List (ℕ × ℕ)) → TellsEnds before plain → TellsEnds later (remembers (subscriptions_in hub number) plain)
 
--- whether the end of an ID is told; a pair whose ID's isn't
+-- whether the end of an ID is told
 abbrev pub has_end : List (ℕ × ℕ) → ℕ → Bool
 has_end told id = list_any (λ e. e.0 == id) told
 
+-- an end of another ID
 abbrev pub not_told : List (ℕ × ℕ) → ℕ × ℕ → Bool
 not_told told entry = not (has_end told entry.0)
 
@@ -57,6 +58,7 @@ pub record IsGiven (g : Giving) (number : ℕ) (before : List ℕ) (told : List 
   pub ends : Remembers g.hub number told told_later
   pub stands : StandsFor later g.hub
 
+-- in every hub that is stood for
 unfoldable pub Gives : ℕ → KeptHub → ℕ → List ℕ → List (ℕ × ℕ) → KeptHub → List ℕ → List (ℕ × ℕ) → Given → Type 0
 Gives room kept number before told later octets told_later given = (hub : Hub) → StandsFor kept hub → IsGiven (give hub number room) number before told later octets told_later given
 
@@ -72,6 +74,7 @@ pub record IsEmitted (e : Emitted) (before : List ℕ) (later : KeptHub) (octets
 abbrev pub Allows : ℕ → ℕ → Type 0
 Allows count budget = (count ≤ budget) × ((count ≡ budget) ⊎ (count ≡ max_number))
 
+-- in every hub that is stood for, whatever was told of first answers, where so many octets may come
 unfoldable pub Emits : ℕ → KeptHub → ℕ → List ℕ → List (ℕ × ℕ) → KeptHub → List ℕ → List (ℕ × ℕ) → Emission → Type 0
 Emits count kept number before told later octets told_later emission = (budget : ℕ) (hub : Hub) (plain : List (ℕ × ℕ)) → Allows count budget → StandsFor kept hub → TellsEnds told plain
     → IsEmitted (emitted enough number budget (nothing_emitted hub plain)) before later octets told_later emission
@@ -82,5 +85,6 @@ pub record IsExchanged (x : Exchanged) (later : KeptHub) (octets : List ℕ) (ov
   pub written : octets ≡ x.octets
   pub stands : StandsFor later x.hub
 
+-- in every hub that is stood for
 unfoldable pub Exchanges : KeptHub → ℕ → List ℕ → KeptHub → List ℕ → Option EndReason → Type 0
 Exchanges kept number sent later octets over = (hub : Hub) → StandsFor kept hub → IsExchanged (exchanged enough number sent hub []) later octets over

@@ -1,13 +1,12 @@
 -- Scripts whose lines are built, as the program holds them.
 --     events_said events      what the event lines say
---     seats_named lines      the words of the clients that lines name
 --     IsBuilt octets script      all lines are built: the head lines make the script's timers and homes, and its events are what is printed
 --     ReadsAs octets read      what was read of octets
-use Rattle.std.specs.Prelude.{◌≡◌, ℕ, List, [], ◌∷◌, ◌++◌, map, Some, None, Ok}
+use Rattle.std.specs.Prelude.{◌≡◌, ℕ, List, [], map, filter_map, Some, None, Ok}
 use Rattle.std.specs.List.{AllByRecursion}
 use Rattle.history.specs.Keeping.{state_of}
 use Rattle.history.specs.Plans.{IsStart}
-use Rattle.replay.specs.Lines.{Word, ScriptLine}
+use Rattle.replay.specs.Lines.{ScriptLine}
 use Rattle.replay.specs.Scripts.{script_of, client_word}
 use Rattle.replay.specs.World.{World, world_of, start_world}
 use Rattle.replay.specs.TextWords.{by_notices}
@@ -17,7 +16,6 @@ use Rattle.replay.specs.declared.script.Script.{Script}
 use Rattle.replay.specs.declared.script.ReadScript.{ReadScript}
 use Rattle.replay.specs.declared.script.ReadScript.TheVariants.{Built, Later}
 use Rattle.replay.specs.KeptLines.{event_said, IsEvent}
-use Rattle.replay.specs.Drafts.{in_list}
 use Rattle.replay.specs.KeptWorlds.{AreDistinct}
 use Rattle.replay.specs.BuiltScripts.{first_later}
 
@@ -29,12 +27,8 @@ events_said events = map event_said events
 abbrev pub world_at_start : Script → World
 world_at_start script = world_of (record { timers = script.timers; start = state_of script.homes; links = [] })
 
--- the words of the clients that lines name
-abbrev pub seats_named : List ScriptLine → List Word
-seats_named [] = []
-seats_named (line ∷ lines) = in_list (client_word line) ++ seats_named lines
-
--- all lines are built; the head lines make the script's timers and homes, and the others that say something are its events, which print and leave the same
+-- all lines are built; the head lines make the script's timers and homes, and the others that say something are its events, which print and leave the same;
+-- no two of the clients that they name have one word
 pub record IsBuilt (octets : List ℕ) (script : Script) : Type 0 where
   pub all : first_later octets ≡ None
   pub lines : List ScriptLine
@@ -44,7 +38,7 @@ pub record IsBuilt (octets : List ℕ) (script : Script) : Type 0 where
   pub last : world_after lines (start_world lines) ≡ world_after (events_said script.events.items) (start_world lines)
   pub start : IsStart (state_of script.homes)
   pub are_events : AllByRecursion IsEvent (events_said script.events.items)
-  pub distinct : AreDistinct (seats_named (events_said script.events.items))
+  pub distinct : AreDistinct (filter_map client_word (events_said script.events.items))
 
 -- the script, or the first line that isn't built
 abbrev pub ReadsAs : List ℕ → ReadScript → Type 0

@@ -1,56 +1,29 @@
 -- Calls of a client where it stands.
 --     has_word w seat      whether a client has that word
---     with_client, joined, timed_seat      seats behind calls of their clients
---     hub_then closing seat hub, stopped_hub session rcode delay hub      the hub where the client of a seat has closed, or hasn't, and where a session is asked to stop
---     by_seat act w world      what is done of the client of a word
+--     timed_seat t closing seat      a seat at a moment, at which its client has closed, or hasn't
 --     Makes answers next before after, Calls answers next before place later      what a call makes of a seat, and of the one at a place
 --     Answers, HasCut, HasTimed      what such calls answer, and the hub behind them
 --     closing_text w closing      the line of a client that has closed, if it has
 --     Times t before text later told, TimesWorld kept known text later known_later told      the clients at a moment, one after the other
-use Rattle.std.specs.Prelude.{◌≡◌, ℕ, Bool, List, Option, Some, None, fold, set, get_or}
+use Rattle.std.specs.Prelude.{◌≡◌, ℕ, Bool, List, Option, fold, set, get_or}
 use Rattle.std.specs.Str.{bytes_eq}
 use Rattle.dsosession.specs.declared.session.CloseReason.{CloseReason}
 use Rattle.pushserver.specs.PlainHubs.{Hub}
-use Rattle.pushserver.specs.Hubs.{now, stop}
+use Rattle.pushserver.specs.Hubs.{now}
 use Rattle.pushserver.specs.KeptHubs.{KeptHub, StandsFor}
-use Rattle.pushclient.specs.Clients.{Client, closed_as, connected}
+use Rattle.pushclient.specs.Clients.{Client, closed_as}
 use Rattle.pushclient.specs.Steps.{moment}
 use Rattle.replay.specs.Lines.{Word}
-use Rattle.replay.specs.World.{World, Seat, seat_of, cut_seat, hub_without}
-use Rattle.replay.specs.Text.{Printed, quietly, close_lines, ended_lines, timed}
+use Rattle.replay.specs.World.{World, Seat, with_client, closed_seat, hub_without, hub_then}
+use Rattle.replay.specs.Text.{close_lines, ended_lines, timed}
 use Rattle.replay.specs.KeptWorlds.{KeptSeat, Seated, Parties, StandsForSeat, StandForSeats, AreDistinct, words_in}
 
 abbrev pub has_word : Word → KeptSeat → Bool
 has_word w k = bytes_eq k.word w
 
--- ---- seats behind calls
-
--- another client in it
-abbrev pub with_client : (Client → Client) → Seat → Seat
-with_client call seat = record seat { client = call seat.client }
-
--- a new connection, to a session of the hub
-abbrev pub joined : ℕ → ℕ → Seat → Seat
-joined t number seat = record seat { client = connected t seat.client; session = Some number }
-
--- at a moment, at which its client has closed, or hasn't
+-- a seat at a moment, at which its client has closed, or hasn't
 abbrev pub timed_seat : ℕ → Option CloseReason → Seat → Seat
-timed_seat t None seat = with_client (λ c. moment c t) seat
-timed_seat t (Some reason) seat = cut_seat (with_client (λ c. moment c t) seat)
-
--- the hub then
-abbrev pub hub_then : Option CloseReason → Seat → Hub → Hub
-hub_then None seat hub = hub
-hub_then (Some reason) seat hub = hub_without seat.session hub
-
--- the hub where a session is asked to stop, if there is one
-abbrev pub stopped_hub : Option ℕ → ℕ → ℕ → Hub → Hub
-stopped_hub None rcode delay hub = hub
-stopped_hub (Some number) rcode delay hub = stop hub number rcode delay
-
--- what is done and printed of the client of a word, if there is one
-abbrev pub by_seat : (Seat → World → Printed) → Word → World → Printed
-by_seat act w world = elim (seat_of world w) [ None ↦ quietly world | Some seat ↦ act seat world ]
+timed_seat t closing seat = closed_seat closing (with_client (λ c. moment c t) seat)
 
 -- ---- calls
 

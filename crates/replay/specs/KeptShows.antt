@@ -3,7 +3,7 @@
 --     show_text w question written told, showing_text showing told      the lines of a `show`, by what is told
 --     ShowsSeat kept showing text, ShowsSet kept showing rows text      the text of what a client knows, and of a set that it holds
 --     IsFilling kept question filling      whether the first answer to a question hasn't arrived
-use Rattle.std.specs.Prelude.{◌≡◌, ℕ, Bool, List, [], ◌∷◌, map, Some, codes, decimal, string_bytes}
+use Rattle.std.specs.Prelude.{◌≡◌, ℕ, Bool, List, map, Some, string_bytes}
 use Rattle.rrset.specs.RecordSet.{RecordSet}
 use Rattle.rrset.specs.declared.record.Question.{Question}
 use Rattle.pushserver.specs.PlainHubs.{Hub}
@@ -11,7 +11,7 @@ use Rattle.pushclient.specs.Clients.{held, id_of}
 use Rattle.pushclient.specs.Kept.{IsHeld}
 use Rattle.replay.specs.Lines.{Word}
 use Rattle.replay.specs.World.{Seat}
-use Rattle.replay.specs.TextWords.{spaced, record_line, ShowTold, by_notices, is_filling, told_of}
+use Rattle.replay.specs.TextWords.{record_line, ShowTold, shown_lines, by_notices, is_filling, told_of}
 use Rattle.replay.specs.Text.{ended_lines}
 use Rattle.replay.specs.declared.line.Showing.{Showing}
 use Rattle.replay.specs.KeptWorlds.{KeptSeat, StandsForSeat}
@@ -22,7 +22,7 @@ record_lines set = ended_lines (map record_line set)
 
 -- the state of the question, and the records that follow
 abbrev pub show_text : Word → Question → List ℕ → ShowTold → List ℕ
-show_text w question written told = ended_lines (spaced (codes "show" ∷ w ∷ written ∷ decimal question.kind ∷ decimal question.class ∷ told.0 ∷ []) ∷ map record_line told.1)
+show_text w question written told = ended_lines (shown_lines w question written told)
 
 abbrev pub showing_text : Showing → ShowTold → List ℕ
 showing_text showing told = show_text (string_bytes showing.word) showing.question (string_bytes showing.written) told

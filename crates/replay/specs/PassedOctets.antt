@@ -1,5 +1,7 @@
 -- What the lines do to a world: octets pass, both ends react.
 --     emitted, delivered, settled, exchanged      give until a count; octets to a client; both ends until nothing moves; octets to a peer's session and back
+--     reached_by octets client, without_output client, fed_client octets client      the client behind octets, without what it had to send, and behind both
+--     by_session passing world seat, settling world seat      a passing where the seat has a session, and rounds until one moves nothing
 use Rattle.std.specs.Prelude.{ℕ, zero, suc, ◌+◌, ◌-◌, ◌^◌, Bool, true, false, not, ◌&&◌, ◌||◌, List, [], ◌++◌, length, take, drop, min, Option, Some, None, is_some, nat_lt, ◌==◌, if◌then◌else◌}
 use Rattle.dsosession.specs.declared.session.EndReason.{EndReason}
 use Rattle.pushserver.specs.declared.given.Given.TheVariants.{Bytes, Worked, Nothing, Ending, End}
@@ -108,6 +110,18 @@ delivered (suc turns) octets so_far =
 abbrev pub to_client : List ℕ → Client → Delivered
 to_client octets client = delivered enough octets (record { client = client; count = 0; left = octets })
 
+-- the client behind octets
+abbrev pub reached_by : List ℕ → Client → Client
+reached_by octets client = (to_client octets client).client
+
+-- one that has handed out all that it had to send
+abbrev pub without_output : Client → Client
+without_output client = give_octets (length (output_of client)) client
+
+-- one behind octets that has then handed out all
+abbrev pub fed_client : List ℕ → Client → Client
+fed_client octets client = without_output (reached_by octets client)
+
 -- from the downward wire to the client
 abbrev pub down : ℕ → World → Seat → Passed
 down n world seat =
@@ -128,6 +142,13 @@ settled (suc turns) number world seat over =
     let r = round number world seat in
     let so_far : Option EndReason = if is_some over then over else r.over in
     elim (r.count == 0 && not r.reacted) [ true ↦ record r { over = so_far } | false ↦ settled turns number r.world r.seat so_far ]
+
+-- without a session nothing passes
+abbrev pub by_session : (ℕ → World → Seat → Passed) → World → Seat → Passed
+by_session passing world seat = elim seat.session as (λ _. Passed) [ None ↦ passed world seat 0 | Some number ↦ passing number world seat ]
+
+abbrev pub settling : World → Seat → Passed
+settling world seat = by_session (λ number there client. settled enough number there client None) world seat
 
 -- all octets that have room go in, and give is called until it answers Nothing, Ending or End; again, until none is left or none was taken
 pub record Exchanged : Type 0 where

@@ -12,9 +12,11 @@ use Rattle.pushserver.specs.PlainHubs.{Session, Hub}
 use Rattle.replay.specs.Lines.{Word, ScriptLine, cut, send, stop}
 use Rattle.replay.specs.Scripts.{script_of}
 use Rattle.replay.specs.World.{World, start_world}
-use Rattle.replay.specs.TextWords.{spaced, octets_text, HeldRecords, by_history}
+use Rattle.replay.specs.TextWords.{spaced, bytes_words, HeldRecords, by_history}
 use Rattle.replay.specs.Text.{ended_lines, placed, line_does, printed_by, world_after}
 use Rattle.replay.specs.Cuts.{IsAtRest, ArePassable, answers_to, standing_of}
+use Rattle.replay.specs.declared.outcome.Outcome.TheVariants as outcomes
+use Rattle.replay.specs.Outcomes.{status_of}
 use Rattle.replay.specs.Reply.{Reply}
 use Rattle.replay.specs.BuiltScripts.{first_later}
 
@@ -90,12 +92,12 @@ printed_turns records w [] told world = []
 printed_turns records w (turn ∷ turns) [] world = []
 printed_turns records w (turn ∷ turns) (octets ∷ told) world =
     let later = (line_does by_history (send w turn.0) world).0 in
-    spaced (codes "bytes" ∷ w ∷ octets_text octets ∷ []) ∷ (printed_by records turn.1 later ++ printed_turns records w turns told (world_after turn.1 later))
+    spaced (bytes_words w octets) ∷ (printed_by records turn.1 later ++ printed_turns records w turns told (world_after turn.1 later))
 
 -- those lines alone stand between what the lines before print and what those behind do
 abbrev pub pieces_reply : HeldRecords → SentInPieces → List (List ℕ) → Reply
 pieces_reply records sent told = record {
-  status = 0;
+  status = status_of outcomes.Done;
   text = ended_lines (printed_by records sent.before (world_start sent))
       ++ (ended_lines (printed_turns records sent.word sent.turns told (world_then sent)) ++ ended_lines (printed_by records sent.behind (world_behind sent)));
 }

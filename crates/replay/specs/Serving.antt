@@ -3,8 +3,7 @@
 --     world_then asked, connected_then asked, session_then asked      the world before that line, the hub with the peer's new session, and this session
 --     AsksFirst script asked      the script is built, these are its lines, and the question is served
 --     served_reply records asked      the status and the text
-use Rattle.std.specs.Prelude.{◌≡◌, ℕ, List, [], ◌∷◌, ◌++◌, codes, Some, None, Ok, IsSome}
-use Rattle.push_base.specs.Hexadecimal.{hex_text}
+use Rattle.std.specs.Prelude.{◌≡◌, ℕ, List, [], ◌∷◌, ◌++◌, Some, None, Ok, IsSome}
 use Rattle.rrset.specs.Header.{id_of}
 use Rattle.rrset.specs.Rcodes.{noerror}
 use Rattle.rrset.specs.declared.record.Question.{Question}
@@ -18,8 +17,10 @@ use Rattle.pushserver.specs.Laws.{IsAcceptable}
 use Rattle.replay.specs.Lines.{Word, ScriptLine, send}
 use Rattle.replay.specs.Scripts.{script_of}
 use Rattle.replay.specs.World.{World, start_world, session_number}
-use Rattle.replay.specs.TextWords.{spaced, HeldRecords, by_history}
+use Rattle.replay.specs.TextWords.{spaced, bytes_words, HeldRecords, by_history}
 use Rattle.replay.specs.Text.{ended_lines, line_does, printed_by, world_after}
+use Rattle.replay.specs.declared.outcome.Outcome.TheVariants as outcomes
+use Rattle.replay.specs.Outcomes.{status_of}
 use Rattle.replay.specs.Reply.{Reply}
 use Rattle.replay.specs.BuiltScripts.{first_later}
 
@@ -65,11 +66,11 @@ abbrev pub served_octets : Asked → List ℕ
 served_octets asked = first_answer_octets (answer_to (id_of asked.message) noerror) (first_answer (connected_then asked) (session_then asked) asked.question)
 
 abbrev pub served_line : Asked → List ℕ
-served_line asked = spaced (codes "bytes" ∷ asked.word ∷ hex_text (served_octets asked) ∷ [])
+served_line asked = spaced (bytes_words asked.word (served_octets asked))
 
 -- that line alone stands between what the lines before print and what those behind it do
 abbrev pub served_reply : HeldRecords → Asked → Reply
 served_reply records asked = record {
-  status = 0;
+  status = status_of outcomes.Done;
   text = ended_lines (printed_by records asked.before (world_start asked)) ++ (ended_lines (served_line asked ∷ []) ++ ended_lines (printed_by records asked.behind (world_behind asked)));
 }

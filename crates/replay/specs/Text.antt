@@ -1,8 +1,9 @@
 -- The text of a script.
+--     by_seat act w world      what is done and printed of the client of a word
 --     line_does line world      the world after a line, and the lines that it prints
 --     text_by records script      the text of a script
 --     text_with records text, text_of text      what is written for the octets of a script
-use Rattle.std.specs.Prelude.{ℕ, Bool, true, false, cond, List, [], ◌∷◌, ◌++◌, map, length, flat_map, fold, position, Option, Some, None, Ok, Err, option_map, codes, decimal, unwrap_or, if◌then◌else◌}
+use Rattle.std.specs.Prelude.{ℕ, Bool, true, false, cond, List, [], ◌∷◌, ◌++◌, flat_map, fold, position, Option, Some, None, Ok, Err, option_map, codes, decimal, unwrap_or, if◌then◌else◌}
 use Rattle.std.specs.Str.{bytes_eq}
 use Rattle.rrset.specs.declared.record.Question.{Question}
 use Rattle.rrset.specs.declared.record.Rr.{Rr}
@@ -15,15 +16,17 @@ use Rattle.pushserver.specs.Hubs.{newest, now, connect}
 use Rattle.pushclient.specs.declared.client.Asked.{Asked}
 use Rattle.pushclient.specs.declared.client.Asked.TheVariants as asked
 use Rattle.pushclient.specs.Clients as clients
-use Rattle.pushclient.specs.Clients.{Client, is_connected, output_of, give_octets, closed_as, connected}
+use Rattle.pushclient.specs.Clients.{Client, is_connected, output_of, closed_as, connected}
 use Rattle.pushclient.specs.Steps as steps
 use Rattle.replay.specs.Lines.{Word, ScriptLine, client, lone, at_moment, update, hear, ask, drop_question, reconfirm, open_connection, cut, say, up, emit, down, settle, send, feed, stop, point, show}
+use Rattle.replay.specs.declared.outcome.Outcome.TheVariants as outcomes
+use Rattle.replay.specs.Outcomes.{status_of}
 use Rattle.replay.specs.Reply.{line}
 use Rattle.replay.specs.Scripts.{script_of}
-use Rattle.replay.specs.World.{Seat, World, new_seat, start_world, seat_of, with_seat, session_number, cut_connection, cut_peer}
+use Rattle.replay.specs.World.{Seat, World, new_seat, start_world, seat_of, with_seat, session_number, with_client, joined, stopped_hub, cut_connection, cut_peer}
 use Rattle.replay.specs.PassedOctets as running
-use Rattle.replay.specs.PassedOctets.{Passed, passed, enough, exchanged, settled, to_client}
-use Rattle.replay.specs.TextWords.{spaced, end_words, close_words, why_words, octets_text, record_line, HeldRecords, by_history, by_notices, show_at}
+use Rattle.replay.specs.PassedOctets.{Passed, passed, by_session, settling, enough, exchanged, reached_by, fed_client}
+use Rattle.replay.specs.TextWords.{spaced, why_words, bytes_words, open_words, noseat_words, end_line, closed_line, shown_lines, HeldRecords, by_history, by_notices, show_at}
 
 -- a world, and the lines that were printed on the way to it
 abbrev pub Printed : Type 0
@@ -35,6 +38,10 @@ quietly world = (world, [])
 abbrev pub printing : List (List ℕ) → World → Printed
 printing words world = (world, spaced words ∷ [])
 
+-- what is done and printed of the client of a word, if there is one
+abbrev pub by_seat : (Seat → World → Printed) → Word → World → Printed
+by_seat act w world = elim (seat_of world w) [ None ↦ quietly world | Some seat ↦ act seat world ]
+
 abbrev pub number_or_zero : Option ℕ → ℕ
 number_or_zero o = unwrap_or o 0
 
@@ -44,11 +51,11 @@ yes_or_no b = cond b (codes "yes") (codes "no")
 -- the lines on an end and on a close
 abbrev pub end_lines : Word → Option EndReason → List (List ℕ)
 end_lines w None = []
-end_lines w (Some reason) = spaced (codes "end" ∷ w ∷ end_words reason ∷ []) ∷ []
+end_lines w (Some reason) = end_line w reason ∷ []
 
 abbrev pub close_lines : Word → Option CloseReason → List (List ℕ)
 close_lines w None = []
-close_lines w (Some reason) = spaced (codes "closed" ∷ w ∷ close_words reason ∷ []) ∷ []
+close_lines w (Some reason) = closed_line w reason ∷ []
 
 abbrev pub cut_where : List (List ℕ) → Seat → World → World
 cut_where [] seat world = world
@@ -62,16 +69,10 @@ finished words p =
 
 -- on a client that isn't connected, and on a lone one, nothing passes
 abbrev pub passes : List ℕ → Word → (ℕ → World → Seat → Passed) → World → Printed
-passes verb w passing world = elim (seat_of world w) [
-  | None ↦ quietly world
-  | Some seat ↦ (let p : Passed = elim seat.session [ None ↦ passed world seat 0 | Some number ↦ passing number world seat ] in finished (verb ∷ w ∷ decimal p.count ∷ []) p)
-]
+passes verb w passing world = by_seat (λ seat there. (let p = by_session passing there seat in finished (verb ∷ w ∷ decimal p.count ∷ []) p)) w world
 
 abbrev pub settles : Word → World → Printed
-settles w world = elim (seat_of world w) [
-  | None ↦ quietly world
-  | Some seat ↦ finished (codes "settle" ∷ w ∷ []) (elim seat.session [ None ↦ passed world seat 0 | Some number ↦ settled enough number world seat None ])
-]
+settles w world = by_seat (λ seat there. finished (codes "settle" ∷ w ∷ []) (settling there seat)) w world
 
 abbrev pub asked_words : Asked → List ℕ
 asked_words asked.New = codes "new"
@@ -80,10 +81,7 @@ asked_words asked.Many = codes "many"
 
 -- a call of the client that answers a word
 abbrev pub asks : List ℕ → Word → (Client → List ℕ × Client) → World → Printed
-asks verb w call world = elim (seat_of world w) [
-  | None ↦ quietly world
-  | Some seat ↦ (let r = call seat.client in printing (verb ∷ w ∷ r.0 ∷ []) (with_seat (record seat { client = r.1 }) world))
-]
+asks verb w call world = by_seat (λ seat there. printing (verb ∷ w ∷ (call seat.client).0 ∷ []) (with_seat (with_client (λ c. (call c).1) seat) there)) w world
 
 abbrev pub subscribing : Question → Client → List ℕ × Client
 subscribing question c = (let r = clients.subscribe c question in (asked_words r.0, r.1))
@@ -108,7 +106,7 @@ updates message world = (let r = hubs.update world.hub message in printing (code
 -- a client at the hub's moment; one that closes is told and cut
 abbrev pub timed : ℕ → Printed → Seat → Printed
 timed t so_far seat =
-    let later = record seat { client = steps.moment seat.client t } in
+    let later = with_client (λ c. steps.moment c t) seat in
     let closing = close_lines seat.word (closed_as later.client) in
     (cut_where closing later (with_seat later so_far.0), so_far.1 ++ closing)
 
@@ -118,20 +116,16 @@ moments t world =
     fold (timed (now r.1)) (record world { hub = r.1 }, cond r.0 (codes "full" ∷ []) []) world.seats
 
 abbrev pub opens_lone : Seat → World → Printed
-opens_lone seat world = printing (codes "open" ∷ seat.word ∷ []) (with_seat (record seat { client = connected (now world.hub) seat.client }) world)
+opens_lone seat world = printing (open_words seat.word) (with_seat (with_client (connected (now world.hub)) seat) world)
 
 abbrev pub opens_hub : Seat → World → Printed
 opens_hub seat world = (let r = connect world.hub in elim r.0 [
-  | None ↦ printing (codes "noseat" ∷ seat.word ∷ []) world
-  | Some number ↦ printing (codes "open" ∷ seat.word ∷ []) (with_seat (record seat { client = connected (now world.hub) seat.client; session = Some number }) (record world { hub = r.1 }))
+  | None ↦ printing (noseat_words seat.word) world
+  | Some number ↦ printing (open_words seat.word) (with_seat (joined (now world.hub) number seat) (record world { hub = r.1 }))
 ])
 
 abbrev pub opens : Word → World → Printed
-opens w world = elim (seat_of world w) [
-  | None ↦ quietly world
-  | Some seat ↦ if is_connected seat.client then printing (codes "already" ∷ w ∷ []) world
-      else if seat.is_lone then opens_lone seat world else opens_hub seat world
-]
+opens w world = by_seat (λ seat there. if is_connected seat.client then printing (codes "already" ∷ w ∷ []) there else if seat.is_lone then opens_lone seat there else opens_hub seat there) w world
 
 abbrev pub cuts : Word → World → Printed
 cuts w world = printing (codes "cut" ∷ w ∷ []) (elim (seat_of world w) [ None ↦ cut_peer w world | Some seat ↦ cut_connection seat world ])
@@ -142,7 +136,7 @@ exchanges w number octets world =
     let x = exchanged enough number octets world.hub [] in
     let ending = end_lines w x.over in
     let later = record world { hub = x.hub } in
-    (elim x.over [ None ↦ later | Some reason ↦ cut_peer w later ], spaced (codes "bytes" ∷ w ∷ octets_text x.octets ∷ []) ∷ ending)
+    (elim x.over [ None ↦ later | Some reason ↦ cut_peer w later ], spaced (bytes_words w x.octets) ∷ ending)
 
 -- the number of a peer's session, and the world with it: the session that it has, or else a new one
 abbrev pub placed : Word → World → Option (ℕ × World)
@@ -153,38 +147,29 @@ placed w world = elim (session_number world w) [
 
 abbrev pub sends : Word → List ℕ → World → Printed
 sends w octets world = elim (placed w world) [
-  | None ↦ printing (codes "noseat" ∷ w ∷ []) world
+  | None ↦ printing (noseat_words w) world
   | Some place ↦ exchanges w place.0 octets place.1
 ]
 
 -- octets to a lone client, and what it has to send
 abbrev pub feeds_connected : List ℕ → World → Seat → Printed
-feeds_connected octets world seat =
-    let d = to_client octets seat.client in
-    finished (codes "bytes" ∷ seat.word ∷ octets_text (output_of d.client) ∷ []) (passed world (record seat { client = give_octets (length (output_of d.client)) d.client }) 0)
+feeds_connected octets world seat = finished (bytes_words seat.word (output_of (reached_by octets seat.client))) (passed world (with_client (fed_client octets) seat) 0)
 
 abbrev pub feeds : Word → List ℕ → World → Printed
-feeds w octets world = elim (seat_of world w) [
-  | None ↦ quietly world
-  | Some seat ↦ if is_connected seat.client then feeds_connected octets world seat else printing (codes "bytes" ∷ w ∷ codes "-" ∷ []) world
-]
+feeds w octets world = by_seat (λ seat there. if is_connected seat.client then feeds_connected octets there seat else printing (bytes_words w []) there) w world
 
 abbrev pub session_of_word : World → Word → Option ℕ
 session_of_word world w = elim (seat_of world w) [ Some seat ↦ seat.session | None ↦ session_number world w ]
 
 -- a session is asked to stop, if there is one
 abbrev pub asked_to_stop : Option ℕ → ℕ → ℕ → World → World
-asked_to_stop session rcode delay world = elim session [ None ↦ world | Some number ↦ record world { hub = hubs.stop world.hub number rcode delay } ]
+asked_to_stop session rcode delay world = record world { hub = stopped_hub session rcode delay world.hub }
 
 abbrev pub stops : Word → ℕ → ℕ → World → Printed
 stops w rcode delay world = printing (codes "stop" ∷ w ∷ []) (asked_to_stop (session_of_word world w) rcode delay world)
 
 abbrev pub shows : HeldRecords → Word → Question → List ℕ → World → Printed
-shows records w question written world = elim (seat_of world w) [
-  | None ↦ quietly world
-  | Some seat ↦ (let t = show_at records world seat question in
-      (world, spaced (codes "show" ∷ w ∷ written ∷ decimal question.kind ∷ decimal question.class ∷ t.0 ∷ []) ∷ map record_line t.1))
-]
+shows records w question written world = by_seat (λ seat there. (there, shown_lines w question written (show_at records there seat question))) w world
 
 abbrev pub seated : Word → Bool → World → Printed
 seated w is_lone world = quietly (record world { seats = world.seats ++ new_seat w is_lone ∷ [] })
@@ -240,7 +225,7 @@ text_by_notices script = text_by by_notices script
 
 -- the status and the whole text for the octets of a script
 abbrev pub text_with : HeldRecords → List ℕ → ℕ × List ℕ
-text_with records text = elim (script_of text) [ Ok script ↦ (0, text_by records script) | Err n ↦ (2, ended_lines (spaced (codes "line" ∷ decimal n ∷ []) ∷ [])) ]
+text_with records text = elim (script_of text) [ Ok script ↦ (status_of outcomes.Done, text_by records script) | Err n ↦ (2, ended_lines (spaced (codes "line" ∷ decimal n ∷ []) ∷ [])) ]
 
 abbrev pub text_of : List ℕ → ℕ × List ℕ
 text_of text = text_with by_history text

@@ -1,8 +1,10 @@
 -- The words of a script's text.
 --     spaced words      words with a space between each two
 --     end_words, close_words, why_words      reasons
+--     bytes_words, open_words, noseat_words      the words of such lines
+--     end_line, closed_line, shown_lines      the line on an end, on a close, and those on a question
 --     show_at records world seat question      what `show` tells behind the question
-use Rattle.std.specs.Prelude.{ℕ, Bool, true, List, [], ◌∷◌, length, Option, Some, None, nat_lt, codes, decimal, if◌then◌else◌}
+use Rattle.std.specs.Prelude.{ℕ, Bool, true, List, [], ◌∷◌, map, length, Option, Some, None, nat_lt, codes, decimal, if◌then◌else◌}
 use Rattle.std.specs.List.{join_with_byte}
 use Rattle.push_base.specs.Hexadecimal.{hex_text}
 use Rattle.push_base.specs.Cases.{is_empty}
@@ -21,6 +23,7 @@ use Rattle.pushserver.specs.PlainHubs.{Note, Hub}
 use Rattle.pushserver.specs.Hubs.{session_of}
 use Rattle.pushserver.specs.ToldMessages.{records_noted}
 use Rattle.pushclient.specs.Clients.{Held, off, asked_only, refused_with, set_held, held}
+use Rattle.replay.specs.Lines.{Word}
 use Rattle.replay.specs.World.{Seat, World, last_note, filled_of}
 
 abbrev pub spaced : List (List ℕ) → List ℕ
@@ -73,9 +76,32 @@ octets_text octets = if is_empty octets then codes "-" else hex_text octets
 abbrev pub record_line : Key × Shown → List ℕ
 record_line e = spaced (codes "rr" ∷ name_text e.1.owner ∷ decimal e.1.ttl ∷ decimal e.0.class ∷ decimal e.0.kind ∷ octets_text e.1.rdata ∷ [])
 
+-- ---- lines
+
+abbrev pub bytes_words : Word → List ℕ → List (List ℕ)
+bytes_words w octets = codes "bytes" ∷ w ∷ octets_text octets ∷ []
+
+abbrev pub open_words : Word → List (List ℕ)
+open_words w = codes "open" ∷ w ∷ []
+
+abbrev pub noseat_words : Word → List (List ℕ)
+noseat_words w = codes "noseat" ∷ w ∷ []
+
+abbrev pub end_line : Word → EndReason → List ℕ
+end_line w reason = spaced (codes "end" ∷ w ∷ end_words reason ∷ [])
+
+abbrev pub closed_line : Word → CloseReason → List ℕ
+closed_line w reason = spaced (codes "closed" ∷ w ∷ close_words reason ∷ [])
+
+-- ---- what is shown of a question
+
 -- what show tells: a state with its words, and the records that follow
 abbrev pub ShowTold : Type 0
 ShowTold = List ℕ × RecordSet
+
+-- behind the question as it is written the state, and a line for each record
+abbrev pub shown_lines : Word → Question → List ℕ → ShowTold → List (List ℕ)
+shown_lines w question written told = spaced (codes "show" ∷ w ∷ written ∷ decimal question.kind ∷ decimal question.class ∷ told.0 ∷ []) ∷ map record_line told.1
 
 abbrev pub with_records : List ℕ → RecordSet → ShowTold
 with_records state set = (spaced (state ∷ decimal (length set) ∷ []), set)

@@ -1,7 +1,7 @@
 -- Words for worked rows: the rules on what is under way as tests, after each line of a script.
 --     unmet_in so_far world      which sentences of a world aren't so, by name
 --     holds_throughout script      after each line, of each client of the hub, all are
-use Rattle.std.specs.Prelude.{ℕ, ◌+◌, ◌-◌, Bool, true, false, not, ◌&&◌, ◌||◌, List, [], ◌∷◌, ◌++◌, map, length, drop, find, count_by, flat_map, Option, Some, None, Ok, Err, is_none, nat_le, nat_lt, ◌==◌, filter_map, codes, if◌then◌else◌}
+use Rattle.std.specs.Prelude.{ℕ, ◌+◌, ◌-◌, Bool, true, false, not, ◌&&◌, ◌||◌, List, [], ◌∷◌, ◌++◌, map, length, drop, find, count_by, flat_map, Option, Some, None, Ok, Err, is_none, nat_le, nat_lt, ◌==◌, filter_map, codes, if◌then◌else◌, filter}
 use Rattle.std.specs.List.{list_any, list_all, starts_with}
 use Rattle.std.specs.Str.{bytes_eq}
 use Rattle.push_base.specs.Cases.{is_empty}
@@ -18,14 +18,18 @@ use Rattle.pushclient.specs.Clients.{Connection, is_connected}
 use Rattle.pushsession.specs.Sessions.{is_open}
 use Rattle.pushserver.specs.Hubs.{state_now, records_now}
 use Rattle.dsosession.specs.declared.session.Timers.{Timers}
+use Rattle.dsosession.specs.declared.session.EndReason.{EndReason}
+use Rattle.dsosession.specs.declared.session.EndReason.TheVariants as ends
+use Rattle.dsosession.specs.declared.session.CloseReason.{CloseReason}
+use Rattle.dsosession.specs.declared.session.CloseReason.TheVariants as closes
 use Rattle.inflight.specs.Messages.{flying_octets}
 use Rattle.inflight.specs.Ends.{ends_of, going_up, going_down}
 use Rattle.inflight.specs.Worked.{client_message, server_message, flying_of, unmet, unmet_together, unmet_of_wishes, count_together, none_twice, first_answers_end}
 use Rattle.replay.specs.Lines.{Word, ScriptLine, ask, settle, show, open_connection}
 use Rattle.replay.specs.HeldPoints.{held_points, point_at, settles_alone, leaves_settled}
-use Rattle.replay.specs.Headline.{is_wanted, numbers_of, point_taken}
+use Rattle.replay.specs.Headline.{is_wanted, numbers_of, point_taken, is_end_by_itself, is_close_by_itself}
 use Rattle.replay.specs.World.{seat_of}
-use Rattle.replay.specs.TextWords.{ShowTold, show_at, with_records}
+use Rattle.replay.specs.TextWords.{spaced, end_words, close_words, ShowTold, show_at, with_records}
 use Rattle.replay.specs.Scripts.{script_of}
 use Rattle.replay.specs.World.{Seat, World, start_world, whole_within}
 use Rattle.replay.specs.PassedOctets.{max_wire}
@@ -165,7 +169,7 @@ rises (n ∷ m ∷ ns) = nat_le n m && rises (m ∷ ns)
 abbrev pub same_told : ShowTold → ShowTold → Bool
 same_told a b = bytes_eq a.0 b.0 && same_rows a.1 b.1
 
--- right after a settle a wanted question that has a home shows the newest records
+-- right after a settle a wanted question that is served shows the newest records
 abbrev pub is_newest : World → Seat → Question → Bool
 is_newest world seat q =
     not (is_wanted seat.client q) || not (is_served_at (state_now world.hub) q)
@@ -204,10 +208,23 @@ abbrev pub quiet_after_settles : List ScriptLine → World → Bool
 quiet_after_settles [] world = true
 quiet_after_settles (line ∷ lines) world = (let later = (line_does by_history line world).0 in quiet_behind line world later && quiet_after_settles lines later)
 
--- the ends and closes of a hub's client that no message makes
+-- every reason of an end, and of a close, each that has a number with some number
+abbrev pub end_reasons : List EndReason
+end_reasons = ends.Short ∷ ends.Answer ∷ ends.Counts ∷ ends.Tlvs ∷ ends.Early ∷ ends.Misuse 0 ∷ ends.BadData 0 ∷ ends.Unknown 0 ∷ ends.IdInUse 0 ∷ ends.Twice 0
+    ∷ ends.Silent ∷ ends.Idle ∷ ends.Stopped ∷ ends.Behind 0 ∷ ends.Gone ∷ []
+
+abbrev pub close_reasons : List CloseReason
+close_reasons = closes.Short ∷ closes.Opcode ∷ closes.Counts ∷ closes.Tlvs ∷ closes.Early ∷ closes.Idle ∷ closes.Stranger 0 ∷ closes.Misuse 0 ∷ closes.BadData 0 ∷ closes.Unknown 0
+    ∷ closes.Interval 0 ∷ closes.Kept 0 ∷ closes.Delay 0 0 ∷ []
+
+abbrev pub first_word : List ℕ → List ℕ
+first_word [] = []
+first_word (c ∷ cs) = if c == 32 then [] else c ∷ first_word cs
+
+-- the ends and closes of a hub's client that no message makes, by the first words of their reasons
 abbrev pub own_ends : Word → List (List ℕ)
-own_ends w = map (λ words. codes "end " ++ w ++ words) (codes " silent" ∷ codes " idle" ∷ codes " stopped" ∷ [])
-    ++ map (λ words. codes "closed " ++ w ++ words) (codes " idle" ∷ codes " delay " ∷ [])
+own_ends w = map (λ reason. spaced (codes "end" ∷ w ∷ first_word (end_words reason) ∷ [])) (filter is_end_by_itself end_reasons)
+    ++ map (λ reason. spaced (codes "closed" ∷ w ∷ first_word (close_words reason) ∷ [])) (filter is_close_by_itself close_reasons)
 
 abbrev pub begins_with : List ℕ → List ℕ → Bool
 begins_with line front = starts_with (λ a b. a == b) line front

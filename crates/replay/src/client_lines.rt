@@ -3,9 +3,9 @@
 ghost use Rattle.std.specs.Prelude.{◌≡◌, ◌<◌, ◌++◌, ◌∷◌, [], codes, length, position, Some, IfOk, string_bytes};
 ghost use Rattle.replay.specs.World.{new_seat};
 ghost use Rattle.replay.specs.TextWords.{close_words};
-ghost use Rattle.replay.specs.Text.{asked_words, asks, opens, opens_hub, opens_lone, seated as takes_seat, subscribing, unsubscribing, yes_or_no};
+ghost use Rattle.replay.specs.Text.{asked_words, asks, opens, opens_hub, opens_lone, seated as takes_seat, subscribing, unsubscribing, yes_or_no, by_seat};
 ghost use Rattle.replay.specs.KeptWorlds.{Does, StandsForSeat, seat_kept, seated};
-ghost use Rattle.replay.specs.KeptSeats.{Times, by_seat, closing_text, has_word};
+ghost use Rattle.replay.specs.KeptSeats.{Times, closing_text, has_word};
 
 use crate::seats::{
     Seat, ask_at, drop_at, is_lone_at, is_open_at, join_at, moment_at, open_at, place_of,

@@ -1,9 +1,9 @@
 //! The words of a script's clients, which its peers do not have.
 
-ghost use Rattle.std.specs.Prelude.{◌≡◌, ◌++◌, ◌∷◌, [], ◌||◌, Some, false, is_some, map, option_map, IfOk, OnOk, string_bytes};
-ghost use Rattle.replay.specs.Scripts.{client_words, lines_read, is_among, is_peer};
+ghost use Rattle.std.specs.Prelude.{◌≡◌, ◌++◌, ◌∷◌, [], ◌||◌, Some, false, is_some, map, option_map, option_to_list, IfOk, OnOk, string_bytes};
+ghost use Rattle.replay.specs.Scripts.{client_words, lines_read, is_among, is_peer, lone_in, is_hub_client_in, is_lone_client_in, may_follow};
 ghost use Rattle.replay.specs.KeptLines.{event_said};
-ghost use Rattle.replay.specs.Drafts.{client_in, client_added, in_list, known_clients, lone_in, is_hub_client_in, is_lone_client_in, may_happen, is_client_of, has_client};
+ghost use Rattle.replay.specs.Drafts.{client_in, client_added, known_clients, known_by, is_client_of, has_client};
 
 use crate::line::Event;
 use crate::line_words::plain_word;
@@ -40,7 +40,7 @@ pub(crate) fn client_words(alloc: Global, octets: &[u8]) -> Result<Vec<String>, 
 
 // Adds the word of the client that a line names, if it names one.
 fn add_client(alloc: Global, line: &[u8], words: &mut Vec<String>) -> Result<(), NoMemory>
-    ensures { OnOk result (map (λ w. string_bytes w) words.new.items ≡ map (λ w. string_bytes w) words.old.items ++ in_list (client_in line.now)) }
+    ensures { OnOk result (map (λ w. string_bytes w) words.new.items ≡ map (λ w. string_bytes w) words.old.items ++ option_to_list (client_in line.now)) }
 {
     match client_in(alloc, line)? {
         Some(word) => {
@@ -67,7 +67,7 @@ fn client_in(alloc: Global, line: &[u8]) -> Result<Option<String>, NoMemory>
 /// Whether the word of an event, if it has one, may stand there: a peer has a word that no client has anywhere, one more
 /// client a word that none has yet, and a client that is spoken of one that there is.
 pub(crate) fn may_happen(all: &[String], clients: &[KnownClient], event: &Event) -> bool
-    ensures { result ≡ may_happen (map (λ w. string_bytes w) all.now) (known_clients clients.now) event.now }
+    ensures { result ≡ may_follow (map (λ w. string_bytes w) all.now) (known_by (known_clients clients.now)) (event_said event.now) }
 {
     match event {
         Event::Update(_) | Event::Point | Event::At(_) => true,

@@ -8,7 +8,8 @@ ghost use Rattle.pushserver.specs.KeptHubs.{StandsFor};
 ghost use Rattle.pushserver.specs.PlainHubs.{Hub as PlainHub};
 ghost use Rattle.replay.specs.KeptLines.{event_said};
 ghost use Rattle.replay.specs.KeptWorlds.{Does, parties_of};
-ghost use Rattle.replay.specs.KeptSeats.{TimesWorld, stopped_hub};
+ghost use Rattle.replay.specs.KeptSeats.{TimesWorld};
+ghost use Rattle.replay.specs.World.{stopped_hub};
 
 use crate::client_lines::{ask_line, client_line, drop_line, noseat_text, open_line, timed_lines};
 use crate::exchanging::{Exchanged, exchange};

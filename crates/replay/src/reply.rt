@@ -4,7 +4,7 @@ ghost use Rattle.std.specs.Prelude.{◌≡◌, ◌⊎◌, IfOk, IfSome, string_b
 ghost use Rattle.replay.specs.TextWords.{by_notices};
 ghost use Rattle.replay.specs.BuiltScripts.{later, reply_to_script};
 ghost use Rattle.replay.specs.KeptEnds.{AreEnds, EndsWhenDone};
-ghost use Rattle.replay.specs.Outcomes.{reply_of};
+ghost use Rattle.replay.specs.Reply.{reply_of};
 
 use crate::ends::{Ends, ends_of};
 use crate::outcome::Outcome;

@@ -1,11 +1,12 @@
 //! The text of a script, and the world that it leaves.
 
-ghost use Rattle.std.specs.Prelude.{◌≡◌, IfOk, string_bytes};
+ghost use Rattle.std.specs.Prelude.{◌≡◌, IfOk, filter_map, string_bytes};
 ghost use Rattle.history.specs.Keeping.{state_of};
 ghost use Rattle.history.specs.Plans.{IsStart};
 ghost use Rattle.replay.specs.TextWords.{by_notices};
 ghost use Rattle.replay.specs.Text.{ended_lines, printed_by, world_after};
-ghost use Rattle.replay.specs.KeptScripts.{events_said, seats_named, world_at_start};
+ghost use Rattle.replay.specs.Scripts.{client_word};
+ghost use Rattle.replay.specs.KeptScripts.{events_said, world_at_start};
 ghost use Rattle.replay.specs.KeptWorlds.{AreDistinct, IsWorld};
 
 use crate::event_lines::event_line;
@@ -26,7 +27,7 @@ pub struct Played {
 /// Runs a script whose lines are built.
 pub fn script_text(alloc: Global, script: Script) -> Result<Played, NoMemory>
     requires start { IsStart (state_of script.homes) }
-    requires distinct { AreDistinct (seats_named (events_said script.events.items)) }
+    requires distinct { AreDistinct (filter_map client_word (events_said script.events.items)) }
     ensures text { IfOk result (λ played. string_bytes played.text ≡ ended_lines (printed_by by_notices (events_said script.events.items) (world_at_start script))) }
     ensures world { IfOk result (λ played. IsWorld played.world (world_after (events_said script.events.items) (world_at_start script))) }
 {

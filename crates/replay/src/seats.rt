@@ -4,9 +4,9 @@ ghost use Rattle.std.specs.Prelude.{◌≡◌, ◌<◌, Some, length, position, 
 ghost use Rattle.pushserver.specs.KeptHubs.{StandsFor};
 ghost use Rattle.pushserver.specs.PlainHubs.{Hub as PlainHub};
 ghost use Rattle.pushclient.specs.Clients.{closed_as, connected, subscribe, unsubscribe};
-ghost use Rattle.replay.specs.World.{cut_seat, hub_without};
+ghost use Rattle.replay.specs.World.{cut_seat, hub_without, joined, with_client};
 ghost use Rattle.replay.specs.KeptWorlds.{KeptSeat, seat_kept, seated};
-ghost use Rattle.replay.specs.KeptSeats.{Makes, Calls, Answers, HasCut, HasTimed, has_word, joined, timed_seat, with_client};
+ghost use Rattle.replay.specs.KeptSeats.{Makes, Calls, Answers, HasCut, HasTimed, has_word, timed_seat};
 
 use dsosession::session::CloseReason;
 use push_base::NoMemory;

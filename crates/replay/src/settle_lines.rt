@@ -4,8 +4,8 @@ ghost use Rattle.std.specs.Prelude.{◌≡◌, ◌<◌, ◌++◌, ◌∷◌, [],
 ghost use Rattle.replay.specs.Text.{end_lines, ended_lines, settles};
 ghost use Rattle.replay.specs.KeptWorlds.{Does, seat_kept, seated};
 ghost use Rattle.replay.specs.KeptSeats.{closing_text};
-ghost use Rattle.replay.specs.KeptPassings.{EndsSo, EndsAt, Settles, settling};
-ghost use Rattle.replay.specs.PassedOctets.{max_wire};
+ghost use Rattle.replay.specs.KeptPassings.{EndsSo, EndsAt, Settles};
+ghost use Rattle.replay.specs.PassedOctets.{max_wire, settling};
 
 use crate::client_lines::closing_line;
 use crate::event_lines::{end_text, end_words};

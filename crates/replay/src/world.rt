@@ -1,4 +1,4 @@
-//! What a run keeps: a hub, peers with their sessions, and lone clients.
+//! What a run keeps: a hub, peers with their sessions, and clients.
 
 ghost use Rattle.std.specs.Prelude.{◌≡◌, [], IfOk};
 ghost use Rattle.history.specs.Keeping.{state_of};
@@ -23,14 +23,14 @@ pub struct Peer {
     pub session: u64,
 }
 
-/// The hub, the peers that have a session, and the lone clients.
+/// The hub, the peers that have a session, and the clients.
 #[derive(Drop)]
 pub struct World {
     /// The history and the sessions.
     pub hub: Hub,
     /// The peers, in the order in which they were connected.
     pub peers: Vec<Peer>,
-    /// The lone clients, in the order of their lines.
+    /// The clients, in the order of their lines.
     pub seats: Vec<Seat>,
 }
 

@@ -1,6 +1,6 @@
 -- Which lines are those of a client, the words of the clients, and the lines that are left.
 use Rattle.std.proofs.Common.{◌≡◌, ℕ, ◌<◌, ◌⊎◌, Bool, true, false, cond, eqb, ◌&&◌, ◌||◌, Option, Some, None, List, [], ◌∷◌, ◌++◌, length, map, refl, sym, ◌∙◌, ap, subst, inl, inr, arith, append_assoc, ⊎_elim}
-use Rattle.std.specs.Prelude.{find, drop, get_or, ◌+◌, option_map, codes, string_bytes}
+use Rattle.std.specs.Prelude.{find, drop, get_or, ◌+◌, option_map, option_to_list, codes, string_bytes}
 use Rattle.std.specs.declared.alloc.Global.{Global}
 use Rattle.std.specs.declared.string.String.{String}
 use Rattle.std.specs.List.{onto_first, list_all, join_with_byte}
@@ -14,9 +14,9 @@ use Rattle.push_base.specs.Cases.{is_empty}
 use Rattle.push_base.specs.Optional.{◌>>=◌}
 use Rattle.dnsname.proofs.Decisions.{and_true}
 use Rattle.replay.specs.Lines.{lines_by, Word, ScriptLine, silent, client, lone, update, hear, ask, drop_question, open_connection, cut, say, up, emit, down, settle, send, feed, point, word, is, of_word, by_first_word, of_words, line_of, is_word_octet}
-use Rattle.replay.specs.Scripts.{onto_line, lines_in, client_word, client_words, is_among, last_is_outside}
+use Rattle.replay.specs.Scripts.{onto_line, lines_in, client_word, client_words, is_among, last_is_outside, lone_in}
 use Rattle.replay.specs.KeptLines.{words_in}
-use Rattle.replay.specs.Drafts.{lines_left, client_in, in_list, has_client, known_clients, lone_in}
+use Rattle.replay.specs.Drafts.{lines_left, client_in, has_client, known_clients}
 use Rattle.replay.specs.declared.clients.KnownClient.{KnownClient}
 use Rattle.replay.proofs.lines.LineKinds.{chosen_none, timers_none, zone_none, link_none, word_none, at_none, octets_none, word_octets_none, word_question_none, reconfirm_none, word_number_none, stop_none, alone_none, show_none, is_that}
 
@@ -210,11 +210,11 @@ names_none line no_client no_lone = by_client (client_in line) refl
 
 -- ---- the words of the clients
 
-words_more : (o : Option ScriptLine) (lines : List (Option ScriptLine)) → client_words (o ∷ lines) ≡ in_list (o >>= client_word) ++ client_words lines
+words_more : (o : Option ScriptLine) (lines : List (Option ScriptLine)) → client_words (o ∷ lines) ≡ option_to_list (o >>= client_word) ++ client_words lines
 words_more None lines = refl
 words_more (Some line) lines = by_word (client_word line)
   where
-    by_word : (r : Option Word) → elim r [ None ↦ client_words lines | Some v ↦ v ∷ client_words lines ] ≡ in_list r ++ client_words lines
+    by_word : (r : Option Word) → elim r [ None ↦ client_words lines | Some v ↦ v ∷ client_words lines ] ≡ option_to_list r ++ client_words lines
     by_word None = refl
     by_word (Some v) = refl
 
@@ -293,15 +293,15 @@ outside_last too_long rest line after e outside =
 abbrev pub clients_left : Bool → List ℕ → List Word
 clients_left too_long rest = client_words (lines_left too_long rest)
 
-pub clients_more : (too_long : Bool) (rest line after : List ℕ) (words then whole : List Word) → lines_in rest ≡ line ∷ lines_in after → (too_long && is_empty after) ≡ false → then ≡ words ++ in_list (client_in line)
+pub clients_more : (too_long : Bool) (rest line after : List ℕ) (words then whole : List Word) → lines_in rest ≡ line ∷ lines_in after → (too_long && is_empty after) ≡ false → then ≡ words ++ option_to_list (client_in line)
     → words ++ clients_left too_long rest ≡ whole → then ++ clients_left too_long after ≡ whole
 clients_more too_long rest line after words then whole e inside added so =
     ap (λ (ws : List Word). ws ++ clients_left too_long after) added
-    ∙ append_assoc words (in_list (client_in line)) (clients_left too_long after)
+    ∙ append_assoc words (option_to_list (client_in line)) (clients_left too_long after)
     ∙ ap (λ (ws : List Word). words ++ ws) (sym (here too_long rest line after e inside))
     ∙ so
   where
-    here : (too_long : Bool) (rest line after : List ℕ) → lines_in rest ≡ line ∷ lines_in after → (too_long && is_empty after) ≡ false → clients_left too_long rest ≡ in_list (client_in line) ++ clients_left too_long after
+    here : (too_long : Bool) (rest line after : List ℕ) → lines_in rest ≡ line ∷ lines_in after → (too_long && is_empty after) ≡ false → clients_left too_long rest ≡ option_to_list (client_in line) ++ clients_left too_long after
     here too_long rest line after e inside =
         ap (λ (ls : List (Option ScriptLine)). client_words ls) (left_more too_long rest line after e)
         ∙ ap (λ (b : Bool). client_words (cond b None (line_of line) ∷ lines_left too_long after)) inside

@@ -2,12 +2,12 @@
 --     AreLines front taken      the lines so far make the head and the events
 --     adds      what a line that may stand there makes of them
 use Rattle.std.proofs.Common.{◌≡◌, ℕ, ◌+◌, Bool, true, false, cond, not, ◌||◌, ◌==◌, Option, Some, None, List, [], ◌∷◌, ◌++◌, map, find, length, zero, suc, refl, sym, ◌∙◌, ap, subst, arith, append_assoc, length-append}
-use Rattle.std.specs.Prelude.{is_some, option_map, string_bytes, unwrap_or, All}
-use Rattle.std.specs.List.{AllByRecursion, list_any}
+use Rattle.std.specs.Prelude.{is_some, option_map, option_to_list, string_bytes, unwrap_or, All, filter_map}
+use Rattle.std.specs.List.{AllByRecursion, list_any, cons_option}
 use Rattle.std.specs.Str.{bytes_eq}
 use Rattle.std.proofs.lemmas.Bool.Decides.{nat_tests}
 use Rattle.std.proofs.lemmas.List.{append-nil, map-append}
-use Rattle.std.proofs.lemmas.List.Elements.{All-append}
+use Rattle.std.proofs.lemmas.List.Elements.{All-append, filter_map-append}
 use Rattle.dnsname.proofs.Decisions.{and_true}
 use Rattle.rrset.proofs.Distinct.{distinct_push, distinct_none}
 use Rattle.coalesce.proofs.ReadBack.{each-append}
@@ -19,7 +19,7 @@ use Rattle.history.specs.States.{State}
 use Rattle.history.specs.Plans.{IsStart}
 use Rattle.history.specs.Keeping.{HomesKept, state_of}
 use Rattle.replay.specs.Lines.{Word, ScriptLine}
-use Rattle.replay.specs.Scripts.{Known, fits, allowed, client_word}
+use Rattle.replay.specs.Scripts.{Known, fits, may_follow, allowed, client_word, lone_in}
 use Rattle.replay.specs.World.{Head, empty_head, with_head_line}
 use Rattle.replay.specs.declared.line.ZoneLine.{ZoneLine}
 use Rattle.replay.specs.declared.line.Event.{Event}
@@ -27,9 +27,9 @@ use Rattle.replay.specs.declared.line.Event.TheVariants as events
 use Rattle.replay.specs.declared.line.Line.{Line}
 use Rattle.replay.specs.declared.line.Line.TheVariants as lines
 use Rattle.replay.specs.KeptLines.{timers_said, zone_said, event_said, said, IsEvent, IsSound}
-use Rattle.replay.specs.KeptScripts.{events_said, seats_named}
+use Rattle.replay.specs.KeptScripts.{events_said}
 use Rattle.replay.specs.KeptWorlds.{AreDistinct}
-use Rattle.replay.specs.Drafts.{Taken, known_of, lone_in, client_added, may_happen, may_stand, in_list, with_zone, HasZone, GrowsBy}
+use Rattle.replay.specs.Drafts.{Taken, known_of, known_by, client_added, may_stand, with_zone, HasZone, GrowsBy}
 use Rattle.replay.specs.BuiltScripts.{is_built}
 use Rattle.replay.proofs.worlds.Seats.{same_word, word_itself, other_way}
 use Rattle.replay.proofs.lines.Happening.{happening, happening-more, head_behind, head-more}
@@ -49,7 +49,7 @@ pub record AreLines (front : List ScriptLine) (taken : Taken) : Type 0 where
   pub head : head_behind empty_head front ≡ head_taken taken
   pub start : IsStart (state_of taken.homes)
   pub are_events : AllByRecursion IsEvent (events_said taken.events)
-  pub named : seats_named (events_said taken.events) ≡ words_known taken.clients
+  pub named : filter_map client_word (events_said taken.events) ≡ words_known taken.clients
   pub distinct : AreDistinct (words_known taken.clients)
 
 abbrev pub nothing_taken : Taken
@@ -150,7 +150,7 @@ some-allowed true known = refl
 some-allowed false known = refl
 
 -- an event may stand there as its word may
-pub may-happen : (all : List Word) (taken : Taken) (e : Event) → may_stand all (known_of taken) (event_said e) ≡ may_happen all taken.clients e
+pub may-happen : (all : List Word) (taken : Taken) (e : Event) → may_stand all (known_of taken) (event_said e) ≡ may_follow all (known_by taken.clients) (event_said e)
 may-happen all taken (events.Update o) = refl
 may-happen all taken (events.Send s) = some-allowed _ _
 may-happen all taken events.Point = refl
@@ -232,9 +232,10 @@ event-built (events.Settle s) = refl
 
 -- ---- the words of the clients
 
-seats_named-append : (xs ys : List ScriptLine) → seats_named (xs ++ ys) ≡ seats_named xs ++ seats_named ys
-seats_named-append [] ys = refl
-seats_named-append (x ∷ xs) ys = ap (λ (ws : List Word). in_list (client_word x) ++ ws) (seats_named-append xs ys) ∙ sym (append_assoc (in_list (client_word x)) (seats_named xs) (seats_named ys))
+-- a word, if there is one, in front of others
+pub onto_words : (word : Option Word) (words : List Word) → cons_option word words ≡ option_to_list word ++ words
+onto_words None words = refl
+onto_words (Some w) words = refl
 
 not_true : (b : Bool) → not b ≡ true → b ≡ false
 not_true true h = absurd cc
@@ -258,7 +259,7 @@ among-known (e ∷ es) w = by (bytes_eq w e.0) refl (among-known es w)
 words-more : (clients : List (Word × Bool)) (line : ScriptLine) → words_known (clients ++ client_added line) ≡ words_known clients ++ words_known (client_added line)
 words-more clients line = map-append (λ (e : Word × Bool). e.0) clients (client_added line)
 
-words-added : (e : Event) → words_known (client_added (event_said e)) ≡ in_list (client_word (event_said e))
+words-added : (e : Event) → words_known (client_added (event_said e)) ≡ option_to_list (client_word (event_said e))
 words-added (events.Update o) = refl
 words-added (events.Send s) = refl
 words-added events.Point = refl
@@ -274,13 +275,13 @@ words-added (events.Settle s) = refl
 words-added (events.Feed s) = refl
 words-added (events.Show s) = refl
 
-words-then : (taken : Taken) (e : Event) → words_known (taken.clients ++ client_added (event_said e)) ≡ words_known taken.clients ++ in_list (client_word (event_said e))
+words-then : (taken : Taken) (e : Event) → words_known (taken.clients ++ client_added (event_said e)) ≡ words_known taken.clients ++ option_to_list (client_word (event_said e))
 words-then taken e = words-more taken.clients (event_said e) ∙ ap (λ (ws : List Word). words_known taken.clients ++ ws) (words-added e)
 
 distinct-new : (clients : List (Word × Bool)) (w : Word) → not (is_some (lone_in clients w)) ≡ true → AreDistinct (words_known clients) → AreDistinct (words_known clients ++ w ∷ [])
 distinct-new clients w h d = distinct_push bytes_eq (words_known clients) w d (among-known clients w ∙ not_true (is_some (lone_in clients w)) h)
 
-distinct-more : (all : List Word) (taken : Taken) (e : Event) → may_happen all taken.clients e ≡ true → AreDistinct (words_known taken.clients) → AreDistinct (words_known taken.clients ++ in_list (client_word (event_said e)))
+distinct-more : (all : List Word) (taken : Taken) (e : Event) → may_follow all (known_by taken.clients) (event_said e) ≡ true → AreDistinct (words_known taken.clients) → AreDistinct (words_known taken.clients ++ option_to_list (client_word (event_said e)))
 distinct-more all taken (events.Client j) h d = distinct-new taken.clients (string_bytes j.word) h d
 distinct-more all taken (events.Lone l) h d = distinct-new taken.clients (string_bytes l.word) h d
 distinct-more all taken (events.Update o) h d = subst AreDistinct (sym (append-nil (words_known taken.clients))) d
@@ -313,9 +314,9 @@ event_adds all taken e sound h =
         start = are.start;
         are_events = subst (AllByRecursion IsEvent) (sym more) (each-append IsEvent (events_said taken.events) (event_said e ∷ []) are.are_events (sound, tt));
         named =
-            ap seats_named more
-            ∙ seats_named-append (events_said taken.events) (event_said e ∷ [])
-            ∙ (λ i. are.named i ++ append-nil (in_list (client_word (event_said e))) i)
+            ap (filter_map client_word) more
+            ∙ filter_map-append client_word (events_said taken.events) (event_said e ∷ [])
+            ∙ (λ i. are.named i ++ (onto_words (client_word (event_said e)) [] ∙ append-nil (option_to_list (client_word (event_said e)))) i)
             ∙ sym (words-then taken e);
         distinct = subst AreDistinct (sym (words-then taken e)) (distinct-more all taken e (sym (may-happen all taken e) ∙ h) are.distinct);
       };

@@ -1,6 +1,6 @@
 -- A script that is read line by line.
 use Rattle.std.proofs.Common.{◌≡◌, ℕ, ◌+◌, ◌≤◌, Bool, true, false, cond, ◌&&◌, Option, Some, None, Result, Ok, Err, List, [], ◌∷◌, ◌++◌, length, nat_lt, refl, sym, ◌∙◌, ap, subst, inl, inr, arith, append_assoc}
-use Rattle.std.specs.Prelude.{is_some, unwrap_or}
+use Rattle.std.specs.Prelude.{is_some, unwrap_or, filter_map}
 use Rattle.replay.specs.declared.clients.KnownClient.{KnownClient}
 use Rattle.std.specs.List.{AllByRecursion}
 use Rattle.std.proofs.lemmas.Bool.{cases_Bool}
@@ -12,7 +12,7 @@ use Rattle.dsosession.specs.Timing.{default_timers}
 use Rattle.history.specs.Keeping.{HomesKept, state_of}
 use Rattle.history.specs.Plans.{IsStart}
 use Rattle.replay.specs.Lines.{Word, ScriptLine, line_of}
-use Rattle.replay.specs.Scripts.{Known, nothing_known, fits, client_words, lines_in, lines_read, lines_from, with_line, max_script}
+use Rattle.replay.specs.Scripts.{Known, nothing_known, fits, client_words, lines_in, lines_read, lines_from, with_line, max_script, client_word}
 use Rattle.replay.specs.World.{Head, world_of, start_world}
 use Rattle.replay.specs.TextWords.{by_notices}
 use Rattle.replay.specs.Text.{printed_by, world_after}
@@ -20,7 +20,7 @@ use Rattle.replay.specs.declared.line.Event.{Event}
 use Rattle.replay.specs.declared.line.Line.{Line}
 use Rattle.replay.specs.declared.script.Script.{Script}
 use Rattle.replay.specs.KeptLines.{said, built_line, understood, IsEvent, IsSound}
-use Rattle.replay.specs.KeptScripts.{IsBuilt, events_said, seats_named, world_at_start}
+use Rattle.replay.specs.KeptScripts.{IsBuilt, events_said, world_at_start}
 use Rattle.replay.specs.KeptWorlds.{AreDistinct}
 use Rattle.replay.specs.Drafts.{Taken, known_clients, known_of, may_stand, GrowsBy, lines_left}
 use Rattle.replay.specs.BuiltScripts.{is_built, first_unbuilt, first_later}
@@ -227,5 +227,5 @@ ends octets script taken number rest of so none =
       last = after-happening so.front (start_world so.front) ∙ ap (λ (ls : List ScriptLine). world_after ls (start_world so.front)) (so.are.happen ∙ happen);
       start = subst (λ (hs : HomesKept). IsStart (state_of hs)) (sym of.homes) so.are.start;
       are_events = subst (AllByRecursion IsEvent) happen so.are.are_events;
-      distinct = subst AreDistinct (sym so.are.named ∙ ap seats_named happen) so.are.distinct;
+      distinct = subst AreDistinct (sym so.are.named ∙ ap (filter_map client_word) happen) so.are.distinct;
     }

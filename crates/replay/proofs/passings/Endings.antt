@@ -13,13 +13,13 @@ use Rattle.pushclient.specs.Clients.{Client, closed_as}
 use Rattle.pushclient.specs.Rule.{StandsFor}
 use Rattle.replay.specs.Lines.{Word}
 use Rattle.replay.specs.World.{World, Seat, with_seat, cut_seat}
-use Rattle.replay.specs.PassedOctets.{Passed, passed, enough, settled}
+use Rattle.replay.specs.PassedOctets.{Passed, passed, enough, settled, settling}
 use Rattle.replay.specs.TextWords.{spaced}
 use Rattle.replay.specs.Text.{Printed, quietly, ended_lines, end_lines, close_lines, cut_where, finished, settles}
 use Rattle.replay.specs.declared.seats.Seat as program
 use Rattle.replay.specs.KeptWorlds.{KeptSeat, Seated, seat_kept, seated, Parties, StandForSeats, HasPrinted, Acts}
 use Rattle.replay.specs.KeptSeats.{has_word, Makes, HasCut, closing_text}
-use Rattle.replay.specs.KeptPassings.{settling, HasSettled, Settles, is_told, finished_seat, finished_hub, HasFinished, HasEnded, EndsSo, EndsAt}
+use Rattle.replay.specs.KeptPassings.{HasSettled, Settles, is_told, finished_seat, finished_hub, HasFinished, HasEnded, EndsSo, EndsAt}
 use Rattle.replay.proofs.worlds.SettledWorlds.{settled-world}
 use Rattle.replay.proofs.worlds.Seats.{absent, called, IsCalled, calls-made, put-put}
 use Rattle.replay.proofs.worlds.SeatsDoing.{with_seats}

@@ -29,13 +29,13 @@ use Rattle.pushserver.proofs.SessionLists.{other-number, found-left}
 use Rattle.pushserver.proofs.hub_steps.Cases.{enters_moment, moment_as}
 use Rattle.pushserver.proofs.Walks.{AnyMessage, IsKept, keeps-called, holds-update, with_new}
 use Rattle.replay.specs.Lines.{Word, ScriptLine, silent, timers, zone, lone, at_moment, update, ask, drop_question, open_connection, cut, send, feed, stop, point, show, client, settle}
-use Rattle.replay.specs.World.{Seat, World, start_world, seat_of, number_in, session_number, hub_without, cut_connection, cut_peer, new_seat, with_seat, without, cut_seat}
+use Rattle.replay.specs.World.{Seat, World, start_world, seat_of, number_in, session_number, hub_without, cut_connection, cut_peer, new_seat, with_seat, without, cut_seat, stopped_hub}
 use Rattle.coalesce.proofs.ReadBack.{each-append}
 use Rattle.pushserver.proofs.hub_steps.Pairs.{all-weaken}
 use Rattle.pushserver.proofs.session_steps.Lists.{found-each}
 use Rattle.pushclient.specs.Clients.{Client, closed_as, connected, is_connected}
 use Rattle.pushclient.specs.Steps as steps
-use Rattle.replay.specs.PassedOctets.{Exchanged, exchanged, enough}
+use Rattle.replay.specs.PassedOctets.{Exchanged, exchanged, enough, settling}
 use Rattle.replay.specs.TextWords.{by_history}
 use Rattle.replay.specs.Text.{placed, Printed, quietly, printing, cut_where, end_lines, close_lines, timed, finished, settles, feeds, asks, opens, seated, subscribing, unsubscribing, exchanges, session_of_word, line_does, world_after}
 use Rattle.replay.specs.Pieces.{is_of_others}
@@ -45,7 +45,6 @@ use Rattle.replay.proofs.worlds.TimedSeats.{peers-timed, peers-cut_where}
 use Rattle.replay.proofs.worlds.OneWorld.{shows-leave}
 use Rattle.replay.proofs.worlds.FedSeats.{fed, fed_words, fed_ending, feeds_as, feeds_by}
 use Rattle.replay.proofs.worlds.Keeping.{any-parts, keeps-exchanged, exchanged-keeps, give-keeps}
-use Rattle.replay.specs.KeptPassings.{settling}
 use Rattle.replay.proofs.worlds.Seats.{put_seat}
 use Rattle.replay.proofs.worlds.SeatLines.{asks_by, opens_as, opens_by, peers-asks, peers-opens}
 use Rattle.replay.proofs.worlds.SettledWorlds.{PassingsKeep, settling-keeps, settled-world, settled-names}
@@ -298,7 +297,7 @@ module _ (world : World) where
   moment_now t = now (hubs.moment world.hub t).1
 
   abbrev stopped : ℕ → ℕ → Option ℕ → World
-  stopped rcode delay o = elim o as (λ _. World) [ None ↦ world | Some number ↦ record world { hub = hubs.stop world.hub number rcode delay } ]
+  stopped rcode delay o = record world { hub = stopped_hub o rcode delay world.hub }
 
   abbrev session_by : Word → Option Seat → Option ℕ
   session_by w o = elim o as (λ _. Option ℕ) [ Some seat ↦ seat.session | None ↦ session_number world w ]
@@ -571,7 +570,7 @@ module _ (w : Word) (number : ℕ) where
   has-stops : (v : Word) (rcode delay : ℕ) (world : World) → Has world → Has (line_does by_history (stop v rcode delay) world).0
   has-stops v rcode delay world known = by (session_of_word world v)
     where
-      by : (o : Option ℕ) → Has (elim o as (λ _. World) [ None ↦ world | Some m ↦ record world { hub = hubs.stop world.hub m rcode delay } ])
+      by : (o : Option ℕ) → Has (stopped world rcode delay o)
       by None = known
       by (Some m) = known
 

@@ -5,7 +5,6 @@ use Rattle.std.proofs.Common.{◌≡◌, ℕ, ◌≤◌, Bool, true, false, cond
 use Rattle.std.specs.Prelude.{nat_lt, option_map, IsSome}
 use Rattle.push_base.specs.Cases.{is_empty}
 use Rattle.push_base.specs.Limits.{max_number}
-use Rattle.push_base.specs.Hexadecimal.{hex_text}
 use Rattle.rrset.specs.Header.{id_of}
 use Rattle.rrset.specs.Rcodes.{noerror}
 use Rattle.rrset.specs.declared.record.Question.{Question}
@@ -25,7 +24,7 @@ use Rattle.pushserver.proofs.Walks.{with_new}
 use Rattle.replay.specs.Lines.{Word}
 use Rattle.replay.specs.World.{World, session_number}
 use Rattle.replay.specs.PassedOctets.{exchanged, enough}
-use Rattle.replay.specs.TextWords.{spaced, octets_text}
+use Rattle.replay.specs.TextWords.{spaced, bytes_words}
 use Rattle.replay.specs.Text.{Printed, printing, end_lines, exchanges, sends}
 use Rattle.replay.proofs.serving.LastSession.{IsBehind, hub_at, session_of-last, in_session-last}
 use Rattle.replay.proofs.serving.Answering.{notices_for, begun, clocks_at, first_answer-additions}
@@ -36,7 +35,7 @@ use Rattle.replay.proofs.turns.ZoneSizes.{IsBounded}
 
 -- the line of octets that come back
 abbrev pub bytes_line : Word → List ℕ → List ℕ
-bytes_line w octets = spaced (codes "bytes" ∷ w ∷ hex_text octets ∷ [])
+bytes_line w octets = spaced (bytes_words w octets)
 
 -- a hub's new session
 abbrev new_in : Hub → Session
@@ -109,8 +108,7 @@ module _ (world : World) (w : Word) (octets message : List ℕ) (question : Ques
         let some : is_empty reply ≡ false = refl in
         let g : Gives world.hub (exchanged enough world.hub.numbers_given octets (with_new world.hub) []) reply =
         gives world.hub below octets message reply (is_answered world.hub below message question a) found some few (is_short world.hub below message question a bounded) in
-        (λ i. spaced (codes "bytes" ∷ w ∷ octets_text (g.octets i) ∷ []) ∷ end_lines w (g.over i))
-        ∙ ap (λ (b : Bool). spaced (codes "bytes" ∷ w ∷ cond b (codes "-") (hex_text reply) ∷ []) ∷ []) some
+        (λ i. bytes_line w (g.octets i) ∷ end_lines w (g.over i))
 
     pub sent-line : session_number world w ≡ None → IsSome (connect world.hub).0 → IsAcceptable (connect world.hub).1 (new_in world.hub) message question
         → (sends w octets world).1 ≡ bytes_line w (first_reply (connect world.hub).1 message question) ∷ []

@@ -10,8 +10,7 @@ use Rattle.pushclient.specs.Clients.{Client, Connection, in_connection, take_oct
 use Rattle.pushclient.specs.Steps.{step}
 use Rattle.pushclient.proofs.Reactions.{Does, does-reacted}
 use Rattle.pushclient.proofs.MessageSteps.{step_by, unclosed_by}
-use Rattle.replay.specs.PassedOctets.{Delivered, delivered, stepped, enough}
-use Rattle.replay.specs.KeptFeeds.{reached_by, fed_client}
+use Rattle.replay.specs.PassedOctets.{Delivered, delivered, stepped, enough, reached_by, fed_client}
 use Rattle.replay.proofs.Deliveries.{stepped_by, later_of, delivered_by, stops_at}
 use Rattle.replay.proofs.steps.StepTurns.{connected_by}
 

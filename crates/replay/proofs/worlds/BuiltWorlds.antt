@@ -20,15 +20,13 @@ use Rattle.pushclient.specs.Clients.{Client, new_client, subscribe, unsubscribe,
 use Rattle.pushclient.specs.Steps as steps
 use Rattle.replay.specs.Lines.{Word, ScriptLine, silent, timers, zone, lone, at_moment, update, ask, drop_question, open_connection, cut, send, feed, stop, point, show, client as joins, settle}
 use Rattle.replay.specs.World.{Seat, World, seat_of, with_seat, session_number, hub_without, cut_connection, cut_peer, new_seat, cut_seat}
-use Rattle.replay.specs.PassedOctets.{Passed, Exchanged, exchanged, enough, max_wire, to_client}
+use Rattle.replay.specs.PassedOctets.{Passed, Exchanged, exchanged, enough, max_wire, to_client, reached_by, settling}
 use Rattle.replay.specs.TextWords.{by_history}
-use Rattle.replay.specs.Text.{Printed, quietly, printing, cut_where, end_lines, close_lines, finished, feeds, timed, asks, subscribing, unsubscribing, opens_lone, opens_hub, opens, exchanges, session_of_word, line_does, world_after, settles, seated}
+use Rattle.replay.specs.Text.{Printed, quietly, printing, cut_where, end_lines, close_lines, finished, feeds, timed, asks, subscribing, unsubscribing, opens_lone, opens_hub, opens, exchanges, session_of_word, line_does, world_after, settles, seated, asked_to_stop}
 use Rattle.replay.specs.BuiltScripts.{is_built}
 use Rattle.replay.proofs.worlds.OneWorld.{shows-leave}
-use Rattle.replay.specs.KeptFeeds.{reached_by}
 use Rattle.replay.proofs.worlds.FedSeats.{fed, fed_words, fed_ending, feeds_as, feeds_by}
 use Rattle.replay.proofs.worlds.Keeping.{InParts, exchanged-keeps, give-keeps}
-use Rattle.replay.specs.KeptPassings.{settling}
 use Rattle.replay.proofs.worlds.SettledWorlds.{PassingsKeep, settling-keeps, settled-world}
 use Rattle.replay.proofs.worlds.Seats.{put_seat}
 use Rattle.replay.proofs.lines.SentOctets.{sent_by}
@@ -173,7 +171,7 @@ module _ (Good : List ℕ → Type 0) (P : Hub → Type 0) (kept : IsKept Good P
   keeps-stops : (w : Word) (rcode delay : ℕ) (world : World) → Has world → Has (line_does by_history (stop w rcode delay) world).0
   keeps-stops w rcode delay world h = by (session_of_word world w)
     where
-      by : (o : Option ℕ) → Has (elim o as (λ _. World) [ None ↦ world | Some number ↦ record world { hub = hubs.stop world.hub number rcode delay } ])
+      by : (o : Option ℕ) → Has (asked_to_stop o rcode delay world)
       by None = h
       by (Some number) = record { hub = keeps-called Good P kept (stops number rcode delay) world.hub tt h.hub; seats = h.seats }
 

@@ -12,13 +12,13 @@ use Rattle.pushserver.specs.Hubs.{newest, now}
 use Rattle.pushserver.specs.KeptHubs.{KeptHub, StandsFor}
 use Rattle.pushserver.proofs.Walks.{with_new}
 use Rattle.replay.specs.Lines.{Word}
-use Rattle.replay.specs.World.{World, Seat, cut_peer, cut_connection, number_in, session_number}
+use Rattle.replay.specs.World.{World, Seat, cut_peer, cut_connection, number_in, session_number, stopped_hub}
 use Rattle.replay.specs.PassedOctets.{exchanged, enough}
 use Rattle.replay.specs.TextWords.{spaced, end_words, octets_text}
 use Rattle.replay.specs.Text.{Printed, ended_lines, printing, updates, moments, timed, asked_to_stop, stops, cuts, exchanges, sends, end_lines}
 use Rattle.replay.specs.KeptExchanges.{Exchanges}
 use Rattle.replay.specs.KeptWorlds.{KeptSeat, Parties, StandsForWorld, HasPrinted, Acts}
-use Rattle.replay.specs.KeptSeats.{has_word, stopped_hub, IsTimed, Times, TimesWorld}
+use Rattle.replay.specs.KeptSeats.{has_word, IsTimed, Times, TimesWorld}
 use Rattle.replay.proofs.worlds.Seats.{absent, IsSeated, is-seated}
 use Rattle.replay.proofs.worlds.TimedSeats.{peers-timed, links-timed}
 
@@ -94,11 +94,8 @@ nobody = None
 no_seat : (w : Word) (kept : KeptHub) (known : Parties) (world : World) → position (has_word w) known.seats ≡ None → StandsForWorld kept known world → find (λ s. bytes_eq s.word w) world.seats ≡ nobody
 no_seat w kept known world none s = absent w known.seats world.seats s.seats none
 
-abbrev stopped_by : ℕ → ℕ → World → Option ℕ → World
-stopped_by rcode delay world session = elim session as (λ _. World) [ None ↦ world | Some number ↦ record world { hub = hubs.stop world.hub number rcode delay } ]
-
 abbrev stops_by : Word → ℕ → ℕ → World → Option Seat → Printed
-stops_by w rcode delay world o = printing (codes "stop" ∷ w ∷ []) (stopped_by rcode delay world (elim o as (λ _. Option ℕ) [ Some seat ↦ seat.session | None ↦ session_number world w ]))
+stops_by w rcode delay world o = printing (codes "stop" ∷ w ∷ []) (asked_to_stop (elim o as (λ _. Option ℕ) [ Some seat ↦ seat.session | None ↦ session_number world w ]) rcode delay world)
 
 pub stops-act : (kept later : KeptHub) (known known_later : Parties) (w : Word) (rcode delay : ℕ) (written : List ℕ) → position (has_word w) known.seats ≡ None
     → ((world : World) → StandsForWorld kept known world → StandsForWorld later known_later (asked_to_stop (session_number world w) rcode delay world)) → written ≡ codes "stop " ++ (w ++ 10 ∷ []) → Acts (stops w rcode delay) kept known written later known_later
@@ -106,10 +103,6 @@ unfolding Acts
 stops-act kept later known known_later w rcode delay written none does is world s d =
     subst (λ (o : Option Seat). HasPrinted later known_later written (stops_by w rcode delay world o)) (sym (no_seat w kept known world none s))
     (record { text = is ∙ one_line (codes "stop " ++ w); stands = does world s })
-
-stops-so : (session : Option ℕ) (rcode delay : ℕ) (world : World) → record world { hub = stopped_hub session rcode delay world.hub } ≡ stopped_by rcode delay world session
-stops-so None rcode delay world = refl
-stops-so (Some number) rcode delay world = refl
 
 -- a client's session
 pub stops-seat : (kept later : KeptHub) (known : Parties) (w : Word) (rcode delay place : ℕ) (k : KeptSeat) (session : Option ℕ) (written : List ℕ) → position (has_word w) known.seats ≡ Some place → k ≡ get_or known.seats place k → session ≡ k.session
@@ -119,8 +112,8 @@ stops-seat kept later known w rcode delay place k session written at there sessi
     let p : IsSeated w known.seats place world = is-seated w known.seats world place s.seats at in
     let same : session ≡ p.seat.session = session_is ∙ (p.here k there).session in
     subst (λ (o : Option Seat). HasPrinted later known written (stops_by w rcode delay world o)) (sym p.found)
-    (subst (λ (o : Option ℕ). HasPrinted later known written (printing (codes "stop" ∷ w ∷ []) (stopped_by rcode delay world o))) same
-    (record { text = is ∙ one_line (codes "stop " ++ w); stands = subst (StandsForWorld later known) (stops-so session rcode delay world) (with_hub later (stopped_hub session rcode delay world.hub) kept known world s (does world.hub s.hub)) }))
+    (subst (λ (o : Option ℕ). HasPrinted later known written (printing (codes "stop" ∷ w ∷ []) (asked_to_stop o rcode delay world))) same
+    (record { text = is ∙ one_line (codes "stop " ++ w); stands = with_hub later (stopped_hub session rcode delay world.hub) kept known world s (does world.hub s.hub) }))
 
 -- what a cut leaves
 abbrev pub CutsPeer : Word → KeptHub → Parties → KeptHub → Parties → Type 0

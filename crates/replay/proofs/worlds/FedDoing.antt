@@ -10,13 +10,14 @@ use Rattle.pushserver.specs.KeptHubs.{KeptHub}
 use Rattle.pushclient.specs.Clients.{Client, closed_as, output_of}
 use Rattle.pushclient.specs.Rule.{KeptClient, StandsFor}
 use Rattle.replay.specs.Lines.{Word}
-use Rattle.replay.specs.World.{Seat, World, with_seat, cut_seat}
+use Rattle.replay.specs.World.{Seat, World, with_seat, cut_seat, with_client, hub_then}
 use Rattle.replay.specs.TextWords.{spaced, octets_text}
 use Rattle.replay.specs.Text.{Printed, close_lines, cut_where, feeds}
 use Rattle.replay.specs.KeptSteps.{Delivers, HandsOut}
 use Rattle.replay.specs.KeptWorlds.{KeptSeat, Seated, Parties, StandsForSeat, StandForSeats, HasPrinted, Acts}
-use Rattle.replay.specs.KeptSeats.{has_word, with_client, Makes, Calls, Answers, HasCut, hub_then, closing_text}
-use Rattle.replay.specs.KeptFeeds.{reached_by, fed_client, fed_seat, HasFed, fed_text}
+use Rattle.replay.specs.KeptSeats.{has_word, Makes, Calls, Answers, HasCut, closing_text}
+use Rattle.replay.specs.KeptFeeds.{fed_seat, HasFed, fed_text}
+use Rattle.replay.specs.PassedOctets.{reached_by, fed_client}
 use Rattle.replay.proofs.steps.StepsConnected.{fed-connected}
 use Rattle.replay.proofs.worlds.Doing.{one_line, two_parts, worded}
 use Rattle.replay.proofs.worlds.FedSeats.{feeds_as, feeds_by}

@@ -5,12 +5,10 @@
 use Rattle.std.proofs.Common.{ℕ, Bool, cond, List, [], ◌∷◌, ◌++◌, Option, Some, None, codes}
 use Rattle.pushclient.specs.Clients.{closed_as, output_of, is_connected}
 use Rattle.replay.specs.Lines.{Word}
-use Rattle.replay.specs.World.{Seat, World}
-use Rattle.replay.specs.PassedOctets.{Passed, passed}
+use Rattle.replay.specs.World.{Seat, World, with_client}
+use Rattle.replay.specs.PassedOctets.{Passed, passed, reached_by, fed_client}
 use Rattle.replay.specs.TextWords.{octets_text}
 use Rattle.replay.specs.Text.{Printed, quietly, printing, end_lines, close_lines, finished}
-use Rattle.replay.specs.KeptSeats.{with_client}
-use Rattle.replay.specs.KeptFeeds.{reached_by, fed_client}
 
 abbrev pub fed : List ℕ → World → Seat → Passed
 fed octets world seat = passed world (with_client (fed_client octets) seat) 0

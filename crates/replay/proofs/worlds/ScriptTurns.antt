@@ -3,6 +3,7 @@
 --     turn      one event more
 --     written      the text is written, and the world is left
 use Rattle.std.proofs.Common.{◌≡◌, ℕ, ◌+◌, ◌<◌, ◌≤◌, List, [], ◌∷◌, ◌++◌, length, drop, get_or, sym, ◌∙◌, ap, subst, refl, append_assoc, append-nil}
+use Rattle.std.specs.Prelude.{filter_map, option_to_list}
 use Rattle.std.proofs.lemmas.List.{at_drop_more, drop_all}
 use Rattle.replay.specs.World.{World}
 use Rattle.replay.specs.TextWords.{by_notices}
@@ -11,13 +12,12 @@ use Rattle.replay.specs.declared.line.Event.{Event}
 use Rattle.replay.specs.declared.world.World as program
 use Rattle.replay.specs.Lines.{Word, ScriptLine}
 use Rattle.replay.specs.Scripts.{client_word}
-use Rattle.replay.specs.Drafts.{in_list}
 use Rattle.replay.specs.KeptLines.{event_said}
-use Rattle.replay.specs.KeptScripts.{events_said, seats_named}
+use Rattle.replay.specs.KeptScripts.{events_said}
 use Rattle.replay.specs.KeptWorlds.{IsWorld, AreDistinct, words_in, Acts, Does}
 use Rattle.replay.proofs.worlds.OneWorld.{one-world}
 use Rattle.replay.proofs.worlds.SeatWords.{distinct-front, words-line}
-use Rattle.replay.proofs.lines.MoreLines.{event-built}
+use Rattle.replay.proofs.lines.MoreLines.{event-built, onto_words}
 
 -- the text from a world on
 abbrev pub text_from : World → List Event → List ℕ
@@ -27,7 +27,7 @@ text_from world happened = ended_lines (printed_by by_notices (events_said happe
 pub record IsWritten (kept : program.World) (text : List ℕ) (happened : List Event) (whole : List ℕ) (last : World) : Type 0 where
   pub world : World
   pub stands : IsWorld kept world
-  pub distinct : AreDistinct (words_in world ++ seats_named (events_said happened))
+  pub distinct : AreDistinct (words_in world ++ filter_map client_word (events_said happened))
   pub said : text ++ text_from world happened ≡ whole
   pub left : world_after (events_said happened) world ≡ last
 
@@ -43,15 +43,16 @@ turn before after happened i e text line now whole last within is w does now_is 
     let printed = line_does by_notices (event_said e) w.world in
     let rest = drop (i + 1) happened in
     let here : events_said (drop i happened) ≡ event_said e ∷ events_said rest = at_drop_more events_said happened i e within ∙ ap (λ (f : Event). events_said (f ∷ rest)) (sym is) in
-    let named : AreDistinct (words_in w.world ++ seats_named (event_said e ∷ events_said rest)) = subst (λ (ls : List ScriptLine). AreDistinct (words_in w.world ++ seats_named ls)) here w.distinct in
-    let p = does w.world w.stands (distinct-front (words_in w.world) (seats_named (event_said e ∷ events_said rest)) named) in
+    let named : AreDistinct (words_in w.world ++ filter_map client_word (event_said e ∷ events_said rest)) = subst (λ (ls : List ScriptLine). AreDistinct (words_in w.world ++ filter_map client_word ls)) here w.distinct in
+    let p = does w.world w.stands (distinct-front (words_in w.world) (filter_map client_word (event_said e ∷ events_said rest)) named) in
     record {
       world = printed.0;
       stands = p.stands;
       distinct =
           subst AreDistinct
-          (sym (append_assoc (words_in w.world) (in_list (client_word (event_said e))) (seats_named (events_said rest)))
-          ∙ ap (λ (ws : List Word). ws ++ seats_named (events_said rest)) (sym (ap words_in (one-world by_notices (event_said e) w.world) ∙ words-line (event_said e) w.world (event-built e)))) named;
+          (ap (λ (ws : List Word). words_in w.world ++ ws) (onto_words (client_word (event_said e)) (filter_map client_word (events_said rest)))
+          ∙ sym (append_assoc (words_in w.world) (option_to_list (client_word (event_said e))) (filter_map client_word (events_said rest)))
+          ∙ ap (λ (ws : List Word). ws ++ filter_map client_word (events_said rest)) (sym (ap words_in (one-world by_notices (event_said e) w.world) ∙ words-line (event_said e) w.world (event-built e)))) named;
       said = ap (λ t. t ++ text_from printed.0 rest) (now_is ∙ ap (λ l. text ++ l) p.text)
           ∙ append_assoc text (ended_lines printed.1) (text_from printed.0 rest)
           ∙ ap (λ t. text ++ t) (sym (ended-append printed.1 (printed_by by_notices (events_said rest) printed.0)))

@@ -1,7 +1,7 @@
 -- The words of a world's clients behind built lines: those that there were, and those that the lines name.
 --     words-line      the law of a line
 --     distinct-front      no word twice among the first
-use Rattle.std.proofs.Common.{◌≡◌, ℕ, Bool, true, false, cond, List, [], ◌∷◌, ◌++◌, fold, Option, Some, None, option_map, ap, refl, sym, ◌∙◌, codes, append-nil}
+use Rattle.std.proofs.Common.{◌≡◌, ℕ, Bool, true, false, cond, List, [], ◌∷◌, ◌++◌, fold, Option, Some, None, option_map, option_to_list, ap, refl, sym, ◌∙◌, codes, append-nil}
 use Rattle.std.specs.List.{IsDistinct}
 use Rattle.std.specs.Str.{bytes_eq}
 use Rattle.std.proofs.lemmas.List.{map-append}
@@ -14,14 +14,12 @@ use Rattle.pushclient.specs.Steps as steps
 use Rattle.replay.specs.Lines.{Word, ScriptLine, silent, timers, zone, lone, at_moment, update, ask, drop_question, open_connection, cut, send, feed, stop, point, show, client, settle}
 use Rattle.replay.specs.Scripts.{client_word}
 use Rattle.replay.specs.World.{Seat, World, new_seat, seat_of, with_seat, session_number, cut_seat, cut_connection, cut_peer}
-use Rattle.replay.specs.PassedOctets.{Exchanged, exchanged, enough}
+use Rattle.replay.specs.PassedOctets.{Exchanged, exchanged, enough, settling}
 use Rattle.replay.specs.TextWords.{by_history}
-use Rattle.replay.specs.Text.{Printed, quietly, printing, cut_where, end_lines, close_lines, feeds, timed, asks, subscribing, unsubscribing, opens_lone, opens_hub, opens, exchanges, session_of_word, line_does, finished}
-use Rattle.replay.specs.Drafts.{in_list}
+use Rattle.replay.specs.Text.{Printed, quietly, printing, cut_where, end_lines, close_lines, feeds, timed, asks, subscribing, unsubscribing, opens_lone, opens_hub, opens, exchanges, session_of_word, line_does, finished, asked_to_stop}
 use Rattle.replay.specs.KeptWorlds.{AreDistinct, words_in}
 use Rattle.replay.proofs.worlds.OneWorld.{shows-leave}
 use Rattle.replay.proofs.worlds.FedSeats.{fed, fed_ending, feeds_as, feeds_by}
-use Rattle.replay.specs.KeptPassings.{settling}
 use Rattle.replay.proofs.worlds.SettledWorlds.{settled-world}
 use Rattle.replay.proofs.worlds.BuiltWorlds.{IsBuiltLine}
 use Rattle.replay.proofs.worlds.Seats.{words-put}
@@ -99,7 +97,7 @@ module _ (world : World) where
   same-stops : (w : Word) (rcode delay : ℕ) → Keeps (line_does by_history (stop w rcode delay) world).0
   same-stops w rcode delay = by (session_of_word world w)
     where
-      by : (o : Option ℕ) → Keeps (elim o as (λ _. World) [ None ↦ world | Some number ↦ record world { hub = hubs.stop world.hub number rcode delay } ])
+      by : (o : Option ℕ) → Keeps (asked_to_stop o rcode delay world)
       by None = refl
       by (Some number) = refl
 
@@ -172,7 +170,7 @@ module _ (world : World) where
   quiet : (later : World) → Keeps later → words_in later ≡ words_in world ++ []
   quiet later h = h ∙ sym (append-nil (words_in world))
 
-pub words-line : (line : ScriptLine) (world : World) → IsBuiltLine line → words_in (line_does by_history line world).0 ≡ words_in world ++ in_list (client_word line)
+pub words-line : (line : ScriptLine) (world : World) → IsBuiltLine line → words_in (line_does by_history line world).0 ≡ words_in world ++ option_to_list (client_word line)
 words-line silent world is = quiet world world refl
 words-line (timers i k) world is = quiet world world refl
 words-line (zone apex serial mode) world is = quiet world world refl

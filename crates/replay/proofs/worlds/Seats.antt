@@ -21,10 +21,10 @@ use Rattle.pushclient.specs.Clients.{Client, is_connected, connected, cut, close
 use Rattle.pushclient.specs.Steps.{moment}
 use Rattle.pushclient.specs.Rule.{KeptClient, StandsFor}
 use Rattle.replay.specs.Lines.{Word}
-use Rattle.replay.specs.World.{Seat, World, seat_of, with_seat, cut_seat, hub_without}
+use Rattle.replay.specs.World.{Seat, World, seat_of, with_seat, cut_seat, hub_without, with_client, joined}
 use Rattle.replay.specs.declared.seats.Seat as program
 use Rattle.replay.specs.KeptWorlds.{KeptSeat, Seated, seat_kept, seated, StandsForSeat, StandForSeats, AreDistinct, words_in}
-use Rattle.replay.specs.KeptSeats.{has_word, with_client, joined, timed_seat, Makes, Calls, Answers, HasCut, HasTimed}
+use Rattle.replay.specs.KeptSeats.{has_word, timed_seat, Makes, Calls, Answers, HasCut, HasTimed}
 use Rattle.replay.proofs.worlds.Connected.{connected-is, moment-connected}
 
 -- ---- words

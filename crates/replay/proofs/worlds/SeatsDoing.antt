@@ -14,12 +14,12 @@ use Rattle.pushserver.specs.KeptHubs as hubs
 use Rattle.pushserver.specs.KeptHubs.{KeptHub}
 use Rattle.pushclient.specs.Clients.{Client, connected}
 use Rattle.replay.specs.Lines.{Word}
-use Rattle.replay.specs.World.{Seat, World, new_seat, with_seat, cut_seat, cut_connection, cut_peer}
+use Rattle.replay.specs.World.{Seat, World, new_seat, with_seat, cut_seat, cut_connection, cut_peer, with_client, joined}
 use Rattle.replay.specs.TextWords.{spaced}
-use Rattle.replay.specs.Text.{Printed, quietly, ended_lines, printing, asks, opens, opens_lone, opens_hub, cuts, seated}
+use Rattle.replay.specs.Text.{Printed, quietly, ended_lines, printing, asks, opens, opens_lone, opens_hub, cuts, seated, by_seat}
 use Rattle.replay.specs.declared.seats.Seat as program
 use Rattle.replay.specs.KeptWorlds.{KeptSeat, Seated, seat_kept, seated as seats_kept, Parties, StandsForSeat, StandForSeats, HasPrinted, Acts}
-use Rattle.replay.specs.KeptSeats.{has_word, with_client, joined, Calls, Answers, HasCut, by_seat}
+use Rattle.replay.specs.KeptSeats.{has_word, Calls, Answers, HasCut}
 use Rattle.replay.proofs.worlds.Doing.{one_line, two_parts, worded, if_acts, refused-same}
 use Rattle.replay.proofs.worlds.SeatLines.{asks_by, opens_as, opens_by, hub_opens}
 use Rattle.replay.proofs.worlds.Seats.{absent, called, IsCalled, is-seated, IsSeated, stand-more}

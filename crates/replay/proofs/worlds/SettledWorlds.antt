@@ -9,8 +9,7 @@ use Rattle.pushserver.specs.PlainHubs.{Hub}
 use Rattle.pushserver.specs.Hubs.{take_octets, taken_by}
 use Rattle.pushserver.specs.Giving.{give}
 use Rattle.replay.specs.World.{World, Seat}
-use Rattle.replay.specs.PassedOctets.{Passed, passed, enough, max_wire, nothing_emitted, say, up, emit, down, round, settled}
-use Rattle.replay.specs.KeptPassings.{settling}
+use Rattle.replay.specs.PassedOctets.{Passed, passed, enough, max_wire, nothing_emitted, say, up, emit, down, round, settled, settling}
 use Rattle.replay.proofs.worlds.Keeping.{keeps-emitted}
 
 -- ---- the world

@@ -10,10 +10,10 @@ use Rattle.pushserver.specs.KeptHubs.{KeptHub}
 use Rattle.pushclient.specs.Clients.{closed_as}
 use Rattle.pushclient.specs.Steps as steps
 use Rattle.replay.specs.Lines.{Word}
-use Rattle.replay.specs.World.{Seat, World, with_seat, cut_seat, hub_without}
+use Rattle.replay.specs.World.{Seat, World, with_seat, cut_seat, hub_without, hub_then}
 use Rattle.replay.specs.Text.{Printed, ended_lines, close_lines, cut_where, timed}
 use Rattle.replay.specs.KeptWorlds.{KeptSeat, Seated, StandsForSeat, StandForSeats, AreDistinct, words_in}
-use Rattle.replay.specs.KeptSeats.{timed_seat, hub_then, Calls, HasTimed, closing_text, IsTimed, Times}
+use Rattle.replay.specs.KeptSeats.{timed_seat, Calls, HasTimed, closing_text, IsTimed, Times}
 use Rattle.replay.proofs.worlds.Seats.{is_of_word, words_of, put_seat, put-at, put-put, seat-at, set-at}
 
 -- ---- what they leave

@@ -3,7 +3,8 @@ use Rattle.std.proofs.lemmas.List.{with_items_is}
 use Rattle.pushclient.specs.Clients.{Client, subscribe}
 use Rattle.replay.specs.Text.{asked_words, subscribing}
 use Rattle.replay.specs.KeptWorlds.{parties_of}
-use Rattle.replay.specs.KeptSeats.{Answers, with_client}
+use Rattle.replay.specs.KeptSeats.{Answers}
+use Rattle.replay.specs.World.{with_client}
 use Rattle.replay.proofs.worlds.Seats.{place-known, calls-moved, calls-told}
 use Rattle.replay.proofs.worlds.SeatsDoing.{asks-none, asks-told}
 use Rattle.replay.proofs.client_lines.ask_line.Goals as goal

@@ -1,8 +1,8 @@
 use Rattle.std.proofs.Common.{◌++◌, ◌∷◌, [], ◌∙◌, codes}
 use Rattle.std.proofs.lemmas.List.{with_items_is}
-use Rattle.replay.specs.Text.{opens_hub}
+use Rattle.replay.specs.Text.{opens_hub, by_seat}
 use Rattle.replay.specs.KeptWorlds.{parties_of}
-use Rattle.replay.specs.KeptSeats.{joined, by_seat}
+use Rattle.replay.specs.World.{joined}
 use Rattle.replay.proofs.worlds.Doing.{if_acts, is_err}
 use Rattle.replay.proofs.worlds.Seats.{calls-moved}
 use Rattle.replay.proofs.worlds.SeatsDoing.{opened-hub, opened-refused}

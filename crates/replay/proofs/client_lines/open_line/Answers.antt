@@ -1,9 +1,8 @@
 use Rattle.std.proofs.Common.{◌<◌, ◌++◌, ◌∷◌, [], List, length, get_or, sym, ap, ◌∙◌, arith, codes, string_bytes}
 use Rattle.std.proofs.lemmas.List.{length-map}
-use Rattle.replay.specs.Text.{opens, opens_lone, opens_hub}
+use Rattle.replay.specs.Text.{opens, opens_lone, opens_hub, by_seat}
 use Rattle.replay.specs.declared.seats.Seat.{Seat}
 use Rattle.replay.specs.KeptWorlds.{seat_kept, seated, parties_of}
-use Rattle.replay.specs.KeptSeats.{by_seat}
 use Rattle.replay.proofs.worlds.Doing.{if_acts, if_then}
 use Rattle.replay.proofs.worlds.Seats.{place-known, is-there}
 use Rattle.replay.proofs.worlds.SeatsDoing.{opens-none, opens-already, opens-as_lone, opens-as_hub}

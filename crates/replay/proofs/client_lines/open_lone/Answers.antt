@@ -1,9 +1,9 @@
 use Rattle.std.proofs.Common.{◌++◌, ◌∷◌, [], ◌∙◌, codes}
 use Rattle.std.proofs.lemmas.List.{with_items_is}
 use Rattle.pushclient.specs.Clients.{connected}
-use Rattle.replay.specs.Text.{opens_lone}
+use Rattle.replay.specs.Text.{opens_lone, by_seat}
 use Rattle.replay.specs.KeptWorlds.{parties_of}
-use Rattle.replay.specs.KeptSeats.{with_client, by_seat}
+use Rattle.replay.specs.World.{with_client}
 use Rattle.replay.proofs.worlds.Doing.{if_acts}
 use Rattle.replay.proofs.worlds.Seats.{calls-moved}
 use Rattle.replay.proofs.worlds.SeatsDoing.{opened-lone}

@@ -1,6 +1,7 @@
 use Rattle.std.proofs.Common.{◌≡◌, refl}
 use Rattle.pushclient.specs.Clients.{unsubscribe}
-use Rattle.replay.specs.KeptSeats.{Answers, with_client}
+use Rattle.replay.specs.KeptSeats.{Answers}
+use Rattle.replay.specs.World.{with_client}
 use Rattle.replay.proofs.worlds.Seats.{calls-made}
 use Rattle.replay.proofs.seats.drop_at.Goals as goal
 

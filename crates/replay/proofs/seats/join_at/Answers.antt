@@ -1,5 +1,5 @@
 use Rattle.std.proofs.Common.{refl}
-use Rattle.replay.specs.KeptSeats.{joined}
+use Rattle.replay.specs.World.{joined}
 use Rattle.replay.proofs.worlds.Seats.{calls-made}
 use Rattle.replay.proofs.seats.join_at.Goals as goal
 

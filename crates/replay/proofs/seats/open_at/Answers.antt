@@ -1,6 +1,6 @@
 use Rattle.std.proofs.Common.{refl}
 use Rattle.pushclient.specs.Clients.{connected}
-use Rattle.replay.specs.KeptSeats.{with_client}
+use Rattle.replay.specs.World.{with_client}
 use Rattle.replay.proofs.worlds.Seats.{calls-made}
 use Rattle.replay.proofs.seats.open_at.Goals as goal
 
