@@ -1,4 +1,5 @@
 -- A peer that sends its octets in pieces, in lines of a script.
+pub mod ApartWorlds
 pub mod OtherLines
 pub mod PieceLines
 pub mod SentPieces

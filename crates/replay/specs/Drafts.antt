@@ -1,4 +1,4 @@
--- A further line behind those of a script, and the lines that are left.
+-- A further line behind those of a script.
 --     Taken, taken_of draft      the head, the events and the clients so far
 --     known_clients clients      their words, and whether each is a lone one
 --     known_by clients      what lines that made these alone have made
@@ -7,9 +7,8 @@
 --     may_stand all known line      whether a line is built and may stand there
 --     GrowsBy taken line later      the head and the events with a further line
 --     TakesLine all draft line later taken      the line is taken where it may stand there
---     lines_left too_long text      the lines of what is left of a script
 --     client_in line, has_client w clients      the client that a line names, and whether one of the clients has a word
-use Rattle.std.specs.Prelude.{◌≡◌, ℕ, Bool, true, false, ◌&&◌, ◌==◌, List, [], ◌∷◌, ◌++◌, map, length, Option, Some, is_some, string_bytes, if◌then◌else◌}
+use Rattle.std.specs.Prelude.{◌≡◌, ℕ, Bool, true, false, ◌&&◌, ◌==◌, List, [], ◌∷◌, ◌++◌, map, length, Option, Some, is_some, string_bytes}
 use Rattle.std.specs.List.{list_any}
 use Rattle.std.specs.Str.{bytes_eq}
 use Rattle.std.specs.declared.alloc.Global.{Global}
@@ -20,7 +19,7 @@ use Rattle.zoneupdate.specs.Zones.{ZoneState, new_zone}
 use Rattle.history.specs.States.{State}
 use Rattle.history.specs.Keeping.{HomesKept, state_of, named_homes}
 use Rattle.replay.specs.Lines.{Word, ScriptLine, client, lone, line_of}
-use Rattle.replay.specs.Scripts.{Known, nothing_known, fits, client_word, lines_in, last_is_outside}
+use Rattle.replay.specs.Scripts.{Known, nothing_known, fits, client_word}
 use Rattle.replay.specs.declared.line.ZoneLine.{ZoneLine}
 use Rattle.replay.specs.declared.line.Event.{Event}
 use Rattle.replay.specs.declared.line.Line.{Line}
@@ -88,11 +87,7 @@ abbrev pub TakesLine : List Word → Draft → Line → Draft → Bool → Type 
 TakesLine all draft line later true = (may_stand all (known_of (taken_of draft)) (said line) ≡ true) × GrowsBy (taken_of draft) line (taken_of later)
 TakesLine all draft line later false = may_stand all (known_of (taken_of draft)) (said line) ≡ false
 
--- ---- the lines that are left
-
--- the lines of the rest of a script, the last of which is outside where the script is too long
-abbrev pub lines_left : Bool → List ℕ → List (Option ScriptLine)
-lines_left too_long text = if too_long then last_is_outside (map line_of (lines_in text)) else map line_of (lines_in text)
+-- ---- clients by their words
 
 -- the word of the client, or of the lone one, that a line names
 abbrev pub client_in : List ℕ → Option Word

@@ -11,6 +11,7 @@ use Rattle.std.specs.Prelude.{◌≤◌, ◌<◌, ◌^◌, length, ℕ, Bool, tr
 use Rattle.std.specs.List.{slice_split}
 use Rattle.push_base.specs.Limits.{max_moment}
 use Rattle.push_base.specs.Optional.{◌>>=◌}
+use Rattle.dsotlv.specs.Messages.{max_frame}
 use Rattle.dsosession.specs.declared.session.Timers.{Timers}
 use Rattle.replay.specs.Lines.{Word, ScriptLine, silent, timers, zone, lone, at_moment, update, ask, drop_question, open_connection, cut, send, feed, stop, point, show, is, alone, of_word, of_octets, of_word_and_octets, of_word_and_question, timers_line, zone_line, at_line, show_line, stop_line, client, settle}
 use Rattle.replay.specs.BuiltScripts.{is_built}
@@ -131,7 +132,7 @@ said_behind kinds.Other ws = None
 -- an event line: octets that are no more than a frame's (RFC 7766, 8), a moment, an RCODE and a delay, each within its bounds
 abbrev pub IsEvent : ScriptLine → Type 0
 IsEvent (at_moment t) = t ≤ max_moment
-IsEvent (update octets) = length octets ≤ 65537
+IsEvent (update octets) = length octets ≤ max_frame
 IsEvent (client w) = Unit {0}
 IsEvent (lone w) = Unit {0}
 IsEvent (ask w question) = Unit {0}
@@ -139,8 +140,8 @@ IsEvent (drop_question w question) = Unit {0}
 IsEvent (open_connection w) = Unit {0}
 IsEvent (cut w) = Unit {0}
 IsEvent (settle w) = Unit {0}
-IsEvent (send w octets) = length octets ≤ 65537
-IsEvent (feed w octets) = length octets ≤ 65537
+IsEvent (send w octets) = length octets ≤ max_frame
+IsEvent (feed w octets) = length octets ≤ max_frame
 IsEvent (stop w rcode delay) = (rcode < 16) × (delay < 2 ^ 32)
 IsEvent point = Unit {0}
 IsEvent (show w question written) = Unit {0}

@@ -3,7 +3,7 @@
 --     SendsPieces script sent      the script is built, these are its lines, no entry is made, and the session goes on
 --     TellsInTurn sent told      what is told of each piece answers the messages that it completes
 --     pieces_reply records sent told      the status and the text, where this is told
-use Rattle.std.specs.Prelude.{◌≡◌, ℕ, Bool, true, not, List, [], ◌∷◌, ◌++◌, map, take, length, flat_map, codes, Some, None, Ok}
+use Rattle.std.specs.Prelude.{◌≡◌, ℕ, Bool, true, not, List, [], ◌∷◌, ◌++◌, map, take, length, flat_map, Some, None, Ok}
 use Rattle.std.specs.List.{concat, list_all, AllByRecursion}
 use Rattle.std.specs.Str.{bytes_eq}
 use Rattle.dsotlv.specs.Messages.{messages_in}

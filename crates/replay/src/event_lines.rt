@@ -2,14 +2,14 @@
 
 ghost use Rattle.std.specs.Prelude.{◌≡◌, ◌++◌, ◌∷◌, [], codes, decimal, IfOk, string_bytes};
 ghost use Rattle.replay.specs.TextWords.{by_notices, end_words, octets_text};
-ghost use Rattle.replay.specs.Text.{cuts, exchanges, line_does, moments, printing, sends, stops, updates};
+ghost use Rattle.replay.specs.Text.{cuts, exchanges, line_does, moments, printing, sends, session_of_word, stops, updates};
 ghost use Rattle.pushserver.specs.Hubs.{newest, now};
 ghost use Rattle.pushserver.specs.KeptHubs.{StandsFor};
 ghost use Rattle.pushserver.specs.PlainHubs.{Hub as PlainHub};
 ghost use Rattle.replay.specs.KeptLines.{event_said};
-ghost use Rattle.replay.specs.KeptWorlds.{Does, parties_of};
+ghost use Rattle.replay.specs.KeptWorlds.{Does, IsWorld, parties_of};
 ghost use Rattle.replay.specs.KeptSeats.{TimesWorld};
-ghost use Rattle.replay.specs.World.{stopped_hub};
+ghost use Rattle.replay.specs.World.{World as Plain, stopped_hub};
 
 use crate::client_lines::{ask_line, client_line, drop_line, noseat_text, open_line, timed_lines};
 use crate::exchanging::{Exchanged, exchange};
@@ -104,15 +104,23 @@ fn stop_line(
 ) -> Result<String, NoMemory>
     ensures { IfOk result (λ text. Does (stops word.now rcode delay) world.old (string_bytes text) world.new) }
 {
+    let session = session_of_word(world, word);
+    stop_session(&mut world.hub, session, rcode, delay);
+    stop_text(alloc, word)
+}
+
+// The session of a client, or else that of a peer.
+fn session_of_word(world: &World, word: &str) -> Option<u64>
+    ensures { (plain : Plain) → IsWorld world.now plain → result ≡ session_of_word plain word.now }
+{
     match place_of(&world.seats, word) {
         Some(place) => {
             let session = session_at(&world.seats, place);
-            stop_session(&mut world.hub, session, rcode, delay);
-            stop_text(alloc, word)
+            session
         }
         None => {
-            world.stop(word, rcode, delay);
-            stop_text(alloc, word)
+            let session = world.session(word);
+            session
         }
     }
 }

@@ -6,6 +6,7 @@ ghost use Rattle.std.specs.List.{list_all};
 ghost use Rattle.std.specs.Result.{result_ok};
 ghost use Rattle.push_base.specs.Hexadecimal.{hex_octets};
 ghost use Rattle.push_base.specs.Limits.{max_moment, max_number};
+ghost use Rattle.dsotlv.specs.Messages.{max_frame};
 ghost use Rattle.replay.specs.Lines.{number, max_u32, word, octets_written, is_digit, has_form, writable_of, is_word_octet};
 
 use dnsname::name::{Name, Octets, TextFault};
@@ -56,7 +57,7 @@ pub(crate) fn text_of_word(alloc: Global, text: &[u8]) -> Result<Option<String>,
 /// The octets that a word stands for: two hexadecimal digits for each, or `-` for none.
 pub(crate) fn octets_of_word(alloc: Global, text: &[u8]) -> Result<Option<Octets>, NoMemory>
     ensures exact { IfOk result (λ octets. octets ≡ octets_written text.now) }
-    ensures short { IfOk result (λ found. IfSome found (λ octets. length octets ≤ 65537)) }
+    ensures short { IfOk result (λ found. IfSome found (λ octets. length octets ≤ max_frame)) }
 {
     match text {
         b"-" => Ok(Some(Octets::new(alloc))),

@@ -3,8 +3,7 @@
 ghost use Rattle.std.specs.Prelude.{◌≡◌, [], IfOk};
 ghost use Rattle.history.specs.Keeping.{state_of};
 ghost use Rattle.history.specs.Plans.{IsStart};
-ghost use Rattle.replay.specs.World.{World as Plain, world_of, cut_peer, number_in, session_number, without};
-ghost use Rattle.replay.specs.Text.{asked_to_stop};
+ghost use Rattle.replay.specs.World.{World as Plain, world_of, cut_peer, number_in, without};
 ghost use Rattle.replay.specs.KeptWorlds.{IsWorld, named};
 
 use crate::seats::Seat;
@@ -81,14 +80,5 @@ impl World {
             self.hub.end(session);
         }
         take_out(&mut self.peers, word);
-    }
-
-    /// The session of a peer is asked to stop, if it has one.
-    pub fn stop(&mut self, word: &str, rcode: u8, delay: u32)
-        ensures { (world : Plain) → IsWorld self.old world → IsWorld self.new (asked_to_stop (session_number world word.now) rcode delay world) }
-    {
-        if let Some(session) = self.session(word) {
-            self.hub.stop(session, rcode, delay);
-        }
     }
 }

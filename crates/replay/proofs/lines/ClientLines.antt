@@ -14,9 +14,9 @@ use Rattle.push_base.specs.Cases.{is_empty}
 use Rattle.push_base.specs.Optional.{◌>>=◌}
 use Rattle.dnsname.proofs.Decisions.{and_true}
 use Rattle.replay.specs.Lines.{lines_by, Word, ScriptLine, silent, client, lone, update, hear, ask, drop_question, open_connection, cut, say, up, emit, down, settle, send, feed, point, word, is, of_word, by_first_word, of_words, line_of, is_word_octet}
-use Rattle.replay.specs.Scripts.{onto_line, lines_in, client_word, client_words, is_among, last_is_outside, lone_in}
+use Rattle.replay.specs.Scripts.{onto_line, lines_in, client_word, client_words, is_among, last_is_outside, lone_in, lines_left}
 use Rattle.replay.specs.KeptLines.{words_in}
-use Rattle.replay.specs.Drafts.{lines_left, client_in, has_client, known_clients}
+use Rattle.replay.specs.Drafts.{client_in, has_client, known_clients}
 use Rattle.replay.specs.declared.clients.KnownClient.{KnownClient}
 use Rattle.replay.proofs.lines.LineKinds.{chosen_none, timers_none, zone_none, link_none, word_none, at_none, octets_none, word_octets_none, word_question_none, reconfirm_none, word_number_none, stop_none, alone_none, show_none, is_that}
 

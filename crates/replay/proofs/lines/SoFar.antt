@@ -12,7 +12,7 @@ use Rattle.dsosession.specs.Timing.{default_timers}
 use Rattle.history.specs.Keeping.{HomesKept, state_of}
 use Rattle.history.specs.Plans.{IsStart}
 use Rattle.replay.specs.Lines.{Word, ScriptLine, line_of}
-use Rattle.replay.specs.Scripts.{Known, nothing_known, fits, client_words, lines_in, lines_read, lines_from, with_line, max_script, client_word}
+use Rattle.replay.specs.Scripts.{Known, nothing_known, fits, client_words, lines_in, lines_read, lines_from, with_line, max_script, client_word, lines_left}
 use Rattle.replay.specs.World.{Head, world_of, start_world}
 use Rattle.replay.specs.TextWords.{by_notices}
 use Rattle.replay.specs.Text.{printed_by, world_after}
@@ -22,7 +22,7 @@ use Rattle.replay.specs.declared.script.Script.{Script}
 use Rattle.replay.specs.KeptLines.{said, built_line, understood, IsEvent, IsSound}
 use Rattle.replay.specs.KeptScripts.{IsBuilt, events_said, world_at_start}
 use Rattle.replay.specs.KeptWorlds.{AreDistinct}
-use Rattle.replay.specs.Drafts.{Taken, known_clients, known_of, may_stand, GrowsBy, lines_left}
+use Rattle.replay.specs.Drafts.{Taken, known_clients, known_of, may_stand, GrowsBy}
 use Rattle.replay.specs.BuiltScripts.{is_built, first_unbuilt, first_later}
 use Rattle.replay.proofs.lines.ClientLines.{left_more, left_none, outside_last}
 use Rattle.replay.proofs.lines.Happening.{prints-happening, after-happening}

@@ -26,7 +26,8 @@ use Rattle.replay.proofs.worlds.BetweenLines.{each-behind, after-append, printed
 use Rattle.replay.proofs.worlds.BuiltWorlds.{IsBuiltLine}
 use Rattle.replay.proofs.worlds.Longer.{longer-lines}
 use Rattle.replay.proofs.serving.NewPeer.{by_number}
-use Rattle.replay.proofs.pieces.OtherLines.{IsApart, apart-lines, peer-stays-lines, others-leave}
+use Rattle.replay.proofs.pieces.ApartWorlds.{IsApart, apart-lines}
+use Rattle.replay.proofs.pieces.OtherLines.{peer-stays-lines, others-leave}
 use Rattle.replay.proofs.rest.RanLaws.{followed_by, followed, ran-append}
 use Rattle.replay.proofs.rest.StreamCounts.{rest-has-none}
 use Rattle.replay.proofs.rest.RestingStreams.{first_part, second_part, cut_behind, first-octets, second-octets}

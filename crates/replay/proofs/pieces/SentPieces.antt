@@ -23,7 +23,7 @@ use Rattle.replay.proofs.worlds.BetweenLines.{printed-append, lines-append, each
 use Rattle.replay.proofs.worlds.BuiltHeads.{built-script}
 use Rattle.replay.proofs.worlds.BuiltWorlds.{IsBuiltLine}
 use Rattle.replay.proofs.worlds.InputOctets.{HoldsOctets, found_octets, octets-lines, octets-connected}
-use Rattle.replay.proofs.pieces.OtherLines.{IsApart, apart-start, apart-lines, apart-placed}
+use Rattle.replay.proofs.pieces.ApartWorlds.{IsApart, apart-start, apart-lines, apart-placed}
 use Rattle.replay.proofs.pieces.PieceLines.{Makes, Waits, TellsTurns, lines_in, sends-known, turn-lines}
 use Rattle.replay.proofs.pieces.Placing.{IsPlaced, placed-is, placed-holds}
 use Rattle.replay.proofs.rest.Turning.{turns-as-told}

@@ -1,6 +1,6 @@
 -- Octets leave a client with a connection where it has one, and without where it has none.
 --     delivered-connected, fed-connected      the laws
-use Rattle.std.proofs.Common.{◌≡◌, ℕ, zero, suc, ◌==◌, ◌||◌, Bool, true, false, List, ◌++◌, length, take, drop, min, Option, Some, None, option_map, refl, ◌∙◌, ap}
+use Rattle.std.proofs.Common.{◌≡◌, ℕ, zero, suc, Bool, true, false, List, ◌++◌, length, take, drop, min, Option, Some, None, option_map, refl, ◌∙◌, ap}
 use Rattle.std.specs.Prelude.{is_some}
 use Rattle.dsotlv.specs.Messages.{first_message}
 use Rattle.dsosession.specs.declared.session.CloseReason.{CloseReason}

@@ -20,12 +20,12 @@ use Rattle.pushclient.specs.Clients.{Client, new_client, subscribe, unsubscribe,
 use Rattle.pushclient.specs.Steps as steps
 use Rattle.replay.specs.Lines.{Word, ScriptLine, silent, timers, zone, lone, at_moment, update, ask, drop_question, open_connection, cut, send, feed, stop, point, show, client as joins, settle}
 use Rattle.replay.specs.World.{Seat, World, seat_of, with_seat, session_number, hub_without, cut_connection, cut_peer, new_seat, cut_seat}
-use Rattle.replay.specs.PassedOctets.{Passed, Exchanged, exchanged, enough, max_wire, to_client, reached_by, settling}
+use Rattle.replay.specs.PassedOctets.{Exchanged, exchanged, enough, max_wire, to_client, reached_by, settling}
 use Rattle.replay.specs.TextWords.{by_history}
 use Rattle.replay.specs.Text.{Printed, quietly, printing, cut_where, end_lines, close_lines, finished, feeds, timed, asks, subscribing, unsubscribing, opens_lone, opens_hub, opens, exchanges, session_of_word, line_does, world_after, settles, seated, asked_to_stop}
 use Rattle.replay.specs.BuiltScripts.{is_built}
 use Rattle.replay.proofs.worlds.OneWorld.{shows-leave}
-use Rattle.replay.proofs.worlds.FedSeats.{fed, fed_words, fed_ending, feeds_as, feeds_by}
+use Rattle.replay.proofs.worlds.FedSeats.{fed, fed_ending, feeds_as, feeds_by}
 use Rattle.replay.proofs.worlds.Keeping.{InParts, exchanged-keeps, give-keeps}
 use Rattle.replay.proofs.worlds.SettledWorlds.{PassingsKeep, settling-keeps, settled-world}
 use Rattle.replay.proofs.worlds.Seats.{put_seat}

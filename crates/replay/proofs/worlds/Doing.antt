@@ -15,7 +15,7 @@ use Rattle.replay.specs.Lines.{Word}
 use Rattle.replay.specs.World.{World, Seat, cut_peer, cut_connection, number_in, session_number, stopped_hub}
 use Rattle.replay.specs.PassedOctets.{exchanged, enough}
 use Rattle.replay.specs.TextWords.{spaced, end_words, octets_text}
-use Rattle.replay.specs.Text.{Printed, ended_lines, printing, updates, moments, timed, asked_to_stop, stops, cuts, exchanges, sends, end_lines}
+use Rattle.replay.specs.Text.{Printed, ended_lines, printing, updates, moments, timed, asked_to_stop, session_of_word, stops, cuts, exchanges, sends, end_lines}
 use Rattle.replay.specs.KeptExchanges.{Exchanges}
 use Rattle.replay.specs.KeptWorlds.{KeptSeat, Parties, StandsForWorld, HasPrinted, Acts}
 use Rattle.replay.specs.KeptSeats.{has_word, IsTimed, Times, TimesWorld}
@@ -94,26 +94,28 @@ nobody = None
 no_seat : (w : Word) (kept : KeptHub) (known : Parties) (world : World) → position (has_word w) known.seats ≡ None → StandsForWorld kept known world → find (λ s. bytes_eq s.word w) world.seats ≡ nobody
 no_seat w kept known world none s = absent w known.seats world.seats s.seats none
 
-abbrev stops_by : Word → ℕ → ℕ → World → Option Seat → Printed
-stops_by w rcode delay world o = printing (codes "stop" ∷ w ∷ []) (asked_to_stop (elim o as (λ _. Option ℕ) [ Some seat ↦ seat.session | None ↦ session_number world w ]) rcode delay world)
-
-pub stops-act : (kept later : KeptHub) (known known_later : Parties) (w : Word) (rcode delay : ℕ) (written : List ℕ) → position (has_word w) known.seats ≡ None
-    → ((world : World) → StandsForWorld kept known world → StandsForWorld later known_later (asked_to_stop (session_number world w) rcode delay world)) → written ≡ codes "stop " ++ (w ++ 10 ∷ []) → Acts (stops w rcode delay) kept known written later known_later
-unfolding Acts
-stops-act kept later known known_later w rcode delay written none does is world s d =
-    subst (λ (o : Option Seat). HasPrinted later known_later written (stops_by w rcode delay world o)) (sym (no_seat w kept known world none s))
-    (record { text = is ∙ one_line (codes "stop " ++ w); stands = does world s })
-
--- a client's session
-pub stops-seat : (kept later : KeptHub) (known : Parties) (w : Word) (rcode delay place : ℕ) (k : KeptSeat) (session : Option ℕ) (written : List ℕ) → position (has_word w) known.seats ≡ Some place → k ≡ get_or known.seats place k → session ≡ k.session
+-- the session of the word is known
+pub stops-act : (kept later : KeptHub) (known : Parties) (w : Word) (rcode delay : ℕ) (session : Option ℕ) (written : List ℕ) → ((world : World) → StandsForWorld kept known world → session ≡ session_of_word world w)
     → ((hub : Hub) → StandsFor kept hub → StandsFor later (stopped_hub session rcode delay hub)) → written ≡ codes "stop " ++ (w ++ 10 ∷ []) → Acts (stops w rcode delay) kept known written later known
 unfolding Acts
-stops-seat kept later known w rcode delay place k session written at there session_is does is world s d =
+stops-act kept later known w rcode delay session written tells does is world s d =
+    subst (λ (o : Option ℕ). HasPrinted later known written (printing (codes "stop" ∷ w ∷ []) (asked_to_stop o rcode delay world))) (tells world s)
+    (record { text = is ∙ one_line (codes "stop " ++ w); stands = with_hub later (stopped_hub session rcode delay world.hub) kept known world s (does world.hub s.hub) })
+
+abbrev session_by : World → Word → Option Seat → Option ℕ
+session_by world w o = elim o as (λ _. Option ℕ) [ Some seat ↦ seat.session | None ↦ session_number world w ]
+
+-- that of a client
+pub client-session : (kept : KeptHub) (known : Parties) (w : Word) (place : ℕ) (k : KeptSeat) (session : Option ℕ) → position (has_word w) known.seats ≡ Some place → k ≡ get_or known.seats place k → session ≡ k.session
+    → (world : World) → StandsForWorld kept known world → session ≡ session_of_word world w
+client-session kept known w place k session at there session_is world s =
     let p : IsSeated w known.seats place world = is-seated w known.seats world place s.seats at in
-    let same : session ≡ p.seat.session = session_is ∙ (p.here k there).session in
-    subst (λ (o : Option Seat). HasPrinted later known written (stops_by w rcode delay world o)) (sym p.found)
-    (subst (λ (o : Option ℕ). HasPrinted later known written (printing (codes "stop" ∷ w ∷ []) (asked_to_stop o rcode delay world))) same
-    (record { text = is ∙ one_line (codes "stop " ++ w); stands = with_hub later (stopped_hub session rcode delay world.hub) kept known world s (does world.hub s.hub) }))
+    session_is ∙ (p.here k there).session ∙ sym (ap (session_by world w) p.found)
+
+-- that of a peer
+pub peer-session : (kept : KeptHub) (known : Parties) (w : Word) (session : Option ℕ) → position (has_word w) known.seats ≡ None → session ≡ number_in known.peers w
+    → (world : World) → StandsForWorld kept known world → session ≡ session_of_word world w
+peer-session kept known w session none is world s = is ∙ number_known known w kept world s ∙ sym (ap (session_by world w) (no_seat w kept known world none s))
 
 -- what a cut leaves
 abbrev pub CutsPeer : Word → KeptHub → Parties → KeptHub → Parties → Type 0

@@ -2,7 +2,7 @@
 --     peers-timed, links-timed      at a moment they leave the peers and the links
 --     Timing      the first clients have had their moment
 --     timing-begins, timing-more, timing-ends      one more has it
-use Rattle.std.proofs.Common.{◌≡◌, ℕ, suc, ◌+◌, ◌<◌, ◌≤◌, true, List, [], ◌∷◌, ◌++◌, fold, find, length, set, get_or, Option, Some, None, refl, sym, ◌∙◌, ap, subst, arith, append_assoc, append-nil, length-append}
+use Rattle.std.proofs.Common.{◌≡◌, ℕ, suc, ◌+◌, ◌<◌, ◌≤◌, List, [], ◌∷◌, ◌++◌, fold, length, set, get_or, Option, Some, None, refl, sym, ◌∙◌, ap, subst, arith, append_assoc, append-nil, length-append}
 use Rattle.std.proofs.lemmas.List.{get_or-set_same}
 use Rattle.dsosession.specs.declared.session.CloseReason.{CloseReason}
 use Rattle.pushserver.specs.KeptHubs as hubs
@@ -10,11 +10,11 @@ use Rattle.pushserver.specs.KeptHubs.{KeptHub}
 use Rattle.pushclient.specs.Clients.{closed_as}
 use Rattle.pushclient.specs.Steps as steps
 use Rattle.replay.specs.Lines.{Word}
-use Rattle.replay.specs.World.{Seat, World, with_seat, cut_seat, hub_without, hub_then}
+use Rattle.replay.specs.World.{Seat, World, with_seat, cut_seat, hub_then}
 use Rattle.replay.specs.Text.{Printed, ended_lines, close_lines, cut_where, timed}
 use Rattle.replay.specs.KeptWorlds.{KeptSeat, Seated, StandsForSeat, StandForSeats, AreDistinct, words_in}
 use Rattle.replay.specs.KeptSeats.{timed_seat, Calls, HasTimed, closing_text, IsTimed, Times}
-use Rattle.replay.proofs.worlds.Seats.{is_of_word, words_of, put_seat, put-at, put-put, seat-at, set-at}
+use Rattle.replay.proofs.worlds.Seats.{words_of, put_seat, put-at, put-put, seat-at, set-at}
 
 -- ---- what they leave
 
