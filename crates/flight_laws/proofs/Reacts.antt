@@ -24,7 +24,7 @@ use Rattle.dsosession.specs.declared.session.EndReason.TheVariants as ends
 use Rattle.dsosession.specs.declared.session.Reaction.{Reaction}
 use Rattle.dsosession.specs.declared.session.Reaction.TheVariants as reactions
 use Rattle.pushsession.specs.Sessions.{answers}
-use Rattle.pushsession.specs.Subscribing.{Verdict, Refuse, Abort, Accept, verdict_on, is_served, decided, answered, accepts}
+use Rattle.pushsession.specs.Subscribing.{Verdict, Refuse, Abort, Accept, verdict_on, is_served, may_be_served, decided, answered, accepts}
 use Rattle.pushsession.specs.Reactions.{restarted_by, request_in, request_for, reacts_itself, by_itself, granted, unsubscribed}
 use Rattle.pushsession.specs.declared.request.Request.{Request}
 use Rattle.pushsession.specs.declared.request.Request.TheVariants as requests
@@ -127,14 +127,14 @@ none-active id question (s ∷ ss) h = by (s.id == id) (same_question s.question
 abbrev tests : ℕ → Question → Bool → Option ℕ → Bool → Bool → Bool → Verdict
 tests id question used active served home full =
     if used then Abort (ends.IdInUse id)
-    else elim active [ Some twice ↦ Abort (ends.Twice twice) | None ↦ if not served || not home then Refuse notauth else if full then Refuse refused else Accept question ]
+    else elim active [ Some twice ↦ Abort (ends.Twice twice) | None ↦ if not (served && home) then Refuse notauth else if full then Refuse refused else Accept question ]
 
 -- it is accepted where it is served, and refused with NOTAUTH where it isn't
 abbrev served_or_not : Question → Bool → Verdict
 served_or_not question served = if served then Accept question else Refuse notauth
 
 verdict-is : (id : ℕ) (question : Question) (n : ℕ) (home : Bool) (ss : List Subscription) → is_some (subscription_of ss id) ≡ false → option_map (λ s. s.id) (subscription_for ss question) ≡ None → nat_le max_questions (length ss) ≡ false
-    → verdict_on (plain_keeps n) id (Some question) home ss ≡ served_or_not question (is_served question.class && home)
+    → verdict_on (plain_keeps n) id (Some question) home ss ≡ served_or_not question (may_be_served question home)
 verdict-is id question n home ss unused new room = (λ i. tests id question (unused i) (new i) (is_served question.class) home (room i)) ∙ by (is_served question.class) home
   where
     by : (served home : Bool) → tests id question false None served home false ≡ served_or_not question (served && home)

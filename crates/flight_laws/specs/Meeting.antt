@@ -25,7 +25,7 @@ use Rattle.pushsession.specs.declared.request.Request.{Request}
 use Rattle.pushsession.specs.declared.request.Request.TheVariants as requests
 use Rattle.pushsession.specs.declared.standing.Standing.TheVariants.{Live}
 use Rattle.pushsession.specs.Sessions.{without_first}
-use Rattle.pushsession.specs.Subscribing.{Refuse, Accept, verdict_on, is_served, first_answer_size}
+use Rattle.pushsession.specs.Subscribing.{Refuse, Accept, verdict_on, may_be_served, first_answer_size}
 use Rattle.pushsession.specs.Reactions.{request_in}
 use Rattle.pushserver.specs.declared.given.Given.{Given}
 use Rattle.pushserver.specs.declared.given.Given.TheVariants.{Bytes, Worked}
@@ -157,10 +157,10 @@ abbrev pub ReactsSo : Type 0
 ReactsSo = (hub : Hub) (number : ℕ) (m : ClientMessage) (session : Session) → session_of hub number ≡ Some session
     → IsSome (taken_up session.established (asked_of session.subscriptions) m) → ReactedSo hub number m session
 
--- a SUBSCRIBE is accepted where it is served, and refused with NOTAUTH where it isn't: there is no other verdict, and no end (RFC 8765, 6.2.2)
+-- a SUBSCRIBE is accepted where its question may be served, and refused with NOTAUTH where it isn't: there is no other verdict, and no end (RFC 8765, 6.2.2)
 abbrev pub VerdictsAreTwo : Type 0
 VerdictsAreTwo = (point id : ℕ) (question : Question) (has_home established : Bool) (subscriptions : List Subscription) → IsSome (taken_up established (asked_of subscriptions) (subscribes id question))
-    → verdict_on (plain_keeps point) id (Some question) has_home subscriptions ≡ (if is_served question.class && has_home then Accept question else Refuse notauth)
+    → verdict_on (plain_keeps point) id (Some question) has_home subscriptions ≡ (if may_be_served question has_home then Accept question else Refuse notauth)
 
 -- ---- what the session has then
 

@@ -20,17 +20,14 @@ use Rattle.dnswire.specs.Reading.{update_of}
 use Rattle.zoneupdate.specs.Zones.{ZoneState}
 use Rattle.zoneupdate.specs.Updates.{judged}
 use Rattle.linkmap.specs.Translation.{heard_as}
-use Rattle.linkcache.specs.Rows.{LinkRows, heard, at_moment, reconfirmed, has_key, shown_rows, usable_of}
+pub use Rattle.linkcache.specs.Links.{LinkState}
+use Rattle.linkcache.specs.Rows.{heard, at_moment, reconfirmed, has_key, shown_rows, usable_of}
 use Rattle.history.specs.declared.entry.TheConstants as entry
 use Rattle.history.specs.declared.points.TheConstants as points
 use Rattle.history.specs.declared.entry.Entry.{Entry}
 use Rattle.history.specs.declared.entry.Entry.TheVariants as entries
 use Rattle.history.specs.declared.entry.Home.{Home}
 use Rattle.history.specs.declared.entry.Home.TheVariants as homes
-
-pub record LinkState : Type 0 where
-  pub domain : Labels
-  pub rows : LinkRows
 
 -- zones and links, each in the order in which they were added, and the moment
 pub record State : Type 0 where

@@ -3,6 +3,7 @@
 
 pub mod entry;
 mod homes;
+pub mod laws;
 mod plan;
 mod planning;
 mod points;

@@ -132,7 +132,8 @@ subscribed_at_last (m ∷ []) = m.subscribed
 subscribed_at_last (m ∷ n ∷ ms) = subscribed_at_last (n ∷ ms)
 
 -- The IDs and questions that may be active after a message is taken; nothing where a test refuses it or it ends the session.
--- A question without a home counts too. A message without an ID is taken by an established session alone (RFC 8490, 5.1).
+-- A SUBSCRIBE is tested as by `verdict_on`, but for class and home, as no hub is asked here: a question that may not be served counts too.
+-- Besides, its ID and its question must be such as a message has. A message without an ID is taken by an established session alone (RFC 8490, 5.1).
 abbrev pub taken_up : Bool → List (ℕ × Question) → ClientMessage → Option (List (ℕ × Question))
 taken_up established active (subscribes id question) =
     if not (is_id id && is_question question) || list_any (λ a. a.0 == id || same_question a.1 question) active || nat_le max_questions (length active) then None

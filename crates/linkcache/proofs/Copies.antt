@@ -1,6 +1,6 @@
 -- Rows that are copied key by key into a part are those whose keys pass a test.
 use Rattle.std.proofs.Common.{◌≡◌, Bool, true, false, cond, ◌||◌, List, [], ◌∷◌, fold, Option, Some, None, is_some, refl, sym, ap, subst, ◌∙◌}
-use Rattle.std.specs.List.{list_any, AllByRecursion}
+use Rattle.std.specs.List.{list_any}
 use Rattle.rrset.specs.declared.record.Key.{Key}
 use Rattle.rrset.specs.Records.{same_key}
 use Rattle.rrset.specs.Tables.{HasLowerOwner, HaveLowerOwners}

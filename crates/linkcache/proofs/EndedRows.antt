@@ -1,5 +1,5 @@
 -- One row that ends sooner, as a put of the row with the lesser end.
-use Rattle.std.proofs.Common.{◌≡◌, ℕ, Bool, true, false, cond, T, List, [], ◌∷◌, map, min, Option, Some, None, option_map, refl, sym, ap, subst, ◌∙◌}
+use Rattle.std.proofs.Common.{◌≡◌, ℕ, Bool, true, false, cond, T, [], ◌∷◌, map, min, Option, Some, None, option_map, refl, sym, ap, subst, ◌∙◌}
 use Rattle.rrset.specs.declared.record.Key.{Key}
 use Rattle.rrset.specs.Records.{same_key}
 use Rattle.rrset.specs.KeyedRows.{is_rising, put_row, row_at}

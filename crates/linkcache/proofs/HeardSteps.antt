@@ -2,9 +2,7 @@
 use Rattle.std.proofs.Common.{◌≡◌, ℕ, ◌+◌, ◌<◌, Bool, true, false, cond, ◌&&◌, ◌||◌, T, nat_lt, List, [], ◌∷◌, drop, filter, map, fold, length, get_or, Option, Some, None, is_some, refl, sym, ap, subst, ◌∙◌}
 use Rattle.std.specs.Prelude.{◌==◌, if◌then◌else◌}
 use Rattle.std.specs.Option.{MatchOption}
-use Rattle.std.specs.List.{list_any, AllByRecursion}
 use Rattle.std.proofs.lemmas.List.{drop_more}
-use Rattle.push_base.specs.Cases.{is_empty}
 use Rattle.dnsname.specs.Names.{Labels}
 use Rattle.rrset.specs.declared.record.Key.{Key}
 use Rattle.rrset.specs.declared.record.HeardRr.{HeardRr}
@@ -65,7 +63,7 @@ module _ (domain : Labels) (hs : List HeardRr) (i : ℕ) (h : HeardRr) (within :
 
 -- ---- the first pass, record by record
 
-rising-put_heard : (domain : Labels) (now others : ℕ) (rows : LinkRows) (h : HeardRr) → Rising rows → Rising (put_heard domain now others rows h)
+pub rising-put_heard : (domain : Labels) (now others : ℕ) (rows : LinkRows) (h : HeardRr) → Rising rows → Rising (put_heard domain now others rows h)
 rising-put_heard domain now others rows h rising = by (ttl_of h == 0) (has_key k rows || row_has_room domain others rows h.rr)
   where
     k : Key

@@ -1,22 +1,23 @@
 -- The moments at which rows end, beside the rows that change.
-use Rattle.std.proofs.Common.{◌≡◌, ℕ, Bool, true, false, cond, List, [], ◌∷◌, map, Option, Some, None, is_some, option_map, refl, sym, ap, subst, ◌∙◌}
+use Rattle.std.proofs.Common.{◌≡◌, ℕ, Bool, true, false, cond, List, [], ◌∷◌, map, Option, Some, None, is_some, option_map, refl, sym, ap, ◌∙◌}
 use Rattle.std.specs.Prelude.{if◌then◌else◌}
 use Rattle.std.specs.Cmp.{tied_itself}
-use Rattle.std.specs.Ordering.{nat_cmp, ordering_then, eq_by_cmp, is_eq}
+use Rattle.std.specs.Ordering.{nat_cmp, ordering_then, is_eq}
 use Rattle.std.specs.List.{find, AllByRecursion}
 use Rattle.std.proofs.lemmas.Cmp.{nat_cmp_total}
 use Rattle.clockqueue.specs.Deadlines.{Deadlines, is_of, is_set_to, moment_of, without}
 use Rattle.clockqueue.proofs.Keyed.{without_absent, without_twice, gone}
 use Rattle.rrset.specs.declared.record.Key.{Key}
-use Rattle.rrset.specs.Records.{key_cmp}
+use Rattle.rrset.specs.Records.{key_cmp, same_key}
 use Rattle.rrset.specs.Tables.{HasLowerOwner}
 use Rattle.rrset.proofs.KeyOrder.{key_cmp_total}
+use Rattle.rrset.proofs.SameRows.{same_key-same}
 use Rattle.linkcache.specs.declared.plan.RowChange.{RowChange}
 use Rattle.linkcache.specs.declared.plan.PlannedRow.{PlannedRow}
 use Rattle.linkcache.specs.declared.row.HeardRow.{HeardRow}
 use Rattle.linkcache.specs.Ends.{with_end, with_end_change}
 use Rattle.linkcache.specs.Plans.{HaveLowerKeys}
-use Rattle.linkcache.proofs.RowEnds.{ends_of, some-same}
+use Rattle.linkcache.proofs.RowEnds.{ends_of, moment-changed, some-same}
 
 -- a key that has a moment is found with it
 set_found : (key : Key) (moment : ℕ) (ds : Deadlines Key) → moment_of key_cmp key ds ≡ Some moment → is_some (find (is_set_to key_cmp key moment) ds) ≡ true
@@ -57,6 +58,14 @@ end_changed change key after ds between later same after-is between-is later-is 
     by : (o : Option HeardRow) → with_end (without key_cmp change.key ds) change.key (ends_of o) ≡ with_end_change ds (record change { after = o })
     by None = refl
     by (Some row) = without_twice key_cmp_total change.key row.ends ds
+
+-- a change that keeps the end of its row changes no moment
+pub end_kept : (change : RowChange) (ds : Deadlines Key) → moment_of key_cmp change.key ds ≡ ends_of change.after → (query : Key) → moment_of key_cmp query ds ≡ moment_of key_cmp query (with_end_change ds change)
+end_kept change ds same query = by (same_key query change.key) refl ∙ sym (moment-changed query ds change)
+  where
+    by : (b : Bool) → same_key query change.key ≡ b → moment_of key_cmp query ds ≡ cond b (ends_of change.after) (moment_of key_cmp query ds)
+    by true is = ap (λ k. moment_of key_cmp k ds) (same_key-same query change.key is) ∙ same
+    by false is = refl
 
 pub lower_planned : (rows : List PlannedRow) → HaveLowerKeys (map (λ r. r.change) rows) → AllByRecursion (λ r. HasLowerOwner r.change.key) rows
 lower_planned [] h = tt

@@ -1,5 +1,5 @@
 -- Rows as functions of keys, and their parts whose keys pass a test.
-use Rattle.std.proofs.Common.{◌≡◌, ◌+◌, Bool, true, false, cond, not, ◌||◌, T, List, [], ◌∷◌, map, length, filter, Option, Some, None, is_some, refl, sym, ap, subst, ◌∙◌, arith}
+use Rattle.std.proofs.Common.{◌≡◌, ◌+◌, Bool, true, false, cond, not, ◌||◌, T, [], ◌∷◌, map, length, filter, Option, Some, None, refl, sym, ap, subst, ◌∙◌, arith}
 use Rattle.std.specs.List.{list_any, AllByRecursion}
 use Rattle.std.specs.Ordering.{is_eq, is_lt}
 use Rattle.std.specs.declared.cmp.Ordering.{Ordering}
@@ -12,7 +12,7 @@ use Rattle.rrset.proofs.Sets.{alike, is_eq-Equal}
 use Rattle.rrset.proofs.Places.{and_left, and_right, and_both}
 use Rattle.rrset.proofs.SameRows.{same_key-self}
 use Rattle.rrset.proofs.WithChanges.{same_key-turned}
-use Rattle.rrset.specs.KeyedRows.{Rows, is_rising, row_at, put_row, without_rows, only_rows}
+use Rattle.rrset.specs.KeyedRows.{Rows, is_rising, row_at, put_row, only_rows}
 use Rattle.linkcache.specs.Parts.{fails}
 
 -- keys that are one pass alike

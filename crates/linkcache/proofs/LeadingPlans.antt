@@ -1,7 +1,6 @@
 -- Plans of each kind lead where they should.
 use Rattle.std.proofs.Common.{◌≡◌, ℕ, ◌+◌, ◌≤◌, Bool, true, false, cond, not, ◌||◌, T, List, [], ◌∷◌, map, length, nat_lt, Option, Some, None, is_some, Result, Ok, Err, refl, sym, ap, subst, ◌∙◌, arith}
 use Rattle.std.specs.Result.{IfOk}
-use Rattle.std.specs.List.{AllByRecursion}
 use Rattle.push_base.specs.Cases.{is_empty}
 use Rattle.dnsname.specs.Names.{Labels}
 use Rattle.clockqueue.specs.Deadlines.{Deadlines, AreDeadlines, first_moment}
@@ -18,18 +17,20 @@ use Rattle.linkcache.specs.declared.plan.RowChange.{RowChange}
 use Rattle.linkcache.specs.declared.row.HeardRow.{HeardRow}
 use Rattle.linkcache.specs.Rows.{LinkRows, rr_of_row, usable_of, ending_by, has_key, heard_beside, heard, at_moment, reconfirmed, reconfirmation, shown_rows}
 use Rattle.linkcache.specs.Sound.{IsLinkRow, AreLinkRows}
+use Rattle.linkcache.specs.Within.{IsWithin}
 use Rattle.linkcache.specs.Ends.{AreEnds, has_come, is_due}
 use Rattle.linkcache.specs.Parts.{copied, is_touched, fails}
-use Rattle.linkcache.specs.Links.{LinkState, IsLink}
+use Rattle.linkcache.specs.Links.{IsLink}
 use Rattle.linkcache.specs.Plans.{LinkPlan, HaveLowerKeys, with_row_changes, Leads, IsPlanBetween, IsPlanOf, IsHeardPlan, IsMomentPlan, IsReconfirmPlan}
-use Rattle.linkcache.proofs.KeyedParts.{Rising, KeepsKeys, rising-only, rising-map, rising-filter, length-parts, only-map, failed-map, not_both}
+use Rattle.linkcache.proofs.KeyedParts.{Rising, KeepsKeys, rising-only, rising-map, rising-filter, length-parts, only-map, failed-map}
 use Rattle.linkcache.proofs.Touched.{heard-part}
 use Rattle.linkcache.proofs.SoundSteps.{sound-beside, sound-heard, sound-moment, sound-ending, sound-reconfirmed, usable-of}
 use Rattle.linkcache.proofs.Moves.{leads, rising-changes}
 use Rattle.linkcache.proofs.Copies.{copied-part, found-lower}
-use Rattle.linkcache.proofs.DueRows.{due-part, due-goes, none-come}
+use Rattle.linkcache.proofs.DueRows.{due-goes, none-come}
 use Rattle.linkcache.proofs.EndedRows.{end_none}
 use Rattle.linkcache.proofs.HeardSteps.{has-found}
+use Rattle.linkcache.proofs.OwnerSizes.{within-heard, within-moment, within-reconfirmed}
 
 is_true : (b : Bool) → T b → b ≡ true
 is_true true h = refl
@@ -101,6 +102,7 @@ module _ (domain : Labels) (rows : LinkRows) (link : IsLink (record { domain = d
     reached = ap (λ cs. with_row_changes cs rows) none;
     shown = unchanged ∙ sym (changes-self (shown_rows domain rows));
     sound = link.sound;
+    within = link.within;
   })
 
   empty-none : {A : Type 0} (xs : List A) → not (is_empty xs) ≡ false → xs ≡ []
@@ -138,7 +140,7 @@ module _ (domain : Labels) (rows : LinkRows) (link : IsLink (record { domain = d
       → work ≡ heard_beside others domain part now (usable_of domain hearing) → not (is_empty (usable_of domain hearing)) ≡ true → plan.usable ≡ true → IsPlanBetween domain part work plan → IsHeardPlan domain rows now hearing plan
   heard-leads now others hearing part work part-is count work-is some usable between = let whole = heard-part domain now hearing rows (rises domain rows link) in record {
     usable = usable ∙ sym some;
-    leads = leads domain link.name p rows (heard domain rows now hearing) part work plan (rises domain rows link) whole.rising link.sound (sound-heard domain now hearing rows link.sound) (sym whole.outside) part-is
+    leads = leads domain link.name p rows (heard domain rows now hearing) part work plan (rises domain rows link) whole.rising link.sound (sound-heard domain now hearing rows link.sound) (within-heard domain now hearing rows (rises domain rows link) link.sound link.within) (sym whole.outside) part-is
         (work-is ∙ (λ i. heard_beside (others-are i) domain (part-is i) now (usable_of domain hearing)) ∙ sym whole.inside) between;
   }
     where
@@ -154,7 +156,7 @@ module _ (domain : Labels) (rows : LinkRows) (link : IsLink (record { domain = d
       → IsMomentPlan domain rows now plan
   moment-leads now ds part work are ends part-is work-is usable between = let goes = due-goes now ds rows are (rises domain rows link) ends in record {
     usable = usable;
-    leads = leads domain link.name (is_due now ds) rows (at_moment rows now) part work plan (rises domain rows link) later-rises link.sound (sound-moment domain now rows link.sound) goes.1 part-is (work-is ∙ sym goes.0) between;
+    leads = leads domain link.name (is_due now ds) rows (at_moment rows now) part work plan (rises domain rows link) later-rises link.sound (sound-moment domain now rows link.sound) (within-moment domain now rows link.within) goes.1 part-is (work-is ∙ sym goes.0) between;
   }
     where
       later-rises : Rising (at_moment rows now)
@@ -166,7 +168,7 @@ module _ (domain : Labels) (rows : LinkRows) (link : IsLink (record { domain = d
   reconfirm-leads key now part work part-is work-is usable between = record {
     usable = usable;
     leads = leads domain link.name (of_key key) rows (reconfirmed rows key now) part work plan (rises domain rows link) (rising-map (ended_soon key now) (ended-keeps key now) rows (rises domain rows link)) link.sound
-        (sound-reconfirmed domain key now rows link.sound) (sym (failed-map (of_key key) (ended_soon key now) (ended-keeps key now) other rows)) part-is
+        (sound-reconfirmed domain key now rows link.sound) (within-reconfirmed domain key now rows link.within) (sym (failed-map (of_key key) (ended_soon key now) (ended-keeps key now) other rows)) part-is
         (work-is ∙ ap (λ (l : LinkRows). map (ended_soon key now) l) part-is ∙ sym (only-map (of_key key) (ended_soon key now) (ended-keeps key now) rows)) between;
   }
     where
@@ -190,4 +192,5 @@ applied domain rows later cs plan link later-is cs-is planned = record {
   name = link.name;
   order = ap is_rising later-is ∙ is_true (is_rising (with_row_changes cs rows)) (rising-changes cs rows (rises domain rows link));
   sound = subst (AreLinkRows domain) (sym (later-is ∙ ap (λ (l : List RowChange). with_row_changes l rows) cs-is ∙ planned.1.reached)) planned.1.sound;
+  within = subst (IsWithin domain) (sym (later-is ∙ ap (λ (l : List RowChange). with_row_changes l rows) cs-is ∙ planned.1.reached)) planned.1.within;
 }

@@ -11,5 +11,7 @@ pub mod DueRows
 pub mod NextEnd
 pub mod Numbers
 pub mod HeardSteps
+pub mod OwnerSizes
+pub mod ShownSizes
 pub mod LeadingPlans
 pub mod KeptEnds

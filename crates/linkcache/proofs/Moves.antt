@@ -3,7 +3,6 @@ use Rattle.std.proofs.Common.{◌≡◌, Bool, true, false, cond, not, ◌||◌,
 use Rattle.std.specs.List.{AllByRecursion}
 use Rattle.dnsname.specs.Names.{Labels, IsName}
 use Rattle.rrset.specs.declared.record.Key.{Key}
-use Rattle.rrset.specs.declared.record.Changed.{Changed}
 use Rattle.rrset.specs.Records.{same_key}
 use Rattle.rrset.specs.RecordSet.{changes}
 use Rattle.rrset.specs.Tables.{HasLowerOwner}
@@ -16,6 +15,7 @@ use Rattle.rrset.specs.KeyedRows.{put_row, without_rows, only_rows, row_at}
 use Rattle.linkcache.specs.Rows.{LinkRows, shown_rows}
 use Rattle.linkcache.specs.Plans.{LinkPlan, with_row_change, with_row_changes, change_to, moves, HaveLowerKeys, Leads, IsPlanBetween}
 use Rattle.linkcache.specs.Sound.{AreLinkRows}
+use Rattle.linkcache.specs.Within.{IsWithin}
 use Rattle.linkcache.specs.Parts.{fails}
 use Rattle.linkcache.proofs.KeyedParts.{Rising, same_maps, row_at-only, row_at-put, rising-put, rising-only}
 use Rattle.linkcache.proofs.ShownParts.{changes-part}
@@ -122,11 +122,12 @@ lower_moves part work h g =
 -- ---- a plan from one part to another
 
 pub leads : (domain : Labels) → IsName domain → (p : Key → Bool) (rows later part work : LinkRows) (plan : LinkPlan)
-    → Rising rows → Rising later → AreLinkRows domain rows → AreLinkRows domain later → only_rows (fails p) rows ≡ only_rows (fails p) later → part ≡ only_rows p rows → work ≡ only_rows p later
+    → Rising rows → Rising later → AreLinkRows domain rows → AreLinkRows domain later → IsWithin domain later → only_rows (fails p) rows ≡ only_rows (fails p) later → part ≡ only_rows p rows → work ≡ only_rows p later
     → IsPlanBetween domain part work plan → Leads domain rows plan later
-leads domain name p rows later part work plan h g sound sound_later agree part-is work-is between = record {
+leads domain name p rows later part work plan h g sound sound_later within agree part-is work-is between = record {
   keys = between.keys;
   reached = ap (λ cs. with_row_changes cs rows) (between.moved ∙ (λ i. moves (part-is i) (work-is i))) ∙ reached p rows later h g agree;
   shown = between.shown ∙ (λ i. changes (shown_rows domain (part-is i)) (shown_rows domain (work-is i))) ∙ sym (changes-part domain name p rows later sound sound_later agree);
   sound = sound_later;
+  within = within;
 }

@@ -1,8 +1,8 @@
 -- The least moment is the least end of a row.
-use Rattle.std.proofs.Common.{◌≡◌, ℕ, ◌≤◌, Bool, true, false, cond, List, [], ◌∷◌, fold, min, Option, Some, None, option_map, refl, sym, ap, subst, ◌∙◌, arith}
+use Rattle.std.proofs.Common.{◌≡◌, ℕ, ◌≤◌, Bool, true, false, cond, [], ◌∷◌, fold, min, Option, Some, None, option_map, refl, sym, ap, ◌∙◌, arith}
 use Rattle.std.specs.Option.{IfSome}
 use Rattle.std.specs.List.{find, AllByRecursion}
-use Rattle.clockqueue.specs.Deadlines.{Deadlines, AreDeadlines, is_of, moment_of, first_moment}
+use Rattle.clockqueue.specs.Deadlines.{Deadlines, AreDeadlines, is_of, first_moment}
 use Rattle.rrset.specs.declared.record.Key.{Key}
 use Rattle.rrset.specs.Records.{key_cmp, same_key}
 use Rattle.rrset.specs.KeyedRows.{row_at}

@@ -1,8 +1,7 @@
 -- The moments at which rows end: what a change makes of them, and that none comes before the least.
-use Rattle.std.proofs.Common.{◌≡◌, ℕ, suc, ◌<◌, ◌≤◌, Bool, true, false, cond, T, List, [], ◌∷◌, filter, fold, nat_lt, Option, Some, None, option_map, refl, sym, ap, subst, ◌∙◌, arith}
-use Rattle.std.specs.Ordering.{nat_cmp, ordering_then, eq_by_cmp, is_eq, is_lt}
+use Rattle.std.proofs.Common.{◌≡◌, ℕ, suc, ◌<◌, ◌≤◌, Bool, true, false, cond, List, [], ◌∷◌, fold, nat_lt, Option, Some, None, option_map, refl, sym, ap, subst, ◌∙◌, arith}
+use Rattle.std.specs.Ordering.{nat_cmp, ordering_then}
 use Rattle.std.specs.List.{AllByRecursion, find}
-use Rattle.std.specs.FinMap.Entries.{below_all}
 use Rattle.std.specs.declared.cmp.Ordering.{Ordering}
 use Rattle.std.specs.declared.cmp.Ordering.TheVariants.{Less, Equal, Greater}
 use Rattle.std.proofs.lemmas.Bool.{le-leb}
@@ -13,8 +12,6 @@ use Rattle.rrset.specs.Records.{key_cmp, same_key}
 use Rattle.rrset.specs.declared.record.Key.{Key}
 use Rattle.rrset.specs.KeyedRows.{row_at}
 use Rattle.rrset.proofs.KeyOrder.{key_cmp_total}
-use Rattle.rrset.proofs.Places.{and_left, and_right}
-use Rattle.rrset.proofs.SameRows.{same_key-self}
 use Rattle.rrset.proofs.WithChanges.{same_key-turned}
 use Rattle.linkcache.specs.declared.row.HeardRow.{HeardRow}
 use Rattle.linkcache.specs.declared.plan.RowChange.{RowChange}
@@ -27,7 +24,7 @@ use Rattle.linkcache.proofs.Moves.{row_at-changed}
 abbrev pub ends_of : Option HeardRow → Option ℕ
 ends_of o = option_map (λ (row : HeardRow). row.ends) o
 
-moment-changed : (q : Key) (ds : Deadlines Key) (c : RowChange) → moment_of key_cmp q (with_end_change ds c) ≡ cond (same_key q c.key) (ends_of c.after) (moment_of key_cmp q ds)
+pub moment-changed : (q : Key) (ds : Deadlines Key) (c : RowChange) → moment_of key_cmp q (with_end_change ds c) ≡ cond (same_key q c.key) (ends_of c.after) (moment_of key_cmp q ds)
 moment-changed q ds c = by c.after
   where
     by : (after : Option HeardRow) → moment_of key_cmp q (elim after [ None ↦ without key_cmp c.key ds | Some row ↦ with_deadline key_cmp c.key row.ends ds ]) ≡ cond (same_key q c.key) (ends_of after) (moment_of key_cmp q ds)

@@ -1,5 +1,5 @@
 -- What a link shows, of a part of its rows: rows that are one outside the part show the same but for what the part shows.
-use Rattle.std.proofs.Common.{◌≡◌, Bool, true, false, cond, not, ◌&&◌, ◌||◌, List, [], ◌∷◌, fold, Option, Some, None, is_some, refl, sym, ap, subst, ◌∙◌}
+use Rattle.std.proofs.Common.{◌≡◌, Bool, true, false, cond, not, ◌&&◌, ◌||◌, [], ◌∷◌, fold, Option, Some, None, is_some, refl, sym, ap, ◌∙◌}
 use Rattle.std.specs.List.{list_any, AllByRecursion}
 use Rattle.dnsname.specs.Names.{Labels, IsName}
 use Rattle.rrset.specs.declared.record.Rr.{Rr}
@@ -10,7 +10,7 @@ use Rattle.rrset.specs.RecordSet.{RecordSet, put_rr, only, shown_at, changes}
 use Rattle.rrset.proofs.Sets.{shown_at-put, shown_at-only, only_same}
 use Rattle.rrset.proofs.InOrder.{InOrder, in_order-put, in_order-only, same_sets}
 use Rattle.rrset.proofs.SameRows.{same_key-same}
-use Rattle.rrset.proofs.Apart.{AgreeApart, changes-apart}
+use Rattle.rrset.proofs.Apart.{changes-apart}
 use Rattle.rrset.proofs.Selected.{fails as set_fails}
 use Rattle.linkmap.proofs.Shown.{shown_by_itself}
 use Rattle.linkmap.specs.Translation.{shown_as}

@@ -1,7 +1,7 @@
 -- What a hearing does to the rows of a link, it does to those of its owners.
 use Rattle.std.proofs.Common.{◌≡◌, ℕ, ◌+◌, Bool, true, false, cond, not, ◌&&◌, ◌||◌, List, [], ◌∷◌, map, length, filter, fold, nat_lt, nat_le, refl, sym, ap, ◌∙◌, arith}
 use Rattle.std.specs.Prelude.{◌==◌, if◌then◌else◌, sum_by}
-use Rattle.std.specs.List.{list_any, AllByRecursion}
+use Rattle.std.specs.List.{AllByRecursion}
 use Rattle.push_base.specs.Limits.{max_octets_at_name}
 use Rattle.dnsname.specs.Names.{Labels, lower, same_name}
 use Rattle.rrset.specs.declared.record.Rr.{Rr}

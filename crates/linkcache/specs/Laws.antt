@@ -3,9 +3,12 @@
 --     PartsShowForThemselves      what is shown otherwise of rows that differ in a part is shown otherwise of the part
 --     MovesReachTheLaterRows      the changes from one part to another make the later rows of the earlier ones
 --     RowsStaySound      each row stays one of a usable record, with its key
-use Rattle.std.specs.Prelude.{◌≡◌, ℕ, Bool, IsTrue, List, length}
+--     RowsStayWithin      there stay few enough rows, and few enough octets of each owner
+--     ShownFits      what is shown of a name has few enough octets, too
+use Rattle.std.specs.Prelude.{◌≡◌, ◌≤◌, ℕ, Bool, IsTrue, List, length}
+use Rattle.push_base.specs.Limits.{max_octets_at_name}
 use Rattle.dnsname.specs.Names.{Labels, IsName}
-use Rattle.rrset.specs.RecordSet.{changes}
+use Rattle.rrset.specs.RecordSet.{changes, size_at}
 use Rattle.rrset.specs.declared.record.Key.{Key}
 use Rattle.rrset.specs.declared.record.HeardRr.{HeardRr}
 use Rattle.rrset.specs.KeyedRows.{is_rising, only_rows}
@@ -13,6 +16,7 @@ use Rattle.linkcache.specs.Rows.{LinkRows, usable_of, heard_beside, heard, at_mo
 use Rattle.linkcache.specs.Parts.{is_touched, fails}
 use Rattle.linkcache.specs.Plans.{moves, with_row_changes}
 use Rattle.linkcache.specs.Sound.{AreLinkRows}
+use Rattle.linkcache.specs.Within.{IsWithin}
 
 abbrev pub HearingsKeepToTheirOwners : Type 0
 HearingsKeepToTheirOwners = (domain : Labels) (now : ℕ) (hearing : List HeardRr) (rows : LinkRows) → IsTrue (is_rising rows)
@@ -32,3 +36,10 @@ MovesReachTheLaterRows = (p : Key → Bool) (rows later : LinkRows) → IsTrue (
 abbrev pub RowsStaySound : Type 0
 RowsStaySound = (domain : Labels) (now : ℕ) (rows : LinkRows) → AreLinkRows domain rows
     → ((hearing : List HeardRr) → AreLinkRows domain (heard domain rows now hearing)) × AreLinkRows domain (at_moment rows now) × ((key : Key) → AreLinkRows domain (reconfirmed rows key now))
+
+abbrev pub RowsStayWithin : Type 0
+RowsStayWithin = (domain : Labels) (now : ℕ) (rows : LinkRows) → IsTrue (is_rising rows) → AreLinkRows domain rows → IsWithin domain rows
+    → ((hearing : List HeardRr) → IsWithin domain (heard domain rows now hearing)) × IsWithin domain (at_moment rows now) × ((key : Key) → IsWithin domain (reconfirmed rows key now))
+
+abbrev pub ShownFits : Type 0
+ShownFits = (domain : Labels) (rows : LinkRows) → AreLinkRows domain rows → IsWithin domain rows → (name : Labels) → size_at name (shown_rows domain rows) ≤ max_octets_at_name

@@ -10,6 +10,7 @@ use Rattle.rrset.specs.KeyedRows.{is_rising}
 use Rattle.rrset.specs.declared.record.Key.{Key}
 use Rattle.linkcache.specs.Rows.{LinkRows}
 use Rattle.linkcache.specs.Sound.{AreLinkRows}
+use Rattle.linkcache.specs.Within.{IsWithin}
 use Rattle.linkcache.specs.Ends.{AreEnds}
 
 pub record LinkState : Type 0 where
@@ -21,11 +22,12 @@ pub record LinkKept : Type 0 where
   pub state : LinkState
   pub spare : ℕ
 
--- keys rise, and each row is one of a usable record
+-- keys rise, each row is one of a usable record, and they are few enough and not too large
 pub record IsLink (link : LinkState) : Type 0 where
   pub name : IsName link.domain
   pub order : IsTrue (is_rising link.rows)
   pub sound : AreLinkRows link.domain link.rows
+  pub within : IsWithin link.domain link.rows
 
 -- the moments are the ends of the rows
 pub record IsKept (link : LinkState) (moments : Deadlines Key) : Type 0 where

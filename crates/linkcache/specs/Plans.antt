@@ -6,7 +6,7 @@
 --     IsPlanBetween domain part work plan      the plan is made of the changes from one part to another
 --     IsPlanOf domain rows plan      it leads somewhere
 --     IsHeardPlan, IsMomentPlan, IsReconfirmPlan      the plan is that of a hearing; of a moment; of a reconfirmation
-use Rattle.std.specs.Prelude.{◌≡◌, ℕ, Bool, true, false, not, List, ◌++◌, map, fold, Option, Some, None, is_some}
+use Rattle.std.specs.Prelude.{◌≡◌, ℕ, Bool, false, not, List, ◌++◌, map, fold, Some, None, is_some}
 use Rattle.std.specs.List.{AllByRecursion}
 use Rattle.push_base.specs.Cases.{is_empty}
 use Rattle.dnsname.specs.Names.{Labels}
@@ -21,6 +21,7 @@ use Rattle.linkcache.specs.declared.row.HeardRow.{HeardRow}
 use Rattle.rrset.specs.KeyedRows.{put_row, without_rows, only_rows, row_at}
 use Rattle.linkcache.specs.Rows.{LinkRows, heard, usable_of, at_moment, reconfirmed, shown_rows}
 use Rattle.linkcache.specs.Sound.{AreLinkRows}
+use Rattle.linkcache.specs.Within.{IsWithin}
 
 pub record LinkPlan : Type 0 where
   pub usable : Bool
@@ -45,12 +46,13 @@ moves part work = map (change_to work) (only_rows (λ key. not (is_some (row_at 
 abbrev pub HaveLowerKeys : List RowChange → Type 0
 HaveLowerKeys cs = AllByRecursion (λ c. HasLowerOwner c.key) cs
 
--- the plan leads from the rows to later ones of usable records, and its keys are exactly those shown otherwise, with both values
+-- the plan leads from the rows to later ones of usable records that fit, and its keys are exactly those shown otherwise, with both values
 pub record Leads (domain : Labels) (rows : LinkRows) (plan : LinkPlan) (later : LinkRows) : Type 0 where
   pub keys : HaveLowerKeys plan.rows
   pub reached : with_row_changes plan.rows rows ≡ later
   pub shown : plan.changed ≡ changes (shown_rows domain rows) (shown_rows domain later)
   pub sound : AreLinkRows domain later
+  pub within : IsWithin domain later
 
 -- the plan is made of the changes from one part of the rows to another
 pub record IsPlanBetween (domain : Labels) (part work : LinkRows) (plan : LinkPlan) : Type 0 where

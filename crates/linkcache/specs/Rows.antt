@@ -13,7 +13,6 @@ use Rattle.rrset.specs.Records.{key_of, shown_of, rr_of, key_cmp, same_key, rr_s
 use Rattle.rrset.specs.RecordSet.{RecordSet, is_of_rrset, put_rr}
 use Rattle.rrset.specs.declared.record.Rr.{Rr}
 use Rattle.rrset.specs.declared.record.Key.{Key}
-use Rattle.rrset.specs.declared.record.Shown.{Shown}
 use Rattle.rrset.specs.declared.record.HeardRr.{HeardRr}
 use Rattle.linkcache.specs.declared.row.HeardRow.{HeardRow}
 use Rattle.linkcache.specs.declared.row.TheConstants as constants

@@ -1,6 +1,6 @@
 //! The changes of a plan, which take no memory.
 
-ghost use Rattle.std.specs.Prelude.{◌≡◌, ◌≤◌, ◌+◌, None, length, map, option_map};
+ghost use Rattle.std.specs.Prelude.{◌≡◌, ◌≤◌, ◌+◌, None, IsTrue, length, map, option_map};
 ghost use Rattle.std.specs.List.{AllByRecursion};
 ghost use Rattle.clockqueue.specs.Deadlines.{moment_of, without};
 ghost use Rattle.rrset.specs.KeyedRows.{put_row, row_at};
@@ -9,6 +9,7 @@ ghost use Rattle.rrset.specs.Tables.{HasLowerOwner};
 ghost use Rattle.linkcache.specs.Ends.{AreEnds, with_end, with_end_change};
 ghost use Rattle.linkcache.specs.Plans.{with_row_change, with_row_changes};
 ghost use Rattle.linkcache.specs.declared.row.HeardRow.{HeardRow};
+ghost use Rattle.rrset.specs.declared.record.Key.{Key};
 
 use crate::plan::{PlannedRow, RowChange};
 use crate::row::HeardRow;
@@ -90,16 +91,33 @@ fn put_end(ends: &mut Deadlines<Key>, key: Key, after: Option<u64>)
     }
 }
 
-/// Changes the moment of a key as a change of its row has it, where there is room for it.
+/// Whether two moments are one, or neither is there.
+fn same_end(before: Option<u64>, after: Option<u64>) -> bool
+    ensures { IsTrue result → before ≡ after }
+{
+    match (before, after) {
+        (Some(before), Some(after)) => before == after,
+        (None, None) => true,
+        _ => false,
+    }
+}
+
+/// Changes the moment of a key as a change of its row has it, where there is room for it. Nothing is moved where the row
+/// keeps its end.
 fn change_end(ends: &mut Deadlines<Key>, rows: &Table<HeardRow>, change: &RowChange, again: Key)
     requires again { again ≡ change.now.key }
     requires ends { AreEnds ends.old.deadlines rows.now.rows }
     requires room { 1 ≤ ends.old.spare }
-    ensures deadlines { ends.new.deadlines ≡ with_end_change ends.old.deadlines change.now }
+    ensures ends { (query : Key) → moment_of key_cmp query ends.new.deadlines ≡ moment_of key_cmp query (with_end_change ends.old.deadlines change.now) }
     ensures room { ends.old.spare ≤ ends.new.spare + 1 }
 {
-    take_end(ends, &again, end_of(rows, &again));
-    put_end(ends, again, end_after(&change.after));
+    let before = end_of(rows, &again);
+    let after = end_after(&change.after);
+    if same_end(before, after) {
+        return;
+    }
+    take_end(ends, &again, before);
+    put_end(ends, again, after);
 }
 
 /// Makes a change of a row, and of the moment at which it ends, where there is room for both.

@@ -6,13 +6,14 @@ ghost use Rattle.clockqueue.specs.Deadlines.{AreDeadlines};
 ghost use Rattle.rrset.specs.Records.{key_cmp};
 ghost use Rattle.linkcache.specs.Links.{IsLink};
 ghost use Rattle.linkcache.specs.Plans.{IsHeardPlan, IsMomentPlan, IsPlanOf, IsReconfirmPlan, with_row_changes};
-ghost use Rattle.linkcache.specs.Rows.{has_key, next_end};
+ghost use Rattle.linkcache.specs.Rows.{has_key, next_end, shown_rows};
 
 use crate::applying::make_changes;
 use crate::hearing::has;
 use crate::plan::HearPlan;
 use crate::planning::{heard_plan, moment_plan, reconfirm_plan};
 use crate::row::HeardRow;
+use crate::showing::shown_rows;
 use clockqueue::Deadlines;
 use dnsname::Name;
 use rrset::{HeardRr, Key, NoMemory, Table};
@@ -78,6 +79,13 @@ impl Cache {
         &self.rows
     }
 
+    /// The records that the link shows under its domain.
+    pub fn shown(&self, alloc: Global) -> Result<Table, NoMemory>
+        ensures { IfOk result (λ set. set.rows ≡ shown_rows self.now.state.domain self.now.state.rows) }
+    {
+        shown_rows(alloc, &self.domain, self.rows.entries())
+    }
+
     /// Whether there is a row of a key.
     pub fn has(&self, key: &Key) -> bool
         ensures { result ≡ has_key key.now self.now.state.rows }
@@ -102,7 +110,7 @@ impl Cache {
         self.ends.reserve(rows)
     }
 
-    /// What a hearing will change. The rows stay, and room is made for the plan beside that of earlier ones.
+    /// What a hearing will change. The rows stay, and room is made for the plan; room that was there stays.
     pub fn hear(
         &mut self,
         alloc: Global,
@@ -120,7 +128,7 @@ impl Cache {
         Ok(plan)
     }
 
-    /// What a moment will change. The rows stay, and room is made for the plan beside that of earlier ones.
+    /// What a moment will change. The rows stay, and room is made for the plan; room that was there stays.
     pub fn moment(&mut self, alloc: Global, now: u64) -> Result<HearPlan, NoMemory>
         ensures plan { IfOk result (IsMomentPlan self.old.state.domain self.old.state.rows now) }
         ensures state { self.new.state ≡ self.old.state }
@@ -132,8 +140,8 @@ impl Cache {
         Ok(plan)
     }
 
-    /// What a reconfirmation of a key will change (RFC 6762, 10.4). The rows stay, and room is made for the plan beside
-    /// that of earlier ones.
+    /// What a reconfirmation of a key will change (RFC 6762, 10.4). The rows stay, and room is made for the plan; room
+    /// that was there stays.
     pub fn reconfirm(&mut self, alloc: Global, key: &Key, now: u64) -> Result<HearPlan, NoMemory>
         requires { now ≤ max_moment }
         ensures plan { IfOk result (IsReconfirmPlan self.old.state.domain self.old.state.rows key.now now) }

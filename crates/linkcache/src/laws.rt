@@ -1,7 +1,7 @@
 //! What a part of a link's rows tells of all of them, so that a step need look only at the rows which it changes.
 
 ghost use Rattle.linkcache.specs.Ends.{EndsAreKept, NothingEndsBefore, NextEndIsFirst, DueRowsGo};
-ghost use Rattle.linkcache.specs.Laws.{HearingsKeepToTheirOwners, PartsShowForThemselves, MovesReachTheLaterRows, RowsStaySound};
+ghost use Rattle.linkcache.specs.Laws.{HearingsKeepToTheirOwners, PartsShowForThemselves, MovesReachTheLaterRows, RowsStaySound, RowsStayWithin, ShownFits};
 
 /// A hearing changes the rows of its owners alone, as if they were all of the link's but for a count of the others.
 pub fn hearings_keep_to_their_owners()
@@ -21,6 +21,16 @@ pub fn moves_reach_the_later_rows()
 /// Each row stays one of a usable record, with its key, whatever is heard, ends or is reconfirmed.
 pub fn rows_stay_sound()
     ensures { RowsStaySound }
+{}
+
+/// Few enough rows, and few enough octets of each owner, stay so, whatever is heard, ends or is reconfirmed.
+pub fn rows_stay_within()
+    ensures { RowsStayWithin }
+{}
+
+/// What is shown of a name has no more octets than an owner may have.
+pub fn shown_fits()
+    ensures { ShownFits }
 {}
 
 /// Moments that are the ends of the rows stay so where both are changed.

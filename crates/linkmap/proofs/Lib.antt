@@ -3,4 +3,5 @@ pub mod Suffixes
 pub mod Changed
 pub mod Shown
 pub mod OneKey
+pub mod OneSize
 pub mod Tests

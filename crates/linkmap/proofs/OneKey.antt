@@ -62,10 +62,10 @@ record ReadAlike (kind : ℕ) (other : List ℕ) (fields : List Field) : Type 0 
   pub is : rdata_fields kind other ≡ fields_done others
   pub alike : Alike fields others
 
-low : (kind : ℕ) (rdata : List ℕ) (fields : List Field) → rdata_fields kind rdata ≡ fields_done fields → OnNames (λ name. CanStand 0 (lower name)) fields
+pub low : (kind : ℕ) (rdata : List ℕ) (fields : List Field) → rdata_fields kind rdata ≡ fields_done fields → OnNames (λ name. CanStand 0 (lower name)) fields
 low kind rdata fields e = names_map (CanStand 0) (λ name. CanStand 0 (lower name)) (λ name c. can-lower name c) fields (can-names kind rdata fields e)
 
-unread : (kind : ℕ) (rdata other : List ℕ) (fields : List Field) (p : ℕ) → lowered_rdata kind rdata ≡ lowered_rdata kind other → rdata_fields kind rdata ≡ fields_done fields → rdata_fields kind other ≡ Err p → ⊥
+pub unread : (kind : ℕ) (rdata other : List ℕ) (fields : List Field) (p : ℕ) → lowered_rdata kind rdata ≡ lowered_rdata kind other → rdata_fields kind rdata ≡ fields_done fields → rdata_fields kind other ≡ Err p → ⊥
 unread kind rdata other fields p same e o =
     not_done p (map (field_with lower) fields)
     (sym o ∙ ap (rdata_fields kind) (sym (same ∙ with_names-Err lower kind other p o)) ∙ read_changed lower kind rdata fields e (low kind rdata fields e))

@@ -2,12 +2,13 @@
 --     HeardIsShown      what is heard as a record is shown with the record's key
 --     EachIsShownByItself      two records of the link that aren't one are never shown with one key
 --     OneKeyIsShownAsOne      records with one key are usable, and shown, as one
+--     OneKeyIsOfOneSize      and under the domain they are of one size
 --     ShownIsUnderTheDomain      what is shown lies under the domain
 use Rattle.std.specs.Prelude.{◌≡◌, Some, IsTrue, option_map}
 use Rattle.dnsname.specs.Names.{Labels, IsName, ends_in}
-use Rattle.rrset.specs.Records.{key_of}
+use Rattle.rrset.specs.Records.{key_of, rr_size}
 use Rattle.rrset.specs.declared.record.Rr.{Rr}
-use Rattle.linkmap.specs.Translation.{is_usable, shown_as, heard_as}
+use Rattle.linkmap.specs.Translation.{local, renamed_rr, is_usable, shown_as, heard_as}
 
 abbrev pub HeardIsShown : Type 0
 HeardIsShown = (domain : Labels) (rr heard : Rr) → heard_as domain rr ≡ Some heard → option_map key_of (shown_as domain heard) ≡ Some (key_of rr)
@@ -22,3 +23,6 @@ ShownIsUnderTheDomain = (domain : Labels) (rr shown : Rr) → IsTrue (is_usable 
 abbrev pub OneKeyIsShownAsOne : Type 0
 OneKeyIsShownAsOne = (domain : Labels) (rr other : Rr) → IsName domain → key_of rr ≡ key_of other → IsTrue (is_usable domain rr)
     → IsTrue (is_usable domain other) × (option_map key_of (shown_as domain rr) ≡ option_map key_of (shown_as domain other))
+
+abbrev pub OneKeyIsOfOneSize : Type 0
+OneKeyIsOfOneSize = (domain : Labels) (rr other : Rr) → key_of rr ≡ key_of other → rr_size (renamed_rr local domain rr) ≡ rr_size (renamed_rr local domain other)

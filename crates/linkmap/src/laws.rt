@@ -1,6 +1,6 @@
 //! What the two translations promise of each other.
 
-ghost use Rattle.linkmap.specs.Laws.{HeardIsShown, EachIsShownByItself, OneKeyIsShownAsOne, ShownIsUnderTheDomain};
+ghost use Rattle.linkmap.specs.Laws.{HeardIsShown, EachIsShownByItself, OneKeyIsOfOneSize, OneKeyIsShownAsOne, ShownIsUnderTheDomain};
 
 /// What is heard as a record is shown with the record's key.
 pub fn heard_is_shown()
@@ -20,4 +20,9 @@ pub fn shown_is_under_the_domain()
 /// Records with one key are usable, and shown, as one.
 pub fn one_key_is_shown_as_one()
     ensures { OneKeyIsShownAsOne }
+{}
+
+/// Records with one key are of one size under the domain.
+pub fn one_key_is_of_one_size()
+    ensures { OneKeyIsOfOneSize }
 {}

@@ -1,18 +1,17 @@
 -- What is seen of what is kept is seen of the plain hub.
-use Rattle.std.proofs.Common.{◌≡◌, ℕ, suc, ◌<◌, Bool, true, false, cond, min, List, [], ◌∷◌, map, length, get_or, Option, Some, None, is_some, refl, sym, ap, ◌∙◌, arith}
-use Rattle.std.specs.Prelude.{MatchOption, find, option_map, unwrap_or, ◌==◌}
+use Rattle.std.proofs.Common.{◌≡◌, ℕ, suc, ◌<◌, Bool, true, false, cond, List, [], ◌∷◌, map, length, get_or, Option, Some, None, is_some, refl, sym, ap, ◌∙◌, arith}
+use Rattle.std.specs.Prelude.{MatchOption, find, option_map, unwrap_or}
 use Rattle.std.proofs.lemmas.List.Elements.{All-nil, All-cons}
-use Rattle.push_base.specs.Limits.{max_number}
 use Rattle.dnsname.specs.Names.{Labels, same_name}
 use Rattle.dsotlv.specs.Laws.{AreOctets}
 use Rattle.coalesce.specs.Waiting.{WaitingName, is_named, since}
 use Rattle.history.proofs.Together.{same_name-turned}
 use Rattle.pushsession.specs.Kept.{KeptSession, filled_of}
-use Rattle.pushserver.specs.PlainHubs.{Hub, Session, Subscription, Queue, point_in, subscription_of}
+use Rattle.pushserver.specs.PlainHubs.{Hub, Session, Queue, point_in}
 use Rattle.pushserver.specs.Hubs.{newest, session_of}
 use Rattle.pushserver.specs.Observing as observing
 use Rattle.pushserver.specs.Observing.{all_filled_in, filled_in, told_of, told_in}
-use Rattle.pushserver.specs.KeptHubs.{KeptHub, StandsFor, filled_kept}
+use Rattle.pushserver.specs.KeptHubs.{KeptHub, StandsFor}
 use Rattle.pushserver.proofs.hub_steps.Standing.{FoundBoth, both_found, fitting}
 
 -- ---- one session
@@ -35,25 +34,15 @@ live-is now (Some s) o e = ap is_some (sym e)
 
 -- ---- the end of a first answer
 
-filled-kept : (id : ℕ) (ss : List Subscription) → filled_of id (filled_kept ss) ≡ option_map (λ s. min s.filled max_number) (subscription_of ss id)
-filled-kept id [] = refl
-filled-kept id (s ∷ ss) = by (s.id == id) (filled-kept id ss)
-  where
-    by : (b : Bool) → filled_of id (filled_kept ss) ≡ option_map (λ s. min s.filled max_number) (subscription_of ss id)
-        → option_map (λ (e : ℕ × ℕ). e.1) (cond b (Some (s.id, min s.filled max_number)) (find (λ (e : ℕ × ℕ). e.0 == id) (filled_kept ss)))
-        ≡ option_map (λ (s : Subscription). min s.filled max_number) (cond b (Some s) (find (λ (s : Subscription). s.id == id) ss))
-    by true h = refl
-    by false h = h
-
 abbrev pub filled_kept_in : ℕ → Option KeptSession → Option ℕ
 filled_kept_in id None = None
 filled_kept_in id (Some s) = filled_of id s.subscriptions.filled
 
-filled-both : (hub : Hub) (number id : ℕ) (o : Option KeptSession) (q : Option Session) → FoundBoth hub number o q → filled_kept_in id o ≡ observing.filled_of id q
+filled-both : (hub : Hub) (number id : ℕ) (o : Option KeptSession) (q : Option Session) → FoundBoth hub number o q → filled_kept_in id o ≡ filled_of id (observing.all_filled_of q)
 filled-both hub number id None None b = refl
 filled-both hub number id None (Some p) b = absurd b
 filled-both hub number id (Some s) None b = absurd b
-filled-both hub number id (Some s) (Some p) b = ap (filled_of id) b.stands.filled ∙ filled-kept id p.subscriptions
+filled-both hub number id (Some s) (Some p) b = ap (filled_of id) b.stands.filled
 
 pub filled-seen : (k : KeptHub) (hub : Hub) (number id : ℕ) (o : Option KeptSession) (r : Option ℕ) → session_of k number ≡ o → r ≡ filled_kept_in id o → StandsFor k hub → r ≡ filled_in hub number id
 filled-seen k hub number id o r at is stands = is ∙ ap (filled_kept_in id) (sym at) ∙ filled-both hub number id (session_of k number) (session_of hub number) (both k hub number stands)

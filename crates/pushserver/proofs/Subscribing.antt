@@ -4,7 +4,7 @@
 --     reaction      the hub behind it
 --     found_accepted      the session afterwards
 --     subscribe_is_answered      by NOERROR, and by the first answer's PUSH
-use Rattle.std.proofs.Common.{◌≡◌, ℕ, Bool, true, false, not, ◌||◌, List, [], ◌∷◌, ◌++◌, Option, Some, None, sym, ◌∙◌, ap, refl}
+use Rattle.std.proofs.Common.{◌≡◌, ℕ, Bool, true, false, not, ◌&&◌, List, [], ◌∷◌, ◌++◌, Option, Some, None, sym, ◌∙◌, ap, refl}
 use Rattle.std.specs.Prelude.{option_map, nat_le, if◌then◌else◌}
 use Rattle.std.proofs.lemmas.List.{append_assoc, append-nil}
 use Rattle.push_base.specs.Limits.{max_questions}
@@ -34,7 +34,7 @@ use Rattle.pushserver.proofs.hub_steps.Cases.{session_as}
 abbrev by_tests : ℕ → Question → Bool → Option ℕ → Bool → Bool → Bool → Verdict
 by_tests id question used active served has_home full =
     if used then Abort (ends.IdInUse id)
-    else elim active [ Some twice ↦ Abort (ends.Twice twice) | None ↦ if not served || not has_home then Refuse notauth else if full then Refuse refused else Accept question ]
+    else elim active [ Some twice ↦ Abort (ends.Twice twice) | None ↦ if not (served && has_home) then Refuse notauth else if full then Refuse refused else Accept question ]
 
 -- what holds of each verdict that there may be
 pub verdict-holds : {A Q M : Type 0} (keeps : Keeps A Q M) (id : ℕ) (question : Option Question) (home : Bool) (subscriptions : A) (P : Verdict → Type 0)

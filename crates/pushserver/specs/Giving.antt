@@ -14,7 +14,7 @@ use Rattle.pushsession.specs.declared.request.Request.TheVariants as requests
 use Rattle.pushsession.specs.declared.standing.Standing.{Standing}
 use Rattle.pushsession.specs.declared.standing.Standing.TheVariants.{Live, AskedToStop, Stopped, Ended}
 use Rattle.pushsession.specs.Sessions.{SessionOf, copied, stopped, without_first}
-use Rattle.pushsession.specs.Subscribing.{is_served, packs}
+use Rattle.pushsession.specs.Subscribing.{may_be_served, packs}
 use Rattle.pushsession.specs.Reactions.{restarted_by, request_in, reacts_itself, answers_subscribe, takes_reconfirm, answers_update}
 use Rattle.pushserver.specs.declared.given.Given.{Given}
 use Rattle.pushserver.specs.declared.given.Given.TheVariants.{Bytes, Worked, Nothing, Ending, End}
@@ -31,9 +31,9 @@ abbrev pub has_home : {A Q M : Type 0} {kind : SessionKind A Q M} → HubOf kind
 has_home hub None = false
 has_home hub (Some question) = has_home_at (state_now hub) question
 
--- a question of a class that is served, whose name has a home
+-- a question that may be served in a state
 abbrev pub is_served_at : State → Question → Bool
-is_served_at state question = is_served question.class && has_home_at state question
+is_served_at state question = may_be_served question (has_home_at state question)
 
 abbrev pub subscribes : {A Q M : Type 0} {kind : SessionKind A Q M} → Option Question → ℕ → List ℕ → HubOf kind → HubOf kind
 subscribes question number message hub = in_session number (answers_subscribe (keeps_now hub) (tells_now hub) (now hub) message question (has_home hub question)) hub
@@ -52,7 +52,7 @@ updates number message hub =
     let judged = update hub message in
     in_session number (answers_update (keeps_now judged.1) (now judged.1) message judged.0) judged.1
 
--- by what is needed for the message
+-- by what is needed for the message; a further kind of request changes the calls of a kept session, too
 abbrev pub by_request : {A Q M : Type 0} {kind : SessionKind A Q M} → Request → ℕ → List ℕ → HubOf kind → HubOf kind
 by_request (requests.Subscribe question) number message hub = subscribes question number message hub
 by_request (requests.Reconfirm rr) number message hub = reconfirms rr number hub

@@ -149,7 +149,7 @@ hear hub link datagram = elim (hearing_of datagram) [
 -- true where the journal is full, and the hub at a later moment: the entry is made first, and then sessions end by their timers
 abbrev pub moment : {A Q M : Type 0} {kind : SessionKind A Q M} → HubOf kind → ℕ → Bool × HubOf kind
 moment hub t =
-    if not (nat_lt (now hub) t) then (false, hub)
+    if not (accepts (state_now hub) (entries.Moment t)) then (false, hub)
     else if can_enter hub (entries.Moment t) then (false, each_session (timed (keeps_now hub) t) (entered (entries.Moment t) hub)) else (true, hub)
 
 -- ---- sessions come and go

@@ -64,7 +64,7 @@ OtherCallsKeepOutputs = (hub : Hub) (number other : ℕ) (octets : List ℕ) (n 
     × KeepsOutput hub (connect hub).1 number × KeepsOutput hub (take_octets hub other octets) number × KeepsOutput hub (stop hub other n m) number
     × ((number ≡ other → ⊥) → KeepsOutput hub (disconnect hub other) number)
 
--- a SUBSCRIBE whose question is read, and that none of the tests refuses: ID and question are new, the class is IN or ANY, the name has a home, and there is room (RFC 8765, 6.2)
+-- a SUBSCRIBE whose question is read, and that none of the tests refuses (RFC 8765, 6.2)
 pub record IsAcceptable (hub : Hub) (session : Session) (message : List ℕ) (question : Question) : Type 0 where
   pub request : request_in message session.established ≡ requests.Subscribe (Some question)
   pub accepted : verdict_on (keeps_now hub) (id_of message) (Some question) (has_home hub (Some question)) session.subscriptions ≡ Accept question

@@ -106,7 +106,8 @@ sent_of start history subscriptions queue name = wanted subscriptions (at_name n
 abbrev pub shown_of : State → List Entry → List Subscription → Labels → RecordSet
 shown_of start history subscriptions name = wanted subscriptions (at_name name (records_now (record { start = start; history = history })))
 
--- what follows the answer to a SUBSCRIBE (RFC 8765, 6.2.2): the name has changed where other records were sent of it than it has now
+-- what follows the answer to a SUBSCRIBE (RFC 8765, 6.2.2): the name has changed where other records were sent of it than it has now.
+-- Whether it waits isn't asked: what counts as sent of a name that doesn't is what it has now
 abbrev pub first_notices : State → List Entry → Question → List Subscription → Queue → List Notice
 first_notices start history question subscriptions queue =
     let changed = not (same_rows (sent_of start history subscriptions queue question.name) (shown_of start history subscriptions question.name)) in

@@ -3,16 +3,17 @@
 --     IsSoundSession hub numbered      of a session in it
 use Rattle.std.specs.Prelude.{◌≡◌, ℕ, ◌<◌, ◌≤◌, [], length, IsTrue}
 use Rattle.std.specs.List.{AllByRecursion, IsDistinct}
-use Rattle.push_base.specs.Limits.{max_questions, max_input}
+use Rattle.push_base.specs.Limits.{max_input}
 use Rattle.dnsname.specs.Names.{same_name}
 use Rattle.dsotlv.specs.Laws.{AreOctets}
+use Rattle.subscr.specs.Asked.{AreAsked}
 use Rattle.coalesce.specs.Sides.{frame_octets}
 use Rattle.history.specs.Plans.{IsStart}
 use Rattle.history.specs.States.{State, state_at}
 use Rattle.pushserver.specs.Hubs.{newest, state_now, max_sessions}
 use Rattle.pushserver.specs.Rows.{IsTellable}
 use Rattle.pushserver.specs.Giving.{is_served_at}
-use Rattle.pushserver.specs.PlainHubs.{Hub, Session, Subscription, Queue, HaveOwnIds, AskOnce}
+use Rattle.pushserver.specs.PlainHubs.{Hub, Session, Subscription, Queue, asked_of}
 use Rattle.pushserver.specs.NumberedSessions.{AreApart}
 
 -- the points of names that wait are of the past
@@ -23,15 +24,13 @@ ArePast newest queue = AllByRecursion (λ e. e.1 < newest) queue
 abbrev pub HasHome : State → Subscription → Type 0
 HasHome state s = IsTrue (is_served_at state s.question)
 
--- its number was given out; each name waits once, since a point of the past; no ID and no question is there twice, and each
--- has a home; what came are octets, and what came and what waits to go are within bounds
+-- its number was given out; each name waits once, since a point of the past; it asks as a session may, and each question is
+-- served; what came are octets, and what came and what waits to go are within bounds
 pub record IsSoundSession (hub : Hub) (numbered : ℕ × Session) : Type 0 where
   pub below : numbered.0 < hub.numbers_given
   pub points : ArePast (newest hub) numbered.1.queue
   pub names : IsDistinct (λ d e. same_name e.0 d.0) numbered.1.queue
-  pub few : length numbered.1.subscriptions ≤ max_questions
-  pub ids : HaveOwnIds numbered.1.subscriptions
-  pub questions : AskOnce numbered.1.subscriptions
+  pub asked : AreAsked (asked_of numbered.1.subscriptions)
   pub homes : AllByRecursion (HasHome (state_now hub)) numbered.1.subscriptions
   pub octets : AreOctets numbered.1.input
   pub input_fits : length numbered.1.input ≤ max_input

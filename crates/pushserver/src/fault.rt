@@ -11,7 +11,7 @@ use std::alloc::{AllocError, AllocFailed};
 pub enum HubFault {
     /// Memory ran out.
     NoMemory,
-    /// The journal is full: it has 65,536 entries, or one more would pass 67,108,864 octets.
+    /// The journal has no room for one more entry.
     Full,
 }
 
@@ -26,7 +26,7 @@ impl From<AllocError> for HubFault {
 /// Why no session is connected.
 #[derive(Clone, Copy, Debug, PartialEq, Eq)]
 pub enum ConnectFault {
-    /// There are 64 sessions, or all numbers were given out.
+    /// There are as many sessions as there may be, or all numbers were given out.
     NoSeat,
     /// Memory ran out.
     NoMemory,

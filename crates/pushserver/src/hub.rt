@@ -78,8 +78,8 @@ impl Hub {
         Ok(())
     }
 
-    /// A new session. Gives its number; no two sessions have one number. `NoSeat`: there are 64 sessions, or all numbers
-    /// were given out, which is told before any memory is taken.
+    /// A new session. Gives its number; no two sessions have one number. `NoSeat`: there are as many sessions as there may
+    /// be, or all numbers were given out, which is told before any memory is taken.
     pub fn connect(&mut self) -> Result<u64, ConnectFault>
         ensures ok { IfOk result (λ number. (hub : Plain) → StandsFor self.old hub → ((connect hub).0 ≡ Some number) × StandsFor self.new (connect hub).1) }
         ensures no_seat { IsErrOf result ConnectFault.NoSeat → (hub : Plain) → StandsFor self.old hub → ((connect hub).0 ≡ None) × StandsFor self.new (connect hub).1 }

@@ -18,6 +18,7 @@ use dnswire::Update;
 use dsosession::session::Timers;
 use history::entry::Entry;
 use history::{Homes, Planned, Points};
+use push_base::limits::MAX_NUMBER;
 use pushsession::{NoMemory, PushSession};
 use rrset::Table;
 use rrset::rcodes::{FORMERR, NOERROR, SERVFAIL};
@@ -137,7 +138,7 @@ impl Keeping {
         ensures seat { OnErr result ((connect (kept_of self.old)).0 ≡ Some self.old.numbers_given) }
         ensures index { self.new.index.rows ≡ records_now (kept_of self.new) }
     {
-        if self.sessions.len() >= MAX_SESSIONS || self.numbers_given == u64::MAX {
+        if self.sessions.len() >= MAX_SESSIONS || self.numbers_given == MAX_NUMBER {
             return Ok(None);
         }
         let number = self.numbers_given;

@@ -2,8 +2,7 @@
 
 ghost use Rattle.std.specs.Prelude.{◌≡◌, [], ℕ, length, IfOk, OnErr};
 ghost use Rattle.coalesce.specs.Waiting.{CanBePacked};
-ghost use Rattle.pushsession.specs.Sessions.{copied, laid_over, stopped};
-ghost use Rattle.pushsession.specs.Kept.{keeping};
+ghost use Rattle.pushsession.specs.Sessions.{copied, laid_over};
 ghost use Rattle.pushserver.specs.Giving.{given_after, given_of, has_home};
 ghost use Rattle.pushserver.specs.Hubs.{past_of};
 ghost use Rattle.pushserver.specs.Keeping.{IsSeated, Turns};
@@ -15,7 +14,7 @@ ghost use Rattle.pushsession.specs.declared.standing.Standing.TheVariants.{Live}
 use crate::given::Given;
 use crate::reading::read_message;
 use dnswire::Update;
-use dsosession::session::{EndReason, Timers};
+use dsosession::session::Timers;
 use history::Points;
 use pushsession::{NoMemory, PushSession, Request, Standing};
 use rrset::{Question, Table};
@@ -63,18 +62,6 @@ pub(crate) fn after_reaction(session: &mut PushSession, buf: &mut [u8]) -> Given
 {
     let otherwise = given_after(session.standing());
     hand_on(session, buf, otherwise)
-}
-
-/// A session that was asked to stop writes its Retry Delay, or ends where it isn't established (RFC 8490, 6.6.1).
-fn stop(session: &mut PushSession, rcode: u8, delay: u32, now: u64)
-    requires { session.old.output ≡ [] }
-    ensures { session.new ≡ stopped keeping rcode delay now session.old }
-{
-    if session.established() {
-        session.write_stop(rcode, delay, now);
-    } else {
-        session.end(EndReason::Stopped);
-    }
 }
 
 /// Whether the name of a question has a home.
@@ -145,7 +132,7 @@ pub(crate) fn take_turn(
         Standing::Ended(reason) => Ok(Turn::Did(Given::End(reason))),
         Standing::Stopped(_) => Ok(Turn::Did(Given::Ending)),
         Standing::AskedToStop(rcode, delay) => {
-            stop(session, rcode, delay, points.now());
+            session.carry_out_stop(rcode, delay, points.now());
             Ok(Turn::Did(after_reaction(session, buf)))
         }
         Standing::Live => work(session, alloc, points, index, timers, buf),

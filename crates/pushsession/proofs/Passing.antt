@@ -1,7 +1,7 @@
 -- What a question has passed that the tests of a SUBSCRIBE accept (RFC 8765, 6.2).
 --     Passed, passed      its tests, and that they follow from the verdict
 --     passed_own      the same of the question that was asked
-use Rattle.std.proofs.Common.{◌≡◌, ℕ, Bool, true, false, cond, not, ◌||◌, Option, Some, None, refl, ap, subst}
+use Rattle.std.proofs.Common.{◌≡◌, ℕ, Bool, true, false, cond, not, ◌&&◌, Option, Some, None, refl, ap, subst}
 use Rattle.std.specs.Prelude.{nat_le}
 use Rattle.push_base.specs.Limits.{max_questions}
 use Rattle.rrset.specs.Rcodes.{notauth, refused}
@@ -28,7 +28,7 @@ module _ {A Q M : Type 0} (keeps : Keeps A Q M) (id : ℕ) (has_home : Bool) (su
           → (home : Bool) → has_home ≡ home → (full : Bool) → nat_le max_questions (keeps.count subscriptions) ≡ full
           → cond used (subscribing.Abort (ends.IdInUse id)) (elim active as (λ _. Verdict) [
             | Some other ↦ subscribing.Abort (ends.Twice other)
-            | None ↦ cond (not served || not home) (subscribing.Refuse notauth) (cond full (subscribing.Refuse refused) (subscribing.Accept q))
+            | None ↦ cond (not (served && home)) (subscribing.Refuse notauth) (cond full (subscribing.Refuse refused) (subscribing.Accept q))
           ]) ≡ subscribing.Accept question → (Some q ≡ Some question) × Passed keeps id question has_home subscriptions
       by true u active a served s home h full f e = absurd cc
       by false u (Some other) a served s home h full f e = absurd cc

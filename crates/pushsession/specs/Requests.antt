@@ -4,6 +4,8 @@
 --     request_of      what is needed for it
 --     reacted, subscribed_by, updated, reconfirmed      the first message is reacted to
 --     CanBeTold      records as nets are made of
+-- The server's `give` composes the same of any message and in both worlds, as its laws need it; the calls here are of a kept session alone, and read the
+-- message in its input. A further kind of request changes both.
 use Rattle.std.specs.Prelude.{ℕ, Bool, true, List, [], Option, Some, option_map, unwrap_or, IsTrue}
 use Rattle.rrset.specs.RecordSet.{RecordSet, at_name}
 use Rattle.rrset.specs.declared.record.Question.{Question}

@@ -1,9 +1,10 @@
 -- What a session makes of a SUBSCRIBE, and what it is told of changes (RFC 8765, 6.2 and 6.3).
 --     Tells      what is to be told: after the answer to a SUBSCRIBE, and of the names that wait
+--     may_be_served      whether a question is one that the server may answer
 --     Verdict, verdict_on      the tests of a SUBSCRIBE in their order
 --     accepts, decided, answered      NOERROR and the first answer; what each verdict does; a SUBSCRIBE is answered
 --     packs      one PUSH of the names that fit
-use Rattle.std.specs.Prelude.{ℕ, Bool, false, not, ◌||◌, ◌==◌, List, [], ◌∷◌, ◌++◌, length, Option, Some, None, nat_le, if◌then◌else◌}
+use Rattle.std.specs.Prelude.{ℕ, Bool, false, not, ◌&&◌, ◌||◌, ◌==◌, List, [], ◌∷◌, ◌++◌, length, Option, Some, None, nat_le, if◌then◌else◌}
 use Rattle.push_base.specs.Cases.{is_empty}
 use Rattle.push_base.specs.Limits.{max_questions}
 use Rattle.rrset.specs.Kinds.{in_class, any_class}
@@ -23,7 +24,7 @@ pub record Tells (Asked Queue : Type 0) : Type 0 where
   pub first_notices : Question → Asked → Queue → List Notice
   pub packed : Asked → Queue → List Notice × Queue
 
--- a PUSH where there are notices
+-- a PUSH where there are notices; `push_frame` gives its octets alone, since their number is kept before they are written
 abbrev pub says_notices : {A Q M : Type 0} → Keeps A Q M → ℕ → List Notice → SessionOf A Q M → SessionOf A Q M
 says_notices keeps now [] session = session
 says_notices keeps now (n ∷ ns) session = answers keeps false now (push_message (n ∷ ns)) session
@@ -45,6 +46,10 @@ pub data Verdict : Type 0 where
 abbrev pub is_served : ℕ → Bool
 is_served class = class == in_class || class == any_class
 
+-- its class is served, and its name has a home
+abbrev pub may_be_served : Question → Bool → Bool
+may_be_served question has_home = is_served question.class && has_home
+
 -- the tests of a SUBSCRIBE with this ID in their order (RFC 8765, 6.2); without a question its data is malformed
 abbrev pub verdict_on : {A Q M : Type 0} → Keeps A Q M → ℕ → Option Question → Bool → A → Verdict
 verdict_on keeps id None has_home subscriptions = Refuse formerr
@@ -53,7 +58,7 @@ verdict_on keeps id (Some question) has_home subscriptions =
     else elim (keeps.id_of question subscriptions) [
       | Some active ↦ Abort (ends.Twice active)
       | None ↦
-          if not (is_served question.class) || not has_home then Refuse notauth
+          if not (may_be_served question has_home) then Refuse notauth
           else if nat_le max_questions (keeps.count subscriptions) then Refuse refused
           else Accept question
     ]

@@ -2,7 +2,7 @@
 
 ghost use Rattle.std.specs.Prelude.{◌≡◌, [], Some, None};
 ghost use Rattle.dsosession.specs.Timing.{has_passed};
-ghost use Rattle.pushsession.specs.Sessions.{asked_to_stop, cleared, due, ended_with, timed};
+ghost use Rattle.pushsession.specs.Sessions.{asked_to_stop, cleared, due, ended_with, stopped, timed};
 ghost use Rattle.pushsession.specs.Kept.{keeping};
 
 use crate::session::PushSession;
@@ -46,6 +46,19 @@ impl PushSession {
         ensures { self.new ≡ ended_with keeping reason self.old }
     {
         self.clear(Standing::Ended(reason));
+    }
+
+    /// Does what was asked for by a stop: it writes its Retry Delay, or ends where it isn't established (RFC 8490,
+    /// 6.6.1).
+    pub fn carry_out_stop(&mut self, rcode: u8, delay: u32, now: u64)
+        requires { self.old.output ≡ [] }
+        ensures { self.new ≡ stopped keeping rcode delay now self.old }
+    {
+        if self.established() {
+            self.write_stop(rcode, delay, now);
+        } else {
+            self.end(EndReason::Stopped);
+        }
     }
 
     /// Why it ends at a moment, if it does.

@@ -8,6 +8,7 @@ ghost use Rattle.coalesce.specs.Sides.{frame_octets};
 
 use coalesce::Frame;
 use dsosession::session::Timers;
+use dsotlv::data_sizes;
 use dsotlv::flags::ANSWER;
 use dsotlv::kinds::{KEEPALIVE, RETRY_DELAY};
 
@@ -33,17 +34,19 @@ pub(crate) fn answer(id: u16, rcode: u8) -> [u8; 12]
 pub(crate) fn retry_delay(delay: u32) -> [u8; 8]
     ensures { result ≡ retry_delay_octets delay }
 {
+    let size = data_sizes::RETRY_DELAY as u8;
     let [a, b, c, d] = delay.to_be_bytes();
-    [0, RETRY_DELAY as u8, 0, 4, a, b, c, d]
+    [0, RETRY_DELAY as u8, 0, size, a, b, c, d]
 }
 
 /// The TLV of the inactivity timeout and the keepalive interval.
 pub(crate) fn keepalive(timers: Timers) -> [u8; 12]
     ensures { result ≡ keepalive_octets timers.inactivity timers.keepalive }
 {
+    let size = data_sizes::KEEPALIVE as u8;
     let [a, b, c, d] = timers.inactivity.to_be_bytes();
     let [e, f, g, h] = timers.keepalive.to_be_bytes();
-    [0, KEEPALIVE as u8, 0, 8, a, b, c, d, e, f, g, h]
+    [0, KEEPALIVE as u8, 0, size, a, b, c, d, e, f, g, h]
 }
 
 /// Appends a message behind its length (RFC 7766, 8): a header, and what stands behind it.

@@ -37,7 +37,7 @@ impl PushSession {
 
     /// Writes the Retry Delay, an RCODE and milliseconds, and lets go of all questions and names that wait (RFC 8490,
     /// 6.6.1).
-    pub fn write_stop(&mut self, rcode: u8, delay: u32, now: u64)
+    pub(crate) fn write_stop(&mut self, rcode: u8, delay: u32, now: u64)
         requires { self.old.output ≡ [] }
         ensures { self.new ≡ says_stop keeping rcode delay now self.old }
     {

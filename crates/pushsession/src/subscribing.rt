@@ -156,7 +156,7 @@ impl PushSession {
             self.abort(EndReason::Twice(active), now);
             return Ok(());
         }
-        if !is_served(question.class) || !has_home {
+        if !(is_served(question.class) && has_home) {
             self.refuse(id, NOTAUTH, now);
             return Ok(());
         }

@@ -1,8 +1,8 @@
 //! The first whole message of a session (RFC 7766, 8).
 
-ghost use Rattle.std.specs.Prelude.{◌≡◌, ◌≤◌, length, IfOk, OnErr, Some, None, option_map};
-ghost use Rattle.rrset.specs.Header.{id_of};
-ghost use Rattle.dsotlv.specs.Messages.{head_of};
+ghost use Rattle.std.specs.Prelude.{◌≡◌, ◌<◌, ◌≤◌, length, IfOk, OnErr, Some, None, option_map};
+ghost use Rattle.rrset.specs.Header.{header_octets, id_of};
+ghost use Rattle.dsotlv.specs.Messages.{head_of, max_frame};
 ghost use Rattle.dsosession.specs.Reactions.{server_reaction};
 ghost use Rattle.pushsession.specs.Reactions.{IsRead, request_for, request_in};
 ghost use Rattle.pushsession.specs.Requests.{message_of, request_of, taken_up};
@@ -17,7 +17,7 @@ use std::alloc::Global;
 
 /// What is needed for a message with this reaction.
 fn request_for(alloc: Global, reaction: Reaction, message: &[u8]) -> Result<Request, NoMemory>
-    requires { 12 ≤ length message.now }
+    requires { header_octets ≤ length message.now }
     ensures request { IfOk result (λ request. request ≡ request_for reaction message.now) }
     ensures memory { OnErr result (IsRead (Some (request_for reaction message.now))) }
 {
@@ -59,11 +59,11 @@ pub(crate) struct Taken {
 
 impl PushSession {
     /// What it needs of the server to react to the first whole message, if one waits. Only a question and a record take
-    /// memory. Where no message waits, there is room for 4,097 octets and more.
+    /// memory. Where no message waits, less than the longest frame does, so that there is room for more.
     pub fn request(&self, alloc: Global) -> Result<Option<Request>, NoMemory>
         ensures request { IfOk result (λ request. request ≡ request_of self.now) }
         ensures memory { OnErr result (IsRead (request_of self.now)) }
-        ensures room { IfOk result (λ request. request ≡ None → length self.now.input ≤ 65536) }
+        ensures room { IfOk result (λ request. request ≡ None → length self.now.input < max_frame) }
     {
         match self.input.next() {
             Some(message) => {
@@ -86,7 +86,7 @@ impl PushSession {
 
     /// The ID of the first whole message.
     pub(crate) fn id(&self) -> u16
-        requires { 12 ≤ length (message_of self.now) }
+        requires { header_octets ≤ length (message_of self.now) }
         ensures { result ≡ id_of (message_of self.now) }
     {
         let message = self.message();

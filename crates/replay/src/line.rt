@@ -1,7 +1,7 @@
 //! The lines of a script that are built.
 
-ghost use Rattle.std.specs.Prelude.{◌≡◌, false, ◌∷◌, [], IfOk, IfSome, IfNone, None, position, ◌==◌, ◌<◌, option_map, length};
-ghost use Rattle.replay.specs.Lines.{lone, ask, drop_question, open_connection, cut, feed, send, update, timers_line, zone_line, at_line, show_line, stop_line, of_word, of_octets, of_word_and_octets, of_word_and_question, line_of, question, client, settle};
+ghost use Rattle.std.specs.Prelude.{◌≡◌, false, ◌∷◌, [], IfOk, IfSome, IfNone, None, position, ◌==◌, ◌<◌, option_map, length, string_bytes, List, ℕ};
+ghost use Rattle.replay.specs.Lines.{Word, ScriptLine, lone, ask, drop_question, open_connection, cut, feed, send, update, timers_line, zone_line, at_line, show_line, stop_line, of_word, of_octets, of_word_and_octets, of_word_and_question, line_of, question, client, settle};
 ghost use Rattle.replay.specs.KeptLines.{said, IsSound, words_in, one_in, two_in, three_in, four_in, understood, begins_silent, kind_of, said_behind};
 
 use crate::line_words::{
@@ -351,24 +351,20 @@ fn update_line(alloc: Global, text: &[u8]) -> Result<Option<Line>, NoMemory>
     Ok(Some(Line::Event(Event::Update(octets))))
 }
 
-// What follows the first word of a line that cuts a connection: the peer's word.
-fn cut_line(alloc: Global, text: &[u8]) -> Result<Option<Line>, NoMemory>
-    ensures exact { IfOk result (λ found. option_map (λ l. said l) found ≡ of_word cut (words_in text.now)) }
-    ensures sound { IfOk result (λ found. IfSome found IsSound) }
+// What follows the first word of a line that names one more word alone.
+fn word_alone(alloc: Global, text: &[u8]) -> Result<Option<String>, NoMemory>
+    ensures { IfOk result (λ found. (line : Word → ScriptLine) → option_map (λ w. line (string_bytes w)) found ≡ of_word line (words_in text.now)) }
 {
     let Some(word) = one_word(text) else {
         return Ok(None);
     };
-    let Some(word) = plain_word(alloc, word)? else {
-        return Ok(None);
-    };
-    Ok(Some(Line::Event(Event::Cut(Cutting { word }))))
+    plain_word(alloc, word)
 }
 
-// What follows the first word of a send line: the peer's word, and the octets.
-fn send_line(alloc: Global, text: &[u8]) -> Result<Option<Line>, NoMemory>
-    ensures exact { IfOk result (λ found. option_map (λ l. said l) found ≡ of_word_and_octets send (words_in text.now)) }
-    ensures sound { IfOk result (λ found. IfSome found IsSound) }
+// What follows the first word of a line that names a word, and then octets.
+fn word_and_octets(alloc: Global, text: &[u8]) -> Result<Option<Sent>, NoMemory>
+    ensures exact { IfOk result (λ found. (line : Word → List ℕ → ScriptLine) → option_map (λ s. line (string_bytes s.word) s.octets) found ≡ of_word_and_octets line (words_in text.now)) }
+    ensures sound { IfOk result (λ found. IfSome found (λ s. IsSound (Line.Event (Event.Send s)))) }
 {
     let Some((word, octets)) = two_words(text) else {
         return Ok(None);
@@ -379,7 +375,46 @@ fn send_line(alloc: Global, text: &[u8]) -> Result<Option<Line>, NoMemory>
     let Some(octets) = octets_of_word(alloc, octets)? else {
         return Ok(None);
     };
-    Ok(Some(Line::Event(Event::Send(Sent { word, octets }))))
+    Ok(Some(Sent { word, octets }))
+}
+
+// What follows the first word of a line that names a word, and then a question.
+fn word_and_question(alloc: Global, text: &[u8]) -> Result<Option<Asking>, NoMemory>
+    ensures exact { IfOk result (λ found. (line : Word → Question → ScriptLine) → option_map (λ a. line (string_bytes a.word) a.question) found ≡ of_word_and_question line (words_in text.now)) }
+    ensures sound { IfOk result (λ found. IfSome found (λ a. IsSound (Line.Event (Event.Ask a)))) }
+{
+    let Some((word, name, kind, class)) = four_words(text) else {
+        return Ok(None);
+    };
+    let Some(word) = plain_word(alloc, word)? else {
+        return Ok(None);
+    };
+    let Some(question) = question_of(alloc, name, kind, class)? else {
+        return Ok(None);
+    };
+    Ok(Some(Asking { word, question }))
+}
+
+// What follows the first word of a line that cuts a connection: the peer's word.
+fn cut_line(alloc: Global, text: &[u8]) -> Result<Option<Line>, NoMemory>
+    ensures exact { IfOk result (λ found. option_map (λ l. said l) found ≡ of_word cut (words_in text.now)) }
+    ensures sound { IfOk result (λ found. IfSome found IsSound) }
+{
+    let Some(word) = word_alone(alloc, text)? else {
+        return Ok(None);
+    };
+    Ok(Some(Line::Event(Event::Cut(Cutting { word }))))
+}
+
+// What follows the first word of a send line: the peer's word, and the octets.
+fn send_line(alloc: Global, text: &[u8]) -> Result<Option<Line>, NoMemory>
+    ensures exact { IfOk result (λ found. option_map (λ l. said l) found ≡ of_word_and_octets send (words_in text.now)) }
+    ensures sound { IfOk result (λ found. IfSome found IsSound) }
+{
+    let Some(sent) = word_and_octets(alloc, text)? else {
+        return Ok(None);
+    };
+    Ok(Some(Line::Event(Event::Send(sent))))
 }
 
 // What follows the first word of a line that ends a session: the peer's word, the RCODE, and the delay.
@@ -407,10 +442,7 @@ fn client_line(alloc: Global, text: &[u8]) -> Result<Option<Line>, NoMemory>
     ensures exact { IfOk result (λ found. option_map (λ l. said l) found ≡ of_word client (words_in text.now)) }
     ensures sound { IfOk result (λ found. IfSome found IsSound) }
 {
-    let Some(word) = one_word(text) else {
-        return Ok(None);
-    };
-    let Some(word) = plain_word(alloc, word)? else {
+    let Some(word) = word_alone(alloc, text)? else {
         return Ok(None);
     };
     Ok(Some(Line::Event(Event::Client(Joining { word }))))
@@ -421,10 +453,7 @@ fn lone_line(alloc: Global, text: &[u8]) -> Result<Option<Line>, NoMemory>
     ensures exact { IfOk result (λ found. option_map (λ l. said l) found ≡ of_word lone (words_in text.now)) }
     ensures sound { IfOk result (λ found. IfSome found IsSound) }
 {
-    let Some(word) = one_word(text) else {
-        return Ok(None);
-    };
-    let Some(word) = plain_word(alloc, word)? else {
+    let Some(word) = word_alone(alloc, text)? else {
         return Ok(None);
     };
     Ok(Some(Line::Event(Event::Lone(Alone { word }))))
@@ -435,10 +464,7 @@ fn open_line(alloc: Global, text: &[u8]) -> Result<Option<Line>, NoMemory>
     ensures exact { IfOk result (λ found. option_map (λ l. said l) found ≡ of_word open_connection (words_in text.now)) }
     ensures sound { IfOk result (λ found. IfSome found IsSound) }
 {
-    let Some(word) = one_word(text) else {
-        return Ok(None);
-    };
-    let Some(word) = plain_word(alloc, word)? else {
+    let Some(word) = word_alone(alloc, text)? else {
         return Ok(None);
     };
     Ok(Some(Line::Event(Event::Open(Opening { word }))))
@@ -449,10 +475,7 @@ fn settle_line(alloc: Global, text: &[u8]) -> Result<Option<Line>, NoMemory>
     ensures exact { IfOk result (λ found. option_map (λ l. said l) found ≡ of_word settle (words_in text.now)) }
     ensures sound { IfOk result (λ found. IfSome found IsSound) }
 {
-    let Some(word) = one_word(text) else {
-        return Ok(None);
-    };
-    let Some(word) = plain_word(alloc, word)? else {
+    let Some(word) = word_alone(alloc, text)? else {
         return Ok(None);
     };
     Ok(Some(Line::Event(Event::Settle(Settling { word }))))
@@ -463,16 +486,10 @@ fn ask_line(alloc: Global, text: &[u8]) -> Result<Option<Line>, NoMemory>
     ensures exact { IfOk result (λ found. option_map (λ l. said l) found ≡ of_word_and_question ask (words_in text.now)) }
     ensures sound { IfOk result (λ found. IfSome found IsSound) }
 {
-    let Some((word, name, kind, class)) = four_words(text) else {
+    let Some(asking) = word_and_question(alloc, text)? else {
         return Ok(None);
     };
-    let Some(word) = plain_word(alloc, word)? else {
-        return Ok(None);
-    };
-    let Some(question) = question_of(alloc, name, kind, class)? else {
-        return Ok(None);
-    };
-    Ok(Some(Line::Event(Event::Ask(Asking { word, question }))))
+    Ok(Some(Line::Event(Event::Ask(asking))))
 }
 
 // What follows the first word of a line that drops a question: the client's word, and the question.
@@ -480,16 +497,10 @@ fn drop_line(alloc: Global, text: &[u8]) -> Result<Option<Line>, NoMemory>
     ensures exact { IfOk result (λ found. option_map (λ l. said l) found ≡ of_word_and_question drop_question (words_in text.now)) }
     ensures sound { IfOk result (λ found. IfSome found IsSound) }
 {
-    let Some((word, name, kind, class)) = four_words(text) else {
+    let Some(asking) = word_and_question(alloc, text)? else {
         return Ok(None);
     };
-    let Some(word) = plain_word(alloc, word)? else {
-        return Ok(None);
-    };
-    let Some(question) = question_of(alloc, name, kind, class)? else {
-        return Ok(None);
-    };
-    Ok(Some(Line::Event(Event::Drop(Asking { word, question }))))
+    Ok(Some(Line::Event(Event::Drop(asking))))
 }
 
 // What follows the first word of a feed line: the client's word, and the octets.
@@ -497,16 +508,10 @@ fn feed_line(alloc: Global, text: &[u8]) -> Result<Option<Line>, NoMemory>
     ensures exact { IfOk result (λ found. option_map (λ l. said l) found ≡ of_word_and_octets feed (words_in text.now)) }
     ensures sound { IfOk result (λ found. IfSome found IsSound) }
 {
-    let Some((word, octets)) = two_words(text) else {
+    let Some(sent) = word_and_octets(alloc, text)? else {
         return Ok(None);
     };
-    let Some(word) = plain_word(alloc, word)? else {
-        return Ok(None);
-    };
-    let Some(octets) = octets_of_word(alloc, octets)? else {
-        return Ok(None);
-    };
-    Ok(Some(Line::Event(Event::Feed(Sent { word, octets }))))
+    Ok(Some(Line::Event(Event::Feed(sent))))
 }
 
 // What follows the first word of a line that shows what a client knows: the client's word, and the question.

@@ -78,9 +78,7 @@ module _ (hub : Hub) (entry : Entry) where
       asked = record {
         asked = s.stands.asked;
         filled = s.stands.filled;
-        few = s.sound.few;
-        ids = s.sound.ids;
-        questions = s.sound.questions;
+        are_asked = s.sound.asked;
         homes = all-weaken (HasHome (state_now hub)) (HasHome (state_now (longer hub entry))) (λ u served. served-stays at_home u.question served) p.1.subscriptions s.sound.homes;
       }
 

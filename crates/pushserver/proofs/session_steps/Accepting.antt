@@ -1,7 +1,7 @@
 -- A kept session and the plain one: the reaction to a SUBSCRIBE.
 --     verdict-alike      the verdict
 --     answered-keeps      what each verdict does
-use Rattle.std.proofs.Common.{◌≡◌, ℕ, ◌+◌, ◌-◌, ◌≤◌, ◌^◌, Bool, false, cond, not, ◌||◌, List, [], ◌∷◌, ◌++◌, length, min, Option, Some, None, refl, sym, ◌∙◌, ap, subst, arith}
+use Rattle.std.proofs.Common.{◌≡◌, ℕ, ◌+◌, ◌-◌, ◌≤◌, ◌^◌, Bool, false, cond, not, List, [], ◌∷◌, ◌++◌, length, min, Option, Some, None, refl, sym, ◌∙◌, ap, subst, arith}
 use Rattle.std.specs.Prelude.{IsTrue, find, filter, option_map, nat_le, ◌==◌}
 use Rattle.std.proofs.lemmas.Bool.{leb-false}
 use Rattle.zoneupdate.proofs.Filters.{and-both}
@@ -10,15 +10,15 @@ use Rattle.std.proofs.lemmas.List.Elements.{filter_agree}
 use Rattle.push_base.specs.Limits.{max_questions, max_number}
 use Rattle.dnsname.specs.Names.{is_name, same_name}
 use Rattle.rrset.specs.Rcodes.{noerror, notauth, refused}
-use Rattle.rrset.specs.Records.{same_question}
 use Rattle.rrset.specs.declared.record.Question.{Question}
-use Rattle.rrset.proofs.Distinct.{distinct_push, distinct_filter, any_found}
+use Rattle.rrset.proofs.Distinct.{distinct_filter}
 use Rattle.rrset.proofs.Places.{all_filter}
 use Rattle.dsotlv.specs.Messages.{frame}
 use Rattle.dsotlv.specs.Answers.{answer_to, refusal_to, push_message}
 use Rattle.dsotlv.specs.declared.message.Notice.{Notice}
 use Rattle.dsosession.specs.declared.session.EndReason.TheVariants as ends
-use Rattle.subscr.specs.Asked.{Asked, has, is_id, is_question, id_of}
+use Rattle.subscr.specs.Asked.{Asked, AreAsked, has, is_id, is_question, id_of}
+use Rattle.subscr.proofs.Asking.{added}
 use Rattle.coalesce.specs.FirstAnswers.{first_notices}
 use Rattle.coalesce.specs.Net.{max_net_message}
 use Rattle.coalesce.specs.Waiting.{WaitingName, is_named, without_name}
@@ -28,14 +28,14 @@ use Rattle.coalesce.proofs.ReadBack.{each-append}
 use Rattle.history.proofs.Together.{same_name-turned}
 use Rattle.pushsession.specs.Kept.{KeptSession, Filled, keeping, telling}
 use Rattle.pushsession.specs.Subscribing as subscribing
-use Rattle.pushsession.specs.Subscribing.{Verdict, is_served, verdict_on, subscribed, says_first_answer, first_answer_size, accepts, decided, answered}
+use Rattle.pushsession.specs.Subscribing.{Verdict, is_served, may_be_served, verdict_on, subscribed, says_first_answer, first_answer_size, accepts, decided, answered}
 use Rattle.pushsession.proofs.Passing.{Passed, passed}
-use Rattle.pushserver.specs.PlainHubs.{Hub, Session, Subscription, Queue, size_of_made, subscription_for, leaves_queue, plain_keeps, plain_tells}
+use Rattle.pushserver.specs.PlainHubs.{Hub, Session, Subscription, Queue, size_of_made, asked_of, subscription_for, leaves_queue, plain_keeps, plain_tells}
 use Rattle.pushserver.specs.Hubs.{state_now, records_now}
 use Rattle.pushserver.specs.Giving.{has_home}
 use Rattle.pushserver.specs.KeptHubs.{IsCopy}
 use Rattle.pushserver.specs.Rows.{AreTold}
-use Rattle.pushserver.proofs.session_steps.Parts.{SessionFits, Asks, Waits, reads, writes, stands}
+use Rattle.pushserver.proofs.session_steps.Parts.{SessionFits, Asks, Waits, kept_asked, reads, writes, stands}
 use Rattle.pushserver.proofs.session_steps.Lists.{filter-map, find-map, some-find}
 use Rattle.pushserver.specs.KeptHubs.{queue_of}
 use Rattle.pushserver.proofs.session_steps.Standing.{ended-keeps}
@@ -49,7 +49,7 @@ abbrev pub tested : Question → Bool → ℕ → Bool → Option ℕ → ℕ �
 tested question has_home id used active count =
     cond used (subscribing.Abort (ends.IdInUse id)) (elim active as (λ _. Verdict) [
       | Some other ↦ subscribing.Abort (ends.Twice other)
-      | None ↦ cond (not (is_served question.class) || not has_home) (subscribing.Refuse notauth) (cond (nat_le max_questions count) (subscribing.Refuse refused) (subscribing.Accept question))
+      | None ↦ cond (not (may_be_served question has_home)) (subscribing.Refuse notauth) (cond (nat_le max_questions count) (subscribing.Refuse refused) (subscribing.Accept question))
     ])
 
 module _ (hub : Hub) (n : ℕ) (k : ℕ × KeptSession) (p : ℕ × Session) (s : SessionFits hub k p) where
@@ -82,13 +82,6 @@ module _ (hub : Hub) (n : ℕ) (k : ℕ × KeptSession) (p : ℕ × Session) (s 
       ∙ ap (λ (q : Queue). filter (λ e. not (same_name e.0 question.name)) q) s.stands.queue
       ∙ filter_agree (λ e. not (same_name e.0 question.name)) (λ e. not (same_name question.name e.0)) (λ e. ap not (same_name-turned e.0 question.name)) p.1.queue
 
-  no_question : (question : Question) → (plain_keeps n).id_of question p.1.subscriptions ≡ None → subscription_for p.1.subscriptions question ≡ None
-  no_question question none = by (subscription_for p.1.subscriptions question) none
-    where
-      by : (o : Option Subscription) → option_map (λ (q : Subscription). q.id) o ≡ None → o ≡ None
-      by None e = refl
-      by (Some q) e = absurd cc
-
   subscribed-keeps : (id : ℕ) (question : Question) (end : ℕ) → Passed (plain_keeps n) id question (has_home hub (Some question)) p.1.subscriptions
       → SessionFits hub (k.0, subscribed keeping id question (min end max_number) k.1) (p.0, subscribed (plain_keeps n) id question end p.1)
   subscribed-keeps id question end can =
@@ -97,13 +90,15 @@ module _ (hub : Hub) (n : ℕ) (k : ℕ × KeptSession) (p : ℕ × Session) (s 
       new : Subscription
       new = record { id = id; question = question; filled = end }
 
+      is_more : k.1.subscriptions.asked ++ (id, question) ∷ [] ≡ asked_of (p.1.subscriptions ++ new ∷ [])
+      is_more = ap (λ (a : Asked). a ++ (id, question) ∷ []) s.stands.asked ∙ sym (map-append (λ (q : Subscription). (q.id, q.question)) p.1.subscriptions (new ∷ []))
+
       one_more : Asks (state_now hub) (keeping.with_question id question (min end max_number) k.1.subscriptions) (p.1.subscriptions ++ new ∷ [])
       one_more = record {
-        asked = ap (λ (a : Asked). a ++ (id, question) ∷ []) s.stands.asked ∙ sym (map-append (λ (q : Subscription). (q.id, q.question)) p.1.subscriptions (new ∷ []));
+        asked = is_more;
         filled = ap (λ (f : Filled). f ++ (id, min end max_number) ∷ []) s.stands.filled ∙ sym (map-append (λ (q : Subscription). (q.id, min q.filled max_number)) p.1.subscriptions (new ∷ []));
-        few = omega (arith, leb-false max_questions (length p.1.subscriptions) can.room, length-append p.1.subscriptions (new ∷ []));
-        ids = distinct_push _ p.1.subscriptions new s.sound.ids (sym (some-find (λ q. q.id == id) p.1.subscriptions) ∙ can.new_id);
-        questions = distinct_push _ p.1.subscriptions new s.sound.questions (any_found (λ q. same_question q.question question) p.1.subscriptions (no_question question can.new_question));
+        are_asked = subst AreAsked is_more
+            (added id question k.1.subscriptions.asked (kept_asked hub k p s) (has_alike hub n k p s id ∙ can.new_id) (active_alike hub n k p s question ∙ can.new_question) (omega (arith, leb-false max_questions (length p.1.subscriptions) can.room, count_alike hub n k p s)));
         homes = each-append _ p.1.subscriptions (new ∷ []) s.sound.homes (and-both (is_served question.class) (has_home hub (Some question)) can.class can.home, tt);
       }
 

@@ -2,17 +2,18 @@
 --     SessionFits      it stands for it, and that one is sound
 --     SessionKeeps hub f g      a step of the kept session is this step of the plain one
 --     asks, waits, reads, writes      the parts of a session that stands for another
+--     kept_asked      its questions are such as a session may ask
 --     of_parts, stands      a session of which each part does; in place of one that does
-use Rattle.std.proofs.Common.{◌≡◌, ℕ, ◌<◌, ◌≤◌, List, [], length, min, refl, arith}
-use Rattle.std.specs.Prelude.{◌==◌}
+use Rattle.std.proofs.Common.{◌≡◌, ℕ, ◌<◌, ◌≤◌, List, [], length, min, refl, sym, subst, arith}
 use Rattle.std.specs.List.{AllByRecursion, IsDistinct}
-use Rattle.push_base.specs.Limits.{max_questions, max_input, max_number}
+use Rattle.push_base.specs.Limits.{max_input, max_number}
 use Rattle.std.proofs.lemmas.List.Elements.{All-nil}
 use Rattle.dnsname.specs.Names.{same_name}
-use Rattle.rrset.specs.Records.{same_question}
 use Rattle.rrset.specs.RecordSet.{at_name}
 use Rattle.rrset.proofs.Distinct.{distinct_none}
 use Rattle.dsotlv.specs.Laws.{AreOctets}
+use Rattle.subscr.specs.Asked.{AreAsked}
+use Rattle.subscr.proofs.Asking.{none_asked}
 use Rattle.coalesce.specs.Sides.{frame_octets}
 use Rattle.coalesce.specs.Waiting.{WaitingName}
 use Rattle.history.specs.States.{State, records_at}
@@ -34,9 +35,7 @@ SessionKeeps hub f g = (k : ℕ × KeptSession) (p : ℕ × Session) → Session
 pub record Asks (state : State) (kept : KeptQuestions) (plain : List Subscription) : Type 0 where
   pub asked : kept.asked ≡ asked_of plain
   pub filled : kept.filled ≡ filled_kept plain
-  pub few : length plain ≤ max_questions
-  pub ids : IsDistinct (λ s t. s.id == t.id) plain
-  pub questions : IsDistinct (λ s t. same_question s.question t.question) plain
+  pub are_asked : AreAsked (asked_of plain)
   pub homes : AllByRecursion (HasHome state) plain
 
 -- the names that wait
@@ -80,9 +79,7 @@ of_parts hub k p number below a w r o clocks established standing = record {
     below = below;
     points = w.points;
     names = w.names;
-    few = a.few;
-    ids = a.ids;
-    questions = a.questions;
+    asked = a.are_asked;
     homes = a.homes;
     octets = r.octets;
     input_fits = r.fits;
@@ -92,7 +89,11 @@ of_parts hub k p number below a w r o clocks established standing = record {
 
 module _ (hub : Hub) (k : ℕ × KeptSession) (p : ℕ × Session) (s : SessionFits hub k p) where
   pub asks : Asks (state_now hub) k.1.subscriptions p.1.subscriptions
-  asks = record { asked = s.stands.asked; filled = s.stands.filled; few = s.sound.few; ids = s.sound.ids; questions = s.sound.questions; homes = s.sound.homes }
+  asks = record { asked = s.stands.asked; filled = s.stands.filled; are_asked = s.sound.asked; homes = s.sound.homes }
+
+  -- what is kept is asked as a session may
+  pub kept_asked : AreAsked k.1.subscriptions.asked
+  kept_asked = subst AreAsked (sym s.stands.asked) s.sound.asked
 
   pub waits : Waits hub.start hub.history k.1.queue p.1.queue
   waits = record { queue = s.stands.queue; copies = s.stands.copies; points = s.sound.points; names = s.sound.names }
@@ -110,7 +111,7 @@ module _ (hub : Hub) (k : ℕ × KeptSession) (p : ℕ × Session) (s : SessionF
   stands kept plain = of_parts hub (k.0, kept) (p.0, plain) s.stands.number s.sound.below
 
 pub asks_nothing : {state : State} → Asks state (record { asked = []; filled = [] }) []
-asks_nothing = record { asked = refl; filled = refl; few = omega arith; ids = distinct_none _; questions = distinct_none _; homes = tt }
+asks_nothing = record { asked = refl; filled = refl; are_asked = none_asked; homes = tt }
 
 pub none_waits : {start : State} {history : List Entry} → Waits start history [] []
 none_waits = record { queue = refl; copies = tt; points = tt; names = distinct_none _ }

@@ -2,10 +2,9 @@
 use Rattle.std.proofs.Common.{◌≡◌, ℕ, ◌+◌, ◌≤◌, ◌^◌, Bool, true, false, cond, not, List, [], ◌∷◌, ◌++◌, length, drop, min, Some, refl, ◌∙◌, sym, ap, subst, arith}
 use Rattle.std.specs.Prelude.{filter, ◌-◌, ◌==◌}
 use Rattle.std.proofs.lemmas.List.{length-append, length-drop}
-use Rattle.std.proofs.lemmas.List.Sums.{sum_by_push, length-filter, count_by-le-length}
+use Rattle.std.proofs.lemmas.List.Sums.{sum_by_push}
 use Rattle.push_base.specs.Limits.{max_number}
 use Rattle.rrset.specs.Header.{two_octets}
-use Rattle.rrset.proofs.Distinct.{distinct_filter}
 use Rattle.rrset.proofs.Places.{all_filter}
 use Rattle.dsotlv.specs.Messages.{frame, first_message, head_of}
 use Rattle.dsotlv.specs.declared.message.Notice.{Notice}
@@ -14,17 +13,18 @@ use Rattle.coalesce.specs.Waiting.{WaitingName}
 use Rattle.dsosession.specs.Timing.{Clocks, restarted}
 use Rattle.dsosession.specs.declared.session.Timers.{Timers}
 use Rattle.dsosession.specs.declared.session.EndReason.TheVariants as ends
-use Rattle.subscr.specs.Asked.{is_id, without}
+use Rattle.subscr.specs.Asked.{AreAsked, is_id, without}
+use Rattle.subscr.proofs.Asking.{left}
 use Rattle.pushsession.specs.Kept.{KeptSession, keeping, without_filled}
 use Rattle.dsotlv.specs.Answers.{stop_message, push_message}
 use Rattle.pushsession.specs.Sessions.{SessionOf, Keeps, says, answers, ended_with, says_stop, stopped, without_first}
 use Rattle.pushsession.specs.Subscribing.{says_notices}
 use Rattle.pushsession.specs.Reactions.{restarted_by, granted, unsubscribed}
-use Rattle.pushserver.specs.PlainHubs.{Hub, Session, Subscription, Queue, frame_of, size_of_made, plain_keeps}
+use Rattle.pushserver.specs.PlainHubs.{Hub, Session, Subscription, Queue, frame_of, size_of_made, asked_of, plain_keeps}
 use Rattle.pushserver.specs.Hubs.{state_now}
 use Rattle.pushserver.proofs.hub_steps.Cases.{clocks_as}
 use Rattle.pushserver.proofs.session_steps.Standing.{ended-keeps}
-use Rattle.pushserver.proofs.session_steps.Parts.{SessionFits, SessionKeeps, Asks, Reads, Writes, asks, waits, reads, writes, stands, asks_nothing, none_waits}
+use Rattle.pushserver.proofs.session_steps.Parts.{SessionFits, SessionKeeps, Asks, Reads, Writes, kept_asked, asks, waits, reads, writes, stands, asks_nothing, none_waits}
 use Rattle.pushserver.proofs.session_steps.Lists.{filter-map}
 use Rattle.pushserver.proofs.session_steps.Octets.{rest_is, rest_octets}
 
@@ -81,13 +81,14 @@ module _ (hub : Hub) (n : ℕ) where
       others : Subscription → Bool
       others q = not (q.id == id)
 
+      is_less : without id k.1.subscriptions.asked ≡ asked_of (filter (λ q. not (q.id == id)) p.1.subscriptions)
+      is_less = ap (λ a. without id a) s.stands.asked ∙ filter-map (λ (q : Subscription). (q.id, q.question)) (λ e. not (is_id id e)) p.1.subscriptions
+
       fewer : Asks (state_now hub) (keeping.without_id id k.1.subscriptions) (filter (λ q. not (q.id == id)) p.1.subscriptions)
       fewer = record {
-        asked = ap (λ a. without id a) s.stands.asked ∙ filter-map (λ (q : Subscription). (q.id, q.question)) (λ e. not (is_id id e)) p.1.subscriptions;
+        asked = is_less;
         filled = ap (λ f. without_filled id f) s.stands.filled ∙ filter-map (λ (q : Subscription). (q.id, min q.filled max_number)) (λ e. not (e.0 == id)) p.1.subscriptions;
-        few = omega (arith, s.sound.few, length-filter others p.1.subscriptions, count_by-le-length others p.1.subscriptions);
-        ids = distinct_filter _ others p.1.subscriptions s.sound.ids;
-        questions = distinct_filter _ others p.1.subscriptions s.sound.questions;
+        are_asked = subst AreAsked is_less (left id k.1.subscriptions.asked (kept_asked hub k p s));
         homes = all_filter _ others p.1.subscriptions s.sound.homes;
       }
 

@@ -10,6 +10,6 @@ use Rattle.linkcache.proofs.applying.make_change.Goals as goal
 
 pub returns-clause-ends : goal.returns-clause-ends
 returns-clause-ends c key =
-    ap (moment_of key_cmp key) c.change_end.ensures.deadlines
+    c.change_end.ensures.ends key
     ∙ kept c.args.ends.now.deadlines c.args.rows.now.rows c.args.planned.change c.requires.ends key
     ∙ ap (λ (l : LinkRows). option_map (λ (row : HeardRow). row.ends) (row_at key l)) (sym c.change_row.ensures.rows)

@@ -1,5 +1,3 @@
-use Rattle.std.proofs.Common.{◌∙◌, ap}
-use Rattle.linkcache.specs.Rows.{LinkRows, flushed_by}
 use Rattle.linkcache.proofs.HeardSteps.{flushed-order, flushed-lower}
 use Rattle.linkcache.proofs.hearing.flush.Goals as goal
 

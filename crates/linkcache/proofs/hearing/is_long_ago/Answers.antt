@@ -1,6 +1,4 @@
-use Rattle.std.proofs.Common.{◌≡◌, ◌+◌, ℕ, nat_lt, arith}
-use Rattle.std.specs.Prelude.{min}
-use Rattle.linkcache.specs.Rows.{second}
+use Rattle.std.proofs.Common.{arith}
 use Rattle.linkcache.proofs.Numbers.{long_ago}
 use Rattle.linkcache.proofs.hearing.is_long_ago.Goals as goal
 

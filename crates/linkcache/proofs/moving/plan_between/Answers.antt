@@ -1,7 +1,7 @@
 use Rattle.std.proofs.Common.{◌∙◌, sym, ap, subst}
 use Rattle.rrset.specs.RecordSet.{changes}
 use Rattle.rrset.specs.Tables.{HaveLowerOwners}
-use Rattle.linkcache.specs.Plans.{HaveLowerKeys, moves}
+use Rattle.linkcache.specs.Plans.{HaveLowerKeys}
 use Rattle.linkcache.specs.Rows.{LinkRows, shown_rows}
 use Rattle.linkcache.proofs.Moves.{lower_moves}
 use Rattle.linkcache.proofs.moving.plan_between.Goals as goal

@@ -18,6 +18,6 @@ returns-in-Stopped-clause-ok c = λ kept number seat.
 
 pub returns-in-AskedToStop-clause-ok : goal.returns-in-AskedToStop-clause-ok
 returns-in-AskedToStop-clause-ok c = λ kept number seat.
-    stop-gave number kept c.args.session.now seat.there seat.apart c.in-AskedToStop.rcode c.in-AskedToStop.delay c.now.result c.after_reaction.result c.args.buf.now c.after_reaction.new.buf c.stop.new.session c.after_reaction.new.session
-    (no_output c.args.session.now c.has_output.result c.has_output.ensures c.if-has_output.false) (sym c.standing.ensures ∙ c.in-AskedToStop.is) (moment-is kept c.args.points.now.past c.now.result seat.past_is c.now.ensures) c.stop.ensures
+    stop-gave number kept c.args.session.now seat.there seat.apart c.in-AskedToStop.rcode c.in-AskedToStop.delay c.now.result c.after_reaction.result c.args.buf.now c.after_reaction.new.buf c.carry_out_stop.new.self c.after_reaction.new.session
+    (no_output c.args.session.now c.has_output.result c.has_output.ensures c.if-has_output.false) (sym c.standing.ensures ∙ c.in-AskedToStop.is) (moment-is kept c.args.points.now.past c.now.result seat.past_is c.now.ensures) c.carry_out_stop.ensures
     (record { given_is = c.after_reaction.ensures.given; octets = c.after_reaction.ensures.octets; session = c.after_reaction.ensures.session })

@@ -1,4 +1,4 @@
-use Rattle.std.proofs.Common.{◌∙◌, map, sym, ap, subst}
+use Rattle.std.proofs.Common.{map, sym, ap, subst}
 use Rattle.linkcache.specs.Links.{LinkKept}
 use Rattle.linkcache.specs.Plans.{LinkPlan, HaveLowerKeys, IsPlanOf}
 use Rattle.linkcache.proofs.KeptEnds.{lower_planned}
