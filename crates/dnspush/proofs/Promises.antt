@@ -4,9 +4,9 @@
 use Rattle.std.proofs.Common.{◌≡◌, ℕ, List, Option, Some, None, subst}
 use Rattle.replay.specs.TextWords.{by_history}
 use Rattle.replay.specs.BuiltScripts.{front_read}
-use Rattle.replay.specs.Headline.{KeepsPromises}
+use Rattle.replay.specs.Promises.{KeepsPromises}
 use Rattle.replay.specs.Lines.{ScriptLine}
-use Rattle.replay.specs.Pieces.{SentInPieces, TellsInTurn, pieces_reply}
+use Rattle.replay.specs.ScriptPieces.{SentInPieces, TellsInTurn, pieces_reply}
 use Rattle.replay.specs.Reply.{Answers, Took}
 use Rattle.replay.specs.Serving.{Asked, served_reply}
 use Rattle.replay.proofs.pieces.SentPieces.{pieces-told}

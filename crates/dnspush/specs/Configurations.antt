@@ -1,14 +1,14 @@
 -- Configurations: texts of lines, as scripts are.
 --     serving_of text, subscribing_of text      the configuration, or the number of the first line outside
 use Rattle.std.specs.Prelude.{ℕ, ◌+◌, not, ◌&&◌, ◌||◌, List, [], ◌∷◌, ◌++◌, length, min, Option, Some, None, Result, Ok, Err, is_some, nat_lt, nat_le, ◌==◌, codes, option_map, if◌then◌else◌}
-use Rattle.std.specs.List.{list_any, slice_split}
+use Rattle.std.specs.List.{list_any}
 use Rattle.std.specs.Str.{bytes_eq, is_utf8}
 use Rattle.push_base.specs.Cases.{is_empty}
 use Rattle.push_base.specs.Optional.{◌>>=◌}
 use Rattle.push_base.specs.Limits.{max_questions}
 use Rattle.rrset.specs.Records.{same_question}
 use Rattle.rrset.specs.declared.record.Question.{Question}
-use Rattle.replay.specs.Lines.{Word, ScriptLine, silent, number, word, question, is, line_of}
+use Rattle.replay.specs.Lines.{Word, ScriptLine, silent, number, word, words_in, question, is, line_of}
 use Rattle.replay.specs.Scripts.{Known, nothing_known, is_head, fits, lines_in, max_script}
 
 abbrev pub max_accepted : ℕ
@@ -19,10 +19,6 @@ max_turns = 1099511627776
 
 abbrev pub max_messages : ℕ
 max_messages = 18446744073709551615
-
--- the words of a line
-abbrev pub words_of : List ℕ → List Word
-words_of text = slice_split (λ c. c == 32) text
 
 -- one word that is handed on as it is
 abbrev pub address : Word → Option Word
@@ -77,7 +73,7 @@ serving_line s text (w ∷ rest) =
 -- The lines from a number on. A needed line that is missing counts as the one after the last.
 abbrev pub serving_from : ℕ → Serving → List (List ℕ) → Result Serving ℕ
 serving_from n s [] = if is_some s.listen && is_some s.sessions then Ok s else Err n
-serving_from n s (line ∷ lines) = elim (serving_line s line (words_of line)) [ None ↦ Err n | Some later ↦ serving_from (n + 1) later lines ]
+serving_from n s (line ∷ lines) = elim (serving_line s line (words_in line)) [ None ↦ Err n | Some later ↦ serving_from (n + 1) later lines ]
 
 -- the line in which octet 16,777,217 stands, which is the last one read, is outside
 abbrev pub first_outside : {X : Type 0} → ℕ → Result X ℕ → ℕ
@@ -131,7 +127,7 @@ subscribing_line s text (w ∷ rest) =
 
 abbrev pub subscribing_from : ℕ → Subscribing → List (List ℕ) → Result Subscribing ℕ
 subscribing_from n s [] = if is_some s.server && not (is_empty s.questions) then Ok s else Err n
-subscribing_from n s (line ∷ lines) = elim (subscribing_line s line (words_of line)) [ None ↦ Err n | Some later ↦ subscribing_from (n + 1) later lines ]
+subscribing_from n s (line ∷ lines) = elim (subscribing_line s line (words_in line)) [ None ↦ Err n | Some later ↦ subscribing_from (n + 1) later lines ]
 
 abbrev pub subscribing_of : List ℕ → Result Subscribing ℕ
 subscribing_of text = not_too_long text (subscribing_from 1 no_subscribing (lines_in text))

@@ -13,7 +13,7 @@ use Rattle.replay.specs.TextWords.{by_history}
 use Rattle.replay.specs.BuiltScripts.{front_read, left_behind, first_later, reply_to_script}
 use Rattle.replay.specs.Sources.{HasRead, LeftBehind}
 use Rattle.replay.specs.Serving.{Asked, AsksFirst}
-use Rattle.replay.specs.Pieces.{SentInPieces, SendsPieces}
+use Rattle.replay.specs.ScriptPieces.{SentInPieces, SendsPieces}
 use Rattle.dnspush.specs.Outside.{Used, Adds, MayHaveGiven}
 use Rattle.dnspush.specs.Words.{Request, Replay_input, Replay_path, usage}
 

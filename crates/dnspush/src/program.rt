@@ -2,12 +2,12 @@
 
 ghost use Rattle.std.specs.Prelude.{◌≡◌, ◌+◌, ◌⊎◌, ℕ, List, IsNone};
 ghost use Rattle.push_base.specs.Causes.{Rose};
-ghost use Rattle.replay.specs.Headline.{KeepsPromises};
+ghost use Rattle.replay.specs.Promises.{KeepsPromises};
 ghost use Rattle.replay.specs.Lines.{ScriptLine};
 ghost use Rattle.replay.specs.Scripts.{max_script};
 ghost use Rattle.replay.specs.BuiltScripts.{front_read, reply_to_script};
 ghost use Rattle.replay.specs.Outcomes.{status_of};
-ghost use Rattle.replay.specs.Pieces.{SentInPieces, TellsInTurn, pieces_reply};
+ghost use Rattle.replay.specs.ScriptPieces.{SentInPieces, TellsInTurn, pieces_reply};
 ghost use Rattle.replay.specs.Reply.{Answers, IsFrontOf, Took};
 ghost use Rattle.replay.specs.Serving.{Asked, served_reply};
 ghost use Rattle.replay.specs.Sources.{HasRead, LostAtMost};

@@ -13,11 +13,12 @@ use Rattle.dsotlv.specs.Messages.{first_message}
 use Rattle.dsosession.specs.Timing.{Clocks, restarted}
 use Rattle.dsosession.specs.declared.session.Timers.{Timers}
 use Rattle.history.specs.States.{State}
+use Rattle.history.specs.declared.entry.Entry.{Entry}
 use Rattle.pushsession.specs.declared.standing.Standing.{Standing}
 use Rattle.pushsession.specs.declared.standing.Standing.TheVariants.{Live, AskedToStop, Stopped, Ended}
 use Rattle.pushsession.specs.Sessions.{is_open, without_first}
 use Rattle.pushserver.specs.Giving.{give}
-use Rattle.pushserver.specs.Hubs.{newest, now, session_of}
+use Rattle.pushserver.specs.Hubs.{now, session_of}
 use Rattle.pushserver.specs.PlainHubs.{Session, Hub, asked_of}
 use Rattle.pushserver.specs.SoundHubs.{IsSoundHub}
 use Rattle.pushclient.specs.Clients.{Client, Connection}
@@ -26,7 +27,7 @@ use Rattle.inflight.specs.Ends.{ends_of, is_id, is_question, going_up, going_dow
 use Rattle.inflight.specs.Flight.{InFlight, IsUnderWay}
 use Rattle.flight_laws.specs.EachGive.{ReactingGivesLeaveIt, GivesLeaveIt}
 use Rattle.flight_laws.specs.Laws.{Active}
-use Rattle.flight_laws.specs.Meeting.{is_within, is_request_to_keep, after, IsMet, ComesUp, HasAfter}
+use Rattle.flight_laws.specs.Meeting.{is_within, is_request_to_keep, after, asks_hub, IsMet, ComesUp, HasAfter}
 use Rattle.flight_laws.specs.Reacting.{HomesStay}
 use Rattle.flight_laws.specs.Turns.{PushesCanBeTold, Needs, ReactionsLeaveIt, BehindGiving, StopFits, ReactsToNone, QuietGivesLeaveIt}
 use Rattle.flight_laws.proofs.GivesSo.{gives-so}
@@ -47,10 +48,10 @@ has-name : (question : Question) → is_question question ≡ true → is_name q
 has-name question h = (and_parts (is_name question.name) _ (and_parts _ _ h).0).0
 
 -- octets that were handed out of a session go onto the wire, while the hub has it and nothing else is known of the hub
-handed-on : (hub later : Hub) (number room : ℕ) (told : List (ℕ × ℕ)) (s : Session) (client : Client) (c : Connection) (up_wire down_wire octets : List ℕ) → octets ≡ take room s.output
-    → HasAfter hub later number (record s { output = drop room s.output }) → IsUnderWay hub told s client c up_wire down_wire
+handed-on : (hub later : Hub) (entries : List Entry) (number room : ℕ) (told : List (ℕ × ℕ)) (s : Session) (client : Client) (c : Connection) (up_wire down_wire octets : List ℕ) → octets ≡ take room s.output
+    → HasAfter hub later entries number (record s { output = drop room s.output }) → IsUnderWay hub told s client c up_wire down_wire
     → IsUnderWay later told (record s { output = drop room s.output }) client c up_wire (down_wire ++ octets)
-handed-on hub later number room told s client c up_wire down_wire octets handed has i =
+handed-on hub later entries number room told s client c up_wire down_wire octets handed has i =
     let left : Session = record s { output = drop room s.output } in
     let out : IsUnderWay hub told left client c up_wire (down_wire ++ take room s.output) = came_out hub told s client c down_wire (going_up s c up_wire) room i in
     subst (λ (os : List ℕ). IsUnderWay later told left client c up_wire (down_wire ++ os)) (sym handed)
@@ -97,14 +98,14 @@ module _ (quiet : QuietGivesLeaveIt) (reactions : ReactionsLeaveIt) (can_tell : 
       let m = one.up.first in
       let rest = found.1 in
       let s : Session = after hub m (without_first rest session) in
-      let gave = gives-so hub number room session m rest ((sound.states (newest hub) (omega arith)).home.links) one.met in
+      let gave = gives-so hub number room session m rest one.met in
       let clocks = restarted (is_request_to_keep m) (now hub) session.clocks in
       let reacted = reactions hub told session client c up_wire down_wire m one.up.others rest clocks i going (needs-met hub number m rest clocks session sound there one.within) one.up.are one.up.left in
       let under : IsUnderWay hub (remembers s.subscriptions told) s client c up_wire down_wire = reacted in
       record {
         later = record s { output = drop room s.output };
         there = gave.leaves.session;
-        flight = handed-on hub (give hub number room).hub number room (remembers s.subscriptions told) s client c up_wire down_wire (give hub number room).octets gave.octets gave.leaves under;
+        flight = handed-on hub (give hub number room).hub (asks_hub m number hub).history number room (remembers s.subscriptions told) s client c up_wire down_wire (give hub number room).octets gave.octets gave.leaves under;
       }
 
   module _ (hub : Hub) (number room : ℕ) (told : List (ℕ × ℕ)) (session : Session) (client : Client) (c : Connection) (up_wire down_wire : List ℕ)

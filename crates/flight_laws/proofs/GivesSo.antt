@@ -1,7 +1,7 @@
 -- What a session has after a message, and what `give` does with one.
 --     after-is      its fields, and what comes down
 --     gives-so      `give`
-use Rattle.std.proofs.Common.{◌≡◌, ℕ, Bool, true, false, cond, List, [], ◌∷◌, ◌++◌, map, length, take, drop, min, Some, refl, sym, ap, subst, ◌∙◌, append_assoc, append-nil}
+use Rattle.std.proofs.Common.{◌≡◌, ℕ, Bool, true, false, cond, List, [], ◌∷◌, ◌++◌, map, length, take, drop, min, Option, Some, None, ◌&&◌, refl, sym, ap, subst, ◌∙◌, append_assoc, append-nil}
 use Rattle.std.specs.Prelude.{option_map, if◌then◌else◌}
 use Rattle.std.proofs.Math.Seq.{take-nil, drop-nil}
 use Rattle.push_base.specs.Cases.{is_empty}
@@ -10,23 +10,26 @@ use Rattle.rrset.specs.declared.record.Question.{Question}
 use Rattle.dsotlv.specs.Answers.{answer_to, grant_to, refusal_to, push_message}
 use Rattle.dsotlv.specs.Messages.{frame}
 use Rattle.dsotlv.specs.declared.message.Notice.{Notice}
-use Rattle.history.specs.States.{state_at}
+use Rattle.rrset.specs.declared.record.Key.{Key}
+use Rattle.history.specs.States.{State, state_at, accepts, reconfirm_key, entry_size, journal_has_room}
+use Rattle.history.specs.declared.entry.Entry.{Entry}
+use Rattle.history.specs.declared.entry.Entry.TheVariants as entries
 use Rattle.pushsession.specs.declared.standing.Standing.{Standing}
 use Rattle.pushsession.specs.declared.standing.Standing.TheVariants.{Live}
-use Rattle.pushsession.specs.Sessions.{without_first, copied, answers}
+use Rattle.pushsession.specs.Sessions.{without_first, copied, noted, answers}
 use Rattle.pushsession.specs.Subscribing.{subscribed, says_first_answer}
 use Rattle.pushserver.specs.declared.given.Given.TheVariants.{Bytes, Worked}
-use Rattle.pushserver.specs.Hubs.{newest, now, state_now, keeps_now, session_of, in_session}
+use Rattle.pushserver.specs.Hubs.{newest, now, state_now, records_now, keeps_now, session_of, in_session, entry_changes, entered, can_enter}
 use Rattle.pushserver.specs.Giving.{is_served_at, reacted, did, copies, copies_or, given_after, after_reaction, by_standing, give}
 use Rattle.pushserver.specs.PlainHubs.{Session, Subscription, Hub, Giving, leaves_queue, note_of, first_answer}
-use Rattle.pushserver.proofs.SessionLists.{found-in, found-elsewhere}
+use Rattle.pushserver.proofs.SessionLists.{found-all, found-in, found-elsewhere}
 use Rattle.pushserver.proofs.hub_steps.Cases.{found_as, works_as, output_as, give_as, key_as}
-use Rattle.pushserver.proofs.hub_steps.Reacting.{no_key}
 use Rattle.pushclient.specs.ServerMessages.{accepts as accepting, refuses, grants}
 use Rattle.inflight.specs.Messages.{ClientMessage, subscribes, unsubscribes, reconfirms, requests_keepalive, message_octets, Flying, made_of, flying_octets}
 use Rattle.flight_laws.specs.Laws.{flies}
 use Rattle.flight_laws.specs.Meeting.{as_carried, heard, after, HasAfter, asks_hub, accepted_as, subscriptions_after, established_after, tells_some, said_after, IsAfter, AfterIs, given_for, GivesSo}
 use Rattle.flight_laws.proofs.Reacts.{reacts-so}
+use Rattle.flight_laws.proofs.Reconfirmed.{session-reconfirmed}
 
 -- ---- what is said
 
@@ -118,19 +121,64 @@ after-is hub (unsubscribes id) session = is-said hub session (unsubscribes id) (
 after-is hub (reconfirms rr) session = is-said hub session (reconfirms rr) (said-nothing hub session (after hub (reconfirms rr) session) refl refl refl refl)
 after-is hub (requests_keepalive id) session = is-said hub session (requests_keepalive id) (said-granted hub session id)
 
+-- ---- what a RECONFIRM asks for
+
+module _ (hub between : Hub) (number : ℕ) (later : Session) (has : HasAfter hub between hub.history number later) where
+  -- another hub with this session, and these entries
+  abbrev Has : Hub → List Entry → Type 0
+  Has h entries = HasAfter hub h entries number later
+
+  -- a hub like this one where there is an entry in which nobody waits
+  entry-made : (link : ℕ) (key : Key) → Has (entered (entries.Reconfirm link key) between) (hub.history ++ entries.Reconfirm link key ∷ [])
+  entry-made link key = record {
+    start = has.start;
+    timers = has.timers;
+    history = ap (λ (es : List Entry). es ++ entries.Reconfirm link key ∷ []) has.history;
+    numbers_given = has.numbers_given;
+    session = found number ∙ has.session;
+    others = λ other apart. found other ∙ has.others other apart;
+  }
+    where
+      note : Session → Session
+      note s = noted (keeps_now between) (entry_changes (entries.Reconfirm link key) between) (records_now between) (newest between) s
+
+      itself : (o : Option Session) → option_map note o ≡ o
+      itself None = refl
+      itself (Some s) = ap Some (session-reconfirmed between link key s)
+
+      found : (n : ℕ) → session_of (entered (entries.Reconfirm link key) between) n ≡ session_of between n
+      found n = found-all note n between.sessions ∙ itself (session_of between n)
+
+  -- the state is the same, and so are the tests
+  state-same : state_now between ≡ state_now hub
+  state-same = λ i. state_at (has.start i) (has.history i) (length (has.history i))
+
+  abbrev enters : Hub → ℕ × Key → Bool
+  enters h found = accepts (state_now h) (entries.Reconfirm found.0 found.1) && can_enter h (entries.Reconfirm found.0 found.1)
+
+  tested-same : (found : ℕ × Key) → enters between found ≡ enters hub found
+  tested-same found = λ i. accepts (state-same i) (entries.Reconfirm found.0 found.1) && journal_has_room (has.history i) (entry_size (entries.Reconfirm found.0 found.1))
+
+  by_key : (o : Option (ℕ × Key)) → Has (key_as between o) (key_as hub o).history
+  by_key None = has
+  by_key (Some found) =
+      subst (λ (b : Bool). Has (cond b (entered (entries.Reconfirm found.0 found.1) between) between) (key_as hub (Some found)).history) (sym (tested-same found)) (by_test (enters hub found))
+    where
+      by_test : (b : Bool) → Has (cond b (entered (entries.Reconfirm found.0 found.1) between) between) (cond b (entered (entries.Reconfirm found.0 found.1) hub) hub).history
+      by_test true = entry-made found.0 found.1
+      by_test false = has
+
+  asked-so : (m : ClientMessage) → Has (asks_hub m number between) (asks_hub m number hub).history
+  asked-so (subscribes id question) = has
+  asked-so (unsubscribes id) = has
+  asked-so (reconfirms rr) =
+      subst (λ (s : State). Has (key_as between (reconfirm_key s (as_carried rr))) (asks_hub (reconfirms rr) number hub).history) (sym state-same) (by_key (reconfirm_key (state_now hub) (as_carried rr)))
+  asked-so (requests_keepalive id) = has
+
 -- ---- `give`
 
--- where there are no links, no entry is made
-asks-nothing : (hub between : Hub) (number : ℕ) (m : ClientMessage) → (state_now hub).links ≡ [] → between.start ≡ hub.start → between.history ≡ hub.history → asks_hub m number between ≡ between
-asks-nothing hub between number (subscribes id question) none start history = refl
-asks-nothing hub between number (unsubscribes id) none start history = refl
-asks-nothing hub between number (reconfirms rr) none start history =
-    let same : (state_now between).links ≡ [] = (λ i. (state_at (start i) (history i) (length (history i))).links) ∙ none in
-    ap (key_as between) (no_key (state_now between) (as_carried rr) same)
-asks-nothing hub between number (requests_keepalive id) none start history = refl
-
 -- what is handed out of a session that was changed
-module _ (hub between : Hub) (number room : ℕ) (later : Session) (has : HasAfter hub between number later) where
+module _ (hub between : Hub) (entries : List Entry) (number room : ℕ) (later : Session) (has : HasAfter hub between entries number later) where
   -- the output that fits is gone
   abbrev left : Session
   left = record later { output = drop room later.output }
@@ -138,7 +186,7 @@ module _ (hub between : Hub) (number room : ℕ) (later : Session) (has : HasAft
   record HandsOut (giving : Giving) : Type 0 where
     pub octets : giving.octets ≡ take room later.output
     pub given : giving.given ≡ given_for room later.output
-    pub hub_after : HasAfter hub giving.hub number left
+    pub hub_after : HasAfter hub giving.hub entries number left
 
   hands-nothing : later.output ≡ [] → HandsOut (did Worked between)
   hands-nothing none =
@@ -146,7 +194,7 @@ module _ (hub between : Hub) (number room : ℕ) (later : Session) (has : HasAft
       record {
         octets = sym (ap (take room) none ∙ take-nil room);
         given = sym (ap (given_for room) none);
-        hub_after = subst (λ (s : Session). HasAfter hub between number s) (sym same) has;
+        hub_after = subst (λ (s : Session). HasAfter hub between entries number s) (sym same) has;
       }
 
   hands-some : (o : ℕ) (os : List ℕ) → later.output ≡ o ∷ os → HandsOut (copies number room later between)
@@ -171,7 +219,7 @@ module _ (hub between : Hub) (number room : ℕ) (later : Session) (has : HasAft
       by (o ∷ os) some = subst (λ (b : Bool). HandsOut (cond b (did Worked between) (copies number room later between))) (sym (ap is_empty some)) (hands-some o os some)
 
 -- as before, from the session without its first message on
-since-taken : (hub later : Hub) (number : ℕ) (rest : List ℕ) (s : Session) → HasAfter (in_session number (without_first rest) hub) later number s → HasAfter hub later number s
+since-taken : (hub later : Hub) (number : ℕ) (rest : List ℕ) (s : Session) → HasAfter (in_session number (without_first rest) hub) later hub.history number s → HasAfter hub later hub.history number s
 since-taken hub later number rest s has = record {
   start = has.start;
   timers = has.timers;
@@ -182,7 +230,7 @@ since-taken hub later number rest s has = record {
 }
 
 pub gives-so : GivesSo
-gives-so hub number room session m rest none met =
+gives-so hub number room session m rest met =
     let taken_out : Hub = in_session number (without_first rest) hub in
     let s : Session = without_first rest session in
     let there : session_of taken_out number ≡ Some s = found-in number (without_first rest) hub.sessions ∙ ap (option_map (without_first rest)) met.there in
@@ -192,10 +240,10 @@ gives-so hub number room session m rest none met =
     let reaches : give hub number room ≡ after_reaction number room (reacted (message_octets m) number taken_out) =
     ap (give_as hub number room) met.there ∙ ap (λ (l : List ℕ). output_as hub number room session (is_empty l)) met.silent
     ∙ ap (λ (standing : Standing). by_standing standing number room session hub) met.live ∙ ap (works_as hub number room) met.first in
-    let alone : reacted (message_octets m) number taken_out ≡ r.between = r.asks ∙ asks-nothing taken_out r.between number m none r.reacts.start r.reacts.history in
+    let asked : Hub = asks_hub m number r.between in
+    let has = asked-so hub r.between number later (since-taken hub r.between number rest later r.reacts) m in
     let live : later.standing ≡ Live = is.standing ∙ met.live in
-    let whole : give hub number room ≡ copies_or Worked number room later r.between =
-    reaches ∙ ap (after_reaction number room) alone ∙ ap (found_as r.between number room Worked given_after) r.reacts.session ∙ ap (λ (standing : Standing). copies_or (given_after standing) number room later r.between) live in
-    let has = since-taken hub r.between number rest later r.reacts in
-    let h = subst (λ (g : Giving). HandsOut hub r.between number room later has g) (sym whole) (hands-out hub r.between number room later has) in
+    let whole : give hub number room ≡ copies_or Worked number room later asked =
+    reaches ∙ ap (after_reaction number room) r.asks ∙ ap (found_as asked number room Worked given_after) has.session ∙ ap (λ (standing : Standing). copies_or (given_after standing) number room later asked) live in
+    let h = subst (λ (g : Giving). HandsOut hub asked (asks_hub m number hub).history number room later has g) (sym whole) (hands-out hub asked (asks_hub m number hub).history number room later has) in
     record { octets = h.octets; given = h.given; leaves = h.hub_after }

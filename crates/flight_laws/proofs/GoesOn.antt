@@ -1,6 +1,6 @@
 -- No message ends a session, and none but a Retry Delay closes its client.
 --     sessions-go-on, clients-go-on
-use Rattle.std.proofs.Common.{◌≡◌, ℕ, Bool, true, false, List, [], ◌∷◌, Option, Some, None, sym, ap, ◌∙◌, subst, refl, true≢false, arith}
+use Rattle.std.proofs.Common.{◌≡◌, ℕ, Bool, true, false, List, [], ◌∷◌, Option, Some, None, sym, ap, ◌∙◌, subst, refl, true≢false}
 use Rattle.std.specs.Prelude.{IsTrue, option_map, is_some, if◌then◌else◌}
 use Rattle.push_base.specs.Cases.{is_empty}
 use Rattle.dsotlv.specs.Messages.{first_message}
@@ -12,9 +12,8 @@ use Rattle.pushsession.specs.Sessions.{is_open, copied, without_first}
 use Rattle.pushsession.specs.Subscribing.{packs, says_notices}
 use Rattle.pushserver.specs.declared.given.Given.TheVariants.{Nothing}
 use Rattle.pushserver.specs.Giving.{did, copies, copies_or, by_standing, give}
-use Rattle.pushserver.specs.Hubs.{newest, now, keeps_now, tells_now, session_of, in_session}
+use Rattle.pushserver.specs.Hubs.{now, keeps_now, tells_now, session_of, in_session}
 use Rattle.pushserver.specs.PlainHubs.{Session, Hub, Giving}
-use Rattle.pushserver.specs.SoundHubs.{IsSoundHub}
 use Rattle.pushserver.proofs.SessionLists.{found-in}
 use Rattle.pushserver.proofs.hub_steps.Cases.{found_as, works_as, output_as, give_as}
 use Rattle.pushclient.specs.Clients.{Client, Connection, closed_as}
@@ -54,7 +53,7 @@ module _ (number room : ℕ) where
         by false = copies-on
 
   module _ (hub : Hub) (told : List (ℕ × ℕ)) (session : Session) (client : Client) (c : Connection) (up_wire down_wire : List ℕ)
-      (sound : IsSoundHub hub) (there : session_of hub number ≡ Some session) (live : session.standing ≡ Live) (i : IsUnderWay hub told session client c up_wire down_wire) where
+      (there : session_of hub number ≡ Some session) (live : session.standing ≡ Live) (i : IsUnderWay hub told session client c up_wire down_wire) where
     -- a PUSH leaves it live
     packs-live : (packs (keeps_now hub) (tells_now hub) (now hub) session).standing ≡ Live
     packs-live = by ((tells_now hub).packed session.subscriptions session.queue).0
@@ -73,7 +72,7 @@ module _ (number room : ℕ) where
         let one = first-met hub number told session client c up_wire down_wire found there live silent first i in
         let m = one.up.first in
         let s : Session = without_first found.1 session in
-        let gave = gives-so hub number room session m found.1 ((sound.states (newest hub) (omega arith)).home.links) one.met in
+        let gave = gives-so hub number room session m found.1 one.met in
         let reaches : give hub number room ≡ works_as hub number room (Some found) =
         ap (give_as hub number room) there ∙ ap (λ (l : List ℕ). output_as hub number room session (is_empty l)) silent
         ∙ ap (λ (standing : Standing). by_standing standing number room session hub) live ∙ ap (works_as hub number room) first in
@@ -93,7 +92,7 @@ module _ (number room : ℕ) where
     goes-on = subst (λ (o : Option Session). On (give_as hub number room o)) (sym there) (by_output session.output refl)
 
 pub sessions-go-on : SessionsGoOn
-sessions-go-on hub number room told session client c up_wire down_wire sound there live i = goes-on number room hub told session client c up_wire down_wire sound there live i
+sessions-go-on hub number room told session client c up_wire down_wire there live i = goes-on number room hub told session client c up_wire down_wire there live i
 
 -- ---- the client
 

@@ -29,6 +29,7 @@ pub mod Reacted
 pub mod OtherSteps
 pub mod ReadBack
 pub mod Reacts
+pub mod Reconfirmed
 pub mod GivesSo
 pub mod EachGive
 pub mod InUse

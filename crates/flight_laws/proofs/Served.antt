@@ -7,14 +7,14 @@ use Rattle.std.proofs.lemmas.Bool.{and_parts, eqb-true}
 use Rattle.dnsname.specs.Names.{Labels, same_name, home}
 use Rattle.rrset.specs.Records.{same_question}
 use Rattle.rrset.specs.declared.record.Question.{Question}
-use Rattle.history.specs.Standing.{AreAtHome}
+use Rattle.history.specs.AtHome.{AreAtHome}
 use Rattle.history.specs.States.{State, home_names, home_of, after}
 use Rattle.history.specs.declared.entry.Entry.{Entry}
 use Rattle.history.specs.declared.entry.Home.{Home}
 use Rattle.history.specs.declared.entry.Home.TheVariants as homes
+use Rattle.history.proofs.HomesStay.{home_of-after}
 use Rattle.history.proofs.NameHomes.{home-for}
 use Rattle.history.proofs.StatesAtHome.{home-after}
-use Rattle.pushserver.proofs.hub_steps.Names.{home-after_entry}
 use Rattle.pushsession.specs.Subscribing.{is_served}
 use Rattle.pushserver.specs.Giving.{is_served_at}
 use Rattle.flight_laws.specs.Reacting.{HubsServeAlike, HomesStay}
@@ -37,10 +37,10 @@ served-alike state p q same =
 pub hubs-serve-alike : HubsServeAlike
 hubs-serve-alike hub told session client c p q same = served-alike hub.start p q same
 
--- no entry moves a home of zones
+-- no entry moves a home
 homes-after : (state : State) (entries : List Entry) → AreAtHome state → (name : Labels) → home_of (fold after state entries) name ≡ home_of state name
 homes-after state [] home name = refl
-homes-after state (entry ∷ entries) home name = homes-after (after state entry) entries (home-after state home entry) name ∙ home-after_entry state home entry name
+homes-after state (entry ∷ entries) home name = homes-after (after state entry) entries (home-after state home entry) name ∙ home_of-after state home entry name
 
 pub homes-stay : HomesStay
 homes-stay hub question home = ap (λ (h : Option Home). is_served question.class && is_some h) (homes-after hub.start (take (length hub.history) hub.history) home question.name)

@@ -15,7 +15,6 @@ use Rattle.pushserver.specs.Calls.{HubCall, called}
 use Rattle.pushserver.specs.Giving.{give}
 use Rattle.pushserver.specs.Hubs.{session_of, taken_by, take_octets}
 use Rattle.pushserver.specs.PlainHubs.{Session, Made, Hub, Giving, size_of_made}
-use Rattle.pushserver.specs.SoundHubs.{IsSoundHub}
 use Rattle.pushclient.specs.Clients.{Client, Connection, open_connection, closed_as, room_of, take_octets as client_takes, give_octets as client_gives}
 use Rattle.pushclient.specs.ServerMessages.{delays}
 use Rattle.pushclient.specs.Steps.{step}
@@ -41,11 +40,10 @@ pub record GoesOn (g : Giving) (number : ℕ) : Type 0 where
   pub live : later.standing ≡ Live
   pub given : IsTrue (gives_on g.given)
 
--- of a live session of a sound hub, whatever waits to go, and whatever of the client's messages came
+-- of a live session, whatever waits to go, and whatever of the client's messages came
 abbrev pub SessionsGoOn : Type 0
 SessionsGoOn = (hub : Hub) (number room : ℕ) (told : List (ℕ × ℕ)) (session : Session) (client : Client) (c : Connection) (up_wire down_wire : List ℕ)
-    → IsSoundHub hub → session_of hub number ≡ Some session → session.standing ≡ Live
-    → IsUnderWay hub told session client c up_wire down_wire → GoesOn (give hub number room) number
+    → session_of hub number ≡ Some session → session.standing ≡ Live → IsUnderWay hub told session client c up_wire down_wire → GoesOn (give hub number room) number
 
 -- the first of these messages is a Retry Delay, by which it closes, and the session doesn't go on (RFC 8490, 6.6.1)
 pub record IsDelayed (session : Session) (flying : List Flying) (reason : CloseReason) : Type 0 where

@@ -21,6 +21,7 @@ use Rattle.dsotlv.specs.TlvKinds.{keepalive_tlv, subscribe_tlv, unsubscribe_tlv,
 use Rattle.dsotlv.specs.declared.message.DsoHead.{DsoHead}
 use Rattle.dsotlv.specs.declared.message.Notice.{Notice}
 use Rattle.dsosession.specs.Timing.{restarted}
+use Rattle.history.specs.declared.entry.Entry.{Entry}
 use Rattle.pushsession.specs.declared.request.Request.{Request}
 use Rattle.pushsession.specs.declared.request.Request.TheVariants as requests
 use Rattle.pushsession.specs.declared.standing.Standing.TheVariants.{Live}
@@ -132,16 +133,16 @@ heard t m session = record session { clocks = restarted (is_request_to_keep m) t
 abbrev pub after : Hub → ClientMessage → Session → Session
 after hub m session = reaction hub m (heard (now hub) m session)
 
--- a later hub has this session of the number, and all else as before
-pub record HasAfter (hub later : Hub) (number : ℕ) (found : Session) : Type 0 where
+-- a later hub has this session of the number, these entries, and all else as before
+pub record HasAfter (hub later : Hub) (entries : List Entry) (number : ℕ) (found : Session) : Type 0 where
   pub start : later.start ≡ hub.start
   pub timers : later.timers ≡ hub.timers
-  pub history : later.history ≡ hub.history
+  pub history : later.history ≡ entries
   pub numbers_given : later.numbers_given ≡ hub.numbers_given
   pub session : session_of later number ≡ Some found
   pub others : (other : ℕ) → (other ≡ number → ⊥) → session_of later other ≡ session_of hub other
 
--- a RECONFIRM asks for the reconfirming of its record besides
+-- a RECONFIRM asks for the reconfirming of its record besides: where a link shows that, and the journal has room, an entry is made (RFC 8765, 6.5)
 abbrev pub asks_hub : ClientMessage → ℕ → Hub → Hub
 asks_hub (reconfirms rr) number hub = reconfirms_record (Some (as_carried rr)) number hub
 asks_hub _ number hub = hub
@@ -150,7 +151,7 @@ asks_hub _ number hub = hub
 pub record ReactedSo (hub : Hub) (number : ℕ) (m : ClientMessage) (session : Session) : Type 0 where
   pub request : request_in (message_octets m) session.established ≡ needs m
   pub between : Hub
-  pub reacts : HasAfter hub between number (after hub m session)
+  pub reacts : HasAfter hub between hub.history number (after hub m session)
   pub asks : reacted (message_octets m) number hub ≡ asks_hub m number between
 
 abbrev pub ReactsSo : Type 0
@@ -226,9 +227,8 @@ given_for room output = if is_empty output then Worked else Bytes (min room (len
 pub record GaveSo (hub : Hub) (number room : ℕ) (m : ClientMessage) (session : Session) : Type 0 where
   pub octets : (give hub number room).octets ≡ take room (after hub m session).output
   pub given : (give hub number room).given ≡ given_for room (after hub m session).output
-  pub leaves : HasAfter hub (give hub number room).hub number (record (after hub m session) { output = drop room (after hub m session).output })
+  pub leaves : HasAfter hub (give hub number room).hub (asks_hub m number hub).history number (record (after hub m session) { output = drop room (after hub m session).output })
 
--- of a hub without links, where a RECONFIRM makes no entry (RFC 8765, 6.5)
+-- an entry that a RECONFIRM makes changes no record, so nobody waits for it
 abbrev pub GivesSo : Type 0
-GivesSo = (hub : Hub) (number room : ℕ) (session : Session) (m : ClientMessage) (rest : List ℕ) → (state_now hub).links ≡ [] → IsMet hub number session m rest
-    → GaveSo hub number room m (without_first rest session)
+GivesSo = (hub : Hub) (number room : ℕ) (session : Session) (m : ClientMessage) (rest : List ℕ) → IsMet hub number session m rest → GaveSo hub number room m (without_first rest session)

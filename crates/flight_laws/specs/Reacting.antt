@@ -13,7 +13,7 @@ use Rattle.rrset.specs.declared.record.Question.{Question}
 use Rattle.rrset.specs.declared.record.Rr.{Rr}
 use Rattle.dsotlv.specs.Messages.{frame}
 use Rattle.dsotlv.specs.declared.message.Notice.{Notice}
-use Rattle.history.specs.Standing.{AreAtHome}
+use Rattle.history.specs.AtHome.{AreAtHome}
 use Rattle.pushserver.specs.Giving.{is_served_at}
 use Rattle.pushserver.specs.Hubs.{state_now}
 use Rattle.pushserver.specs.PlainHubs.{Session, Subscription, Queue, Note, Made, Hub}
@@ -45,7 +45,7 @@ ServesAlike e = (p q : Question) → same_question p q ≡ true → e.serves p �
 abbrev pub HubsServeAlike : Type 0
 HubsServeAlike = (hub : Hub) (told : List (ℕ × ℕ)) (session : Session) (client : Client) (c : Connection) → ServesAlike (ends_of hub told session client c)
 
--- and what is served stays so: no entry moves a home of zones (RFC 1034, 4.3.2)
+-- and what is served stays so: no entry moves a home (RFC 1034, 4.3.2)
 abbrev pub HomesStay : Type 0
 HomesStay = (hub : Hub) (question : Question) → AreAtHome hub.start → is_served_at (state_now hub) question ≡ is_served_at hub.start question
 

@@ -67,8 +67,8 @@ StopsLeaveIt = (hub : Hub) (rcode delay : ℕ) (told : List (ℕ × ℕ)) (sessi
 -- ---- a reaction
 
 -- What a session makes of a message that may be taken up, once it is out of the input and the timers are restarted: a question that is
--- served is accepted, and any other is refused with NOTAUTH; an UNSUBSCRIBE ends its subscription; a RECONFIRM changes nothing; a
--- Keepalive is granted (RFC 8765, 6.2, 6.4 and 6.5; RFC 8490, 7.1).
+-- served is accepted, and any other is refused with NOTAUTH; an UNSUBSCRIBE ends its subscription; a RECONFIRM changes nothing of
+-- the session; a Keepalive is granted (RFC 8765, 6.2, 6.4 and 6.5; RFC 8490, 7.1).
 abbrev pub reaction : Hub → ClientMessage → Session → Session
 reaction hub (subscribes id question) session =
     if is_served_at (state_now hub) question then accepts (keeps_now hub) (tells_now hub) (now hub) id question session

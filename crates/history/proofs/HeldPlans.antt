@@ -1,101 +1,168 @@
--- Plans of entries of zones: what is told, what is held, and the state afterwards.
-use Rattle.std.proofs.Common.{◌≡◌, ℕ, ◌<◌, true, cond, ltb, List, [], Option, Some, None, Result, Ok, Err, refl, sym, ap, subst, ◌∙◌, lt-ltb}
-use Rattle.std.specs.Prelude.{is_some}
+-- Plans of entries: what is told, what is held, and the state that it leads to.
+use Rattle.std.proofs.Common.{◌≡◌, ℕ, zero, suc, Bool, true, false, cond, not, List, [], ◌∷◌, Option, Some, None, Result, Ok, Err, refl, sym, ap, subst, ◌∙◌}
+use Rattle.std.specs.Prelude.{is_ok, slice_get, option_map, IfOk}
+use Rattle.push_base.specs.Cases.{changed_at, is_empty}
 use Rattle.dnswire.specs.declared.message.Update.{Update}
-use Rattle.rrset.specs.RecordSet.{RecordSet, changes}
+use Rattle.rrset.specs.RecordSet.{changes}
 use Rattle.rrset.specs.declared.record.Changed.{Changed}
-use Rattle.rrset.proofs.SameRows.{changes-self}
-use Rattle.history.specs.Keeping.{HomesKept, Held, state_of, held_of, held_for, zone_index, told_plan}
+use Rattle.rrset.specs.declared.record.HeardRr.{HeardRr}
+use Rattle.rrset.specs.declared.record.Hearing.{Hearing}
+use Rattle.rrset.specs.declared.record.Key.{Key}
+use Rattle.linkcache.specs.Links.{LinkState}
+use Rattle.linkcache.specs.Plans.{LinkPlan}
+use Rattle.linkcache.specs.Rows.{LinkRows, has_key, heard, reconfirmed, usable_of}
+use Rattle.history.specs.Kept.{HomesKept, at_moment, held_for, told_plan}
 use Rattle.history.specs.Plans.{Plan, refuse, idle, accept, planned}
-use Rattle.history.specs.Standing.{AreAtHome, at_moment, Checks, HasRoomAt, CanApply, IsStateOf}
-use Rattle.history.specs.States.{State, updated, after, records}
+use Rattle.history.specs.AtHome.{AreAtHome}
+use Rattle.history.specs.LinkSteps.{StepsTo, told_of}
+use Rattle.history.specs.HeldPlans.{Checks, led_to, link_changed}
+use Rattle.history.specs.States.{State, updated, accepts, after, records, link_meets}
 use Rattle.history.specs.declared.entry.Entry.{Entry}
 use Rattle.history.specs.declared.entry.Entry.TheVariants as entries
-use Rattle.history.specs.declared.plan.Planned.TheVariants as plans
-use Rattle.history.specs.declared.updating.Checked.{Checked}
+use Rattle.history.specs.declared.plan.Planned.{Planned}
+use Rattle.history.specs.declared.plan.Planned.TheVariants as told
+use Rattle.history.specs.declared.planning.HeldPlan.{HeldPlan}
+use Rattle.history.specs.declared.planning.HeldPlan.TheVariants as plans
 use Rattle.history.specs.declared.updating.Checked.TheVariants as results
+use Rattle.history.proofs.Elements.{ok-as}
+use Rattle.history.proofs.LinkChanges.{link_changes-at}
 
 -- ---- an update
 
-pub told-refused : (state : State) (update : Update) (code : ℕ) → Checks state update (results.Refuse code) → plans.Refuse code ≡ told_plan (planned state (entries.Update update))
-told-refused state update code e = sym (ap told_plan e)
+abbrev pub by_result : State → Result State ℕ → Plan
+by_result state (Err code) = refuse code
+by_result state (Ok later) = accept (changes (records state) (records later))
 
-pub held-refused : (state : State) (update : Update) (code : ℕ) → Checks state update (results.Refuse code) → None ≡ held_for state (entries.Update update)
-held-refused state update code e = sym (ap (held_of (zone_index state (entries.Update update))) e)
-
-pub told-accepted : (state : State) (update : Update) (i : ℕ) (changed : List Changed) → Checks state update (results.Accept i changed) → plans.Accept changed ≡ told_plan (planned state (entries.Update update))
-told-accepted state update i changed e = sym (ap told_plan e.0)
-
-pub held-accepted : (state : State) (update : Update) (i : ℕ) (changed : List Changed) → Checks state update (results.Accept i changed) → Some (record { zone = Some i; changed = changed }) ≡ held_for state (entries.Update update)
-held-accepted state update i changed e = λ j. held_of (sym e.1 j) (sym e.0 j)
-
--- ---- a moment
-
-pub planned-later : (homes : HomesKept) (t u : ℕ) → t < u → planned (at_moment homes t) (entries.Moment u) ≡ accept []
-planned-later homes t u later = (λ i. cond (is i) (accept (changes old (records (cond (is i) new (at_moment homes t))))) idle) ∙ ap accept (changes-self old)
+planned-by : (state : State) (update : Update) → planned state (entries.Update update) ≡ by_result state (updated state update)
+planned-by state update = by (updated state update)
   where
-    is : ltb t u ≡ true
-    is = lt-ltb t u later
+    by : (r : Result State ℕ) → elim r as (λ _. Plan) [ Err code ↦ refuse code | Ok later ↦ accept (changes (records state) (records later)) ] ≡ by_result state r
+    by (Err code) = refl
+    by (Ok later) = refl
 
-    old : RecordSet
-    old = records (at_moment homes t)
-
-    new : State
-    new = at_moment homes u
-
-pub told-later : (homes : HomesKept) (t u : ℕ) (entry : Entry) (changed : List Changed) → entry ≡ entries.Moment u → t < u → changed ≡ [] → plans.Accept changed ≡ told_plan (planned (at_moment homes t) entry)
-told-later homes t u entry changed is later none = ap (λ c. plans.Accept c) none ∙ sym (ap told_plan (ap (planned (at_moment homes t)) is ∙ planned-later homes t u later))
-
-pub held-later : (homes : HomesKept) (t u : ℕ) (entry : Entry) → entry ≡ entries.Moment u → t < u → Some (record { zone = None; changed = [] }) ≡ held_for (at_moment homes t) entry
-held-later homes t u entry is later = sym (ap (held_for (at_moment homes t)) is ∙ ap (held_of None) (planned-later homes t u later))
-
--- an entry that was accepted has a plan that is held
-pub held-told : (state : State) (entry : Entry) (changed : List Changed) (held : Option Held) → plans.Accept changed ≡ told_plan (planned state entry) → held ≡ held_for state entry → is_some held ≡ true
-held-told state entry changed held told is = ap is_some is ∙ by (zone_index state entry) (planned state entry) told
+accepts-refused : (state : State) (update : Update) (code : ℕ) → planned state (entries.Update update) ≡ refuse code → accepts state (entries.Update update) ≡ false
+accepts-refused state update code e = by (updated state update) (sym (planned-by state update) ∙ e)
   where
-    by : (index : Option ℕ) (plan : Plan) → plans.Accept changed ≡ told_plan plan → is_some (held_of index plan) ≡ true
-    by index (refuse code) e = cc
-    by index idle e = cc
-    by index (accept keys) e = refl
-
--- ---- the state afterwards
-
-pub same_moment : (a b : HomesKept) (t : ℕ) → state_of a ≡ state_of b → at_moment a t ≡ at_moment b t
-same_moment a b t same = ap (λ (s : State). record s { now = t }) same
-
-pub after-refused : (state : State) (update : Update) (code : ℕ) → planned state (entries.Update update) ≡ refuse code → after state (entries.Update update) ≡ state
-after-refused state update code e = by (updated state update) e
-  where
-    by : (r : Result State ℕ) → elim r as (λ _. Plan) [ Err code ↦ refuse code | Ok later ↦ accept (changes (records state) (records later)) ] ≡ refuse code → elim r as (λ _. State) [ Err code ↦ state | Ok later ↦ later ] ≡ state
+    by : (r : Result State ℕ) → by_result state r ≡ refuse code → is_ok r ≡ false
     by (Err c) e = refl
     by (Ok later) e = cc
 
-pub kept-refused : (homes now : HomesKept) (t : ℕ) (update : Update) (entry : Entry) (checked : Checked) → AreAtHome (at_moment homes t) → entry ≡ entries.Update update → Checks (at_moment homes t) update checked
-    → ((i : ℕ) (changed : List Changed) → checked ≡ results.Accept i changed → ⊥) → state_of now ≡ state_of homes → IsStateOf now t (after (at_moment homes t) entry)
-kept-refused homes now t update entry (results.Accept i changed) home is checks none same = absurd (none i changed refl)
-kept-refused homes now t update entry (results.Refuse code) home is checks none same =
-    let stays : after (at_moment homes t) entry ≡ at_moment homes t = ap (after (at_moment homes t)) is ∙ after-refused (at_moment homes t) update code checks in
-    record { same = same_moment now homes t same ∙ sym stays; home = subst AreAtHome (sym stays) home }
+accepts-accepted : (state : State) (update : Update) (changed : List Changed) → planned state (entries.Update update) ≡ accept changed → accepts state (entries.Update update) ≡ true
+accepts-accepted state update changed e = by (updated state update) (sym (planned-by state update) ∙ e)
+  where
+    by : (r : Result State ℕ) → by_result state r ≡ accept changed → is_ok r ≡ true
+    by (Err c) e = cc
+    by (Ok later) e = refl
 
-pub can_apply : (homes now : HomesKept) (t : ℕ) (update : Update) (i : ℕ) (changed : List Changed) (checked : Checked) → AreAtHome (at_moment homes t) → checked ≡ results.Accept i changed → Checks (at_moment homes t) update checked
-    → state_of now ≡ state_of homes → HasRoomAt now checked → CanApply now i changed
-can_apply homes now t update i changed checked home is checks same room =
-    let moment = same_moment homes now t (sym same) in
-    record {
-      moment = t;
-      update = update;
-      home = subst AreAtHome moment home;
-      held = ap (λ (s : State). held_for s (entries.Update update)) (sym moment) ∙ sym (held-accepted (at_moment homes t) update i changed (subst (Checks (at_moment homes t) update) is checks));
-      room = subst (HasRoomAt now) is room;
-    }
+pub held-idle : (state : State) (entry : Entry) → accepts state entry ≡ false → None ≡ held_for state entry
+held-idle state entry e = sym (ap (λ b. cond b (Some (after state entry)) None) e)
 
-pub entered-update : (homes now later : HomesKept) (t : ℕ) (update : Update) (entry : Entry) (i : ℕ) (changed : List Changed) (checked : Checked) → AreAtHome (at_moment homes t) → entry ≡ entries.Update update → checked ≡ results.Accept i changed → Checks (at_moment homes t) update checked
-    → state_of now ≡ state_of homes
-    → ((t : ℕ) (update : Update) → AreAtHome (at_moment now t) → held_for (at_moment now t) (entries.Update update) ≡ Some (record { zone = Some i; changed = changed }) → (at_moment later t ≡ after (at_moment now t) (entries.Update update)) × AreAtHome (at_moment later t))
-    → IsStateOf later t (after (at_moment homes t) entry)
-entered-update homes now later t update entry i changed checked home is accepts checks same applied =
-    let moment = same_moment homes now t (sym same) in
-    let held = ap (λ (s : State). held_for s (entries.Update update)) (sym moment) ∙ sym (held-accepted (at_moment homes t) update i changed (subst (Checks (at_moment homes t) update) accepts checks)) in
-    let both = applied t update (subst AreAtHome moment home) held in
-    let whole = both.0 ∙ (λ j. after (sym moment j) (sym is j)) in
-    record { same = whole; home = subst AreAtHome whole both.1 }
+pub held-made : (state : State) (entry : Entry) (later : State) → accepts state entry ≡ true → later ≡ after state entry → Some later ≡ held_for state entry
+held-made state entry later e is = ap Some is ∙ sym (ap (λ b. cond b (Some (after state entry)) None) e)
+
+pub told-refused : (state : State) (update : Update) (code : ℕ) → Checks state update (results.Refuse code) → told.Refuse code ≡ told_plan (planned state (entries.Update update))
+told-refused state update code e = sym (ap told_plan e)
+
+pub held-refused : (state : State) (update : Update) (code : ℕ) → Checks state update (results.Refuse code) → None ≡ held_for state (entries.Update update)
+held-refused state update code e = held-idle state (entries.Update update) (accepts-refused state update code e)
+
+pub told-accepted : (state : State) (update : Update) (i : ℕ) (changed : List Changed) → Checks state update (results.Accept i changed) → told.Accept changed ≡ told_plan (planned state (entries.Update update))
+told-accepted state update i changed checks = sym (ap told_plan checks.0)
+
+pub held-accepted : (state : State) (update : Update) (i : ℕ) (changed : List Changed) → Checks state update (results.Accept i changed) → Some (led_to state (plans.Zone i changed)) ≡ held_for state (entries.Update update)
+held-accepted state update i changed checks = held-made state (entries.Update update) (led_to state (plans.Zone i changed)) (accepts-accepted state update changed checks.0) (sym checks.1)
+
+-- ---- an entry that changes one link
+
+-- the entry is made where there is such a link and the step is taken up, and changes that link's rows
+pub record ChangesLink (state : State) (entry : Entry) (i : ℕ) (taken : LinkState → Bool) (later : LinkState → LinkRows) : Type 0 where
+  pub accepted : accepts state entry ≡ link_meets taken state i
+  pub plan : planned state entry ≡ cond (accepts state entry) (accept (changes (records state) (records (after state entry)))) idle
+  pub made : after state entry ≡ record state { links = changed_at i (λ l. record l { rows = later l }) state.links }
+
+pub heard-changes : (state : State) (i : ℕ) (hearing : Hearing) → ChangesLink state (entries.Heard i hearing) i (λ l. not (is_empty (usable_of l.domain hearing.rrs))) (λ l. heard l.domain l.rows state.now hearing.rrs)
+heard-changes state i hearing = record { accepted = refl; plan = refl; made = refl }
+
+pub reconfirm-changes : (state : State) (i : ℕ) (key : Key) → ChangesLink state (entries.Reconfirm i key) i (λ l. has_key key l.rows) (λ l. reconfirmed l.rows key state.now)
+reconfirm-changes state i key = record { accepted = refl; plan = refl; made = refl }
+
+-- two changes of an element that come to the same
+pub changed-same : {X : Type 0} (f g : X → X) (xs : List X) (i : ℕ) (x : X) → slice_get xs i ≡ Some x → f x ≡ g x → changed_at i f xs ≡ changed_at i g xs
+changed-same f g [] i x at same = refl
+changed-same {X} f g (y ∷ xs) zero x at same = ap (λ z. z ∷ xs) (subst (λ (z : X). f z ≡ g z) (back y x at) same)
+  where
+    back : (a b : X) → Some a ≡ Some b → b ≡ a
+    back a b e = cc
+changed-same f g (y ∷ xs) (suc i) x at same = ap (λ l. y ∷ l) (changed-same f g xs i x at same)
+
+module _ (state : State) (entry : Entry) (i : ℕ) (taken : LinkState → Bool) (later : LinkState → LinkRows) (is : ChangesLink state entry i taken later) where
+  untaken : (o : Option LinkState) → slice_get state.links i ≡ o → StepsTo taken later o None → accepts state entry ≡ false
+  untaken o at steps = is.accepted ∙ ap (λ p. elim p as (λ _. Bool) [ None ↦ false | Some l ↦ taken l ]) at ∙ by o steps
+    where
+      by : (o : Option LinkState) → StepsTo taken later o None → elim o as (λ _. Bool) [ None ↦ false | Some l ↦ taken l ] ≡ false
+      by None steps = refl
+      by (Some l) steps = steps
+
+  taken_up : (l : LinkState) → slice_get state.links i ≡ Some l → taken l ≡ true → accepts state entry ≡ true
+  taken_up l at e = is.accepted ∙ ap (λ p. elim p as (λ _. Bool) [ None ↦ false | Some l ↦ taken l ]) at ∙ e
+
+  made-at : (l : LinkState) (rows : LinkRows) → slice_get state.links i ≡ Some l → rows ≡ later l → after state entry ≡ record state { links = changed_at i (λ k. record k { rows = rows }) state.links }
+  made-at l rows at same = is.made ∙ (λ j. record state { links = changed-same (λ k. record k { rows = later k }) (λ k. record k { rows = rows }) state.links i l at (λ n. record l { rows = sym same n }) j })
+
+  pub told-step : (plan : Option LinkPlan) → AreAtHome state → StepsTo taken later (slice_get state.links i) plan → told_of plan ≡ told_plan (planned state entry)
+  told-step plan home steps = by (slice_get state.links i) refl plan steps
+    where
+      idle_plan : accepts state entry ≡ false → told.Idle ≡ told_plan (planned state entry)
+      idle_plan e = sym (ap told_plan (is.plan ∙ ap (λ b. cond b (accept (changes (records state) (records (after state entry)))) idle) e))
+
+      by : (o : Option LinkState) → slice_get state.links i ≡ o → (plan : Option LinkPlan) → StepsTo taken later o plan → told_of plan ≡ told_plan (planned state entry)
+      by None at None steps = idle_plan (untaken None at refl)
+      by None at (Some plan) steps = cc
+      by (Some l) at None steps = idle_plan (untaken (Some l) at steps)
+      by (Some l) at (Some plan) steps =
+          let shown : plan.changed ≡ changes (records state) (records (after state entry)) =
+          steps.1.shown ∙ sym (link_changes-at state i l (later l) home at steps.1.sound) ∙ ap (λ s. changes (records state) (records s)) (sym (made-at l (later l) at refl)) in
+          ap (λ c. told.Accept c) shown ∙ sym (ap told_plan (is.plan ∙ ap (λ b. cond b (accept (changes (records state) (records (after state entry)))) idle) (taken_up l at steps.0)))
+
+  pub held-step : (plan : Option LinkPlan) → StepsTo taken later (slice_get state.links i) plan → option_map (led_to state) (option_map (λ p. plans.Link i p) plan) ≡ held_for state entry
+  held-step plan steps = by (slice_get state.links i) refl plan steps
+    where
+      by : (o : Option LinkState) → slice_get state.links i ≡ o → (plan : Option LinkPlan) → StepsTo taken later o plan → option_map (led_to state) (option_map (λ p. plans.Link i p) plan) ≡ held_for state entry
+      by None at None steps = held-idle state entry (untaken None at refl)
+      by None at (Some plan) steps = cc
+      by (Some l) at None steps = held-idle state entry (untaken (Some l) at steps)
+      by (Some l) at (Some plan) steps =
+          held-made state entry (led_to state (plans.Link i plan)) (taken_up l at steps.0)
+          ((λ j. record state { links = changed-same (link_changed plan) (λ k. record k { rows = later l }) state.links i l at (λ n. record l { rows = steps.1.reached n }) j }) ∙ sym (made-at l (later l) at refl))
+
+-- ---- what is told and held of a hearing, and of a reconfirmation
+
+module _ {E : Type 0} (homes : HomesKept) (t i : ℕ) (plan : Option LinkPlan) (r : Result (Planned × Option HeldPlan) E) where
+  abbrev state : State
+  state = at_moment homes t
+
+  pub told-heard : (hearing : Hearing) (rrs : List HeardRr) → AreAtHome state → rrs ≡ hearing.rrs → StepsTo (λ l. not (is_empty (usable_of l.domain rrs))) (λ l. heard l.domain l.rows t rrs) (slice_get state.links i) plan
+      → IfOk r (λ both. both.0 ≡ told_of plan) → IfOk r (λ both. both.0 ≡ told_plan (planned state (entries.Heard i hearing)))
+  told-heard hearing rrs home same steps told =
+      let here = subst (λ rs. StepsTo (λ l. not (is_empty (usable_of l.domain rs))) (λ l. heard l.domain l.rows t rs) (slice_get state.links i) plan) same steps in
+      let is = told-step state (entries.Heard i hearing) i (λ l. not (is_empty (usable_of l.domain hearing.rrs))) (λ l. heard l.domain l.rows t hearing.rrs) (heard-changes state i hearing) plan home here in
+      ok-as (λ both. both.0 ≡ told_of plan) (λ both. both.0 ≡ told_plan (planned state (entries.Heard i hearing))) (λ both e. e ∙ is) r told
+
+  pub held-heard : (hearing : Hearing) (rrs : List HeardRr) → rrs ≡ hearing.rrs → StepsTo (λ l. not (is_empty (usable_of l.domain rrs))) (λ l. heard l.domain l.rows t rrs) (slice_get state.links i) plan
+      → IfOk r (λ both. both.1 ≡ option_map (λ p. plans.Link i p) plan) → IfOk r (λ both. option_map (led_to state) both.1 ≡ held_for state (entries.Heard i hearing))
+  held-heard hearing rrs same steps held =
+      let here = subst (λ rs. StepsTo (λ l. not (is_empty (usable_of l.domain rs))) (λ l. heard l.domain l.rows t rs) (slice_get state.links i) plan) same steps in
+      let is = held-step state (entries.Heard i hearing) i (λ l. not (is_empty (usable_of l.domain hearing.rrs))) (λ l. heard l.domain l.rows t hearing.rrs) (heard-changes state i hearing) plan here in
+      ok-as (λ both. both.1 ≡ option_map (λ p. plans.Link i p) plan) (λ both. option_map (led_to state) both.1 ≡ held_for state (entries.Heard i hearing)) (λ both e. ap (option_map (led_to state)) e ∙ is) r held
+
+  pub told-reconfirmed : (key : Key) → AreAtHome state → StepsTo (λ l. has_key key l.rows) (λ l. reconfirmed l.rows key t) (slice_get state.links i) plan
+      → IfOk r (λ both. both.0 ≡ told_of plan) → IfOk r (λ both. both.0 ≡ told_plan (planned state (entries.Reconfirm i key)))
+  told-reconfirmed key home steps told =
+      let is = told-step state (entries.Reconfirm i key) i (λ l. has_key key l.rows) (λ l. reconfirmed l.rows key t) (reconfirm-changes state i key) plan home steps in
+      ok-as (λ both. both.0 ≡ told_of plan) (λ both. both.0 ≡ told_plan (planned state (entries.Reconfirm i key))) (λ both e. e ∙ is) r told
+
+  pub held-reconfirmed : (key : Key) → StepsTo (λ l. has_key key l.rows) (λ l. reconfirmed l.rows key t) (slice_get state.links i) plan
+      → IfOk r (λ both. both.1 ≡ option_map (λ p. plans.Link i p) plan) → IfOk r (λ both. option_map (led_to state) both.1 ≡ held_for state (entries.Reconfirm i key))
+  held-reconfirmed key steps held =
+      let is = held-step state (entries.Reconfirm i key) i (λ l. has_key key l.rows) (λ l. reconfirmed l.rows key t) (reconfirm-changes state i key) plan steps in
+      ok-as (λ both. both.1 ≡ option_map (λ p. plans.Link i p) plan) (λ both. option_map (led_to state) both.1 ≡ held_for state (entries.Reconfirm i key)) (λ both e. ap (option_map (led_to state)) e ∙ is) r held

@@ -1,12 +1,12 @@
--- The longest home of a name, as it is found by going through the homes.
---     LongestSoFar homes name best most      the longest of the homes that the name ends in, and how many octets it has
-use Rattle.std.proofs.Common.{◌≡◌, ℕ, zero, suc, ◌+◌, ◌<◌, ◌≤◌, Bool, true, false, cond, ltb, List, [], ◌∷◌, ◌++◌, length, filter, Option, Some, None, refl, sym, ap, subst, ◌∙◌, arith, ltb-true, ltb-false}
+-- The longest home of a name, as it is found by going through the homes one by one.
+use Rattle.std.proofs.Common.{◌≡◌, ℕ, zero, suc, ◌+◌, ◌<◌, ◌≤◌, Bool, true, false, cond, ltb, List, [], ◌∷◌, ◌++◌, length, Option, Some, None, refl, sym, ap, subst, ◌∙◌, arith, ltb-true, ltb-false}
 use Rattle.std.specs.Prelude.{slice_get}
-use Rattle.std.proofs.lemmas.List.{length-append}
+use Rattle.std.proofs.lemmas.List.{append-nil, length-append}
 use Rattle.std.proofs.lemmas.List.Elements.{filter-append}
 use Rattle.dnsname.specs.Names.{Labels, labels_octets, octets, ends_in, longest}
 use Rattle.dnsname.proofs.Decisions.{ends_in-Decides}
 use Rattle.dnsname.proofs.Endings.{octets-append, length-same}
+use Rattle.history.specs.Longest.{candidates, IsLongest}
 use Rattle.zoneupdate.proofs.Suffixes.{ends_in-longer, same_length}
 use Rattle.zoneupdate.proofs.Homes.{OfSome, longest-all, longer_of, longest-cons}
 use Rattle.zoneupdate.proofs.SomeAndAll.{all_itself}
@@ -69,13 +69,6 @@ as_many_octets name x y e f few =
 
 -- ---- the homes so far
 
-abbrev pub candidates : Labels → List Labels → List Labels
-candidates name homes = filter (λ h. ends_in name h) homes
-
-abbrev pub LongestSoFar : List Labels → Labels → Option ℕ → ℕ → Type 0
-LongestSoFar homes name None most = (longest (candidates name homes) ≡ None) × (most ≡ 0)
-LongestSoFar homes name (Some i) most = (h : Labels) × (slice_get homes i ≡ Some h) × (longest (candidates name homes) ≡ Some h) × (most ≡ length (octets h))
-
 pub slice_get-more : {X : Type 0} (xs : List X) (i : ℕ) (x y : X) → slice_get xs i ≡ Some x → slice_get (xs ++ y ∷ []) i ≡ Some x
 slice_get-more [] i x y e = cc
 slice_get-more (z ∷ xs) zero x y e = e
@@ -88,12 +81,8 @@ slice_get-last (x ∷ xs) y = slice_get-last xs y
 candidates-last : (name : Labels) (homes : List Labels) (x : Labels) (b : Bool) → ends_in name x ≡ b → candidates name (homes ++ x ∷ []) ≡ candidates name homes ++ cond b (x ∷ []) []
 candidates-last name homes x b e = filter-append (λ (h : Labels). ends_in name h) homes (x ∷ []) ∙ ap (λ t. candidates name homes ++ cond t (x ∷ []) []) e
 
-append-nil : (xs : List Labels) → xs ++ [] ≡ xs
-append-nil [] = refl
-append-nil (x ∷ xs) = ap (λ l. x ∷ l) (append-nil xs)
-
 -- the name doesn't end in the next
-pub so_far-other : (homes : List Labels) (name x : Labels) (best : Option ℕ) (most : ℕ) → ends_in name x ≡ false → LongestSoFar homes name best most → LongestSoFar (homes ++ x ∷ []) name best most
+pub so_far-other : (homes : List Labels) (name x : Labels) (best : Option ℕ) (most : ℕ) → ends_in name x ≡ false → IsLongest homes name best most → IsLongest (homes ++ x ∷ []) name best most
 so_far-other homes name x None most e (none, zero_is) = (ap longest (candidates-last name homes x false e ∙ append-nil (candidates name homes)) ∙ none, zero_is)
 so_far-other homes name x (Some i) most e (h, at, is, size) = (h, slice_get-more homes i h x at, ap longest (candidates-last name homes x false e ∙ append-nil (candidates name homes)) ∙ is, size)
 
@@ -104,8 +93,8 @@ longest-next : (homes : List Labels) (name x : Labels) (o : Option Labels) → e
 longest-next homes name x o e is = ap longest (candidates-last name homes x true e) ∙ longest-last (candidates name homes) x ∙ ap (λ o. Some (longer o x)) is
 
 -- the next is longer
-pub so_far-longer : (homes : List Labels) (name x : Labels) (best : Option ℕ) (most i size : ℕ) → ends_in name x ≡ true → most < size → size ≡ length (octets x) → i ≡ length homes → LongestSoFar homes name best most
-    → LongestSoFar (homes ++ x ∷ []) name (Some i) size
+pub so_far-longer : (homes : List Labels) (name x : Labels) (best : Option ℕ) (most i size : ℕ) → ends_in name x ≡ true → most < size → size ≡ length (octets x) → i ≡ length homes → IsLongest homes name best most
+    → IsLongest (homes ++ x ∷ []) name (Some i) size
 so_far-longer homes name x None most i size e more is place (none, zero_is) = (x, ap (slice_get (homes ++ x ∷ [])) place ∙ slice_get-last homes x, longest-next homes name x None e none, is)
 so_far-longer homes name x (Some j) most i size e more is place (h, at, found, most_is) =
     (x, ap (slice_get (homes ++ x ∷ [])) place ∙ slice_get-last homes x, longest-next homes name x (Some h) e found ∙ ap Some (by (ltb (length h) (length x)) refl), is)
@@ -118,8 +107,8 @@ so_far-longer homes name x (Some j) most i size e more is place (h, at, found, m
         absurd (omega arith)
 
 -- the next is no longer
-pub so_far-kept : (homes : List Labels) (name x : Labels) (best : Option ℕ) (most size : ℕ) → ends_in name x ≡ true → size ≤ most → size ≡ length (octets x) → LongestSoFar homes name best most
-    → LongestSoFar (homes ++ x ∷ []) name best most
+pub so_far-kept : (homes : List Labels) (name x : Labels) (best : Option ℕ) (most size : ℕ) → ends_in name x ≡ true → size ≤ most → size ≡ length (octets x) → IsLongest homes name best most
+    → IsLongest (homes ++ x ∷ []) name best most
 so_far-kept homes name x None most size e few is (none, zero_is) =
     let some : length (octets x) ≡ length (labels_octets x) + 1 = length-append (labels_octets x) (0 ∷ []) in
     absurd (omega arith)

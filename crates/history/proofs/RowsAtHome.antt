@@ -17,7 +17,7 @@ use Rattle.zoneupdate.proofs.SomeAndAll.{all-filter}
 use Rattle.zoneupdate.proofs.Owners.{same_name-lower}
 use Rattle.zoneupdate.proofs.ChangedParts.{changed_by-outcome, of_set}
 use Rattle.zoneupdate.proofs.RecordSets.{IsSet, all-put, set-changes, set-put_rrs, set-without, shown_owner}
-use Rattle.history.specs.Standing.{IsAtHome}
+use Rattle.history.specs.AtHome.{IsAtHome}
 use Rattle.history.proofs.NameHomes.{is_inside-for}
 
 -- each record lies in the zone

@@ -1,161 +1,139 @@
--- What zones show together, where each record is at home: the records of a name are those of its home.
-use Rattle.std.proofs.Common.{◌≡◌, ℕ, Bool, true, false, cond, not, List, [], ◌∷◌, ◌++◌, length, map, Option, Some, None, refl, sym, ap, subst, ◌∙◌}
-use Rattle.std.specs.Prelude.{position, slice_get, option_map}
-use Rattle.std.specs.List.{list_all, AllByRecursion}
+-- What all homes show together, where each record is at home: the records of a name are those of its home, and no key comes from two.
+use Rattle.std.proofs.Common.{◌≡◌, ℕ, Bool, true, false, ◌||◌, List, [], ◌∷◌, ◌++◌, Option, Some, None, is_some, refl, sym, ap, subst, ◌∙◌}
+use Rattle.std.specs.Prelude.{position, option_map}
+use Rattle.std.specs.List.{list_all, list_any, AllByRecursion, IsDistinct}
 use Rattle.dnsname.specs.Names.{Labels, same_name, home}
-use Rattle.rrset.specs.RecordSet.{RecordSet, only, at_name}
+use Rattle.rrset.specs.RecordSet.{RecordSet, is_record_set, shows_its_key, put, union, shown_at, at_name}
 use Rattle.rrset.specs.declared.record.Key.{Key}
-use Rattle.rrset.proofs.InOrder.{in_order-only}
+use Rattle.rrset.proofs.InOrder.{in_order-put}
 use Rattle.zoneupdate.specs.Zones.{ZoneState, is_inside}
-use Rattle.zoneupdate.proofs.Filters.{and-left, and-right, and-both, not-true}
+use Rattle.zoneupdate.proofs.Filters.{is_true, and-left, and-right, and-both}
 use Rattle.zoneupdate.proofs.Owners.{same_name-for}
-use Rattle.zoneupdate.proofs.RecordSets.{set-in_order}
+use Rattle.zoneupdate.proofs.RecordSets.{IsSet, all-put, set-in_order}
 use Rattle.linkcache.specs.Rows.{shown_rows}
+use Rattle.history.specs.Homes.{clashes}
 use Rattle.history.specs.States.{State, LinkState, home_names, home_of, records}
-use Rattle.history.specs.Plans.{may_stand_together}
-use Rattle.history.specs.Standing.{IsAtHome, AreAtHome, named_zones}
-use Rattle.history.specs.declared.entry.Home.{Home}
+use Rattle.history.specs.AtHome.{AreAtHome}
+use Rattle.history.specs.Laws.{KeysHaveOnePlace, set_at, share_a_key}
 use Rattle.history.specs.declared.entry.Home.TheVariants as homes
-use Rattle.history.proofs.NameHomes.{is_home, is_inside-home, is_inside-for}
-use Rattle.history.proofs.Positions.{Found, found_from, none_from, slice_get-here}
-use Rattle.history.proofs.Together.{together-apart, same_name-turned}
-use Rattle.history.proofs.UnitedParts.{united, Clear, only-one, only-clear}
+use Rattle.history.proofs.Distinct.{all-both, all-fail}
+use Rattle.history.proofs.HomeSets.{HomeSet, zone_set, link_set, zone_sets, link_sets, home_sets, shown_sets, named_sets, records-sets, sets-shown, zone-parts, link-parts, IsSetAtHome, AreSetsAtHome, Elsewhere, clear-sets, not_shown, Stands, stands, only-stands}
+use Rattle.history.proofs.LinksAtHome.{sets-at_home, sets-apart}
+use Rattle.history.proofs.NameHomes.{is_home, is_inside-home, is_inside-for, inside-one}
+use Rattle.history.proofs.Positions.{found_from, none_from, slice_get-found}
+use Rattle.history.proofs.Together.{same_name-turned, other-name}
+use Rattle.history.proofs.UnitedParts.{united, only-clear}
 
-abbrev pub rows_of : List ZoneState → List RecordSet
-rows_of zones = map (λ z. z.rows) zones
+-- ---- all records are a set
 
-pub rows_of-append : (a b : List ZoneState) → rows_of (a ++ b) ≡ rows_of a ++ rows_of b
-rows_of-append [] b = refl
-rows_of-append (z ∷ a) b = ap (λ l. z.rows ∷ l) (rows_of-append a b)
+set-union : (first second : RecordSet) → IsSet first → list_all shows_its_key second ≡ true → IsSet (union first second)
+set-union first [] is shows = is
+set-union first (e ∷ second) is shows =
+    set-union (put e.0 e.1 first) second
+    (and-both _ _ (is_true _ (in_order-put e.0 e.1 first (set-in_order first is))) (all-put shows_its_key e.0 e.1 first (and-right _ _ is) (and-left (shows_its_key e) (list_all shows_its_key second) shows)))
+    (and-right (shows_its_key e) (list_all shows_its_key second) shows)
 
-append-nil : {X : Type 0} (xs : List X) → xs ++ [] ≡ xs
-append-nil [] = refl
-append-nil (x ∷ xs) = ap (λ l. x ∷ l) (append-nil xs)
+set-united : (homes : List Labels) (first : RecordSet) (sets : List HomeSet) → IsSet first → AreSetsAtHome homes sets → IsSet (united first (shown_sets sets))
+set-united homes first [] is at = is
+set-united homes first (s ∷ sets) is at = set-united homes (union first s.1) sets (set-union first s.1 is (and-right _ _ at.0.set)) at.1
 
--- without links, the records are those of the zones
-pub records-zones : (state : State) → state.links ≡ [] → records state ≡ united [] (rows_of state.zones)
-records-zones state none = ap (λ (ls : List LinkState). united [] (rows_of state.zones ++ map (λ l. shown_rows l.domain l.rows) ls)) none ∙ ap (united []) (append-nil (rows_of state.zones))
-
--- ---- zones that have no key that passes
-
-abbrev pub Elsewhere : List Labels → (Key → Bool) → Labels → Type 0
-Elsewhere homes p apex = (key : Key) → p key ≡ true → is_inside homes apex key.owner ≡ false
-
-pub clear-rows : (homes : List Labels) (p : Key → Bool) (apex : Labels) → Elsewhere homes p apex → (rows : RecordSet) → list_all (λ e. is_inside homes apex e.0.owner) rows ≡ true → only p rows ≡ []
-clear-rows homes p apex other [] h = refl
-clear-rows homes p apex other (e ∷ rows) h = by (p e.0) refl (clear-rows homes p apex other rows (and-right _ _ h))
-  where
-    by : (b : Bool) → p e.0 ≡ b → only p rows ≡ [] → cond b (e ∷ only p rows) (only p rows) ≡ []
-    by true is rest = let inside : is_inside homes apex e.0.owner ≡ true = and-left _ _ h in let out = other e.0 is in let wrong : true ≡ false = sym inside ∙ out in absurd cc
-    by false is rest = rest
-
-pub clear-zones : (homes : List Labels) (p : Key → Bool) (q : Labels → Bool) → ((apex : Labels) → q apex ≡ true → Elsewhere homes p apex)
-    → (zones : List ZoneState) → AllByRecursion (IsAtHome homes) zones → list_all (λ z. q z.apex) zones ≡ true → Clear p (rows_of zones)
-clear-zones homes p q other [] at all = tt
-clear-zones homes p q other (z ∷ zones) at all = (
-  clear-rows homes p z.apex (other z.apex (and-left _ _ all)) z.rows at.0.inside,
-  clear-zones homes p q other zones at.1 (and-right _ _ all),
-)
-
-pub all-parts : {X : Type 0} (P : X → Type 0) (before : List X) (x : X) (behind : List X) → AllByRecursion P (before ++ x ∷ behind) → AllByRecursion P before × P x × AllByRecursion P behind
-all-parts P [] x behind h = (tt, h.0, h.1)
-all-parts P (y ∷ before) x behind h = let rest = all-parts P before x behind h.1 in ((h.0, rest.0), rest.1, rest.2)
+pub set-records : (state : State) → AreAtHome state → is_record_set (records state) ≡ true
+set-records state at = ap is_record_set (records-sets state) ∙ set-united (home_names state) [] (home_sets state) refl (sets-at_home state at)
 
 -- ---- the records of a name
 
--- the rows of a home that is a zone
-abbrev pub rows_at : List ZoneState → Option Home → RecordSet
-rows_at zones (Some (homes.Zone i)) = elim (slice_get zones i) [ None ↦ [] | Some z ↦ z.rows ]
-rows_at zones _ = []
+-- a home whose name isn't that of the home of a name is not the home of keys at the name
+pub elsewhere-name : (homes : List Labels) (name : Labels) (o : Option Labels) → home homes name ≡ o → (other : Labels) → is_home other o ≡ false → Elsewhere homes (λ key. same_name name key.owner) other
+elsewhere-name homes name o is other none key at = sym (is_inside-for homes other name key.owner at) ∙ is_inside-home homes other name ∙ ap (is_home other) is ∙ none
 
--- the home of a name among zones
-abbrev pub zone_home : List ZoneState → Option Labels → Option Home
-zone_home zones None = None
-zone_home zones (Some h) = option_map (λ i. homes.Zone i) (position (λ z. same_name z.apex h) zones)
+-- all zones and links by a property of their names
+all-zones : (Q : Labels → Type 0) (zones : List ZoneState) → AllByRecursion (λ (z : ZoneState). Q z.apex) zones → AllByRecursion (λ (s : HomeSet). Q s.0.0) (zone_sets zones)
+all-zones Q [] h = tt
+all-zones Q (z ∷ zones) h = (h.0, all-zones Q zones h.1)
 
-pub home_of-zones : (state : State) → state.links ≡ [] → (name : Labels) → home_of state name ≡ zone_home state.zones (home (home_names state) name)
-home_of-zones state none name = by (home (home_names state) name)
+all-links : (Q : Labels → Type 0) (links : List LinkState) → AllByRecursion (λ (l : LinkState). Q l.domain) links → AllByRecursion (λ (s : HomeSet). Q s.0.0) (link_sets links)
+all-links Q [] h = tt
+all-links Q (l ∷ links) h = (h.0, all-links Q links h.1)
+
+abbrev AnyName : Labels → Type 0
+AnyName name = Unit {0}
+
+any-name : (sets : List HomeSet) → AllByRecursion (λ (s : HomeSet). AnyName s.0.0) sets
+any-name [] = tt
+any-name (s ∷ sets) = (tt, any-name sets)
+
+-- the rows of a zone, and of a link, if there is one
+abbrev rows_in : Option ZoneState → RecordSet
+rows_in o = elim o [ None ↦ [] | Some z ↦ z.rows ]
+
+abbrev shown_in : Option LinkState → RecordSet
+shown_in o = elim o [ None ↦ [] | Some l ↦ shown_rows l.domain l.rows ]
+
+pub at_name-home : (state : State) → AreAtHome state → (name : Labels) → at_name name (records state) ≡ at_name name (set_at state (home_of state name))
+at_name-home state at name = ap (at_name name) (records-sets state) ∙ by (home (home_names state) name) refl
   where
-    zone : (h : Labels) (o : Option ℕ) → elim o [ Some i ↦ Some (homes.Zone i) | None ↦ option_map (λ i. homes.Link i) (position (λ (l : LinkState). same_name l.domain h) state.links) ] ≡ option_map (λ i. homes.Zone i) o
-    zone h None = ap (λ (ls : List LinkState). option_map (λ i. homes.Link i) (position (λ (l : LinkState). same_name l.domain h) ls)) none
-    zone h (Some i) = refl
+    hs : List Labels
+    hs = home_names state
 
-    by : (o : Option Labels) → elim o [ None ↦ None | Some h ↦ elim (position (λ z. same_name z.apex h) state.zones) [ Some i ↦ Some (homes.Zone i) | None ↦ option_map (λ i. homes.Link i) (position (λ (l : LinkState). same_name l.domain h) state.links) ] ] ≡ zone_home state.zones o
-    by None = refl
-    by (Some h) = zone h (position (λ z. same_name z.apex h) state.zones)
-
--- a zone whose name isn't that of the home is not the home of keys at the name
-elsewhere-name : (homes : List Labels) (name : Labels) (o : Option Labels) → home homes name ≡ o → (apex : Labels) → is_home apex o ≡ false → Elsewhere homes (λ key. same_name name key.owner) apex
-elsewhere-name homes name o is apex none key at = sym (is_inside-for homes apex name key.owner at) ∙ is_inside-home homes apex name ∙ ap (is_home apex) is ∙ none
-
-flipped : (zones : List ZoneState) (h : Labels) → list_all (λ z. not (same_name z.apex h)) zones ≡ true → list_all (λ z. not (same_name h z.apex)) zones ≡ true
-flipped [] h all = refl
-flipped (z ∷ zones) h all = and-both (not (same_name h z.apex)) (list_all (λ y. not (same_name h y.apex)) zones) (ap not (same_name-turned h z.apex) ∙ and-left _ _ all) (flipped zones h (and-right _ _ all))
-
-all_true : (zones : List ZoneState) → list_all (λ (z : ZoneState). true) zones ≡ true
-all_true [] = refl
-all_true (z ∷ zones) = all_true zones
-
--- a zone in its place, and the others by its name
-pub record Placed (zones : List ZoneState) (i : ℕ) : Type 0 where
-  pub before : List ZoneState
-  pub zone : ZoneState
-  pub behind : List ZoneState
-  pub parts : zones ≡ before ++ zone ∷ behind
-  pub place : length before ≡ i
-  pub first : list_all (λ z. not (same_name z.apex zone.apex)) before ≡ true
-  pub last : list_all (λ z. not (same_name z.apex zone.apex)) behind ≡ true
-
-abbrev pub placed : (zones : List ZoneState) (i : ℕ) (before : List ZoneState) (zone : ZoneState) (behind : List ZoneState) → may_stand_together (named_zones zones) ≡ true
-    → zones ≡ before ++ zone ∷ behind → length before ≡ i → Placed zones i
-placed zones i before zone behind together parts place =
-    let apart = together-apart before zone behind (subst (λ zs. may_stand_together (named_zones zs) ≡ true) parts together) in
-    record { before = before; zone = zone; behind = behind; parts = parts; place = place; first = apart.0; last = apart.1 }
-
-abbrev pub placed-found : (p : ZoneState → Bool) (zones : List ZoneState) (i : ℕ) → may_stand_together (named_zones zones) ≡ true → (f : Found p zones i) → Placed zones i
-placed-found p zones i together f = placed zones i f.before f.here f.behind together f.parts f.place
-
-pub rows_at-placed : (zones : List ZoneState) (i : ℕ) (at : Placed zones i) → rows_at zones (Some (homes.Zone i)) ≡ at.zone.rows
-rows_at-placed zones i at = ap (λ zs. rows_at zs (Some (homes.Zone i))) at.parts ∙ ap (λ n. rows_at (at.before ++ at.zone ∷ at.behind) (Some (homes.Zone n))) (sym at.place) ∙ ap rows_in (slice_get-here at.before at.zone at.behind)
-  where
-    rows_in : Option ZoneState → RecordSet
-    rows_in o = elim o [ None ↦ [] | Some z ↦ z.rows ]
-
-pub united-placed : (zones : List ZoneState) (i : ℕ) (at : Placed zones i) → united [] (rows_of zones) ≡ united [] (rows_of at.before ++ at.zone.rows ∷ rows_of at.behind)
-united-placed zones i at = ap (λ zs. united [] (rows_of zs)) at.parts ∙ ap (united []) (rows_of-append at.before (at.zone ∷ at.behind))
-
-pub homes-placed : (homes : List Labels) (zones : List ZoneState) (i : ℕ) (at : Placed zones i) → AllByRecursion (IsAtHome homes) zones → AllByRecursion (IsAtHome homes) at.before × IsAtHome homes at.zone × AllByRecursion (IsAtHome homes) at.behind
-homes-placed homes zones i at all = all-parts (IsAtHome homes) at.before at.zone at.behind (subst (AllByRecursion (IsAtHome homes)) at.parts all)
-
--- the part of a zone alone
-pub only-placed : (homes : List Labels) (p : Key → Bool) (zones : List ZoneState) (i : ℕ) (at : Placed zones i) → AllByRecursion (IsAtHome homes) zones
-    → ((apex : Labels) → not (same_name apex at.zone.apex) ≡ true → Elsewhere homes p apex) → only p (united [] (rows_of zones)) ≡ only p at.zone.rows
-only-placed homes p zones i at all other =
-    let each = homes-placed homes zones i at all in
-    let others = λ (zs : List ZoneState) (h : AllByRecursion (IsAtHome homes) zs) (apart : list_all (λ z. not (same_name z.apex at.zone.apex)) zs ≡ true). clear-zones homes p (λ apex. not (same_name apex at.zone.apex)) other zs h apart in
-    ap (only p) (united-placed zones i at)
-    ∙ only-one p (rows_of at.before) at.zone.rows (rows_of at.behind) (others at.before each.0 at.first) (others at.behind each.2 at.last) (in_order-only p at.zone.rows (set-in_order at.zone.rows each.1.set))
-
-pub at_name-zones : (state : State) → AreAtHome state → (name : Labels) → at_name name (records state) ≡ at_name name (rows_at state.zones (home_of state name))
-at_name-zones state at name = ap (at_name name) (records-zones state at.links) ∙ by (home (home_names state) name) refl ∙ ap (λ o. at_name name (rows_at state.zones o)) (sym (home_of-zones state at.links name))
-  where
     named : Key → Bool
     named key = same_name name key.owner
 
     all : RecordSet
-    all = united [] (rows_of state.zones)
+    all = united [] (shown_sets (home_sets state))
 
-    zone : (h : Labels) (o : Option ℕ) → home (home_names state) name ≡ Some h → position (λ z. same_name z.apex h) state.zones ≡ o → at_name name all ≡ at_name name (rows_at state.zones (option_map (λ i. homes.Zone i) o))
-    zone h None is at_none =
-        only-clear named (rows_of state.zones) (clear-zones (home_names state) named (λ apex. not (same_name h apex)) (λ apex other. elsewhere-name (home_names state) name (Some h) is apex (not-true (same_name h apex) other)) state.zones at.zones
-        (flipped state.zones h (none_from (λ z. same_name z.apex h) state.zones at_none)))
-    zone h (Some i) is found =
-        let f = found_from (λ z. same_name z.apex h) state.zones i found in
-        let place = placed-found (λ z. same_name z.apex h) state.zones i at.together f in
-        only-placed (home_names state) named state.zones i place at.zones
-        (λ apex apart. elsewhere-name (home_names state) name (Some h) is apex (sym (same_name-for f.here.apex h apex f.passes) ∙ same_name-turned f.here.apex apex ∙ not-true (same_name apex f.here.apex) apart))
-        ∙ ap (at_name name) (sym (rows_at-placed state.zones i place))
+    are : AreSetsAtHome hs (home_sets state)
+    are = sets-at_home state at
 
-    by : (o : Option Labels) → home (home_names state) name ≡ o → at_name name all ≡ at_name name (rows_at state.zones (zone_home state.zones o))
-    by None is = only-clear named (rows_of state.zones) (clear-zones (home_names state) named (λ apex. true) (λ apex h. elsewhere-name (home_names state) name None is apex refl) state.zones at.zones (all_true state.zones))
-    by (Some h) is = zone h (position (λ z. same_name z.apex h) state.zones) is refl
+    -- one of the homes has the name of the home
+    here : (h : Labels) → home hs name ≡ Some h → (s : HomeSet) → Stands (home_sets state) s → same_name s.0.0 h ≡ true → at_name name all ≡ at_name name s.1
+    here h is s stands same = only-stands hs named (home_sets state) s stands are (λ other apart. elsewhere-name hs name (Some h) is other (sym (same_name-for s.0.0 h other same) ∙ same_name-turned s.0.0 other ∙ apart))
+
+    link : (h : Labels) → home hs name ≡ Some h → position (λ (z : ZoneState). same_name z.apex h) state.zones ≡ None → (o : Option ℕ) → position (λ (l : LinkState). same_name l.domain h) state.links ≡ o → at_name name all ≡ at_name name (set_at state (option_map (λ i. homes.Link i) o))
+    link h is no_zone None no_link =
+        only-clear named (shown_sets (home_sets state))
+        (clear-sets hs named (λ other. same_name other h ≡ false) (λ other apart. elsewhere-name hs name (Some h) is other (same_name-turned h other ∙ apart)) (home_sets state) are
+        (all-both (λ (s : HomeSet). same_name s.0.0 h ≡ false) (zone_sets state.zones) (link_sets state.links)
+        (all-zones (λ other. same_name other h ≡ false) state.zones (all-fail (λ (z : ZoneState). same_name z.apex h) state.zones (none_from (λ (z : ZoneState). same_name z.apex h) state.zones no_zone)))
+        (all-links (λ other. same_name other h ≡ false) state.links (all-fail (λ (l : LinkState). same_name l.domain h) state.links (none_from (λ (l : LinkState). same_name l.domain h) state.links no_link)))))
+    link h is no_zone (Some i) found =
+        let f = found_from (λ (l : LinkState). same_name l.domain h) state.links i found in
+        let s = stands (home_sets state) (zone_sets state.zones ++ link_sets f.before) (link_set f.here) (link_sets f.behind) (link-parts state.zones state.links f.before f.here f.behind f.parts) (sets-apart state at) in
+        here h is (link_set f.here) s f.passes
+        ∙ ap (λ o. at_name name (shown_in o)) (sym (slice_get-found (λ (l : LinkState). same_name l.domain h) state.links i f))
+
+    zone : (h : Labels) → home hs name ≡ Some h → (o : Option ℕ) → position (λ (z : ZoneState). same_name z.apex h) state.zones ≡ o
+        → at_name name all ≡ at_name name (set_at state (elim o [ Some i ↦ Some (homes.Zone i) | None ↦ option_map (λ i. homes.Link i) (position (λ (l : LinkState). same_name l.domain h) state.links) ]))
+    zone h is None no_zone = link h is no_zone (position (λ (l : LinkState). same_name l.domain h) state.links) refl
+    zone h is (Some i) found =
+        let f = found_from (λ (z : ZoneState). same_name z.apex h) state.zones i found in
+        let s = stands (home_sets state) (zone_sets f.before) (zone_set f.here) (zone_sets f.behind ++ link_sets state.links) (zone-parts state.zones f.before f.here f.behind state.links f.parts) (sets-apart state at) in
+        here h is (zone_set f.here) s f.passes
+        ∙ ap (λ o. at_name name (rows_in o)) (sym (slice_get-found (λ (z : ZoneState). same_name z.apex h) state.zones i f))
+
+    by : (o : Option Labels) → home hs name ≡ o
+        → at_name name all ≡ at_name name (set_at state (elim o [ None ↦ None | Some h ↦ elim (position (λ (z : ZoneState). same_name z.apex h) state.zones) [ Some i ↦ Some (homes.Zone i) | None ↦ option_map (λ i. homes.Link i) (position (λ (l : LinkState). same_name l.domain h) state.links) ] ]))
+    by None is = only-clear named (shown_sets (home_sets state)) (clear-sets hs named AnyName (λ other h. elsewhere-name hs name None is other refl) (home_sets state) are (any-name (home_sets state)))
+    by (Some h) is = zone h is (position (λ (z : ZoneState). same_name z.apex h) state.zones) refl
+
+-- ---- no key comes from two homes
+
+apart-one : (homes : List Labels) (a b : HomeSet) → IsSetAtHome homes a → IsSetAtHome homes b → same_name a.0.0 b.0.0 ≡ false → share_a_key a.1 b.1 ≡ false
+apart-one homes a b at_a at_b apart = by a.1 at_a.inside
+  where
+    by : (rows : RecordSet) → list_all (λ e. is_inside homes a.0.0 e.0.owner) rows ≡ true → list_any (λ e. is_some (shown_at e.0 b.1)) rows ≡ false
+    by [] h = refl
+    by (e ∷ rows) h =
+        let none : shown_at e.0 b.1 ≡ None = not_shown homes b e.0 at_b (inside-one homes a.0.0 b.0.0 e.0.owner apart (and-left (is_inside homes a.0.0 e.0.owner) (list_all (λ x. is_inside homes a.0.0 x.0.owner) rows) h)) in
+        ap (λ o. is_some o || list_any (λ x. is_some (shown_at x.0 b.1)) rows) none ∙ by rows (and-right (is_inside homes a.0.0 e.0.owner) (list_all (λ x. is_inside homes a.0.0 x.0.owner) rows) h)
+
+apart-all : (homes : List Labels) (a : HomeSet) (sets : List HomeSet) → IsSetAtHome homes a → AreSetsAtHome homes sets → AllByRecursion (λ y. clashes a.0 y ≡ false) (named_sets sets) → AllByRecursion (λ y. share_a_key a.1 y ≡ false) (shown_sets sets)
+apart-all homes a [] at all apart = tt
+apart-all homes a (b ∷ sets) at all apart = (apart-one homes a b at all.0 (other-name a.0 b.0 apart.0), apart-all homes a sets at all.1 apart.1)
+
+sets-distinct : (homes : List Labels) (sets : List HomeSet) → AreSetsAtHome homes sets → IsDistinct clashes (named_sets sets) → IsDistinct share_a_key (shown_sets sets)
+unfolding IsDistinct
+sets-distinct homes [] all apart = tt
+sets-distinct homes (a ∷ sets) all apart = (apart-all homes a sets all.0 all.1 apart.0, sets-distinct homes sets all.1 apart.1)
+
+pub keys-one : KeysHaveOnePlace
+keys-one state at = subst (IsDistinct share_a_key) (sets-shown state) (sets-distinct (home_names state) (home_sets state) (sets-at_home state at) (sets-apart state at))

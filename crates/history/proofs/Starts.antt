@@ -1,8 +1,10 @@
--- Zones with their two first records are at home.
-use Rattle.std.proofs.Common.{◌≡◌, ℕ, zero, suc, Bool, true, false, not, List, [], ◌∷◌, ◌++◌, map, filter, refl, sym, ap, subst, ◌∙◌, arith}
-use Rattle.std.specs.Prelude.{All}
+-- A start of homes that stand apart has each record at home: zones with their two first records, and links without a row.
+use Rattle.std.proofs.Common.{◌≡◌, ℕ, zero, suc, Bool, true, false, not, ◌||◌, List, [], ◌∷◌, ◌++◌, map, filter, refl, sym, ap, subst, ◌∙◌, arith}
+use Rattle.std.specs.Prelude.{All, IsTrue}
 use Rattle.std.specs.List.{list_any, AllByRecursion}
-use Rattle.dnsname.specs.Names.{Labels, same_name, ends_in}
+use Rattle.dnsname.specs.Names.{Labels, same_name, ends_in, is_name}
+use Rattle.dnsname.proofs.Decisions.{is_name-Decides}
+use Rattle.rrset.specs.KeyedRows.{is_rising}
 use Rattle.zoneupdate.specs.Keeping.{ZoneKept, lies_under}
 use Rattle.zoneupdate.specs.Zones.{ZoneState, new_zone, first_soa, first_ns, is_inside}
 use Rattle.zoneupdate.proofs.Filters.{and-left, and-right, and-both, not-true, not_both, or-left, or-right}
@@ -11,12 +13,15 @@ use Rattle.zoneupdate.proofs.Owners.{same_name-itself}
 use Rattle.zoneupdate.proofs.RecordSets.{set-put_rrs}
 use Rattle.zoneupdate.proofs.SomeAndAll.{any_all, all_itself}
 use Rattle.zoneupdate.proofs.Suffixes.{true-EndsIn, ends_in-length, ends_in-all}
-use Rattle.history.specs.Keeping.{named_homes, state_of}
-use Rattle.history.specs.Plans.{IsStart, may_stand_together}
-use Rattle.history.specs.Standing.{IsAtHome, AreAtHome, named_zones}
-use Rattle.history.specs.States.{State, LinkState, home_names}
+use Rattle.linkcache.specs.Links.{IsLink}
+use Rattle.linkcache.specs.Sound.{AreLinkRows}
+use Rattle.linkcache.specs.Within.{IsWithin}
+use Rattle.history.specs.AtHome.{IsAtHome}
+use Rattle.history.specs.Laws.{StartsAreAtHome}
+use Rattle.history.specs.Kept.{HomesKept, state_of}
+use Rattle.history.specs.Plans.{IsStart}
+use Rattle.history.specs.States.{LinkState, home_names}
 use Rattle.history.proofs.RowsAtHome.{inside-put_rrs}
-use Rattle.history.proofs.ZoneLists.{named-kept}
 
 -- ---- a home is its own home
 
@@ -57,30 +62,41 @@ at_home-start homes (z ∷ zones) new among =
       at_home-start homes zones (λ k d h. new (suc k) d (omega arith)) (λ q h. among q (or-right (q z.apex) (list_any q others) h)),
     )
 
-append-nil : (xs : List Labels) → xs ++ [] ≡ xs
-append-nil [] = refl
-append-nil (x ∷ xs) = ap (λ l. x ∷ l) (append-nil xs)
+-- a link without a row
+pub new-link : (link : LinkState) → IsTrue (is_name link.domain) → link.rows ≡ [] → IsLink link
+new-link link named none = record {
+  name = (is_name-Decides link.domain).0 named;
+  order = ap is_rising none;
+  sound = subst (AreLinkRows link.domain) (sym none) tt;
+  within = subst (IsWithin link.domain) (sym none) (record { few = omega arith; owners = λ owner. omega arith });
+}
 
--- a start of zones alone that may stand together
-pub home-start : (state : State) → state.links ≡ [] → may_stand_together (named_zones state.zones) ≡ true → IsStart state → AreAtHome state
-home-start state none together start = record {
-  links = none;
-  together = together;
-  zones = at_home-start (home_names state) state.zones start.zones (λ q h. ap (list_any q) (names none) ∙ h);
+links-start : (links : List LinkState) → All (λ (l : LinkState). l.rows ≡ []) links → AllByRecursion (λ (l : LinkState). IsTrue (is_name l.domain)) links → AllByRecursion IsLink links
+links-start [] new named = tt
+links-start (l ∷ links) new named = (new-link l named.0 (new 0 l (omega arith)), links-start links (λ k d h. new (suc k) d (omega arith)) named.1)
+
+-- a start of homes that stand apart
+pub start-home : StartsAreAtHome
+start-home state start apart named = record {
+  apart = apart;
+  zones = at_home-start (home_names state) state.zones start.zones (λ q h. any-front q (map (λ (z : ZoneState). z.apex) state.zones) (map (λ (l : LinkState). l.domain) state.links) h);
+  links = links-start state.links start.links named;
 }
   where
-    apexes : List Labels
-    apexes = map (λ (z : ZoneState). z.apex) state.zones
-
-    names : state.links ≡ [] → home_names state ≡ apexes
-    names none = ap (λ (ls : List LinkState). apexes ++ map (λ l. l.domain) ls) none ∙ append-nil apexes
-
-pub start-home : (zones : List ZoneKept) → may_stand_together (named_homes zones) ≡ true → IsStart (state_of zones) → AreAtHome (state_of zones)
-start-home zones together start = home-start (state_of zones) refl (ap may_stand_together (sym (named-kept zones)) ∙ together) start
+    any-front : (q : Labels → Bool) (a b : List Labels) → list_any q a ≡ true → list_any q (a ++ b) ≡ true
+    any-front q [] b h = cc
+    any-front q (x ∷ a) b h = by (q x) refl h (λ more. any-front q a b more)
+      where
+        by : (t : Bool) → q x ≡ t → (t || list_any q a) ≡ true → (list_any q a ≡ true → list_any q (a ++ b) ≡ true) → (q x || list_any q (a ++ b)) ≡ true
+        by true is h rest = or-left (q x) (list_any q (a ++ b)) is
+        by false is h rest = or-right (q x) (list_any q (a ++ b)) (rest h)
 
 -- homes of one new zone
-pub one_zone-start : (homes zones : List ZoneKept) (zone : ZoneKept) → homes ≡ [] → zones ≡ homes ++ zone ∷ [] → IsNew zone.state → IsStart (state_of zones)
-one_zone-start homes zones zone none is new = subst (λ zs. IsStart (state_of zs)) (sym (is ∙ ap (λ hs. hs ++ zone ∷ []) none)) (record { zones = only_one; links = λ k d h. absurd (omega arith); now = refl })
+pub one_zone-start : (before after : HomesKept) (zone : ZoneKept) → before ≡ record { zones = []; links = []; names = [] } → after ≡ record before { zones = before.zones ++ zone ∷ []; names = before.names ++ (zone.state.apex, false) ∷ [] } → IsNew zone.state
+    → IsStart (state_of after)
+one_zone-start before after zone none is new =
+    subst (λ (homes : HomesKept). IsStart (state_of homes)) (sym (is ∙ ap (λ (homes : HomesKept). record homes { zones = homes.zones ++ zone ∷ []; names = homes.names ++ (zone.state.apex, false) ∷ [] }) none))
+    (record { zones = only_one; links = λ k d h. absurd (omega arith); now = refl })
   where
     only_one : All IsNew (zone.state ∷ [])
     only_one zero d h = new

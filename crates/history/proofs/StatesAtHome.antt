@@ -1,19 +1,31 @@
--- Each state of a history of zones has its records at home, if the start has.
-use Rattle.std.proofs.Common.{◌≡◌, ℕ, Bool, true, false, cond, ltb, List, [], ◌++◌, map, Option, Some, None, Result, Ok, Err, refl, sym, ap, subst, ◌∙◌}
+-- Each state of a history has its records at home, if the start has.
+use Rattle.std.proofs.Common.{◌≡◌, ℕ, zero, suc, ◌+◌, Bool, true, false, cond, ltb, nat_lt, List, [], ◌∷◌, ◌++◌, map, Option, Some, None, Result, Ok, Err, refl, sym, ap, subst, ◌∙◌}
 use Rattle.std.specs.Prelude.{position}
 use Rattle.std.specs.List.{AllByRecursion}
 use Rattle.push_base.specs.Cases.{◌>>=◌, changed_at}
 use Rattle.dnsname.specs.Names.{Labels}
 use Rattle.dnswire.specs.declared.message.Update.{Update}
 use Rattle.rrset.specs.Rcodes.{notauth}
+use Rattle.rrset.specs.Records.{same_key}
 use Rattle.rrset.specs.RecordSet.{RecordSet, changes}
+use Rattle.rrset.specs.declared.record.Hearing.{Hearing}
+use Rattle.rrset.specs.declared.record.Key.{Key}
 use Rattle.zoneupdate.specs.Updates.{judged}
-use Rattle.history.specs.Standing.{IsAtHome, AreAtHome}
+use Rattle.zoneupdate.specs.Zones.{ZoneState}
+use Rattle.zoneupdate.proofs.Filters.{holds, is_true}
+use Rattle.linkcache.specs.Links.{IsLink}
+use Rattle.linkcache.specs.Rows.{reconfirmed, reconfirmation}
+use Rattle.linkcache.proofs.KeyedParts.{rising-filter}
+use Rattle.linkcache.proofs.OwnerSizes.{within-heard, within-moment, within-reconfirmed}
+use Rattle.linkcache.proofs.SoundSteps.{sound-heard, sound-moment, sound-reconfirmed}
+use Rattle.history.specs.Homes.{NamedHome}
+use Rattle.history.specs.AtHome.{IsAtHome, AreAtHome, StandApart, named_zones, named_links}
 use Rattle.history.specs.States.{State, LinkState, home_names, zone_asked, with_rows, updated, after, link_heard, link_at_moment}
-use Rattle.linkcache.specs.Rows.{reconfirmed}
 use Rattle.history.specs.declared.entry.Entry.{Entry}
 use Rattle.history.specs.declared.entry.Entry.TheVariants as entries
-use Rattle.history.proofs.Positions.{Found, found_from}
+use Rattle.history.proofs.HomeSets.{map-twice}
+use Rattle.history.proofs.LinkOrder.{rising-ending, rising-heard}
+use Rattle.history.proofs.Positions.{Found, found_from, map-changed_at}
 use Rattle.history.proofs.UpdateSteps.{named, asked_step, zone_step, updated-steps, updated-found, zone_of-none, accepted-found}
 
 -- ---- an update
@@ -45,24 +57,66 @@ home-updated state home update = by (updated state update) refl
     by (Err code) is = subst AreAtHome (sym (ap (λ (r : Result State ℕ). elim r as (λ _. State) [ Err code ↦ state | Ok later ↦ later ]) is)) kept
     by (Ok later) is = asked (zone_asked update.zones) later is refl
 
--- ---- other entries, which change no zone
+-- ---- other entries, which change links alone
 
-pub home-relinked : (state : State) → AreAtHome state → (links : List LinkState) (now : ℕ) → links ≡ [] → AreAtHome (record { zones = state.zones; links = links; now = now })
-home-relinked state home links now none = record {
-  links = none;
-  together = home.together;
-  zones = subst (λ hs. AllByRecursion (IsAtHome hs) state.zones) (ap (λ (ls : List LinkState). map (λ z. z.apex) state.zones ++ map (λ l. l.domain) ls) (home.links ∙ sym none)) home.zones;
+-- later links of the same domains
+pub home-relinked : (state : State) → AreAtHome state → (links : List LinkState) (now : ℕ) → map (λ (l : LinkState). l.domain) links ≡ map (λ (l : LinkState). l.domain) state.links → AllByRecursion IsLink links → AreAtHome (record { zones = state.zones; links = links; now = now })
+home-relinked state home links now same are = record {
+  apart = subst StandApart (ap (λ (l : List NamedHome). named_zones state.zones ++ l) (sym named)) home.apart;
+  zones = subst (λ (hs : List Labels). AllByRecursion (IsAtHome hs) state.zones) (ap (λ (l : List Labels). map (λ (z : ZoneState). z.apex) state.zones ++ l) (sym same)) home.zones;
+  links = are;
+}
+  where
+    named_by : (ls : List LinkState) → map (λ (d : Labels). (d, true)) (map (λ (l : LinkState). l.domain) ls) ≡ named_links ls
+    named_by ls = map-twice (λ (l : LinkState). l.domain) (λ (d : Labels). (d, true)) ls
+
+    named : named_links links ≡ named_links state.links
+    named = sym (named_by links) ∙ ap (λ (ds : List Labels). map (λ (d : Labels). (d, true)) ds) same ∙ named_by state.links
+
+-- each link, and one of them, after a step that keeps a link one
+pub links-each : (f : LinkState → LinkState) → ((l : LinkState) → IsLink l → IsLink (f l)) → (links : List LinkState) → AllByRecursion IsLink links → AllByRecursion IsLink (map f links)
+links-each f keeps [] are = tt
+links-each f keeps (l ∷ links) are = (keeps l are.0, links-each f keeps links are.1)
+
+pub links-one : (f : LinkState → LinkState) → ((l : LinkState) → IsLink l → IsLink (f l)) → (i : ℕ) (links : List LinkState) → AllByRecursion IsLink links → AllByRecursion IsLink (changed_at i f links)
+links-one f keeps i [] are = tt
+links-one f keeps zero (l ∷ links) are = (keeps l are.0, are.1)
+links-one f keeps (suc i) (l ∷ links) are = (are.0, links-one f keeps i links are.1)
+
+pub link-heard : (now : ℕ) (hearing : Hearing) (l : LinkState) → IsLink l → IsLink (link_heard now hearing l)
+link-heard now hearing l is = record {
+  name = is.name;
+  order = is_true _ (rising-heard l.domain now hearing.rrs l.rows (holds _ is.order));
+  sound = sound-heard l.domain now hearing.rrs l.rows is.sound;
+  within = within-heard l.domain now hearing.rrs l.rows (holds _ is.order) is.sound is.within;
 }
 
-changed_none : (f : LinkState → LinkState) (i : ℕ) (links : List LinkState) → links ≡ [] → changed_at i f links ≡ []
-changed_none f i links none = ap (changed_at i f) none
+pub link-moment : (t : ℕ) (l : LinkState) → IsLink l → IsLink (link_at_moment t l)
+link-moment t l is = record {
+  name = is.name;
+  order = is_true _ (rising-filter (λ row. nat_lt t row.1.ends) l.rows (holds _ is.order));
+  sound = sound-moment l.domain t l.rows is.sound;
+  within = within-moment l.domain t l.rows is.within;
+}
+
+pub link-reconfirmed : (key : Key) (now : ℕ) (l : LinkState) → IsLink l → IsLink (record l { rows = reconfirmed l.rows key now })
+link-reconfirmed key now l is = record {
+  name = is.name;
+  order = is_true _ (rising-ending (λ row. same_key key row.0) (now + reconfirmation) l.rows (holds _ is.order));
+  sound = sound-reconfirmed l.domain key now l.rows is.sound;
+  within = within-reconfirmed l.domain key now l.rows is.within;
+}
 
 pub home-after : (state : State) → AreAtHome state → (entry : Entry) → AreAtHome (after state entry)
 home-after state home (entries.Update update) = home-updated state home update
-home-after state home (entries.Heard link hearing) = home-relinked state home (changed_at link (link_heard state.now hearing) state.links) state.now (changed_none (link_heard state.now hearing) link state.links home.links)
-home-after state home (entries.Reconfirm link key) = home-relinked state home (changed_at link (λ l. record l { rows = reconfirmed l.rows key state.now }) state.links) state.now (changed_none (λ l. record l { rows = reconfirmed l.rows key state.now }) link state.links home.links)
+home-after state home (entries.Heard link hearing) =
+    home-relinked state home (changed_at link (link_heard state.now hearing) state.links) state.now (map-changed_at (λ (l : LinkState). l.domain) (link_heard state.now hearing) (λ l. refl) link state.links)
+    (links-one (link_heard state.now hearing) (link-heard state.now hearing) link state.links home.links)
+home-after state home (entries.Reconfirm link key) =
+    home-relinked state home (changed_at link (λ l. record l { rows = reconfirmed l.rows key state.now }) state.links) state.now (map-changed_at (λ (l : LinkState). l.domain) (λ (l : LinkState). record l { rows = reconfirmed l.rows key state.now }) (λ l. refl) link state.links)
+    (links-one (λ l. record l { rows = reconfirmed l.rows key state.now }) (link-reconfirmed key state.now) link state.links home.links)
 home-after state home (entries.Moment t) = by (ltb state.now t)
   where
     by : (b : Bool) → AreAtHome (cond b (record state { now = t; links = map (link_at_moment t) state.links }) state)
-    by true = home-relinked state home (map (link_at_moment t) state.links) t (ap (map (link_at_moment t)) home.links)
+    by true = home-relinked state home (map (link_at_moment t) state.links) t (map-twice (link_at_moment t) (λ (l : LinkState). l.domain) state.links) (links-each (link_at_moment t) (link-moment t) state.links home.links)
     by false = home

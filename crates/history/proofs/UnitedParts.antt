@@ -42,9 +42,9 @@ shown_at-below k (e ∷ es) h =
     let both = both_of (is_lt (key_cmp k e.0)) (below_all key_cmp k es) h in
     ap (λ b. cond b (Some e.1) (shown_at k es)) (less_apart (key_cmp k e.0) both.0) ∙ shown_at-below k es both.1
 
-abbrev pub over : Option Shown → Option Shown → Option Shown
+abbrev pub over : {X : Type 0} → Option X → Option X → Option X
 over None below = below
-over (Some shown) below = Some shown
+over (Some above) below = Some above
 
 pub shown_at-union : (q : Key) (first es : RecordSet) → InOrder es → shown_at q (union first es) ≡ over (shown_at q es) (shown_at q first)
 shown_at-union q first [] h = refl

@@ -1,24 +1,26 @@
 -- An update of zones step by step: the zone that it names, what the zone's records become, and the plan.
-use Rattle.std.proofs.Common.{◌≡◌, ℕ, Bool, List, Option, Some, None, Result, Ok, Err, refl, sym, ap, ◌∙◌}
+use Rattle.std.proofs.Common.{◌≡◌, ℕ, Bool, List, ◌∷◌, Option, Some, None, Result, Ok, Err, refl, sym, ap, subst, ◌∙◌}
 use Rattle.std.specs.Prelude.{position, find}
+use Rattle.std.specs.List.{AllByRecursion}
 use Rattle.push_base.specs.Cases.{◌>>=◌}
 use Rattle.dnsname.specs.Names.{Labels, same_name}
 use Rattle.dnswire.specs.declared.message.Update.{Update}
 use Rattle.rrset.specs.Rcodes.{notauth}
-use Rattle.rrset.specs.RecordSet.{RecordSet, changes}
+use Rattle.rrset.specs.RecordSet.{RecordSet, changes, with_changes}
 use Rattle.rrset.specs.declared.record.Changed.{Changed}
+use Rattle.rrset.proofs.WithChanges.{with_changes-new}
 use Rattle.zoneupdate.specs.Keeping.{Leads}
 use Rattle.zoneupdate.specs.Updates.{judged}
 use Rattle.zoneupdate.specs.Zones.{ZoneState}
-use Rattle.history.specs.Keeping.{Held, held_of, held_for, zone_index}
-use Rattle.history.specs.Plans.{Plan, refuse, idle, accept, planned}
-use Rattle.history.specs.Standing.{AreAtHome}
+use Rattle.zoneupdate.proofs.RecordSets.{set-in_order}
+use Rattle.history.specs.Plans.{Plan, refuse, accept, planned}
+use Rattle.history.specs.AtHome.{IsAtHome, AreAtHome}
 use Rattle.history.specs.States.{State, home_names, zone_of, zone_asked, with_rows, updated, after, records}
 use Rattle.history.specs.declared.entry.Entry.TheVariants as entries
-use Rattle.history.proofs.Positions.{Found, found_from, none_from, find-here, find-none}
+use Rattle.history.proofs.Positions.{Found, none_from, find-here, find-none}
 use Rattle.history.proofs.RowsAtHome.{at_home-judged}
-use Rattle.history.proofs.ShownAtHome.{Placed, placed-found, homes-placed}
-use Rattle.history.proofs.UpdatedHomes.{with_zone, with_rows-placed, changes-placed, home-placed}
+use Rattle.history.proofs.Distinct.{all-apart}
+use Rattle.history.proofs.UpdatedHomes.{Placed, placed-found, with_zone, with_rows-placed, changes-placed, home-placed}
 
 -- ---- by the zone that the update names
 
@@ -71,13 +73,11 @@ refused-found state update apex i f code asked step = planned-refused state upda
 
 -- ---- what is accepted
 
-pub index-found : (state : State) (update : Update) (apex : Labels) (i : ℕ) → zone_asked update.zones ≡ Ok apex → position (named apex) state.zones ≡ Some i → zone_index state (entries.Update update) ≡ Some i
-index-found state update apex i asked found = ap (λ (r : Result Labels ℕ). elim r as (λ _. Option ℕ) [ Err code ↦ None | Ok apex ↦ position (named apex) state.zones ]) asked ∙ found
-
 pub record Accepted (state : State) (update : Update) (changed : List Changed) (i : ℕ) : Type 0 where
   pub at : Placed state.zones i
   pub rows : RecordSet
   pub leads : Leads at.zone changed rows
+  pub reached : with_changes changed at.zone.rows ≡ rows
   pub later : after state (entries.Update update) ≡ with_zone state at.before (record at.zone { rows = rows }) at.behind
   pub home : AreAtHome (with_zone state at.before (record at.zone { rows = rows }) at.behind)
   pub plan : planned state (entries.Update update) ≡ accept changed
@@ -85,13 +85,14 @@ pub record Accepted (state : State) (update : Update) (changed : List Changed) (
 accepted : (state : State) (home : AreAtHome state) (update : Update) (i : ℕ) (at : Placed state.zones i) (rows : RecordSet) (changed : List Changed) → judged (home_names state) at.zone update ≡ Ok rows
     → updated state update ≡ Ok (with_rows state at.zone.apex rows) → changed ≡ changes at.zone.rows rows → Accepted state update changed i
 accepted state home update i at rows changed step is keys =
-    let each = homes-placed (home_names state) state.zones i at home.zones in
-    let new = at_home-judged (home_names state) at.zone update rows step each.1 in
+    let each = all-apart (IsAtHome (home_names state)) at.before (at.zone ∷ at.behind) (subst (AllByRecursion (IsAtHome (home_names state))) at.parts home.zones) in
+    let new = at_home-judged (home_names state) at.zone update rows step each.1.0 in
     let later = with_rows-placed state i at rows in
     record {
       at = at;
       rows = rows;
       leads = record { homes = home_names state; update = update; step = step; keys = keys };
+      reached = ap (λ (cs : List Changed). with_changes cs at.zone.rows) keys ∙ with_changes-new at.zone.rows rows (set-in_order at.zone.rows each.1.0.set) (set-in_order rows new.set);
       later = ap (λ (r : Result State ℕ). elim r as (λ _. State) [ Err code ↦ state | Ok later ↦ later ]) is ∙ later;
       home = home-placed state home i at rows new;
       plan =
@@ -103,33 +104,5 @@ accepted state home update i at rows changed step is keys =
 pub accepted-found : (state : State) (home : AreAtHome state) (update : Update) (apex : Labels) (i : ℕ) (f : Found (named apex) state.zones i) (rows : RecordSet) (changed : List Changed) → zone_asked update.zones ≡ Ok apex
     → judged (home_names state) f.here update ≡ Ok rows → changed ≡ changes f.here.rows rows → Accepted state update changed i
 accepted-found state home update apex i f rows changed asked step keys =
-    accepted state home update i (placed-found (named apex) state.zones i home.together f) rows changed step
+    accepted state home update i (placed-found (named apex) state i home f) rows changed step
     (updated-found state update apex i f asked ∙ ap (λ (r : Result RecordSet ℕ). r >>= λ rows. Ok (with_rows state f.here.apex rows)) step) keys
-
--- ---- from a plan that is held
-
-held_parts : (index : Option ℕ) (plan : Plan) (i : ℕ) (changed : List Changed) → held_of index plan ≡ Some (record { zone = Some i; changed = changed }) → (plan ≡ accept changed) × (index ≡ Some i)
-held_parts index (refuse code) i changed e = cc
-held_parts index idle i changed e = cc
-held_parts index (accept keys) i changed e =
-    let held : ◌≡◌ {A = Held} (record { zone = index; changed = keys }) (record { zone = Some i; changed = changed }) = cc in
-    (ap (λ (h : Held). accept h.changed) held, ap (λ (h : Held). h.zone) held)
-
-pub accepted-held : (state : State) (home : AreAtHome state) (update : Update) (i : ℕ) (changed : List Changed) → held_for state (entries.Update update) ≡ Some (record { zone = Some i; changed = changed }) → Accepted state update changed i
-accepted-held state home update i changed held = asked (zone_asked update.zones) refl parts.1
-  where
-    parts : (planned state (entries.Update update) ≡ accept changed) × (zone_index state (entries.Update update) ≡ Some i)
-    parts = held_parts (zone_index state (entries.Update update)) (planned state (entries.Update update)) i changed held
-
-    same_changed : (a b : List Changed) → accept a ≡ accept b → a ≡ b
-    same_changed a b e = cc
-
-    found : (apex : Labels) → zone_asked update.zones ≡ Ok apex → (f : Found (named apex) state.zones i) → (r : Result RecordSet ℕ) → judged (home_names state) f.here update ≡ r → Accepted state update changed i
-    found apex is f (Err code) step = let wrong : refuse code ≡ accept changed = sym (refused-found state update apex i f code is step) ∙ parts.0 in cc
-    found apex is f (Ok rows) step =
-        let made = accepted-found state home update apex i f rows (changes f.here.rows rows) is step refl in
-        accepted-found state home update apex i f rows changed is step (same_changed changed (changes f.here.rows rows) (sym parts.0 ∙ made.plan))
-
-    asked : (r : Result Labels ℕ) → zone_asked update.zones ≡ r → elim r as (λ _. Option ℕ) [ Err code ↦ None | Ok apex ↦ position (named apex) state.zones ] ≡ Some i → Accepted state update changed i
-    asked (Err code) is e = cc
-    asked (Ok apex) is e = let f = found_from (named apex) state.zones i e in found apex is f (judged (home_names state) f.here update) refl

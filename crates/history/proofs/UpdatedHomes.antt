@@ -1,37 +1,65 @@
--- What an update makes of zones in which each record is at home.
-use Rattle.std.proofs.Common.{◌≡◌, ℕ, Bool, true, false, cond, not, List, [], ◌∷◌, ◌++◌, map, refl, sym, ap, subst, ◌∙◌}
-use Rattle.std.specs.List.{list_all, AllByRecursion}
+-- What an update makes of homes in which each record is at home: one zone with other rows.
+use Rattle.std.proofs.Common.{◌≡◌, ℕ, Bool, true, false, cond, List, [], ◌∷◌, ◌++◌, map, length, refl, sym, ap, subst, ◌∙◌, append_assoc}
+use Rattle.std.specs.List.{AllByRecursion, IsDistinct}
+use Rattle.std.proofs.lemmas.List.{map-append}
 use Rattle.dnsname.specs.Names.{Labels, same_name}
-use Rattle.rrset.specs.RecordSet.{RecordSet, only, changes}
-use Rattle.rrset.specs.declared.record.Key.{Key}
-use Rattle.rrset.proofs.InOrder.{in_order-only}
-use Rattle.rrset.proofs.Selected.{fails}
-use Rattle.zoneupdate.specs.Zones.{ZoneState, is_inside}
-use Rattle.zoneupdate.proofs.Filters.{and-left, and-right, not-true, all_pass}
+use Rattle.rrset.specs.RecordSet.{RecordSet, changes}
+use Rattle.zoneupdate.specs.Zones.{ZoneState}
 use Rattle.zoneupdate.proofs.Owners.{same_name-itself}
-use Rattle.zoneupdate.proofs.RecordSets.{set-in_order}
-use Rattle.history.specs.Plans.{may_stand_together}
-use Rattle.history.specs.Standing.{IsAtHome, AreAtHome, named_zones}
-use Rattle.history.specs.States.{State, home_names, with_rows, records}
-use Rattle.history.proofs.NameHomes.{inside-one}
-use Rattle.history.proofs.ShownAtHome.{rows_of, rows_of-append, records-zones, Elsewhere, Placed, homes-placed, united-placed, clear-zones}
-use Rattle.history.proofs.Together.{same_name-turned}
-use Rattle.history.proofs.UnitedParts.{united, Clear, changes-one}
+use Rattle.history.specs.Homes.{NamedHome, clashes}
+use Rattle.history.specs.AtHome.{IsAtHome, AreAtHome, StandApart, named_zones, named_links}
+use Rattle.history.specs.States.{State, LinkState, home_names, with_rows, records}
+use Rattle.history.proofs.Distinct.{all-both, all-apart, all-as, all-map, distinct-parts}
+use Rattle.history.proofs.HomeSets.{HomeSet, zone_set, zone_sets, link_sets, home_sets, shown_sets, records-sets, zone-parts, stands, changes-stands}
+use Rattle.history.proofs.LinksAtHome.{sets-at_home, sets-apart}
+use Rattle.history.proofs.Positions.{Found}
+use Rattle.history.proofs.Together.{clashes-turned, other-name}
+use Rattle.history.proofs.UnitedParts.{united}
+
+-- ---- a zone in its place
+
+-- a zone in its place, and the others by its name
+pub record Placed (zones : List ZoneState) (i : ℕ) : Type 0 where
+  pub before : List ZoneState
+  pub zone : ZoneState
+  pub behind : List ZoneState
+  pub parts : zones ≡ before ++ zone ∷ behind
+  pub place : length before ≡ i
+  pub first : AllByRecursion (λ z. same_name z.apex zone.apex ≡ false) before
+  pub last : AllByRecursion (λ z. same_name z.apex zone.apex ≡ false) behind
+
+pub others-named : (before : List ZoneState) (zone : ZoneState) (behind : List ZoneState) (links : List LinkState) → IsDistinct clashes (named_zones (before ++ zone ∷ behind) ++ named_links links)
+    → AllByRecursion (λ z. same_name z.apex zone.apex ≡ false) before × AllByRecursion (λ z. same_name z.apex zone.apex ≡ false) behind
+others-named before zone behind links apart =
+    let others = distinct-parts clashes (named_zones before) (zone.apex, false) (named_zones behind ++ named_links links) (subst (IsDistinct clashes) parts apart) in (
+      all-as (λ (z : ZoneState). clashes (z.apex, false) (zone.apex, false) ≡ false) (λ (z : ZoneState). same_name z.apex zone.apex ≡ false) (λ z e. other-name (z.apex, false) (zone.apex, false) e) before
+          (all-map (λ (z : ZoneState). (z.apex, false)) (λ y. clashes y (zone.apex, false) ≡ false) before others.0),
+      all-as (λ (z : ZoneState). clashes (zone.apex, false) (z.apex, false) ≡ false) (λ (z : ZoneState). same_name z.apex zone.apex ≡ false) (λ z e. other-name (z.apex, false) (zone.apex, false) (clashes-turned (z.apex, false) (zone.apex, false) ∙ e)) behind
+          (all-map (λ (z : ZoneState). (z.apex, false)) (λ y. clashes (zone.apex, false) y ≡ false) behind (all-apart (λ y. clashes (zone.apex, false) y ≡ false) (named_zones behind) (named_links links) others.1).0),
+    )
+  where
+    parts : named_zones (before ++ zone ∷ behind) ++ named_links links ≡ named_zones before ++ (zone.apex, false) ∷ (named_zones behind ++ named_links links)
+    parts = ap (λ (l : List NamedHome). l ++ named_links links) (map-append (λ (z : ZoneState). (z.apex, false)) before (zone ∷ behind)) ∙ append_assoc (named_zones before) ((zone.apex, false) ∷ named_zones behind) (named_links links)
+
+abbrev pub placed-found : (p : ZoneState → Bool) (state : State) (i : ℕ) → AreAtHome state → (f : Found p state.zones i) → Placed state.zones i
+placed-found p state i home f =
+    let others = others-named f.before f.here f.behind state.links (subst (λ (zs : List ZoneState). IsDistinct clashes (named_zones zs ++ named_links state.links)) f.parts home.apart.apart) in
+    record { before = f.before; zone = f.here; behind = f.behind; parts = f.parts; place = f.place; first = others.0; last = others.1 }
 
 -- ---- one zone with other rows
 
 abbrev pub with_zone : State → List ZoneState → ZoneState → List ZoneState → State
 with_zone state before zone behind = record state { zones = before ++ zone ∷ behind }
 
-kept_others : (apex : Labels) (rows : RecordSet) (zones : List ZoneState) → list_all (λ z. not (same_name z.apex apex)) zones ≡ true
+kept_others : (apex : Labels) (rows : RecordSet) (zones : List ZoneState) → AllByRecursion (λ z. same_name z.apex apex ≡ false) zones
     → map (λ (z : ZoneState). cond (same_name z.apex apex) (record z { rows = rows }) z) zones ≡ zones
 kept_others apex rows [] all = refl
-kept_others apex rows (z ∷ zones) all = λ i. cond (not-true (same_name z.apex apex) (and-left _ _ all) i) (record z { rows = rows }) z ∷ kept_others apex rows zones (and-right _ _ all) i
+kept_others apex rows (z ∷ zones) all = λ i. cond (all.0 i) (record z { rows = rows }) z ∷ kept_others apex rows zones all.1 i
 
-changed_one : (apex : Labels) (rows : RecordSet) (before : List ZoneState) (zone : ZoneState) (behind : List ZoneState) → list_all (λ z. not (same_name z.apex apex)) before ≡ true → same_name zone.apex apex ≡ true → list_all (λ z. not (same_name z.apex apex)) behind ≡ true
+changed_one : (apex : Labels) (rows : RecordSet) (before : List ZoneState) (zone : ZoneState) (behind : List ZoneState) → AllByRecursion (λ z. same_name z.apex apex ≡ false) before → same_name zone.apex apex ≡ true → AllByRecursion (λ z. same_name z.apex apex ≡ false) behind
     → map (λ (z : ZoneState). cond (same_name z.apex apex) (record z { rows = rows }) z) (before ++ zone ∷ behind) ≡ before ++ record zone { rows = rows } ∷ behind
 changed_one apex rows [] zone behind none is rest = λ i. cond (is i) (record zone { rows = rows }) zone ∷ kept_others apex rows behind rest i
-changed_one apex rows (z ∷ before) zone behind none is rest = λ i. cond (not-true (same_name z.apex apex) (and-left _ _ none) i) (record z { rows = rows }) z ∷ changed_one apex rows before zone behind (and-right _ _ none) is rest i
+changed_one apex rows (z ∷ before) zone behind none is rest = λ i. cond (none.0 i) (record z { rows = rows }) z ∷ changed_one apex rows before zone behind none.1 is rest i
 
 pub with_rows-placed : (state : State) (i : ℕ) (at : Placed state.zones i) (rows : RecordSet) → with_rows state at.zone.apex rows ≡ with_zone state at.before (record at.zone { rows = rows }) at.behind
 with_rows-placed state i at rows =
@@ -40,57 +68,25 @@ with_rows-placed state i at rows =
 
 -- ---- what is shown otherwise
 
--- the keys that lie in a zone
-abbrev pub lies_in : List Labels → Labels → Key → Bool
-lies_in homes apex key = is_inside homes apex key.owner
-
-none_outside : (homes : List Labels) (apex : Labels) (rows : RecordSet) → list_all (λ e. is_inside homes apex e.0.owner) rows ≡ true → only (fails (lies_in homes apex)) rows ≡ []
-none_outside homes apex [] h = refl
-none_outside homes apex (e ∷ rows) h =
-    let first : is_inside homes apex e.0.owner ≡ true = and-left (is_inside homes apex e.0.owner) (list_all (λ x. is_inside homes apex x.0.owner) rows) h in
-    let rest = only (fails (lies_in homes apex)) rows in
-    ap (λ b. cond (not b) (e ∷ rest) rest) first ∙ none_outside homes apex rows (and-right (is_inside homes apex e.0.owner) (list_all (λ x. is_inside homes apex x.0.owner) rows) h)
-
-all_inside : (homes : List Labels) (zone : ZoneState) → IsAtHome homes zone → only (lies_in homes zone.apex) zone.rows ≡ zone.rows
-all_inside homes zone at = all_pass (λ e. is_inside homes zone.apex e.0.owner) zone.rows at.inside
-
 pub changes-placed : (state : State) (home : AreAtHome state) (i : ℕ) (at : Placed state.zones i) (rows : RecordSet) → IsAtHome (home_names state) (record at.zone { rows = rows })
     → changes (records state) (records (with_zone state at.before (record at.zone { rows = rows }) at.behind)) ≡ changes at.zone.rows rows
 changes-placed state home i at rows new =
-    (λ j. changes (before_is j) (after_is j))
-    ∙ changes-one inside (rows_of at.before) at.zone.rows rows (rows_of at.behind) (others at.before each.0 at.first) (others at.behind each.2 at.last)
-    (none_outside (home_names state) at.zone.apex at.zone.rows each.1.inside ∙ sym (none_outside (home_names state) at.zone.apex rows new.inside))
-    (in_order-only inside at.zone.rows (set-in_order at.zone.rows each.1.set)) (in_order-only inside rows (set-in_order rows new.set))
-    ∙ (λ j. changes (all_inside (home_names state) at.zone each.1 j) (all_inside (home_names state) (record at.zone { rows = rows }) new j))
+    (λ j. changes (records-sets state j) (later j))
+    ∙ changes-stands (home_names state) (home_sets state) (zone_set at.zone)
+    (stands (home_sets state) (zone_sets at.before) (zone_set at.zone) (zone_sets at.behind ++ link_sets state.links) (zone-parts state.zones at.before at.zone at.behind state.links at.parts) (sets-apart state home))
+    (sets-at_home state home) rows (record { set = new.set; inside = new.inside })
   where
-    inside : Key → Bool
-    inside = lies_in (home_names state) at.zone.apex
+    changed : ZoneState
+    changed = record at.zone { rows = rows }
 
-    each : AllByRecursion (IsAtHome (home_names state)) at.before × IsAtHome (home_names state) at.zone × AllByRecursion (IsAtHome (home_names state)) at.behind
-    each = homes-placed (home_names state) state.zones i at home.zones
-
-    other : (apex : Labels) → not (same_name apex at.zone.apex) ≡ true → Elsewhere (home_names state) inside apex
-    other apex apart key is = inside-one (home_names state) at.zone.apex apex key.owner (same_name-turned at.zone.apex apex ∙ not-true (same_name apex at.zone.apex) apart) is
-
-    others : (zs : List ZoneState) → AllByRecursion (IsAtHome (home_names state)) zs → list_all (λ z. not (same_name z.apex at.zone.apex)) zs ≡ true → Clear inside (rows_of zs)
-    others zs h apart = clear-zones (home_names state) inside (λ apex. not (same_name apex at.zone.apex)) other zs h apart
-
-    before_is : records state ≡ united [] (rows_of at.before ++ at.zone.rows ∷ rows_of at.behind)
-    before_is = records-zones state home.links ∙ united-placed state.zones i at
-
-    after_is : records (with_zone state at.before (record at.zone { rows = rows }) at.behind) ≡ united [] (rows_of at.before ++ rows ∷ rows_of at.behind)
-    after_is = records-zones (with_zone state at.before (record at.zone { rows = rows }) at.behind) home.links ∙ ap (united []) (rows_of-append at.before (record at.zone { rows = rows } ∷ at.behind))
+    later : records (with_zone state at.before changed at.behind) ≡ united [] (shown_sets (zone_sets at.before ++ zone_set changed ∷ (zone_sets at.behind ++ link_sets state.links)))
+    later =
+        records-sets (with_zone state at.before changed at.behind)
+        ∙ ap (λ (ss : List HomeSet). united [] (shown_sets ss)) (zone-parts (at.before ++ changed ∷ at.behind) at.before changed at.behind state.links refl)
 
 -- ---- zones stay at home
 
-abbrev pub apexes : List ZoneState → List Labels
-apexes zones = map (λ z. z.apex) zones
-
-all-joined : {X : Type 0} (P : X → Type 0) (before : List X) (x : X) (behind : List X) → AllByRecursion P before → P x → AllByRecursion P behind → AllByRecursion P (before ++ x ∷ behind)
-all-joined P [] x behind a b c = (b, c)
-all-joined P (y ∷ before) x behind a b c = (a.0, all-joined P before x behind a.1 b c)
-
-same_apexes : (before : List ZoneState) (zone : ZoneState) (rows : RecordSet) (behind : List ZoneState) → apexes (before ++ record zone { rows = rows } ∷ behind) ≡ apexes (before ++ zone ∷ behind)
+same_apexes : (before : List ZoneState) (zone : ZoneState) (rows : RecordSet) (behind : List ZoneState) → map (λ (z : ZoneState). z.apex) (before ++ record zone { rows = rows } ∷ behind) ≡ map (λ (z : ZoneState). z.apex) (before ++ zone ∷ behind)
 same_apexes [] zone rows behind = refl
 same_apexes (z ∷ before) zone rows behind = ap (λ l. z.apex ∷ l) (same_apexes before zone rows behind)
 
@@ -100,11 +96,18 @@ same_named (z ∷ before) zone rows behind = ap (λ l. (z.apex, false) ∷ l) (s
 
 pub home-placed : (state : State) (home : AreAtHome state) (i : ℕ) (at : Placed state.zones i) (rows : RecordSet) → IsAtHome (home_names state) (record at.zone { rows = rows })
     → AreAtHome (with_zone state at.before (record at.zone { rows = rows }) at.behind)
-home-placed state home i at rows new =
-    let each = homes-placed (home_names state) state.zones i at home.zones in
-    let names : home_names state ≡ home_names (with_zone state at.before (record at.zone { rows = rows }) at.behind) = ap (λ a. a ++ map (λ l. l.domain) state.links) (ap apexes at.parts ∙ sym (same_apexes at.before at.zone rows at.behind)) in
-    record {
-      links = home.links;
-      together = subst (λ n. n ≡ true) (ap may_stand_together (ap named_zones at.parts ∙ sym (same_named at.before at.zone rows at.behind))) home.together;
-      zones = subst (λ n. AllByRecursion (IsAtHome n) (at.before ++ record at.zone { rows = rows } ∷ at.behind)) names (all-joined (IsAtHome (home_names state)) at.before (record at.zone { rows = rows }) at.behind each.0 new each.2);
-    }
+home-placed state home i at rows new = record {
+  apart = subst StandApart (ap (λ (l : List NamedHome). l ++ named_links state.links) named) home.apart;
+  zones = subst (λ (hs : List Labels). AllByRecursion (IsAtHome hs) (at.before ++ record at.zone { rows = rows } ∷ at.behind)) names
+      (all-both (IsAtHome (home_names state)) at.before (record at.zone { rows = rows } ∷ at.behind) each.0 (new, each.1.1));
+  links = home.links;
+}
+  where
+    named : named_zones state.zones ≡ named_zones (at.before ++ record at.zone { rows = rows } ∷ at.behind)
+    named = ap named_zones at.parts ∙ sym (same_named at.before at.zone rows at.behind)
+
+    names : home_names state ≡ home_names (with_zone state at.before (record at.zone { rows = rows }) at.behind)
+    names = ap (λ (a : List Labels). a ++ map (λ (l : LinkState). l.domain) state.links) (ap (λ (zs : List ZoneState). map (λ (z : ZoneState). z.apex) zs) at.parts ∙ sym (same_apexes at.before at.zone rows at.behind))
+
+    each : AllByRecursion (IsAtHome (home_names state)) at.before × AllByRecursion (IsAtHome (home_names state)) (at.zone ∷ at.behind)
+    each = all-apart (IsAtHome (home_names state)) at.before (at.zone ∷ at.behind) (subst (AllByRecursion (IsAtHome (home_names state))) at.parts home.zones)

@@ -5,7 +5,7 @@ use Rattle.std.specs.Prelude.{ℕ, Bool, not, ◌&&◌, ◌||◌, List, [], ◌�
 use Rattle.push_base.specs.Limits.{max_home_octets}
 use Rattle.dnsname.specs.Names.{Labels, octets, same_name, ends_in}
 use Rattle.linkmap.specs.Translation.{local}
-use Rattle.history.specs.declared.homes.TheConstants as declared_homes
+use Rattle.history.specs.declared.naming.TheConstants as declared_names
 use Rattle.history.specs.declared.entry.HomeFault.{HomeFault}
 use Rattle.history.specs.declared.entry.HomeFault.TheVariants.{Many, Long, Local, Clash}
 
@@ -19,7 +19,7 @@ clashes new old = same_name new.0 old.0 || (old.1 && ends_in new.0 old.0) || (ne
 
 -- the most zones, and the most links (this project's own)
 abbrev pub max_zones : ℕ
-max_zones = declared_homes.MAX_ZONES
+max_zones = declared_names.MAX_ZONES
 
 -- why a home is not added to others
 abbrev pub home_fault : List NamedHome → NamedHome → Option HomeFault

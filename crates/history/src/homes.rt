@@ -1,120 +1,129 @@
-//! The homes of names (RFC 1034, 4.2).
+//! The homes of names (RFC 1034, 4.2; RFC 8766, 5.5).
 
-ghost use Rattle.std.specs.Prelude.{◌≡◌, ◌≤◌, ℕ, [], ◌∷◌, ◌++◌, false, map, fold, position, Some, None, MatchOption, OnOk, OnErr, IfOk, IsTrue, slice_get};
-ghost use Rattle.std.specs.List.{AllByRecursion};
-ghost use Rattle.dnsname.specs.Names.{is_name, same_name};
-ghost use Rattle.push_base.specs.Limits.{max_octets_at_name};
-ghost use Rattle.rrset.specs.RecordSet.{at_name, size_of, union};
-ghost use Rattle.dnswire.specs.declared.message.Update.{Update as UpdateRecord};
-ghost use Rattle.history.specs.Standing.{IsHomeAt, AreAtHome, at_moment, Checks, HasRoomAt, CanApply, rows_of_kept};
-ghost use Rattle.history.specs.declared.entry.Entry.TheVariants as entries;
+ghost use Rattle.std.specs.Prelude.{◌≡◌, ◌≤◌, ◌++◌, ◌∷◌, ℕ, [], not, map, None, Some, true, false, IfOk, IfSome, MatchOption, OnErr, OnOk, IsTrue, slice_get, option_map, option_and_then};
+ghost use Rattle.std.specs.List.{AllByRecursion, AllZip};
+ghost use Rattle.push_base.specs.Cases.{is_empty};
+ghost use Rattle.push_base.specs.Limits.{max_moment};
+ghost use Rattle.dnsname.specs.Names.{is_name};
+ghost use Rattle.rrset.specs.RecordSet.{matching};
+ghost use Rattle.rrset.specs.Records.{key_of, rr_of};
+ghost use Rattle.linkmap.specs.Translation.{heard_as};
+ghost use Rattle.linkcache.specs.Rows.{has_key, heard, reconfirmed, usable_of};
 ghost use Rattle.history.specs.Homes.{home_fault};
-ghost use Rattle.history.specs.States.{home_of, after, records};
-ghost use Rattle.history.specs.Keeping.{state_of, named_homes, held_for, GivesFault};
+ghost use Rattle.history.specs.States.{home_of, records, reconfirm_key};
+ghost use Rattle.history.specs.Kept.{GivesFault, at_moment, state_of, states_at};
+ghost use Rattle.history.specs.AtHome.{AreAtHome, homes_in};
+ghost use Rattle.history.specs.LinkSteps.{EndsBy, StepsTo};
+ghost use Rattle.history.specs.HeldPlans.{Checks, IsCheckReady, IsLinkReady, IsPlanIn, IsReady, led_to};
 
 use crate::entry::{Home, HomeFault};
-use crate::updating::{Checked, apply_zones, check_zones};
+use crate::link_lists::{
+    apply_link, apply_links, copies_of_links, hear, link_matching, longest_link, moments,
+    put_all_shown, reconfirm, tell_links,
+};
+use crate::naming::{NamedHome, copies_of, fault_of, put_behind};
+use crate::planning::HeldPlan;
+use crate::updating::{Checked, check_zones};
+use crate::zone_lists::{
+    apply_zone, copies_of_zones, longest_zone, put_all_rows, tell_zones, zone_matching,
+};
 use dnsname::Name;
 use dnswire::Update;
-use push_base::limits::MAX_HOME_OCTETS;
-use rrset::{Key, NoMemory, Shown, Table, put_all};
+use linkcache::{Cache, HearPlan};
+use linkmap::back;
+use rrset::{HeardRr, Key, NoMemory, Question, Rr, Rrs, Shown, Table};
 use std::alloc::Global;
 use std::marker::Model;
-use zoneupdate::{Zone, ZonePlan};
+use zoneupdate::Zone;
 
-/// Zones, of which no two have one name, in the order in which they were added.
+/// Zones and links that stand apart, each in the order in which they were added, and the names of all in that order.
 #[derive(Debug, Drop)]
 pub struct Homes {
     pub(crate) zones: Vec<Zone>,
+    pub(crate) links: Vec<Cache>,
+    pub(crate) names: Vec<NamedHome>,
 }
 
 impl Model for Homes {
-    ghost use Rattle.std.specs.Prelude.{IsTrue};
-    ghost use Rattle.history.specs.Plans.{may_stand_together};
-    ghost use Rattle.history.specs.Keeping.{HomesKept, named_homes};
+    ghost use Rattle.history.specs.Kept.{HomesKept};
+    ghost use Rattle.history.specs.HeldPlans.{AreKept};
 
     ghost Value = { HomesKept };
 
-    ghost view = { λ h. h.zones.items };
+    ghost view = { λ h. record { zones = h.zones.items; links = h.links.items; names = h.names.items } };
 
-    ghost invariant = { λ h. IsTrue (may_stand_together (named_homes h.zones.items)) };
+    ghost invariant = { λ h. AreKept (record { zones = h.zones.items; links = h.links.items; names = h.names.items }) };
 }
 
-/// The most zones, and the most links.
-const MAX_ZONES: usize = 16;
-
-/// The first of some zones that has a name.
-pub(crate) fn position_of(zones: &[Zone], name: &Name) -> Option<usize>
-    ensures { result ≡ position (λ z. same_name z.state.apex name.now) zones.now }
-{
-    zones.iter().position(|zone| zone.apex().same(name))
-}
-
-/// The first zone with the longest name that a name ends in.
-fn longest_home(zones: &[Zone], name: &Name) -> Option<usize>
-    ensures { IsHomeAt (map (λ z. z.state.apex) zones.now) name.now result }
-{
-    let mut best = None;
-    let mut most = 0;
-    'zones: for (index, zone) in zones.iter().enumerate() {
-        let octets = zone.apex().octets().len();
-        if octets > most && name.ends_in(zone.apex()) {
-            best = Some(index);
-            most = octets;
-        }
-    }
-    best
-}
-
-/// The records of a name in one of some zones, in key order. There are none where there is no such zone.
-fn zone_at<'a>(zones: &'a [Zone], index: usize, name: &Name) -> &'a [(Key, Shown)]
-    ensures records { result.now ≡ at_name name.now (rows_of_kept (slice_get zones.now index)) }
-    ensures size { size_of result.now ≤ max_octets_at_name }
-{
-    match zones.get(index) {
-        Some(zone) => zone.rows().at(name),
-        None => &[],
-    }
-}
-
-/// Tells that the names of zones are names (RFC 1035, 3.1).
-fn tell_names(zones: &[Zone])
-    ensures { AllByRecursion (λ z. IsTrue (is_name z.state.apex)) zones.now }
-{
-    'zones: for zone in zones {
-        let _ = zone.apex().octets();
-    }
-}
-
-/// The records of all of some zones.
-fn united(alloc: Global, zones: &[Zone]) -> Result<Table, NoMemory>
-    ensures { IfOk result (λ all. all.rows ≡ fold union [] (map (λ z. z.state.rows) zones.now)) }
+/// All records of zones and links, in a table of their own.
+fn united(alloc: Global, zones: &[Zone], links: &[Cache]) -> Result<Table, NoMemory>
+    ensures { IfOk result (λ all. (t : ℕ) → all.rows ≡ records (states_at zones.now links.now t)) }
 {
     let mut all = Table::new(alloc);
-    'zones: for zone in zones {
-        put_all(&mut all, zone.rows().entries())?;
-    }
+    put_all_rows(&mut all, zones)?;
+    put_all_shown(alloc, &mut all, links)?;
     Ok(all)
 }
 
-/// The same zones.
-fn copies(alloc: Global, zones: &[Zone]) -> Result<Vec<Zone>, NoMemory>
-    ensures { IfOk result (λ copy. map (λ z. z.state) copy.items ≡ map (λ z. z.state) zones.now) }
+/// Makes the changes of a plan, which was made of these zones and links at a moment, and gives the moment afterwards. It
+/// takes no memory.
+fn apply_plan(zones: &mut [Zone], links: &mut [Cache], moment: u64, plan: HeldPlan) -> u64
+    requires { IsReady (record { zones = zones.old; links = links.old; names = [] }) plan }
+    ensures { states_at zones.new links.new result ≡ led_to (states_at zones.old links.old moment) plan }
 {
-    let mut copy = Vec::new(alloc);
-    'zones: for zone in zones {
-        copy.push(zone.copy()?)?;
+    match plan {
+        HeldPlan::Zone(index, plan) => {
+            apply_zone(zones, index, plan);
+            moment
+        }
+        HeldPlan::Link(index, plan) => {
+            apply_link(links, index, plan);
+            moment
+        }
+        HeldPlan::Moment(later, plans) => {
+            apply_links(links, plans);
+            later
+        }
     }
-    Ok(copy)
+}
+
+/// The key of the record that a link would have heard to show a record.
+fn heard_key(alloc: Global, domain: &Name, rr: &Rr) -> Result<Option<Key>, NoMemory>
+    ensures { IfOk result (λ key. key ≡ option_map key_of (heard_as domain.now rr.now)) }
+{
+    match back(alloc, domain, rr)? {
+        Some(heard) => Ok(Some(heard.key()?)),
+        None => Ok(None),
+    }
+}
+
+/// The key of the record that one of some links would have heard to show a record, with the link.
+fn heard_key_at(
+    alloc: Global,
+    links: &[Cache],
+    index: usize,
+    rr: &Rr,
+) -> Result<Option<(usize, Key)>, NoMemory>
+    ensures { IfOk result (λ found. found ≡ option_and_then (λ l. option_map (λ r. (index, key_of r)) (heard_as l.state.domain rr.now)) (slice_get links.now index)) }
+{
+    let Some(link) = links.get(index) else {
+        return Ok(None);
+    };
+    match heard_key(alloc, link.domain(), rr)? {
+        Some(key) => Ok(Some((index, key))),
+        None => Ok(None),
+    }
 }
 
 impl Homes {
     /// No homes.
     pub fn new(alloc: Global) -> Self
-        ensures { result ≡ [] }
+        ensures { result ≡ record { zones = []; links = []; names = [] } }
     {
         Homes {
             zones: Vec::new(alloc),
+            links: Vec::new(alloc),
+            names: Vec::new(alloc),
         }
     }
 
@@ -123,97 +132,196 @@ impl Homes {
         *self.zones.allocator()
     }
 
-    /// Adds a zone behind the others. `Many`: there are 16. `Long`: its name has more than 200 octets. `Clash(i)`: home
-    /// i, counted from 0, has the same name. These are tested before any memory is taken, so that they come always.
+    /// Adds a zone behind the others. `Many`: there are 16 zones. `Long`: its name has more than 200 octets. `Clash(i)`:
+    /// home i, counted from 0 in the order of adding, has the same name, or is a link under which the zone lies. These are
+    /// tested in this order, before any memory is taken, so that they come always.
     pub fn add_zone(&mut self, zone: Zone) -> Result<(), HomeFault>
-        ensures fault { GivesFault result (home_fault (named_homes self.old) (zone.state.apex, false)) }
-        ensures ok { OnOk result (self.new ≡ self.old ++ zone ∷ []) }
+        ensures fault { GivesFault result (home_fault self.old.names (zone.state.apex, false)) }
+        ensures ok { OnOk result (self.new ≡ record self.old { zones = self.old.zones ++ zone ∷ []; names = self.old.names ++ (zone.state.apex, false) ∷ [] }) }
         ensures none { OnErr result (self.new ≡ self.old) }
     {
-        if self.zones.len() >= MAX_ZONES {
-            return Err(HomeFault::Many);
+        if let Some(fault) = fault_of(&self.names, self.zones.len(), zone.apex(), false) {
+            return Err(fault);
         }
-        if zone.apex().octets().len() > MAX_HOME_OCTETS {
-            return Err(HomeFault::Long);
-        }
-        if let Some(index) = position_of(&self.zones, zone.apex()) {
-            return Err(HomeFault::Clash(index));
-        }
-        self.zones.push(zone)?;
+        self.zones.reserve(1)?;
+        put_behind(&mut self.names, zone.apex(), false)?;
+        self.zones.push_reserved(zone);
         Ok(())
     }
 
-    /// Tells that the names of the zones are names (RFC 1035, 3.1).
-    pub fn tell_names(&self)
-        ensures { AllByRecursion (λ z. IsTrue (is_name z.state.apex)) self.now }
+    /// Adds a link, which has heard nothing, behind the others, to be shown under this domain (RFC 8766, 5.5). `Many`:
+    /// there are 16 links. `Long`: the domain has more than 200 octets. `Local`: it ends in `local.`. `Clash(i)`: home i,
+    /// counted from 0 in the order of adding, has the same name, lies under the domain, or is a link under which the domain
+    /// lies. These are tested in this order, before any memory is taken, so that they come always.
+    pub fn add_link(&mut self, domain: Name) -> Result<(), HomeFault>
+        ensures fault { GivesFault result (home_fault self.old.names (domain, true)) }
+        ensures ok { OnOk result (state_of self.new ≡ record (state_of self.old) { links = (state_of self.old).links ++ (record { domain = domain; rows = [] }) ∷ [] }) }
+        ensures names { OnOk result (self.new.names ≡ self.old.names ++ (domain, true) ∷ []) }
+        ensures none { OnErr result (self.new ≡ self.old) }
     {
-        tell_names(&self.zones)
+        if let Some(fault) = fault_of(&self.names, self.links.len(), &domain, true) {
+            return Err(fault);
+        }
+        let alloc = self.allocator();
+        self.links.reserve(1)?;
+        put_behind(&mut self.names, &domain, true)?;
+        self.links.push_reserved(Cache::new(alloc, domain));
+        Ok(())
     }
 
-    /// The home of a name: the one with the longest name that it ends in.
+    /// Tells that the names of the homes are names (RFC 1035, 3.1).
+    pub fn tell_names(&self)
+        ensures { AllByRecursion (λ h. IsTrue (is_name h.0)) (homes_in (state_of self.now)) }
+    {
+        tell_zones(&self.zones);
+        tell_links(&self.links);
+    }
+
+    /// The home of a name: the one with the longest name that it ends in. It takes no memory.
     pub fn home(&self, name: &Name) -> Option<Home>
         ensures { result ≡ home_of (state_of self.now) name.now }
     {
-        let index = longest_home(&self.zones, name)?;
-        Some(Home::Zone(index))
+        let (zone, octets) = longest_zone(&self.zones, name);
+        match longest_link(&self.links, name, octets) {
+            Some(index) => Some(Home::Link(index)),
+            None => Some(Home::Zone(zone?)),
+        }
     }
 
     /// A zone, counted from 0.
     pub fn zone(&self, index: usize) -> Option<&Zone>
-        ensures { MatchOption result (slice_get self.now index ≡ None) (λ zone. slice_get self.now index ≡ Some zone.now) }
+        ensures { MatchOption result (slice_get self.now.zones index ≡ None) (λ zone. slice_get self.now.zones index ≡ Some zone.now) }
     {
         self.zones.get(index)
     }
 
+    /// A link, counted from 0.
+    pub fn cache(&self, link: usize) -> Option<&Cache>
+        ensures { MatchOption result (slice_get self.now.links link ≡ None) (λ cache. slice_get self.now.links link ≡ Some cache.now) }
+    {
+        self.links.get(link)
+    }
+
     /// The same homes.
     pub fn copy(&self) -> Result<Homes, NoMemory>
-        ensures { IfOk result (λ homes. state_of homes ≡ state_of self.now) }
+        ensures state { IfOk result (λ homes. state_of homes ≡ state_of self.now) }
+        ensures names { IfOk result (λ homes. homes.names ≡ self.now.names) }
     {
-        let zones = copies(*self.zones.allocator(), &self.zones)?;
-        Ok(Homes { zones })
+        let alloc = self.allocator();
+        let zones = copies_of_zones(alloc, &self.zones)?;
+        let links = copies_of_links(alloc, &self.links)?;
+        let names = copies_of(alloc, &self.names)?;
+        Ok(Homes {
+            zones,
+            links,
+            names,
+        })
+    }
+
+    /// The link that is the home of a record's owner, and the key of what it would have heard to show the record.
+    pub(crate) fn reconfirm_key(
+        &self,
+        alloc: Global,
+        rr: &Rr,
+    ) -> Result<Option<(usize, Key)>, NoMemory>
+        ensures { IfOk result (λ found. (t : ℕ) → found ≡ reconfirm_key (at_moment self.now t) rr.now) }
+    {
+        match self.home(&rr.owner) {
+            Some(Home::Link(index)) => heard_key_at(alloc, &self.links, index, rr),
+            Some(Home::Zone(_)) => Ok(None),
+            None => Ok(None),
+        }
     }
 
     /// What an update gets. The records stay, and room is made for the plan.
     pub(crate) fn check(&mut self, alloc: Global, update: &Update) -> Result<Checked, NoMemory>
         ensures checked { IfOk result (λ checked. (t : ℕ) → AreAtHome (at_moment self.old t) → Checks (at_moment self.old t) update.now checked) }
         ensures state { state_of self.new ≡ state_of self.old }
-        ensures room { IfOk result (λ checked. HasRoomAt self.new checked) }
+        ensures names { self.new.names ≡ self.old.names }
+        ensures room { IfOk result (IsCheckReady self.new.zones) }
     {
-        check_zones(alloc, &mut self.zones, update)
+        check_zones(alloc, &mut self.zones, &self.links, update)
     }
 
-    /// Makes the changes of a plan, which `check` made of these records. It takes no memory.
-    pub(crate) fn apply(&mut self, index: usize, plan: ZonePlan)
-        requires { CanApply self.old index plan }
-        ensures { (t : ℕ) (update : UpdateRecord) → AreAtHome (at_moment self.old t) → held_for (at_moment self.old t) (entries.Update update) ≡ Some (record { zone = Some index; changed = plan })
-            → (at_moment self.new t ≡ after (at_moment self.old t) (entries.Update update)) × AreAtHome (at_moment self.new t) }
+    /// What a hearing will change in a link; nothing where there is no such link, or no record is usable. The rows stay,
+    /// and room is made for the plan.
+    pub(crate) fn hear(
+        &mut self,
+        alloc: Global,
+        moment: u64,
+        link: usize,
+        hearing: &[HeardRr],
+    ) -> Result<Option<HearPlan>, NoMemory>
+        requires { moment ≤ max_moment }
+        ensures plan { IfOk result (λ plan. StepsTo (λ l. not (is_empty (usable_of l.domain hearing.now))) (λ l. heard l.domain l.rows moment hearing.now) (slice_get (state_of self.old).links link) plan) }
+        ensures state { state_of self.new ≡ state_of self.old }
+        ensures names { self.new.names ≡ self.old.names }
+        ensures room { IfOk result (λ plan. IfSome plan (IsLinkReady (slice_get self.new.links link))) }
     {
-        apply_zones(&mut self.zones, index, plan)
+        hear(alloc, &mut self.links, link, moment, hearing)
     }
 
-    /// The records of a name in its home, in key order. They have at most 60,000 octets.
-    pub(crate) fn at(&self, name: &Name) -> &[(Key, Shown)]
-        ensures records { (t : ℕ) → AreAtHome (at_moment self.now t) → result.now ≡ at_name name.now (records (at_moment self.now t)) }
-        ensures size { size_of result.now ≤ max_octets_at_name }
+    /// What a reconfirmation of a key will change in a link; nothing where there is no such link, or no row of the key. The
+    /// rows stay, and room is made for the plan.
+    pub(crate) fn reconfirm(
+        &mut self,
+        alloc: Global,
+        moment: u64,
+        link: usize,
+        key: &Key,
+    ) -> Result<Option<HearPlan>, NoMemory>
+        requires { moment ≤ max_moment }
+        ensures plan { IfOk result (λ plan. StepsTo (λ l. has_key key.now l.rows) (λ l. reconfirmed l.rows key.now moment) (slice_get (state_of self.old).links link) plan) }
+        ensures state { state_of self.new ≡ state_of self.old }
+        ensures names { self.new.names ≡ self.old.names }
+        ensures room { IfOk result (λ plan. IfSome plan (IsLinkReady (slice_get self.new.links link))) }
     {
-        let Some(index) = longest_home(&self.zones, name) else {
-            return &[];
-        };
-        zone_at(&self.zones, index, name)
+        reconfirm(alloc, &mut self.links, link, moment, key)
+    }
+
+    /// What a moment will change in each link. The rows stay, and room is made for the plans.
+    pub(crate) fn moments(&mut self, alloc: Global, later: u64) -> Result<Vec<HearPlan>, NoMemory>
+        ensures plans { IfOk result (λ plans. AllZip (EndsBy later) (state_of self.old).links plans.items) }
+        ensures state { state_of self.new ≡ state_of self.old }
+        ensures names { self.new.names ≡ self.old.names }
+        ensures room { IfOk result (λ plans. AllZip IsPlanIn self.new.links plans.items) }
+    {
+        moments(alloc, &mut self.links, later)
+    }
+
+    /// Makes the changes of a plan, which was made of these homes at a moment, and gives the moment afterwards. It takes no
+    /// memory.
+    pub(crate) fn apply(&mut self, moment: u64, plan: HeldPlan) -> u64
+        requires { IsReady self.old plan }
+        ensures state { at_moment self.new result ≡ led_to (at_moment self.old moment) plan }
+        ensures names { self.new.names ≡ self.old.names }
+    {
+        apply_plan(&mut self.zones, &mut self.links, moment, plan)
+    }
+
+    /// The records that a question asks for, in key order. It looks at the home of the question's name.
+    pub(crate) fn matching(&self, alloc: Global, question: &Question) -> Result<Rrs, NoMemory>
+        ensures { IfOk result (λ rrs. (t : ℕ) → AreAtHome (at_moment self.now t) → rrs ≡ map (λ e. rr_of e.0 e.1) (matching question.now (records (at_moment self.now t)))) }
+    {
+        match self.home(&question.name) {
+            Some(Home::Zone(index)) => zone_matching(alloc, &self.zones, index, question),
+            Some(Home::Link(index)) => link_matching(alloc, &self.links, index, question),
+            None => Ok(Rrs::new(alloc)),
+        }
     }
 
     /// All records in a table of their own.
     pub(crate) fn table(&self, alloc: Global) -> Result<Table, NoMemory>
         ensures { IfOk result (λ table. (t : ℕ) → table.rows ≡ records (at_moment self.now t)) }
     {
-        united(alloc, &self.zones)
+        united(alloc, &self.zones, &self.links)
     }
 
     /// All records, in key order.
     pub(crate) fn all(&self, alloc: Global) -> Result<Vec<(Key, Shown)>, NoMemory>
         ensures { IfOk result (λ all. (t : ℕ) → all.items ≡ records (at_moment self.now t)) }
     {
-        let all = united(alloc, &self.zones)?;
+        let all = united(alloc, &self.zones, &self.links)?;
         Ok(all.into_entries())
     }
 }

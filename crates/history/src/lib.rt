@@ -4,12 +4,16 @@
 pub mod entry;
 mod homes;
 pub mod laws;
+mod link_lists;
+mod matching;
+mod naming;
 mod plan;
 mod planning;
 mod points;
 mod replaying;
 mod totals;
 mod updating;
+mod zone_lists;
 
 ghost use Rattle.std.specs.Prelude.{◌≡◌, [], ◌∷◌, true, false, codes, Some, None, Err, option_map};
 ghost use Rattle.std.specs.Result.{result_ok};

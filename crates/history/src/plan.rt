@@ -1,6 +1,6 @@
 //! What an entry will change.
 
-ghost use Rattle.std.specs.Prelude.{◌≡◌, [], IfOk};
+ghost use Rattle.std.specs.Prelude.{◌≡◌, IfOk};
 ghost use Rattle.history.specs.declared.plan.PastFault.TheVariants as faults;
 
 use rrset::{Changed, NoMemory, Shown};
@@ -32,31 +32,29 @@ fn copy_shown(shown: &Option<Shown>) -> Result<Option<Shown>, NoMemory>
     }
 }
 
+/// The same changed key.
+pub(crate) fn copy_change(change: &Changed) -> Result<Changed, NoMemory>
+    ensures { IfOk result (λ copy. copy ≡ change.now) }
+{
+    Ok(Changed {
+        key: change.key.copy()?,
+        before: copy_shown(&change.before)?,
+        after: copy_shown(&change.after)?,
+    })
+}
+
 /// The same changed keys.
 fn copy_changed(alloc: Global, changed: &[Changed]) -> Result<Vec<Changed>, NoMemory>
     ensures { IfOk result (λ copy. copy.items ≡ changed.now) }
 {
     let mut copy = Vec::new(alloc);
     'changed: for change in changed {
-        copy.push(Changed {
-            key: change.key.copy()?,
-            before: copy_shown(&change.before)?,
-            after: copy_shown(&change.after)?,
-        })?;
+        copy.push(copy_change(change)?)?;
     }
     Ok(copy)
 }
 
 impl ChangedKeys {
-    /// No keys.
-    pub(crate) fn new(alloc: Global) -> Self
-        ensures { result ≡ [] }
-    {
-        ChangedKeys {
-            items: Vec::new(alloc),
-        }
-    }
-
     /// The same keys.
     pub(crate) fn from_slice(alloc: Global, changed: &[Changed]) -> Result<Self, NoMemory>
         ensures { IfOk result (λ keys. keys ≡ changed.now) }

@@ -1,29 +1,38 @@
 //! What an entry will change, and the plan that is held for it.
 
-ghost use Rattle.std.specs.Prelude.{◌≡◌, ℕ, option_map, IfOk};
+ghost use Rattle.std.specs.Prelude.{◌≡◌, ◌≤◌, ◌<◌, [], map, flat_map, fold, option_map, IfOk, IfSome, OnOk};
+ghost use Rattle.std.specs.List.{AllByRecursion};
+ghost use Rattle.push_base.specs.Limits.{max_moment};
+ghost use Rattle.rrset.specs.Tables.{HasLowerOwner};
 ghost use Rattle.history.specs.Plans.{planned};
-ghost use Rattle.history.specs.States.{after};
-ghost use Rattle.history.specs.declared.entry.Entry.{Entry as EntryRecord};
 ghost use Rattle.history.specs.declared.entry.Entry.TheVariants as entries;
-ghost use Rattle.history.specs.Keeping.{state_of, held_for, told_plan};
-ghost use Rattle.history.specs.Standing.{AreAtHome, at_moment, held_kept, HasRoomHeld, moment_after, CanMake, IsHeldFor, IsStateOf};
+ghost use Rattle.history.specs.declared.planning.HeldPlan.TheVariants as plans;
+ghost use Rattle.history.specs.Kept.{at_moment, held_for, state_of, told_plan};
+ghost use Rattle.history.specs.AtHome.{AreAtHome};
+ghost use Rattle.history.specs.Laws.{gathered, with_change};
+ghost use Rattle.history.specs.LinkSteps.{told_of};
+ghost use Rattle.history.specs.HeldPlans.{IsReady, IsTimely, led_by, led_to};
 
 use crate::entry::Entry;
 use crate::homes::Homes;
-use crate::plan::{ChangedKeys, Planned};
+use crate::plan::{ChangedKeys, Planned, copy_change};
 use crate::updating::Checked;
 use dnswire::Update;
-use rrset::NoMemory;
+use linkcache::HearPlan;
+use rrset::{Changed, Hearing, Key, NoMemory, Table};
 use std::alloc::Global;
 use zoneupdate::ZonePlan;
 
-/// A plan that was accepted: the zone that an update changes, counted from 0, and its keys; or a later moment.
+/// A plan that was accepted: the home that it changes, counted from 0 among its kind, and how; or a later moment, and how
+/// each link changes then.
 #[derive(Debug, Drop)]
 pub(crate) enum HeldPlan {
     /// The zone, and its keys.
     Zone(usize, ZonePlan),
-    /// A later moment.
-    Moment,
+    /// The link, and its rows.
+    Link(usize, HearPlan),
+    /// A later moment, and the rows of each link.
+    Moment(u64, Vec<HearPlan>),
 }
 
 /// What becomes of an update, and the plan that is then held. The records stay, and room is made for the plan.
@@ -35,9 +44,10 @@ fn plan_of_update(
 ) -> Result<(Planned, Option<HeldPlan>), NoMemory>
     requires { AreAtHome (at_moment homes.old moment) }
     ensures planned { IfOk result (λ plan. plan.0 ≡ told_plan (planned (at_moment homes.old moment) (entries.Update update.now))) }
-    ensures held { IfOk result (λ plan. option_map held_kept plan.1 ≡ held_for (at_moment homes.old moment) (entries.Update update.now)) }
+    ensures held { IfOk result (λ plan. option_map (led_to (at_moment homes.old moment)) plan.1 ≡ held_for (at_moment homes.old moment) (entries.Update update.now)) }
     ensures state { state_of homes.new ≡ state_of homes.old }
-    ensures room { IfOk result (λ plan. HasRoomHeld homes.new (option_map held_kept plan.1)) }
+    ensures names { homes.new.names ≡ homes.old.names }
+    ensures room { IfOk result (λ plan. IfSome plan.1 (IsReady homes.new)) }
 {
     match homes.check(alloc, update)? {
         Checked::Refuse(code) => Ok((Planned::Refuse(code), None)),
@@ -48,6 +58,126 @@ fn plan_of_update(
     }
 }
 
+/// What is told and held of a plan of a link, if there is one.
+fn told_and_held(
+    alloc: Global,
+    link: usize,
+    plan: Option<HearPlan>,
+) -> Result<(Planned, Option<HeldPlan>), NoMemory>
+    ensures told { IfOk result (λ both. both.0 ≡ told_of plan) }
+    ensures held { IfOk result (λ both. both.1 ≡ option_map (λ p. plans.Link link p) plan) }
+{
+    match plan {
+        Some(plan) => {
+            let changed = ChangedKeys::from_slice(alloc, plan.changed())?;
+            Ok((Planned::Accept(changed), Some(HeldPlan::Link(link, plan))))
+        }
+        None => Ok((Planned::Idle, None)),
+    }
+}
+
+/// What becomes of a hearing of a link, and the plan that is then held. The rows stay, and room is made for the plan.
+fn plan_of_hearing(
+    alloc: Global,
+    homes: &mut Homes,
+    moment: u64,
+    link: usize,
+    hearing: &Hearing,
+) -> Result<(Planned, Option<HeldPlan>), NoMemory>
+    requires home { AreAtHome (at_moment homes.old moment) }
+    requires moment { moment ≤ max_moment }
+    ensures planned { IfOk result (λ plan. plan.0 ≡ told_plan (planned (at_moment homes.old moment) (entries.Heard link hearing.now))) }
+    ensures held { IfOk result (λ plan. option_map (led_to (at_moment homes.old moment)) plan.1 ≡ held_for (at_moment homes.old moment) (entries.Heard link hearing.now)) }
+    ensures state { state_of homes.new ≡ state_of homes.old }
+    ensures names { homes.new.names ≡ homes.old.names }
+    ensures room { IfOk result (λ plan. IfSome plan.1 (IsReady homes.new)) }
+{
+    let plan = homes.hear(alloc, moment, link, hearing.rrs.as_slice())?;
+    told_and_held(alloc, link, plan)
+}
+
+/// What becomes of a reconfirmation of a link's key, and the plan that is then held. The rows stay, and room is made for
+/// the plan.
+fn plan_of_reconfirmation(
+    alloc: Global,
+    homes: &mut Homes,
+    moment: u64,
+    link: usize,
+    key: &Key,
+) -> Result<(Planned, Option<HeldPlan>), NoMemory>
+    requires home { AreAtHome (at_moment homes.old moment) }
+    requires moment { moment ≤ max_moment }
+    ensures planned { IfOk result (λ plan. plan.0 ≡ told_plan (planned (at_moment homes.old moment) (entries.Reconfirm link key.now))) }
+    ensures held { IfOk result (λ plan. option_map (led_to (at_moment homes.old moment)) plan.1 ≡ held_for (at_moment homes.old moment) (entries.Reconfirm link key.now)) }
+    ensures state { state_of homes.new ≡ state_of homes.old }
+    ensures names { homes.new.names ≡ homes.old.names }
+    ensures room { IfOk result (λ plan. IfSome plan.1 (IsReady homes.new)) }
+{
+    let plan = homes.reconfirm(alloc, moment, link, key)?;
+    told_and_held(alloc, link, plan)
+}
+
+/// Puts changed keys into a table.
+fn put_changes(table: &mut Table<Changed>, changed: &[Changed]) -> Result<(), NoMemory>
+    requires { AllByRecursion (λ c. HasLowerOwner c.key) changed.now }
+    ensures { OnOk result (table.new.rows ≡ fold with_change table.old.rows changed.now) }
+{
+    'changed: for change in changed {
+        table.put(change.key.copy()?, copy_change(change)?)?;
+    }
+    Ok(())
+}
+
+/// The values of rows, in their order.
+fn values_of(alloc: Global, rows: Vec<(Key, Changed)>) -> Result<Vec<Changed>, NoMemory>
+    ensures { IfOk result (λ values. values.items ≡ map (λ e. e.1) rows.items) }
+{
+    let mut values = Vec::new(alloc);
+    'rows: for (_, change) in rows {
+        values.push(change)?;
+    }
+    Ok(values)
+}
+
+/// The changed keys of all of some plans, in key order.
+fn gathered(alloc: Global, plans: &[HearPlan]) -> Result<ChangedKeys, NoMemory>
+    requires { AllByRecursion (λ p. AllByRecursion (λ c. HasLowerOwner c.key) p.changed) plans.now }
+    ensures { IfOk result (λ keys. keys ≡ gathered (map (λ p. p.changed) plans.now)) }
+{
+    let mut table = Table::new(alloc);
+    'plans: for plan in plans {
+        put_changes(&mut table, plan.changed())?;
+    }
+    let items = values_of(alloc, table.into_entries())?;
+    Ok(ChangedKeys { items })
+}
+
+/// What becomes of a moment, and the plan that is then held. The rows stay, and room is made for the plan.
+fn plan_of_moment(
+    alloc: Global,
+    homes: &mut Homes,
+    moment: u64,
+    later: u64,
+) -> Result<(Planned, Option<HeldPlan>), NoMemory>
+    requires home { AreAtHome (at_moment homes.old moment) }
+    requires timely { later ≤ max_moment }
+    ensures planned { IfOk result (λ plan. plan.0 ≡ told_plan (planned (at_moment homes.old moment) (entries.Moment later))) }
+    ensures held { IfOk result (λ plan. option_map (led_to (at_moment homes.old moment)) plan.1 ≡ held_for (at_moment homes.old moment) (entries.Moment later)) }
+    ensures state { state_of homes.new ≡ state_of homes.old }
+    ensures names { homes.new.names ≡ homes.old.names }
+    ensures room { IfOk result (λ plan. IfSome plan.1 (IsReady homes.new)) }
+{
+    if later <= moment {
+        return Ok((Planned::Idle, None));
+    }
+    let plans = homes.moments(alloc, later)?;
+    let changed = gathered(alloc, &plans)?;
+    Ok((
+        Planned::Accept(changed),
+        Some(HeldPlan::Moment(later, plans)),
+    ))
+}
+
 /// What becomes of an entry, and the plan that is then held. The records stay, and room is made for the plan.
 pub(crate) fn plan_of(
     alloc: Global,
@@ -55,44 +185,31 @@ pub(crate) fn plan_of(
     moment: u64,
     entry: &Entry,
 ) -> Result<(Planned, Option<HeldPlan>), NoMemory>
-    requires { AreAtHome (at_moment homes.old moment) }
+    requires home { AreAtHome (at_moment homes.old moment) }
+    requires moment { moment ≤ max_moment }
+    requires timely { IsTimely entry.now }
     ensures planned { IfOk result (λ plan. plan.0 ≡ told_plan (planned (at_moment homes.old moment) entry.now)) }
-    ensures held { IfOk result (λ plan. option_map held_kept plan.1 ≡ held_for (at_moment homes.old moment) entry.now) }
+    ensures held { IfOk result (λ plan. option_map (led_to (at_moment homes.old moment)) plan.1 ≡ held_for (at_moment homes.old moment) entry.now) }
     ensures state { state_of homes.new ≡ state_of homes.old }
-    ensures room { IfOk result (λ plan. HasRoomHeld homes.new (option_map held_kept plan.1)) }
+    ensures names { homes.new.names ≡ homes.old.names }
+    ensures room { IfOk result (λ plan. IfSome plan.1 (IsReady homes.new)) }
 {
     match entry {
         Entry::Update(update) => plan_of_update(alloc, homes, moment, update),
-        Entry::Moment(t) => {
-            if *t > moment {
-                let changed = ChangedKeys::new(alloc);
-                return Ok((Planned::Accept(changed), Some(HeldPlan::Moment)));
-            }
-            Ok((Planned::Idle, None))
-        }
-        Entry::Heard(_, _) => Ok((Planned::Idle, None)),
-        Entry::Reconfirm(_, _) => Ok((Planned::Idle, None)),
+        Entry::Heard(link, hearing) => plan_of_hearing(alloc, homes, moment, *link, hearing),
+        Entry::Moment(later) => plan_of_moment(alloc, homes, moment, *later),
+        Entry::Reconfirm(link, key) => plan_of_reconfirmation(alloc, homes, moment, *link, key),
     }
 }
 
-/// The moment after an entry that is made.
-pub(crate) fn moment_after(moment: u64, entry: &Entry) -> u64
-    ensures { result ≡ moment_after moment entry.now }
-{
-    match entry {
-        Entry::Moment(t) => *t,
-        _ => moment,
-    }
-}
-
-/// Makes what a plan that is held makes of homes. It takes no memory.
-pub(crate) fn make(homes: &mut Homes, held: Option<HeldPlan>)
-    requires { CanMake homes.old (option_map held_kept held) }
-    ensures { (t : ℕ) (entry : EntryRecord) → AreAtHome (at_moment homes.old t) → IsHeldFor (at_moment homes.old t) entry (option_map held_kept held) → IsStateOf homes.new (moment_after t entry) (after (at_moment homes.old t) entry) }
+/// Makes what a plan that is held makes of homes at a moment, and gives the moment afterwards. It takes no memory.
+pub(crate) fn make(homes: &mut Homes, moment: u64, held: Option<HeldPlan>) -> u64
+    requires { IfSome held (IsReady homes.old) }
+    ensures state { at_moment homes.new result ≡ led_by (at_moment homes.old moment) held }
+    ensures names { homes.new.names ≡ homes.old.names }
 {
     match held {
-        Some(HeldPlan::Zone(index, plan)) => homes.apply(index, plan),
-        Some(HeldPlan::Moment) => {}
-        None => {}
+        Some(plan) => homes.apply(moment, plan),
+        None => moment,
     }
 }

@@ -1,22 +1,21 @@
 //! One history of all homes.
 
 ghost use Rattle.std.specs.Prelude.{◌≡◌, ◌≤◌, [], ◌∷◌, ◌++◌, false, true, None, length, map, IfOk, OnOk, OnErr, IsErrOf};
-ghost use Rattle.push_base.specs.Limits.{max_octets_at_name};
 ghost use Rattle.rrset.specs.Records.{rr_of};
-ghost use Rattle.rrset.specs.RecordSet.{at_name, size_of, matching};
-ghost use Rattle.history.specs.States.{records_at, entry_size, journal_has_room};
+ghost use Rattle.rrset.specs.RecordSet.{matching};
+ghost use Rattle.history.specs.States.{records_at, reconfirm_key, entry_size, journal_has_room};
 ghost use Rattle.history.specs.Plans.{IsStart, planned};
 ghost use Rattle.history.specs.Totals.{totals};
-ghost use Rattle.history.specs.Standing.{AreAtHome};
-ghost use Rattle.history.specs.Keeping.{state_of, state_now, records_now, held_for, told_plan, IsHeld};
+ghost use Rattle.history.specs.AtHome.{AreAtHome};
+ghost use Rattle.history.specs.HeldPlans.{IsTimely};
+ghost use Rattle.history.specs.Kept.{state_of, state_now, records_now, held_for, told_plan, IsHeld};
 
 use crate::entry::{Entry, Totals};
 use crate::homes::Homes;
 use crate::plan::{PastFault, Planned};
-use crate::planning::{HeldPlan, make, moment_after, plan_of};
-use crate::replaying::{matching_rrs, replayed};
-use dnsname::Name;
-use rrset::{Key, NoMemory, Question, Rrs, Shown, Table};
+use crate::planning::{HeldPlan, make, plan_of};
+use crate::replaying::replayed;
+use rrset::{Key, NoMemory, Question, Rr, Rrs, Shown, Table};
 use std::alloc::Global;
 use std::marker::Model;
 
@@ -47,14 +46,14 @@ const MAX_OCTETS: u64 = 67_108_864;
 
 impl Model for Points {
     ghost use Rattle.std.specs.Prelude.{option_map};
-    ghost use Rattle.history.specs.Keeping.{PointsKept, state_of};
-    ghost use Rattle.history.specs.Standing.{held_kept, IsPresent};
+    ghost use Rattle.history.specs.Kept.{PointsKept, state_of, at_moment};
+    ghost use Rattle.history.specs.HeldPlans.{led_to, IsPresent};
 
     ghost Value = { PointsKept };
 
-    ghost view = { λ p. record { past = record { start = state_of p.past.start; history = p.past.entries.items }; held = option_map held_kept p.held } };
+    ghost view = { λ p. record { past = record { start = state_of p.past.start; history = p.past.entries.items }; held = option_map (led_to (at_moment p.homes p.moment)) p.held } };
 
-    ghost invariant = { λ p. IsPresent (record { start = state_of p.past.start; history = p.past.entries.items }) p.past.number p.homes p.moment p.octets p.counts (option_map held_kept p.held) };
+    ghost invariant = { λ p. IsPresent (record { start = state_of p.past.start; history = p.past.entries.items }) p.past.number p.homes p.moment p.octets p.counts p.held };
 }
 
 impl Points {
@@ -64,7 +63,8 @@ impl Points {
         ensures points { IfOk result (λ points. points ≡ record { past = record { start = state_of homes; history = [] }; held = None }) }
         ensures home { AreAtHome (state_of homes) }
     {
-        let alloc = *homes.zones.allocator();
+        homes.tell_names();
+        let alloc = homes.allocator();
         let past = Past {
             start: homes.copy()?,
             number: 0,
@@ -129,18 +129,20 @@ impl Points {
         self.homes.table(alloc)
     }
 
-    /// The records of a name at the newest point, in key order. They have at most 60,000 octets.
-    pub fn at(&self, name: &Name) -> &[(Key, Shown)]
-        ensures records { result.now ≡ at_name name.now (records_now self.now.past) }
-        ensures size { size_of result.now ≤ max_octets_at_name }
+    /// The link and the key that a reconfirmation of a record is about (RFC 8765, 6.5): the link that is the home of its
+    /// owner, and the key of what the link would have heard to show it. Nothing exactly where the home is no link, or no such
+    /// record could be heard.
+    pub fn reconfirm_key(&self, alloc: Global, rr: &Rr) -> Result<Option<(usize, Key)>, NoMemory>
+        ensures { IfOk result (λ found. found ≡ reconfirm_key (state_now self.now.past) rr.now) }
     {
-        self.homes.at(name)
+        self.homes.reconfirm_key(alloc, rr)
     }
 
     /// What becomes of an entry: the RCODE that refuses an update, or exactly the keys that will be shown otherwise. An
     /// accepted plan is held, with the room that it needs, until the entry was appended or the next call of `plan`, also
     /// where memory runs out in that.
     pub fn plan(&mut self, alloc: Global, entry: &Entry) -> Result<Planned, NoMemory>
+        requires { IsTimely entry.now }
         ensures planned { IfOk result (λ answer. answer ≡ told_plan (planned (state_now self.old.past) entry.now)) }
         ensures past { self.new.past ≡ self.old.past }
         ensures held { OnOk result (self.new.held ≡ held_for (state_now self.old.past) entry.now) }
@@ -164,13 +166,11 @@ impl Points {
         if !self.room(size) {
             return Err(PastFault::Full);
         }
-        let moment = moment_after(self.moment, &entry);
         let counts = self.counts.and_one(&entry);
         self.past.entries.push(entry)?;
         self.octets += size;
         self.counts = counts;
-        make(&mut self.homes, self.held.take());
-        self.moment = moment;
+        self.moment = make(&mut self.homes, self.moment, self.held.take());
         Ok(())
     }
 
@@ -193,6 +193,6 @@ impl Points {
     {
         let (entries, _) = self.past.entries.split_at(point as usize);
         let homes = replayed(alloc, &self.past.start, entries)?;
-        matching_rrs(alloc, homes.at(&question.name), question)
+        homes.matching(alloc, question)
     }
 }

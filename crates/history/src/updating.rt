@@ -1,19 +1,18 @@
 //! Updates of zones (RFC 2136, 3.1.1 and 3.1.2).
 
-ghost use Rattle.std.specs.Prelude.{◌≡◌, ◌<◌, ◌≤◌, ℕ, List, map, filter, position, Some, None, Ok, Err, slice_get, slice_set, length, IfOk, MatchResult};
+ghost use Rattle.std.specs.Prelude.{◌≡◌, ◌<◌, ◌++◌, ℕ, List, map, filter, Some, Ok, Err, slice_get, length, IfOk, OnOk, MatchResult};
 ghost use Rattle.dnsname.specs.Names.{Labels};
-ghost use Rattle.dnswire.specs.declared.message.Update.{Update as UpdateRecord};
 ghost use Rattle.zoneupdate.specs.Updates.{judged};
-ghost use Rattle.zoneupdate.specs.Keeping.{ZoneKept, lies_under, IsUnder, Judges, HasRoom, Leads, IsPlanOf};
-ghost use Rattle.rrset.specs.RecordSet.{RecordSet};
-ghost use Rattle.history.specs.States.{zone_asked, after};
-ghost use Rattle.history.specs.Keeping.{held_for};
-ghost use Rattle.history.specs.Standing.{AreAtHome, at_moment, Checks, HasSpare, HasRoomAt, CanApply};
-ghost use Rattle.history.specs.declared.entry.Entry.TheVariants as entries;
+ghost use Rattle.zoneupdate.specs.Keeping.{ZoneKept, lies_under, IsUnder, Judges, HasRoom};
+ghost use Rattle.history.specs.States.{zone_asked};
+ghost use Rattle.history.specs.Kept.{states_at};
+ghost use Rattle.history.specs.AtHome.{AreAtHome};
+ghost use Rattle.history.specs.HeldPlans.{Checks, IsCheckReady};
 
-use crate::homes::position_of;
+use crate::zone_lists::position_of;
 use dnsname::Name;
 use dnswire::Update;
+use linkcache::Cache;
 use rrset::classes::IN;
 use rrset::rcodes::{FORMERR, NOTAUTH};
 use rrset::{NoMemory, Question, kinds};
@@ -52,25 +51,51 @@ fn lies_under(apex: &Name, name: &Name) -> bool
     name.ends_in(apex) && !name.same(apex)
 }
 
-/// The names of the zones that lie under an apex.
-fn names_under(alloc: Global, zones: &[Zone], apex: &Name) -> Result<Vec<Name>, NoMemory>
-    ensures { IfOk result (λ names. names.items ≡ filter (lies_under apex.now) (map (λ z. z.state.apex) zones.now)) }
+/// Appends the names of the zones that lie under an apex.
+fn put_zones_under(names: &mut Vec<Name>, zones: &[Zone], apex: &Name) -> Result<(), NoMemory>
+    ensures { OnOk result (names.new.items ≡ names.old.items ++ filter (lies_under apex.now) (map (λ z. z.state.apex) zones.now)) }
 {
-    let mut names = Vec::new(alloc);
     'zones: for zone in zones {
         if lies_under(apex, zone.apex()) {
             names.push(zone.apex().copy()?)?;
         }
     }
+    Ok(())
+}
+
+/// Appends the domains of the links that lie under an apex.
+fn put_links_under(names: &mut Vec<Name>, links: &[Cache], apex: &Name) -> Result<(), NoMemory>
+    ensures { OnOk result (names.new.items ≡ names.old.items ++ filter (lies_under apex.now) (map (λ l. l.state.domain) links.now)) }
+{
+    'links: for link in links {
+        if lies_under(apex, link.domain()) {
+            names.push(link.domain().copy()?)?;
+        }
+    }
+    Ok(())
+}
+
+/// The names of the homes that lie under an apex.
+fn names_under(
+    alloc: Global,
+    zones: &[Zone],
+    links: &[Cache],
+    apex: &Name,
+) -> Result<Vec<Name>, NoMemory>
+    ensures { IfOk result (λ names. names.items ≡ filter (lies_under apex.now) (map (λ z. z.state.apex) zones.now ++ map (λ l. l.state.domain) links.now)) }
+{
+    let mut names = Vec::new(alloc);
+    put_zones_under(&mut names, zones, apex)?;
+    put_links_under(&mut names, links, apex)?;
     Ok(names)
 }
 
-/// The names of the zones that lie under one of them.
-fn under_at(alloc: Global, zones: &[Zone], index: usize) -> Result<Under, NoMemory>
+/// The names of the homes that lie under one of some zones.
+fn under_at(alloc: Global, zones: &[Zone], links: &[Cache], index: usize) -> Result<Under, NoMemory>
     requires { index < length zones.now }
-    ensures { IfOk result (λ under. (zone : ZoneKept) → slice_get zones.now index ≡ Some zone → under ≡ filter (lies_under zone.state.apex) (map (λ z. z.state.apex) zones.now)) }
+    ensures { IfOk result (λ under. (zone : ZoneKept) → slice_get zones.now index ≡ Some zone → under ≡ filter (lies_under zone.state.apex) (map (λ z. z.state.apex) zones.now ++ map (λ l. l.state.domain) links.now)) }
 {
-    let names = names_under(alloc, zones, zones[index].apex())?;
+    let names = names_under(alloc, zones, links, zones[index].apex())?;
     Ok(Under::from_vec(names))
 }
 
@@ -90,25 +115,16 @@ fn check_at(
     zones[index].check(alloc, update, under)
 }
 
-/// Makes the changes of a plan to one of some zones.
-fn apply_at(zones: &mut [Zone], index: usize, plan: ZonePlan)
-    requires within { index < length zones.old }
-    requires planned { (zone : ZoneKept) → slice_get zones.old index ≡ Some zone → IsPlanOf zone.state plan }
-    requires room { HasSpare (slice_get zones.old index) (length plan) }
-    ensures { (zone : ZoneKept) (rows : RecordSet) → slice_get zones.old index ≡ Some zone → Leads zone.state plan rows → map (λ z. z.state) zones.new ≡ slice_set (map (λ z. z.state) zones.old) index (record zone.state { rows = rows }) }
-{
-    zones[index].apply(plan)
-}
-
-/// What an update of zones gets: the records stay, and room is made for the plan.
+/// What an update gets of zones beside links: the records stay, and room is made for the plan.
 pub(crate) fn check_zones(
     alloc: Global,
     zones: &mut [Zone],
+    links: &[Cache],
     update: &Update,
 ) -> Result<Checked, NoMemory>
-    ensures checked { IfOk result (λ checked. (t : ℕ) → AreAtHome (at_moment zones.old t) → Checks (at_moment zones.old t) update.now checked) }
+    ensures checked { IfOk result (λ checked. (t : ℕ) → AreAtHome (states_at zones.old links.now t) → Checks (states_at zones.old links.now t) update.now checked) }
     ensures states { map (λ z. z.state) zones.new ≡ map (λ z. z.state) zones.old }
-    ensures room { IfOk result (λ checked. HasRoomAt zones.new checked) }
+    ensures room { IfOk result (IsCheckReady zones.new) }
 {
     let apex = match zone_asked(update.zones.as_slice()) {
         Ok(apex) => apex,
@@ -117,18 +133,9 @@ pub(crate) fn check_zones(
     let Some(index) = position_of(zones, apex) else {
         return Ok(Checked::Refuse(NOTAUTH));
     };
-    let under = under_at(alloc, zones, index)?;
+    let under = under_at(alloc, zones, links, index)?;
     match check_at(alloc, zones, index, update, &under)? {
         Verdict::Refuse(code) => Ok(Checked::Refuse(code)),
         Verdict::Accept(plan) => Ok(Checked::Accept(index, plan)),
     }
-}
-
-/// Makes the changes of a plan, which `check_zones` made of these records, to the zone that it is of.
-pub(crate) fn apply_zones(zones: &mut [Zone], index: usize, plan: ZonePlan)
-    requires { CanApply zones.old index plan }
-    ensures { (t : ℕ) (update : UpdateRecord) → AreAtHome (at_moment zones.old t) → held_for (at_moment zones.old t) (entries.Update update) ≡ Some (record { zone = Some index; changed = plan })
-        → (at_moment zones.new t ≡ after (at_moment zones.old t) (entries.Update update)) × AreAtHome (at_moment zones.new t) }
-{
-    apply_at(zones, index, plan)
 }

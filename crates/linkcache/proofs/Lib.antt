@@ -3,6 +3,7 @@ pub mod Touched
 pub mod ShownParts
 pub mod Moves
 pub mod SoundSteps
+pub mod WholeRows
 pub mod RowEnds
 pub mod EndedRows
 pub mod Copies

@@ -1,4 +1,7 @@
 -- Each row of a link stays one that the link shows, with its key, whatever is heard.
+--     KeepsEnds P      P doesn't depend on when a row ends
+--     kept-heard, kept-moment, kept-reconfirmed      what holds of each row, and of what a hearing brings, holds of each row afterwards
+--     sound-heard, sound-moment, sound-reconfirmed      so each row stays one of a usable record
 use Rattle.std.proofs.Common.{◌≡◌, ℕ, zero, suc, ◌<◌, length, get_or, arith, ◌+◌, Bool, true, false, cond, ◌&&◌, ◌||◌, List, [], ◌∷◌, map, filter, fold, nat_lt, refl, subst}
 use Rattle.std.specs.Prelude.{◌==◌, if◌then◌else◌}
 use Rattle.std.specs.List.{AllByRecursion}
@@ -13,13 +16,13 @@ use Rattle.rrset.proofs.KeyOrder.{key_cmp-IsAntisymmetric}
 use Rattle.rrset.proofs.Places.{all_filter}
 use Rattle.linkmap.specs.Translation.{is_usable}
 use Rattle.linkcache.specs.declared.row.HeardRow.{HeardRow}
-use Rattle.rrset.specs.KeyedRows.{put_row}
+use Rattle.rrset.specs.KeyedRows.{Rows, put_row}
 use Rattle.linkcache.specs.Rows.{LinkRows, ttl_of, second, reconfirmation, ending_by, has_key, row_has_room, heard_at, put_heard, is_of_set, flushed_by, usable_of, heard_beside, heard, at_moment, reconfirmed}
 use Rattle.linkcache.specs.Sound.{IsLinkRow, AreLinkRows}
 
-pub all-put : (P : Key × HeardRow → Type 0) (k : Key) (v : HeardRow) (rows : LinkRows) → P (k, v) → AllByRecursion P rows → AllByRecursion P (put_row k v rows)
+pub all-put : {X : Type 0} (P : Key × X → Type 0) (k : Key) (v : X) (rows : Rows X) → P (k, v) → AllByRecursion P rows → AllByRecursion P (put_row k v rows)
 all-put P k v [] one h = (one, tt)
-all-put P k v (e ∷ es) one h = by (key_cmp k e.0) refl (all-put P k v es one h.1)
+all-put {X} P k v (e ∷ es) one h = by (key_cmp k e.0) refl (all-put P k v es one h.1)
   where
     by : (r : Ordering) → key_cmp k e.0 ≡ r → AllByRecursion P (put_row k v es) → AllByRecursion P (by_order r ((k, v) ∷ e ∷ es) ((e.0, v) ∷ es) (e ∷ put_row k v es))
     by Less is rest = (one, h)
@@ -32,13 +35,56 @@ all_at P [] i d all within = absurd (omega arith)
 all_at P (e ∷ es) zero d all within = all.0
 all_at P (e ∷ es) (suc i) d all within = all_at P es i d all.1 (omega arith)
 
-pub sound-ending : (domain : Labels) (test : Key × HeardRow → Bool) (moment : ℕ) (rows : LinkRows) → AreLinkRows domain rows → AreLinkRows domain (map (λ row. cond (test row) (ending_by moment row) row) rows)
-sound-ending domain test moment [] h = tt
-sound-ending domain test moment (e ∷ es) h = (by (test e), sound-ending domain test moment es h.1)
-  where
-    by : (b : Bool) → IsLinkRow domain (cond b (ending_by moment e) e)
-    by true = record { usable = h.0.usable; key = h.0.key }
-    by false = h.0
+-- ---- what holds of each row
+
+abbrev pub KeepsEnds : (Key × HeardRow → Type 0) → Type 0
+KeepsEnds P = (row : Key × HeardRow) (moment : ℕ) → P row → P (ending_by moment row)
+
+-- it holds of the rows that records bring
+abbrev pub Brings : (Key × HeardRow → Type 0) → ℕ → List HeardRr → Type 0
+Brings P now hs = AllByRecursion (λ h. P (key_of h.rr, heard_at now h)) hs
+
+module _ (P : Key × HeardRow → Type 0) (ends : KeepsEnds P) where
+  pub kept-ending : (test : Key × HeardRow → Bool) (moment : ℕ) (rows : LinkRows) → AllByRecursion P rows → AllByRecursion P (map (λ row. cond (test row) (ending_by moment row) row) rows)
+  kept-ending test moment [] h = tt
+  kept-ending test moment (e ∷ es) h = (by (test e), kept-ending test moment es h.1)
+    where
+      by : (b : Bool) → P (cond b (ending_by moment e) e)
+      by true = ends e moment h.0
+      by false = h.0
+
+  kept-put : (domain : Labels) (now others : ℕ) (rows : LinkRows) (h : HeardRr) → P (key_of h.rr, heard_at now h) → AllByRecursion P rows → AllByRecursion P (put_heard domain now others rows h)
+  kept-put domain now others rows h one all = by (ttl_of h == 0) (has_key (key_of h.rr) rows || row_has_room domain others rows h.rr)
+    where
+      by : (t b : Bool) → AllByRecursion P (if t then map (λ row. cond (same_key (key_of h.rr) row.0) (ending_by (now + second) row) row) rows else if b then put_row (key_of h.rr) (heard_at now h) rows else rows)
+      by true b = kept-ending (λ row. same_key (key_of h.rr) row.0) (now + second) rows all
+      by false true = all-put P (key_of h.rr) (heard_at now h) rows one all
+      by false false = all
+
+  kept-first : (domain : Labels) (now others : ℕ) (hs : List HeardRr) (rows : LinkRows) → Brings P now hs → AllByRecursion P rows → AllByRecursion P (fold (put_heard domain now others) rows hs)
+  kept-first domain now others [] rows brings all = all
+  kept-first domain now others (h ∷ hs) rows brings all = kept-first domain now others hs (put_heard domain now others rows h) brings.1 (kept-put domain now others rows h brings.0 all)
+
+  kept-second : (now : ℕ) (hs : List HeardRr) (rows : LinkRows) → AllByRecursion P rows → AllByRecursion P (fold (flushed_by now) rows hs)
+  kept-second now [] rows all = all
+  kept-second now (h ∷ hs) rows all = kept-second now hs (flushed_by now rows h) (kept-ending (λ row. is_of_set h.rr row && nat_lt (row.1.heard + second) now) (now + second) rows all)
+
+  pub kept-beside : (domain : Labels) (now others : ℕ) (usable : List HeardRr) (rows : LinkRows) → Brings P now usable → AllByRecursion P rows → AllByRecursion P (heard_beside others domain rows now usable)
+  kept-beside domain now others usable rows brings all = kept-second now (filter (λ h. h.flush) usable) (fold (put_heard domain now others) rows usable) (kept-first domain now others usable rows brings all)
+
+  pub kept-heard : (domain : Labels) (now : ℕ) (hearing : List HeardRr) (rows : LinkRows) → Brings P now (usable_of domain hearing) → AllByRecursion P rows → AllByRecursion P (heard domain rows now hearing)
+  kept-heard domain now hearing rows brings all = kept-beside domain now 0 (usable_of domain hearing) rows brings all
+
+  pub kept-moment : (now : ℕ) (rows : LinkRows) → AllByRecursion P rows → AllByRecursion P (at_moment rows now)
+  kept-moment now rows all = all_filter P (λ row. nat_lt now row.1.ends) rows all
+
+  pub kept-reconfirmed : (key : Key) (now : ℕ) (rows : LinkRows) → AllByRecursion P rows → AllByRecursion P (reconfirmed rows key now)
+  kept-reconfirmed key now rows all = kept-ending (λ row. same_key key row.0) (now + reconfirmation) rows all
+
+-- ---- rows of usable records
+
+sound-ends : (domain : Labels) → KeepsEnds (IsLinkRow domain)
+sound-ends domain row moment h = record { usable = h.usable; key = h.key }
 
 abbrev AreUsable : Labels → List HeardRr → Type 0
 AreUsable domain hs = AllByRecursion (λ h. is_usable domain h.rr ≡ true) hs
@@ -51,31 +97,24 @@ usable-of domain (h ∷ hs) = by (is_usable domain h.rr) refl (usable-of domain 
     by true is rest = (is, rest)
     by false is rest = rest
 
+sound-brings : (domain : Labels) (now : ℕ) (hs : List HeardRr) → AreUsable domain hs → Brings (IsLinkRow domain) now hs
+sound-brings domain now [] usable = tt
+sound-brings domain now (h ∷ hs) usable = (record { usable = usable.0; key = refl }, sound-brings domain now hs usable.1)
+
+pub sound-ending : (domain : Labels) (test : Key × HeardRow → Bool) (moment : ℕ) (rows : LinkRows) → AreLinkRows domain rows → AreLinkRows domain (map (λ row. cond (test row) (ending_by moment row) row) rows)
+sound-ending domain test moment rows sound = kept-ending (IsLinkRow domain) (sound-ends domain) test moment rows sound
+
 pub sound-put : (domain : Labels) (now others : ℕ) (rows : LinkRows) (h : HeardRr) → is_usable domain h.rr ≡ true → AreLinkRows domain rows → AreLinkRows domain (put_heard domain now others rows h)
-sound-put domain now others rows h usable sound = by (ttl_of h == 0) (has_key (key_of h.rr) rows || row_has_room domain others rows h.rr)
-  where
-    by : (t b : Bool) → AreLinkRows domain (if t then map (λ row. cond (same_key (key_of h.rr) row.0) (ending_by (now + second) row) row) rows else if b then put_row (key_of h.rr) (heard_at now h) rows else rows)
-    by true b = sound-ending domain (λ row. same_key (key_of h.rr) row.0) (now + second) rows sound
-    by false true = all-put (IsLinkRow domain) (key_of h.rr) (heard_at now h) rows (record { usable = usable; key = refl }) sound
-    by false false = sound
-
-sound-first : (domain : Labels) (now others : ℕ) (hs : List HeardRr) (rows : LinkRows) → AreUsable domain hs → AreLinkRows domain rows → AreLinkRows domain (fold (put_heard domain now others) rows hs)
-sound-first domain now others [] rows usable sound = sound
-sound-first domain now others (h ∷ hs) rows usable sound = sound-first domain now others hs (put_heard domain now others rows h) usable.1 (sound-put domain now others rows h usable.0 sound)
-
-sound-second : (domain : Labels) (now : ℕ) (hs : List HeardRr) (rows : LinkRows) → AreLinkRows domain rows → AreLinkRows domain (fold (flushed_by now) rows hs)
-sound-second domain now [] rows sound = sound
-sound-second domain now (h ∷ hs) rows sound =
-    sound-second domain now hs (flushed_by now rows h) (sound-ending domain (λ row. is_of_set h.rr row && nat_lt (row.1.heard + second) now) (now + second) rows sound)
+sound-put domain now others rows h usable sound = kept-put (IsLinkRow domain) (sound-ends domain) domain now others rows h (record { usable = usable; key = refl }) sound
 
 pub sound-beside : (domain : Labels) (now others : ℕ) (usable : List HeardRr) (rows : LinkRows) → AreUsable domain usable → AreLinkRows domain rows → AreLinkRows domain (heard_beside others domain rows now usable)
-sound-beside domain now others usable rows are sound = sound-second domain now (filter (λ h. h.flush) usable) (fold (put_heard domain now others) rows usable) (sound-first domain now others usable rows are sound)
+sound-beside domain now others usable rows are sound = kept-beside (IsLinkRow domain) (sound-ends domain) domain now others usable rows (sound-brings domain now usable are) sound
 
 pub sound-heard : (domain : Labels) (now : ℕ) (hearing : List HeardRr) (rows : LinkRows) → AreLinkRows domain rows → AreLinkRows domain (heard domain rows now hearing)
 sound-heard domain now hearing rows sound = sound-beside domain now 0 (usable_of domain hearing) rows (usable-of domain hearing) sound
 
 pub sound-moment : (domain : Labels) (now : ℕ) (rows : LinkRows) → AreLinkRows domain rows → AreLinkRows domain (at_moment rows now)
-sound-moment domain now rows sound = all_filter (IsLinkRow domain) (λ row. nat_lt now row.1.ends) rows sound
+sound-moment domain now rows sound = kept-moment (IsLinkRow domain) (sound-ends domain) now rows sound
 
 pub sound-reconfirmed : (domain : Labels) (key : Key) (now : ℕ) (rows : LinkRows) → AreLinkRows domain rows → AreLinkRows domain (reconfirmed rows key now)
-sound-reconfirmed domain key now rows sound = sound-ending domain (λ row. same_key key row.0) (now + reconfirmation) rows sound
+sound-reconfirmed domain key now rows sound = kept-reconfirmed (IsLinkRow domain) (sound-ends domain) key now rows sound

@@ -5,3 +5,4 @@ pub mod Shown
 pub mod OneKey
 pub mod OneSize
 pub mod Tests
+pub mod WholeRecords

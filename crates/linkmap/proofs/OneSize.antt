@@ -1,5 +1,5 @@
 -- Records with one key have one size under the domain.
-use Rattle.std.proofs.Common.{◌≡◌, ℕ, ◌+◌, List, [], ◌∷◌, ◌++◌, length, Result, Ok, Err, refl, sym, ap, subst, ◌∙◌, arith}
+use Rattle.std.proofs.Common.{◌≡◌, ℕ, ◌+◌, List, [], ◌∷◌, length, Result, Ok, Err, refl, sym, ap, subst, ◌∙◌}
 use Rattle.std.specs.Prelude.{flat_map}
 use Rattle.std.proofs.lemmas.List.{length-append}
 use Rattle.dnsname.specs.Names.{Labels, octets, lower}
@@ -8,7 +8,6 @@ use Rattle.rrset.specs.Records.{key_of, rr_size}
 use Rattle.rrset.specs.Rdata.{Field, raw, named, field_octets, field_with, rdata_fields, with_names, lowered_rdata}
 use Rattle.rrset.specs.declared.record.Rr.{Rr}
 use Rattle.rrset.specs.declared.record.Key.{Key}
-use Rattle.rrset.proofs.ReadBack.{fields_done}
 use Rattle.linkmap.specs.Translation.{local, renamed, renamed_rr}
 use Rattle.linkmap.proofs.Suffixes.{renamed_alike}
 use Rattle.linkmap.proofs.Changed.{with_names-Ok, with_names-Err, same_changed}

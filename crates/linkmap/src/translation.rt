@@ -1,7 +1,7 @@
 //! Records of a link under its domain, and back (RFC 8766, 5.5).
 
 ghost use Rattle.std.specs.Prelude.{◌≡◌, ◌==◌, ◌/◌, true, slice_index, IfOk};
-ghost use Rattle.dnsname.specs.Names.{SpellsName};
+ghost use Rattle.dnsname.specs.Names.{SpellsName, ends_in};
 ghost use Rattle.dnsname.specs.Octets.{labels_of};
 ghost use Rattle.linkmap.specs.Translation.{local, is_of_link, is_translatable, is_usable, is_link_local, names_fit, fits_a_name, renamed, renamed_rr, shown_as, heard_as};
 
@@ -41,11 +41,18 @@ fn is_link_local(rr: &Rr) -> bool
             || (rr.kind == AAAA && first == 0xfe && begins_with_10(second)))
 }
 
+/// Whether a name ends in `local.`, the domain of every link (RFC 6762, 3). It takes no memory.
+pub fn ends_in_local(name: &Name) -> bool
+    ensures { result ≡ ends_in name.now local }
+{
+    spelled_ends_in(spelling(name), local())
+}
+
 /// Whether a record is in class IN, of no meta kind and no list of kinds, and its owner is a name of a link.
 fn is_of_link(rr: &Rr) -> bool
     ensures { result ≡ is_of_link rr.now }
 {
-    let is_named = spelled_ends_in(spelling(&rr.owner), local());
+    let is_named = ends_in_local(&rr.owner);
     rr.class == IN && rr.kind != NSEC && !is_meta(rr.kind) && is_named
 }
 

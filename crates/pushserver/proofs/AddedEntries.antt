@@ -1,5 +1,5 @@
 -- What a call adds to the entries of each group, and how many octets it hands on.
---     give-adds, moment-adds      at most one change; at most one moment
+--     give-adds, hear-adds, moment-adds      at most one change; one hearing where the datagram was entered; at most one moment
 --     give-within      no more octets than there is room for
 --     connect-counts, connect-many      one session is made; where no seat is free, as many were made
 use Rattle.std.proofs.Common.{◌≡◌, ℕ, suc, ◌+◌, ◌<◌, ◌≤◌, Bool, true, false, cond, not, ◌&&◌, ◌||◌, List, [], ◌∷◌, ◌++◌, map, length, Option, Some, None, Result, Ok, Err, T, inl, inr, refl, sym, ap, subst, ◌∙◌, arith}
@@ -12,8 +12,11 @@ use Rattle.std.proofs.lemmas.List.Sums.{length-filter}
 use Rattle.std.proofs.lemmas.Map.Steps.{length-le_from_distinct_below}
 use Rattle.push_base.specs.Cases.{is_empty}
 use Rattle.push_base.specs.Limits.{max_number}
+use Rattle.rrset.specs.declared.record.Hearing.{Hearing}
 use Rattle.rrset.specs.declared.record.Key.{Key}
 use Rattle.rrset.specs.declared.record.Rr.{Rr}
+use Rattle.dnswire.specs.Reading.{hearing_of}
+use Rattle.dnswire.specs.declared.message.HearFault.{HearFault}
 use Rattle.dnswire.specs.declared.message.Update.{Update}
 use Rattle.dsotlv.specs.Messages.{first_message}
 use Rattle.history.specs.States.{accepts, reconfirm_key, verdict}
@@ -27,16 +30,20 @@ use Rattle.pushsession.specs.declared.request.Request.{Request}
 use Rattle.pushsession.specs.declared.request.Request.TheVariants as requests
 use Rattle.pushsession.specs.declared.standing.Standing.{Standing}
 use Rattle.pushsession.specs.declared.standing.Standing.TheVariants.{Live, AskedToStop, Stopped, Ended}
-use Rattle.pushserver.specs.Counting.{MayAddChange, MayAddMoment, octets_of}
+use Rattle.pushserver.specs.Counting.{AddsHearing, MayAddChange, MayAddMoment, octets_of}
 use Rattle.pushserver.specs.Giving.{reconfirms, by_request, reacted, after_reaction, by_standing, given_after, give}
-use Rattle.pushserver.specs.Hubs.{Numbered, SessionKind, HubOf, now, state_now, session_of, entered, can_enter, update, moment, connect, max_sessions}
+use Rattle.pushserver.specs.Hubs.{Numbered, SessionKind, HubOf, now, state_now, session_of, entered, can_enter, update, why_not, hear, moment, connect, max_sessions}
 use Rattle.pushserver.specs.KeptHubs.{KeptHub}
 use Rattle.pushserver.specs.NumberedSessions.{AreApart, AreBelow}
 use Rattle.pushserver.specs.declared.given.Given.{Given}
 use Rattle.pushserver.specs.declared.given.Given.TheVariants.{Worked, Nothing}
+use Rattle.pushserver.specs.declared.given.Heard.{Heard}
+use Rattle.pushserver.specs.declared.given.Heard.TheVariants.{Entered, Ignored}
+use Rattle.pushserver.specs.declared.given.Why.{Why}
+use Rattle.pushserver.specs.declared.given.Why.TheVariants as whys
 use Rattle.pushserver.proofs.SessionLists.{same-number}
 use Rattle.pushserver.proofs.Walks.{with_new}
-use Rattle.pushserver.proofs.hub_steps.Cases.{enters_update, update_as, enters_moment, moment_as, key_as, session_as, copies_as, found_as, works_as, output_as, give_as}
+use Rattle.pushserver.proofs.hub_steps.Cases.{enters_update, update_as, enters_hearing, hear_as, enters_moment, moment_as, key_as, session_as, copies_as, found_as, works_as, output_as, give_as}
 
 -- ---- one entry more
 
@@ -56,7 +63,10 @@ more_change h e change hearing moment = λ i. record { changes = one_more is_cha
 more_moment : (h : List Entry) (t : ℕ) → totals (h ++ entries.Moment t ∷ []) ≡ record (totals h) { moments = (totals h).moments + 1 }
 more_moment h t = λ i. record { changes = none_more is_change h (entries.Moment t) refl i; heard = none_more is_hearing h (entries.Moment t) refl i; moments = one_more is_moment h (entries.Moment t) refl i }
 
--- ---- `give` and a moment
+more_hearing : (h : List Entry) (link : ℕ) (hearing : Hearing) → totals (h ++ entries.Heard link hearing ∷ []) ≡ record (totals h) { heard = (totals h).heard + 1 }
+more_hearing h link hearing = let e = entries.Heard link hearing in λ i. record { changes = none_more is_change h e refl i; heard = one_more is_hearing h e refl i; moments = none_more is_moment h e refl i }
+
+-- ---- `give`, a datagram and a moment
 
 ends_without : (s : Standing) → octets_of (given_after s) ≡ 0
 ends_without (Ended reason) = refl
@@ -170,6 +180,24 @@ module _ {A Q M : Type 0} {kind : SessionKind A Q M} (number room : ℕ) where
       by : (o : Option (SessionOf A Q M)) → octets_of (give_as hub number room o).given ≤ room
       by None = omega arith
       by (Some session) = by_output session (is_empty session.output)
+
+pub hear-adds : {A Q M : Type 0} {kind : SessionKind A Q M} (hub : HubOf kind) (link : ℕ) (datagram : List ℕ) (heard : Heard) → (hear hub link datagram).0 ≡ Some heard → AddsHearing (Ok heard) hub (hear hub link datagram).1
+hear-adds hub link datagram heard = by (hearing_of datagram)
+  where
+    same_heard : (a : Heard) → Some a ≡ Some heard → a ≡ heard
+    same_heard a e = cc
+
+    ignored : (why : Why) → Some (Ignored why) ≡ Some heard → AddsHearing (Ok heard) hub hub
+    ignored why e = subst (λ (h : Heard). AddsHearing (Ok h) hub hub) (same_heard (Ignored why) e) (refl, refl)
+
+    by_room : (hearing : Hearing) (a b : Bool) → (enters_hearing hub link hearing a b).0 ≡ Some heard → AddsHearing (Ok heard) hub (enters_hearing hub link hearing a b).1
+    by_room hearing false b e = ignored whys.Nothing e
+    by_room hearing true false e = cc
+    by_room hearing true true e = subst (λ (h : Heard). AddsHearing (Ok h) hub (entered (entries.Heard link hearing) hub)) (same_heard Entered e) (refl, more_hearing hub.history link hearing)
+
+    by : (r : Result Hearing HearFault) → (hear_as hub link r).0 ≡ Some heard → AddsHearing (Ok heard) hub (hear_as hub link r).1
+    by (Err fault) e = ignored (why_not fault) e
+    by (Ok hearing) e = by_room hearing (accepts (state_now hub) (entries.Heard link hearing)) (can_enter hub (entries.Heard link hearing)) e
 
 pub moment-adds : {A Q M : Type 0} {kind : SessionKind A Q M} (hub : HubOf kind) (t : ℕ) → MayAddMoment hub (moment hub t).1
 moment-adds hub t = by (not (nat_lt (now hub) t))

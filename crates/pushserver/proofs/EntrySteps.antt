@@ -2,33 +2,25 @@
 use Rattle.std.proofs.Common.{◌≡◌, ℕ, Bool, true, false, not, cond, ltb, List, [], ◌∷◌, ◌++◌, length, Option, Some, Result, Ok, Err, refl, sym, ap, subst, ◌∙◌, arith}
 use Rattle.std.specs.Prelude.{fold, ok_or, OnOk, OnErr}
 use Rattle.std.specs.Result.{is_err}
-use Rattle.std.specs.List.{list_all, AllByRecursion}
 use Rattle.push_base.specs.Cases.{◌>>=◌}
 use Rattle.std.proofs.lemmas.List.{take_all}
 use Rattle.std.proofs.lemmas.List.Sums.{fold-append}
-use Rattle.dnsname.specs.Names.{Labels}
-use Rattle.rrset.specs.RecordSet.{RecordSet, is_record_set, shows_its_key, put, union, changes, with_changes}
+use Rattle.rrset.specs.RecordSet.{changes, with_changes}
 use Rattle.rrset.specs.Rcodes.{formerr}
-use Rattle.rrset.specs.declared.record.Key.{Key}
-use Rattle.rrset.specs.declared.record.Shown.{Shown}
 use Rattle.rrset.specs.declared.record.Changed.{Changed}
-use Rattle.rrset.proofs.InOrder.{in_order-union}
 use Rattle.rrset.proofs.WithChanges.{with_changes-new}
 use Rattle.dnswire.specs.declared.message.Update.{Update}
-use Rattle.zoneupdate.specs.Zones.{ZoneState}
-use Rattle.zoneupdate.proofs.Filters.{is_true, and-left, and-right, and-both}
 use Rattle.zoneupdate.proofs.Plans.{HaveLowerKeys, lower-changes}
-use Rattle.zoneupdate.proofs.RecordSets.{IsSet, all-put, set-in_order}
-use Rattle.history.specs.Keeping.{Past, state_now, records_now, told_plan}
+use Rattle.zoneupdate.proofs.RecordSets.{set-in_order}
+use Rattle.history.specs.Kept.{Past, state_now, records_now, told_plan}
 use Rattle.history.specs.Plans.{Plan, refuse, idle, accept, planned}
-use Rattle.history.specs.Standing.{IsAtHome, AreAtHome}
-use Rattle.history.specs.States.{State, state_at, after, updated, accepts, records, home_names}
+use Rattle.history.specs.AtHome.{AreAtHome}
+use Rattle.history.specs.States.{State, state_at, after, updated, accepts, records}
 use Rattle.history.specs.declared.entry.Entry.{Entry}
 use Rattle.history.specs.declared.entry.Entry.TheVariants as entries
 use Rattle.history.specs.declared.plan.Planned.TheVariants as plans
-use Rattle.history.proofs.ShownAtHome.{rows_of, records-zones}
+use Rattle.history.proofs.ShownAtHome.{set-records}
 use Rattle.history.proofs.StatesAtHome.{home-after}
-use Rattle.history.proofs.UnitedParts.{united}
 use Rattle.history.specs.States.{update_in}
 use Rattle.pushsession.specs.Sessions.{timed}
 use Rattle.pushsession.specs.Kept.{KeptSession, keeping}
@@ -57,18 +49,6 @@ now-entered past entry =
     state_at-all past.start (past.history ++ entry ∷ [])
     ∙ fold-append after past.start past.history (entry ∷ [])
     ∙ ap (λ (s : State). after s entry) (sym (state_at-all past.start past.history))
-
-all-union : (f : Key × Shown → Bool) (first second : RecordSet) → list_all f first ≡ true → list_all f second ≡ true → list_all f (union first second) ≡ true
-all-union f first [] h g = h
-all-union f first (e ∷ es) h g = all-union f (put e.0 e.1 first) es (all-put f e.0 e.1 first h (and-left (f e) (list_all f es) g)) (and-right (f e) (list_all f es) g)
-
-set-united : (homes : List Labels) (first : RecordSet) (zones : List ZoneState) → IsSet first → AllByRecursion (IsAtHome homes) zones → IsSet (united first (rows_of zones))
-set-united homes first [] h all = h
-set-united homes first (z ∷ zones) h all =
-    set-united homes (union first z.rows) zones (and-both _ _ (is_true _ (in_order-union first z.rows (set-in_order first h))) (all-union shows_its_key first z.rows (and-right _ _ h) (and-right _ _ all.0.set))) all.1
-
-set-records : (state : State) → AreAtHome state → IsSet (records state)
-set-records state home = ap is_record_set (records-zones state home.links) ∙ set-united (home_names state) [] state.zones refl home.zones
 
 later_home : (past : Past) (entry : Entry) → AreAtHome (state_now past) → AreAtHome (state_now (with_entry entry past))
 later_home past entry home = subst AreAtHome (sym (now-entered past entry)) (home-after (state_now past) home entry)

@@ -2,6 +2,7 @@
 use Rattle.std.proofs.Common.{◌≡◌, ℕ, Bool, true, false, cond, min, List, [], ◌∷◌, length, Option, Some, None, Result, Ok, Err, refl, sym, ap, subst, ◌∙◌}
 use Rattle.std.specs.Option.{OnSome}
 use Rattle.std.specs.Prelude.{◌==◌, find, option_map, OnErr}
+use Rattle.rrset.specs.declared.record.Rr.{Rr}
 use Rattle.dnswire.specs.declared.message.Update.{Update}
 use Rattle.pushsession.specs.Kept.{KeptSession}
 use Rattle.pushsession.specs.Sessions.{room_of}
@@ -10,7 +11,7 @@ use Rattle.pushserver.specs.Laws.{WantsMemoryFor, MayWantMemory}
 use Rattle.pushserver.specs.Hubs.{Numbered, session_in, in_sessions, taken_by}
 use Rattle.pushserver.specs.Giving.{give}
 use Rattle.pushserver.specs.KeptHubs.{KeptHub}
-use Rattle.pushserver.specs.Keeping.{kept_of, IsSound, IsSeated, IsToJudge, Gave, Turns}
+use Rattle.pushserver.specs.Keeping.{kept_of, IsSound, IsSeated, IsToJudge, IsToReconfirm, Gave, Turns}
 use Rattle.pushserver.specs.NumberedSessions.{AreApart}
 use Rattle.pushserver.specs.declared.given.Given.{Given}
 use Rattle.pushserver.specs.declared.keeping.Keeping.{Keeping}
@@ -29,7 +30,7 @@ on_each_err (Err e) p = p
 -- ---- the session in its seat
 
 pub seat-of : (keeping : Keeping) (number : ℕ) (s : KeptSession) → IsSound keeping → session_in number keeping.sessions ≡ Some s → AreApart keeping.sessions → IsSeated (kept_of keeping) number s keeping.points.past keeping.timers keeping.index.rows
-seat-of keeping number s sound there apart = record { there = there; apart = apart; past_is = refl; timers_is = refl; rows_is = sound.index; home = sound.home }
+seat-of keeping number s sound there apart = record { there = there; apart = apart; past_is = refl; timers_is = refl; rows_is = sound.index }
 
 -- a session that is as it was stands as before
 pub as_before : (number : ℕ) (xs ys : Numbered KeptSession) (s t : KeptSession) → session_in number xs ≡ Some s → AreApart xs → t ≡ s → ys ≡ in_sessions number (λ _. t) xs → ys ≡ xs
@@ -43,20 +44,26 @@ did-gave keeping number s t turn given old new ys is lent came =
     subst (λ (xs : Numbered KeptSession). Gave (give (kept_of keeping) number (length old)) given old new (record (kept_of keeping) { sessions = xs })) (sym lent)
     (subst (λ (u : Turn). Turns (kept_of keeping) number u old new s t) is came)
 
--- an update is to be judged: the octets and the sessions are as before
-pub record ComesToJudge (number : ℕ) (found : Option Update) (old new : List ℕ) (xs ys : Numbered KeptSession) : Type 0 where
+-- the hub is to go on with something: the octets and the sessions are as before
+pub record ComesTo (old new : List ℕ) (xs ys : Numbered KeptSession) (Ready : Type 0) : Type 0 where
   pub octets : new ≡ old
   pub sessions : ys ≡ xs
-  pub ready : IsToJudge number found xs
+  pub ready : Ready
+
+comes-to : {Ready : Type 0} (number : ℕ) (xs ys : Numbered KeptSession) (s t : KeptSession) (old new : List ℕ) → session_in number xs ≡ Some s → AreApart xs → ys ≡ in_sessions number (λ _. t) xs → (new ≡ old) × (t ≡ s) × Ready → ComesTo old new xs ys Ready
+comes-to number xs ys s t old new there apart lent (octets, same, ready) = record { octets = octets; sessions = as_before number xs ys s t there apart same lent; ready = ready }
 
 pub to-judge : (keeping : Keeping) (number : ℕ) (s t : KeptSession) (turn : Turn) (found : Option Update) (old new : List ℕ) (ys : Numbered KeptSession) → IsSound keeping → session_in number keeping.sessions ≡ Some s → AreApart keeping.sessions
     → turn ≡ turnings.Judge found → ys ≡ in_sessions number (λ _. t) keeping.sessions
-    → ((kept : KeptHub) (number : ℕ) → IsSeated kept number s keeping.points.past keeping.timers keeping.index.rows → Turns kept number turn old new s t) → ComesToJudge number found old new keeping.sessions ys
+    → ((kept : KeptHub) (number : ℕ) → IsSeated kept number s keeping.points.past keeping.timers keeping.index.rows → Turns kept number turn old new s t) → ComesTo old new keeping.sessions ys (IsToJudge number found keeping.sessions)
 to-judge keeping number s t turn found old new ys sound there apart is lent came =
-    by (subst (λ (u : Turn). Turns (kept_of keeping) number u old new s t) is (came (kept_of keeping) number (seat-of keeping number s sound there apart)))
-  where
-    by : (new ≡ old) × (t ≡ s) × IsToJudge number found keeping.sessions → ComesToJudge number found old new keeping.sessions ys
-    by (octets, same, ready) = record { octets = octets; sessions = as_before number keeping.sessions ys s t there apart same lent; ready = ready }
+    comes-to number keeping.sessions ys s t old new there apart lent (subst (λ (u : Turn). Turns (kept_of keeping) number u old new s t) is (came (kept_of keeping) number (seat-of keeping number s sound there apart)))
+
+pub to-reconfirm : (keeping : Keeping) (number : ℕ) (s t : KeptSession) (turn : Turn) (rr : Rr) (old new : List ℕ) (ys : Numbered KeptSession) → IsSound keeping → session_in number keeping.sessions ≡ Some s → AreApart keeping.sessions
+    → turn ≡ turnings.Reconfirm rr → ys ≡ in_sessions number (λ _. t) keeping.sessions
+    → ((kept : KeptHub) (number : ℕ) → IsSeated kept number s keeping.points.past keeping.timers keeping.index.rows → Turns kept number turn old new s t) → ComesTo old new keeping.sessions ys (IsToReconfirm number rr keeping.sessions)
+to-reconfirm keeping number s t turn rr old new ys sound there apart is lent came =
+    comes-to number keeping.sessions ys s t old new there apart lent (subst (λ (u : Turn). Turns (kept_of keeping) number u old new s t) is (came (kept_of keeping) number (seat-of keeping number s sound there apart)))
 
 -- a session of the hub wants memory
 pub turn-wants : (k : KeptHub) (number : ℕ) (s : KeptSession) → session_in number k.sessions ≡ Some s → WantsMemoryFor s → MayWantMemory k number
@@ -64,6 +71,9 @@ turn-wants k number s there wants = record { session = s; there = there; wants =
 
 pub judge-wants : (k : KeptHub) (number : ℕ) (found : Option Update) → IsToJudge number found k.sessions → MayWantMemory k number
 judge-wants k number found ready = turn-wants k number ready.session ready.there (record { live = ready.live; silent = ready.silent; reads = subst TakesMemory (sym ready.request) tt })
+
+pub reconfirm-wants : (k : KeptHub) (number : ℕ) (rr : Rr) → IsToReconfirm number rr k.sessions → MayWantMemory k number
+reconfirm-wants k number rr ready = turn-wants k number ready.session ready.there (record { live = ready.live; silent = ready.silent; reads = subst TakesMemory (sym ready.request) tt })
 
 -- ---- a session that was changed, and one that isn't there
 

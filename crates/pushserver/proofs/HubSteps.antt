@@ -1,17 +1,18 @@
 -- Each call keeps a hub that stands for a plain one.
 --     keeps-hub      what is kept then stands for a plain hub
---     update-stands, moment-stands, connect-stands, take-stands, stop-stands, end-stands, give-stands      each call
+--     update-stands, hear-stands, moment-stands, connect-stands, take-stands, stop-stands, end-stands, give-stands      each call
 use Rattle.std.proofs.Common.{◌≡◌, ℕ, Bool, List, ◌++◌, length, drop, Option, sym, ap, subst, ◌∙◌}
 use Rattle.pushserver.specs.declared.given.Given.{Given}
+use Rattle.pushserver.specs.declared.given.Heard.{Heard}
 use Rattle.pushserver.specs.declared.keeping.Keeping.{Keeping}
 use Rattle.pushserver.specs.PlainHubs.{Hub}
-use Rattle.pushserver.specs.Hubs.{records_now, update, moment, connect, taken_by, take_octets, stop, disconnect}
+use Rattle.pushserver.specs.Hubs.{records_now, update, hear, moment, connect, taken_by, take_octets, stop, disconnect}
 use Rattle.pushserver.specs.Giving.{give}
 use Rattle.pushserver.specs.KeptHubs.{KeptHub, StandsFor}
 use Rattle.dsotlv.specs.Laws.{AreOctets}
 use Rattle.pushserver.specs.Simulation.{BothAnswer}
 use Rattle.pushserver.specs.Keeping.{Gave, IsHub, kept_of}
-use Rattle.pushserver.proofs.hub_steps.Calls.{updates_stand, moments_stand, connects_stand, takes_stand, stops_stand, ends_stand}
+use Rattle.pushserver.proofs.hub_steps.Calls.{updates_stand, hears_stand, moments_stand, connects_stand, takes_stand, stops_stand, ends_stand}
 use Rattle.pushserver.proofs.hub_steps.Giving.{gives_stand}
 
 -- the same is kept
@@ -36,6 +37,10 @@ answers a later k p answer is both = (answer ∙ both.0, stays k.1 later is p.1 
 pub update-stands : (k later : KeptHub) (message : List ℕ) (code : ℕ) → AreOctets message → code ≡ (update k message).0 → later ≡ (update k message).1
     → (hub : Hub) → StandsFor k hub → (code ≡ (update hub message).0) × StandsFor later (update hub message).1
 update-stands k later message code octets code_is is hub stands = answers code later (update k message) (update hub message) code_is is (updates_stand k hub message stands octets)
+
+pub hear-stands : (k later : KeptHub) (link : ℕ) (datagram : List ℕ) (heard : Option Heard) → AreOctets datagram → heard ≡ (hear k link datagram).0 → later ≡ (hear k link datagram).1
+    → (hub : Hub) → StandsFor k hub → ((hear hub link datagram).0 ≡ heard) × StandsFor later (hear hub link datagram).1
+hear-stands k later link datagram heard octets heard_is is hub stands = let both = answers heard later (hear k link datagram) (hear hub link datagram) heard_is is (hears_stand k hub link datagram stands octets) in (sym both.0, both.1)
 
 pub moment-stands : (k later : KeptHub) (t : ℕ) (full : Bool) → full ≡ (moment k t).0 → later ≡ (moment k t).1 → (hub : Hub) → StandsFor k hub → ((moment hub t).0 ≡ full) × StandsFor later (moment hub t).1
 moment-stands k later t full full_is is hub stands = let both = answers full later (moment k t) (moment hub t) full_is is (moments_stand k hub t stands) in (sym both.0, both.1)

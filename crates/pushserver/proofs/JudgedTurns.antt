@@ -33,10 +33,10 @@ use Rattle.pushserver.proofs.SessionTurns.{HandsOn, gave-as}
 -- ---- what judging does to a session
 
 -- an entry makes names wait, and changes nothing else of it
-abbrev noted_by : Entry → KeptHub → KeptSession → KeptSession
+abbrev pub noted_by : Entry → KeptHub → KeptSession → KeptSession
 noted_by entry k session = noted keeping (entry_changes entry k) (records_now k) (newest k) session
 
-abbrev Found : KeptHub → ℕ → KeptSession → Type 0
+abbrev pub Found : KeptHub → ℕ → KeptSession → Type 0
 Found k number s = (q : List WaitingName) × (session_in number k.sessions ≡ Some (record s { queue = q }))
 
 pub judged-found : (k : KeptHub) (message : List ℕ) (number : ℕ) (s : KeptSession) → session_in number k.sessions ≡ Some s → Found (update k message).1 number s
@@ -52,7 +52,7 @@ judged-found k message number s there = by (verdict (state_now k) message)
 
 -- a step that leaves the questions and what waits may be made before or after the judging
 module _ (number : ℕ) (f g : KeptSession → KeptSession) (turned : (s : KeptSession) → g (f s) ≡ f (g s)) where
-  all-in : (xs : Numbered KeptSession) → all_sessions g (in_sessions number f xs) ≡ in_sessions number f (all_sessions g xs)
+  pub all-in : (xs : Numbered KeptSession) → all_sessions g (in_sessions number f xs) ≡ in_sessions number f (all_sessions g xs)
   all-in [] = refl
   all-in (x ∷ xs) = λ i. by (x.0 == number) i ∷ all-in xs i
     where

@@ -14,7 +14,9 @@ pub mod NumberedSessions
 pub mod Noting
 pub mod SessionTurns
 pub mod JudgedTurns
+pub mod ReconfirmTurns
 pub mod EntrySteps
+pub mod PlannedEntries
 pub mod GiveSteps
 pub mod Soundness
 pub mod HubSteps

@@ -1,23 +1,21 @@
 -- One turn of a session that has its number in a hub: what `give` does is told by what the session becomes.
 --     becomes t      the hub with the session as it is then
 --     output-gave, ended-gave, stopped-gave, stop-gave      octets wait; it has ended, is stopped, stops
---     packed-gave, itself-gave, subscribe-gave, reconfirm-gave      it goes on: no message waits; by the request of its first one
+--     packed-gave, itself-gave, subscribe-gave, no_record-gave      it goes on: no message waits; by the request of its first one
 use Rattle.std.proofs.Common.{◌≡◌, ℕ, Bool, true, false, cond, not, min, List, [], ◌∷◌, ◌++◌, length, take, drop, Option, Some, None, inl, inr, refl, sym, ap, subst, ◌∙◌, arith}
-use Rattle.std.specs.Prelude.{option_map, unwrap_or, is_some}
+use Rattle.std.specs.Prelude.{option_map, unwrap_or}
 use Rattle.std.proofs.lemmas.Bool.{cases_lt}
 use Rattle.std.proofs.lemmas.List.{length-take, drop_all}
 use Rattle.push_base.specs.Cases.{is_empty}
 use Rattle.rrset.specs.Header.{id_of}
 use Rattle.rrset.specs.RecordSet.{RecordSet}
-use Rattle.rrset.specs.declared.record.Rr.{Rr}
 use Rattle.rrset.specs.declared.record.Question.{Question}
 use Rattle.dsotlv.specs.Messages.{first_message}
 use Rattle.dsotlv.specs.TlvKinds.{reconfirm_tlv}
 use Rattle.dsosession.specs.declared.session.EndReason.{EndReason}
 use Rattle.dsosession.specs.declared.session.EndReason.TheVariants as ends
 use Rattle.dsosession.specs.declared.session.Timers.{Timers}
-use Rattle.history.specs.Keeping.{Past, state_now as past_state}
-use Rattle.history.specs.Standing.{AreAtHome}
+use Rattle.history.specs.Kept.{Past, state_now as past_state}
 use Rattle.pushsession.specs.Sessions.{copied, ended_with, laid_over, stopped, without_first}
 use Rattle.pushsession.specs.Subscribing.{answered, packs}
 use Rattle.pushsession.specs.Reactions.{restarted_by, request_in, reacts_itself}
@@ -27,9 +25,9 @@ use Rattle.pushsession.specs.declared.request.Request.{Request}
 use Rattle.pushsession.specs.declared.request.Request.TheVariants as requests
 use Rattle.pushsession.specs.declared.standing.Standing.{Standing}
 use Rattle.pushsession.specs.declared.standing.Standing.TheVariants.{Live, AskedToStop, Stopped, Ended}
-use Rattle.pushserver.specs.Hubs.{Numbered, session_in, past_of, now, state_now, records_now, in_session}
+use Rattle.pushserver.specs.Hubs.{Numbered, session_in, past_of, now, records_now, in_session}
 use Rattle.pushserver.specs.Giving as giving
-use Rattle.pushserver.specs.Giving.{has_home, reconfirms, by_request, bytes_of, given_of, did, copies, copies_or, given_after, after_reaction, after_packing, give}
+use Rattle.pushserver.specs.Giving.{has_home, by_request, bytes_of, given_of, did, copies, copies_or, given_after, after_reaction, after_packing, give}
 use Rattle.pushserver.specs.KeptHubs.{KeptHub, KeptGiving}
 use Rattle.pushserver.specs.Keeping.{Gave}
 use Rattle.pushserver.specs.Rows.{AreTold}
@@ -38,8 +36,7 @@ use Rattle.pushserver.specs.declared.given.Given.{Given}
 use Rattle.pushserver.specs.declared.given.Given.TheVariants.{Bytes, Worked, Nothing, Ending, End}
 use Rattle.pushserver.proofs.SessionLists.{found-in, in-fused}
 use Rattle.pushserver.proofs.NumberedSessions.{alike, itself}
-use Rattle.pushserver.proofs.hub_steps.Cases.{session_as, found_as, works_as, output_as, give_as, key_as}
-use Rattle.pushserver.proofs.hub_steps.Reacting.{no_key}
+use Rattle.pushserver.proofs.hub_steps.Cases.{session_as, found_as, works_as, output_as, give_as}
 
 nothing_in : (xs : List ℕ) → is_empty xs ≡ true → xs ≡ []
 nothing_in [] e = refl
@@ -237,12 +234,8 @@ module _ (number : ℕ) (k : KeptHub) (s : KeptSession) (there : session_in numb
           ∙ further (answered keeping (telling (records_now k)) (now k) (id_of message) question (has_home k question)) (taken_up (now k) s)
           ∙ ap (λ m. becomes (answered keeping (telling (records_now k)) (now k) (id_of m) question (has_home k question) (taken_up (now k) s))) (sym message-is)
 
-      reconfirm-is : AreAtHome (state_now k) → (rr : Option Rr) → request_of s ≡ Some (requests.Reconfirm rr) → after_message ≡ becomes (reconfirmed (is_some rr) (now k) s)
-      reconfirm-is home rr is = after-request (requests.Reconfirm rr) is ∙ by rr
-        where
-          by : (o : Option Rr) → reconfirms o number (becomes (taken_up (now k) s)) ≡ becomes (reconfirmed (is_some o) (now k) s)
-          by None = further (ended_with keeping (ends.BadData reconfirm_tlv)) (taken_up (now k) s)
-          by (Some found) = ap (key_as (becomes (taken_up (now k) s))) (no_key (state_now k) found home.links)
+      no_record-is : request_of s ≡ Some (requests.Reconfirm None) → after_message ≡ becomes (reconfirmed false (now k) s)
+      no_record-is is = after-request (requests.Reconfirm None) is ∙ further (ended_with keeping (ends.BadData reconfirm_tlv)) (taken_up (now k) s)
 
       message-gave : (r : Given) (old new : List ℕ) (mid s_now : KeptSession) → after_message ≡ becomes mid → HandsOn mid (given_after mid.standing) r old new s_now → Gave (give k number (length old)) r old new (becomes s_now)
       message-gave r old new mid s_now is on =
@@ -269,8 +262,9 @@ module _ (number : ℕ) (k : KeptHub) (s : KeptSession) (there : session_in numb
         let (first, waits) = waiting (requests.Subscribe question) is in
         message-gave first waits r old new mid s_now (subscribe-is first waits question is ∙ (λ i. becomes (subscribed_by question (sym home i) (sym shown i) (sym moment i) s)) ∙ sym (ap becomes step)) on
 
-    pub reconfirm-gave : AreAtHome (state_now k) → (rr : Option Rr) (t : ℕ) (r : Given) (old new : List ℕ) (mid s_now : KeptSession) → request_of s ≡ Some (requests.Reconfirm rr) → t ≡ now k → mid ≡ reconfirmed (is_some rr) t s → HandsOn mid (given_after mid.standing) r old new s_now
+    -- a RECONFIRM whose data is no record
+    pub no_record-gave : (t : ℕ) (r : Given) (old new : List ℕ) (mid s_now : KeptSession) → request_of s ≡ Some (requests.Reconfirm None) → t ≡ now k → mid ≡ reconfirmed false t s → HandsOn mid (given_after mid.standing) r old new s_now
         → Gave (give k number (length old)) r old new (becomes s_now)
-    reconfirm-gave home rr t r old new mid s_now is moment step on =
-        let (first, waits) = waiting (requests.Reconfirm rr) is in
-        message-gave first waits r old new mid s_now (reconfirm-is first waits home rr is ∙ (λ i. becomes (reconfirmed (is_some rr) (sym moment i) s)) ∙ sym (ap becomes step)) on
+    no_record-gave t r old new mid s_now is moment step on =
+        let (first, waits) = waiting (requests.Reconfirm None) is in
+        message-gave first waits r old new mid s_now (no_record-is first waits is ∙ (λ i. becomes (reconfirmed false (sym moment i) s)) ∙ sym (ap becomes step)) on

@@ -1,14 +1,10 @@
 -- What is kept is sound where it stands for a plain hub.
 use Rattle.std.proofs.Common.{◌≡◌, ℕ, ◌<◌, false, List, [], ◌∷◌, map, length, sym, subst, ◌∙◌, arith}
-use Rattle.std.specs.Prelude.{◌==◌, IsTrue}
+use Rattle.std.specs.Prelude.{◌==◌}
 use Rattle.std.specs.List.{AllByRecursion, AllZip, IsDistinct}
-use Rattle.dnsname.specs.Names.{is_name}
 use Rattle.coalesce.specs.Waiting.{WaitingName, CanBePacked}
 use Rattle.rrset.specs.RecordSet.{RecordSet}
-use Rattle.zoneupdate.specs.Keeping.{ZoneKept}
-use Rattle.zoneupdate.specs.Zones.{ZoneState}
-use Rattle.history.specs.Keeping.{HomesKept}
-use Rattle.history.specs.Standing.{AreAtHome}
+use Rattle.history.specs.AtHome.{AreAtHome}
 use Rattle.history.specs.States.{state_at}
 use Rattle.history.specs.declared.entry.Entry.{Entry}
 use Rattle.pushsession.specs.Kept.{KeptSession}
@@ -66,7 +62,3 @@ sound keeping is =
       told = subst AreTold (sym is.index) told.0;
       packable = λ number session at. subst (λ (rows : RecordSet). CanBePacked rows session.queue) (sym is.index) (told.1 number session at);
     }
-
-pub named_states : (homes : HomesKept) → AllByRecursion (λ (z : ZoneKept). IsTrue (is_name z.state.apex)) homes → AllByRecursion (λ (z : ZoneState). IsTrue (is_name z.apex)) (map (λ z. z.state) homes)
-named_states [] all = tt
-named_states (z ∷ homes) all = (all.0, named_states homes all.1)

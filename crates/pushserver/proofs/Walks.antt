@@ -41,12 +41,9 @@ use Rattle.pushsession.specs.declared.standing.Standing.{Standing}
 use Rattle.pushsession.specs.declared.standing.Standing.TheVariants.{Live, AskedToStop, Stopped, Ended}
 use Rattle.pushserver.specs.declared.given.Given.{Given}
 use Rattle.pushserver.specs.declared.given.Given.TheVariants.{Worked, Nothing}
-use Rattle.pushserver.specs.declared.given.Heard.{Heard}
-use Rattle.pushserver.specs.declared.given.Heard.TheVariants.{Entered, Ignored}
-use Rattle.pushserver.specs.declared.given.Why.TheVariants as whys
-use Rattle.pushserver.specs.Hubs.{SessionKind, HubOf, newest, now, state_now, keeps_now, tells_now, session_of, each_session, in_session, entered, can_enter, update, hear, why_not, moment, max_sessions, connect, take_octets, stop, disconnect}
+use Rattle.pushserver.specs.Hubs.{SessionKind, HubOf, newest, now, state_now, keeps_now, tells_now, session_of, each_session, in_session, entered, can_enter, update, hear, moment, max_sessions, connect, take_octets, stop, disconnect}
 use Rattle.pushserver.specs.Giving.{GivingOf, has_home, reconfirms, by_request, reacted, did, copies, copies_or, given_after, after_reaction, after_packing, by_standing, give}
-use Rattle.pushserver.proofs.hub_steps.Cases.{enters_update, update_as, enters_moment, key_as, session_as, request_as, copies_as, found_as, works_as, output_as, give_as}
+use Rattle.pushserver.proofs.hub_steps.Cases.{enters_update, update_as, enters_moment, enters_hearing, hear_as, key_as, session_as, request_as, copies_as, found_as, works_as, output_as, give_as}
 use Rattle.pushserver.specs.Calls.{HubCall, updates as updating, hears, moves, connects, takes, gives, stops, ends as ending, called, after_calls}
 
 -- ---- the steps
@@ -75,7 +72,7 @@ HandsNothing _ = Unit {0}
 -- why an entry is made
 pub data Entering {A Q M : Type 0} {kind : SessionKind A Q M} (Good : List ℕ → Type 0) (hub : HubOf kind) : Entry → Type 0 where
   by_update : (message : List ℕ) (u : Update) → Good message → verdict (state_now hub) message ≡ Ok u → Entering Good hub (entries.Update u)
-  by_hearing : (link : ℕ) (hearing : Hearing) → accepts (state_now hub) (entries.Heard link hearing) ≡ true → Entering Good hub (entries.Heard link hearing)
+  by_hearing : (link : ℕ) (datagram : List ℕ) (hearing : Hearing) → Good datagram → hearing_of datagram ≡ Ok hearing → accepts (state_now hub) (entries.Heard link hearing) ≡ true → Entering Good hub (entries.Heard link hearing)
   by_moment : (t : ℕ) → Entering Good hub (entries.Moment t)
   by_reconfirm : (link : ℕ) (key : Key) → accepts (state_now hub) (entries.Reconfirm link key) ≡ true → Entering Good hub (entries.Reconfirm link key)
 
@@ -97,25 +94,17 @@ module _ {A Q M : Type 0} {kind : SessionKind A Q M} (Good : List ℕ → Type 0
       by (Err code) is = stays
       by (Ok u) is = entering u is (can_enter hub (entries.Update u))
 
-  -- by whether the hearing is accepted, and whether the journal has room
-  abbrev enters_hearing : ℕ → Hearing → Bool → Bool → Option Heard × HubOf kind
-  enters_hearing link hearing accepted room = cond (not accepted) (Some (Ignored whys.Nothing), hub) (cond room (Some Entered, entered (entries.Heard link hearing) hub) (None, hub))
-
-  abbrev hear_as : ℕ → Result Hearing HearFault → Option Heard × HubOf kind
-  hear_as link (Err fault) = (Some (Ignored (why_not fault)), hub)
-  hear_as link (Ok hearing) = enters_hearing link hearing (accepts (state_now hub) (entries.Heard link hearing)) (can_enter hub (entries.Heard link hearing))
-
-  pub holds-hear : (link : ℕ) (datagram : List ℕ) → R (hear hub link datagram).1
-  holds-hear link datagram = by (hearing_of datagram)
+  pub holds-hear : (link : ℕ) (datagram : List ℕ) → Good datagram → R (hear hub link datagram).1
+  holds-hear link datagram good = by (hearing_of datagram) refl
     where
-      entering : (hearing : Hearing) (a : Bool) → accepts (state_now hub) (entries.Heard link hearing) ≡ a → (b : Bool) → R (enters_hearing link hearing a b).1
-      entering hearing false is b = stays
-      entering hearing true is true = enters (entries.Heard link hearing) (by_hearing link hearing is)
-      entering hearing true is false = stays
+      entering : (hearing : Hearing) → hearing_of datagram ≡ Ok hearing → (a : Bool) → accepts (state_now hub) (entries.Heard link hearing) ≡ a → (b : Bool) → R (enters_hearing hub link hearing a b).1
+      entering hearing reads false is b = stays
+      entering hearing reads true is true = enters (entries.Heard link hearing) (by_hearing link datagram hearing good reads is)
+      entering hearing reads true is false = stays
 
-      by : (r : Result Hearing HearFault) → R (hear_as link r).1
-      by (Err fault) = stays
-      by (Ok hearing) = entering hearing (accepts (state_now hub) (entries.Heard link hearing)) refl (can_enter hub (entries.Heard link hearing))
+      by : (r : Result Hearing HearFault) → hearing_of datagram ≡ r → R (hear_as hub link r).1
+      by (Err fault) reads = stays
+      by (Ok hearing) reads = entering hearing reads (accepts (state_now hub) (entries.Heard link hearing)) refl (can_enter hub (entries.Heard link hearing))
 
   pub holds-moment : ((later : HubOf kind) (point t : ℕ) → R later → R (each_session (timed (kind.keeps point) t) later)) → (t : ℕ) → R (moment hub t).1
   holds-moment times t = by (nat_lt (now hub) t) (can_enter hub (entries.Moment t))
@@ -337,6 +326,7 @@ pub record IsKept {A Q M : Type 0} {kind : SessionKind A Q M} (Good : List ℕ �
 -- what is brought is good
 abbrev pub BringsGood : (List ℕ → Type 0) → HubCall → Type 0
 BringsGood Good (updating message) = Good message
+BringsGood Good (hears link datagram) = Good datagram
 BringsGood Good (takes number piece) = Good piece
 BringsGood Good _ = Unit {0}
 
@@ -353,7 +343,7 @@ module _ {A Q M : Type 0} {kind : SessionKind A Q M} (Good : List ℕ → Type 0
 
   pub keeps-called : (call : HubCall) (hub : HubOf kind) → BringsGood Good call → P hub → P (called call hub)
   keeps-called (updating message) hub good h = holds-update Good P hub (λ entry by. k.enters hub entry by h) h message good
-  keeps-called (hears link datagram) hub good h = holds-hear Good P hub (λ entry by. k.enters hub entry by h) h link datagram
+  keeps-called (hears link datagram) hub good h = holds-hear Good P hub (λ entry by. k.enters hub entry by h) h link datagram good
   keeps-called (moves t) hub good h = holds-moment Good P hub (λ entry by. k.enters hub entry by h) h k.times t
   keeps-called connects hub good h = holds-connect P hub (k.makes hub h) h
   keeps-called (takes number piece) hub good h = k.takes_in hub number piece good h
@@ -372,5 +362,6 @@ bring_any (call ∷ calls) = (by call, bring_any calls)
   where
     by : (call : HubCall) → BringsGood AnyMessage call
     by (updating message) = tt
+    by (hears link datagram) = tt
     by (takes number piece) = tt
     by _ = tt

@@ -1,7 +1,8 @@
--- Records of zones can be told: at the start, after an update, at a later moment.
+-- What homes show can be told: at the start, after each entry.
 pub mod Shaped
 pub mod Entered
 pub mod Fitting
+pub mod HeardRows
 pub mod Told
 pub mod Updated
 pub mod Histories

@@ -34,5 +34,6 @@ after_calls calls hub = fold (λ h c. called c h) hub calls
 -- what comes as octets are octets
 abbrev pub BringsOctets : HubCall → Type 0
 BringsOctets (updates message) = AreOctets message
+BringsOctets (hears link datagram) = AreOctets datagram
 BringsOctets (takes number piece) = AreOctets piece
 BringsOctets _ = Unit {0}

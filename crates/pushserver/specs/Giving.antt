@@ -1,5 +1,6 @@
 -- What `give` does: the first case that applies, and the reaction to one message (RFC 8490, 5; RFC 8765, 6).
 --     give hub number room      the octets copied, what was done, and the hub after it
+--     reconfirm hub rr      the hub after a record was reconfirmed
 --     reacted message number hub      the hub after a session has reacted to a message
 use Rattle.std.specs.Prelude.{ℕ, Bool, true, false, ◌&&◌, List, [], length, take, Option, Some, None, is_some, min, if◌then◌else◌}
 use Rattle.push_base.specs.Cases.{is_empty}
@@ -39,12 +40,16 @@ abbrev pub subscribes : {A Q M : Type 0} {kind : SessionKind A Q M} → Option Q
 subscribes question number message hub = in_session number (answers_subscribe (keeps_now hub) (tells_now hub) (now hub) message question (has_home hub question)) hub
 
 -- a record that a link shows is reconfirmed, where the journal has room; any other is ignored (RFC 8765, 6.5)
-abbrev pub reconfirms : {A Q M : Type 0} {kind : SessionKind A Q M} → Option Rr → ℕ → HubOf kind → HubOf kind
-reconfirms None number hub = in_session number (takes_reconfirm (keeps_now hub) false) hub
-reconfirms (Some rr) number hub = elim (reconfirm_key (state_now hub) rr) [
+abbrev pub reconfirm : {A Q M : Type 0} {kind : SessionKind A Q M} → HubOf kind → Rr → HubOf kind
+reconfirm hub rr = elim (reconfirm_key (state_now hub) rr) [
   | None ↦ hub
   | Some found ↦ (let entry = entries.Reconfirm found.0 found.1 in if accepts (state_now hub) entry && can_enter hub entry then entered entry hub else hub)
 ]
+
+-- data that is no record ends the session
+abbrev pub reconfirms : {A Q M : Type 0} {kind : SessionKind A Q M} → Option Rr → ℕ → HubOf kind → HubOf kind
+reconfirms None number hub = in_session number (takes_reconfirm (keeps_now hub) false) hub
+reconfirms (Some rr) number hub = reconfirm hub rr
 
 -- an update is judged, and the answer has its RCODE (RFC 2136, 3.8); it is written after the entry
 abbrev pub updates : {A Q M : Type 0} {kind : SessionKind A Q M} → ℕ → List ℕ → HubOf kind → HubOf kind

@@ -17,8 +17,8 @@ use Rattle.dnswire.specs.declared.message.WireFault.TheVariants as wires
 use Rattle.dnswire.specs.declared.message.HearFault.{HearFault}
 use Rattle.dnswire.specs.declared.message.HearFault.TheVariants as hearfaults
 use Rattle.dsosession.specs.declared.session.Timers.{Timers}
-use Rattle.history.specs.Keeping as pasts
-use Rattle.history.specs.Keeping.{Past}
+use Rattle.history.specs.Kept as pasts
+use Rattle.history.specs.Kept.{Past}
 use Rattle.history.specs.States.{State, verdict, accepts, entry_size, journal_has_room}
 use Rattle.history.specs.declared.entry.Entry.{Entry}
 use Rattle.history.specs.declared.entry.Entry.TheVariants as entries

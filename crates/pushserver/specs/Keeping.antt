@@ -3,15 +3,17 @@
 --     IsSound keeping, IsHub keeping      what holds of them between calls; they stand for a plain hub
 --     Gave giving given before after kept      what a call of `give` answered and left
 --     IsSeated kept number session past timers rows      the session stands in a hub of such parts
---     IsToJudge number found sessions, Turns      an update is to be judged; what a session's turn came to
+--     IsToJudge number found sessions, IsToReconfirm number rr sessions      an update is to be judged, a record to be reconfirmed
+--     Turns      what a session's turn came to
 use Rattle.std.specs.Prelude.{◌≡◌, ℕ, List, [], ◌++◌, drop, length, Option, Some, ok_or}
 use Rattle.rrset.specs.RecordSet.{RecordSet}
 use Rattle.rrset.specs.Rcodes.{formerr}
+use Rattle.rrset.specs.declared.record.Rr.{Rr}
 use Rattle.dnswire.specs.declared.message.Update.{Update}
 use Rattle.coalesce.specs.Waiting.{CanBePacked}
 use Rattle.dsosession.specs.declared.session.Timers.{Timers}
-use Rattle.history.specs.Keeping.{Past}
-use Rattle.history.specs.Standing.{AreAtHome}
+use Rattle.history.specs.Kept.{Past}
+use Rattle.history.specs.AtHome.{AreAtHome}
 use Rattle.history.specs.States.{update_in}
 use Rattle.pushsession.specs.Kept.{KeptSession}
 use Rattle.pushsession.specs.Requests.{message_of, request_of}
@@ -60,7 +62,6 @@ pub record IsSeated (kept : KeptHub) (number : ℕ) (session : KeptSession) (pas
   pub past_is : past_of kept ≡ past
   pub timers_is : kept.timers ≡ timers
   pub rows_is : rows ≡ records_now kept
-  pub home : AreAtHome (state_now kept)
 
 -- the session of this number goes on without output, and its first message is an update that reads so
 pub record IsToJudge (number : ℕ) (found : Option Update) (sessions : Numbered KeptSession) : Type 0 where
@@ -71,7 +72,16 @@ pub record IsToJudge (number : ℕ) (found : Option Update) (sessions : Numbered
   pub request : request_of session ≡ Some requests.Update
   pub reads : update_in (message_of session) ≡ ok_or found formerr
 
--- what the call gives, with the session as it is then; or the session is as before, and an update is to be judged
+-- the same, and its first message reconfirms this record
+pub record IsToReconfirm (number : ℕ) (rr : Rr) (sessions : Numbered KeptSession) : Type 0 where
+  pub session : KeptSession
+  pub there : session_in number sessions ≡ Some session
+  pub live : session.standing ≡ Live
+  pub silent : session.output ≡ []
+  pub request : request_of session ≡ Some (requests.Reconfirm (Some rr))
+
+-- what the call gives, with the session as it is then; or the session is as before, and an update is to be judged, or a record to be reconfirmed
 abbrev pub Turns : KeptHub → ℕ → Turn → List ℕ → List ℕ → KeptSession → KeptSession → Type 0
 Turns kept number (turns.Did given) octets octets_now session session_now = Gave (give kept number (length octets)) given octets octets_now (in_session number (λ _. session_now) kept)
 Turns kept number (turns.Judge found) octets octets_now session session_now = (octets_now ≡ octets) × (session_now ≡ session) × IsToJudge number found kept.sessions
+Turns kept number (turns.Reconfirm rr) octets octets_now session session_now = (octets_now ≡ octets) × (session_now ≡ session) × IsToReconfirm number rr kept.sessions

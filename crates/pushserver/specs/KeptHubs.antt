@@ -6,7 +6,7 @@ use Rattle.std.specs.List.{AllByRecursion, AllZip}
 use Rattle.push_base.specs.Limits.{max_number}
 use Rattle.rrset.specs.RecordSet.{at_name}
 use Rattle.coalesce.specs.Waiting.{WaitingName}
-use Rattle.history.specs.Keeping.{records_now}
+use Rattle.history.specs.Kept.{records_now}
 use Rattle.history.specs.States.{records_at}
 use Rattle.pushsession.specs.Kept.{KeptSession, KeptQuestions, Filled, keeping, telling}
 use Rattle.pushserver.specs.PlainHubs.{Hub, Session, Subscription, Queue, written, asked_of}

@@ -16,7 +16,7 @@ use Rattle.dsotlv.specs.declared.message.Notice.{Notice}
 use Rattle.coalesce.specs.FirstAnswers.{told_first}
 use Rattle.coalesce.specs.Net.{Nets, each_net, packed}
 use Rattle.dsosession.specs.declared.session.Timers.{Timers}
-use Rattle.history.specs.Keeping.{records_now}
+use Rattle.history.specs.Kept.{records_now}
 use Rattle.history.specs.States.{State, records_at}
 use Rattle.history.specs.declared.entry.Entry.{Entry}
 use Rattle.pushsession.specs.Sessions.{SessionOf, Keeps, least_of}

@@ -1,5 +1,5 @@
 -- What the calls do to the hub that is kept is what they do to the plain hub that it stands for.
---     UpdatesStand, MomentsStand, ConnectsStand, TakesStand, StopsStand, EndsStand, GivesStand      each call
+--     UpdatesStand, HearsStand, MomentsStand, ConnectsStand, TakesStand, StopsStand, EndsStand, GivesStand      each call
 --     HubsTell      what is told of records can be told
 --     CountsStand      both count alike
 use Rattle.std.specs.Prelude.{◌≡◌, ℕ, List, Some}
@@ -8,7 +8,7 @@ use Rattle.history.specs.Totals.{totals}
 use Rattle.pushsession.specs.Kept.{KeptSession}
 use Rattle.dsotlv.specs.Laws.{AreOctets}
 use Rattle.pushserver.specs.PlainHubs.{Hub, Giving}
-use Rattle.pushserver.specs.Hubs.{session_of, records_now, update, moment, connect, taken_by, take_octets, stop, disconnect}
+use Rattle.pushserver.specs.Hubs.{session_of, records_now, update, hear, moment, connect, taken_by, take_octets, stop, disconnect}
 use Rattle.pushserver.specs.Giving.{give}
 use Rattle.pushserver.specs.KeptHubs.{KeptHub, KeptGiving, StandsFor}
 use Rattle.pushserver.specs.Rows.{AreTold}
@@ -19,6 +19,9 @@ BothAnswer k p = (k.0 ≡ p.0) × StandsFor k.1 p.1
 
 abbrev pub UpdatesStand : Type 0
 UpdatesStand = (k : KeptHub) (hub : Hub) (message : List ℕ) → StandsFor k hub → AreOctets message → BothAnswer (update k message) (update hub message)
+
+abbrev pub HearsStand : Type 0
+HearsStand = (k : KeptHub) (hub : Hub) (link : ℕ) (datagram : List ℕ) → StandsFor k hub → AreOctets datagram → BothAnswer (hear k link datagram) (hear hub link datagram)
 
 abbrev pub MomentsStand : Type 0
 MomentsStand = (k : KeptHub) (hub : Hub) (t : ℕ) → StandsFor k hub → BothAnswer (moment k t) (moment hub t)

@@ -1,7 +1,7 @@
 -- What holds of each plain hub to which calls of the server lead.
 --     IsSoundHub hub      of the hub
 --     IsSoundSession hub numbered      of a session in it
-use Rattle.std.specs.Prelude.{◌≡◌, ℕ, ◌<◌, ◌≤◌, [], length, IsTrue}
+use Rattle.std.specs.Prelude.{ℕ, ◌<◌, ◌≤◌, length, IsTrue}
 use Rattle.std.specs.List.{AllByRecursion, IsDistinct}
 use Rattle.push_base.specs.Limits.{max_input}
 use Rattle.dnsname.specs.Names.{same_name}
@@ -36,10 +36,9 @@ pub record IsSoundSession (hub : Hub) (numbered : ℕ × Session) : Type 0 where
   pub input_fits : length numbered.1.input ≤ max_input
   pub output_fits : length numbered.1.output ≤ frame_octets
 
--- it began with zones and without links, and what it has at each point can be told; no number is there twice, and there are not too many sessions
+-- it began with homes in which nothing had changed, and what it has at each point can be told; no number is there twice, and there are not too many sessions
 pub record IsSoundHub (hub : Hub) : Type 0 where
   pub begins : IsStart hub.start
-  pub links : hub.start.links ≡ []
   pub states : (point : ℕ) → point ≤ newest hub → IsTellable (state_at hub.start hub.history point)
   pub sessions : AllByRecursion (IsSoundSession hub) hub.sessions
   pub numbers : AreApart hub.sessions

@@ -1,7 +1,7 @@
 //! Entries of the history, and what they make of all that is kept.
 
 ghost use Rattle.std.specs.Prelude.{◌≡◌, ◌++◌, ◌∷◌, [], true, OnOk, OnErr};
-ghost use Rattle.history.specs.Keeping.{IsHeld};
+ghost use Rattle.history.specs.Kept.{IsHeld};
 ghost use Rattle.history.specs.States.{entry_size, journal_has_room};
 ghost use Rattle.pushserver.specs.Hubs.{can_enter, entered, entry_changes, records_now};
 ghost use Rattle.pushserver.specs.Keeping.{IsSound, kept_of};

@@ -3,7 +3,7 @@
 ghost use Rattle.std.specs.Prelude.{◌≡◌, length, IfOk, OnErr};
 ghost use Rattle.pushserver.specs.Hubs.{records_now};
 ghost use Rattle.pushserver.specs.Giving.{give};
-ghost use Rattle.pushserver.specs.Keeping.{Gave, IsSound, IsToJudge, kept_of};
+ghost use Rattle.pushserver.specs.Keeping.{Gave, IsSound, IsToJudge, IsToReconfirm, kept_of};
 ghost use Rattle.pushserver.specs.Laws.{MayWantMemory};
 
 use crate::given::Given;
@@ -12,6 +12,7 @@ use crate::turning::{Turn, after_reaction, take_turn};
 use dnswire::Update;
 use dsosession::session::EndReason;
 use pushsession::NoMemory;
+use rrset::Rr;
 
 impl Keeping {
     /// Judges the update that a session's first message is, if it is one, and answers with its RCODE (RFC 2136, 3.8).
@@ -38,6 +39,25 @@ impl Keeping {
         }
     }
 
+    /// Reconfirms the record of a session's first message, and then the session takes that message up (RFC 8765, 6.5).
+    fn take_reconfirm(&mut self, number: u64, rr: Rr, buf: &mut [u8]) -> Result<Given, NoMemory>
+        requires sound { IsSound self.old }
+        requires ready { IsToReconfirm number rr self.old.sessions }
+        ensures ok { IfOk result (λ given. Gave (give (kept_of self.old) number (length buf.old)) given buf.old buf.new (kept_of self.new)) }
+        ensures err { OnErr result (kept_of self.new ≡ kept_of self.old) }
+        ensures index { self.new.index.rows ≡ records_now (kept_of self.new) }
+    {
+        let now = self.points.now();
+        self.reconfirm(&rr)?;
+        match self.sessions.get_mut(number) {
+            Some(session) => {
+                session.reconfirm(Some(rr), now);
+                Ok(after_reaction(session, buf))
+            }
+            None => Ok(Given::Worked),
+        }
+    }
+
     /// The longest front of a session's output that fits, or else what is to be done for it.
     pub(crate) fn give(&mut self, number: u64, buf: &mut [u8]) -> Result<Given, NoMemory>
         requires { IsSound self.old }
@@ -53,6 +73,7 @@ impl Keeping {
         match take_turn(session, alloc, &self.points, &self.index, self.timers, buf)? {
             Turn::Did(given) => Ok(given),
             Turn::Judge(found) => self.answer_update(number, found, buf),
+            Turn::Reconfirm(rr) => self.take_reconfirm(number, rr, buf),
         }
     }
 }

@@ -1,17 +1,20 @@
 //! The server's core: one history, and the sessions that are told of it.
 
 ghost use Rattle.std.specs.Prelude.{◌≡◌, ◌≤◌, ◌+◌, ◌++◌, None, Some, drop, false, length, true, IfOk, IsErrOf, OnErr, OnOk};
-ghost use Rattle.history.specs.Keeping.{state_of};
+ghost use Rattle.push_base.specs.Limits.{max_moment};
+ghost use Rattle.dnswire.specs.Reading.{hearing_of};
+ghost use Rattle.history.specs.Kept.{state_of};
 ghost use Rattle.history.specs.Plans.{IsStart};
-ghost use Rattle.pushserver.specs.Counting.{MayAddChange, MayAddMoment, octets_of};
+ghost use Rattle.pushserver.specs.Counting.{AddsHearing, MayAddChange, MayAddMoment, octets_of};
 ghost use Rattle.pushserver.specs.Giving.{give};
-ghost use Rattle.pushserver.specs.Hubs.{connect, empty_hub, disconnect, max_sessions, moment, stop, take_octets, taken_by, update};
+ghost use Rattle.pushserver.specs.Hubs.{connect, empty_hub, disconnect, hear, max_sessions, moment, stop, take_octets, taken_by, update};
 ghost use Rattle.pushserver.specs.Laws.{MayWantMemory};
+ghost use Rattle.pushserver.specs.Observing.{SaysWhy};
 ghost use Rattle.pushserver.specs.KeptHubs.{StandsFor, kept};
 ghost use Rattle.pushserver.specs.PlainHubs.{Hub as Plain, new_hub};
 
 use crate::fault::{ConnectFault, HubFault};
-use crate::given::Given;
+use crate::given::{Given, Heard};
 use crate::keeping::Keeping;
 use dsosession::session::Timers;
 use history::Homes;
@@ -60,9 +63,29 @@ impl Hub {
         Ok(self.keeping.update(message)?)
     }
 
+    /// Hears a datagram of a link, counted from 0 (RFC 6762, 18), and enters it where a record of it can be used; there may
+    /// be no such link. `Ignored`: it is no hearing, or no record of it can be shown. `Full`: it could be entered, and the
+    /// journal has no room for it.
+    pub fn hear(&mut self, link: usize, datagram: &[u8]) -> Result<Heard, HubFault>
+        ensures ok { IfOk result (λ heard. (hub : Plain) → StandsFor self.old hub → ((hear hub link datagram.now).0 ≡ Some heard) × StandsFor self.new (hear hub link datagram.now).1) }
+        ensures full { IsErrOf result HubFault.Full → (hub : Plain) → StandsFor self.old hub → ((hear hub link datagram.now).0 ≡ None) × StandsFor self.new (hear hub link datagram.now).1 }
+        ensures err { OnErr result ((hub : Plain) → StandsFor self.old hub → StandsFor self.new hub) }
+        ensures kept { IfOk result (λ heard. ((hear self.old link datagram.now).0 ≡ Some heard) × (self.new ≡ (hear self.old link datagram.now).1)) }
+        ensures no_room { IsErrOf result HubFault.Full → (hear self.old link datagram.now).0 ≡ None }
+        ensures same { OnErr result (self.new ≡ self.old) }
+        ensures unread { IfOk result (λ heard. SaysWhy heard (hearing_of datagram.now)) }
+        ensures counts { AddsHearing result self.old self.new }
+    {
+        let Some(heard) = self.keeping.hear(link, datagram)? else {
+            return Err(HubFault::Full);
+        };
+        Ok(heard)
+    }
+
     /// It is a moment: where it is a later one, it is entered, and sessions end by their timers (RFC 8490, 6.4 to 6.6).
     /// `Full`: the journal has no room for it, which is told before any memory is taken.
     pub fn moment(&mut self, at: u64) -> Result<(), HubFault>
+        requires { at ≤ max_moment }
         ensures ok { OnOk result ((hub : Plain) → StandsFor self.old hub → ((moment hub at).0 ≡ false) × StandsFor self.new (moment hub at).1) }
         ensures full { IsErrOf result HubFault.Full → (hub : Plain) → StandsFor self.old hub → ((moment hub at).0 ≡ true) × StandsFor self.new (moment hub at).1 }
         ensures err { OnErr result ((hub : Plain) → StandsFor self.old hub → StandsFor self.new hub) }

@@ -1,18 +1,22 @@
 //! What the hub keeps, and what its calls do to that.
 
-ghost use Rattle.std.specs.Prelude.{◌≡◌, ◌≤◌, List, ℕ, Some, false, length, IfOk, IsTrue, OnErr, ok_or};
+ghost use Rattle.std.specs.Prelude.{◌≡◌, ◌≤◌, List, ℕ, Ok, Some, false, length, IfOk, IsTrue, OnErr, OnOk, ok_or};
 ghost use Rattle.std.specs.List.{AllByRecursion};
+ghost use Rattle.push_base.specs.Limits.{max_moment};
 ghost use Rattle.dnsname.specs.Names.{is_name};
 ghost use Rattle.rrset.specs.Rcodes.{formerr};
-ghost use Rattle.history.specs.Keeping.{state_of};
+ghost use Rattle.dnswire.specs.Reading.{hearing_of};
+ghost use Rattle.history.specs.Kept.{state_of};
 ghost use Rattle.history.specs.Plans.{IsStart};
-ghost use Rattle.history.specs.Standing.{AreAtHome};
+ghost use Rattle.history.specs.AtHome.{AreAtHome, homes_in};
 ghost use Rattle.history.specs.States.{update_in};
-ghost use Rattle.pushserver.specs.Hubs.{connect, empty_hub, disconnect, moment, records_now, stop, take_octets, taken_by, update};
+ghost use Rattle.pushserver.specs.Hubs.{connect, empty_hub, disconnect, hear, moment, records_now, stop, take_octets, taken_by, update};
+ghost use Rattle.pushserver.specs.Giving.{reconfirm};
 ghost use Rattle.pushserver.specs.KeptHubs.{kept};
 ghost use Rattle.pushserver.specs.Keeping.{IsSound, kept_of};
 
-use crate::reading::read_message;
+use crate::given::{Heard, Why};
+use crate::reading::{read_datagram, read_message};
 use crate::sessions::{MAX_SESSIONS, Sessions};
 use dnswire::Update;
 use dsosession::session::Timers;
@@ -20,8 +24,8 @@ use history::entry::Entry;
 use history::{Homes, Planned, Points};
 use push_base::limits::MAX_NUMBER;
 use pushsession::{NoMemory, PushSession};
-use rrset::Table;
 use rrset::rcodes::{FORMERR, NOERROR, SERVFAIL};
+use rrset::{Hearing, Rr, Table};
 use std::alloc::Global;
 
 /// The history, what is granted, all records in one table, the sessions, and the number of the next one.
@@ -41,7 +45,7 @@ impl Keeping {
         ensures kept { IfOk result (λ keeping. kept_of keeping ≡ empty_hub kept (state_of homes) timers) }
         ensures index { IfOk result (λ keeping. keeping.index.rows ≡ records_now (kept_of keeping)) }
         ensures home { AreAtHome (state_of homes) }
-        ensures names { AllByRecursion (λ z. IsTrue (is_name z.state.apex)) homes }
+        ensures names { AllByRecursion (λ h. IsTrue (is_name h.0)) (homes_in (state_of homes)) }
     {
         homes.tell_names();
         let alloc = homes.allocator();
@@ -101,9 +105,73 @@ impl Keeping {
         self.judge(found)
     }
 
+    /// Enters what a datagram of a link said where a record of it can be used and the journal has room. Nothing where the
+    /// journal is full.
+    fn enter_hearing(&mut self, link: usize, hearing: Hearing) -> Result<Option<Heard>, NoMemory>
+        requires { IsSound self.old }
+        ensures heard { IfOk result (λ heard. (datagram : List ℕ) → hearing_of datagram ≡ Ok hearing → heard ≡ (hear (kept_of self.old) link datagram).0) }
+        ensures hub { IfOk result (λ heard. (datagram : List ℕ) → hearing_of datagram ≡ Ok hearing → kept_of self.new ≡ (hear (kept_of self.old) link datagram).1) }
+        ensures err { OnErr result (kept_of self.new ≡ kept_of self.old) }
+        ensures index { self.new.index.rows ≡ records_now (kept_of self.new) }
+    {
+        let entry = Entry::Heard(link, hearing);
+        let alloc = self.allocator();
+        match self.points.plan(alloc, &entry)? {
+            Planned::Refuse(_) => unreachable!(),
+            Planned::Idle => Ok(Some(Heard::Ignored(Why::Nothing))),
+            Planned::Accept(changed) => {
+                if !self.can_enter(&entry) {
+                    return Ok(None);
+                }
+                self.enter(entry, changed)?;
+                Ok(Some(Heard::Entered))
+            }
+        }
+    }
+
+    /// Hears a datagram of a link, counted from 0 (RFC 6762, 18). Nothing where the journal is full.
+    pub(crate) fn hear(&mut self, link: usize, datagram: &[u8]) -> Result<Option<Heard>, NoMemory>
+        requires { IsSound self.old }
+        ensures heard { IfOk result (λ heard. heard ≡ (hear (kept_of self.old) link datagram.now).0) }
+        ensures hub { IfOk result (λ heard. kept_of self.new ≡ (hear (kept_of self.old) link datagram.now).1) }
+        ensures err { OnErr result (kept_of self.new ≡ kept_of self.old) }
+        ensures index { self.new.index.rows ≡ records_now (kept_of self.new) }
+    {
+        let alloc = self.allocator();
+        match read_datagram(alloc, datagram)? {
+            Ok(hearing) => self.enter_hearing(link, hearing),
+            Err(why) => Ok(Some(Heard::Ignored(why))),
+        }
+    }
+
+    /// Reconfirms a record where a link shows it and the journal has room; else it is ignored (RFC 8765, 6.5).
+    pub(crate) fn reconfirm(&mut self, rr: &Rr) -> Result<(), NoMemory>
+        requires { IsSound self.old }
+        ensures hub { OnOk result (kept_of self.new ≡ reconfirm (kept_of self.old) rr.now) }
+        ensures err { OnErr result (kept_of self.new ≡ kept_of self.old) }
+        ensures index { self.new.index.rows ≡ records_now (kept_of self.new) }
+    {
+        let alloc = self.allocator();
+        let Some((link, key)) = self.points.reconfirm_key(alloc, rr)? else {
+            return Ok(());
+        };
+        let entry = Entry::Reconfirm(link, key);
+        match self.points.plan(alloc, &entry)? {
+            Planned::Refuse(_) => unreachable!(),
+            Planned::Idle => Ok(()),
+            Planned::Accept(changed) => {
+                if !self.can_enter(&entry) {
+                    return Ok(());
+                }
+                self.enter(entry, changed)
+            }
+        }
+    }
+
     /// It is a moment, in milliseconds. Gives whether the journal was full, which is told before any memory is taken.
     pub(crate) fn moment(&mut self, at: u64) -> Result<bool, NoMemory>
-        requires { IsSound self.old }
+        requires sound { IsSound self.old }
+        requires timely { at ≤ max_moment }
         ensures full { IfOk result (λ full. full ≡ (moment (kept_of self.old) at).0) }
         ensures hub { IfOk result (λ full. kept_of self.new ≡ (moment (kept_of self.old) at).1) }
         ensures err { OnErr result (kept_of self.new ≡ kept_of self.old) }

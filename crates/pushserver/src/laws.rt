@@ -1,12 +1,13 @@
 //! Laws that the hub's contracts stand on.
 
-ghost use Rattle.pushserver.specs.Simulation.{UpdatesStand, MomentsStand, ConnectsStand, TakesStand, StopsStand, EndsStand, GivesStand, HubsTell, CountsStand};
+ghost use Rattle.pushserver.specs.Simulation.{UpdatesStand, HearsStand, MomentsStand, ConnectsStand, TakesStand, StopsStand, EndsStand, GivesStand, HubsTell, CountsStand};
 ghost use Rattle.pushserver.specs.Laws.{NothingWhereAllIsTold, NothingMeansAllIsShown, GiveChangesOneSession, OtherCallsKeepOutputs, SubscribeIsAnswered};
 
 /// What each call does to the hub as it is kept is what it does to the plain hub that it stands for, and what is told of
 /// records can be told.
 pub fn kept_hubs_stand()
     ensures updates { UpdatesStand }
+    ensures hears { HearsStand }
     ensures moments { MomentsStand }
     ensures connects { ConnectsStand }
     ensures takes { TakesStand }

@@ -1,12 +1,19 @@
-//! The update that a message is (RFC 2136, 2).
+//! The update that a message is (RFC 2136, 2), and the hearing that a datagram is (RFC 6762, 18).
 
 ghost use Rattle.std.specs.Prelude.{◌≡◌, ◌+◌, ◌≤◌, not, length, IfOk, ok_or};
+ghost use Rattle.push_base.specs.Cases.{fault_as};
+ghost use Rattle.dnsname.specs.Reading.{place_of};
+ghost use Rattle.dnswire.specs.Reading.{hearing_of};
 ghost use Rattle.rrset.specs.Rcodes.{formerr};
 ghost use Rattle.rrset.specs.Header.{two_octets};
 ghost use Rattle.history.specs.States.{lacks_update_header, update_in};
+ghost use Rattle.pushserver.specs.Hubs.{why_not, wire_place};
 
-use dnswire::{Update, WireFault, read_update};
+use crate::given::Why;
+use dnsname::NameFault;
+use dnswire::{HearFault, Update, WireFault, read_hearing, read_update};
 use pushsession::NoMemory;
+use rrset::Hearing;
 use rrset::header::{HEADER, MAX_MESSAGE, UPDATE_OPCODE, is_response, opcode_of};
 use std::alloc::Global;
 
@@ -43,5 +50,57 @@ pub(crate) fn read_message(alloc: Global, message: &[u8]) -> Result<Option<Updat
         Err(WireFault::Trailing(_)) => Ok(None),
         Err(WireFault::Name(_)) => Ok(None),
         Err(WireFault::Rdata(_)) => Ok(None),
+    }
+}
+
+/// The place of a fault in a name; 0 for want of memory.
+fn name_place(fault: NameFault) -> usize
+    ensures { result ≡ place_of fault }
+{
+    match fault {
+        NameFault::Short(place)
+        | NameFault::LongLabel(place)
+        | NameFault::Pointer(place)
+        | NameFault::TooLong(place) => place,
+        NameFault::NoMemory => 0,
+    }
+}
+
+/// The place of a fault in a message; 0 for want of memory.
+fn wire_place(fault: WireFault) -> usize
+    ensures { result ≡ wire_place fault }
+{
+    match fault {
+        WireFault::Short(place) | WireFault::Trailing(place) | WireFault::Rdata(place) => place,
+        WireFault::Name(fault) => name_place(fault),
+        WireFault::NoMemory => 0,
+    }
+}
+
+/// Why a datagram with this fault is ignored.
+fn why_not(fault: HearFault) -> Why
+    ensures { result ≡ why_not fault }
+{
+    match fault {
+        HearFault::Long => Why::Long,
+        HearFault::Short => Why::Short,
+        HearFault::Query => Why::Query,
+        HearFault::Coded => Why::Coded,
+        HearFault::Wire(fault) => Why::Unreadable(wire_place(fault) as u64),
+        HearFault::NoMemory => Why::Nothing,
+    }
+}
+
+/// What a datagram of a link says, or why it is ignored (RFC 6762, 18).
+pub(crate) fn read_datagram(
+    alloc: Global,
+    datagram: &[u8],
+) -> Result<Result<Hearing, Why>, NoMemory>
+    ensures { IfOk result (λ read. fault_as why_not (hearing_of datagram.now) ≡ read) }
+{
+    match read_hearing(alloc, datagram) {
+        Ok(hearing) => Ok(Ok(hearing)),
+        Err(HearFault::NoMemory) => Err(NoMemory),
+        Err(fault) => Ok(Err(why_not(fault))),
     }
 }

@@ -17,7 +17,7 @@ use dnswire::Update;
 use dsosession::session::Timers;
 use history::Points;
 use pushsession::{NoMemory, PushSession, Request, Standing};
-use rrset::{Question, Table};
+use rrset::{Question, Rr, Table};
 use std::alloc::Global;
 
 /// What a session's turn came to.
@@ -27,6 +27,8 @@ pub(crate) enum Turn {
     Did(Given),
     /// Nothing yet: its first message is to be judged as an update (RFC 2136, 3). None where it can't be read as one.
     Judge(Option<Update>),
+    /// Nothing yet: its first message is to reconfirm this record (RFC 8765, 6.5).
+    Reconfirm(Rr),
 }
 
 /// Hands on the front of a session's output that fits; where there is none, `otherwise` was done.
@@ -99,8 +101,9 @@ fn work(
     };
     match request {
         Request::Update => return Ok(Turn::Judge(read_message(alloc, session.message())?)),
+        Request::Reconfirm(Some(rr)) => return Ok(Turn::Reconfirm(rr)),
+        Request::Reconfirm(None) => session.reconfirm(None, now),
         Request::Itself => session.react(timers, now),
-        Request::Reconfirm(rr) => session.reconfirm(rr, now),
         Request::Subscribe(question) => {
             let has_home = has_home(points, &question);
             session.subscribe(question, has_home, index, now)?;

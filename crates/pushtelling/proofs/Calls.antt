@@ -1,10 +1,15 @@
 -- Any calls keep the telling.
-use Rattle.std.proofs.Common.{◌≡◌, ℕ, [], sym, ◌∙◌}
+use Rattle.std.proofs.Common.{◌≡◌, ℕ, List, [], ◌∷◌, ◌++◌, sym, ◌∙◌}
+use Rattle.std.specs.Prelude.{IsTrue}
+use Rattle.std.specs.List.{AllByRecursion}
+use Rattle.dnsname.specs.Names.{is_name}
 use Rattle.rrset.specs.RecordSet.{matching}
 use Rattle.dsosession.specs.declared.session.Timers.{Timers}
-use Rattle.history.proofs.Starts.{home-start}
-use Rattle.history.specs.States.{State, records_at}
-use Rattle.pushserver.specs.Calls.{HubCall, updates, takes, after_calls, BringsOctets}
+use Rattle.history.proofs.Starts.{start-home}
+use Rattle.history.specs.AtHome.{AreAtHome, named_zones, named_links}
+use Rattle.history.specs.Homes.{NamedHome}
+use Rattle.history.specs.States.{State, LinkState, records_at}
+use Rattle.pushserver.specs.Calls.{HubCall, updates, hears, takes, after_calls, BringsOctets}
 use Rattle.pushserver.specs.Hubs.{newest}
 use Rattle.pushserver.specs.PlainHubs.{Hub, Session, Subscription, told, note_of, new_hub, sent}
 use Rattle.pushserver.specs.ToldMessages.{TellsHistory, set_after}
@@ -15,7 +20,7 @@ use Rattle.pushserver.proofs.session_steps.Lists.{each-both}
 use Rattle.dsotlv.specs.Laws.{AreOctets}
 use Rattle.pushserver.proofs.told_rows.Hubs.{new_tells}
 use Rattle.pushserver.proofs.told_rows.Updated.{start-tellable}
-use Rattle.pushtelling.specs.Laws.{IsStartOfZones, SessionsTellTheHistory, MessagesStay}
+use Rattle.pushtelling.specs.Laws.{IsStartOfHomes, SessionsTellTheHistory, MessagesStay}
 use Rattle.pushtelling.proofs.Following.{Follows, follows-itself, follows_keeps}
 use Rattle.pushtelling.proofs.Hubs.{HubTells, hub_keeps}
 use Rattle.pushtelling.proofs.Messages.{LeadsTo, each_right-hub}
@@ -23,11 +28,21 @@ use Rattle.pushtelling.proofs.Tells.{Tells}
 
 brings-good : (call : HubCall) → BringsOctets call → BringsGood AreOctets call
 brings-good (updates message) octets = octets
+brings-good (hears link datagram) octets = octets
 brings-good (takes number piece) octets = octets
 brings-good _ octets = tt
 
-pub new-hub : (start : State) (timers : Timers) → IsStartOfZones start → HubTells (new_hub start timers)
-new-hub start timers is = record { states = new_tells start timers (start-tellable start is.begins (home-start start is.links is.together is.begins) is.names); sessions = tt }
+-- the names of the links, which stand behind the zones
+link-names : (zones : List NamedHome) (links : List LinkState) → AllByRecursion (λ h. IsTrue (is_name h.0)) (zones ++ named_links links) → AllByRecursion (λ l. IsTrue (is_name l.domain)) links
+link-names [] [] all = tt
+link-names [] (l ∷ ls) all = (all.0, link-names [] ls all.1)
+link-names (z ∷ zs) ls all = link-names zs ls all.1
+
+pub start-at-home : (start : State) → IsStartOfHomes start → AreAtHome start
+start-at-home start is = start-home start is.begins is.apart (link-names (named_zones start.zones) start.links is.names)
+
+pub new-hub : (start : State) (timers : Timers) → IsStartOfHomes start → HubTells (new_hub start timers)
+new-hub start timers is = record { states = new_tells start timers (start-tellable start is.begins (start-at-home start is) is.names); sessions = tt }
 
 -- a session of such a hub tells the history
 pub tells_history : (hub : Hub) (session : Session) → Tells hub.start hub.history session → TellsHistory hub session

@@ -1,25 +1,23 @@
 -- That each session tells the history is kept by every call.
 --     HubTells hub      each session tells the history, and each state can be told
---     unmet      without links no test of one is met
-use Rattle.std.proofs.Common.{◌≡◌, ℕ, ◌<◌, Bool, true, false, cond, not, List, [], ◌∷◌, ◌++◌, take, zero, suc, Some, ◌∙◌, ap, sym, refl, arith}
+use Rattle.std.proofs.Common.{◌≡◌, ℕ, ◌<◌, Bool, true, false, cond, not, List, [], ◌∷◌, ◌++◌, take, Some}
 use Rattle.std.specs.Prelude.{◌==◌}
 use Rattle.std.specs.List.{AllByRecursion}
 use Rattle.std.proofs.lemmas.List.Elements.{All-append, All-take}
 use Rattle.coalesce.proofs.ReadBack.{each-append}
 use Rattle.dsotlv.specs.Messages.{first_message}
-use Rattle.history.specs.States.{State, LinkState, link_meets}
 use Rattle.history.specs.declared.entry.Entry.{Entry}
 use Rattle.pushsession.specs.Sessions.{new_session, room_of, takes, is_open, asked_to_stop, timed, without_first}
 use Rattle.pushsession.specs.declared.standing.Standing.TheVariants.{AskedToStop}
 use Rattle.pushserver.specs.PlainHubs.{Hub, Session, plain_keeps}
-use Rattle.pushserver.specs.Hubs.{newest, now, state_now, keeps_now, session_of, each_session, in_session, entered, stop}
+use Rattle.pushserver.specs.Hubs.{newest, now, keeps_now, session_of, each_session, in_session, entered, stop}
 use Rattle.pushserver.proofs.SessionLists.{found-one, each-changed}
 use Rattle.pushserver.proofs.Walks.{Entering, by_update, by_hearing, by_moment, by_reconfirm, IsKept}
 use Rattle.rrset.proofs.Places.{all_filter}
 use Rattle.dsotlv.specs.Laws.{AreOctets}
 use Rattle.pushserver.proofs.session_steps.Octets.{first_octets, rest_octets}
 use Rattle.pushserver.proofs.told_rows.HubTells.{StatesTell}
-use Rattle.pushserver.proofs.told_rows.Hubs.{update_tells, moment_tells}
+use Rattle.pushserver.proofs.told_rows.Hubs.{update_tells, hearing_tells, moment_tells, reconfirm_tells}
 use Rattle.pushtelling.proofs.Steps.{tells-step, tells-timed}
 use Rattle.pushtelling.proofs.Tells.{Tells, by_entry, tells-entered, tells-new, tells-input}
 
@@ -52,14 +50,7 @@ octets-found hub number session found there is h =
     let input = (found-one (Tells hub.start hub.history) number hub.sessions session there h.sessions).octets in
     (first_octets session.input found is input, rest_octets session.input found is input)
 
--- ---- entries, where there are no links
-
-pub unmet : (state : State) (link : ℕ) (test : LinkState → Bool) → state.links ≡ [] → link_meets test state link ≡ false
-unmet state link test none = ap (λ ls. link_meets test (record { zones = state.zones; links = ls; now = state.now }) link) none ∙ by link
-  where
-    by : (n : ℕ) → link_meets test (record { zones = state.zones; links = []; now = state.now }) n ≡ false
-    by zero = refl
-    by (suc n) = refl
+-- ---- entries
 
 hub-entered : (hub : Hub) (entry : Entry) → StatesTell (entered entry hub) → HubTells hub → HubTells (entered entry hub)
 hub-entered hub entry states h = record {
@@ -70,8 +61,8 @@ hub-entered hub entry states h = record {
 hub-enters : (hub : Hub) {entry : Entry} → Entering AreOctets hub entry → HubTells hub → HubTells (entered entry hub)
 hub-enters hub (by_update message u octets is) h = hub-entered hub _ (update_tells hub message u h.states octets is) h
 hub-enters hub (by_moment t) h = hub-entered hub _ (moment_tells hub t h.states) h
-hub-enters hub (by_hearing link hearing is) h = let none = unmet (state_now hub) link _ (h.states (newest hub) (omega arith)).home.links in let clash : false ≡ true = sym none ∙ is in absurd cc
-hub-enters hub (by_reconfirm link key is) h = let none = unmet (state_now hub) link _ (h.states (newest hub) (omega arith)).home.links in let clash : false ≡ true = sym none ∙ is in absurd cc
+hub-enters hub (by_hearing link datagram hearing octets read is) h = hub-entered hub _ (hearing_tells hub link datagram hearing h.states octets read) h
+hub-enters hub (by_reconfirm link key is) h = hub-entered hub _ (reconfirm_tells hub link key h.states) h
 
 -- ---- the calls
 

@@ -313,7 +313,7 @@ module _ (Octets : Type 0) (number : ℕ) (first : Session) where
   runs-called handed taken reacted (updates message) hub good r =
       still handed taken reacted _ (holds-update AnyMessage (Runs handed taken reacted) hub (λ entry by. enters handed taken reacted hub entry r) r message tt)
   runs-called handed taken reacted (hears link datagram) hub good r =
-      still handed taken reacted _ (holds-hear AnyMessage (Runs handed taken reacted) hub (λ entry by. enters handed taken reacted hub entry r) r link datagram)
+      still handed taken reacted _ (holds-hear AnyMessage (Runs handed taken reacted) hub (λ entry by. enters handed taken reacted hub entry r) r link datagram tt)
   runs-called handed taken reacted (moves t) hub good r =
       still handed taken reacted _ (holds-moment AnyMessage (Runs handed taken reacted) hub (λ entry by. enters handed taken reacted hub entry r) r (times handed taken reacted) t)
   runs-called handed taken reacted connects hub good r = still handed taken reacted _ (holds-connect (Runs handed taken reacted) hub (makes handed taken reacted hub r) r)

@@ -1,29 +1,28 @@
 -- What the server promises over any calls: each session was told what the history says.
---     IsStartOfZones      what a history begins with
+--     IsStartOfHomes      what a history begins with
 --     SessionsTellTheHistory      the promise
 --     MessagesStay      what was told before stays
-use Rattle.std.specs.Prelude.{◌≡◌, ℕ, ◌<◌, List, [], ◌++◌, Some, IsTrue}
+use Rattle.std.specs.Prelude.{◌≡◌, ℕ, ◌<◌, List, ◌++◌, Some, IsTrue}
 use Rattle.std.specs.List.{AllByRecursion}
 use Rattle.dnsname.specs.Names.{is_name}
 use Rattle.dsosession.specs.declared.session.Timers.{Timers}
-use Rattle.history.specs.Plans.{IsStart, may_stand_together}
-use Rattle.history.specs.Standing.{named_zones}
+use Rattle.history.specs.Plans.{IsStart}
+use Rattle.history.specs.AtHome.{StandApart, homes_in}
 use Rattle.history.specs.States.{State}
 use Rattle.pushserver.specs.PlainHubs.{Hub, Session, Made, new_hub}
 use Rattle.pushserver.specs.Hubs.{session_of}
 use Rattle.pushserver.specs.Calls.{HubCall, after_calls, BringsOctets}
 use Rattle.pushserver.specs.ToldMessages.{TellsHistory}
 
--- zones with their first records, which may stand together, and no links
-pub record IsStartOfZones (start : State) : Type 0 where
+-- zones with their first records and links that have heard nothing, which stand apart, each with a name
+pub record IsStartOfHomes (start : State) : Type 0 where
   pub begins : IsStart start
-  pub links : start.links ≡ []
-  pub together : IsTrue (may_stand_together (named_zones start.zones))
-  pub names : AllByRecursion (λ z. IsTrue (is_name z.apex)) start.zones
+  pub apart : StandApart (homes_in start)
+  pub names : AllByRecursion (λ h. IsTrue (is_name h.0)) (homes_in start)
 
 -- each session that is there after the calls was told what the history says
 abbrev pub SessionsTellTheHistory : Type 0
-SessionsTellTheHistory = (start : State) (timers : Timers) (calls : List HubCall) → IsStartOfZones start → AllByRecursion BringsOctets calls
+SessionsTellTheHistory = (start : State) (timers : Timers) (calls : List HubCall) → IsStartOfHomes start → AllByRecursion BringsOctets calls
     → AllByRecursion (λ e. TellsHistory (after_calls calls (new_hub start timers)) e.1) (after_calls calls (new_hub start timers)).sessions
 
 -- all messages that were made before stand first, and perhaps more behind them

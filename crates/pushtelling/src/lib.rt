@@ -3,10 +3,10 @@
 #![tactic(auto)]
 
 ghost use Rattle.std.specs.Prelude.{◌≡◌, [], ◌∷◌};
-ghost use Rattle.pushserver.specs.Calls.{gives, takes, ends};
-ghost use Rattle.pushtelling.specs.Laws.{SessionsTellTheHistory, MessagesStay, IsStartOfZones};
+ghost use Rattle.pushserver.specs.Calls.{gives, takes, moves, ends};
+ghost use Rattle.pushtelling.specs.Laws.{SessionsTellTheHistory, MessagesStay, IsStartOfHomes};
 ghost use Rattle.pushtelling.specs.Runs.{MadeGoesOut, EachIsReactedToOnce, GiveReacts, ClosedOnesRest, NotesLieBetween, LaterOnesAreNoEarlier};
-ghost use Rattle.pushtelling.specs.Worked.{one_zone, told_by, octets_by, asks_address, adds_address, keeps_alive, works};
+ghost use Rattle.pushtelling.specs.Worked.{one_zone, one_link, told_by, told_from, octets_by, asks_address, asks_shown, adds_address, hears_address, reconfirms_address, keeps_alive, works};
 
 /// Each session was told what the history says, after any calls.
 pub fn sessions_tell_the_history()
@@ -22,10 +22,20 @@ pub fn messages_stay()
 /// which stands in the first answer where it was there before; a Keepalive with the ID of the subscription begins nothing
 /// anew.
 pub fn worked_runs()
-    ensures start { IsStartOfZones one_zone }
+    ensures start { IsStartOfHomes one_zone }
     ensures later { told_by (asks_address ∷ works ∷ adds_address ∷ works ∷ []) ≡ ((12, 0, 0) ∷ (45, 1, 1) ∷ [], 1 ∷ []) }
     ensures before { told_by (adds_address ∷ asks_address ∷ works ∷ []) ≡ ((12, 1, 0) ∷ (45, 1, 1) ∷ [], 1 ∷ []) }
     ensures keepalive { told_by (adds_address ∷ asks_address ∷ works ∷ keeps_alive 1 ∷ works ∷ []) ≡ ((12, 1, 0) ∷ (45, 1, 1) ∷ (24, 1, 0) ∷ [], 1 ∷ []) }
+{}
+
+/// A start with a link, and runs: what is heard of an asked name follows as a PUSH, and what is said goodbye to is removed a
+/// second later (RFC 6762, 10.1); a RECONFIRM makes an entry, by which nothing is told until the ten seconds are over
+/// (RFC 8765, 6.5; RFC 6762, 10.4).
+pub fn worked_links()
+    ensures start { IsStartOfHomes one_link }
+    ensures heard { told_from one_link (asks_shown ∷ works ∷ hears_address 120 ∷ works ∷ []) ≡ ((12, 0, 0) ∷ (49, 1, 1) ∷ [], 1 ∷ []) }
+    ensures goodbye { told_from one_link (hears_address 120 ∷ asks_shown ∷ works ∷ hears_address 0 ∷ works ∷ moves 1000 ∷ works ∷ []) ≡ ((12, 1, 0) ∷ (49, 1, 1) ∷ (45, 3, 1) ∷ [], 0 ∷ []) }
+    ensures reconfirmed { told_from one_link (hears_address 120 ∷ asks_shown ∷ works ∷ reconfirms_address ∷ works ∷ works ∷ moves 10000 ∷ works ∷ []) ≡ ((12, 1, 0) ∷ (49, 1, 1) ∷ (45, 3, 1) ∷ [], 0 ∷ []) }
 {}
 
 /// What goes out of a session is what was made for it: the octets that were handed out, and those that wait to be, are the

@@ -2,4 +2,3 @@
 pub mod StepTurns
 pub mod DeliveryTurns
 pub mod OutputTurns
-pub mod StepsConnected

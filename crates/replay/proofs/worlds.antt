@@ -2,7 +2,7 @@
 pub mod OneWorld
 pub mod FedSeats
 pub mod Keeping
-pub mod SettledWorlds
+pub mod PassedWorlds
 pub mod BuiltWorlds
 pub mod Numbers
 pub mod BuiltHeads
@@ -11,12 +11,12 @@ pub mod ClientOutputs
 pub mod StepInputs
 pub mod InputOctets
 pub mod BetweenLines
-pub mod Connected
 pub mod Seats
 pub mod TimedSeats
 pub mod SeatLines
 pub mod SeatWords
 pub mod Doing
+pub mod HearDoing
 pub mod SeatsDoing
 pub mod FedDoing
 pub mod Naming

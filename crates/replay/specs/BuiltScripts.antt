@@ -1,12 +1,15 @@
 -- Which scripts are built, and what a script is answered.
 --     is_built line      the lines that are built so far
+--     understood line      a line that is built
 --     first_later octets      the number of the first line that isn't built
 --     reply_to_script records octets      the status and the text for the octets that were read
-use Rattle.std.specs.Prelude.{ℕ, ◌+◌, Bool, true, false, Some, None, List, [], ◌∷◌, ◌++◌, take, drop, codes}
+use Rattle.std.specs.Prelude.{ℕ, ◌+◌, Bool, true, false, Some, None, List, ◌++◌, map, take, drop, codes, if◌then◌else◌}
 use Rattle.std.specs.declared.option.Option.{Option}
 use Rattle.std.specs.Fmt.{decimal}
-use Rattle.replay.specs.Lines.{Word, ScriptLine, silent, timers, zone, lone, at_moment, update, ask, drop_question, open_connection, cut, send, feed, stop, point, show, client, settle}
-use Rattle.replay.specs.Scripts.{Known, nothing_known, fits, client_words, lines_read, max_script}
+use Rattle.std.specs.Result.{result_err}
+use Rattle.push_base.specs.Optional.{◌>>=◌}
+use Rattle.replay.specs.Lines.{ScriptLine, silent, timers, zone, link, lone, at_moment, update, hear, ask, drop_question, reconfirm, open_connection, cut, send, feed, stop, point, show, client, settle, say, up, emit, down}
+use Rattle.replay.specs.Scripts.{nothing_known, client_words, lines_from, lines_read, max_script}
 use Rattle.replay.specs.TextWords.{HeldRecords}
 use Rattle.replay.specs.Text.{text_with}
 use Rattle.replay.specs.declared.outcome.Outcome.TheVariants as outcomes
@@ -21,38 +24,43 @@ front_read octets = take (max_script + 1) octets
 unfoldable pub left_behind : List ℕ → List ℕ
 left_behind octets = drop (max_script + 1) octets
 
--- the lines that are built so far: lines that say nothing, timers, zones, moments, updates, points, what peers send, are asked to stop, and are cut, what clients ask, drop, open, cut and settle, what lone clients are fed, and what clients show
+-- the lines that are built so far: all
 abbrev pub is_built : ScriptLine → Bool
 is_built silent = true
 is_built (timers i k) = true
 is_built (zone apex serial mode) = true
+is_built (link w domain) = true
 is_built (client w) = true
 is_built (lone w) = true
 is_built (at_moment t) = true
 is_built (update message) = true
+is_built (hear w datagram) = true
 is_built (ask w question) = true
 is_built (drop_question w question) = true
+is_built (reconfirm w rr) = true
 is_built (open_connection w) = true
 is_built (cut w) = true
+is_built (say w n) = true
+is_built (up w n) = true
+is_built (emit w n) = true
+is_built (down w n) = true
 is_built (settle w) = true
 is_built (send w octets) = true
 is_built (feed w octets) = true
 is_built (stop w rcode delay) = true
 is_built point = true
 is_built (show w question written) = true
-is_built _ = false
 
--- the number of the first line that isn't built or may not stand there, from a number on
-abbrev pub first_unbuilt : List Word → Known → ℕ → List (Option ScriptLine) → Option ℕ
-first_unbuilt all known n [] = None
-first_unbuilt all known n (None ∷ lines) = Some n
-first_unbuilt all known n (Some line ∷ lines) = elim (is_built line) [
-  | false ↦ Some n
-  | true ↦ elim (fits all known line) [ None ↦ Some n | Some known_then ↦ first_unbuilt all known_then (n + 1) lines ]
-]
+-- the line, if it is built
+abbrev pub built_line : ScriptLine → Option ScriptLine
+built_line line = if is_built line then Some line else None
 
+abbrev pub understood : Option ScriptLine → Option ScriptLine
+understood line = line >>= built_line
+
+-- the number of the first line that isn't built or may not stand there
 unfoldable pub first_later : List ℕ → Option ℕ
-first_later octets = let lines = lines_read octets in first_unbuilt (client_words lines) nothing_known 1 lines
+first_later octets = let lines = lines_read octets in result_err (lines_from (client_words lines) nothing_known 1 (map understood lines))
 
 abbrev pub later : ℕ → List ℕ
 later number = line (codes "later " ++ decimal number)

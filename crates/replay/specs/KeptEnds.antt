@@ -7,7 +7,7 @@ use Rattle.replay.specs.Scripts.{script_of}
 use Rattle.replay.specs.World.{start_world}
 use Rattle.replay.specs.TextWords.{by_notices}
 use Rattle.replay.specs.Text.{world_after}
-use Rattle.replay.specs.Headline.{EndsStandFor}
+use Rattle.replay.specs.Promises.{EndsStandFor}
 use Rattle.replay.specs.declared.outcome.Outcome.{Outcome}
 use Rattle.replay.specs.declared.outcome.Outcome.TheVariants.{Done}
 use Rattle.replay.specs.declared.ends.Ends.{Ends}

@@ -1,18 +1,21 @@
 -- Octets between a client and its session in the hub, as they are kept.
 --     HasPassed, Passes passing      what one passing did, in every world that is stood for
---     is_still passed, Turns number      whether nothing moved; one round
---     HasSettled      how a settle ended, and the hub behind it
---     is_told over closing, finished_seat told seat, finished_hub told seat hub      where an end or a close is told the connection is cut
---     HasFinished      so it was
---     HasEnded, EndsSo, EndsAt      a settle and what follows its end, of a client and of the one at a place
-use Rattle.std.specs.Prelude.{◌≡◌, ◌==◌, ◌&&◌, not, ℕ, Bool, true, false, cond, Option, Some, None}
+--     Turns number      one round
+--     passing_of way, passes_way way      the passing of a way, with a session and without
+--     way_words way w count, way_text way w count, way_does way w      its line, and what that does
+--     HasMoved, Moves passing      how many octets passed, how it ended, and the hub behind it
+--     HasEnded, EndsSo, EndsAt      a passing and what follows its end, of a client and of the one at a place
+use Rattle.std.specs.Prelude.{◌≡◌, ◌++◌, ◌∷◌, [], List, not, ℕ, Bool, Option, None, codes, decimal}
 use Rattle.dsosession.specs.declared.session.EndReason.{EndReason}
 use Rattle.dsosession.specs.declared.session.CloseReason.{CloseReason}
-use Rattle.pushserver.specs.PlainHubs.{Hub}
 use Rattle.pushserver.specs.KeptHubs.{KeptHub, StandsFor}
 use Rattle.pushclient.specs.Clients.{closed_as}
-use Rattle.replay.specs.World.{World, Seat, cut_seat, hub_without}
-use Rattle.replay.specs.PassedOctets.{Passed, round, settling}
+use Rattle.replay.specs.Lines.{Word}
+use Rattle.replay.specs.World.{World, Seat, is_over, cut_if, hub_cut_if}
+use Rattle.replay.specs.PassedOctets.{Passed, say, up, emit, down, is_still, round, settled, enough, by_session}
+use Rattle.replay.specs.Text.{Printed, by_seat, finished}
+use Rattle.replay.specs.declared.settling.Way.{Way}
+use Rattle.replay.specs.declared.settling.Way.TheVariants as ways
 use Rattle.replay.specs.KeptWorlds.{KeptSeat, Seated, StandsForSeat}
 use Rattle.replay.specs.KeptSeats.{Makes, Calls}
 
@@ -30,10 +33,6 @@ Passes passing hub before count reacted over hub_later after = (after.word ≡ b
 
 -- ---- rounds
 
--- whether a passing moved nothing and reacted to nothing
-abbrev pub is_still : Passed → Bool
-is_still p = p.count == 0 && not p.reacted
-
 -- a round moved something or didn't, and what is kept behind it stands for the hub and the seat
 pub record HasTurned (p : Passed) (hub : KeptHub) (after : KeptSeat) (moves : Bool) (over : Option EndReason) : Type 0 where
   pub moved : moves ≡ not (is_still p)
@@ -45,48 +44,64 @@ pub record HasTurned (p : Passed) (hub : KeptHub) (after : KeptSeat) (moves : Bo
 unfoldable pub Turns : ℕ → KeptHub → KeptSeat → Bool → Option EndReason → KeptHub → KeptSeat → Type 0
 Turns number hub before moves over hub_later after = (after.word ≡ before.word) × ((world : World) (seat : Seat) → StandsFor hub world.hub → StandsForSeat before seat → HasTurned (round number world seat) hub_later after moves over)
 
--- a settle ended so, and what is kept behind it stands for the hub and the seat
-pub record HasSettled (p : Passed) (hub : KeptHub) (after : KeptSeat) (over : Option EndReason) : Type 0 where
+-- ---- ways
+
+-- the passing of a way, by the number of the session
+abbrev pub passing_of : Way → ℕ → World → Seat → Passed
+passing_of (ways.Say n) = λ number. say n
+passing_of (ways.Up n) = λ number. up number n
+passing_of (ways.Emit n) = λ number. emit number n
+passing_of (ways.Down n) = λ number. down n
+passing_of ways.Settle = λ number world seat. settled enough number world seat None
+
+-- without a session nothing passes
+abbrev pub passes_way : Way → World → Seat → Passed
+passes_way way world seat = by_session (passing_of way) world seat
+
+-- the words of its line, where so many octets passed
+abbrev pub way_words : Way → Word → ℕ → List (List ℕ)
+way_words (ways.Say n) w count = codes "say" ∷ w ∷ decimal count ∷ []
+way_words (ways.Up n) w count = codes "up" ∷ w ∷ decimal count ∷ []
+way_words (ways.Emit n) w count = codes "emit" ∷ w ∷ decimal count ∷ []
+way_words (ways.Down n) w count = codes "down" ∷ w ∷ decimal count ∷ []
+way_words ways.Settle w count = codes "settle" ∷ w ∷ []
+
+-- the line itself
+abbrev pub way_text : Way → Word → ℕ → List ℕ
+way_text (ways.Say n) w count = codes "say " ++ (w ++ 32 ∷ (decimal count ++ 10 ∷ []))
+way_text (ways.Up n) w count = codes "up " ++ (w ++ 32 ∷ (decimal count ++ 10 ∷ []))
+way_text (ways.Emit n) w count = codes "emit " ++ (w ++ 32 ∷ (decimal count ++ 10 ∷ []))
+way_text (ways.Down n) w count = codes "down " ++ (w ++ 32 ∷ (decimal count ++ 10 ∷ []))
+way_text ways.Settle w count = codes "settle " ++ (w ++ 10 ∷ [])
+
+-- what the line of a way does and prints
+abbrev pub way_does : Way → Word → World → Printed
+way_does way w world = by_seat (λ seat there. (let p = passes_way way there seat in finished (way_words way w p.count) p)) w world
+
+-- a passing moved so many octets and ended so, and what is kept behind it stands for the hub and the seat
+pub record HasMoved (p : Passed) (hub : KeptHub) (after : KeptSeat) (count : ℕ) (over : Option EndReason) : Type 0 where
+  pub moved : count ≡ p.count
   pub end_told : over ≡ p.over
   pub stands : StandsFor hub p.world.hub
   pub seat : StandsForSeat after p.seat
 
 -- in every world and of every seat that are stood for
-unfoldable pub Settles : (World → Seat → Passed) → KeptHub → KeptSeat → Option EndReason → KeptHub → KeptSeat → Type 0
-Settles passing hub before over hub_later after = (after.word ≡ before.word) × ((world : World) (seat : Seat) → StandsFor hub world.hub → StandsForSeat before seat → HasSettled (passing world seat) hub_later after over)
+unfoldable pub Moves : (World → Seat → Passed) → KeptHub → KeptSeat → ℕ → Option EndReason → KeptHub → KeptSeat → Type 0
+Moves passing hub before count over hub_later after = (after.word ≡ before.word) × ((world : World) (seat : Seat) → StandsFor hub world.hub → StandsForSeat before seat → HasMoved (passing world seat) hub_later after count over)
 
--- ---- ends and closes
+-- ---- a passing to its end
 
--- whether one is told
-abbrev pub is_told : Option EndReason → Option CloseReason → Bool
-is_told None None = false
-is_told None (Some closing) = true
-is_told (Some reason) closing = true
-
--- the seat and the hub behind the cut, if there is one
-abbrev pub finished_seat : Bool → Seat → Seat
-finished_seat told seat = cond told (cut_seat seat) seat
-
-abbrev pub finished_hub : Bool → Seat → Hub → Hub
-finished_hub told seat hub = cond told (hub_without seat.session hub) hub
-
--- Once a passing has ended so, its client has closed so, or hasn't, and its session is gone where that or an end is told.
-pub record HasFinished (over : Option EndReason) (closing : Option CloseReason) (before later : KeptHub) (seat : Seat) : Type 0 where
-  pub closes : closing ≡ closed_as seat.client
-  pub hub : (hub : Hub) → StandsFor before hub → StandsFor later (finished_hub (is_told over closing) seat hub)
-
--- ---- a settle to its end
-
--- a settle has ended so, and the hub behind the cut, if there is one
-pub record HasEnded (p : Passed) (hub : KeptHub) (over : Option EndReason) (closing : Option CloseReason) : Type 0 where
+-- a passing moved so many octets and ended so, and the hub behind the cut, if there is one
+pub record HasEnded (p : Passed) (hub : KeptHub) (count : ℕ) (over : Option EndReason) (closing : Option CloseReason) : Type 0 where
+  pub moved : count ≡ p.count
   pub end_told : over ≡ p.over
   pub closes : closing ≡ closed_as p.seat.client
-  pub stands : StandsFor hub (finished_hub (is_told over closing) p.seat p.world.hub)
+  pub stands : StandsFor hub (hub_cut_if (is_over over closing) p.seat p.world.hub)
 
 -- of a client, in every world that is stood for
-unfoldable pub EndsSo : KeptHub → KeptSeat → Option EndReason → Option CloseReason → KeptHub → KeptSeat → Type 0
-EndsSo hub before over closing hub_later after = (world : World) → StandsFor hub world.hub → Makes (λ s. HasEnded (settling world s) hub_later over closing) (λ s. finished_seat (is_told over closing) (settling world s).seat) before after
+unfoldable pub EndsSo : (World → Seat → Passed) → KeptHub → KeptSeat → ℕ → Option EndReason → Option CloseReason → KeptHub → KeptSeat → Type 0
+EndsSo passing hub before count over closing hub_later after = (world : World) → StandsFor hub world.hub → Makes (λ s. HasEnded (passing world s) hub_later count over closing) (λ s. cut_if (is_over over closing) (passing world s).seat) before after
 
 -- of the client at a place
-unfoldable pub EndsAt : KeptHub → Seated → ℕ → Option EndReason → Option CloseReason → KeptHub → Seated → Type 0
-EndsAt hub before place over closing hub_later later = (world : World) → StandsFor hub world.hub → Calls (λ s. HasEnded (settling world s) hub_later over closing) (λ s. finished_seat (is_told over closing) (settling world s).seat) before place later
+unfoldable pub EndsAt : (World → Seat → Passed) → KeptHub → Seated → ℕ → ℕ → Option EndReason → Option CloseReason → KeptHub → Seated → Type 0
+EndsAt passing hub before place count over closing hub_later later = (world : World) → StandsFor hub world.hub → Calls (λ s. HasEnded (passing world s) hub_later count over closing) (λ s. cut_if (is_over over closing) (passing world s).seat) before place later

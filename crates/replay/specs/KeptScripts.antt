@@ -2,9 +2,8 @@
 --     events_said events      what the event lines say
 --     IsBuilt octets script      all lines are built: the head lines make the script's timers and homes, and its events are what is printed
 --     ReadsAs octets read      what was read of octets
-use Rattle.std.specs.Prelude.{◌≡◌, ℕ, List, [], map, filter_map, Some, None, Ok}
-use Rattle.std.specs.List.{AllByRecursion}
-use Rattle.history.specs.Keeping.{state_of}
+use Rattle.std.specs.Prelude.{◌≡◌, ℕ, List, map, filter_map, Some, None, Ok}
+use Rattle.history.specs.Kept.{state_of}
 use Rattle.history.specs.Plans.{IsStart}
 use Rattle.replay.specs.Lines.{ScriptLine}
 use Rattle.replay.specs.Scripts.{script_of, client_word}
@@ -15,8 +14,8 @@ use Rattle.replay.specs.declared.line.Event.{Event}
 use Rattle.replay.specs.declared.script.Script.{Script}
 use Rattle.replay.specs.declared.script.ReadScript.{ReadScript}
 use Rattle.replay.specs.declared.script.ReadScript.TheVariants.{Built, Later}
-use Rattle.replay.specs.KeptLines.{event_said, IsEvent}
-use Rattle.replay.specs.KeptWorlds.{AreDistinct}
+use Rattle.replay.specs.KeptLines.{event_said}
+use Rattle.replay.specs.KeptWorlds.{AreDistinct, words_of}
 use Rattle.replay.specs.BuiltScripts.{first_later}
 
 -- what the event lines say
@@ -25,7 +24,7 @@ events_said events = map event_said events
 
 -- the world with which a script starts
 abbrev pub world_at_start : Script → World
-world_at_start script = world_of (record { timers = script.timers; start = state_of script.homes; links = [] })
+world_at_start script = world_of (record { timers = script.timers; start = state_of script.homes; links = words_of script.links.items })
 
 -- all lines are built; the head lines make the script's timers and homes, and the others that say something are its events, which print and leave the same;
 -- no two of the clients that they name have one word
@@ -37,7 +36,6 @@ pub record IsBuilt (octets : List ℕ) (script : Script) : Type 0 where
   pub text : printed_by by_notices lines (start_world lines) ≡ printed_by by_notices (events_said script.events.items) (start_world lines)
   pub last : world_after lines (start_world lines) ≡ world_after (events_said script.events.items) (start_world lines)
   pub start : IsStart (state_of script.homes)
-  pub are_events : AllByRecursion IsEvent (events_said script.events.items)
   pub distinct : AreDistinct (filter_map client_word (events_said script.events.items))
 
 -- the script, or the first line that isn't built

@@ -2,19 +2,21 @@
 --     has_word w seat      whether a client has that word
 --     timed_seat t closing seat      a seat at a moment, at which its client has closed, or hasn't
 --     Makes answers next before after, Calls answers next before place later      what a call makes of a seat, and of the one at a place
---     Answers, HasCut, HasTimed      what such calls answer, and the hub behind them
+--     Answers, HasCut, HasFinished, HasTimed      what such calls answer, and the hub behind them
+--     TellsConnected seats place answer      whether the client at a place has a connection
 --     closing_text w closing      the line of a client that has closed, if it has
 --     Times t before text later told, TimesWorld kept known text later known_later told      the clients at a moment, one after the other
-use Rattle.std.specs.Prelude.{◌≡◌, ℕ, Bool, List, Option, fold, set, get_or}
+use Rattle.std.specs.Prelude.{◌≡◌, ℕ, Bool, List, Option, None, fold, set, get_or}
 use Rattle.std.specs.Str.{bytes_eq}
 use Rattle.dsosession.specs.declared.session.CloseReason.{CloseReason}
+use Rattle.dsosession.specs.declared.session.EndReason.{EndReason}
 use Rattle.pushserver.specs.PlainHubs.{Hub}
 use Rattle.pushserver.specs.Hubs.{now}
 use Rattle.pushserver.specs.KeptHubs.{KeptHub, StandsFor}
-use Rattle.pushclient.specs.Clients.{Client, closed_as}
+use Rattle.pushclient.specs.Clients.{Client, closed_as, is_connected}
 use Rattle.pushclient.specs.Steps.{moment}
 use Rattle.replay.specs.Lines.{Word}
-use Rattle.replay.specs.World.{World, Seat, with_client, closed_seat, hub_without, hub_then}
+use Rattle.replay.specs.World.{World, Seat, with_client, is_over, cut_if, hub_without, hub_cut_if}
 use Rattle.replay.specs.Text.{close_lines, ended_lines, timed}
 use Rattle.replay.specs.KeptWorlds.{KeptSeat, Seated, Parties, StandsForSeat, StandForSeats, AreDistinct, words_in}
 
@@ -23,7 +25,7 @@ has_word w k = bytes_eq k.word w
 
 -- a seat at a moment, at which its client has closed, or hasn't
 abbrev pub timed_seat : ℕ → Option CloseReason → Seat → Seat
-timed_seat t closing seat = closed_seat closing (with_client (λ c. moment c t) seat)
+timed_seat t closing seat = cut_if (is_over None closing) (with_client (λ c. moment c t) seat)
 
 -- ---- calls
 
@@ -41,6 +43,10 @@ pub record Calls (answers : Seat → Type 0) (next : Seat → Seat) (before : Se
   pub is : later ≡ set before place after
   pub makes : Makes answers next seat after
 
+-- whether the client at a place has a connection
+abbrev pub TellsConnected : Seated → ℕ → Bool → Type 0
+TellsConnected seats place answer = (k : KeptSeat) (seat : Seat) → k ≡ get_or seats place k → StandsForSeat k seat → answer ≡ is_connected seat.client
+
 -- the client answers so
 abbrev pub Answers : (Client → Type 0) → Seat → Type 0
 Answers answers seat = answers seat.client
@@ -49,10 +55,15 @@ Answers answers seat = answers seat.client
 abbrev pub HasCut : KeptHub → KeptHub → Seat → Type 0
 HasCut before later seat = (hub : Hub) → StandsFor before hub → StandsFor later (hub_without seat.session hub)
 
+-- once a connection may be over, its client has closed so, or hasn't, and its session is gone where that or an end is told
+pub record HasFinished (over : Option EndReason) (closing : Option CloseReason) (before later : KeptHub) (seat : Seat) : Type 0 where
+  pub closes : closing ≡ closed_as seat.client
+  pub hub : (hub : Hub) → StandsFor before hub → StandsFor later (hub_cut_if (is_over over closing) seat hub)
+
 -- it has closed at a moment, or hasn't, and its session is gone where it has
 pub record HasTimed (t : ℕ) (closing : Option CloseReason) (before later : KeptHub) (seat : Seat) : Type 0 where
   pub closes : closing ≡ closed_as (moment seat.client t)
-  pub hub : (hub : Hub) → StandsFor before hub → StandsFor later (hub_then closing seat hub)
+  pub hub : (hub : Hub) → StandsFor before hub → StandsFor later (hub_cut_if (is_over None closing) seat hub)
 
 -- ---- clients at a moment
 
@@ -69,9 +80,10 @@ unfoldable pub Times : ℕ → KeptHub → Seated → List ℕ → KeptHub → S
 Times t kept before text kept_later later told = (world : World) (lines : List (List ℕ)) → StandsFor kept world.hub → StandForSeats before world.seats → AreDistinct (words_in world) → text ≡ ended_lines lines
     → IsTimed t kept_later later told world lines
 
--- so at the hub's moment; the peers are the same
+-- so at the hub's moment; the links and the peers are the same
 pub record TimesWorld (kept : KeptHub) (known : Parties) (text : List ℕ) (later : KeptHub) (known_later : Parties) (told : List ℕ) : Type 0 where
   pub at : ℕ
+  pub links : known_later.links ≡ known.links
   pub peers : known_later.peers ≡ known.peers
   pub moment : (hub : Hub) → StandsFor kept hub → at ≡ now hub
   pub times : Times at kept known.seats text later known_later.seats told

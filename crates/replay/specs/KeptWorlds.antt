@@ -1,4 +1,5 @@
--- The world that a run stands for: it has a hub, peers and clients, and no links.
+-- The world that a run stands for: it has a hub, words of links, peers and clients.
+--     words_of words      words as they are kept
 --     named peers      the words of the peers with the numbers of their sessions
 --     seated seats      the clients as they are kept
 --     TellsEnds kept plain      the ends of first answers, counted up to the last number
@@ -10,10 +11,11 @@
 use Rattle.std.specs.Prelude.{◌≡◌, ℕ, ◌<◌, Bool, Option, option_map, min, List, [], ◌∷◌, map, string_bytes}
 use Rattle.std.specs.List.{IsDistinct}
 use Rattle.std.specs.Str.{bytes_eq}
+use Rattle.std.specs.declared.alloc.Global.{Global}
+use Rattle.std.specs.declared.string.String.{String}
 use Rattle.push_base.specs.Limits.{max_number}
 use Rattle.pushserver.specs.KeptHubs as hubs
 use Rattle.pushserver.specs.KeptHubs.{KeptHub}
-use Rattle.pushclient.specs.Clients.{is_connected}
 use Rattle.pushclient.specs.Rule as clients
 use Rattle.pushclient.specs.Rule.{KeptClient}
 use Rattle.inflight.specs.Ends.{told_end}
@@ -24,17 +26,19 @@ use Rattle.replay.specs.declared.world.Peer.{Peer}
 use Rattle.replay.specs.declared.seats.Seat as program_seats
 use Rattle.replay.specs.declared.world.World as program
 
+abbrev pub words_of : List (String Global) → List Word
+words_of words = map (λ w. string_bytes w) words
+
 abbrev pub Named : Type 0
 Named = List (Word × ℕ)
 
 abbrev pub named : List Peer → Named
 named peers = map (λ (p : Peer). (string_bytes p.word, p.session)) peers
 
--- a client as it is kept: its word, whether it is a lone one and has a connection, the client, and what there is of the connection
+-- a client as it is kept: its word, whether it is a lone one, the client, and what there is of the connection
 pub record KeptSeat : Type 0 where
   pub word : Word
   pub is_lone : Bool
-  pub is_open : Bool
   pub client : KeptClient
   pub session : Option ℕ
   pub up_wire : List ℕ
@@ -49,7 +53,6 @@ abbrev pub seat_kept : program_seats.Seat → KeptSeat
 seat_kept s = record {
   word = string_bytes s.word;
   is_lone = s.is_lone;
-  is_open = s.is_open;
   client = s.client;
   session = s.session;
   up_wire = s.up_wire.items;
@@ -61,13 +64,14 @@ seat_kept s = record {
 abbrev pub seated : List program_seats.Seat → Seated
 seated seats = map seat_kept seats
 
--- the peers and the clients
+-- the words of the links, the peers and the clients
 pub record Parties : Type 0 where
+  pub links : List Word
   pub peers : Named
   pub seats : Seated
 
 abbrev pub parties_of : program.World → Parties
-parties_of kept = record { peers = named kept.peers.items; seats = seated kept.seats.items }
+parties_of kept = record { links = words_of kept.links.items; peers = named kept.peers.items; seats = seated kept.seats.items }
 
 -- of each ID the end of the first answer that was told last, counted up to the last number
 abbrev pub TellsEnds : List (ℕ × ℕ) → List (ℕ × ℕ) → Type 0
@@ -77,7 +81,6 @@ TellsEnds kept plain = (id : ℕ) → told_end kept id ≡ option_map (λ n. min
 pub record StandsForSeat (kept : KeptSeat) (seat : Seat) : Type 0 where
   pub word : kept.word ≡ seat.word
   pub is_lone : kept.is_lone ≡ seat.is_lone
-  pub is_open : kept.is_open ≡ is_connected seat.client
   pub client : clients.StandsFor kept.client seat.client
   pub session : kept.session ≡ seat.session
   pub up_wire : kept.up_wire ≡ seat.up_wire
@@ -99,12 +102,12 @@ AreDistinct words = IsDistinct bytes_eq words
 abbrev pub words_in : World → List Word
 words_in world = map (λ (s : Seat). s.word) world.seats
 
--- a hub, peers and clients that are kept stand for a world
+-- a hub, words, peers and clients that are kept stand for a world
 pub record StandsForWorld (kept : KeptHub) (known : Parties) (world : World) : Type 0 where
   pub hub : hubs.StandsFor kept world.hub
   pub peers : known.peers ≡ world.peers
   pub seats : StandForSeats known.seats world.seats
-  pub links : world.links ≡ []
+  pub links : known.links ≡ world.links
 
 abbrev pub IsWorld : program.World → World → Type 0
 IsWorld kept world = StandsForWorld kept.hub (parties_of kept) world

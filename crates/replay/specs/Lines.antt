@@ -1,5 +1,7 @@
 -- The lines of a script, each by itself.
 --     line_of text      what a line says, or nothing where it is outside the grammar
+--     kind_of word      the kind of a line by its first word
+--     line_behind kind words      what a line of a kind says, by the words behind its first
 use Rattle.std.specs.Prelude.{ℕ, ◌+◌, ◌-◌, ◌*◌, Bool, true, false, not, ◌&&◌, ◌||◌, List, [], ◌∷◌, length, fold, Option, Some, None, nat_lt, nat_le, ◌==◌, codes, option_map, if◌then◌else◌}
 use Rattle.std.specs.List.{list_all, slice_split}
 use Rattle.std.specs.Str.{bytes_eq, is_utf8}
@@ -13,6 +15,10 @@ use Rattle.dnsname.specs.Names.{Labels}
 use Rattle.dnsname.specs.Text.{name_of_text}
 use Rattle.rrset.specs.declared.record.Rr.{Rr}
 use Rattle.rrset.specs.declared.record.Question.{Question}
+use Rattle.replay.specs.declared.line.Kind.{Kind}
+use Rattle.replay.specs.declared.line.Kind.TheVariants as kinds
+use Rattle.replay.specs.declared.line_words.TheConstants as words
+use Rattle.replay.specs.declared.settling.TheConstants as settling
 
 abbrev pub Word : Type 0
 Word = List ℕ
@@ -47,11 +53,26 @@ pub data ScriptLine : Type 0 where
   -- the question, and its name as it is written
   show : Word → Question → List ℕ → ScriptLine
 
-abbrev pub max_u32 : ℕ
-max_u32 = 4294967295
+abbrev pub max_u16 : ℕ
+max_u16 = words.MAX_U16
 
+abbrev pub max_u32 : ℕ
+max_u32 = words.MAX_U32
+
+-- of a message without EDNS (RFC 1035, 4.1.1)
+abbrev pub max_rcode : ℕ
+max_rcode = words.MAX_RCODE
+
+-- the most letters and digits of a word, and the most hexadecimal digits
+abbrev pub longest_word : ℕ
+longest_word = words.LONGEST_WORD
+
+abbrev pub most_digits : ℕ
+most_digits = words.MOST_DIGITS
+
+-- what a wire holds at most
 abbrev pub max_octets_passed : ℕ
-max_octets_passed = 1048576
+max_octets_passed = settling.MAX_WIRE
 
 abbrev pub is_digit : ℕ → Bool
 is_digit c = nat_le 48 c && nat_le c 57
@@ -73,7 +94,7 @@ number greatest (c ∷ cs) =
     if has_form (c ∷ cs) && nat_le n greatest then Some n else None
 
 abbrev pub number16 : Word → Option ℕ
-number16 = number 65535
+number16 = number max_u16
 
 abbrev pub number32 : Word → Option ℕ
 number32 = number max_u32
@@ -84,11 +105,15 @@ is_word_octet c = is_digit c || (nat_le 97 c && nat_le c 122)
 
 -- 1 to 32 lower-case letters and digits
 abbrev pub word : Word → Option Word
-word w = if nat_le 1 (length w) && nat_le (length w) 32 && list_all is_word_octet w then Some w else None
+word w = if nat_le 1 (length w) && nat_le (length w) longest_word && list_all is_word_octet w then Some w else None
 
 -- an even number of hexadecimal digits, at most 131,074, or - for none
 abbrev pub octets_written : Word → Option (List ℕ)
-octets_written w = if bytes_eq w (codes "-") then Some [] else if is_empty w || nat_lt 131074 (length w) then None else result_ok (hex_octets w)
+octets_written w = if bytes_eq w (codes "-") then Some [] else if is_empty w || nat_lt most_digits (length w) then None else result_ok (hex_octets w)
+
+-- the words of a line, with one space between two of them
+abbrev pub words_in : List ℕ → List Word
+words_in text = slice_split (λ d. d == 32) text
 
 abbrev pub is : Word → List ℕ → Bool
 is w text = bytes_eq w text
@@ -151,49 +176,82 @@ reconfirm_line (w ∷ n ∷ k ∷ c ∷ h ∷ []) = word w >>= λ p. question n 
 reconfirm_line _ = None
 
 abbrev pub stop_line : List Word → Option ScriptLine
-stop_line (w ∷ r ∷ d ∷ []) = word w >>= λ p. number 15 r >>= λ rcode. number32 d >>= λ delay. Some (stop p rcode delay)
+stop_line (w ∷ r ∷ d ∷ []) = word w >>= λ p. number max_rcode r >>= λ rcode. number32 d >>= λ delay. Some (stop p rcode delay)
 stop_line _ = None
 
 abbrev pub show_line : List Word → Option ScriptLine
 show_line (w ∷ n ∷ k ∷ c ∷ []) = word w >>= λ p. question n k c >>= λ q. Some (show p q n)
 show_line _ = None
 
--- what a line says whose first word is this one, for each word that may be first
-abbrev pub lines_by : Word → List Word → List (Bool × Option ScriptLine)
-lines_by w rest =
-    (is w (codes "timers"), timers_line rest)
-    ∷ (is w (codes "zone"), zone_line rest)
-    ∷ (is w (codes "link"), link_line rest)
-    ∷ (is w (codes "client"), of_word client rest)
-    ∷ (is w (codes "lone"), of_word lone rest)
-    ∷ (is w (codes "at"), at_line rest)
-    ∷ (is w (codes "update"), of_octets update rest)
-    ∷ (is w (codes "hear"), of_word_and_octets hear rest)
-    ∷ (is w (codes "ask"), of_word_and_question ask rest)
-    ∷ (is w (codes "drop"), of_word_and_question drop_question rest)
-    ∷ (is w (codes "reconfirm"), reconfirm_line rest)
-    ∷ (is w (codes "open"), of_word open_connection rest)
-    ∷ (is w (codes "cut"), of_word cut rest)
-    ∷ (is w (codes "say"), of_word_and_number say rest)
-    ∷ (is w (codes "up"), of_word_and_number up rest)
-    ∷ (is w (codes "emit"), of_word_and_number emit rest)
-    ∷ (is w (codes "down"), of_word_and_number down rest)
-    ∷ (is w (codes "settle"), of_word settle rest)
-    ∷ (is w (codes "send"), of_word_and_octets send rest)
-    ∷ (is w (codes "feed"), of_word_and_octets feed rest)
-    ∷ (is w (codes "stop"), stop_line rest)
-    ∷ (is w (codes "point"), alone point rest)
-    ∷ (is w (codes "show"), show_line rest)
+-- the kinds of lines on what the server serves and on its peers, by their first words
+abbrev pub server_kinds : Word → List (Bool × Kind)
+server_kinds w =
+    (is w (codes "timers"), kinds.Timers)
+    ∷ (is w (codes "zone"), kinds.Zone)
+    ∷ (is w (codes "link"), kinds.Link)
+    ∷ (is w (codes "at"), kinds.At)
+    ∷ (is w (codes "update"), kinds.Update)
+    ∷ (is w (codes "hear"), kinds.Hear)
+    ∷ (is w (codes "send"), kinds.Send)
+    ∷ (is w (codes "stop"), kinds.Stop)
+    ∷ (is w (codes "cut"), kinds.Cut)
+    ∷ (is w (codes "point"), kinds.Point)
     ∷ []
 
-abbrev pub by_first_word : Word → List Word → Option ScriptLine
-by_first_word w rest = chosen (lines_by w rest) None
+-- the kinds of lines on clients, by their first words
+abbrev pub client_kinds : Word → List (Bool × Kind)
+client_kinds w =
+    (is w (codes "client"), kinds.Client)
+    ∷ (is w (codes "lone"), kinds.Lone)
+    ∷ (is w (codes "open"), kinds.Open)
+    ∷ (is w (codes "ask"), kinds.Ask)
+    ∷ (is w (codes "drop"), kinds.Drop)
+    ∷ (is w (codes "reconfirm"), kinds.Reconfirm)
+    ∷ (is w (codes "say"), kinds.Say)
+    ∷ (is w (codes "up"), kinds.Up)
+    ∷ (is w (codes "emit"), kinds.Emit)
+    ∷ (is w (codes "down"), kinds.Down)
+    ∷ (is w (codes "settle"), kinds.Settle)
+    ∷ (is w (codes "feed"), kinds.Feed)
+    ∷ (is w (codes "show"), kinds.Show)
+    ∷ []
+
+-- the kind of a line by its first word
+abbrev pub kind_of : Word → Kind
+kind_of w = chosen (server_kinds w) (chosen (client_kinds w) kinds.Other)
+
+-- what a line of a kind says, by the words behind its first
+abbrev pub line_behind : Kind → List Word → Option ScriptLine
+line_behind kinds.Timers ws = timers_line ws
+line_behind kinds.Zone ws = zone_line ws
+line_behind kinds.Link ws = link_line ws
+line_behind kinds.At ws = at_line ws
+line_behind kinds.Update ws = of_octets update ws
+line_behind kinds.Hear ws = of_word_and_octets hear ws
+line_behind kinds.Send ws = of_word_and_octets send ws
+line_behind kinds.Stop ws = stop_line ws
+line_behind kinds.Cut ws = of_word cut ws
+line_behind kinds.Point ws = alone point ws
+line_behind kinds.Client ws = of_word client ws
+line_behind kinds.Lone ws = of_word lone ws
+line_behind kinds.Open ws = of_word open_connection ws
+line_behind kinds.Ask ws = of_word_and_question ask ws
+line_behind kinds.Drop ws = of_word_and_question drop_question ws
+line_behind kinds.Reconfirm ws = reconfirm_line ws
+line_behind kinds.Say ws = of_word_and_number say ws
+line_behind kinds.Up ws = of_word_and_number up ws
+line_behind kinds.Emit ws = of_word_and_number emit ws
+line_behind kinds.Down ws = of_word_and_number down ws
+line_behind kinds.Settle ws = of_word settle ws
+line_behind kinds.Feed ws = of_word_and_octets feed ws
+line_behind kinds.Show ws = show_line ws
+line_behind kinds.Other ws = None
 
 abbrev pub of_words : List Word → Option ScriptLine
 of_words [] = None
-of_words (w ∷ rest) = by_first_word w rest
+of_words (w ∷ rest) = line_behind (kind_of w) rest
 
--- Words are separated by one space each. A line that isn't UTF-8 is outside: only one that begins with # could be inside otherwise.
+-- A line that isn't UTF-8 is outside: only one that begins with # could be inside otherwise.
 abbrev pub line_of : List ℕ → Option ScriptLine
 line_of [] = Some silent
-line_of (c ∷ cs) = if c == 35 then (if is_utf8 cs then Some silent else None) else of_words (slice_split (λ d. d == 32) (c ∷ cs))
+line_of (c ∷ cs) = if c == 35 then (if is_utf8 cs then Some silent else None) else of_words (words_in (c ∷ cs))

@@ -132,6 +132,10 @@ down n world seat =
 abbrev pub and_then : Passed → (World → Seat → Passed) → Passed
 and_then first next = (let second = next first.world first.seat in record second { count = first.count + second.count; reacted = first.reacted || second.reacted; over = if is_some first.over then first.over else second.over })
 
+-- whether a passing moved nothing and reacted to nothing
+abbrev pub is_still : Passed → Bool
+is_still p = p.count == 0 && not p.reacted
+
 abbrev pub round : ℕ → World → Seat → Passed
 round number world seat = and_then (and_then (and_then (say max_wire world seat) (up number max_wire)) (emit number max_wire)) (down max_wire)
 
@@ -141,7 +145,7 @@ settled zero number world seat over = record (passed world seat 0) { over = over
 settled (suc turns) number world seat over =
     let r = round number world seat in
     let so_far : Option EndReason = if is_some over then over else r.over in
-    elim (r.count == 0 && not r.reacted) [ true ↦ record r { over = so_far } | false ↦ settled turns number r.world r.seat so_far ]
+    elim (is_still r) [ true ↦ record r { over = so_far } | false ↦ settled turns number r.world r.seat so_far ]
 
 -- without a session nothing passes
 abbrev pub by_session : (ℕ → World → Seat → Passed) → World → Seat → Passed

@@ -17,7 +17,7 @@ use Rattle.pushserver.specs.Laws.{IsAcceptable}
 use Rattle.replay.specs.Lines.{Word, ScriptLine, send}
 use Rattle.replay.specs.Scripts.{script_of}
 use Rattle.replay.specs.World.{World, start_world, session_number}
-use Rattle.replay.specs.TextWords.{spaced, bytes_words, HeldRecords, by_history}
+use Rattle.replay.specs.TextWords.{bytes_line, HeldRecords, by_history}
 use Rattle.replay.specs.Text.{ended_lines, line_does, printed_by, world_after}
 use Rattle.replay.specs.declared.outcome.Outcome.TheVariants as outcomes
 use Rattle.replay.specs.Outcomes.{status_of}
@@ -66,7 +66,7 @@ abbrev pub served_octets : Asked → List ℕ
 served_octets asked = first_answer_octets (answer_to (id_of asked.message) noerror) (first_answer (connected_then asked) (session_then asked) asked.question)
 
 abbrev pub served_line : Asked → List ℕ
-served_line asked = spaced (bytes_words asked.word (served_octets asked))
+served_line asked = bytes_line asked.word (served_octets asked)
 
 -- that line alone stands between what the lines before print and what those behind it do
 abbrev pub served_reply : HeldRecords → Asked → Reply

@@ -23,10 +23,10 @@ use Rattle.replay.specs.declared.outcome.Outcome.TheVariants as outcomes
 use Rattle.replay.specs.Outcomes.{status_of}
 use Rattle.replay.specs.Reply.{line}
 use Rattle.replay.specs.Scripts.{script_of}
-use Rattle.replay.specs.World.{Seat, World, new_seat, start_world, seat_of, with_seat, session_number, with_client, joined, stopped_hub, cut_connection, cut_peer}
+use Rattle.replay.specs.World.{Seat, World, new_seat, start_world, seat_of, with_seat, session_number, with_client, joined, stopped_hub, cut_connection, cut_peer, is_over, world_cut_if}
 use Rattle.replay.specs.PassedOctets as running
 use Rattle.replay.specs.PassedOctets.{Passed, passed, by_session, settling, enough, exchanged, reached_by, fed_client}
-use Rattle.replay.specs.TextWords.{spaced, why_words, bytes_words, open_words, noseat_words, end_line, closed_line, shown_lines, HeldRecords, by_history, by_notices, show_at}
+use Rattle.replay.specs.TextWords.{spaced, why_words, bytes_words, bytes_line, open_words, noseat_words, end_line, closed_line, shown_lines, HeldRecords, by_history, by_notices, show_at}
 
 -- a world, and the lines that were printed on the way to it
 abbrev pub Printed : Type 0
@@ -57,15 +57,11 @@ abbrev pub close_lines : Word → Option CloseReason → List (List ℕ)
 close_lines w None = []
 close_lines w (Some reason) = closed_line w reason ∷ []
 
-abbrev pub cut_where : List (List ℕ) → Seat → World → World
-cut_where [] seat world = world
-cut_where (l ∷ ls) seat world = cut_connection seat world
-
 -- behind the printed line the end and the close are told, and then the connection is cut
 abbrev pub finished : List (List ℕ) → Passed → Printed
 finished words p =
-    let ending = end_lines p.seat.word p.over ++ close_lines p.seat.word (closed_as p.seat.client) in
-    (cut_where ending p.seat (with_seat p.seat p.world), spaced words ∷ ending)
+    let closing = closed_as p.seat.client in
+    (world_cut_if (is_over p.over closing) p.seat (with_seat p.seat p.world), spaced words ∷ (end_lines p.seat.word p.over ++ close_lines p.seat.word closing))
 
 -- on a client that isn't connected, and on a lone one, nothing passes
 abbrev pub passes : List ℕ → Word → (ℕ → World → Seat → Passed) → World → Printed
@@ -107,8 +103,8 @@ updates message world = (let r = hubs.update world.hub message in printing (code
 abbrev pub timed : ℕ → Printed → Seat → Printed
 timed t so_far seat =
     let later = with_client (λ c. steps.moment c t) seat in
-    let closing = close_lines seat.word (closed_as later.client) in
-    (cut_where closing later (with_seat later so_far.0), so_far.1 ++ closing)
+    let closing = closed_as later.client in
+    (world_cut_if (is_over None closing) later (with_seat later so_far.0), so_far.1 ++ close_lines seat.word closing)
 
 abbrev pub moments : ℕ → World → Printed
 moments t world =
@@ -136,7 +132,7 @@ exchanges w number octets world =
     let x = exchanged enough number octets world.hub [] in
     let ending = end_lines w x.over in
     let later = record world { hub = x.hub } in
-    (elim x.over [ None ↦ later | Some reason ↦ cut_peer w later ], spaced (bytes_words w x.octets) ∷ ending)
+    (elim x.over [ None ↦ later | Some reason ↦ cut_peer w later ], bytes_line w x.octets ∷ ending)
 
 -- the number of a peer's session, and the world with it: the session that it has, or else a new one
 abbrev pub placed : Word → World → Option (ℕ × World)

@@ -2,7 +2,7 @@
 --     spaced words      words with a space between each two
 --     end_words, close_words, why_words      reasons
 --     bytes_words, open_words, noseat_words      the words of such lines
---     end_line, closed_line, shown_lines      the line on an end, on a close, and those on a question
+--     bytes_line, end_line, closed_line, shown_lines      the line on octets, on an end, on a close, and those on a question
 --     show_at records world seat question      what `show` tells behind the question
 use Rattle.std.specs.Prelude.{ℕ, Bool, true, List, [], ◌∷◌, map, length, Option, Some, None, nat_lt, codes, decimal, if◌then◌else◌}
 use Rattle.std.specs.List.{join_with_byte}
@@ -80,6 +80,9 @@ record_line e = spaced (codes "rr" ∷ name_text e.1.owner ∷ decimal e.1.ttl �
 
 abbrev pub bytes_words : Word → List ℕ → List (List ℕ)
 bytes_words w octets = codes "bytes" ∷ w ∷ octets_text octets ∷ []
+
+abbrev pub bytes_line : Word → List ℕ → List ℕ
+bytes_line w octets = spaced (bytes_words w octets)
 
 abbrev pub open_words : Word → List (List ℕ)
 open_words w = codes "open" ∷ w ∷ []

@@ -1,22 +1,23 @@
 //! The lines that events of clients print.
 
-ghost use Rattle.std.specs.Prelude.{◌≡◌, ◌<◌, ◌++◌, ◌∷◌, [], codes, length, position, Some, IfOk, string_bytes};
+ghost use Rattle.std.specs.Prelude.{◌≡◌, ◌<◌, codes, length, position, Some, IfOk, string_bytes};
 ghost use Rattle.replay.specs.World.{new_seat};
-ghost use Rattle.replay.specs.TextWords.{close_words};
-ghost use Rattle.replay.specs.Text.{asked_words, asks, opens, opens_hub, opens_lone, seated as takes_seat, subscribing, unsubscribing, yes_or_no, by_seat};
+ghost use Rattle.replay.specs.Text.{asks, opens, opens_hub, opens_lone, reconfirming, seated as takes_seat, subscribing, unsubscribing, by_seat};
 ghost use Rattle.replay.specs.KeptWorlds.{Does, StandsForSeat, seat_kept, seated};
-ghost use Rattle.replay.specs.KeptSeats.{Times, closing_text, has_word};
+ghost use Rattle.replay.specs.KeptSeats.{Times, has_word};
 
+use crate::printed::{
+    already_text, asked_line, closing_line, dropped_line, noseat_text, open_text, reconfirmed_line,
+};
 use crate::seats::{
-    Seat, ask_at, drop_at, is_lone_at, is_open_at, join_at, moment_at, open_at, place_of,
+    Seat, ask_at, drop_at, is_connected_at, is_lone_at, join_at, moment_at, open_at, place_of,
+    reconfirm_at,
 };
 use crate::world::World;
-use dsosession::session::CloseReason;
 use push_base::NoMemory;
 use pushclient::Client;
-use pushclient::client::Asked;
 use pushserver::{ConnectFault, Hub};
-use rrset::record::Question;
+use rrset::record::{Question, Rr};
 use std::alloc::Global;
 
 /// There is one client more.
@@ -41,7 +42,6 @@ fn new_seat(alloc: Global, word: &str, is_lone: bool) -> Result<Seat, NoMemory>
     Ok(Seat {
         word,
         is_lone,
-        is_open: false,
         client: Client::new(alloc),
         session: None,
         up_wire: Vec::new(alloc),
@@ -87,6 +87,24 @@ pub(crate) fn drop_line(
     }
 }
 
+/// A client says that a record may be out of date (RFC 8765, 6.5).
+pub(crate) fn reconfirm_line(
+    alloc: Global,
+    world: &mut World,
+    word: &str,
+    rr: &Rr,
+) -> Result<String, NoMemory>
+    ensures { IfOk result (λ text. Does (asks (codes "reconfirm") word.now (reconfirming rr.now)) world.old (string_bytes text) world.new) }
+{
+    match place_of(&world.seats, word) {
+        None => Ok(String::new(alloc)),
+        Some(place) => {
+            let said = reconfirm_at(&mut world.seats, place, rr)?;
+            reconfirmed_line(alloc, word, said)
+        }
+    }
+}
+
 /// A client opens a connection, unless it has one.
 pub(crate) fn open_line(alloc: Global, world: &mut World, word: &str) -> Result<String, NoMemory>
     ensures { IfOk result (λ text. Does (opens word.now) world.old (string_bytes text) world.new) }
@@ -94,7 +112,7 @@ pub(crate) fn open_line(alloc: Global, world: &mut World, word: &str) -> Result<
     match place_of(&world.seats, word) {
         None => Ok(String::new(alloc)),
         Some(place) => {
-            if is_open_at(&world.seats, place) {
+            if is_connected_at(&world.seats, place) {
                 return already_text(alloc, word);
             }
             if is_lone_at(&world.seats, place) {
@@ -147,117 +165,4 @@ pub(crate) fn timed_lines(
         text.push_str(line.as_str())?;
     }
     Ok(text)
-}
-
-/// The line of a client that has closed its connection, if it has.
-pub(crate) fn closing_line(
-    alloc: Global,
-    word: &str,
-    closing: Option<CloseReason>,
-) -> Result<String, NoMemory>
-    ensures { IfOk result (λ text. string_bytes text ≡ closing_text word.now closing) }
-{
-    match closing {
-        None => Ok(String::new(alloc)),
-        Some(reason) => {
-            let words = close_words(alloc, reason)?;
-            closed_text(alloc, word, words.as_str())
-        }
-    }
-}
-
-// The line of what became of a wish.
-fn asked_line(alloc: Global, word: &str, asked: Asked) -> Result<String, NoMemory>
-    ensures { IfOk result (λ text. string_bytes text ≡ codes "asked " ++ (word.now ++ 32 ∷ (asked_words asked ++ 10 ∷ []))) }
-{
-    let words = asked_words(alloc, asked)?;
-    asked_text(alloc, word, words.as_str())
-}
-
-// What became of a wish.
-fn asked_words(alloc: Global, asked: Asked) -> Result<String, NoMemory>
-    ensures { IfOk result (λ text. string_bytes text ≡ asked_words asked) }
-{
-    match asked {
-        Asked::New => format!(in alloc; "new"),
-        Asked::Already => format!(in alloc; "already"),
-        Asked::Many => format!(in alloc; "many"),
-    }
-}
-
-fn asked_text(alloc: Global, word: &str, words: &str) -> Result<String, NoMemory>
-    ensures { IfOk result (λ text. string_bytes text ≡ codes "asked " ++ (word.now ++ 32 ∷ (words.now ++ 10 ∷ []))) }
-{
-    format!(in alloc; "asked {word} {words}\n")
-}
-
-// Whether a question was wanted that was dropped.
-fn dropped_line(alloc: Global, word: &str, wanted: bool) -> Result<String, NoMemory>
-    ensures { IfOk result (λ text. string_bytes text ≡ codes "dropped " ++ (word.now ++ 32 ∷ (yes_or_no wanted ++ 10 ∷ []))) }
-{
-    let words = yes_or_no(alloc, wanted)?;
-    dropped_text(alloc, word, words.as_str())
-}
-
-// Yes or no.
-fn yes_or_no(alloc: Global, wanted: bool) -> Result<String, NoMemory>
-    ensures { IfOk result (λ text. string_bytes text ≡ yes_or_no wanted) }
-{
-    if wanted {
-        format!(in alloc; "yes")
-    } else {
-        format!(in alloc; "no")
-    }
-}
-
-fn dropped_text(alloc: Global, word: &str, words: &str) -> Result<String, NoMemory>
-    ensures { IfOk result (λ text. string_bytes text ≡ codes "dropped " ++ (word.now ++ 32 ∷ (words.now ++ 10 ∷ []))) }
-{
-    format!(in alloc; "dropped {word} {words}\n")
-}
-
-fn already_text(alloc: Global, word: &str) -> Result<String, NoMemory>
-    ensures { IfOk result (λ text. string_bytes text ≡ codes "already " ++ (word.now ++ 10 ∷ [])) }
-{
-    format!(in alloc; "already {word}\n")
-}
-
-fn open_text(alloc: Global, word: &str) -> Result<String, NoMemory>
-    ensures { IfOk result (λ text. string_bytes text ≡ codes "open " ++ (word.now ++ 10 ∷ [])) }
-{
-    format!(in alloc; "open {word}\n")
-}
-
-/// The line of a client, or a peer, for which the hub has no seat.
-pub(crate) fn noseat_text(alloc: Global, word: &str) -> Result<String, NoMemory>
-    ensures { IfOk result (λ text. string_bytes text ≡ codes "noseat " ++ (word.now ++ 10 ∷ [])) }
-{
-    format!(in alloc; "noseat {word}\n")
-}
-
-fn closed_text(alloc: Global, word: &str, words: &str) -> Result<String, NoMemory>
-    ensures { IfOk result (λ text. string_bytes text ≡ codes "closed " ++ (word.now ++ 32 ∷ (words.now ++ 10 ∷ []))) }
-{
-    format!(in alloc; "closed {word} {words}\n")
-}
-
-// The words of the reason of a close.
-fn close_words(alloc: Global, reason: CloseReason) -> Result<String, NoMemory>
-    ensures { IfOk result (λ text. string_bytes text ≡ close_words reason) }
-{
-    match reason {
-        CloseReason::Short => format!(in alloc; "short"),
-        CloseReason::Opcode => format!(in alloc; "opcode"),
-        CloseReason::Counts => format!(in alloc; "counts"),
-        CloseReason::Tlvs => format!(in alloc; "tlvs"),
-        CloseReason::Early => format!(in alloc; "early"),
-        CloseReason::Idle => format!(in alloc; "idle"),
-        CloseReason::Stranger(id) => format!(in alloc; "stranger {id}"),
-        CloseReason::Misuse(kind) => format!(in alloc; "misuse {kind}"),
-        CloseReason::BadData(kind) => format!(in alloc; "data {kind}"),
-        CloseReason::Unknown(kind) => format!(in alloc; "type {kind}"),
-        CloseReason::Interval(interval) => format!(in alloc; "interval {interval}"),
-        CloseReason::Kept(rcode) => format!(in alloc; "kept {rcode}"),
-        CloseReason::Delay(delay, rcode) => format!(in alloc; "delay {delay} {rcode}"),
-    }
 }

@@ -1,9 +1,9 @@
-//! The words of a script's clients, which its peers do not have.
+//! The words of a script's clients, which its peers do not have, and of its links.
 
 ghost use Rattle.std.specs.Prelude.{◌≡◌, ◌++◌, ◌∷◌, [], ◌||◌, Some, false, is_some, map, option_map, option_to_list, IfOk, OnOk, string_bytes};
 ghost use Rattle.replay.specs.Scripts.{client_words, lines_read, is_among, is_peer, lone_in, is_hub_client_in, is_lone_client_in, may_follow};
 ghost use Rattle.replay.specs.KeptLines.{event_said};
-ghost use Rattle.replay.specs.Drafts.{client_in, client_added, known_clients, known_by, is_client_of, has_client};
+ghost use Rattle.replay.specs.Drafts.{client_in, client_added, known_clients, known_by, is_any_word, is_word};
 
 use crate::line::Event;
 use crate::line_words::plain_word;
@@ -51,7 +51,8 @@ fn add_client(alloc: Global, line: &[u8], words: &mut Vec<String>) -> Result<(),
     }
 }
 
-// The word of the client, or of the lone one, that a line names.
+// The word of the client, or of the lone one, that a line names. It goes by the line's front, so that no line's octets
+// are read here and once more with the line.
 fn client_in(alloc: Global, line: &[u8]) -> Result<Option<String>, NoMemory>
     ensures { IfOk result (λ found. option_map (λ w. string_bytes w) found ≡ client_in line.now) }
 {
@@ -65,13 +66,18 @@ fn client_in(alloc: Global, line: &[u8]) -> Result<Option<String>, NoMemory>
 }
 
 /// Whether the word of an event, if it has one, may stand there: a peer has a word that no client has anywhere, one more
-/// client a word that none has yet, and a client that is spoken of one that there is.
-pub(crate) fn may_happen(all: &[String], clients: &[KnownClient], event: &Event) -> bool
-    ensures { result ≡ may_follow (map (λ w. string_bytes w) all.now) (known_by (known_clients clients.now)) (event_said event.now) }
+/// client a word that none has yet, and a client or a link that is spoken of one that there is.
+pub(crate) fn may_happen(
+    all: &[String],
+    links: &[String],
+    clients: &[KnownClient],
+    event: &Event,
+) -> bool
+    ensures { result ≡ may_follow (map (λ w. string_bytes w) all.now) (known_by (map (λ w. string_bytes w) links.now) (known_clients clients.now)) (event_said event.now) }
 {
     match event {
         Event::Update(_) | Event::Point | Event::At(_) => true,
-        Event::Send(sent) => !has_client(all, sent.word.as_bytes()),
+        Event::Send(sent) => !is_among(all, sent.word.as_bytes()),
         Event::Stop(stopping) => may_be_stopped(all, clients, stopping.word.as_bytes()),
         Event::Cut(cutting) => may_be_cut(all, clients, cutting.word.as_bytes()),
         Event::Client(joining) => !is_known(clients, joining.word.as_bytes()),
@@ -79,9 +85,15 @@ pub(crate) fn may_happen(all: &[String], clients: &[KnownClient], event: &Event)
         Event::Ask(asking) => is_known(clients, asking.word.as_bytes()),
         Event::Drop(asking) => is_known(clients, asking.word.as_bytes()),
         Event::Open(opening) => is_known(clients, opening.word.as_bytes()),
+        Event::Say(passing) => is_known(clients, passing.word.as_bytes()),
+        Event::Up(passing) => is_known(clients, passing.word.as_bytes()),
+        Event::Emit(passing) => is_known(clients, passing.word.as_bytes()),
+        Event::Down(passing) => is_known(clients, passing.word.as_bytes()),
         Event::Settle(settling) => is_known(clients, settling.word.as_bytes()),
         Event::Feed(sent) => is_lone_client(clients, sent.word.as_bytes()),
         Event::Show(showing) => is_known(clients, showing.word.as_bytes()),
+        Event::Hear(sent) => is_among(links, sent.word.as_bytes()),
+        Event::Reconfirm(doubt) => is_known(clients, doubt.word.as_bytes()),
     }
 }
 
@@ -89,14 +101,14 @@ pub(crate) fn may_happen(all: &[String], clients: &[KnownClient], event: &Event)
 fn may_be_cut(all: &[String], clients: &[KnownClient], word: &[u8]) -> bool
     ensures { result ≡ (is_some (lone_in (known_clients clients.now) word.now) || is_peer (map (λ w. string_bytes w) all.now) word.now) }
 {
-    is_known(clients, word) || !has_client(all, word)
+    is_known(clients, word) || !is_among(all, word)
 }
 
 // Whether a word is that of a client of the hub, or of a peer.
 fn may_be_stopped(all: &[String], clients: &[KnownClient], word: &[u8]) -> bool
     ensures { result ≡ (is_hub_client_in (known_clients clients.now) word.now || is_peer (map (λ w. string_bytes w) all.now) word.now) }
 {
-    is_hub_client(clients, word) || !has_client(all, word)
+    is_hub_client(clients, word) || !is_among(all, word)
 }
 
 // Whether a word is that of a client that there is.
@@ -131,7 +143,7 @@ fn lone_of(clients: &[KnownClient], word: &[u8]) -> Option<bool>
     ensures { result ≡ lone_in (known_clients clients.now) word.now }
 {
     'clients: for client in clients {
-        if is_client(&client.word, word) {
+        if is_word(&client.word, word) {
             return Some(client.is_lone);
         }
     }
@@ -152,7 +164,9 @@ pub(crate) fn add_seat(
         Event::Update(_) | Event::Point | Event::At(_) => Ok(()),
         Event::Send(_) | Event::Stop(_) | Event::Cut(_) => Ok(()),
         Event::Ask(_) | Event::Drop(_) | Event::Open(_) | Event::Settle(_) => Ok(()),
+        Event::Say(_) | Event::Up(_) | Event::Emit(_) | Event::Down(_) => Ok(()),
         Event::Feed(_) | Event::Show(_) => Ok(()),
+        Event::Hear(_) | Event::Reconfirm(_) => Ok(()),
     }
 }
 
@@ -170,23 +184,23 @@ fn push_client(
     Ok(())
 }
 
-// Whether one of the clients has that word.
-#[tactic(auto, using(crate::proofs::lines::ClientLines::any_client))]
-fn has_client(clients: &[String], name: &[u8]) -> bool
-    ensures { result ≡ is_among (map (λ w. string_bytes w) clients.now) name.now }
+/// Whether a word is among others.
+#[tactic(auto, using(crate::proofs::lines::ClientLines::any_word))]
+pub(crate) fn is_among(words: &[String], word: &[u8]) -> bool
+    ensures { result ≡ is_among (map (λ w. string_bytes w) words.now) word.now }
 {
-    is_any_client(clients, name)
+    is_any_word(words, word)
 }
 
-fn is_any_client(clients: &[String], name: &[u8]) -> bool
-    ensures { result ≡ has_client name.now clients.now }
+fn is_any_word(words: &[String], word: &[u8]) -> bool
+    ensures { result ≡ is_any_word word.now words.now }
 {
-    clients.iter().any(|client| is_client(client, name))
+    words.iter().any(|other| is_word(other, word))
 }
 
-// Whether a client has that word.
-fn is_client(client: &String, name: &[u8]) -> bool
-    ensures { result ≡ is_client_of name.now client.now }
+// Whether a word is another one.
+fn is_word(other: &String, word: &[u8]) -> bool
+    ensures { result ≡ is_word word.now other.now }
 {
-    name == client.as_bytes()
+    word == other.as_bytes()
 }

@@ -26,6 +26,7 @@ pub(crate) fn ends_of(alloc: Global, world: World) -> Result<Ends, NoMemory>
 {
     let World {
         hub,
+        links: _,
         peers: _,
         seats,
     } = world;

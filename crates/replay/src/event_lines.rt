@@ -1,7 +1,8 @@
 //! The lines that events print.
 
-ghost use Rattle.std.specs.Prelude.{◌≡◌, ◌++◌, ◌∷◌, [], codes, decimal, IfOk, string_bytes};
-ghost use Rattle.replay.specs.TextWords.{by_notices, end_words, octets_text};
+ghost use Rattle.push_base.specs.Limits.{max_moment};
+ghost use Rattle.std.specs.Prelude.{◌≡◌, ◌≤◌, ◌++◌, ◌∷◌, [], codes, decimal, IfOk, string_bytes};
+ghost use Rattle.replay.specs.TextWords.{by_notices, end_words};
 ghost use Rattle.replay.specs.Text.{cuts, exchanges, line_does, moments, printing, sends, session_of_word, stops, updates};
 ghost use Rattle.pushserver.specs.Hubs.{newest, now};
 ghost use Rattle.pushserver.specs.KeptHubs.{StandsFor};
@@ -11,16 +12,24 @@ ghost use Rattle.replay.specs.KeptWorlds.{Does, IsWorld, parties_of};
 ghost use Rattle.replay.specs.KeptSeats.{TimesWorld};
 ghost use Rattle.replay.specs.World.{World as Plain, stopped_hub};
 
-use crate::client_lines::{ask_line, client_line, drop_line, noseat_text, open_line, timed_lines};
+use crate::client_lines::{
+    ask_line, client_line, drop_line, open_line, reconfirm_line, timed_lines,
+};
 use crate::exchanging::{Exchanged, exchange};
 use crate::feed_lines::feed_lines;
+use crate::hear_lines::hear_line;
 use crate::line::Event;
+use crate::passing_lines::passing_line;
+use crate::printed::{
+    bytes_line, cut_text, end_text, end_words, full_text, noseat_text, point_text, stop_text,
+    update_text,
+};
 use crate::seats::{cut_at, place_of, session_at};
-use crate::settle_lines::settle_line;
+use crate::settling::Way;
 use crate::show_lines::show_lines;
 use crate::world::{Peer, World};
 use dsosession::session::EndReason;
-use push_base::{NoMemory, hex_text};
+use push_base::NoMemory;
 use pushserver::{ConnectFault, Hub, HubFault};
 use std::alloc::Global;
 
@@ -34,7 +43,7 @@ pub fn event_line(alloc: Global, world: &mut World, event: &Event) -> Result<Str
             send_lines(alloc, world, sent.word.as_str(), sent.octets.as_slice())
         }
         Event::Point => point_line(alloc, world),
-        Event::At(moment) => moment_lines(alloc, world, *moment),
+        Event::At(moment) => moment_lines(alloc, world, moment.millis()),
         Event::Stop(stopping) => {
             let word = stopping.word.as_str();
             stop_line(alloc, world, word, stopping.rcode, stopping.delay)
@@ -49,7 +58,13 @@ pub fn event_line(alloc: Global, world: &mut World, event: &Event) -> Result<Str
             feed_lines(alloc, world, sent.word.as_str(), sent.octets.as_slice())
         }
         Event::Show(showing) => show_lines(alloc, world, showing),
-        Event::Settle(settling) => settle_line(alloc, world, settling.word.as_str()),
+        Event::Say(said) => passing_line(alloc, world, Way::Say(said.most), said.word.as_str()),
+        Event::Up(risen) => passing_line(alloc, world, Way::Up(risen.most), risen.word.as_str()),
+        Event::Emit(made) => passing_line(alloc, world, Way::Emit(made.most), made.word.as_str()),
+        Event::Down(come) => passing_line(alloc, world, Way::Down(come.most), come.word.as_str()),
+        Event::Settle(settling) => passing_line(alloc, world, Way::Settle, settling.word.as_str()),
+        Event::Hear(sent) => hear_line(alloc, world, sent.word.as_str(), sent.octets.as_slice()),
+        Event::Reconfirm(doubt) => { reconfirm_line(alloc, world, doubt.word.as_str(), &doubt.rr) }
     }
 }
 
@@ -73,6 +88,7 @@ fn point_line(alloc: Global, world: &mut World) -> Result<String, NoMemory>
 
 // A moment comes: for the hub, and then for each client at the hub's moment.
 fn moment_lines(alloc: Global, world: &mut World, moment: u64) -> Result<String, NoMemory>
+    requires { moment ≤ max_moment }
     ensures { IfOk result (λ text. Does (moments moment) world.old (string_bytes text) world.new) }
 {
     match world.hub.moment(moment) {
@@ -197,14 +213,6 @@ fn exchange_lines(
     }
 }
 
-/// The line of the octets that come back.
-pub(crate) fn bytes_line(alloc: Global, word: &str, octets: &[u8]) -> Result<String, NoMemory>
-    ensures { IfOk result (λ text. string_bytes text ≡ codes "bytes " ++ (word.now ++ 32 ∷ (octets_text octets.now ++ 10 ∷ []))) }
-{
-    let digits = octets_text(alloc, octets)?;
-    bytes_text(alloc, word, digits.as_str())
-}
-
 // A text, and the line of an end behind it.
 fn ended_text(
     alloc: Global,
@@ -218,81 +226,4 @@ fn ended_text(
     let end = end_text(alloc, word, words.as_str())?;
     text.push_str(end.as_str())?;
     Ok(text)
-}
-
-fn update_text(alloc: Global, code: u8) -> Result<String, NoMemory>
-    ensures { IfOk result (λ text. string_bytes text ≡ codes "update " ++ (decimal code ++ 10 ∷ [])) }
-{
-    format!(in alloc; "update {code}\n")
-}
-
-fn point_text(alloc: Global, point: u64, moment: u64) -> Result<String, NoMemory>
-    ensures { IfOk result (λ text. string_bytes text ≡ codes "point " ++ (decimal point ++ 32 ∷ (decimal moment ++ 10 ∷ []))) }
-{
-    format!(in alloc; "point {point} {moment}\n")
-}
-
-fn full_text(alloc: Global) -> Result<String, NoMemory>
-    ensures { IfOk result (λ text. string_bytes text ≡ codes "full" ++ 10 ∷ []) }
-{
-    format!(in alloc; "full\n")
-}
-
-fn stop_text(alloc: Global, word: &str) -> Result<String, NoMemory>
-    ensures { IfOk result (λ text. string_bytes text ≡ codes "stop " ++ (word.now ++ 10 ∷ [])) }
-{
-    format!(in alloc; "stop {word}\n")
-}
-
-fn cut_text(alloc: Global, word: &str) -> Result<String, NoMemory>
-    ensures { IfOk result (λ text. string_bytes text ≡ codes "cut " ++ (word.now ++ 10 ∷ [])) }
-{
-    format!(in alloc; "cut {word}\n")
-}
-
-/// Octets in hexadecimal, and `-` for none.
-pub(crate) fn octets_text(alloc: Global, octets: &[u8]) -> Result<String, NoMemory>
-    ensures { IfOk result (λ text. string_bytes text ≡ octets_text octets.now) }
-{
-    if octets.is_empty() {
-        format!(in alloc; "-")
-    } else {
-        hex_text(alloc, octets)
-    }
-}
-
-fn bytes_text(alloc: Global, word: &str, digits: &str) -> Result<String, NoMemory>
-    ensures { IfOk result (λ text. string_bytes text ≡ codes "bytes " ++ (word.now ++ 32 ∷ (digits.now ++ 10 ∷ []))) }
-{
-    format!(in alloc; "bytes {word} {digits}\n")
-}
-
-/// The line of the end of a session.
-pub(crate) fn end_text(alloc: Global, word: &str, words: &str) -> Result<String, NoMemory>
-    ensures { IfOk result (λ text. string_bytes text ≡ codes "end " ++ (word.now ++ 32 ∷ (words.now ++ 10 ∷ []))) }
-{
-    format!(in alloc; "end {word} {words}\n")
-}
-
-/// The words of the reason of an end.
-pub(crate) fn end_words(alloc: Global, reason: EndReason) -> Result<String, NoMemory>
-    ensures { IfOk result (λ text. string_bytes text ≡ end_words reason) }
-{
-    match reason {
-        EndReason::Short => format!(in alloc; "short"),
-        EndReason::Answer => format!(in alloc; "answer"),
-        EndReason::Counts => format!(in alloc; "counts"),
-        EndReason::Tlvs => format!(in alloc; "tlvs"),
-        EndReason::Early => format!(in alloc; "early"),
-        EndReason::Misuse(kind) => format!(in alloc; "misuse {kind}"),
-        EndReason::BadData(kind) => format!(in alloc; "data {kind}"),
-        EndReason::Unknown(kind) => format!(in alloc; "type {kind}"),
-        EndReason::IdInUse(id) => format!(in alloc; "id {id}"),
-        EndReason::Twice(id) => format!(in alloc; "twice {id}"),
-        EndReason::Silent => format!(in alloc; "silent"),
-        EndReason::Idle => format!(in alloc; "idle"),
-        EndReason::Stopped => format!(in alloc; "stopped"),
-        EndReason::Behind(point) => format!(in alloc; "behind {point}"),
-        EndReason::Gone => format!(in alloc; "gone"),
-    }
 }

@@ -7,7 +7,7 @@ ghost use Rattle.pushserver.specs.PlainHubs.{Hub as PlainHub};
 ghost use Rattle.pushserver.specs.KeptHubs.{StandsFor};
 ghost use Rattle.replay.specs.KeptExchanges.{has_worked, turn_of, written, Gives, Emits, Exchanges, Remembers};
 
-use crate::filling::put_in_front;
+use crate::told_ends::put_in_front;
 use coalesce::MAX_FRAME;
 use dsosession::session::EndReason;
 use push_base::NoMemory;

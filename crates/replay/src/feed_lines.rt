@@ -6,9 +6,8 @@ ghost use Rattle.replay.specs.KeptWorlds.{Does, seat_kept, seated};
 ghost use Rattle.replay.specs.KeptSeats.{Calls, Makes};
 ghost use Rattle.replay.specs.KeptFeeds.{HasFed, fed_seat, fed_text};
 
-use crate::client_lines::closing_line;
-use crate::event_lines::bytes_line;
-use crate::seats::{Seat, cut_one, is_open_at, place_of};
+use crate::printed::{bytes_line, closing_line};
+use crate::seats::{Seat, finish, is_connected_at, place_of};
 use crate::stepping::{deliver, hand_out};
 use crate::world::World;
 use dsosession::session::CloseReason;
@@ -36,7 +35,7 @@ pub(crate) fn feed_lines(
     match place_of(&world.seats, word) {
         None => Ok(String::new(alloc)),
         Some(place) => {
-            if !is_open_at(&world.seats, place) {
+            if !is_connected_at(&world.seats, place) {
                 return bytes_line(alloc, word, &[]);
             }
             let fed = feed_at(alloc, &mut world.hub, &mut world.seats, place, octets)?;
@@ -76,17 +75,6 @@ fn feed_one(alloc: Global, hub: &mut Hub, seat: &mut Seat, octets: &[u8]) -> Res
 {
     deliver(&mut seat.client, octets)?;
     let octets = hand_out(alloc, &mut seat.client)?;
-    match seat.client.closed() {
-        None => Ok(Fed {
-            octets,
-            closing: None,
-        }),
-        Some(reason) => {
-            cut_one(hub, seat);
-            Ok(Fed {
-                octets,
-                closing: Some(reason),
-            })
-        }
-    }
+    let closing = finish(hub, seat, None);
+    Ok(Fed { octets, closing })
 }

@@ -1,8 +1,8 @@
 //! Laws of the worlds that scripts tell of.
 
 ghost use Rattle.std.specs.Prelude.{ℕ, List};
-ghost use Rattle.replay.specs.Cuts.{AnswersEveryCutIn};
-ghost use Rattle.replay.specs.Deliveries.{DeliversPieces, FeedsPieces};
+ghost use Rattle.replay.specs.SessionPieces.{AnswersEveryCutIn};
+ghost use Rattle.replay.specs.ClientPieces.{DeliversPieces, FeedsPieces};
 
 /// Between any two lines of a script that is built, a session at rest answers the whole messages in its octets one after
 /// the other, in whatever pieces they come, as long as no entry is made (RFC 7766, 8; RFC 8490, 5.4).

@@ -1,18 +1,20 @@
 //! The lines of a script that are built.
 
 ghost use Rattle.std.specs.Prelude.{◌≡◌, false, ◌∷◌, [], IfOk, IfSome, IfNone, None, position, ◌==◌, ◌<◌, option_map, length, string_bytes, List, ℕ};
-ghost use Rattle.replay.specs.Lines.{Word, ScriptLine, lone, ask, drop_question, open_connection, cut, feed, send, update, timers_line, zone_line, at_line, show_line, stop_line, of_word, of_octets, of_word_and_octets, of_word_and_question, line_of, question, client, settle};
-ghost use Rattle.replay.specs.KeptLines.{said, IsSound, words_in, one_in, two_in, three_in, four_in, understood, begins_silent, kind_of, said_behind};
+ghost use Rattle.push_base.specs.Cases.{chosen};
+ghost use Rattle.replay.specs.Lines.{words_in, Word, ScriptLine, lone, ask, drop_question, open_connection, cut, feed, hear, send, update, timers_line, zone_line, link_line, at_line, reconfirm_line, show_line, stop_line, of_word, of_octets, of_word_and_octets, of_word_and_question, line_of, question, client, settle, kind_of, client_kinds, line_behind, of_word_and_number, say, up, emit, down};
+ghost use Rattle.replay.specs.BuiltScripts.{understood};
+ghost use Rattle.replay.specs.KeptLines.{said, one_in, two_in, three_in, four_in, five_in, begins_silent};
 
 use crate::line_words::{
-    moment_of_word, name_of_word, number_of_word, octets_of_word, plain_word, rcode_of_word,
-    short_number_of_word, text_of_word, writable_of_word,
+    Moment, count_of_word, moment_of_word, name_of_word, number_of_word, octets_of_word,
+    plain_word, rcode_of_word, short_number_of_word, text_of_word, writable_of_word,
 };
 use dnsname::name::{Name, Octets};
 use dsosession::session::Timers;
 use dsosession::times::LEAST_KEEPALIVE;
 use push_base::NoMemory;
-use rrset::record::Question;
+use rrset::record::{Question, Rr};
 use std::alloc::Global;
 
 /// A zone line: the apex, the serial, and whether the zone may be written.
@@ -26,20 +28,29 @@ pub struct ZoneLine {
     pub writable: bool,
 }
 
-/// Octets, and the word of the peer that sends them, or of the lone client that gets them.
+/// A link line: the link's word, and the domain under which it is shown.
+#[derive(Debug, Drop)]
+pub struct LinkLine {
+    /// The link's word.
+    pub word: String,
+    /// The domain (RFC 8766, 5.5).
+    pub domain: Name,
+}
+
+/// Octets, and the word of the peer that sends them, of the lone client that gets them, or of the link on which they come.
 #[derive(Debug, Drop)]
 pub struct Sent {
-    /// The peer's word, or the client's.
+    /// The peer's word, the client's, or the link's.
     pub word: String,
-    /// What is sent: messages behind their lengths, or any part of that (RFC 7766, 8).
+    /// What is sent: messages behind their lengths, or any part of that (RFC 7766, 8); or a datagram (RFC 6762, 18).
     pub octets: Octets,
 }
 
-/// The word of a peer whose session is asked to stop, the RCODE that it is told, and for how long it is to stay away,
-/// in milliseconds (RFC 8490, 6.6.1).
+/// The word of a peer, or of a client of the hub, whose session is asked to stop, the RCODE that it is told, and for how
+/// long it is to stay away, in milliseconds (RFC 8490, 6.6.1).
 #[derive(Debug, Drop)]
 pub struct Stopping {
-    /// The peer's word.
+    /// The peer's word, or the client's.
     pub word: String,
     /// The RCODE that it is told, at most 15.
     pub rcode: u8,
@@ -102,6 +113,24 @@ pub struct Settling {
     pub word: String,
 }
 
+/// The word of a client, and a record that may be out of date.
+#[derive(Debug, Drop)]
+pub struct Reconfirming {
+    /// The client's word.
+    pub word: String,
+    /// The record, with a TTL of 0.
+    pub rr: Rr,
+}
+
+/// The word of a client, and how many of its octets pass one way, at most.
+#[derive(Debug, Drop)]
+pub struct Passing {
+    /// The client's word.
+    pub word: String,
+    /// How many octets, at most.
+    pub most: usize,
+}
+
 /// What happens.
 #[derive(Debug, Drop)]
 pub enum Event {
@@ -112,8 +141,8 @@ pub enum Event {
     /// The newest point and the moment are asked for.
     Point,
     /// It is a moment, in milliseconds since the start.
-    At(u64),
-    /// A peer's session is asked to stop (RFC 8490, 6.6.1).
+    At(Moment),
+    /// The session of a peer, or of a client of the hub, is asked to stop (RFC 8490, 6.6.1).
     Stop(Stopping),
     /// A peer's connection is cut, or a client's.
     Cut(Cutting),
@@ -131,8 +160,20 @@ pub enum Event {
     Feed(Sent),
     /// What a client knows of a question is shown.
     Show(Showing),
+    /// Octets go from a client onto the wire to its session.
+    Say(Passing),
+    /// Octets go from that wire into the session.
+    Up(Passing),
+    /// Octets go from a client's session onto the wire to the client.
+    Emit(Passing),
+    /// Octets go from that wire to the client.
+    Down(Passing),
     /// A client's octets go to its session and back until nothing moves.
     Settle(Settling),
+    /// A datagram comes on a link (RFC 6762, 18).
+    Hear(Sent),
+    /// A client says that a record may be out of date (RFC 8765, 6.5).
+    Reconfirm(Reconfirming),
 }
 
 /// A line of a script that is built.
@@ -144,36 +185,44 @@ pub enum Line {
     Timers(Timers),
     /// A zone.
     Zone(ZoneLine),
+    /// A link.
+    Link(LinkLine),
     /// Something happens.
     Event(Event),
 }
 
-// The kinds of lines that say something and are built.
+// The kinds of lines that say something, built or not; what begins with no word of the grammar is `Other`.
 #[derive(Clone, Copy)]
 enum Kind {
     Timers,
     Zone,
+    Link,
     At,
     Update,
-    Cut,
+    Hear,
     Send,
     Stop,
+    Cut,
     Point,
     Client,
     Lone,
+    Open,
     Ask,
     Drop,
-    Open,
+    Reconfirm,
+    Say,
+    Up,
+    Emit,
+    Down,
+    Settle,
     Feed,
     Show,
-    Settle,
     Other,
 }
 
 /// What a line says, if it is built.
 pub(crate) fn read_line(alloc: Global, line: &[u8]) -> Result<Option<Line>, NoMemory>
     ensures exact { IfOk result (λ found. option_map (λ l. said l) found ≡ understood (line_of line.now)) }
-    ensures sound { IfOk result (λ found. IfSome found IsSound) }
 {
     match line {
         [] => Ok(Some(Line::Silent)),
@@ -185,7 +234,6 @@ pub(crate) fn read_line(alloc: Global, line: &[u8]) -> Result<Option<Line>, NoMe
 // A line that begins with `#`, by what follows: it says nothing, and is UTF-8.
 fn comment_line(comment: &[u8]) -> Option<Line>
     ensures exact { option_map (λ l. said l) result ≡ understood (line_of (35 ∷ comment.now)) }
-    ensures sound { IfSome result IsSound }
 {
     match str::from_utf8(comment) {
         Ok(_) => Some(Line::Silent),
@@ -197,7 +245,6 @@ fn comment_line(comment: &[u8]) -> Option<Line>
 fn speaking_line(alloc: Global, line: &[u8]) -> Result<Option<Line>, NoMemory>
     requires { begins_silent line.now ≡ false }
     ensures exact { IfOk result (λ found. option_map (λ l. said l) found ≡ understood (line_of line.now)) }
-    ensures sound { IfOk result (λ found. IfSome found IsSound) }
 {
     match split_word(line) {
         Some((word, rest)) => longer_line(alloc, kind_of(word), rest),
@@ -213,75 +260,103 @@ fn kind_of(word: &[u8]) -> Kind
         Kind::Timers
     } else if word == b"zone".as_slice() {
         Kind::Zone
+    } else if word == b"link".as_slice() {
+        Kind::Link
     } else if word == b"at".as_slice() {
         Kind::At
     } else if word == b"update".as_slice() {
         Kind::Update
-    } else if word == b"cut".as_slice() {
-        Kind::Cut
+    } else if word == b"hear".as_slice() {
+        Kind::Hear
     } else if word == b"send".as_slice() {
         Kind::Send
     } else if word == b"stop".as_slice() {
         Kind::Stop
+    } else if word == b"cut".as_slice() {
+        Kind::Cut
     } else if word == b"point".as_slice() {
         Kind::Point
-    } else if word == b"client".as_slice() {
+    } else {
+        client_kind(word)
+    }
+}
+
+// The kind of a line whose first word is none on what the server serves or on its peers.
+fn client_kind(word: &[u8]) -> Kind
+    ensures { result ≡ chosen (client_kinds word.now) Kind.Other }
+{
+    if word == b"client".as_slice() {
         Kind::Client
     } else if word == b"lone".as_slice() {
         Kind::Lone
+    } else if word == b"open".as_slice() {
+        Kind::Open
     } else if word == b"ask".as_slice() {
         Kind::Ask
     } else if word == b"drop".as_slice() {
         Kind::Drop
-    } else if word == b"open".as_slice() {
-        Kind::Open
+    } else if word == b"reconfirm".as_slice() {
+        Kind::Reconfirm
+    } else if word == b"say".as_slice() {
+        Kind::Say
+    } else if word == b"up".as_slice() {
+        Kind::Up
+    } else if word == b"emit".as_slice() {
+        Kind::Emit
+    } else if word == b"down".as_slice() {
+        Kind::Down
+    } else if word == b"settle".as_slice() {
+        Kind::Settle
     } else if word == b"feed".as_slice() {
         Kind::Feed
     } else if word == b"show".as_slice() {
         Kind::Show
-    } else if word == b"settle".as_slice() {
-        Kind::Settle
     } else {
         Kind::Other
     }
 }
 
-// What a line of this kind says with nothing behind its first word.
+// What a line of this kind says with nothing behind its first word, if it is built.
 fn single_word(kind: Kind) -> Option<Line>
-    ensures exact { option_map (λ l. said l) result ≡ said_behind kind [] }
-    ensures sound { IfSome result IsSound }
+    ensures exact { option_map (λ l. said l) result ≡ understood (line_behind kind []) }
 {
     match kind {
         Kind::Point => Some(Line::Event(Event::Point)),
-        Kind::Timers | Kind::Zone | Kind::At | Kind::Update => None,
-        Kind::Cut | Kind::Send | Kind::Stop | Kind::Other => None,
-        Kind::Client | Kind::Lone | Kind::Ask | Kind::Drop => None,
-        Kind::Open | Kind::Settle => None,
-        Kind::Feed | Kind::Show => None,
+        Kind::Timers | Kind::Zone | Kind::Link | Kind::At | Kind::Update | Kind::Hear => None,
+        Kind::Send | Kind::Stop | Kind::Cut => None,
+        Kind::Client | Kind::Lone | Kind::Open | Kind::Ask | Kind::Drop | Kind::Reconfirm => None,
+        Kind::Say | Kind::Up | Kind::Emit | Kind::Down | Kind::Settle => None,
+        Kind::Feed | Kind::Show | Kind::Other => None,
     }
 }
 
-// What a line of this kind says with that text behind its first word.
+// What a line of this kind says with that text behind its first word, if it is built.
 fn longer_line(alloc: Global, kind: Kind, text: &[u8]) -> Result<Option<Line>, NoMemory>
-    ensures exact { IfOk result (λ found. option_map (λ l. said l) found ≡ said_behind kind (words_in text.now)) }
-    ensures sound { IfOk result (λ found. IfSome found IsSound) }
+    ensures exact { IfOk result (λ found. option_map (λ l. said l) found ≡ understood (line_behind kind (words_in text.now))) }
 {
     match kind {
         Kind::Timers => Ok(timers_line(text)),
         Kind::Zone => zone_line(alloc, text),
+        Kind::Link => link_line(alloc, text),
         Kind::At => Ok(at_line(text)),
         Kind::Update => update_line(alloc, text),
-        Kind::Cut => cut_line(alloc, text),
+        Kind::Hear => hear_line(alloc, text),
         Kind::Send => send_line(alloc, text),
         Kind::Stop => stop_line(alloc, text),
+        Kind::Cut => cut_line(alloc, text),
         Kind::Client => client_line(alloc, text),
         Kind::Lone => lone_line(alloc, text),
+        Kind::Open => open_line(alloc, text),
         Kind::Ask => ask_line(alloc, text),
         Kind::Drop => drop_line(alloc, text),
-        Kind::Open => open_line(alloc, text),
+        Kind::Reconfirm => reconfirm_line(alloc, text),
+        Kind::Say => say_line(alloc, text),
+        Kind::Up => up_line(alloc, text),
+        Kind::Emit => emit_line(alloc, text),
+        Kind::Down => down_line(alloc, text),
+        Kind::Settle => settle_line(alloc, text),
         Kind::Feed => feed_line(alloc, text),
         Kind::Show => show_line(alloc, text),
-        Kind::Settle => settle_line(alloc, text),
         Kind::Point | Kind::Other => Ok(None),
     }
 }
@@ -289,8 +364,7 @@ fn longer_line(alloc: Global, kind: Kind, text: &[u8]) -> Result<Option<Line>, N
 // What follows the first word of a line of timers: the time without activity after which a session ends, and the
 // interval of Keepalives, in milliseconds (RFC 8490, 6.2), which is 10 seconds or more.
 fn timers_line(text: &[u8]) -> Option<Line>
-    ensures exact { option_map (λ l. said l) result ≡ timers_line (words_in text.now) }
-    ensures sound { IfSome result IsSound }
+    ensures exact { option_map (λ l. said l) result ≡ understood (timers_line (words_in text.now)) }
 {
     let (inactivity, keepalive) = two_words(text)?;
     let inactivity = number_of_word(inactivity)?;
@@ -306,8 +380,7 @@ fn timers_line(text: &[u8]) -> Option<Line>
 
 // What follows the first word of a zone line: the apex, the serial, and `open` or `shut`.
 fn zone_line(alloc: Global, text: &[u8]) -> Result<Option<Line>, NoMemory>
-    ensures exact { IfOk result (λ found. option_map (λ l. said l) found ≡ zone_line (words_in text.now)) }
-    ensures sound { IfOk result (λ found. IfSome found IsSound) }
+    ensures exact { IfOk result (λ found. option_map (λ l. said l) found ≡ understood (zone_line (words_in text.now))) }
 {
     let Some((apex, serial, mode)) = three_words(text) else {
         return Ok(None);
@@ -328,10 +401,25 @@ fn zone_line(alloc: Global, text: &[u8]) -> Result<Option<Line>, NoMemory>
     })))
 }
 
+// What follows the first word of a link line: its word, and its domain.
+fn link_line(alloc: Global, text: &[u8]) -> Result<Option<Line>, NoMemory>
+    ensures exact { IfOk result (λ found. option_map (λ l. said l) found ≡ understood (link_line (words_in text.now))) }
+{
+    let Some((word, domain)) = two_words(text) else {
+        return Ok(None);
+    };
+    let Some(word) = plain_word(alloc, word)? else {
+        return Ok(None);
+    };
+    let Some(domain) = name_of_word(alloc, domain)? else {
+        return Ok(None);
+    };
+    Ok(Some(Line::Link(LinkLine { word, domain })))
+}
+
 // What follows the first word of a line with a moment: the moment, in milliseconds.
 fn at_line(text: &[u8]) -> Option<Line>
-    ensures exact { option_map (λ l. said l) result ≡ at_line (words_in text.now) }
-    ensures sound { IfSome result IsSound }
+    ensures exact { option_map (λ l. said l) result ≡ understood (at_line (words_in text.now)) }
 {
     let moment = moment_of_word(one_word(text)?)?;
     Some(Line::Event(Event::At(moment)))
@@ -339,8 +427,7 @@ fn at_line(text: &[u8]) -> Option<Line>
 
 // What follows the first word of an update line: the octets of the message.
 fn update_line(alloc: Global, text: &[u8]) -> Result<Option<Line>, NoMemory>
-    ensures exact { IfOk result (λ found. option_map (λ l. said l) found ≡ of_octets update (words_in text.now)) }
-    ensures sound { IfOk result (λ found. IfSome found IsSound) }
+    ensures exact { IfOk result (λ found. option_map (λ l. said l) found ≡ understood (of_octets update (words_in text.now))) }
 {
     let Some(octets) = one_word(text) else {
         return Ok(None);
@@ -364,7 +451,6 @@ fn word_alone(alloc: Global, text: &[u8]) -> Result<Option<String>, NoMemory>
 // What follows the first word of a line that names a word, and then octets.
 fn word_and_octets(alloc: Global, text: &[u8]) -> Result<Option<Sent>, NoMemory>
     ensures exact { IfOk result (λ found. (line : Word → List ℕ → ScriptLine) → option_map (λ s. line (string_bytes s.word) s.octets) found ≡ of_word_and_octets line (words_in text.now)) }
-    ensures sound { IfOk result (λ found. IfSome found (λ s. IsSound (Line.Event (Event.Send s)))) }
 {
     let Some((word, octets)) = two_words(text) else {
         return Ok(None);
@@ -378,10 +464,25 @@ fn word_and_octets(alloc: Global, text: &[u8]) -> Result<Option<Sent>, NoMemory>
     Ok(Some(Sent { word, octets }))
 }
 
+// What follows the first word of a line that names a word, and then a number of octets.
+fn word_and_number(alloc: Global, text: &[u8]) -> Result<Option<Passing>, NoMemory>
+    ensures exact { IfOk result (λ found. (line : Word → ℕ → ScriptLine) → option_map (λ p. line (string_bytes p.word) p.most) found ≡ of_word_and_number line (words_in text.now)) }
+{
+    let Some((word, most)) = two_words(text) else {
+        return Ok(None);
+    };
+    let Some(word) = plain_word(alloc, word)? else {
+        return Ok(None);
+    };
+    let Some(most) = count_of_word(most) else {
+        return Ok(None);
+    };
+    Ok(Some(Passing { word, most }))
+}
+
 // What follows the first word of a line that names a word, and then a question.
 fn word_and_question(alloc: Global, text: &[u8]) -> Result<Option<Asking>, NoMemory>
     ensures exact { IfOk result (λ found. (line : Word → Question → ScriptLine) → option_map (λ a. line (string_bytes a.word) a.question) found ≡ of_word_and_question line (words_in text.now)) }
-    ensures sound { IfOk result (λ found. IfSome found (λ a. IsSound (Line.Event (Event.Ask a)))) }
 {
     let Some((word, name, kind, class)) = four_words(text) else {
         return Ok(None);
@@ -395,10 +496,9 @@ fn word_and_question(alloc: Global, text: &[u8]) -> Result<Option<Asking>, NoMem
     Ok(Some(Asking { word, question }))
 }
 
-// What follows the first word of a line that cuts a connection: the peer's word.
+// What follows the first word of a line that cuts a connection: the word of the peer or of the client.
 fn cut_line(alloc: Global, text: &[u8]) -> Result<Option<Line>, NoMemory>
-    ensures exact { IfOk result (λ found. option_map (λ l. said l) found ≡ of_word cut (words_in text.now)) }
-    ensures sound { IfOk result (λ found. IfSome found IsSound) }
+    ensures exact { IfOk result (λ found. option_map (λ l. said l) found ≡ understood (of_word cut (words_in text.now))) }
 {
     let Some(word) = word_alone(alloc, text)? else {
         return Ok(None);
@@ -408,8 +508,7 @@ fn cut_line(alloc: Global, text: &[u8]) -> Result<Option<Line>, NoMemory>
 
 // What follows the first word of a send line: the peer's word, and the octets.
 fn send_line(alloc: Global, text: &[u8]) -> Result<Option<Line>, NoMemory>
-    ensures exact { IfOk result (λ found. option_map (λ l. said l) found ≡ of_word_and_octets send (words_in text.now)) }
-    ensures sound { IfOk result (λ found. IfSome found IsSound) }
+    ensures exact { IfOk result (λ found. option_map (λ l. said l) found ≡ understood (of_word_and_octets send (words_in text.now))) }
 {
     let Some(sent) = word_and_octets(alloc, text)? else {
         return Ok(None);
@@ -417,10 +516,10 @@ fn send_line(alloc: Global, text: &[u8]) -> Result<Option<Line>, NoMemory>
     Ok(Some(Line::Event(Event::Send(sent))))
 }
 
-// What follows the first word of a line that ends a session: the peer's word, the RCODE, and the delay.
+// What follows the first word of a line that stops a session: the word of the peer or of the client, the RCODE, and the
+// delay.
 fn stop_line(alloc: Global, text: &[u8]) -> Result<Option<Line>, NoMemory>
-    ensures exact { IfOk result (λ found. option_map (λ l. said l) found ≡ stop_line (words_in text.now)) }
-    ensures sound { IfOk result (λ found. IfSome found IsSound) }
+    ensures exact { IfOk result (λ found. option_map (λ l. said l) found ≡ understood (stop_line (words_in text.now))) }
 {
     let Some((word, rcode, delay)) = three_words(text) else {
         return Ok(None);
@@ -439,8 +538,7 @@ fn stop_line(alloc: Global, text: &[u8]) -> Result<Option<Line>, NoMemory>
 
 // What follows the first word of a line of a client of the hub: its word.
 fn client_line(alloc: Global, text: &[u8]) -> Result<Option<Line>, NoMemory>
-    ensures exact { IfOk result (λ found. option_map (λ l. said l) found ≡ of_word client (words_in text.now)) }
-    ensures sound { IfOk result (λ found. IfSome found IsSound) }
+    ensures exact { IfOk result (λ found. option_map (λ l. said l) found ≡ understood (of_word client (words_in text.now))) }
 {
     let Some(word) = word_alone(alloc, text)? else {
         return Ok(None);
@@ -450,8 +548,7 @@ fn client_line(alloc: Global, text: &[u8]) -> Result<Option<Line>, NoMemory>
 
 // What follows the first word of a line of a lone client: its word.
 fn lone_line(alloc: Global, text: &[u8]) -> Result<Option<Line>, NoMemory>
-    ensures exact { IfOk result (λ found. option_map (λ l. said l) found ≡ of_word lone (words_in text.now)) }
-    ensures sound { IfOk result (λ found. IfSome found IsSound) }
+    ensures exact { IfOk result (λ found. option_map (λ l. said l) found ≡ understood (of_word lone (words_in text.now))) }
 {
     let Some(word) = word_alone(alloc, text)? else {
         return Ok(None);
@@ -461,8 +558,7 @@ fn lone_line(alloc: Global, text: &[u8]) -> Result<Option<Line>, NoMemory>
 
 // What follows the first word of a line that opens a connection: the client's word.
 fn open_line(alloc: Global, text: &[u8]) -> Result<Option<Line>, NoMemory>
-    ensures exact { IfOk result (λ found. option_map (λ l. said l) found ≡ of_word open_connection (words_in text.now)) }
-    ensures sound { IfOk result (λ found. IfSome found IsSound) }
+    ensures exact { IfOk result (λ found. option_map (λ l. said l) found ≡ understood (of_word open_connection (words_in text.now))) }
 {
     let Some(word) = word_alone(alloc, text)? else {
         return Ok(None);
@@ -470,10 +566,49 @@ fn open_line(alloc: Global, text: &[u8]) -> Result<Option<Line>, NoMemory>
     Ok(Some(Line::Event(Event::Open(Opening { word }))))
 }
 
+// What follows the first word of a line that lets octets go from a client onto the wire: the client's word, and how many.
+fn say_line(alloc: Global, text: &[u8]) -> Result<Option<Line>, NoMemory>
+    ensures exact { IfOk result (λ found. option_map (λ l. said l) found ≡ understood (of_word_and_number say (words_in text.now))) }
+{
+    let Some(passing) = word_and_number(alloc, text)? else {
+        return Ok(None);
+    };
+    Ok(Some(Line::Event(Event::Say(passing))))
+}
+
+// What follows the first word of a line that lets octets go from the wire into a session: the client's word, and how many.
+fn up_line(alloc: Global, text: &[u8]) -> Result<Option<Line>, NoMemory>
+    ensures exact { IfOk result (λ found. option_map (λ l. said l) found ≡ understood (of_word_and_number up (words_in text.now))) }
+{
+    let Some(passing) = word_and_number(alloc, text)? else {
+        return Ok(None);
+    };
+    Ok(Some(Line::Event(Event::Up(passing))))
+}
+
+// What follows the first word of a line that lets octets go from a session onto the wire: the client's word, and how many.
+fn emit_line(alloc: Global, text: &[u8]) -> Result<Option<Line>, NoMemory>
+    ensures exact { IfOk result (λ found. option_map (λ l. said l) found ≡ understood (of_word_and_number emit (words_in text.now))) }
+{
+    let Some(passing) = word_and_number(alloc, text)? else {
+        return Ok(None);
+    };
+    Ok(Some(Line::Event(Event::Emit(passing))))
+}
+
+// What follows the first word of a line that lets octets go from the wire to a client: the client's word, and how many.
+fn down_line(alloc: Global, text: &[u8]) -> Result<Option<Line>, NoMemory>
+    ensures exact { IfOk result (λ found. option_map (λ l. said l) found ≡ understood (of_word_and_number down (words_in text.now))) }
+{
+    let Some(passing) = word_and_number(alloc, text)? else {
+        return Ok(None);
+    };
+    Ok(Some(Line::Event(Event::Down(passing))))
+}
+
 // What follows the first word of a line that settles: the client's word.
 fn settle_line(alloc: Global, text: &[u8]) -> Result<Option<Line>, NoMemory>
-    ensures exact { IfOk result (λ found. option_map (λ l. said l) found ≡ of_word settle (words_in text.now)) }
-    ensures sound { IfOk result (λ found. IfSome found IsSound) }
+    ensures exact { IfOk result (λ found. option_map (λ l. said l) found ≡ understood (of_word settle (words_in text.now))) }
 {
     let Some(word) = word_alone(alloc, text)? else {
         return Ok(None);
@@ -483,8 +618,7 @@ fn settle_line(alloc: Global, text: &[u8]) -> Result<Option<Line>, NoMemory>
 
 // What follows the first word of a line that asks: the client's word, and the question.
 fn ask_line(alloc: Global, text: &[u8]) -> Result<Option<Line>, NoMemory>
-    ensures exact { IfOk result (λ found. option_map (λ l. said l) found ≡ of_word_and_question ask (words_in text.now)) }
-    ensures sound { IfOk result (λ found. IfSome found IsSound) }
+    ensures exact { IfOk result (λ found. option_map (λ l. said l) found ≡ understood (of_word_and_question ask (words_in text.now))) }
 {
     let Some(asking) = word_and_question(alloc, text)? else {
         return Ok(None);
@@ -494,8 +628,7 @@ fn ask_line(alloc: Global, text: &[u8]) -> Result<Option<Line>, NoMemory>
 
 // What follows the first word of a line that drops a question: the client's word, and the question.
 fn drop_line(alloc: Global, text: &[u8]) -> Result<Option<Line>, NoMemory>
-    ensures exact { IfOk result (λ found. option_map (λ l. said l) found ≡ of_word_and_question drop_question (words_in text.now)) }
-    ensures sound { IfOk result (λ found. IfSome found IsSound) }
+    ensures exact { IfOk result (λ found. option_map (λ l. said l) found ≡ understood (of_word_and_question drop_question (words_in text.now))) }
 {
     let Some(asking) = word_and_question(alloc, text)? else {
         return Ok(None);
@@ -505,8 +638,7 @@ fn drop_line(alloc: Global, text: &[u8]) -> Result<Option<Line>, NoMemory>
 
 // What follows the first word of a feed line: the client's word, and the octets.
 fn feed_line(alloc: Global, text: &[u8]) -> Result<Option<Line>, NoMemory>
-    ensures exact { IfOk result (λ found. option_map (λ l. said l) found ≡ of_word_and_octets feed (words_in text.now)) }
-    ensures sound { IfOk result (λ found. IfSome found IsSound) }
+    ensures exact { IfOk result (λ found. option_map (λ l. said l) found ≡ understood (of_word_and_octets feed (words_in text.now))) }
 {
     let Some(sent) = word_and_octets(alloc, text)? else {
         return Ok(None);
@@ -514,10 +646,54 @@ fn feed_line(alloc: Global, text: &[u8]) -> Result<Option<Line>, NoMemory>
     Ok(Some(Line::Event(Event::Feed(sent))))
 }
 
+// What follows the first word of a line with a datagram: the link's word, and the octets.
+fn hear_line(alloc: Global, text: &[u8]) -> Result<Option<Line>, NoMemory>
+    ensures exact { IfOk result (λ found. option_map (λ l. said l) found ≡ understood (of_word_and_octets hear (words_in text.now))) }
+{
+    let Some(sent) = word_and_octets(alloc, text)? else {
+        return Ok(None);
+    };
+    Ok(Some(Line::Event(Event::Hear(sent))))
+}
+
+// What follows the first word of a line that doubts a record: the client's word, the record's name, TYPE and CLASS, and
+// its RDATA.
+fn reconfirm_line(alloc: Global, text: &[u8]) -> Result<Option<Line>, NoMemory>
+    ensures exact { IfOk result (λ found. option_map (λ l. said l) found ≡ understood (reconfirm_line (words_in text.now))) }
+{
+    let Some((word, name, kind, class, rdata)) = five_words(text) else {
+        return Ok(None);
+    };
+    let Some(word) = plain_word(alloc, word)? else {
+        return Ok(None);
+    };
+    let Some(question) = question_of(alloc, name, kind, class)? else {
+        return Ok(None);
+    };
+    let Some(rdata) = octets_of_word(alloc, rdata)? else {
+        return Ok(None);
+    };
+    let rr = record_of(question, rdata);
+    Ok(Some(Line::Event(Event::Reconfirm(Reconfirming { word, rr }))))
+}
+
+// The record that a question names, with that RDATA and a TTL of 0.
+fn record_of(question: Question, rdata: Octets) -> Rr
+    ensures { result ≡ record { owner = question.name; class = question.class; kind = question.kind; ttl = 0; rdata = rdata } }
+{
+    let Question { name, kind, class } = question;
+    Rr {
+        owner: name,
+        class,
+        kind,
+        ttl: 0,
+        rdata,
+    }
+}
+
 // What follows the first word of a line that shows what a client knows: the client's word, and the question.
 fn show_line(alloc: Global, text: &[u8]) -> Result<Option<Line>, NoMemory>
-    ensures exact { IfOk result (λ found. option_map (λ l. said l) found ≡ show_line (words_in text.now)) }
-    ensures sound { IfOk result (λ found. IfSome found IsSound) }
+    ensures exact { IfOk result (λ found. option_map (λ l. said l) found ≡ understood (show_line (words_in text.now))) }
 {
     let Some((word, name, kind, class)) = four_words(text) else {
         return Ok(None);
@@ -557,6 +733,21 @@ fn question_of(
         return Ok(None);
     };
     Ok(Some(Question { name, kind, class }))
+}
+
+// The words of a text that has five.
+fn five_words(text: &[u8]) -> Option<(&[u8], &[u8], &[u8], &[u8], &[u8])>
+    ensures found { IfSome result (λ words. words_in text.now ≡ words.0.now ∷ words.1.now ∷ words.2.now ∷ words.3.now ∷ words.4.now ∷ []) }
+    ensures none { IfNone result (five_in (words_in text.now) ≡ None) }
+{
+    let (first, rest) = split_word(text)?;
+    let (second, rest) = split_word(rest)?;
+    let (third, rest) = split_word(rest)?;
+    let (fourth, fifth) = split_word(rest)?;
+    match space_in(fifth) {
+        Some(_) => None,
+        None => Some((first, second, third, fourth, fifth)),
+    }
 }
 
 // The words of a text that has four.

@@ -1,33 +1,35 @@
 //! The words of a script's lines.
 
-ghost use Rattle.std.specs.Prelude.{◌≡◌, ◌≤◌, ◌<◌, ◌*◌, length, None, IfOk, IfNone, IfSome, option_map, string_bytes};
+ghost use Rattle.std.specs.Prelude.{◌≡◌, ◌≤◌, None, IfOk, IfNone, IfSome, option_map, string_bytes};
 ghost use Rattle.dnsname.specs.Text.{name_of_text};
 ghost use Rattle.std.specs.List.{list_all};
 ghost use Rattle.std.specs.Result.{result_ok};
 ghost use Rattle.push_base.specs.Hexadecimal.{hex_octets};
 ghost use Rattle.push_base.specs.Limits.{max_moment, max_number};
-ghost use Rattle.dsotlv.specs.Messages.{max_frame};
-ghost use Rattle.replay.specs.Lines.{number, max_u32, word, octets_written, is_digit, has_form, writable_of, is_word_octet};
+ghost use Rattle.replay.specs.Lines.{number, max_octets_passed, max_rcode, max_u16, max_u32, word, octets_written, is_digit, has_form, writable_of, is_word_octet};
 
+use crate::settling::MAX_WIRE;
 use dnsname::name::{Name, Octets, TextFault};
+use dsotlv::MAX_FRAME;
 use push_base::limits::MAX_MOMENT;
 use push_base::{HexFault, NoMemory, hex_octets};
 use std::alloc::Global;
+use std::marker::Model;
 
-/// The most digits that a word of hexadecimal digits has.
-const MOST_DIGITS: usize = 131_074;
+/// The most digits that a word of hexadecimal digits has: two for each octet of a frame.
+pub const MOST_DIGITS: usize = 2 * MAX_FRAME;
 
 /// The most letters and digits that a word has.
-const LONGEST_WORD: usize = 32;
+pub const LONGEST_WORD: usize = 32;
 
 /// The greatest number that two octets hold.
-const MAX_U16: u64 = 65_535;
+pub const MAX_U16: u64 = 65_535;
 
 /// The greatest number that four octets hold.
-const MAX_U32: u64 = 4_294_967_295;
+pub const MAX_U32: u64 = 4_294_967_295;
 
 /// The greatest RCODE of a message without EDNS (RFC 1035, 4.1.1).
-const MAX_RCODE: u64 = 15;
+pub const MAX_RCODE: u64 = 15;
 
 /// The name that a word is the text of.
 pub(crate) fn name_of_word(alloc: Global, text: &[u8]) -> Result<Option<Name>, NoMemory>
@@ -56,8 +58,7 @@ pub(crate) fn text_of_word(alloc: Global, text: &[u8]) -> Result<Option<String>,
 
 /// The octets that a word stands for: two hexadecimal digits for each, or `-` for none.
 pub(crate) fn octets_of_word(alloc: Global, text: &[u8]) -> Result<Option<Octets>, NoMemory>
-    ensures exact { IfOk result (λ octets. octets ≡ octets_written text.now) }
-    ensures short { IfOk result (λ found. IfSome found (λ octets. length octets ≤ max_frame)) }
+    ensures { IfOk result (λ octets. octets ≡ octets_written text.now) }
 {
     match text {
         b"-" => Ok(Some(Octets::new(alloc))),
@@ -69,8 +70,7 @@ pub(crate) fn octets_of_word(alloc: Global, text: &[u8]) -> Result<Option<Octets
 
 // The octets that hexadecimal digits stand for.
 fn octets_of_digits(alloc: Global, text: &[u8]) -> Result<Option<Octets>, NoMemory>
-    ensures exact { IfOk result (λ octets. octets ≡ result_ok (hex_octets text.now)) }
-    ensures size { IfOk result (λ found. IfSome found (λ octets. 2 * length octets ≡ length text.now)) }
+    ensures { IfOk result (λ octets. octets ≡ result_ok (hex_octets text.now)) }
 {
     let Ok(text) = str::from_utf8(text) else {
         return Ok(None);
@@ -93,7 +93,7 @@ pub(crate) fn number_of_word(text: &[u8]) -> Option<u32>
 
 /// The decimal number below 2^16 that a word is, without leading zeros.
 pub(crate) fn short_number_of_word(text: &[u8]) -> Option<u16>
-    ensures { result ≡ number 65535 text.now }
+    ensures { result ≡ number max_u16 text.now }
 {
     let number = number_up_to(MAX_U16, text)?;
     Some(number as u16)
@@ -101,19 +101,53 @@ pub(crate) fn short_number_of_word(text: &[u8]) -> Option<u16>
 
 /// The RCODE that a word is, from 0 to 15 (RFC 1035, 4.1.1).
 pub(crate) fn rcode_of_word(text: &[u8]) -> Option<u8>
-    ensures exact { result ≡ number 15 text.now }
-    ensures small { IfSome result (λ rcode. rcode < 16) }
+    ensures { result ≡ number max_rcode text.now }
 {
     let number = number_up_to(MAX_RCODE, text)?;
     Some(number as u8)
 }
 
-/// The moment that a word is, in milliseconds.
-pub(crate) fn moment_of_word(text: &[u8]) -> Option<u64>
-    ensures exact { result ≡ number max_moment text.now }
-    ensures small { IfSome result (λ moment. moment ≤ max_moment) }
+/// A moment that a script may say, in milliseconds: no later than the last.
+#[derive(Debug, Drop)]
+pub struct Moment {
+    millis: u64,
+}
+
+impl Model for Moment {
+    ghost use Rattle.std.specs.Prelude.{ℕ, ◌≤◌};
+    ghost use Rattle.push_base.specs.Limits.{max_moment};
+
+    ghost Value = { ℕ };
+
+    ghost view = { λ m. m.millis };
+
+    ghost invariant = { λ m. m.millis ≤ max_moment };
+}
+
+impl Moment {
+    /// The milliseconds.
+    pub(crate) fn millis(&self) -> u64
+        ensures value { result ≡ self.now }
+        ensures few { result ≤ max_moment }
+    {
+        self.millis
+    }
+}
+
+/// The number of octets that a word is, at most as many as a wire holds.
+pub(crate) fn count_of_word(text: &[u8]) -> Option<usize>
+    ensures { result ≡ number max_octets_passed text.now }
 {
-    number_up_to(MAX_MOMENT, text)
+    let number = number_up_to(MAX_WIRE as u64, text)?;
+    Some(number as usize)
+}
+
+/// The moment that a word is, in milliseconds.
+pub(crate) fn moment_of_word(text: &[u8]) -> Option<Moment>
+    ensures { result ≡ number max_moment text.now }
+{
+    let millis = number_up_to(MAX_MOMENT, text)?;
+    Some(Moment { millis })
 }
 
 // The decimal number that a word is, without leading zeros, if it is no more than the greatest.

@@ -1,14 +1,15 @@
 //! Scripts whose lines are built.
 
-ghost use Rattle.std.specs.Prelude.{◌≡◌, ◌==◌, List, length, IfOk, map, string_bytes, unwrap_or};
+ghost use Rattle.std.specs.Prelude.{◌≡◌, ◌==◌, List, length, ◌++◌, ◌∷◌, [], IfOk, OnOk, map, string_bytes, unwrap_or};
 ghost use Rattle.dsosession.specs.Timing.{default_timers};
 ghost use Rattle.replay.specs.Lines.{Word};
 ghost use Rattle.replay.specs.declared.line.Line.TheVariants as lines;
 ghost use Rattle.replay.specs.KeptScripts.{ReadsAs};
+ghost use Rattle.replay.specs.KeptWorlds.{words_of};
 ghost use Rattle.replay.specs.Drafts.{TakesLine};
 
-use crate::clients::{KnownClient, add_seat, client_words, may_happen};
-use crate::line::{Event, Line, ZoneLine, read_line};
+use crate::clients::{KnownClient, add_seat, client_words, is_among, may_happen};
+use crate::line::{Event, Line, LinkLine, ZoneLine, read_line};
 use crate::text_lines::{is_outside, is_too_long, split_line};
 use dsosession::session::Timers;
 use dsosession::times::DEFAULT_TIMER;
@@ -18,13 +19,15 @@ use push_base::NoMemory;
 use std::alloc::Global;
 use zoneupdate::{Zone, ZoneFault};
 
-/// A script whose lines are built: the timers of the server, its zones, and then what happens.
+/// A script whose lines are built: the timers of the server, its zones and links, and then what happens.
 #[derive(Debug, Drop)]
 pub struct Script {
     /// What the server grants to a Keepalive (RFC 8490, 7.1).
     pub timers: Timers,
-    /// The zones.
+    /// The zones and the links.
     pub homes: Homes,
+    /// The words of the links, in their order.
+    pub links: Vec<String>,
     /// What happens, in order.
     pub events: Vec<Event>,
 }
@@ -43,12 +46,13 @@ pub enum ReadScript {
 struct Draft {
     timers: Option<Timers>,
     homes: Homes,
+    links: Vec<String>,
     events: Vec<Event>,
     clients: Vec<KnownClient>,
 }
 
 /// Reads a script: all of it where each line is built, and else the number of the first line that isn't built or
-/// may not stand where it does, counted from 1. The zones may then stand side by side, no peer has the word of a
+/// may not stand where it does, counted from 1. The zones and links may then stand side by side, no peer has the word of a
 /// client, and no two clients have one word.
 pub fn read_script_lines(alloc: Global, octets: &[u8]) -> Result<ReadScript, NoMemory>
     ensures { IfOk result (λ read. ReadsAs octets.now read) }
@@ -58,6 +62,7 @@ pub fn read_script_lines(alloc: Global, octets: &[u8]) -> Result<ReadScript, NoM
     let mut draft = Draft {
         timers: None,
         homes: Homes::new(alloc),
+        links: Vec::new(alloc),
         events: Vec::new(alloc),
         clients: Vec::new(alloc),
     };
@@ -89,6 +94,7 @@ impl Draft {
             Line::Silent => Ok(true),
             Line::Timers(timers) => Ok(self.take_timers(timers)),
             Line::Zone(zone) => self.take_zone(alloc, zone),
+            Line::Link(link) => self.take_link(link),
             Line::Event(event) => self.take_event(alloc, event, clients),
         }
     }
@@ -107,7 +113,7 @@ impl Draft {
         true
     }
 
-    // Takes a further zone: before all events, and where it may stand beside the zones before it.
+    // Takes a further zone: before all events, and where it may stand beside the homes before it.
     fn take_zone(&mut self, alloc: Global, line: ZoneLine) -> Result<bool, NoMemory>
         ensures { (all : List Word) → IfOk result (λ taken. TakesLine all self.old (lines.Zone line) self.new taken) }
     {
@@ -121,6 +127,29 @@ impl Draft {
         };
         match self.homes.add_zone(zone) {
             Ok(()) => Ok(true),
+            Err(HomeFault::NoMemory) => Err(NoMemory),
+            Err(HomeFault::Clash(_)) => Ok(false),
+            Err(HomeFault::Many | HomeFault::Long | HomeFault::Local) => Ok(false),
+        }
+    }
+
+    // Takes a further link: before all events, with a word that no link has, and where it may stand beside the homes before
+    // it.
+    fn take_link(&mut self, line: LinkLine) -> Result<bool, NoMemory>
+        ensures { (all : List Word) → IfOk result (λ taken. TakesLine all self.old (lines.Link line) self.new taken) }
+    {
+        if !self.is_in_head() {
+            return Ok(false);
+        }
+        let LinkLine { word, domain } = line;
+        if is_among(&self.links, word.as_bytes()) {
+            return Ok(false);
+        }
+        match self.homes.add_link(domain) {
+            Ok(()) => {
+                push_word(&mut self.links, word)?;
+                Ok(true)
+            }
             Err(HomeFault::NoMemory) => Err(NoMemory),
             Err(HomeFault::Clash(_)) => Ok(false),
             Err(HomeFault::Many | HomeFault::Long | HomeFault::Local) => Ok(false),
@@ -143,7 +172,7 @@ impl Draft {
     ) -> Result<bool, NoMemory>
         ensures { IfOk result (λ taken. TakesLine (map (λ w. string_bytes w) clients.now) self.old (lines.Event event) self.new taken) }
     {
-        if !may_happen(clients, &self.clients, &event) {
+        if !may_happen(clients, &self.links, &self.clients, &event) {
             return Ok(false);
         }
         add_seat(alloc, &event, &mut self.clients)?;
@@ -155,20 +184,31 @@ impl Draft {
     fn finish(self) -> Script
         ensures timers { result.timers ≡ unwrap_or self.timers default_timers }
         ensures homes { result.homes ≡ self.homes }
+        ensures links { result.links.items ≡ self.links.items }
         ensures events { result.events.items ≡ self.events.items }
     {
         let Draft {
             timers,
             homes,
+            links,
             events,
             clients: _,
         } = self;
         Script {
             timers: timers_or_default(timers),
             homes,
+            links,
             events,
         }
     }
+}
+
+// One word more.
+fn push_word(words: &mut Vec<String>, word: String) -> Result<(), NoMemory>
+    ensures { OnOk result (words_of words.new.items ≡ words_of words.old.items ++ string_bytes word ∷ []) }
+{
+    words.push(word)?;
+    Ok(())
 }
 
 fn timers_or_default(timers: Option<Timers>) -> Timers

@@ -1,7 +1,7 @@
 //! The text of a script, and the world that it leaves.
 
 ghost use Rattle.std.specs.Prelude.{◌≡◌, IfOk, filter_map, string_bytes};
-ghost use Rattle.history.specs.Keeping.{state_of};
+ghost use Rattle.history.specs.Kept.{state_of};
 ghost use Rattle.history.specs.Plans.{IsStart};
 ghost use Rattle.replay.specs.TextWords.{by_notices};
 ghost use Rattle.replay.specs.Text.{ended_lines, printed_by, world_after};
@@ -34,9 +34,10 @@ pub fn script_text(alloc: Global, script: Script) -> Result<Played, NoMemory>
     let Script {
         timers,
         homes,
+        links,
         events,
     } = script;
-    let mut world = World::new(alloc, homes, timers)?;
+    let mut world = World::new(alloc, homes, links, timers)?;
     let mut text = String::new(alloc);
     'events: for event in &events {
         let line = event_line(alloc, &mut world, event)?;

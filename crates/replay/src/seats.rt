@@ -3,29 +3,27 @@
 ghost use Rattle.std.specs.Prelude.{◌≡◌, ◌<◌, Some, length, position, get_or, IfOk, IfSome, OnOk};
 ghost use Rattle.pushserver.specs.KeptHubs.{StandsFor};
 ghost use Rattle.pushserver.specs.PlainHubs.{Hub as PlainHub};
-ghost use Rattle.pushclient.specs.Clients.{closed_as, connected, subscribe, unsubscribe};
-ghost use Rattle.replay.specs.World.{cut_seat, hub_without, joined, with_client};
+ghost use Rattle.pushclient.specs.Clients.{closed_as, connected, reconfirm, subscribe, unsubscribe};
+ghost use Rattle.replay.specs.World.{cut_if, cut_seat, hub_without, is_over, joined, with_client};
 ghost use Rattle.replay.specs.KeptWorlds.{KeptSeat, seat_kept, seated};
-ghost use Rattle.replay.specs.KeptSeats.{Makes, Calls, Answers, HasCut, HasTimed, has_word, timed_seat};
+ghost use Rattle.replay.specs.KeptSeats.{Makes, Calls, Answers, HasCut, HasTimed, HasFinished, TellsConnected, has_word, timed_seat};
 
-use dsosession::session::CloseReason;
+use dsosession::session::{CloseReason, EndReason};
 use push_base::NoMemory;
 use pushclient::Client;
 use pushclient::client::Asked;
 use pushserver::Hub;
-use rrset::record::Question;
+use rrset::record::{Question, Rr};
 
-/// A client: its word, whether it is a lone one, whether it has a connection, and what there is of that: the number of
-/// its session in the hub, the octets on the wires to it and back, how many have reached the client, and where the first
-/// answers of its questions were told to end.
+/// A client: its word, whether it is a lone one, and what there is of its connection: the number of its session in the
+/// hub, the octets on the wires to it and back, how many have reached the client, and where the first answers of its
+/// questions were told to end.
 #[derive(Drop)]
 pub struct Seat {
     /// Its word in the script.
     pub word: String,
     /// Whether its connections lead to no hub.
     pub is_lone: bool,
-    /// Whether it has a connection.
-    pub is_open: bool,
     /// What it wants, its connection, and what it holds.
     pub client: Client,
     /// The number of its session, where it has one.
@@ -84,12 +82,19 @@ fn drop_one(seat: &mut Seat, question: &Question) -> Result<bool, NoMemory>
     Ok(wanted)
 }
 
+// A client says that a record may be out of date, and whether it did.
+fn reconfirm_one(seat: &mut Seat, rr: &Rr) -> Result<bool, NoMemory>
+    ensures { IfOk result (λ said. Makes (Answers (λ c. said ≡ (reconfirm c rr.now).0)) (with_client (λ c. (reconfirm c rr.now).1)) (seat_kept seat.old) (seat_kept seat.new)) }
+{
+    let said = seat.client.reconfirm(rr)?;
+    Ok(said)
+}
+
 // A client has a new connection.
 fn open_one(seat: &mut Seat, now: u64) -> Result<(), NoMemory>
     ensures { OnOk result (Makes (λ s. Unit {0}) (with_client (connected now)) (seat_kept seat.old) (seat_kept seat.new)) }
 {
     seat.client.connected(now)?;
-    seat.is_open = true;
     Ok(())
 }
 
@@ -116,7 +121,6 @@ fn clear_one(seat: &mut Seat)
     ensures { Makes (λ s. Unit {0}) cut_seat (seat_kept seat.old) (seat_kept seat.new) }
 {
     seat.client.cut();
-    seat.is_open = false;
     seat.session = None;
     seat.up_wire.clear();
     seat.down_wire.clear();
@@ -132,26 +136,39 @@ pub(crate) fn cut_one(hub: &mut Hub, seat: &mut Seat)
     clear_one(seat);
 }
 
+/// Where an end or a close is told, the connection of a client is cut at both ends; and why the client has closed, if it
+/// has.
+pub(crate) fn finish(hub: &mut Hub, seat: &mut Seat, over: Option<EndReason>) -> Option<CloseReason>
+    ensures { Makes (HasFinished over result hub.old hub.new) (cut_if (is_over over result)) (seat_kept seat.old) (seat_kept seat.new) }
+{
+    let closing = seat.client.closed();
+    if is_over(over, closing) {
+        cut_one(hub, seat);
+    }
+    closing
+}
+
+// Whether an end or a close is told.
+fn is_over(over: Option<EndReason>, closing: Option<CloseReason>) -> bool
+    ensures { result ≡ is_over over closing }
+{
+    over.is_some() || closing.is_some()
+}
+
 // It is a moment for a client, whose connection is cut where it closes, and why it closed.
 fn time_one(hub: &mut Hub, seat: &mut Seat, now: u64) -> Result<Option<CloseReason>, NoMemory>
     ensures { IfOk result (λ closing. Makes (HasTimed now closing hub.old hub.new) (timed_seat now closing) (seat_kept seat.old) (seat_kept seat.new)) }
 {
     seat.client.moment(now)?;
-    match seat.client.closed() {
-        None => Ok(None),
-        Some(reason) => {
-            cut_one(hub, seat);
-            Ok(Some(reason))
-        }
-    }
+    Ok(finish(hub, seat, None))
 }
 
 /// Whether the client at a place has a connection.
-pub(crate) fn is_open_at(seats: &[Seat], place: usize) -> bool
+pub(crate) fn is_connected_at(seats: &[Seat], place: usize) -> bool
     requires { place < length seats.now }
-    ensures { (seat : KeptSeat) → seat ≡ get_or (seated seats.now) place seat → result ≡ seat.is_open }
+    ensures { TellsConnected (seated seats.now) place result }
 {
-    seats[place].is_open
+    seats[place].client.is_connected()
 }
 
 /// Whether the client at a place is a lone one.
@@ -194,6 +211,15 @@ pub(crate) fn drop_at(
 {
     let wanted = drop_one(&mut seats[place], question)?;
     Ok(wanted)
+}
+
+/// The client at a place says that a record may be out of date, and whether it did.
+pub(crate) fn reconfirm_at(seats: &mut [Seat], place: usize, rr: &Rr) -> Result<bool, NoMemory>
+    requires { place < length seats.old }
+    ensures { IfOk result (λ said. Calls (Answers (λ c. said ≡ (reconfirm c rr.now).0)) (with_client (λ c. (reconfirm c rr.now).1)) (seated seats.old) place (seated seats.new)) }
+{
+    let said = reconfirm_one(&mut seats[place], rr)?;
+    Ok(said)
 }
 
 /// The client at a place has a new connection.

@@ -1,4 +1,4 @@
-//! Octets between a client and its session in the hub, until nothing moves.
+//! Octets between a client and its session in the hub: one way, or each way until nothing moves.
 
 ghost use Rattle.std.specs.Prelude.{◌≡◌, ◌-◌, ◌<◌, ◌≤◌, ◌++◌, ◌==◌, ◌&&◌, ◌||◌, ◌+◌, not, false, true, None, length, min, take, drop, nat_lt, is_some, if◌then◌else◌, IfOk, OnOk};
 ghost use Rattle.push_base.specs.Limits.{max_number};
@@ -8,19 +8,42 @@ ghost use Rattle.replay.specs.World.{World as Plain, Seat as PlainSeat};
 ghost use Rattle.replay.specs.PassedOctets as passing;
 ghost use Rattle.replay.specs.PassedOctets.{max_wire, settled, enough};
 ghost use Rattle.replay.specs.KeptWorlds.{seat_kept};
-ghost use Rattle.replay.specs.KeptSeats.{Makes};
-ghost use Rattle.replay.specs.KeptPassings.{HasFinished, Passes, Settles, Turns, finished_seat, is_told};
+ghost use Rattle.replay.specs.KeptPassings.{Moves, Passes, Turns, passing_of};
 
 use crate::exchanging::{Emission, emit};
-use crate::seats::{Seat, cut_one};
-use crate::stepping::deliver;
-use dsosession::session::{CloseReason, EndReason};
+use crate::seats::Seat;
+use crate::stepping::{deliver, front_of};
+use dsosession::session::EndReason;
 use push_base::NoMemory;
 use pushclient::Client;
 use pushserver::Hub;
 
 /// A wire holds at most so many octets.
-pub(crate) const MAX_WIRE: usize = 1_048_576;
+pub const MAX_WIRE: usize = 1_048_576;
+
+/// Which way octets of a client pass, and at most how many of them.
+#[derive(Clone, Copy)]
+pub enum Way {
+    /// From the client onto the wire to its session.
+    Say(usize),
+    /// From that wire into the session.
+    Up(usize),
+    /// From the session onto the wire to the client.
+    Emit(usize),
+    /// From that wire to the client.
+    Down(usize),
+    /// Each way in turn, until nothing moves.
+    Settle,
+}
+
+/// How many octets passed one way, none where a client settles, and the end of the session, if it was told.
+#[derive(Clone, Copy)]
+pub struct Passage {
+    /// How many octets passed.
+    pub count: usize,
+    /// Why the session ended, if its end was told.
+    pub over: Option<EndReason>,
+}
 
 // What one round did: whether it moved an octet or reacted to a message, and the end of the session, if it was told.
 #[derive(Clone, Copy)]
@@ -29,16 +52,52 @@ struct RoundDone {
     over: Option<EndReason>,
 }
 
-/// Rounds, each from the client to its session and back, until one moves no octet and reacts to no message. Gives the end
-/// of the session, if it was told.
-pub(crate) fn settle(
+/// Octets between a client and its session pass one way, or each way until nothing moves.
+pub(crate) fn pass(
+    hub: &mut Hub,
+    session: u64,
+    seat: &mut Seat,
+    way: Way,
+    buffer: &mut [u8],
+) -> Result<Passage, NoMemory>
+    requires { length buffer.old ≡ max_wire }
+    ensures { IfOk result (λ passage. Moves (passing_of way session) hub.old (seat_kept seat.old) passage.count passage.over hub.new (seat_kept seat.new)) }
+{
+    match way {
+        Way::Say(most) => {
+            let count = say(seat, most, buffer)?;
+            Ok(Passage { count, over: None })
+        }
+        Way::Up(most) => {
+            let count = up(hub, session, seat, most);
+            Ok(Passage { count, over: None })
+        }
+        Way::Emit(most) => {
+            let (count, emission) = emit_down(hub, session, seat, most, buffer)?;
+            let over = emission.over;
+            Ok(Passage { count, over })
+        }
+        Way::Down(most) => {
+            let count = down(seat, most)?;
+            Ok(Passage { count, over: None })
+        }
+        Way::Settle => {
+            let over = settle(hub, session, seat, buffer)?;
+            Ok(Passage { count: 0, over })
+        }
+    }
+}
+
+// Rounds, each from the client to its session and back, until one moves no octet and reacts to no message. Gives the end
+// of the session, if it was told.
+fn settle(
     hub: &mut Hub,
     session: u64,
     seat: &mut Seat,
     buffer: &mut [u8],
 ) -> Result<Option<EndReason>, NoMemory>
     requires { length buffer.old ≡ max_wire }
-    ensures { IfOk result (λ over. Settles (λ world s. settled enough session world s None) hub.old (seat_kept seat.old) over hub.new (seat_kept seat.new)) }
+    ensures { IfOk result (λ over. Moves (λ world s. settled enough session world s None) hub.old (seat_kept seat.old) 0 over hub.new (seat_kept seat.new)) }
 {
     let mut over = None;
     let mut left = u64::MAX;
@@ -75,10 +134,10 @@ fn round(
     requires { length buffer.old ≡ max_wire }
     ensures { IfOk result (λ turn. Turns session hub.old (seat_kept seat.old) turn.moves turn.over hub.new (seat_kept seat.new)) }
 {
-    let said = say(seat, buffer)?;
-    let taken = up(hub, session, seat);
-    let (given, emission) = emit_down(hub, session, seat, buffer)?;
-    let came = down(seat)?;
+    let said = say(seat, MAX_WIRE, buffer)?;
+    let taken = up(hub, session, seat, MAX_WIRE);
+    let (given, emission) = emit_down(hub, session, seat, MAX_WIRE, buffer)?;
+    let came = down(seat, MAX_WIRE)?;
     Ok(RoundDone {
         moves: has_moved(said, taken, given, emission.reacted, came),
         over: emission.over,
@@ -92,37 +151,30 @@ fn has_moved(said: usize, taken: usize, given: usize, reacted: bool, came: usize
     said > 0 || taken > 0 || given > 0 || reacted || came > 0
 }
 
-// How many octets a wire still has room for.
-fn room_on(wire: usize) -> usize
-    ensures { result ≡ min max_wire (max_wire - wire) }
+// How many octets more go onto a wire that has so many, which are at most a number.
+fn room_on(most: usize, wire: usize) -> usize
+    ensures { result ≡ min most (max_wire - wire) }
 {
-    MAX_WIRE.saturating_sub(wire)
+    most.min(MAX_WIRE.saturating_sub(wire))
 }
 
 // From the client onto the upward wire, as far as that has room.
-fn say(seat: &mut Seat, buffer: &mut [u8]) -> Result<usize, NoMemory>
+fn say(seat: &mut Seat, most: usize, buffer: &mut [u8]) -> Result<usize, NoMemory>
     requires { length buffer.old ≡ max_wire }
-    ensures { (hub : KeptHub) → IfOk result (λ count. Passes (passing.say max_wire) hub (seat_kept seat.old) count false None hub (seat_kept seat.new)) }
+    ensures { (hub : KeptHub) → IfOk result (λ count. Passes (passing.say most) hub (seat_kept seat.old) count false None hub (seat_kept seat.new)) }
 {
-    let room = room_on(seat.up_wire.len());
-    say_into(seat, &mut buffer[..room])
+    let room = room_on(most, seat.up_wire.len());
+    say_into(seat, most, &mut buffer[..room])
 }
 
 // As many as there is room for.
-fn say_into(seat: &mut Seat, buffer: &mut [u8]) -> Result<usize, NoMemory>
-    requires { length buffer.old ≡ min max_wire (max_wire - length seat.old.up_wire.items) }
-    ensures { (hub : KeptHub) → IfOk result (λ count. Passes (passing.say max_wire) hub (seat_kept seat.old) count false None hub (seat_kept seat.new)) }
+fn say_into(seat: &mut Seat, most: usize, buffer: &mut [u8]) -> Result<usize, NoMemory>
+    requires { length buffer.old ≡ min most (max_wire - length seat.old.up_wire.items) }
+    ensures { (hub : KeptHub) → IfOk result (λ count. Passes (passing.say most) hub (seat_kept seat.old) count false None hub (seat_kept seat.new)) }
 {
     let count = seat.client.give(buffer);
     seat.up_wire.extend_from_slice(front_of(buffer, count))?;
     Ok(count)
-}
-
-// The first so many octets, or all.
-fn front_of(octets: &[u8], count: usize) -> &[u8]
-    ensures { result.now ≡ take count octets.now }
-{
-    &octets[..count.min(octets.len())]
 }
 
 // The octets behind the first so many.
@@ -139,10 +191,10 @@ fn drop_front(wire: &mut Vec<u8>, count: usize)
 }
 
 // From the upward wire into the session, as far as that has room.
-fn up(hub: &mut Hub, session: u64, seat: &mut Seat) -> usize
-    ensures { Passes (passing.up session max_wire) hub.old (seat_kept seat.old) result false None hub.new (seat_kept seat.new) }
+fn up(hub: &mut Hub, session: u64, seat: &mut Seat, most: usize) -> usize
+    ensures { Passes (passing.up session most) hub.old (seat_kept seat.old) result false None hub.new (seat_kept seat.new) }
 {
-    let count = hub.take(session, front_of(&seat.up_wire, MAX_WIRE));
+    let count = hub.take(session, front_of(&seat.up_wire, most));
     drop_front(&mut seat.up_wire, count);
     count
 }
@@ -152,17 +204,18 @@ fn emit_down(
     hub: &mut Hub,
     session: u64,
     seat: &mut Seat,
+    most: usize,
     buffer: &mut [u8],
 ) -> Result<(usize, Emission), NoMemory>
     requires { frame_octets ≤ length buffer.old }
-    ensures { IfOk result (λ r. Passes (passing.emit session max_wire) hub.old (seat_kept seat.old) r.0 (r.1.reacted || nat_lt 0 r.0) r.1.over hub.new (seat_kept seat.new)) }
+    ensures { IfOk result (λ r. Passes (passing.emit session most) hub.old (seat_kept seat.old) r.0 (r.1.reacted || nat_lt 0 r.0) r.1.over hub.new (seat_kept seat.new)) }
 {
     let before = seat.down_wire.len();
-    let most = room_on(before) as u64;
+    let room = room_on(most, before) as u64;
     let emission = emit(
         hub,
         session,
-        most,
+        room,
         buffer,
         &mut seat.down_wire,
         &mut seat.filled,
@@ -171,10 +224,10 @@ fn emit_down(
 }
 
 // From the downward wire to the client, as far as it has room, and reacts.
-fn down(seat: &mut Seat) -> Result<usize, NoMemory>
-    ensures { (hub : KeptHub) → IfOk result (λ count. Passes (passing.down max_wire) hub (seat_kept seat.old) count (nat_lt 0 count) None hub (seat_kept seat.new)) }
+fn down(seat: &mut Seat, most: usize) -> Result<usize, NoMemory>
+    ensures { (hub : KeptHub) → IfOk result (λ count. Passes (passing.down most) hub (seat_kept seat.old) count (nat_lt 0 count) None hub (seat_kept seat.new)) }
 {
-    let count = deliver(&mut seat.client, front_of(&seat.down_wire, MAX_WIRE))?;
+    let count = deliver(&mut seat.client, front_of(&seat.down_wire, most))?;
     drop_front(&mut seat.down_wire, count);
     seat.reached = counted(seat.reached, count)?;
     Ok(count)
@@ -188,23 +241,4 @@ fn counted(reached: u64, count: usize) -> Result<u64, NoMemory>
         Some(u64::MAX) | None => Err(NoMemory),
         Some(sum) => Ok(sum),
     }
-}
-
-/// Where an end or a close is told, the connection of a client is cut at both ends; and why the client has closed, if it
-/// has.
-pub(crate) fn finish(hub: &mut Hub, seat: &mut Seat, over: Option<EndReason>) -> Option<CloseReason>
-    ensures { Makes (HasFinished over result hub.old hub.new) (finished_seat (is_told over result)) (seat_kept seat.old) (seat_kept seat.new) }
-{
-    let closing = seat.client.closed();
-    if is_told(over, closing) {
-        cut_one(hub, seat);
-    }
-    closing
-}
-
-// Whether an end or a close is told.
-fn is_told(over: Option<EndReason>, closing: Option<CloseReason>) -> bool
-    ensures { result ≡ is_told over closing }
-{
-    over.is_some() || closing.is_some()
 }

@@ -7,8 +7,8 @@ ghost use Rattle.replay.specs.Text.{shows};
 ghost use Rattle.replay.specs.KeptWorlds.{Does, seat_kept};
 ghost use Rattle.replay.specs.KeptShows.{IsFilling, ShowsSeat, ShowsSet, record_lines, showing_text};
 
-use crate::event_lines::octets_text;
 use crate::line::Showing;
+use crate::printed::octets_text;
 use crate::seats::{Seat, place_of};
 use crate::world::World;
 use push_base::NoMemory;

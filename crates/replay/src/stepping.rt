@@ -101,13 +101,9 @@ fn hand_out_over(alloc: Global, client: &mut Client, buffer: &mut [u8]) -> Resul
     }
 }
 
-// The first octets, so many.
-fn front_of(octets: &[u8], count: usize) -> &[u8]
+/// The first so many octets, or all.
+pub(crate) fn front_of(octets: &[u8], count: usize) -> &[u8]
     ensures { result.now ≡ take count octets.now }
 {
-    if count >= octets.len() {
-        octets
-    } else {
-        &octets[..count]
-    }
+    &octets[..count.min(octets.len())]
 }

@@ -1,10 +1,10 @@
-//! What a run keeps: a hub, peers with their sessions, and clients.
+//! What a run keeps: a hub, the words of its links, peers with their sessions, and clients.
 
 ghost use Rattle.std.specs.Prelude.{◌≡◌, [], IfOk};
-ghost use Rattle.history.specs.Keeping.{state_of};
+ghost use Rattle.history.specs.Kept.{state_of};
 ghost use Rattle.history.specs.Plans.{IsStart};
 ghost use Rattle.replay.specs.World.{World as Plain, world_of, cut_peer, number_in, without};
-ghost use Rattle.replay.specs.KeptWorlds.{IsWorld, named};
+ghost use Rattle.replay.specs.KeptWorlds.{IsWorld, named, words_of};
 
 use crate::seats::Seat;
 use dsosession::session::Timers;
@@ -22,11 +22,13 @@ pub struct Peer {
     pub session: u64,
 }
 
-/// The hub, the peers that have a session, and the clients.
+/// The hub, the words of its links, the peers that have a session, and the clients.
 #[derive(Drop)]
 pub struct World {
     /// The history and the sessions.
     pub hub: Hub,
+    /// The words of the links, in their order.
+    pub links: Vec<String>,
     /// The peers, in the order in which they were connected.
     pub peers: Vec<Peer>,
     /// The clients, in the order of their lines.
@@ -53,13 +55,19 @@ fn take_out(peers: &mut Vec<Peer>, word: &str)
 }
 
 impl World {
-    /// The world with which a script starts: these homes and timers, no peers and no clients.
-    pub fn new(alloc: Global, homes: Homes, timers: Timers) -> Result<World, NoMemory>
+    /// The world with which a script starts: these homes and timers, links of these words, no peers and no clients.
+    pub fn new(
+        alloc: Global,
+        homes: Homes,
+        links: Vec<String>,
+        timers: Timers,
+    ) -> Result<World, NoMemory>
         requires { IsStart (state_of homes) }
-        ensures { IfOk result (λ kept. IsWorld kept (world_of (record { timers = timers; start = state_of homes; links = [] }))) }
+        ensures { IfOk result (λ kept. IsWorld kept (world_of (record { timers = timers; start = state_of homes; links = words_of links.items }))) }
     {
         Ok(World {
             hub: Hub::new(homes, timers)?,
+            links,
             peers: Vec::new(alloc),
             seats: Vec::new(alloc),
         })

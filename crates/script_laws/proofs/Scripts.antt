@@ -1,13 +1,14 @@
--- The laws of whole scripts without links, put together.
+-- The laws of whole scripts, put together.
 --     all-laws      the laws of each step
 --     stands-after, holds-after      after each line
 --     tell-one-text, never-go-back, no-message-ends      what is printed
 --     turns-are-enough      each settle comes to its end
 --     settles-empty, keep-promises      what is so behind it
+use Rattle.replay.specs.Promises.{HoldsAfterEachLine, EveryScriptTellsOneText, EverySettleEmptiesBothWays, EveryScriptKeepsPromises, NoMessageEnds}
 use Rattle.script_laws.specs.Settling.{TurnsSuffice}
 use Rattle.script_laws.specs.Replies.{RepliesAreOne, ScriptsThatAreBuiltKeepPromises}
 use Rattle.script_laws.specs.Turns.{work_left, EmitsLower, DownsLower}
-use Rattle.script_laws.specs.Whole.{StandsAfterEachLine, HoldsAfterEachLineOfZones, ScriptsOfZonesTellOneText, ScriptsOfZonesNeverGoBack, SettlesOfZonesEmptyBothWays, ScriptsOfZonesKeepPromises, NoMessageEndsOnZones}
+use Rattle.script_laws.specs.Whole.{StandsAfterEachLine, ScriptsNeverGoBack}
 use Rattle.script_laws.specs.Walk.{UpsPass, EmitsPass, DownsPass, RoundsPass, SettlesPass}
 use Rattle.script_laws.proofs.hubs.Reaching.{reached-go-on, begun-go-on, points-rise}
 use Rattle.script_laws.proofs.hubs.Sound.{reached-sound}
@@ -88,16 +89,16 @@ all-laws = record {
 pub stands-after : StandsAfterEachLine
 stands-after = stands-after-each-line all-laws shown-taken
 
-pub holds-after : HoldsAfterEachLineOfZones
+pub holds-after : HoldsAfterEachLine
 holds-after = holds-after-each-line all-laws stands-after
 
-pub tell-one-text : ScriptsOfZonesTellOneText
+pub tell-one-text : EveryScriptTellsOneText
 tell-one-text = one-text reached-sessions stands-after
 
-pub never-go-back : ScriptsOfZonesNeverGoBack
+pub never-go-back : ScriptsNeverGoBack
 never-go-back = never-back reached-sessions stands-after
 
-pub no-message-ends : NoMessageEndsOnZones
+pub no-message-ends : NoMessageEnds
 no-message-ends = no-ends all-laws
 
 pub replies-one : RepliesAreOne
@@ -115,10 +116,10 @@ turns-are-enough =
     turns-suffice reached-go-on rounds stands-after work_left (rounds-fall reached-go-on says-pass ups emitting emitting-lower downward-lower)
     (work-is-little reached-sound stands-after (sized-after-lines all-laws shown-taken emitting-lower downward-lower) queues-are-short histories-are-short scripts-are-short)
 
-pub settles-empty : SettlesOfZonesEmptyBothWays
+pub settles-empty : EverySettleEmptiesBothWays
 settles-empty = settles-of-zones reached-go-on rounds (quiet-at-last reached-go-on stopped-said-so says-pass ups emitting) stands-after turns-are-enough
 
-pub keep-promises : ScriptsOfZonesKeepPromises
+pub keep-promises : EveryScriptKeepsPromises
 keep-promises = keeps-promises reached-sessions reached-sound settling stands-after never-go-back settles-empty
 
 pub built-ones-keep : ScriptsThatAreBuiltKeepPromises

@@ -1,4 +1,5 @@
 -- Octets come down to a client, and a client is asked for something, is connected and is cut.
+pub mod Connected
 pub mod Octets
 pub mod Wishes
 pub mod Points

@@ -22,7 +22,7 @@ use Rattle.inflight.specs.Flight.{IsUnderWay}
 use Rattle.replay.specs.Lines.{Word}
 use Rattle.replay.specs.World.{World, Seat}
 use Rattle.replay.specs.PassedOctets.{Passed, max_wire}
-use Rattle.replay.specs.Headline.{EndedByItself, ShownPoints, ShowsNoLater, point_taken, is_end_by_itself, IsUnconnected, NumbersFit}
+use Rattle.replay.specs.Promises.{EndedByItself, ShownPoints, ShowsNoLater, point_taken, is_end_by_itself, IsUnconnected, NumbersFit}
 use Rattle.script_laws.specs.Reached.{FitCalls, IsReached, Began, AreFor}
 
 -- if it has closed, then by a Retry Delay, behind which the session doesn't go on (RFC 8490, 6.6.1)

@@ -1,4 +1,4 @@
--- The lines of a script without links, and what is known of a world behind some of them.
+-- The lines of a script, and what is known of a world behind some of them.
 --     IsWord w      digits and lower-case letters
 --     AreWithin line      its octets are octets, its names are names, the words of its clients and peers are words, and its numbers fit
 --     IsNamed all line      a client that it makes has one of these words
@@ -6,20 +6,21 @@
 --     KnownFits all known world      the clients that are known are those of the world, and no peer has a client's word
 use Rattle.std.specs.Prelude.{◌≡◌, ℕ, ◌<◌, ◌≤◌, ◌^◌, Bool, List, [], ◌∷◌, length, Some, IsTrue, option_map}
 use Rattle.std.specs.List.{AllByRecursion, list_all}
+use Rattle.push_base.specs.Limits.{max_moment}
 use Rattle.dnsname.specs.Names.{is_name}
 use Rattle.dsotlv.specs.Laws.{AreOctets}
+use Rattle.dsotlv.specs.Messages.{max_frame}
 use Rattle.pushclient.specs.ServerMessages.{CanBeGranted}
 use Rattle.inflight.specs.Ends.{is_question}
-use Rattle.replay.specs.Lines.{Word, ScriptLine, is_word_octet, timers, zone, client, lone, update, hear, ask, drop_question, reconfirm, send, feed, stop, show}
+use Rattle.replay.specs.Lines.{Word, ScriptLine, is_word_octet, timers, zone, link, client, lone, at_moment, update, hear, ask, drop_question, reconfirm, send, feed, stop, show}
 use Rattle.replay.specs.Scripts.{Known, lone_of, client_word, is_among, is_peer, fits}
 use Rattle.replay.specs.World.{World, seat_of}
-use Rattle.script_laws.specs.Whole.{IsNoLink}
 
 -- ---- lines by themselves
 
 -- the octets that a word of a script stands for
 abbrev pub AreWritten : List ℕ → Type 0
-AreWritten octets = AreOctets octets × (length octets ≤ 65537)
+AreWritten octets = AreOctets octets × (length octets ≤ max_frame)
 
 -- digits and lower-case letters alone, so no space
 abbrev pub IsWord : Word → Type 0
@@ -29,8 +30,10 @@ IsWord w = IsTrue (list_all is_word_octet w)
 abbrev pub AreWithin : ScriptLine → Type 0
 AreWithin (timers inactivity keepalive) = CanBeGranted (record { inactivity = inactivity; keepalive = keepalive })
 AreWithin (zone apex serial mode) = IsTrue (is_name apex) × (serial < 2 ^ 32)
+AreWithin (link w domain) = IsTrue (is_name domain)
 AreWithin (client w) = IsWord w
 AreWithin (lone w) = IsWord w
+AreWithin (at_moment t) = t ≤ max_moment
 AreWithin (update message) = AreWritten message
 AreWithin (hear w datagram) = AreWritten datagram
 AreWithin (ask w question) = IsTrue (is_question question)
@@ -46,11 +49,10 @@ AreWithin _ = Unit {0}
 abbrev pub IsNamed : List Word → ScriptLine → Type 0
 IsNamed all line = (w : Word) → client_word line ≡ Some w → IsTrue (is_among all w)
 
--- a line of a script without links that was read
+-- a line that was read
 pub record IsRead (all : List Word) (line : ScriptLine) : Type 0 where
   pub within : AreWithin line
   pub named : IsNamed all line
-  pub no_link : IsNoLink line
 
 -- ---- lines one behind another
 
@@ -59,9 +61,8 @@ abbrev pub Follow : List Word → Known → List ScriptLine → Type 0
 Follow all known [] = Unit {0}
 Follow all known (line ∷ lines) = (later : Known) × (fits all known line ≡ Some later) × Follow all later lines
 
--- the clients that the lines so far have made are those of the world, lone where they are, and among those of the whole script, of which no peer has a word; no link was made
+-- the clients that the lines so far have made are those of the world, lone where they are, and among those of the whole script, of which no peer has a word
 pub record KnownFits (all : List Word) (known : Known) (world : World) : Type 0 where
   pub clients : (w : Word) → lone_of known w ≡ option_map (λ s. s.is_lone) (seat_of world w)
   pub named : (w : Word) (is_lone : Bool) → lone_of known w ≡ Some is_lone → IsTrue (is_among all w)
   pub peers : AllByRecursion (λ p. IsTrue (is_peer all p.0)) world.peers
-  pub links : known.links ≡ []

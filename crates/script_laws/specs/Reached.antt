@@ -1,6 +1,6 @@
 -- Hubs to which calls lead, and what is so of them.
 --     FitsCall call      what comes as octets are octets, and the numbers of a stop fit their fields
---     IsReached hub      calls led to it from a start of zones
+--     IsReached hub      calls led to it from a start of homes
 --     Began hub number start      a session wasn't there yet when so many entries were made, and calls led on from there
 --     IsFor number call      a call for one session alone: octets in, or octets out
 --     Avoids session call      a call that isn't for a seat's session, if it has one, and doesn't end it
@@ -18,7 +18,7 @@ use Rattle.pushclient.specs.ServerMessages.{CanBeGranted}
 use Rattle.inflight.specs.Flight.{FirstAnswersEnd}
 use Rattle.flight_laws.specs.Turns.{StopFits}
 use Rattle.flight_laws.specs.OtherCalls.{IsOfOthers}
-use Rattle.pushtelling.specs.Laws.{IsStartOfZones}
+use Rattle.pushtelling.specs.Laws.{IsStartOfHomes}
 
 -- RFC 8490, 6.6.1
 abbrev pub HasStopNumbers : HubCall → Type 0
@@ -35,7 +35,7 @@ pub record IsReached (hub : Hub) : Type 0 where
   pub start : State
   pub timers : Timers
   pub calls : List HubCall
-  pub zones : IsStartOfZones start
+  pub homes : IsStartOfHomes start
   pub granted : CanBeGranted timers
   pub fit : FitCalls calls
   pub is : hub ≡ after_calls calls (new_hub start timers)

@@ -6,7 +6,7 @@ use Rattle.replay.specs.Lines.{ScriptLine}
 use Rattle.replay.specs.Scripts.{script_of}
 use Rattle.replay.specs.TextWords.{by_history, by_notices}
 use Rattle.replay.specs.BuiltScripts.{first_later, reply_to_script}
-use Rattle.replay.specs.Headline.{KeepsPromises}
+use Rattle.replay.specs.Promises.{KeepsPromises}
 
 abbrev pub RepliesAreOne : Type 0
 RepliesAreOne = (octets : List ℕ) → reply_to_script by_notices octets ≡ reply_to_script by_history octets

@@ -3,7 +3,7 @@
 --     QuietAtLast      where a round moves no octet and reacts to nothing
 --     RoundsFall, FewRoundsEnd      what falls in each other round; so rounds come to an end
 --     SettlesEmpty      rounds that come to one that is still
---     TurnsSuffice, IsLittleAtSettles      each settle of a script without links does, by a number that falls
+--     TurnsSuffice, IsLittleAtSettles      each settle of a script does, by a number that falls
 use Rattle.std.specs.Prelude.{◌≡◌, ℕ, zero, suc, ◌<◌, Bool, true, false, not, ◌&&◌, List, ◌∷◌, ◌++◌, Option, Some, None, Ok, ◌==◌}
 use Rattle.dsotlv.specs.Answers.{stop_message}
 use Rattle.pushsession.specs.declared.standing.Standing.{Standing}
@@ -16,11 +16,10 @@ use Rattle.replay.specs.Lines.{Word, ScriptLine, settle}
 use Rattle.replay.specs.Scripts.{script_of}
 use Rattle.replay.specs.Text.{world_after}
 use Rattle.replay.specs.World.{World, Seat, seat_of, start_world}
-use Rattle.replay.specs.PassedOctets.{Passed, enough, round, settled}
-use Rattle.replay.specs.Headline.{ShownPoints, IsQuiet}
+use Rattle.replay.specs.PassedOctets.{is_still, Passed, enough, round, settled}
+use Rattle.replay.specs.Promises.{ShownPoints, IsQuiet}
 use Rattle.script_laws.specs.Reached.{IsReached}
 use Rattle.script_laws.specs.Joined.{IsJoined, Waits}
-use Rattle.script_laws.specs.Whole.{HasNoLinks}
 
 -- one of these messages asks a client to stop
 pub record SaysStop (made : List Made) : Type 0 where
@@ -40,10 +39,6 @@ abbrev pub StoppedOnesSaidSo : Type 0
 StoppedOnesSaidSo = (hub : Hub) (number : ℕ) (session : Session) → IsReached hub → session_of hub number ≡ Some session → is_stopped session.standing ≡ true → SaysStop session.made
 
 -- ---- a round
-
--- neither a move nor a reaction
-abbrev pub is_still : Passed → Bool
-is_still p = p.count == 0 && not p.reacted
 
 -- with whatever session and connection is there
 abbrev pub IsEmptied : Hub → Seat → ℕ → Type 0
@@ -82,12 +77,12 @@ SettlesEmpty = (turns number : ℕ) (over : Option EndReason) (world : World) (s
 
 -- of each settle of a client with a session
 abbrev pub TurnsSuffice : Type 0
-TurnsSuffice = (text : List ℕ) (script before after : List ScriptLine) (w : Word) (seat : Seat) (number : ℕ) → script_of text ≡ Ok script → HasNoLinks script → script ≡ before ++ settle w ∷ after
+TurnsSuffice = (text : List ℕ) (script before after : List ScriptLine) (w : Word) (seat : Seat) (number : ℕ) → script_of text ≡ Ok script → script ≡ before ++ settle w ∷ after
     → let world = world_after before (start_world script) in
     seat_of world w ≡ Some seat → seat.session ≡ Some number → ends_still enough number world seat ≡ true
 
 -- a number that falls is less than the turns there
 abbrev pub IsLittleAtSettles : (ℕ → World → Seat → ℕ) → Type 0
-IsLittleAtSettles size = (text : List ℕ) (script before after : List ScriptLine) (w : Word) (seat : Seat) (number : ℕ) → script_of text ≡ Ok script → HasNoLinks script → script ≡ before ++ settle w ∷ after
+IsLittleAtSettles size = (text : List ℕ) (script before after : List ScriptLine) (w : Word) (seat : Seat) (number : ℕ) → script_of text ≡ Ok script → script ≡ before ++ settle w ∷ after
     → let world = world_after before (start_world script) in
     seat_of world w ≡ Some seat → seat.session ≡ Some number → size number world seat < enough

@@ -15,7 +15,7 @@ use Rattle.pushclient.specs.Clients.{Connection, held, set_held}
 use Rattle.replay.specs.World.{World, Seat, arrived}
 use Rattle.replay.specs.TextWords.{by_history, by_notices, is_filling, show_at, with_records}
 use Rattle.replay.specs.HeldPoints.{point_of_held}
-use Rattle.replay.specs.Headline.{ShownPoints, point_taken, is_wanted, IsQuiet}
+use Rattle.replay.specs.Promises.{ShownPoints, point_taken, is_wanted, IsQuiet}
 use Rattle.script_laws.specs.Reached.{IsReached}
 use Rattle.script_laws.specs.Joined.{IsJoined, SeatStands, StandsWith}
 

@@ -18,10 +18,9 @@ use Rattle.replay.specs.Scripts.{max_script, script_of}
 use Rattle.replay.specs.World.{World, Seat, start_world}
 use Rattle.replay.specs.PassedOctets.{Passed, say, up, emit, down}
 use Rattle.replay.specs.Text.{world_after}
-use Rattle.replay.specs.Headline.{ShownPoints}
+use Rattle.replay.specs.Promises.{ShownPoints}
 use Rattle.script_laws.specs.Reached.{IsReached}
 use Rattle.script_laws.specs.Joined.{IsJoined}
-use Rattle.script_laws.specs.Whole.{HasNoLinks}
 
 -- ---- what is to be done
 
@@ -94,5 +93,5 @@ abbrev pub IsSized : ℕ → Seat → Type 0
 IsSized lines seat = seat.is_lone ≡ false → owes seat.client ≤ most_owed lines
 
 abbrev pub SizedAfterLines : Type 0
-SizedAfterLines = (text : List ℕ) (script before after : List ScriptLine) → script_of text ≡ Ok script → HasNoLinks script → script ≡ before ++ after
+SizedAfterLines = (text : List ℕ) (script before after : List ScriptLine) → script_of text ≡ Ok script → script ≡ before ++ after
     → AllByRecursion (IsSized (length before)) (world_after before (start_world script)).seats

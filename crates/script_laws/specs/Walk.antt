@@ -19,7 +19,7 @@ use Rattle.inflight.specs.Ends.{is_question}
 use Rattle.inflight.specs.Flight.{AreSoundWishes}
 use Rattle.replay.specs.World.{World, Seat, cut_seat}
 use Rattle.replay.specs.PassedOctets.{Passed, Exchanged, say, up, emit, down, round, settled, exchanged}
-use Rattle.replay.specs.Headline.{ShownPoints, is_end_by_itself, IsUnconnected}
+use Rattle.replay.specs.Promises.{ShownPoints, is_end_by_itself, IsUnconnected}
 use Rattle.script_laws.specs.Reached.{FitCalls, IsReached, AreFor, Avoids}
 use Rattle.script_laws.specs.Joined.{IsJoined, SeatStands, StandsWith, PassesSo, Waits}
 

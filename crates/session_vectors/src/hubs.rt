@@ -7,6 +7,7 @@ use crate::rows::{holds, is_text};
 use dnsname::Name;
 use dsosession::session::Timers;
 use history::Homes;
+use push_base::limits::MAX_MOMENT;
 use push_base::{hex_octets, hex_text};
 use pushserver::{ConnectFault, Given, Hub};
 use std::alloc::Global;
@@ -30,6 +31,17 @@ const SUBSCRIBE: &str = "002100033000000000000000000000400011076578616d706c65036
 /// A SUBSCRIBE with the ID 4, for addresses of `host.example.com.`.
 const OF_THE_HOST: &str =
     "00260004300000000000000000000040001604686f7374076578616d706c6503636f6d0000010001";
+
+/// A SUBSCRIBE with the ID 6, for addresses of `h.lan.example.com.`.
+const OF_THE_LINK: &str =
+    "0027000630000000000000000000004000170168036c616e076578616d706c6503636f6d0000010001";
+
+/// A RECONFIRM of the address 192.0.2.1 of `h.lan.example.com.` (RFC 8765, 6.5).
+const RECONFIRM: &str =
+    "002b0000300000000000000000000043001b0168036c616e076578616d706c6503636f6d0000010001c0000201";
+
+/// A datagram of a link: `h.local.` has the address 192.0.2.1 for 120 s (RFC 6762, 8.3).
+const HOST: &str = "0000840000000001000000000168056c6f63616c0000018001000000780004c0000201";
 
 /// The length of `ADDED`.
 const LENGTH: &str = "002d";
@@ -65,6 +77,17 @@ const NO_SUCH_KIND: &str = "000c0005b00b0000000000000000";
 /// The answer to the update.
 const ACCEPTED: &str = "000c0007a8000000000000000000";
 
+/// The answer to `OF_THE_LINK`, of which there are no records.
+const NO_HOST: &str = "000c0006b0000000000000000000";
+
+/// The address of `h.lan.example.com.`.
+const SHOWN: &str =
+    "0031000030000000000000000000004100210168036c616e076578616d706c6503636f6d0000010001000000780004c0000201";
+
+/// All addresses of `h.lan.example.com.` go.
+const GONE: &str =
+    "002d0000300000000000000000000041001d0168036c616e076578616d706c6503636f6d0000010001fffffffe0000";
+
 /// All records of `example.com.` go, and those with the address and the next serial come (RFC 8765, 6.3.1).
 const CHANGED: &str =
     "00bc000030000000000000000000004100ac076578616d706c6503636f6d0000ff0001fffffffe0000076578616d706c6503636f6d0000010001000000780004c0000207076578616d706c6503636f6d000002000100000e100010026e73076578616d706c6503636f6d00076578616d706c6503636f6d000006000100000e10003c026e73076578616d706c6503636f6d000a686f73746d6173746572076578616d706c6503636f6d000000000200000e1000000258000151800000003c";
@@ -84,6 +107,8 @@ enum Step {
     Give(u64),
     /// An update: its RCODE.
     Update(&'static str),
+    /// A datagram of a link: what became of it.
+    Hear(usize, &'static str),
     Moment(u64),
     /// A stop is asked for with a Retry Delay of 7 s.
     Stop(u64),
@@ -116,16 +141,17 @@ fn joined(alloc: Global, texts: &[&str]) -> Result<String, Fail> {
     Ok(all)
 }
 
-/// A hub of one zone.
+/// A hub of one zone, and the link `lan.example.com.`.
 fn hub_of(zone: Zone, alloc: Global) -> Result<Hub, Fail>
     requires { (serial : ℕ) × (zone.state ≡ new_zone zone.state.apex serial zone.state.writable) }
 {
     let mut homes = Homes::new(alloc);
     homes.add_zone(zone)?;
+    homes.add_link(Name::from_text(alloc, "lan.example.com.")?)?;
     Ok(Hub::new(homes, TIMERS)?)
 }
 
-/// A hub of `example.com.`, which may be written.
+/// A hub of `example.com.`, which may be written, and of the link.
 fn example_hub(alloc: Global) -> Result<Hub, Fail> {
     let apex = Name::from_text(alloc, "example.com.")?;
     let zone = Zone::new(alloc, apex, 1, true)?;
@@ -181,6 +207,12 @@ fn updated(alloc: Global, hub: &mut Hub, text: &str) -> Result<String, Fail> {
     Ok(format!(in alloc; "{code}")?)
 }
 
+/// What became of a datagram of a link.
+fn heard(alloc: Global, hub: &mut Hub, link: usize, text: &str) -> Result<String, Fail> {
+    let heard = hub.hear(link, &octets_of(alloc, &[text])?)?;
+    Ok(format!(in alloc; "{heard:?}")?)
+}
+
 /// What one call of `give` did.
 fn given(alloc: Global, hub: &mut Hub, session: u64) -> Result<String, Fail> {
     let given = hub.give(session, &mut [0; 5])?;
@@ -201,10 +233,11 @@ fn shown(alloc: Global, hub: &mut Hub, step: &Step) -> Result<String, Fail> {
         Step::Told(session) => told(alloc, hub, session),
         Step::Give(session) => given(alloc, hub, session),
         Step::Update(text) => updated(alloc, hub, text),
+        Step::Hear(link, text) => heard(alloc, hub, link, text),
         Step::Hub => hub_text(alloc, hub),
         Step::Session(session) => session_text(alloc, hub, session),
         Step::Moment(at) => {
-            hub.moment(at)?;
+            hub.moment(at.min(MAX_MOMENT))?;
             Ok(String::new(alloc))
         }
         Step::Stop(session) => {
@@ -343,11 +376,33 @@ const TWO_SESSIONS: Script = &[
     (Step::Session(2), &["false None 1"]),
 ];
 
+/// A link hears an address, which is shown and, reconfirmed, goes 10 s later where it isn't heard again (RFC 6762, 10.4).
+const A_LINK: Script = &[
+    (Step::Connect, &["Ok(0)"]),
+    (Step::Send(0, &[OF_THE_LINK]), &["41"]),
+    (Step::Told(0), &[NO_HOST]),
+    (Step::Hear(0, HOST), &["Entered"]),
+    (Step::Hear(1, HOST), &["Ignored(Nothing)"]),
+    (Step::Hear(0, "00"), &["Ignored(Short)"]),
+    (Step::Told(0), &[SHOWN]),
+    (Step::Send(0, &[RECONFIRM]), &["45"]),
+    (Step::Give(0), &["Worked"]),
+    (
+        Step::Hub,
+        &["2 0 1 Totals { changes: 1, heard: 1, moments: 0 }"],
+    ),
+    (Step::Moment(9_999), &[]),
+    (Step::Give(0), &["Nothing"]),
+    (Step::Moment(10_000), &[]),
+    (Step::Told(0), &[GONE]),
+];
+
 #[test]
 fn sessions_are_told(rt: HostRuntime) -> Result<(), Fail> {
     play(rt.alloc(), MESSAGES_FIRST)?;
     play(rt.alloc(), CHANGE_FIRST)?;
-    play(rt.alloc(), TWO_SESSIONS)
+    play(rt.alloc(), TWO_SESSIONS)?;
+    play(rt.alloc(), A_LINK)
 }
 
 /// A session that is stopped has 5,000 ms (RFC 8490, 6.6.1).

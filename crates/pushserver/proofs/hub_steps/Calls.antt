@@ -1,5 +1,6 @@
 -- The calls beside `give`, on the hub that is kept and on the plain one.
---     updates_stand, moments_stand, connects_stand, takes_stand, stops_stand, ends_stand
+--     entry-stands      an entry
+--     updates_stand, hears_stand, moments_stand, connects_stand, takes_stand, stops_stand, ends_stand
 use Rattle.std.proofs.Common.{◌≡◌, ℕ, ◌+◌, ◌-◌, ◌<◌, Bool, true, false, cond, not, ◌&&◌, ◌||◌, List, [], ◌∷◌, ◌++◌, length, Option, Some, None, Result, Ok, Err, ap, subst, refl, arith}
 use Rattle.std.proofs.lemmas.Bool.{ltb-true}
 use Rattle.std.proofs.lemmas.List.{length-append}
@@ -9,28 +10,39 @@ use Rattle.std.specs.Prelude.{nat_lt, min, ◌==◌}
 use Rattle.std.specs.List.{AllZip, AllByRecursion, list_any}
 use Rattle.push_base.specs.Limits.{max_input, max_number}
 use Rattle.rrset.proofs.Distinct.{distinct_push, distinct_filter}
+use Rattle.rrset.specs.declared.record.Hearing.{Hearing}
+use Rattle.dnswire.specs.Reading.{hearing_of}
+use Rattle.dnswire.specs.declared.message.HearFault.{HearFault}
 use Rattle.dnswire.specs.declared.message.Update.{Update}
-use Rattle.history.specs.States.{verdict}
+use Rattle.history.specs.States.{verdict, accepts}
+use Rattle.history.specs.declared.entry.Entry.{Entry}
 use Rattle.history.specs.declared.entry.Entry.TheVariants as entries
 use Rattle.pushsession.specs.Kept.{KeptSession, keeping}
 use Rattle.pushsession.specs.Sessions.{is_open, room_of, new_session, takes, asked_to_stop, timed}
 use Rattle.pushserver.specs.PlainHubs.{Hub, Session, plain_keeps}
-use Rattle.pushserver.specs.Hubs.{Numbered, session_in, without_session, newest, now, state_now, entered, can_enter, update, moment, connect, take_octets, stop, disconnect, max_sessions}
+use Rattle.pushserver.specs.Hubs.{Numbered, session_in, without_session, newest, now, state_now, entered, can_enter, update, hear, moment, connect, take_octets, stop, disconnect, max_sessions}
 use Rattle.pushserver.specs.Rows.{IsTellable}
 use Rattle.pushserver.specs.KeptHubs.{KeptHub, StandsFor}
 use Rattle.pushserver.specs.SoundHubs.{IsSoundSession}
 use Rattle.dsotlv.specs.Laws.{AreOctets}
-use Rattle.pushserver.specs.Simulation.{BothAnswer, UpdatesStand, MomentsStand, ConnectsStand, TakesStand, StopsStand, EndsStand}
+use Rattle.pushserver.specs.Simulation.{BothAnswer, UpdatesStand, HearsStand, MomentsStand, ConnectsStand, TakesStand, StopsStand, EndsStand}
 use Rattle.pushserver.proofs.session_steps.Parts.{SessionFits, of_parts, asks_nothing, none_waits, reads_nothing, writes_nothing}
 use Rattle.pushserver.proofs.session_steps.Standing.{takes-keeps, asked-keeps, timed-keeps}
 use Rattle.pushserver.proofs.told_rows.Updated.{update-tellable, moment-tellable}
+use Rattle.pushserver.proofs.told_rows.Histories.{state_at-last}
+use Rattle.pushserver.proofs.told_rows.HubTells.{StatesTell}
+use Rattle.pushserver.proofs.told_rows.Hubs.{hearing_tells}
 use Rattle.pushserver.proofs.hub_steps.Pairs.{zip-all, zip-push, zip-filter}
 use Rattle.pushserver.proofs.hub_steps.Standing.{kept_of, Stands, with_kept, fitting, fits-stand, fits-sound, with_sessions-stands, each-stands, in-stands, session-moved, FoundBoth, both_found}
-use Rattle.pushserver.proofs.hub_steps.Cases.{enters_update, update_as, enters_moment, moment_as}
+use Rattle.pushserver.proofs.hub_steps.Cases.{enters_update, update_as, enters_hearing, hear_as, enters_moment, moment_as}
 use Rattle.pushserver.proofs.hub_steps.Entering.{entered-stands}
 
 pub tells-now : (hub : Hub) (ks : Numbered KeptSession) → Stands hub ks → IsTellable (state_now hub)
 tells-now hub ks h = h.sound.states (newest hub) (omega arith)
+
+-- any entry stands behind which each state can be told
+pub entry-stands : (hub : Hub) (ks : Numbered KeptSession) (entry : Entry) → StatesTell (entered entry hub) → Stands hub ks → StandsFor (entered entry (kept_of hub ks)) (entered entry hub)
+entry-stands hub ks entry states h = entered-stands hub ks entry (subst IsTellable (state_at-last hub.start hub.history entry) (states (newest (entered entry hub)) (omega arith))) h
 
 -- ---- `update`
 
@@ -47,6 +59,23 @@ update-stands hub ks message octets h = by (verdict (state_now hub) message) ref
 
 pub updates_stand : UpdatesStand
 updates_stand k hub message h octets = with_kept (λ k. BothAnswer (update k message) (update hub message)) k hub h (update-stands hub k.sessions message octets)
+
+-- ---- `hear`
+
+pub hear-stands : (hub : Hub) (ks : Numbered KeptSession) (link : ℕ) (datagram : List ℕ) → AreOctets datagram → Stands hub ks → BothAnswer (hear (kept_of hub ks) link datagram) (hear hub link datagram)
+hear-stands hub ks link datagram octets h = by (hearing_of datagram) refl
+  where
+    by_room : (hearing : Hearing) → hearing_of datagram ≡ Ok hearing → (a b : Bool) → BothAnswer (enters_hearing (kept_of hub ks) link hearing a b) (enters_hearing hub link hearing a b)
+    by_room hearing reads false b = (refl, h)
+    by_room hearing reads true false = (refl, h)
+    by_room hearing reads true true = (refl, entry-stands hub ks (entries.Heard link hearing) (hearing_tells hub link datagram hearing h.sound.states octets reads) h)
+
+    by : (r : Result Hearing HearFault) → hearing_of datagram ≡ r → BothAnswer (hear_as (kept_of hub ks) link r) (hear_as hub link r)
+    by (Err fault) reads = (refl, h)
+    by (Ok hearing) reads = by_room hearing reads (accepts (state_now hub) (entries.Heard link hearing)) (can_enter hub (entries.Heard link hearing))
+
+pub hears_stand : HearsStand
+hears_stand k hub link datagram h octets = with_kept (λ k. BothAnswer (hear k link datagram) (hear hub link datagram)) k hub h (hear-stands hub k.sessions link datagram octets)
 
 -- ---- `moment`
 
@@ -95,7 +124,6 @@ joined-stands : (hub : Hub) (ks : Numbered KeptSession) → nat_lt (length hub.s
 joined-stands hub ks room h = record {
   sound = record {
     begins = h.sound.begins;
-    links = h.sound.links;
     states = h.sound.states;
     sessions = fits-sound (joined hub) later (joined hub).sessions fit;
     numbers = distinct_push (λ (d e : ℕ × Session). d.0 == e.0) hub.sessions (hub.numbers_given, new_plain hub) h.sound.numbers (none-next hub hub.sessions h.sound.sessions);

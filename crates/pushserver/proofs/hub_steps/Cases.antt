@@ -1,13 +1,16 @@
 -- The cases of a hub's calls, whatever its sessions keep: what each does, as a function of what was found.
 --     ends_as      a session ends
 --     update_as, moment_as      by the verdict on an update; by the time and the journal's room
+--     hear_as, enters_hearing      a datagram by what it says; a hearing by whether it is accepted, and by the journal's room
 --     key_as, session_as      a RECONFIRM by the key of its record; a message by the session
 --     request_as, clocks_as, itself_as      a message by its head: what is needed for it, the clocks behind it, what a session makes of it by itself
 --     found_as, works_as, give_as      `give` by the session, by the first message, and by the output
-use Rattle.std.specs.Prelude.{ℕ, Bool, true, false, cond, List, Option, Some, None, Result, Ok, Err, ◌&&◌}
+use Rattle.std.specs.Prelude.{ℕ, Bool, true, false, not, cond, List, Option, Some, None, Result, Ok, Err, ◌&&◌}
 use Rattle.push_base.specs.Cases.{is_empty}
 use Rattle.rrset.specs.Rcodes.{noerror, servfail}
 use Rattle.rrset.specs.declared.record.Key.{Key}
+use Rattle.rrset.specs.declared.record.Hearing.{Hearing}
+use Rattle.dnswire.specs.declared.message.HearFault.{HearFault}
 use Rattle.dnswire.specs.declared.message.Update.{Update}
 use Rattle.dsotlv.specs.declared.message.DsoHead.{DsoHead}
 use Rattle.dsosession.specs.Reactions.{server_reaction, is_keepalive}
@@ -25,7 +28,10 @@ use Rattle.pushsession.specs.declared.request.Request.{Request}
 use Rattle.pushsession.specs.declared.request.Request.TheVariants as requests
 use Rattle.pushserver.specs.declared.given.Given.{Given}
 use Rattle.pushserver.specs.declared.given.Given.TheVariants.{End}
-use Rattle.pushserver.specs.Hubs.{SessionKind, HubOf, now, state_now, keeps_now, tells_now, each_session, in_session, entered, can_enter}
+use Rattle.pushserver.specs.declared.given.Heard.{Heard}
+use Rattle.pushserver.specs.declared.given.Heard.TheVariants.{Entered, Ignored}
+use Rattle.pushserver.specs.declared.given.Why.TheVariants as whys
+use Rattle.pushserver.specs.Hubs.{SessionKind, HubOf, now, state_now, keeps_now, tells_now, each_session, in_session, entered, can_enter, why_not}
 use Rattle.pushserver.specs.Giving.{GivingOf, by_request, reacted, did, copies, copies_or, after_reaction, after_packing, by_standing}
 
 -- ---- a message by its head
@@ -61,6 +67,15 @@ module _ {A Q M : Type 0} {kind : SessionKind A Q M} where
 
   abbrev pub moment_as : HubOf kind → ℕ → Bool → Bool × HubOf kind
   moment_as hub t early = cond early (false, hub) (enters_moment hub t (can_enter hub (entries.Moment t)))
+
+  -- ---- a datagram
+
+  abbrev pub enters_hearing : HubOf kind → ℕ → Hearing → Bool → Bool → Option Heard × HubOf kind
+  enters_hearing hub link hearing accepted room = cond (not accepted) (Some (Ignored whys.Nothing), hub) (cond room (Some Entered, entered (entries.Heard link hearing) hub) (None, hub))
+
+  abbrev pub hear_as : HubOf kind → ℕ → Result Hearing HearFault → Option Heard × HubOf kind
+  hear_as hub link (Err fault) = (Some (Ignored (why_not fault)), hub)
+  hear_as hub link (Ok hearing) = enters_hearing hub link hearing (accepts (state_now hub) (entries.Heard link hearing)) (can_enter hub (entries.Heard link hearing))
 
   -- ---- a message
 

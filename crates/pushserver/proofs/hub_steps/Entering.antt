@@ -10,7 +10,7 @@ use Rattle.rrset.specs.RecordSet.{at_name, changes}
 use Rattle.rrset.specs.declared.record.Changed.{Changed}
 use Rattle.rrset.specs.declared.record.Question.{Question}
 use Rattle.coalesce.specs.Waiting.{WaitingName}
-use Rattle.history.specs.Standing.{AreAtHome}
+use Rattle.history.specs.AtHome.{AreAtHome}
 use Rattle.history.specs.States.{after, home_of}
 use Rattle.history.specs.declared.entry.Entry.{Entry}
 use Rattle.history.specs.declared.entry.Home.{Home}
@@ -114,7 +114,6 @@ pub entered-stands : (hub : Hub) (ks : List (ℕ × KeptSession)) (entry : Entry
 entered-stands hub ks entry last h = record {
   sound = record {
     begins = h.sound.begins;
-    links = h.sound.links;
     states = states-more hub.start hub.history entry h.sound.states last;
     sessions = fits-sound (entered entry hub) later (entered entry hub).sessions fit;
     numbers = distinct-map (λ (e : ℕ × Session). plain_noted hub entry e.1) hub.sessions h.sound.numbers;

@@ -1,9 +1,8 @@
 -- The reaction to a message, on the hub that is kept and on the plain one.
 --     IsQuiet number hub      nothing of the session waits to be written
 --     reacted-stands
-use Rattle.std.proofs.Common.{◌≡◌, ℕ, Bool, true, false, List, [], Option, Some, None, Result, Ok, Err, sym, ◌∙◌, ap, subst, refl, arith}
-use Rattle.std.specs.Prelude.{option_map, position}
-use Rattle.dnsname.specs.Names.{Labels, same_name, home}
+use Rattle.std.proofs.Common.{◌≡◌, ℕ, Bool, true, false, cond, ◌&&◌, List, [], Option, Some, None, Result, Ok, Err, sym, ◌∙◌, ap, subst, refl, arith}
+use Rattle.std.specs.Prelude.{option_map}
 use Rattle.rrset.specs.Header.{id_of}
 use Rattle.rrset.specs.declared.record.Key.{Key}
 use Rattle.rrset.specs.declared.record.Question.{Question}
@@ -18,11 +17,9 @@ use Rattle.dsosession.specs.declared.session.EndReason.{EndReason}
 use Rattle.dsosession.specs.declared.session.EndReason.TheVariants as ends
 use Rattle.dsosession.specs.declared.session.Reaction.{Reaction}
 use Rattle.dsosession.specs.declared.session.Reaction.TheVariants as reactions
-use Rattle.history.specs.States.{State, home_names, key_heard, reconfirm_key, verdict}
+use Rattle.history.specs.States.{accepts, reconfirm_key, verdict}
 use Rattle.history.specs.declared.entry.Entry.{Entry}
 use Rattle.history.specs.declared.entry.Entry.TheVariants as entries
-use Rattle.history.specs.declared.entry.Home.TheVariants as homes
-use Rattle.history.proofs.ShownAtHome.{zone_home, home_of-zones}
 use Rattle.pushsession.specs.Kept.{KeptSession, keeping, telling}
 use Rattle.dsotlv.specs.Answers.{answer_to_update}
 use Rattle.pushsession.specs.Sessions.{ended_with, answers}
@@ -42,10 +39,11 @@ use Rattle.pushserver.proofs.session_steps.Reactions.{itself-keeps}
 use Rattle.pushserver.proofs.session_steps.Octets.{question-named}
 use Rattle.pushserver.proofs.session_steps.Accepting.{answered-keeps}
 use Rattle.pushserver.proofs.told_rows.HubTells.{hub_told}
+use Rattle.pushserver.proofs.told_rows.Hubs.{reconfirm_tells}
 use Rattle.pushserver.proofs.hub_steps.Standing.{kept_of, Stands, with_kept, fitting, in-stands, found-stands, FoundBoth, both_found}
 use Rattle.pushserver.proofs.hub_steps.Cases.{ends_as, enters_update, update_as, key_as, session_as, request_as}
 use Rattle.pushserver.proofs.hub_steps.Entering.{plain_noted}
-use Rattle.pushserver.proofs.hub_steps.Calls.{tells-now, update-stands}
+use Rattle.pushserver.proofs.hub_steps.Calls.{entry-stands, update-stands}
 
 -- ---- nothing waits to be written
 
@@ -74,20 +72,6 @@ quiet-updated number hub message quiet = by (verdict (state_now hub) message)
     by (Err code) = quiet
     by (Ok u) = by_room u (can_enter hub (entries.Update u))
 
--- ---- a record that is reconfirmed
-
--- no zone's record has a key at a link
-pub no_key : (state : State) (rr : Rr) → state.links ≡ [] → reconfirm_key state rr ≡ None
-no_key state rr none = ap (key_heard state rr) (home_of-zones state none rr.owner) ∙ by (home (home_names state) rr.owner)
-  where
-    zone : (o : Option ℕ) → key_heard state rr (option_map (λ i. homes.Zone i) o) ≡ None
-    zone None = refl
-    zone (Some i) = refl
-
-    by : (o : Option Labels) → key_heard state rr (zone_home state.zones o) ≡ None
-    by None = refl
-    by (Some h) = zone (position (λ z. same_name z.apex h) state.zones)
-
 -- ---- an update
 
 -- the answer to an update, on the hubs that it left
@@ -113,7 +97,15 @@ module _ (number : ℕ) (hub : Hub) (ks : Numbered KeptSession) (h : Stands hub 
 
   reconfirms-stands : (found : Option Rr) → StandsFor (reconfirms found number khub) (reconfirms found number hub)
   reconfirms-stands None = ends-stands (ends.BadData reconfirm_tlv)
-  reconfirms-stands (Some rr) = subst (λ (o : Option (ℕ × Key)). StandsFor (key_as khub o) (key_as hub o)) (sym (no_key (state_now hub) rr (tells-now hub ks h).home.links)) h
+  reconfirms-stands (Some rr) = by (reconfirm_key (state_now hub) rr)
+    where
+      by_room : (found : ℕ × Key) (b : Bool) → StandsFor (cond b (entered (entries.Reconfirm found.0 found.1) khub) khub) (cond b (entered (entries.Reconfirm found.0 found.1) hub) hub)
+      by_room found true = entry-stands hub ks (entries.Reconfirm found.0 found.1) (reconfirm_tells hub found.0 found.1 h.sound.states) h
+      by_room found false = h
+
+      by : (o : Option (ℕ × Key)) → StandsFor (key_as khub o) (key_as hub o)
+      by None = h
+      by (Some found) = by_room found (accepts (state_now hub) (entries.Reconfirm found.0 found.1) && can_enter hub (entries.Reconfirm found.0 found.1))
 
   module _ (quiet : IsQuiet number hub) where
     itself-stands : (message : List ℕ) → StandsFor (by_request requests.Itself number message khub) (by_request requests.Itself number message hub)

@@ -60,7 +60,7 @@ session-moved hub sessions made more k p s = of_parts (record hub { sessions = s
 pub with_sessions-stands : (hub : Hub) (ks : List (ℕ × KeptSession)) (later : List (ℕ × KeptSession)) (sessions : List (ℕ × Session)) → Stands hub ks
     → AllZip (SessionFits hub) later sessions → AreApart sessions → length sessions ≤ max_sessions → Stands (record hub { sessions = sessions }) later
 with_sessions-stands hub ks later sessions h each once few = record {
-  sound = record { begins = h.sound.begins; links = h.sound.links; states = h.sound.states; sessions = fits-sound moved later sessions fit; numbers = once; few = few };
+  sound = record { begins = h.sound.begins; states = h.sound.states; sessions = fits-sound moved later sessions fit; numbers = once; few = few };
   timers = refl;
   numbers_given = refl;
   start = refl;

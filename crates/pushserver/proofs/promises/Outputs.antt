@@ -77,7 +77,7 @@ module _ (number : ℕ) (output : List ℕ) where
 pub other_calls_keep_outputs : OtherCallsKeepOutputs
 other_calls_keep_outputs hub number other octets n m = (
   λ s was. holds-update AnyMessage (HasOutput number s.output) hub (λ entry by. entered-keeps number s.output hub (has s was) entry) (has s was) octets tt,
-  λ s was. holds-hear AnyMessage (HasOutput number s.output) hub (λ entry by. entered-keeps number s.output hub (has s was) entry) (has s was) n octets,
+  λ s was. holds-hear AnyMessage (HasOutput number s.output) hub (λ entry by. entered-keeps number s.output hub (has s was) entry) (has s was) n octets tt,
   λ s was. holds-moment AnyMessage (HasOutput number s.output) hub (λ entry by. entered-keeps number s.output hub (has s was) entry) (has s was) (timed-keeps number s.output) n,
   λ s was. holds-connect (HasOutput number s.output) hub (makes-keeps number s.output hub (has s was)) (has s was),
   λ s was. in-keeps number s.output hub other (takes octets) (λ s. refl) (has s was),

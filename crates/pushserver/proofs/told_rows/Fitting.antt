@@ -1,7 +1,8 @@
 -- The records of a zone stay as they are told, through each change and the rise of the serial.
 --     is_fit e      as `is_tellable`, but for the length of rdata, which follows from the size of all records of a name
 --     fit-after      all changes and the serial; all-good      changes that were read and passed the prescan; all-tellable      with room at each name
---     tellable-parts      a record that can be told is fit
+--     tellable-from, tellable-parts      a record that is fit and short can be told; one that can be told is both
+--     not_any, counted      a kind that isn't meta; a TTL as it counts
 use Rattle.std.proofs.Common.{◌≡◌, ℕ, ◌+◌, ◌%◌, ◌^◌, ◌<◌, ◌≤◌, Bool, true, false, cond, not, ◌&&◌, ltb, leb, List, [], ◌∷◌, ◌++◌, map, fold, length, drop, Option, Some, None, Result, Ok, Err, is_ok, ◌==◌, refl, sym, ap, ◌∙◌, arith, w32}
 use Rattle.std.specs.Int.{to_be_bytes}
 use Rattle.std.specs.List.{list_all, AllByRecursion}
@@ -167,7 +168,7 @@ not_meta homes zone rr e is = by _ (rr.class == in_class) (is_meta rr.kind) _ e 
     by false true true rest e is = absurd cc
     by false true false rest e is = refl
 
-not_any : (kind : ℕ) → is_meta kind ≡ false → not (kind == any_kind) ≡ true
+pub not_any : (kind : ℕ) → is_meta kind ≡ false → not (kind == any_kind) ≡ true
 not_any kind no_meta = by (kind == any_kind) refl
   where
     by : (b : Bool) → (kind == any_kind) ≡ b → not b ≡ true
@@ -175,7 +176,7 @@ not_any kind no_meta = by (kind == any_kind) refl
     by true e = absurd (not_both (is_meta kind) (ap is_meta (eqb-true kind any_kind e)) no_meta)
 
 -- a TTL as it counts has no top bit
-counted : (ttl : ℕ) → leb (counted_ttl ttl) last_ttl ≡ true
+pub counted : (ttl : ℕ) → leb (counted_ttl ttl) last_ttl ≡ true
 counted ttl = by (ltb ttl (2 ^ 31)) refl
   where
     by : (b : Bool) → ltb ttl (2 ^ 31) ≡ b → leb (cond b ttl 0) last_ttl ≡ true
@@ -228,7 +229,7 @@ room-rest e rows room name = by (same_name name e.0.owner) (room name)
     by true most = let whole = size_of-cons e (at_name name rows) in omega (arith, most, whole)
     by false most = most
 
-tellable-from : (e : Key × Shown) → is_fit e ≡ true → ltb (length e.1.rdata) (2 ^ 16) ≡ true → is_tellable e ≡ true
+pub tellable-from : (e : Key × Shown) → is_fit e ≡ true → ltb (length e.1.rdata) (2 ^ 16) ≡ true → is_tellable e ≡ true
 tellable-from e h short =
     let is = fit e h in
     and-both _ _ (and-both _ _ (and-both _ _ (and-both _ _ (and-both _ _ (and-both _ _ (and-both _ _ (same_name-itself e.0.owner) is.owner) is.class) is.width) is.kind) is.shape) short) is.ttl

@@ -1,5 +1,5 @@
--- The history of a hub stays tellable: of a new hub, after an update that is entered, and after a moment.
---     entered_tells, update_tells, moment_tells, new_tells
+-- The history of a hub stays tellable: of a new hub, and after each entry.
+--     entered_tells, update_tells, hearing_tells, moment_tells, reconfirm_tells, new_tells
 --     new_stands      what is kept of a new hub stands for it
 use Rattle.std.proofs.Common.{◌≡◌, ℕ, List, [], sym, ap, subst, refl, arith}
 use Rattle.std.specs.Prelude.{Ok, IsTrue}
@@ -7,9 +7,12 @@ use Rattle.std.specs.List.{AllByRecursion, IsDistinct}
 use Rattle.dnsname.specs.Names.{is_name}
 use Rattle.dsotlv.specs.Laws.{AreOctets}
 use Rattle.dsosession.specs.declared.session.Timers.{Timers}
+use Rattle.rrset.specs.declared.record.Key.{Key}
+use Rattle.rrset.specs.declared.record.Hearing.{Hearing}
+use Rattle.dnswire.specs.Reading.{hearing_of}
 use Rattle.dnswire.specs.declared.message.Update.{Update}
 use Rattle.history.specs.Plans.{IsStart}
-use Rattle.history.specs.Standing.{AreAtHome}
+use Rattle.history.specs.AtHome.{AreAtHome, homes_in}
 use Rattle.history.specs.States.{State, after, state_at, verdict}
 use Rattle.history.specs.declared.entry.Entry.{Entry}
 use Rattle.history.specs.declared.entry.Entry.TheVariants as entries
@@ -19,7 +22,7 @@ use Rattle.pushserver.specs.Rows.{IsTellable}
 use Rattle.pushserver.specs.KeptHubs.{kept, StandsFor}
 use Rattle.pushserver.proofs.told_rows.HubTells.{StatesTell}
 use Rattle.pushserver.proofs.told_rows.Histories.{states-more}
-use Rattle.pushserver.proofs.told_rows.Updated.{update-tellable, moment-tellable, start-tellable}
+use Rattle.pushserver.proofs.told_rows.Updated.{update-tellable, hearing-tellable, moment-tellable, reconfirm-tellable, start-tellable}
 
 -- ---- an entry
 
@@ -32,6 +35,13 @@ update_tells hub message update states octets e = entered_tells hub (entries.Upd
 pub moment_tells : (hub : Hub) (t : ℕ) → StatesTell hub → StatesTell (entered (entries.Moment t) hub)
 moment_tells hub t states = entered_tells hub (entries.Moment t) states (moment-tellable (state_now hub) t (states (newest hub) (omega arith)))
 
+pub hearing_tells : (hub : Hub) (link : ℕ) (datagram : List ℕ) (hearing : Hearing) → StatesTell hub → AreOctets datagram → hearing_of datagram ≡ Ok hearing → StatesTell (entered (entries.Heard link hearing) hub)
+hearing_tells hub link datagram hearing states octets e =
+    entered_tells hub (entries.Heard link hearing) states (hearing-tellable (state_now hub) link datagram hearing (states (newest hub) (omega arith)) octets e)
+
+pub reconfirm_tells : (hub : Hub) (link : ℕ) (key : Key) → StatesTell hub → StatesTell (entered (entries.Reconfirm link key) hub)
+reconfirm_tells hub link key states = entered_tells hub (entries.Reconfirm link key) states (reconfirm-tellable (state_now hub) link key (states (newest hub) (omega arith)))
+
 -- ---- a new hub
 
 pub new_tells : (start : State) (timers : Timers) → IsTellable start → StatesTell (new_hub start timers)
@@ -39,10 +49,10 @@ new_tells start timers is point within =
     let first : point ≡ 0 = omega (arith, within) in
     subst IsTellable (sym (ap (λ (n : ℕ). state_at start [] n) first)) is
 
-pub new_stands : (start : State) (timers : Timers) → IsStart start → AreAtHome start → AllByRecursion (λ z. IsTrue (is_name z.apex)) start.zones → StandsFor (empty_hub kept start timers) (new_hub start timers)
+pub new_stands : (start : State) (timers : Timers) → IsStart start → AreAtHome start → AllByRecursion (λ h. IsTrue (is_name h.0)) (homes_in start) → StandsFor (empty_hub kept start timers) (new_hub start timers)
 unfolding IsDistinct
 new_stands start timers begins home names = record {
-  sound = record { begins = begins; links = home.links; states = new_tells start timers (start-tellable start begins home names); sessions = tt; numbers = tt; few = omega arith };
+  sound = record { begins = begins; states = new_tells start timers (start-tellable start begins home names); sessions = tt; numbers = tt; few = omega arith };
   timers = refl;
   numbers_given = refl;
   start = refl;

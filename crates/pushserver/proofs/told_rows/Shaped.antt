@@ -1,10 +1,11 @@
 -- Rdata that is read from a message fits the shape of its kind.
 --     spelled-fits      rdata that a message spells has the shape of its kind
-use Rattle.std.proofs.Common.{◌≡◌, ℕ, ◌+◌, ◌-◌, ◌≤◌, Bool, true, false, cond, ltb, List, [], ◌∷◌, length, take, drop, Option, Some, None, Result, Ok, Err, is_ok, ◌==◌, refl, sym, ap, ◌∙◌, arith}
+--     spelled-short      and fewer than 2^16 octets where the message has
+use Rattle.std.proofs.Common.{◌≡◌, ℕ, ◌+◌, ◌-◌, ◌^◌, ◌<◌, ◌≤◌, Bool, true, false, cond, ltb, List, [], ◌∷◌, length, take, drop, Option, Some, None, Result, Ok, Err, is_ok, ◌==◌, refl, sym, ap, subst, ◌∙◌, arith}
 use Rattle.std.specs.Prelude.{slice_range, flat_map}
 use Rattle.std.proofs.lemmas.Bool.{eq-eqb, le-ltb}
-use Rattle.std.proofs.lemmas.List.{append-nil, length-append, length-drop, length-take-le, drop_at, drop-drop, take_at}
-use Rattle.dnsname.specs.Names.{Labels, octets}
+use Rattle.std.proofs.lemmas.List.{append-nil, length-append, length-drop, length-take, length-take-le, drop_at, drop-drop, take_at}
+use Rattle.dnsname.specs.Names.{Labels, max_name, octets}
 use Rattle.dnsname.specs.Reading.{plain_name_at}
 use Rattle.dnsname.specs.Spelling.{SpellsNameAt}
 use Rattle.dnsname.proofs.ReadAgain.{name-can, plain_name_at-stands}
@@ -12,6 +13,7 @@ use Rattle.rrset.specs.Kinds.{a_kind, ns_kind, cname_kind, soa_kind, ptr_kind, m
 use Rattle.rrset.specs.Rdata.{Part, some_octets, one_name, strings, Field, raw, named, are_strings, with_field, fields_from, field_octets, shape, shape_fits}
 use Rattle.rrset.specs.Spelling.{SpellsFields, SpellsShape}
 use Rattle.dnswire.proofs.Strings.{are_strings-spelled}
+use Rattle.linkmap.proofs.WholeRecords.{most, IsPlain, Sort, opaque, plain, text as string_text, shape-sort}
 use Rattle.zoneupdate.proofs.SoaRdata.{named_then, name_first, fields_done}
 use Rattle.zoneupdate.proofs.Tables.{chosen-holds}
 
@@ -126,3 +128,59 @@ spelled-fits kind message at after rdata h spelled = by (shape kind) (shape_last
     by (Some parts) last (fields, s, is) =
         ap (λ (text : List ℕ). is_ok (fields_from plain_name_at parts text 0)) is
         ∙ ap (λ (r : Result (List Field) ℕ). is_ok r) (fields_read message after h parts last at fields s (flat_map field_octets fields) 0 (record { rest = refl; size = omega arith }))
+
+-- ---- its length
+
+range-few : (message : List ℕ) (at end : ℕ) → length (slice_range message at end) ≤ length message
+range-few message at end =
+    let left = length-drop at message in
+    let taken = length-take (end - at) (drop at message) in
+    omega (arith, left, taken)
+
+-- parts without strings
+plain-few : (message : List ℕ) (end : ℕ) → end ≤ length message → (parts : List Part) → IsPlain parts → (at : ℕ) (fields : List Field) → SpellsFields message end at parts fields → length (flat_map field_octets fields) ≤ most parts
+plain-few message end h [] is at [] s = omega arith
+plain-few message end h [] is at (f ∷ fields) s = absurd s
+plain-few message end h (some_octets n ∷ parts) is at [] s = absurd s
+plain-few message end h (some_octets n ∷ parts) is at (raw bytes ∷ fields) s =
+    let many : length bytes ≡ n = ap (λ (x : List ℕ). length x) s.1 ∙ range_length message at n (omega (arith, s.0, h)) in
+    let rest = plain-few message end h parts is (at + n) fields s.2 in
+    omega (arith, many, rest, length-append bytes (flat_map field_octets fields))
+plain-few message end h (some_octets n ∷ parts) is at (named name ∷ fields) s = absurd s
+plain-few message end h (one_name ∷ parts) is at [] s = absurd s
+plain-few message end h (one_name ∷ parts) is at (raw bytes ∷ fields) s = absurd s
+plain-few message end h (one_name ∷ parts) is at (named name ∷ fields) s =
+    let one : length (octets name) ≤ max_name = s.1.is_name.size in
+    let rest = plain-few message end h parts is s.0 fields s.3 in
+    omega (arith, one, rest, length-append (octets name) (flat_map field_octets fields))
+plain-few message end h (strings ∷ parts) is at fields s = absurd is
+
+-- strings alone
+text-few : (message : List ℕ) (end at : ℕ) (fields : List Field) → SpellsFields message end at (strings ∷ []) fields → length (flat_map field_octets fields) ≤ length message
+text-few message end at [] s = absurd s
+text-few message end at (named name ∷ fields) s = absurd s
+text-few message end at (raw bytes ∷ f ∷ fields) s = absurd s.3
+text-few message end at (raw bytes ∷ []) s =
+    let range = ap (λ (x : List ℕ). length x) s.1 in
+    let few = range-few message at end in
+    omega (arith, range, few, length-append bytes [])
+
+pub spelled-short : (kind : ℕ) (message : List ℕ) (at after : ℕ) (rdata : List ℕ) → after ≤ length message → length message < 2 ^ 16 → SpellsShape (shape kind) message at after rdata → length rdata < 2 ^ 16
+spelled-short kind message at after rdata h short spelled = by (shape kind) (shape-sort kind) spelled
+  where
+    by : (o : Option (List Part)) → Sort o → SpellsShape o message at after rdata → length rdata < 2 ^ 16
+    by o (opaque is) s =
+        let whole : SpellsShape None message at after rdata = subst (λ (o : Option (List Part)). SpellsShape o message at after rdata) is s in
+        let range = ap (λ (x : List ℕ). length x) whole in
+        let few = range-few message at after in
+        omega (arith, range, few, short)
+    by o (plain parts is no_strings small) s =
+        let whole : SpellsShape (Some parts) message at after rdata = subst (λ (o : Option (List Part)). SpellsShape o message at after rdata) is s in
+        let size = ap (λ (x : List ℕ). length x) whole.2 in
+        let few = plain-few message after h parts no_strings at whole.0 whole.1 in
+        omega (arith, size, few, small)
+    by o (string_text is) s =
+        let whole : SpellsShape (Some (strings ∷ [])) message at after rdata = subst (λ (o : Option (List Part)). SpellsShape o message at after rdata) is s in
+        let size = ap (λ (x : List ℕ). length x) whole.2 in
+        let few = text-few message after at whole.0 whole.1 in
+        omega (arith, size, few, short)

@@ -1,6 +1,6 @@
--- What tellable zones hold is told: at each name, the records of its home zone.
+-- What a tellable state shows is told: at each name, the records of its home.
 --     RowsTell rows, ZonesTell zones      rows of a zone, and of all zones, that can be told
---     tellable-told      what tellable zones show together is told
+--     tellable-told      what tellable homes show together is told
 use Rattle.std.proofs.Common.{◌≡◌, ℕ, zero, suc, ◌≤◌, Bool, true, false, cond, leb, List, [], ◌∷◌, filter, Option, Some, None, refl, sym, subst, le-leb}
 use Rattle.std.specs.Prelude.{slice_get, IsTrue}
 use Rattle.std.specs.List.{list_all, AllByRecursion}
@@ -14,13 +14,18 @@ use Rattle.coalesce.specs.Laws.{is_sent_so, is_side, can_be_sent}
 use Rattle.zoneupdate.specs.Zones.{ZoneState}
 use Rattle.zoneupdate.proofs.Filters.{and-left, and-right, and-both}
 use Rattle.zoneupdate.proofs.RecordSets.{set-only}
+use Rattle.linkcache.specs.Links.{LinkState, IsLink}
+use Rattle.linkcache.specs.Rows.{shown_rows}
+use Rattle.linkcache.proofs.ShownSizes.{shown_fits}
 use Rattle.history.specs.States.{State, home_names, home_of, records}
-use Rattle.history.specs.Standing.{IsAtHome}
+use Rattle.history.specs.AtHome.{IsAtHome}
+use Rattle.history.specs.Laws.{set_at}
 use Rattle.history.specs.declared.entry.Home.{Home}
 use Rattle.history.specs.declared.entry.Home.TheVariants as homes
-use Rattle.history.proofs.ShownAtHome.{rows_at, at_name-zones}
+use Rattle.history.proofs.ShownAtHome.{set-records, at_name-home}
 use Rattle.pushserver.specs.Rows.{AreTold, is_tellable, IsTellable}
 use Rattle.pushserver.proofs.told_rows.Fitting.{HaveRoom, tellable-parts}
+use Rattle.pushserver.proofs.told_rows.HeardRows.{AreHeard, link-shows}
 
 -- ---- one zone
 
@@ -51,13 +56,14 @@ all-picked {X} f p g follows (x ∷ xs) h = by (p x) refl (all-picked f p g foll
 abbrev IsTold : Labels → RecordSet → Type 0
 IsTold name rows = IsTrue (is_side name rows) × IsTrue (can_be_sent rows)
 
-rows-told : (name : Labels) (rows : RecordSet) → RowsTell rows → IsTold name (at_name name rows)
-rows-told name rows tell = (
-  and-both (is_record_set (at_name name rows)) (list_all (is_sent_so name) (at_name name rows)) (set-only (λ key. same_name name key.owner) rows tell.set)
-      (all-picked is_tellable (λ e. same_name name e.0.owner) (is_sent_so name) (sent-from name) rows tell.tellable),
+-- records that can be told, of which those of the name are a set with room
+rows-told : (name : Labels) (rows : RecordSet) → is_record_set (at_name name rows) ≡ true → list_all is_tellable rows ≡ true → size_of (at_name name rows) ≤ max_octets_at_name → IsTold name (at_name name rows)
+rows-told name rows set tellable room = (
+  and-both (is_record_set (at_name name rows)) (list_all (is_sent_so name) (at_name name rows)) set
+      (all-picked is_tellable (λ e. same_name name e.0.owner) (is_sent_so name) (sent-from name) rows tellable),
   and-both (list_all (λ e. leb e.1.ttl last_ttl) (at_name name rows)) (leb (size_of (at_name name rows)) max_octets_at_name)
-      (all-picked is_tellable (λ e. same_name name e.0.owner) (λ e. leb e.1.ttl last_ttl) (λ e _. ttl-from e) rows tell.tellable)
-      (le-leb _ _ (tell.room name)),
+      (all-picked is_tellable (λ e. same_name name e.0.owner) (λ e. leb e.1.ttl last_ttl) (λ e _. ttl-from e) rows tellable)
+      (le-leb _ _ room),
 )
 
 none-told : (name : Labels) → IsTold name (at_name name [])
@@ -90,14 +96,47 @@ tell-at [] tell (suc i) z e = absurd cc
 tell-at (y ∷ zones) tell zero z e = let same : y ≡ z = cc in subst (λ (y : ZoneState). RowsTell y.rows) same tell.0
 tell-at (y ∷ zones) tell (suc i) z e = tell-at zones tell.1 i z e
 
-at-home-told : (name : Labels) (zones : List ZoneState) → ZonesTell zones → (o : Option Home) → IsTold name (at_name name (rows_at zones o))
-at-home-told name zones tell None = none-told name
-at-home-told name zones tell (Some (homes.Link i)) = none-told name
-at-home-told name zones tell (Some (homes.Zone i)) = by (slice_get zones i) refl
-  where
-    by : (o : Option ZoneState) → slice_get zones i ≡ o → IsTold name (at_name name (elim o as (λ _. RecordSet) [ None ↦ [] | Some z ↦ z.rows ]))
-    by None is = none-told name
-    by (Some z) is = rows-told name z.rows (tell-at zones tell i z is)
+-- ---- a link
+
+-- a link whose rows are as datagrams bring them
+record LinkTells (link : LinkState) : Type 0 where
+  pub tellable : list_all is_tellable (shown_rows link.domain link.rows) ≡ true
+  pub room : HaveRoom (shown_rows link.domain link.rows)
+
+link-tells : (links : List LinkState) → AllByRecursion IsLink links → AreHeard links → (i : ℕ) (l : LinkState) → slice_get links i ≡ Some l → LinkTells l
+link-tells [] are heard zero l e = absurd cc
+link-tells [] are heard (suc i) l e = absurd cc
+link-tells (k ∷ links) are heard zero l e =
+    let same : k ≡ l = cc in
+    subst LinkTells same (record { tellable = link-shows k are.0 heard.0; room = shown_fits k.domain k.rows are.0.sound are.0.within })
+link-tells (k ∷ links) are heard (suc i) l e = link-tells links are.1 heard.1 i l e
+
+-- ---- each home
+
+module _ (state : State) (is : IsTellable state) (name : Labels) where
+  abbrev shown_of_home : Option Home → RecordSet
+  shown_of_home home = at_name name (set_at state home)
+
+  home-told : (home : Option Home) → is_record_set (shown_of_home home) ≡ true → IsTold name (shown_of_home home)
+  home-told None set = none-told name
+  home-told (Some (homes.Zone i)) set = by (slice_get state.zones i) refl set
+    where
+      by : (o : Option ZoneState) → slice_get state.zones i ≡ o → is_record_set (at_name name (elim o as (λ _. RecordSet) [ None ↦ [] | Some z ↦ z.rows ])) ≡ true
+          → IsTold name (at_name name (elim o as (λ _. RecordSet) [ None ↦ [] | Some z ↦ z.rows ]))
+      by None e set = none-told name
+      by (Some z) e set = let tell = tell-at state.zones (told-zones state is) i z e in rows-told name z.rows set tell.tellable (tell.room name)
+  home-told (Some (homes.Link i)) set = by (slice_get state.links i) refl set
+    where
+      by : (o : Option LinkState) → slice_get state.links i ≡ o → is_record_set (at_name name (elim o as (λ _. RecordSet) [ None ↦ [] | Some l ↦ shown_rows l.domain l.rows ])) ≡ true
+          → IsTold name (at_name name (elim o as (λ _. RecordSet) [ None ↦ [] | Some l ↦ shown_rows l.domain l.rows ]))
+      by None e set = none-told name
+      by (Some l) e set = let tell = link-tells state.links is.home.links is.heard i l e in rows-told name (shown_rows l.domain l.rows) set tell.tellable (tell.room name)
+
+  told-at : IsTold name (at_name name (records state))
+  told-at =
+      let same = at_name-home state is.home name in
+      let set = set-only (λ key. same_name name key.owner) (records state) (set-records state is.home) in
+      subst (IsTold name) (sym same) (home-told (home_of state name) (subst (λ (rows : RecordSet). is_record_set rows ≡ true) same set))
 
 pub tellable-told : (state : State) → IsTellable state → AreTold (records state)
-tellable-told state is name = subst (IsTold name) (sym (at_name-zones state is.home name)) (at-home-told name state.zones (told-zones state is) (home_of state name))
+tellable-told state is name = told-at state is name

@@ -1,7 +1,7 @@
--- States stay tellable: a start, an update that is entered, and a later moment.
---     update-tellable, moment-tellable, start-tellable
-use Rattle.std.proofs.Common.{◌≡◌, ℕ, suc, ◌+◌, ◌≤◌, Bool, true, false, cond, ltb, eqb, List, [], ◌∷◌, ◌++◌, map, fold, find, length, codes, Option, Some, None, Result, Ok, Err, is_ok, refl, sym, ap, subst, ◌∙◌, arith, ltb-false}
-use Rattle.std.specs.Prelude.{All, IsTrue, is_none}
+-- States stay tellable: a start, an update, a hearing and a reconfirmation that are entered, and a later moment.
+--     update-tellable, hearing-tellable, moment-tellable, reconfirm-tellable, start-tellable
+use Rattle.std.proofs.Common.{◌≡◌, ℕ, suc, ◌+◌, ◌≤◌, Bool, true, false, cond, ltb, eqb, List, [], ◌∷◌, ◌++◌, map, fold, find, length, codes, Option, Some, None, Result, Ok, Err, is_ok, refl, sym, ap, subst, ◌∙◌, arith}
+use Rattle.std.specs.Prelude.{All, IsTrue}
 use Rattle.std.specs.List.{list_all, AllByRecursion}
 use Rattle.std.proofs.lemmas.Bool.{eq-eqb}
 use Rattle.std.proofs.lemmas.List.{append-nil}
@@ -13,28 +13,29 @@ use Rattle.rrset.specs.Kinds.{ns_kind, soa_kind}
 use Rattle.rrset.specs.Rdata.{Field, named, with_field, shape_fits}
 use Rattle.rrset.specs.Records.{key_of, shown_of}
 use Rattle.rrset.specs.RecordSet.{RecordSet, at_name, size_of}
+use Rattle.rrset.specs.declared.record.Key.{Key}
+use Rattle.rrset.specs.declared.record.Hearing.{Hearing}
+use Rattle.dnswire.specs.Reading.{hearing_of}
 use Rattle.dnswire.specs.declared.message.Update.{Update}
 use Rattle.dnswire.proofs.Entries.{done_then, same_done}
 use Rattle.zoneupdate.specs.Zones.{ZoneState, first_soa, first_ns, new_zone}
 use Rattle.zoneupdate.specs.Updates.{judged, changed_by}
-use Rattle.zoneupdate.proofs.Filters.{and-left, and-right}
 use Rattle.zoneupdate.proofs.KeptZone.{changes_of, judged-accepted, set-risen}
 use Rattle.zoneupdate.proofs.NewZone.{label-can, numbers_of, soa_alone, new-size}
 use Rattle.zoneupdate.proofs.RecordSets.{IsSet, set-put_rrs, set-changes}
 use Rattle.zoneupdate.proofs.SoaRdata.{named_then, name_first, soa_fields}
-use Rattle.history.specs.Homes.{NamedHome, home_fault}
-use Rattle.history.specs.Plans.{IsStart, were_added}
-use Rattle.history.specs.declared.entry.HomeFault.{HomeFault}
-use Rattle.history.specs.declared.entry.HomeFault.TheVariants.{Many, Long}
-use Rattle.history.specs.Standing.{AreAtHome, named_zones}
-use Rattle.history.specs.States.{State, home_names, zone_of, zone_asked, zone_for, with_rows, updated, update_in, verdict, link_at_moment, after}
+use Rattle.linkcache.specs.Rows.{LinkRows}
+use Rattle.history.specs.Homes.{NamedHome}
+use Rattle.history.specs.Plans.{IsStart}
+use Rattle.history.specs.AtHome.{AreAtHome, named_zones, named_links, homes_in}
+use Rattle.history.specs.States.{State, LinkState, home_names, zone_of, zone_asked, zone_for, with_rows, updated, update_in, verdict, link_at_moment, after}
 use Rattle.history.specs.declared.entry.Entry.TheVariants as entries
 use Rattle.history.proofs.StatesAtHome.{home-after}
-use Rattle.history.proofs.Starts.{IsNew}
-use Rattle.pushserver.specs.Rows.{is_tellable, IsTellable}
+use Rattle.pushserver.specs.Rows.{is_tellable, is_heard_so, IsTellable}
 use Rattle.dsotlv.specs.Laws.{AreOctets}
 use Rattle.pushserver.proofs.told_rows.Entered.{IsRead, changes_read}
 use Rattle.pushserver.proofs.told_rows.Fitting.{HaveRoom, AreFit, is_fit-from, fit-put_rr, fit-after, all-good, limits-room, all-tellable, all-fit}
+use Rattle.pushserver.proofs.told_rows.HeardRows.{hearing_read, AreHeard, links-heard, links-moment, links-reconfirmed}
 use Rattle.pushserver.proofs.told_rows.Told.{RowsTell, ZonesTell, told-zones, tell-rows, tell-sizes}
 
 -- ---- an update
@@ -113,7 +114,13 @@ update-tellable state message update is octets e =
     let new = step-tells state tell update got.later read (step-of state tell update got.later got.step) in
     let same : got.later ≡ after state (entries.Update update) = sym (ap (λ (r : Result State ℕ). elim r as (λ _. State) [ Err code ↦ state | Ok later ↦ later ]) got.step) in
     let zones = subst (λ (s : State). ZonesTell s.zones) same new in
-    record { home = home-after state is.home (entries.Update update); rows = tell-rows _ zones; sizes = tell-sizes _ zones }
+    let links : got.later.links ≡ state.links = ap (λ (s : State). s.links) (step-of state tell update got.later got.step).is in
+    record {
+      home = home-after state is.home (entries.Update update);
+      rows = tell-rows _ zones;
+      sizes = tell-sizes _ zones;
+      heard = subst (λ (s : State). AreHeard s.links) same (subst AreHeard (sym links) is.heard);
+    }
 
 -- ---- a later moment
 
@@ -124,26 +131,41 @@ moment-tellable state t is =
       home = home-after state is.home (entries.Moment t);
       rows = subst (AllByRecursion (λ z. IsTrue (list_all is_tellable z.rows))) zones is.rows;
       sizes = subst (AllByRecursion (λ (z : ZoneState). (name : Labels) → size_of (at_name name z.rows) ≤ max_octets_at_name)) zones is.sizes;
+      heard = links (ltb state.now t);
     }
   where
     same_zones : (b : Bool) → state.zones ≡ (cond b (record state { now = t; links = map (link_at_moment t) state.links }) state).zones
     same_zones true = refl
     same_zones false = refl
 
+    links : (b : Bool) → AreHeard (cond b (record state { now = t; links = map (link_at_moment t) state.links }) state).links
+    links true = links-moment t state.links is.heard
+    links false = is.heard
+
+-- ---- a hearing, and a reconfirmation
+
+pub hearing-tellable : (state : State) (link : ℕ) (datagram : List ℕ) (hearing : Hearing) → IsTellable state → AreOctets datagram → hearing_of datagram ≡ Ok hearing → IsTellable (after state (entries.Heard link hearing))
+hearing-tellable state link datagram hearing is octets e = record {
+  home = home-after state is.home (entries.Heard link hearing);
+  rows = is.rows;
+  sizes = is.sizes;
+  heard = links-heard state.now link hearing state.links (hearing_read datagram hearing octets e) is.heard;
+}
+
+pub reconfirm-tellable : (state : State) (link : ℕ) (key : Key) → IsTellable state → IsTellable (after state (entries.Reconfirm link key))
+reconfirm-tellable state link key is = record {
+  home = home-after state is.home (entries.Reconfirm link key);
+  rows = is.rows;
+  sizes = is.sizes;
+  heard = links-reconfirmed state.now link key state.links is.heard;
+}
+
 -- ---- a start
 
--- no home is longer than 200 octets
-short-homes : (before : List NamedHome) (zones : List ZoneState) → were_added before (named_zones zones) ≡ true → AllByRecursion (λ z. length (octets z.apex) ≤ max_home_octets) zones
-short-homes before [] h = tt
-short-homes before (z ∷ zones) h = (
-  ltb-false _ _ (by _ (ltb max_home_octets (length (octets z.apex))) _ (and-left (is_none (home_fault before (z.apex, false))) (were_added (before ++ (z.apex, false) ∷ []) (named_zones zones)) h)),
-  short-homes (before ++ (z.apex, false) ∷ []) zones (and-right (is_none (home_fault before (z.apex, false))) (were_added (before ++ (z.apex, false) ∷ []) (named_zones zones)) h),
-)
-  where
-    by : (a b : Bool) (rest : Option HomeFault) → is_none (cond a (Some Many) (cond b (Some Long) rest)) ≡ true → b ≡ false
-    by true b rest e = absurd cc
-    by false true rest e = absurd cc
-    by false false rest e = refl
+-- what holds of each home's name holds of each zone's apex
+of-zones : (P : Labels → Type 0) (zones : List ZoneState) (others : List NamedHome) → AllByRecursion (λ h. P h.0) (named_zones zones ++ others) → AllByRecursion (λ z. P z.apex) zones
+of-zones P [] others h = tt
+of-zones P (z ∷ zones) others h = (h.0, of-zones P zones others h.1)
 
 soa-fits : (apex : Labels) (serial : ℕ) → IsName apex → length (octets apex) ≤ max_home_octets → shape_fits soa_kind (first_soa apex serial).rdata ≡ true
 soa-fits apex serial is short =
@@ -170,6 +192,9 @@ new-tells apex serial writable is short =
     let room : HaveRoom rows = λ name. let size = new-size apex name serial writable short in omega (arith, size) in
     record { set = set-put_rrs (first_soa apex serial ∷ first_ns apex ∷ []) [] refl; tellable = all-tellable rows fit room; room = room }
 
+abbrev IsNew : ZoneState → Type 0
+IsNew z = (serial : ℕ) × (z ≡ new_zone z.apex serial z.writable)
+
 start-tells : (zones : List ZoneState) → All IsNew zones → AllByRecursion (λ z. IsTrue (is_name z.apex)) zones → AllByRecursion (λ z. length (octets z.apex) ≤ max_home_octets) zones → ZonesTell zones
 start-tells [] new names short = tt
 start-tells (z ∷ zones) new names short =
@@ -178,8 +203,13 @@ start-tells (z ∷ zones) new names short =
       start-tells zones (λ k d h. new (suc k) d (omega arith)) names.1 short.1,
     )
 
--- zones alone that may stand together, each with a name: that of their lengths follows
-pub start-tellable : (state : State) → IsStart state → AreAtHome state → AllByRecursion (λ z. IsTrue (is_name z.apex)) state.zones → IsTellable state
+no_rows : (links : List LinkState) → All (λ l. l.rows ≡ []) links → AreHeard links
+no_rows [] none = tt
+no_rows (l ∷ links) none = (ap (λ (rows : LinkRows). list_all is_heard_so rows) (none 0 l (omega arith)), no_rows links (λ k d h. none (suc k) d (omega arith)))
+
+-- homes that stand apart, each with a name
+pub start-tellable : (state : State) → IsStart state → AreAtHome state → AllByRecursion (λ h. IsTrue (is_name h.0)) (homes_in state) → IsTellable state
 start-tellable state start home names =
-    let zones = start-tells state.zones start.zones names (short-homes [] state.zones home.together) in
-    record { home = home; rows = tell-rows state.zones zones; sizes = tell-sizes state.zones zones }
+    let short = of-zones (λ name. length (octets name) ≤ max_home_octets) state.zones (named_links state.links) home.apart.short in
+    let zones = start-tells state.zones start.zones (of-zones (λ name. IsTrue (is_name name)) state.zones (named_links state.links) names) short in
+    record { home = home; rows = tell-rows state.zones zones; sizes = tell-sizes state.zones zones; heard = no_rows state.links start.links }

@@ -1,19 +1,21 @@
-use Rattle.std.proofs.Common.{◌≡◌, ℕ, [], refl}
+use Rattle.std.proofs.Common.{◌≡◌, ℕ, [], length, refl, arith}
 use Rattle.std.proofs.lemmas.List.Elements.{All-nil, All-cons}
-use Rattle.zoneupdate.specs.Zones.{ZoneState, new_zone}
-use Rattle.dnsname.specs.Text.{name}
+use Rattle.std.specs.List.{IsDistinct}
 use Rattle.std.specs.Prelude.{codes, true}
+use Rattle.zoneupdate.specs.Zones.{ZoneState, new_zone}
+use Rattle.dnsname.specs.Names.{octets}
+use Rattle.dnsname.specs.Text.{name}
 use Rattle.history.specs.States.{LinkState}
 use Rattle.pushtelling.proofs.worked_runs.Goals as goal
 
 pub returns-clause-start : goal.returns-clause-start
+unfolding IsDistinct
 returns-clause-start c = record {
   begins = record {
     zones = All-cons (λ (z : ZoneState). (serial : ℕ) × (z ≡ new_zone z.apex serial z.writable)) (new_zone (name (codes "example.com.")) 1 true) [] (1, refl) (All-nil (λ (z : ZoneState). (serial : ℕ) × (z ≡ new_zone z.apex serial z.writable)));
     links = All-nil (λ (l : LinkState). l.rows ≡ []);
     now = refl;
   };
-  links = refl;
-  together = refl;
+  apart = record { apart = (tt, tt); short = ((let few : length (octets (name (codes "example.com."))) ≡ 13 = refl in omega (arith, few)), tt) };
   names = (refl, tt);
 }

@@ -18,7 +18,7 @@ use Rattle.replay.specs.Lines.{ScriptLine}
 use Rattle.replay.specs.World.{World, Seat, start_world}
 use Rattle.replay.specs.TextWords.{ShowTold, with_records, by_notices, is_filling, told_of}
 use Rattle.replay.specs.Text.{world_after}
-use Rattle.replay.specs.Headline.{ClientStandsFor, EndsStandFor, shows_records}
+use Rattle.replay.specs.Promises.{ClientStandsFor, EndsStandFor, shows_records}
 use Rattle.replay.specs.declared.world.World as program
 use Rattle.replay.specs.declared.script.Script.{Script}
 use Rattle.replay.specs.declared.ends.Ends.{Ends}

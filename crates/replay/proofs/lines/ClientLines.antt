@@ -3,7 +3,7 @@ use Rattle.std.proofs.Common.{◌≡◌, ℕ, ◌<◌, ◌⊎◌, Bool, true, fa
 use Rattle.std.specs.Prelude.{find, drop, get_or, ◌+◌, option_map, option_to_list, codes, string_bytes}
 use Rattle.std.specs.declared.alloc.Global.{Global}
 use Rattle.std.specs.declared.string.String.{String}
-use Rattle.std.specs.List.{onto_first, list_all, join_with_byte}
+use Rattle.std.specs.List.{cons_option, onto_first, list_all, join_with_byte}
 use Rattle.std.specs.Str.{is_utf8, bytes_eq}
 use Rattle.std.proofs.lemmas.Bool.{cases_Bool}
 use Rattle.std.proofs.lemmas.Bool.Decides.{nat_tests}
@@ -13,83 +13,47 @@ use Rattle.std.proofs.lemmas.List.Splits.{join_with_byte-slice_split}
 use Rattle.push_base.specs.Cases.{is_empty}
 use Rattle.push_base.specs.Optional.{◌>>=◌}
 use Rattle.dnsname.proofs.Decisions.{and_true}
-use Rattle.replay.specs.Lines.{lines_by, Word, ScriptLine, silent, client, lone, update, hear, ask, drop_question, open_connection, cut, say, up, emit, down, settle, send, feed, point, word, is, of_word, by_first_word, of_words, line_of, is_word_octet}
+use Rattle.replay.specs.Lines.{words_in, Word, ScriptLine, silent, client, lone, update, hear, ask, drop_question, open_connection, cut, say, up, emit, down, settle, send, feed, point, word, of_word, kind_of, line_behind, of_words, line_of, is_word_octet}
+use Rattle.replay.specs.declared.line.Kind.{Kind}
+use Rattle.replay.specs.declared.line.Kind.TheVariants as kinds
 use Rattle.replay.specs.Scripts.{onto_line, lines_in, client_word, client_words, is_among, last_is_outside, lone_in, lines_left}
-use Rattle.replay.specs.KeptLines.{words_in}
-use Rattle.replay.specs.Drafts.{client_in, has_client, known_clients}
+use Rattle.replay.specs.Drafts.{client_in, is_any_word, known_clients}
 use Rattle.replay.specs.declared.clients.KnownClient.{KnownClient}
-use Rattle.replay.proofs.lines.LineKinds.{chosen_none, timers_none, zone_none, link_none, word_none, at_none, octets_none, word_octets_none, word_question_none, reconfirm_none, word_number_none, stop_none, alone_none, show_none, is_that}
+use Rattle.replay.proofs.lines.LineKinds.{timers_none, zone_none, link_none, word_none, at_none, octets_none, word_octets_none, word_question_none, reconfirm_none, word_number_none, stop_none, alone_none, show_none, IsFirst, first_word}
 
 -- ---- the client that a line names
 
-other_client : (w : Word) (ws : List Word) → is w (codes "client") ≡ false → is w (codes "lone") ≡ false → (by_first_word w ws >>= client_word) ≡ None
-other_client w ws no_client no_lone = chosen_none client_word (lines_by w ws) (
-  inr (timers_none client_word (λ i k. refl) ws),
-  (
-    inr (zone_none client_word (λ n s b. refl) ws),
-    (
-      inr (link_none client_word (λ v n. refl) ws),
-      (
-        inl no_client,
-        (
-          inl no_lone,
-          (
-            inr (at_none client_word (λ t. refl) ws),
-            (
-              inr (octets_none client_word update (λ o. refl) ws),
-              (
-                inr (word_octets_none client_word hear (λ v o. refl) ws),
-                (
-                  inr (word_question_none client_word ask (λ v q. refl) ws),
-                  (
-                    inr (word_question_none client_word drop_question (λ v q. refl) ws),
-                    (
-                      inr (reconfirm_none client_word (λ v rr. refl) ws),
-                      (
-                        inr (word_none client_word open_connection (λ v. refl) ws),
-                        (
-                          inr (word_none client_word cut (λ v. refl) ws),
-                          (
-                            inr (word_number_none client_word say (λ v n. refl) ws),
-                            (
-                              inr (word_number_none client_word up (λ v n. refl) ws),
-                              (
-                                inr (word_number_none client_word emit (λ v n. refl) ws),
-                                (
-                                  inr (word_number_none client_word down (λ v n. refl) ws),
-                                  (
-                                    inr (word_none client_word settle (λ v. refl) ws),
-                                    (
-                                      inr (word_octets_none client_word send (λ v o. refl) ws),
-                                      (
-                                        inr (word_octets_none client_word feed (λ v o. refl) ws),
-                                        (
-                                          inr (stop_none client_word (λ v r d. refl) ws),
-                                          (
-                                            inr (alone_none client_word point refl ws),
-                                            (inr (show_none client_word (λ v q n. refl) ws), tt),
-                                          ),
-                                        ),
-                                      ),
-                                    ),
-                                  ),
-                                ),
-                              ),
-                            ),
-                          ),
-                        ),
-                      ),
-                    ),
-                  ),
-                ),
-              ),
-            ),
-          ),
-        ),
-      ),
-    ),
-  ),
-)
+-- what is said by a line that makes a client
+abbrev client_said : Kind → List Word → Option Word
+client_said kinds.Client ws = of_word client ws >>= client_word
+client_said kinds.Lone ws = of_word lone ws >>= client_word
+client_said _ ws = None
+
+client_behind_kind : (kind : Kind) (ws : List Word) → (line_behind kind ws >>= client_word) ≡ client_said kind ws
+client_behind_kind kinds.Timers ws = timers_none client_word (λ i k. refl) ws
+client_behind_kind kinds.Zone ws = zone_none client_word (λ n s b. refl) ws
+client_behind_kind kinds.Link ws = link_none client_word (λ v n. refl) ws
+client_behind_kind kinds.At ws = at_none client_word (λ t. refl) ws
+client_behind_kind kinds.Update ws = octets_none client_word update (λ o. refl) ws
+client_behind_kind kinds.Hear ws = word_octets_none client_word hear (λ v o. refl) ws
+client_behind_kind kinds.Send ws = word_octets_none client_word send (λ v o. refl) ws
+client_behind_kind kinds.Stop ws = stop_none client_word (λ v r d. refl) ws
+client_behind_kind kinds.Cut ws = word_none client_word cut (λ v. refl) ws
+client_behind_kind kinds.Point ws = alone_none client_word point refl ws
+client_behind_kind kinds.Client ws = refl
+client_behind_kind kinds.Lone ws = refl
+client_behind_kind kinds.Open ws = word_none client_word open_connection (λ v. refl) ws
+client_behind_kind kinds.Ask ws = word_question_none client_word ask (λ v q. refl) ws
+client_behind_kind kinds.Drop ws = word_question_none client_word drop_question (λ v q. refl) ws
+client_behind_kind kinds.Reconfirm ws = reconfirm_none client_word (λ v rr. refl) ws
+client_behind_kind kinds.Say ws = word_number_none client_word say (λ v n. refl) ws
+client_behind_kind kinds.Up ws = word_number_none client_word up (λ v n. refl) ws
+client_behind_kind kinds.Emit ws = word_number_none client_word emit (λ v n. refl) ws
+client_behind_kind kinds.Down ws = word_number_none client_word down (λ v n. refl) ws
+client_behind_kind kinds.Settle ws = word_none client_word settle (λ v. refl) ws
+client_behind_kind kinds.Feed ws = word_octets_none client_word feed (λ v o. refl) ws
+client_behind_kind kinds.Show ws = show_none client_word (λ v q n. refl) ws
+client_behind_kind kinds.Other ws = refl
 
 -- ---- a line that names a client is that text
 
@@ -108,24 +72,14 @@ client_behind line says (x ∷ y ∷ ws) v h = absurd cc
 abbrev NamesClient : List Word → Word → Type 0
 NamesClient parts v = (parts ≡ codes "client" ∷ v ∷ []) ⊎ (parts ≡ codes "lone" ∷ v ∷ [])
 
-client_first : (w : Word) (ws : List Word) (v : Word) → (by_first_word w ws >>= client_word) ≡ Some v → NamesClient (w ∷ ws) v
-client_first w ws v h = elim (cases_Bool (is w (codes "client"))) [
-  | inl is_client ↦
-      let same = is_that w (codes "client") is_client in
-      let read : (of_word client ws >>= client_word) ≡ Some v = subst (λ (u : Word). (by_first_word u ws >>= client_word) ≡ Some v) same h in
-      inl (ap (λ (u : Word). u ∷ ws) same ∙ ap (λ (us : List Word). codes "client" ∷ us) (client_behind client (λ u. refl) ws v read))
-  | inr no_client ↦ elim (cases_Bool (is w (codes "lone"))) [
-    | inl is_lone ↦
-        let same = is_that w (codes "lone") is_lone in
-        let read : (of_word lone ws >>= client_word) ≡ Some v = subst (λ (u : Word). (by_first_word u ws >>= client_word) ≡ Some v) same h in
-        inr (ap (λ (u : Word). u ∷ ws) same ∙ ap (λ (us : List Word). codes "lone" ∷ us) (client_behind lone (λ u. refl) ws v read))
-    | inr no_lone ↦ let none : None ≡ Some v = sym (other_client w ws no_client no_lone) ∙ h in absurd cc
-  ]
-]
+client_first : (w : Word) (ws : List Word) (v : Word) (kind : Kind) → IsFirst w kind → client_said kind ws ≡ Some v → NamesClient (w ∷ ws) v
+client_first w ws v kinds.Client first said = inl (ap (λ (u : Word). u ∷ ws) first ∙ ap (λ (us : List Word). codes "client" ∷ us) (client_behind client (λ u. refl) ws v said))
+client_first w ws v kinds.Lone first said = inr (ap (λ (u : Word). u ∷ ws) first ∙ ap (λ (us : List Word). codes "lone" ∷ us) (client_behind lone (λ u. refl) ws v said))
+client_first w ws v _ first said = absurd cc
 
 client_parts : (parts : List Word) (v : Word) → (of_words parts >>= client_word) ≡ Some v → NamesClient parts v
 client_parts [] v h = absurd cc
-client_parts (w ∷ ws) v h = client_first w ws v h
+client_parts (w ∷ ws) v h = client_first w ws v (kind_of w) (first_word w) (sym (client_behind_kind (kind_of w) ws) ∙ h)
 
 comment_client : (utf8 : Bool) → (cond utf8 (Some silent) None >>= client_word) ≡ None
 comment_client true = refl
@@ -214,14 +168,14 @@ words_more : (o : Option ScriptLine) (lines : List (Option ScriptLine)) → clie
 words_more None lines = refl
 words_more (Some line) lines = by_word (client_word line)
   where
-    by_word : (r : Option Word) → elim r [ None ↦ client_words lines | Some v ↦ v ∷ client_words lines ] ≡ option_to_list r ++ client_words lines
+    by_word : (r : Option Word) → cons_option r (client_words lines) ≡ option_to_list r ++ client_words lines
     by_word None = refl
     by_word (Some v) = refl
 
--- a client is one of those with these words
-pub any_client : (clients : List (String Global)) (w : Word) → has_client w clients ≡ is_among (map (λ c. string_bytes c) clients) w
-any_client [] w = refl
-any_client (c ∷ cs) w = ap (λ (b : Bool). bytes_eq w (string_bytes c) || b) (any_client cs w)
+-- a word is one of these
+pub any_word : (words : List (String Global)) (w : Word) → is_any_word w words ≡ is_among (map (λ c. string_bytes c) words) w
+any_word [] w = refl
+any_word (c ∷ cs) w = ap (λ (b : Bool). bytes_eq w (string_bytes c) || b) (any_word cs w)
 
 -- ---- a client that there is
 

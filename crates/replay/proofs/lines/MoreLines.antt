@@ -3,42 +3,42 @@
 --     adds      what a line that may stand there makes of them
 use Rattle.std.proofs.Common.{◌≡◌, ℕ, ◌+◌, Bool, true, false, cond, not, ◌||◌, ◌==◌, Option, Some, None, List, [], ◌∷◌, ◌++◌, map, find, length, zero, suc, refl, sym, ◌∙◌, ap, subst, arith, length-append}
 use Rattle.std.specs.Prelude.{is_some, option_map, option_to_list, string_bytes, unwrap_or, All, filter_map}
-use Rattle.std.specs.List.{AllByRecursion, list_any, cons_option}
+use Rattle.std.specs.List.{list_any, cons_option}
 use Rattle.std.specs.Str.{bytes_eq}
 use Rattle.std.proofs.lemmas.Bool.Decides.{nat_tests}
 use Rattle.std.proofs.lemmas.List.{append-nil, map-append}
 use Rattle.std.proofs.lemmas.List.Elements.{All-append, filter_map-append}
 use Rattle.dnsname.proofs.Decisions.{and_true}
 use Rattle.rrset.proofs.Distinct.{distinct_push, distinct_none}
-use Rattle.coalesce.proofs.ReadBack.{each-append}
 use Rattle.dsosession.specs.declared.session.Timers.{Timers}
 use Rattle.dsosession.specs.Timing.{default_timers}
 use Rattle.zoneupdate.specs.Zones.{ZoneState, new_zone}
 use Rattle.history.specs.Homes.{NamedHome}
-use Rattle.history.specs.States.{State}
+use Rattle.history.specs.States.{State, LinkState}
 use Rattle.history.specs.Plans.{IsStart}
-use Rattle.history.specs.Keeping.{HomesKept, state_of}
+use Rattle.history.specs.Kept.{HomesKept, state_of}
 use Rattle.replay.specs.Lines.{Word, ScriptLine}
 use Rattle.replay.specs.Scripts.{Known, fits, may_follow, allowed, client_word, lone_in}
 use Rattle.replay.specs.World.{Head, empty_head, with_head_line}
 use Rattle.replay.specs.declared.line.ZoneLine.{ZoneLine}
+use Rattle.replay.specs.declared.line.LinkLine.{LinkLine}
 use Rattle.replay.specs.declared.line.Event.{Event}
 use Rattle.replay.specs.declared.line.Event.TheVariants as events
 use Rattle.replay.specs.declared.line.Line.{Line}
 use Rattle.replay.specs.declared.line.Line.TheVariants as lines
-use Rattle.replay.specs.KeptLines.{timers_said, zone_said, event_said, said, IsEvent, IsSound}
+use Rattle.replay.specs.KeptLines.{timers_said, zone_said, link_said, event_said, said}
 use Rattle.replay.specs.KeptScripts.{events_said}
 use Rattle.replay.specs.KeptWorlds.{AreDistinct}
-use Rattle.replay.specs.Drafts.{Taken, known_of, known_by, client_added, may_stand, with_zone, HasZone, GrowsBy}
+use Rattle.replay.specs.Drafts.{Taken, known_of, known_by, client_added, may_stand, with_zone, HasZone, with_link, HasLink, GrowsBy}
 use Rattle.replay.specs.BuiltScripts.{is_built}
 use Rattle.replay.proofs.worlds.Seats.{same_word, word_itself, other_way}
 use Rattle.replay.proofs.lines.Happening.{happening, happening-more, head_behind, head-more}
 
-abbrev pub head_of : Option Timers → State → Head
-head_of timers start = record { timers = unwrap_or timers default_timers; start = start; links = [] }
+abbrev pub head_of : Option Timers → State → List Word → Head
+head_of timers start links = record { timers = unwrap_or timers default_timers; start = start; links = links }
 
 abbrev pub head_taken : Taken → Head
-head_taken taken = head_of taken.timers (state_of taken.homes)
+head_taken taken = head_of taken.timers (state_of taken.homes) taken.links
 
 abbrev pub words_known : List (Word × Bool) → List Word
 words_known clients = map (λ e. e.0) clients
@@ -48,18 +48,20 @@ pub record AreLines (front : List ScriptLine) (taken : Taken) : Type 0 where
   pub happen : happening front ≡ events_said taken.events
   pub head : head_behind empty_head front ≡ head_taken taken
   pub start : IsStart (state_of taken.homes)
-  pub are_events : AllByRecursion IsEvent (events_said taken.events)
   pub named : filter_map client_word (events_said taken.events) ≡ words_known taken.clients
   pub distinct : AreDistinct (words_known taken.clients)
 
-abbrev pub nothing_taken : Taken
-nothing_taken = record { timers = None; homes = []; events = []; clients = [] }
+abbrev pub no_homes : HomesKept
+no_homes = record { zones = []; links = []; names = [] }
 
-no_start : IsStart (state_of [])
+abbrev pub nothing_taken : Taken
+nothing_taken = record { timers = None; homes = no_homes; links = []; events = []; clients = [] }
+
+no_start : IsStart (state_of no_homes)
 no_start = record { zones = λ k d before. absurd (omega (arith, before)); links = λ k d before. absurd (omega (arith, before)); now = refl }
 
 pub no_lines : AreLines [] nothing_taken
-no_lines = record { happen = refl; head = refl; start = no_start; are_events = tt; named = refl; distinct = distinct_none bytes_eq }
+no_lines = record { happen = refl; head = refl; start = no_start; named = refl; distinct = distinct_none bytes_eq }
 
 -- what a line that may stand there makes of the head and the events
 pub record Adds (all : List Word) (taken : Taken) (line : Line) (later : Taken) : Type 0 where
@@ -85,7 +87,7 @@ silent_adds : (all : List Word) (taken : Taken) → Adds all taken lines.Silent 
 silent_adds all taken = record {
   built = refl;
   fit = refl;
-  lines = λ front are. record { happen = happen-head front taken _ are refl; head = head-then front taken _ are; start = are.start; are_events = are.are_events; named = are.named; distinct = are.distinct };
+  lines = λ front are. record { happen = happen-head front taken _ are refl; head = head-then front taken _ are; start = are.start; named = are.named; distinct = are.distinct };
 }
 
 abbrev with_timers : Taken → Timers → Taken
@@ -95,7 +97,7 @@ timers_adds : (all : List Word) (taken : Taken) (t : Timers) → may_stand all (
 timers_adds all taken t h = record {
   built = refl;
   fit = allowed_some _ _ h;
-  lines = λ front are. record { happen = happen-head front taken (timers_said t) are refl; head = head-then front taken (timers_said t) are; start = are.start; are_events = are.are_events; named = are.named; distinct = are.distinct };
+  lines = λ front are. record { happen = happen-head front taken (timers_said t) are refl; head = head-then front taken (timers_said t) are; start = are.start; named = are.named; distinct = are.distinct };
 }
 
 -- ---- a zone
@@ -122,9 +124,39 @@ zone_adds all taken homes z h has = record {
   fit = allowed_some _ _ h ∙ ap (λ (names : List NamedHome). Some (record (known_of taken) { homes = names })) (sym has.named);
   lines = λ front are. record {
     happen = happen-head front taken (zone_said z) are refl;
-    head = head-then front taken (zone_said z) are ∙ ap (head_of taken.timers) (sym has.state);
+    head = head-then front taken (zone_said z) are ∙ ap (λ (s : State). head_of taken.timers s taken.links) (sym has.state);
     start = subst IsStart (sym has.state) (start_more (state_of taken.homes) z are.start);
-    are_events = are.are_events;
+    named = are.named;
+    distinct = are.distinct;
+  };
+}
+
+-- ---- a link
+
+abbrev link_of : LinkLine → LinkState
+link_of l = record { domain = l.domain; rows = [] }
+
+abbrev IsSilent : LinkState → Type 0
+IsSilent l = l.rows ≡ []
+
+one_silent : (l : LinkLine) → All IsSilent (link_of l ∷ [])
+one_silent l zero d before = refl
+one_silent l (suc k) d before = absurd (omega (arith, before))
+
+start_linked : (start : State) (l : LinkLine) → IsStart start → IsStart (with_link start (link_of l))
+start_linked start l is = record { zones = is.zones; links = All-append IsSilent start.links (link_of l ∷ []) is.links (one_silent l); now = is.now }
+
+abbrev with_linked : Taken → HomesKept → Word → Taken
+with_linked taken homes w = record taken { homes = homes; links = taken.links ++ w ∷ [] }
+
+link_adds : (all : List Word) (taken : Taken) (homes : HomesKept) (l : LinkLine) → may_stand all (known_of taken) (link_said l) ≡ true → HasLink taken.homes l homes → Adds all taken (lines.Link l) (with_linked taken homes (string_bytes l.word))
+link_adds all taken homes l h has = record {
+  built = refl;
+  fit = allowed_some _ _ h ∙ ap (λ (names : List NamedHome). Some (record (known_of taken) { homes = names; links = taken.links ++ string_bytes l.word ∷ [] })) (sym has.named);
+  lines = λ front are. record {
+    happen = happen-head front taken (link_said l) are refl;
+    head = head-then front taken (link_said l) are ∙ ap (λ (s : State). head_of taken.timers s (taken.links ++ string_bytes l.word ∷ [])) (sym has.state);
+    start = subst IsStart (sym has.state) (start_linked (state_of taken.homes) l are.start);
     named = are.named;
     distinct = are.distinct;
   };
@@ -150,7 +182,7 @@ some-allowed true known = refl
 some-allowed false known = refl
 
 -- an event may stand there as its word may
-pub may-happen : (all : List Word) (taken : Taken) (e : Event) → may_stand all (known_of taken) (event_said e) ≡ may_follow all (known_by taken.clients) (event_said e)
+pub may-happen : (all : List Word) (taken : Taken) (e : Event) → may_stand all (known_of taken) (event_said e) ≡ may_follow all (known_by taken.links taken.clients) (event_said e)
 may-happen all taken (events.Update o) = refl
 may-happen all taken (events.Send s) = some-allowed _ _
 may-happen all taken events.Point = refl
@@ -162,9 +194,15 @@ may-happen all taken (events.Lone l) = some-allowed _ _
 may-happen all taken (events.Ask a) = some-allowed _ _
 may-happen all taken (events.Drop a) = some-allowed _ _
 may-happen all taken (events.Open o) = some-allowed _ _
+may-happen all taken (events.Say p) = some-allowed _ _
+may-happen all taken (events.Up p) = some-allowed _ _
+may-happen all taken (events.Emit p) = some-allowed _ _
+may-happen all taken (events.Down p) = some-allowed _ _
 may-happen all taken (events.Settle s) = some-allowed _ _
 may-happen all taken (events.Feed s) = some-allowed _ _
 may-happen all taken (events.Show s) = some-allowed _ _
+may-happen all taken (events.Hear s) = some-allowed _ _
+may-happen all taken (events.Reconfirm r) = some-allowed _ _
 
 event_fits : (all : List Word) (taken : Taken) (e : Event) → is_some (fits all (known_of taken) (event_said e)) ≡ true → fits all (known_of taken) (event_said e) ≡ Some (known_of (with_event taken e))
 event_fits all taken (events.Update o) h = known_then taken (events.Update o) taken.clients (append-nil taken.clients)
@@ -180,7 +218,13 @@ event_fits all taken (events.Drop a) h = allowed_some _ _ h ∙ known_then taken
 event_fits all taken (events.Open o) h = allowed_some _ _ h ∙ known_then taken (events.Open o) taken.clients (append-nil taken.clients)
 event_fits all taken (events.Feed s) h = allowed_some _ _ h ∙ known_then taken (events.Feed s) taken.clients (append-nil taken.clients)
 event_fits all taken (events.Show s) h = allowed_some _ _ h ∙ known_then taken (events.Show s) taken.clients (append-nil taken.clients)
+event_fits all taken (events.Say p) h = allowed_some _ _ h ∙ known_then taken (events.Say p) taken.clients (append-nil taken.clients)
+event_fits all taken (events.Up p) h = allowed_some _ _ h ∙ known_then taken (events.Up p) taken.clients (append-nil taken.clients)
+event_fits all taken (events.Emit p) h = allowed_some _ _ h ∙ known_then taken (events.Emit p) taken.clients (append-nil taken.clients)
+event_fits all taken (events.Down p) h = allowed_some _ _ h ∙ known_then taken (events.Down p) taken.clients (append-nil taken.clients)
 event_fits all taken (events.Settle s) h = allowed_some _ _ h ∙ known_then taken (events.Settle s) taken.clients (append-nil taken.clients)
+event_fits all taken (events.Hear s) h = allowed_some _ _ h ∙ known_then taken (events.Hear s) taken.clients (append-nil taken.clients)
+event_fits all taken (events.Reconfirm r) h = allowed_some _ _ h ∙ known_then taken (events.Reconfirm r) taken.clients (append-nil taken.clients)
 
 event_happens : (e : Event) → happening (event_said e ∷ []) ≡ event_said e ∷ []
 event_happens (events.Update o) = refl
@@ -196,7 +240,13 @@ event_happens (events.Drop a) = refl
 event_happens (events.Open o) = refl
 event_happens (events.Feed s) = refl
 event_happens (events.Show s) = refl
+event_happens (events.Say p) = refl
+event_happens (events.Up p) = refl
+event_happens (events.Emit p) = refl
+event_happens (events.Down p) = refl
 event_happens (events.Settle s) = refl
+event_happens (events.Hear s) = refl
+event_happens (events.Reconfirm r) = refl
 
 event_heads : (head : Head) (e : Event) → with_head_line head (event_said e) ≡ head
 event_heads head (events.Update o) = refl
@@ -212,7 +262,13 @@ event_heads head (events.Drop a) = refl
 event_heads head (events.Open o) = refl
 event_heads head (events.Feed s) = refl
 event_heads head (events.Show s) = refl
+event_heads head (events.Say p) = refl
+event_heads head (events.Up p) = refl
+event_heads head (events.Emit p) = refl
+event_heads head (events.Down p) = refl
 event_heads head (events.Settle s) = refl
+event_heads head (events.Hear s) = refl
+event_heads head (events.Reconfirm r) = refl
 
 pub event-built : (e : Event) → is_built (event_said e) ≡ true
 event-built (events.Update o) = refl
@@ -228,7 +284,13 @@ event-built (events.Drop a) = refl
 event-built (events.Open o) = refl
 event-built (events.Feed s) = refl
 event-built (events.Show s) = refl
+event-built (events.Say p) = refl
+event-built (events.Up p) = refl
+event-built (events.Emit p) = refl
+event-built (events.Down p) = refl
 event-built (events.Settle s) = refl
+event-built (events.Hear s) = refl
+event-built (events.Reconfirm r) = refl
 
 -- ---- the words of the clients
 
@@ -271,9 +333,15 @@ words-added (events.Lone l) = refl
 words-added (events.Ask a) = refl
 words-added (events.Drop a) = refl
 words-added (events.Open o) = refl
+words-added (events.Say p) = refl
+words-added (events.Up p) = refl
+words-added (events.Emit p) = refl
+words-added (events.Down p) = refl
 words-added (events.Settle s) = refl
 words-added (events.Feed s) = refl
 words-added (events.Show s) = refl
+words-added (events.Hear s) = refl
+words-added (events.Reconfirm r) = refl
 
 words-then : (taken : Taken) (e : Event) → words_known (taken.clients ++ client_added (event_said e)) ≡ words_known taken.clients ++ option_to_list (client_word (event_said e))
 words-then taken e = words-more taken.clients (event_said e) ∙ ap (λ (ws : List Word). words_known taken.clients ++ ws) (words-added e)
@@ -281,7 +349,7 @@ words-then taken e = words-more taken.clients (event_said e) ∙ ap (λ (ws : Li
 distinct-new : (clients : List (Word × Bool)) (w : Word) → not (is_some (lone_in clients w)) ≡ true → AreDistinct (words_known clients) → AreDistinct (words_known clients ++ w ∷ [])
 distinct-new clients w h d = distinct_push bytes_eq (words_known clients) w d (among-known clients w ∙ not_true (is_some (lone_in clients w)) h)
 
-distinct-more : (all : List Word) (taken : Taken) (e : Event) → may_follow all (known_by taken.clients) (event_said e) ≡ true → AreDistinct (words_known taken.clients) → AreDistinct (words_known taken.clients ++ option_to_list (client_word (event_said e)))
+distinct-more : (all : List Word) (taken : Taken) (e : Event) → may_follow all (known_by taken.links taken.clients) (event_said e) ≡ true → AreDistinct (words_known taken.clients) → AreDistinct (words_known taken.clients ++ option_to_list (client_word (event_said e)))
 distinct-more all taken (events.Client j) h d = distinct-new taken.clients (string_bytes j.word) h d
 distinct-more all taken (events.Lone l) h d = distinct-new taken.clients (string_bytes l.word) h d
 distinct-more all taken (events.Update o) h d = subst AreDistinct (sym (append-nil (words_known taken.clients))) d
@@ -293,12 +361,18 @@ distinct-more all taken (events.Cut c) h d = subst AreDistinct (sym (append-nil 
 distinct-more all taken (events.Ask a) h d = subst AreDistinct (sym (append-nil (words_known taken.clients))) d
 distinct-more all taken (events.Drop a) h d = subst AreDistinct (sym (append-nil (words_known taken.clients))) d
 distinct-more all taken (events.Open o) h d = subst AreDistinct (sym (append-nil (words_known taken.clients))) d
+distinct-more all taken (events.Say p) h d = subst AreDistinct (sym (append-nil (words_known taken.clients))) d
+distinct-more all taken (events.Up p) h d = subst AreDistinct (sym (append-nil (words_known taken.clients))) d
+distinct-more all taken (events.Emit p) h d = subst AreDistinct (sym (append-nil (words_known taken.clients))) d
+distinct-more all taken (events.Down p) h d = subst AreDistinct (sym (append-nil (words_known taken.clients))) d
 distinct-more all taken (events.Settle s) h d = subst AreDistinct (sym (append-nil (words_known taken.clients))) d
 distinct-more all taken (events.Feed s) h d = subst AreDistinct (sym (append-nil (words_known taken.clients))) d
 distinct-more all taken (events.Show s) h d = subst AreDistinct (sym (append-nil (words_known taken.clients))) d
+distinct-more all taken (events.Hear s) h d = subst AreDistinct (sym (append-nil (words_known taken.clients))) d
+distinct-more all taken (events.Reconfirm r) h d = subst AreDistinct (sym (append-nil (words_known taken.clients))) d
 
-event_adds : (all : List Word) (taken : Taken) (e : Event) → IsEvent (event_said e) → may_stand all (known_of taken) (event_said e) ≡ true → Adds all taken (lines.Event e) (with_event taken e)
-event_adds all taken e sound h =
+event_adds : (all : List Word) (taken : Taken) (e : Event) → may_stand all (known_of taken) (event_said e) ≡ true → Adds all taken (lines.Event e) (with_event taken e)
+event_adds all taken e h =
     let both = and_true (is_built (event_said e)) (is_some (fits all (known_of taken) (event_said e))) h in
     let more : events_said (taken.events ++ e ∷ []) ≡ events_said taken.events ++ event_said e ∷ [] = map-append event_said taken.events (e ∷ []) in
     record {
@@ -312,7 +386,6 @@ event_adds all taken e sound h =
             ∙ sym more;
         head = head-then front taken (event_said e) are ∙ event_heads (head_taken taken) e;
         start = are.start;
-        are_events = subst (AllByRecursion IsEvent) (sym more) (each-append IsEvent (events_said taken.events) (event_said e ∷ []) are.are_events (sound, tt));
         named =
             ap (filter_map client_word) more
             ∙ filter_map-append client_word (events_said taken.events) (event_said e ∷ [])
@@ -327,8 +400,9 @@ event_adds all taken e sound h =
 moved : (all : List Word) (taken same later : Taken) (line : Line) → later ≡ same → Adds all taken line same → Adds all taken line later
 moved all taken same later line e adds = subst (λ (t : Taken). Adds all taken line t) (sym e) adds
 
-pub adds : (all : List Word) (taken later : Taken) (line : Line) → IsSound line → may_stand all (known_of taken) (said line) ≡ true → GrowsBy taken line later → Adds all taken line later
-adds all taken later lines.Silent sound h grows = moved all taken taken later lines.Silent grows (silent_adds all taken)
-adds all taken later (lines.Timers t) sound h grows = moved all taken (with_timers taken t) later (lines.Timers t) grows (timers_adds all taken t h)
-adds all taken later (lines.Zone z) sound h grows = moved all taken (with_homes taken later.homes) later (lines.Zone z) grows.1 (zone_adds all taken later.homes z h grows.0)
-adds all taken later (lines.Event e) sound h grows = moved all taken (with_event taken e) later (lines.Event e) grows (event_adds all taken e sound h)
+pub adds : (all : List Word) (taken later : Taken) (line : Line) → may_stand all (known_of taken) (said line) ≡ true → GrowsBy taken line later → Adds all taken line later
+adds all taken later lines.Silent h grows = moved all taken taken later lines.Silent grows (silent_adds all taken)
+adds all taken later (lines.Timers t) h grows = moved all taken (with_timers taken t) later (lines.Timers t) grows (timers_adds all taken t h)
+adds all taken later (lines.Zone z) h grows = moved all taken (with_homes taken later.homes) later (lines.Zone z) grows.1 (zone_adds all taken later.homes z h grows.0)
+adds all taken later (lines.Link l) h grows = moved all taken (with_linked taken later.homes (string_bytes l.word)) later (lines.Link l) grows.1 (link_adds all taken later.homes l h grows.0)
+adds all taken later (lines.Event e) h grows = moved all taken (with_event taken e) later (lines.Event e) grows (event_adds all taken e h)

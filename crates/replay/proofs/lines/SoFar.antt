@@ -1,15 +1,16 @@
 -- A script that is read line by line.
 use Rattle.std.proofs.Common.{◌≡◌, ℕ, ◌+◌, ◌≤◌, Bool, true, false, cond, ◌&&◌, Option, Some, None, Result, Ok, Err, List, [], ◌∷◌, ◌++◌, length, nat_lt, refl, sym, ◌∙◌, ap, subst, inl, inr, arith, append_assoc}
 use Rattle.std.specs.Prelude.{is_some, unwrap_or, filter_map}
+use Rattle.std.specs.declared.alloc.Global.{Global}
+use Rattle.std.specs.declared.string.String.{String}
 use Rattle.replay.specs.declared.clients.KnownClient.{KnownClient}
-use Rattle.std.specs.List.{AllByRecursion}
 use Rattle.std.proofs.lemmas.Bool.{cases_Bool}
 use Rattle.std.proofs.lemmas.Option.{cond_some}
 use Rattle.std.proofs.lemmas.List.{append-nil}
 use Rattle.push_base.specs.Cases.{is_empty}
 use Rattle.dsosession.specs.declared.session.Timers.{Timers}
 use Rattle.dsosession.specs.Timing.{default_timers}
-use Rattle.history.specs.Keeping.{HomesKept, state_of}
+use Rattle.history.specs.Kept.{HomesKept, state_of}
 use Rattle.history.specs.Plans.{IsStart}
 use Rattle.replay.specs.Lines.{Word, ScriptLine, line_of}
 use Rattle.replay.specs.Scripts.{Known, nothing_known, fits, client_words, lines_in, lines_read, lines_from, with_line, max_script, client_word, lines_left}
@@ -19,14 +20,15 @@ use Rattle.replay.specs.Text.{printed_by, world_after}
 use Rattle.replay.specs.declared.line.Event.{Event}
 use Rattle.replay.specs.declared.line.Line.{Line}
 use Rattle.replay.specs.declared.script.Script.{Script}
-use Rattle.replay.specs.KeptLines.{said, built_line, understood, IsEvent, IsSound}
+use Rattle.replay.specs.KeptLines.{said}
 use Rattle.replay.specs.KeptScripts.{IsBuilt, events_said, world_at_start}
-use Rattle.replay.specs.KeptWorlds.{AreDistinct}
+use Rattle.replay.specs.KeptWorlds.{AreDistinct, words_of}
 use Rattle.replay.specs.Drafts.{Taken, known_clients, known_of, may_stand, GrowsBy}
-use Rattle.replay.specs.BuiltScripts.{is_built, first_unbuilt, first_later}
+use Rattle.replay.specs.BuiltScripts.{built_line, understood, is_built, first_later}
 use Rattle.replay.proofs.lines.ClientLines.{left_more, left_none, outside_last}
+use Rattle.replay.proofs.lines.Unbuilt.{first_unbuilt, first-is}
 use Rattle.replay.proofs.lines.Happening.{prints-happening, after-happening}
-use Rattle.replay.proofs.lines.MoreLines.{AreLines, nothing_taken, no_lines, head_of, adds}
+use Rattle.replay.proofs.lines.MoreLines.{AreLines, no_homes, nothing_taken, no_lines, head_of, adds}
 
 -- lines before those that are left
 abbrev pub onto : List ScriptLine → Result (List ScriptLine) ℕ → Result (List ScriptLine) ℕ
@@ -128,21 +130,22 @@ pub record SoFar (octets : List ℕ) (taken : Taken) (number : ℕ) (rest : List
 begun : (octets : List ℕ) → SoFar octets nothing_taken 0 octets
 begun octets = record { unbuilt = refl; front = []; lines = onto_none _; are = no_lines; counted = omega arith }
 
-abbrev without_timers : HomesKept → List Event → List (Word × Bool) → Taken
-without_timers homes events clients = record { timers = None; homes = homes; events = events; clients = clients }
+abbrev without_timers : HomesKept → List Word → List Event → List (Word × Bool) → Taken
+without_timers homes links events clients = record { timers = None; homes = homes; links = links; events = events; clients = clients }
 
-pub begins : (octets : List ℕ) (homes : HomesKept) (events : List Event) (clients : List KnownClient) → homes ≡ [] → events ≡ [] → clients ≡ [] → SoFar octets (without_timers homes events (known_clients clients)) 0 octets
-begins octets homes events clients no_homes no_events no_clients =
-    subst (λ (hs : HomesKept). SoFar octets (without_timers hs events (known_clients clients)) 0 octets) (sym no_homes)
-    (subst (λ (es : List Event). SoFar octets (without_timers [] es (known_clients clients)) 0 octets) (sym no_events)
-    (subst (λ (cs : List KnownClient). SoFar octets (without_timers [] [] (known_clients cs)) 0 octets) (sym no_clients) (begun octets)))
+pub begins : (octets : List ℕ) (homes : HomesKept) (links : List (String Global)) (events : List Event) (clients : List KnownClient) → homes ≡ no_homes → links ≡ [] → events ≡ [] → clients ≡ []
+    → SoFar octets (without_timers homes (words_of links) events (known_clients clients)) 0 octets
+begins octets homes links events clients none no_links no_events no_clients =
+    subst (λ (hs : HomesKept). SoFar octets (without_timers hs (words_of links) events (known_clients clients)) 0 octets) (sym none)
+    (subst (λ (ls : List (String Global)). SoFar octets (without_timers no_homes (words_of ls) events (known_clients clients)) 0 octets) (sym no_links)
+    (subst (λ (es : List Event). SoFar octets (without_timers no_homes [] es (known_clients clients)) 0 octets) (sym no_events)
+    (subst (λ (cs : List KnownClient). SoFar octets (without_timers no_homes [] [] (known_clients cs)) 0 octets) (sym no_clients) (begun octets))))
 
 -- the line that is outside
 pub outside : (octets : List ℕ) (taken : Taken) (number : ℕ) (rest text after : List ℕ) → SoFar octets taken number rest → lines_in rest ≡ text ∷ lines_in after → (too_long_of octets && is_empty after) ≡ true
     → first_later octets ≡ Some (number + 1)
-unfolding first_later
 outside octets taken number rest text after so e last =
-    so.unbuilt ∙ ap (unbuilt_left octets taken number) (outside_last (too_long_of octets) rest text after e last)
+    first-is octets ∙ so.unbuilt ∙ ap (unbuilt_left octets taken number) (outside_last (too_long_of octets) rest text after e last)
 
 here : (octets : List ℕ) (rest text after : List ℕ) → lines_in rest ≡ text ∷ lines_in after → (too_long_of octets && is_empty after) ≡ false → lines_left (too_long_of octets) rest ≡ line_of text ∷ lines_left (too_long_of octets) after
 here octets rest text after e inside =
@@ -151,9 +154,9 @@ here octets rest text after e inside =
 -- a line that isn't understood
 pub unread : (octets : List ℕ) (taken : Taken) (number : ℕ) (rest text after : List ℕ) → SoFar octets taken number rest → lines_in rest ≡ text ∷ lines_in after → (too_long_of octets && is_empty after) ≡ false
     → None ≡ understood (line_of text) → first_later octets ≡ Some (number + 1)
-unfolding first_later
 unread octets taken number rest text after so e inside none =
-    so.unbuilt
+    first-is octets
+    ∙ so.unbuilt
     ∙ ap (unbuilt_left octets taken number) (here octets rest text after e inside)
     ∙ not_understood (clients_of octets) (known_of taken) (number + 1) (line_of text) (lines_left (too_long_of octets) after) (sym none)
 
@@ -165,20 +168,20 @@ here_is octets rest text after line e inside read =
 -- a line that may not stand there
 pub unfit : (octets : List ℕ) (taken : Taken) (number : ℕ) (rest text after : List ℕ) (line : Line) → SoFar octets taken number rest → lines_in rest ≡ text ∷ lines_in after → (too_long_of octets && is_empty after) ≡ false
     → Some (said line) ≡ understood (line_of text) → may_stand (clients_of octets) (known_of taken) (said line) ≡ false → first_later octets ≡ Some (number + 1)
-unfolding first_later
 unfit octets taken number rest text after line so e inside read refused =
-    so.unbuilt
+    first-is octets
+    ∙ so.unbuilt
     ∙ ap (unbuilt_left octets taken number) (here_is octets rest text after line e inside read)
     ∙ cannot_stand (clients_of octets) (known_of taken) (number + 1) (said line) (lines_left (too_long_of octets) after) refused
 
 -- a line that may stand there
 pub more : (octets : List ℕ) (taken later : Taken) (number : ℕ) (rest text after : List ℕ) (line : Line) → SoFar octets taken number rest → lines_in rest ≡ text ∷ lines_in after → (too_long_of octets && is_empty after) ≡ false
-    → Some (said line) ≡ understood (line_of text) → IsSound line → may_stand (clients_of octets) (known_of taken) (said line) ≡ true → GrowsBy taken line later → number + 1 + length after ≤ length octets
+    → Some (said line) ≡ understood (line_of text) → may_stand (clients_of octets) (known_of taken) (said line) ≡ true → GrowsBy taken line later → number + 1 + length after ≤ length octets
     → SoFar octets later (number + 1) after
-more octets taken later number rest text after line so e inside read sound may grows counted =
+more octets taken later number rest text after line so e inside read may grows counted =
     let all = clients_of octets in
     let left = lines_left (too_long_of octets) after in
-    let add = adds all taken later line sound may grows in
+    let add = adds all taken later line may grows in
     let is = here_is octets rest text after line e inside read in
     record {
       unbuilt =
@@ -201,22 +204,21 @@ more octets taken later number rest text after line so e inside read sound may g
 pub record IsOf (script : Script) (taken : Taken) : Type 0 where
   pub timers : script.timers ≡ unwrap_or taken.timers default_timers
   pub homes : script.homes ≡ taken.homes
+  pub links : words_of script.links.items ≡ taken.links
   pub events : script.events.items ≡ taken.events
 
-abbrev head_by : Timers → HomesKept → Head
-head_by t homes = record { timers = t; start = state_of homes; links = [] }
+abbrev head_by : Timers → HomesKept → List Word → Head
+head_by t homes links = record { timers = t; start = state_of homes; links = links }
 
-head_is : (script : Script) (taken : Taken) → IsOf script taken → world_at_start script ≡ world_of (head_of taken.timers (state_of taken.homes))
-head_is script taken is =
-    ap (λ (t : Timers). world_of (head_by t script.homes)) is.timers ∙ ap (λ (hs : HomesKept). world_of (head_by (unwrap_or taken.timers default_timers) hs)) is.homes
+head_is : (script : Script) (taken : Taken) → IsOf script taken → world_at_start script ≡ world_of (head_of taken.timers (state_of taken.homes) taken.links)
+head_is script taken is = λ i. world_of (head_by (is.timers i) (is.homes i) (is.links i))
 
 pub ends : (octets : List ℕ) (script : Script) (taken : Taken) (number : ℕ) (rest : List ℕ) → IsOf script taken → SoFar octets taken number rest → length rest ≡ 0 → IsBuilt octets script
-unfolding first_later
 ends octets script taken number rest of so none =
     let is = left_none (too_long_of octets) rest none in
     let happen : events_said taken.events ≡ events_said script.events.items = ap events_said (sym of.events) in
     record {
-      all = so.unbuilt ∙ ap (unbuilt_left octets taken number) is;
+      all = first-is octets ∙ so.unbuilt ∙ ap (unbuilt_left octets taken number) is;
       lines = so.front;
       read =
           so.lines
@@ -226,6 +228,5 @@ ends octets script taken number rest of so none =
       text = prints-happening so.front (start_world so.front) ∙ ap (λ (ls : List ScriptLine). printed_by by_notices ls (start_world so.front)) (so.are.happen ∙ happen);
       last = after-happening so.front (start_world so.front) ∙ ap (λ (ls : List ScriptLine). world_after ls (start_world so.front)) (so.are.happen ∙ happen);
       start = subst (λ (hs : HomesKept). IsStart (state_of hs)) (sym of.homes) so.are.start;
-      are_events = subst (AllByRecursion IsEvent) happen so.are.are_events;
       distinct = subst AreDistinct (sym so.are.named ∙ ap (filter_map client_word) happen) so.are.distinct;
     }

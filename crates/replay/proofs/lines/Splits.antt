@@ -4,10 +4,11 @@ use Rattle.std.specs.List.{position, position_from, onto_first}
 use Rattle.std.proofs.lemmas.Bool.{cases_Bool}
 use Rattle.std.proofs.lemmas.List.{take_rest}
 use Rattle.std.proofs.lemmas.Iterator.Adapters.{position_from-zero}
-use Rattle.replay.specs.Lines.{Word, point, alone as no_words}
+use Rattle.replay.specs.Lines.{words_in, Word, point, alone as no_words, line_behind}
+use Rattle.replay.specs.BuiltScripts.{understood}
 use Rattle.replay.specs.declared.line.Kind.{Kind}
 use Rattle.replay.specs.declared.line.Kind.TheVariants as kinds
-use Rattle.replay.specs.KeptLines.{words_in, one_in, two_in, three_in, four_in, said_behind}
+use Rattle.replay.specs.KeptLines.{one_in, two_in, three_in, four_in, five_in}
 
 abbrev is_space : ℕ → Bool
 is_space octet = octet == 32
@@ -84,7 +85,10 @@ two_parts f none octets n h =
     let rest = take (length octets - (n + 1)) (drop (n + 1) octets) in
     ap f (word_at octets n h) ∙ at_more f none (take n octets) (words_in rest) (some_words rest)
 
--- more words than four, three, two or one
+-- more words than five, four, three, two or one
+pub five_of_more : (a b c d text : List ℕ) (ws : List Word) (n : ℕ) → ws ≡ a ∷ b ∷ c ∷ d ∷ words_in text → Some n ≡ position is_space text → five_in ws ≡ None
+five_of_more a b c d text ws n e h = ap five_in e ∙ two_parts (λ rest. five_in (a ∷ b ∷ c ∷ d ∷ rest)) (λ v w rest. refl) text n h
+
 pub four_of_more : (a b c text : List ℕ) (ws : List Word) (n : ℕ) → ws ≡ a ∷ b ∷ c ∷ words_in text → Some n ≡ position is_space text → four_in ws ≡ None
 four_of_more a b c text ws n e h = ap four_in e ∙ two_parts (λ rest. four_in (a ∷ b ∷ c ∷ rest)) (λ v w rest. refl) text n h
 
@@ -105,7 +109,11 @@ no_point (w ∷ ws) some = refl
 point_of_more : (text : List ℕ) → no_words point (words_in text) ≡ None
 point_of_more text = no_point (words_in text) (some_words text)
 
--- a point line says nothing with words behind its first, nor does a line that isn't built
-pub nothing_behind : (kind : Kind) (text : List ℕ) → (kind ≡ kinds.Point) ⊎ (kind ≡ kinds.Other) → None ≡ said_behind kind (words_in text)
-nothing_behind kind text (inl is_point) = sym (ap (λ (k : Kind). said_behind k (words_in text)) is_point ∙ point_of_more text)
-nothing_behind kind text (inr other) = sym (ap (λ (k : Kind). said_behind k (words_in text)) other)
+-- a point line says nothing with words behind its first, nor does a line outside the grammar
+pub nothing_behind : (kind : Kind) (text : List ℕ) → (kind ≡ kinds.Point) ⊎ (kind ≡ kinds.Other) → None ≡ understood (line_behind kind (words_in text))
+nothing_behind kind text (inl is_point) = sym (ap (λ (k : Kind). understood (line_behind k (words_in text))) is_point ∙ ap understood (point_of_more text))
+nothing_behind kind text (inr other) = sym (ap (λ (k : Kind). understood (line_behind k (words_in text))) other)
+
+-- nor does one of a kind of which nothing is built
+pub unbuilt_behind : (kind same : Kind) (text : List ℕ) → kind ≡ same → understood (line_behind same (words_in text)) ≡ None → None ≡ understood (line_behind kind (words_in text))
+unbuilt_behind kind same text is none = sym (ap (λ (k : Kind). understood (line_behind k (words_in text))) is ∙ none)

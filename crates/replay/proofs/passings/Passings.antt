@@ -1,7 +1,8 @@
 -- What the code does of a round is what the plain one does.
 --     say-passes, up-passes, emit-passes, down-passes      each passing
+--     way-passes, way-settles      the passing of a way
 --     round-turns      the four of a round, one behind another
-use Rattle.std.proofs.Common.{take-take, ◌≡◌, inl, ℕ, ◌+◌, ◌-◌, ◌≤◌, ◌<◌, ◌==◌, Bool, true, false, cond, not, ◌&&◌, ◌||◌, List, ◌++◌, length, take, drop, min, Option, Some, None, option_map, refl, sym, ◌∙◌, ap, subst, arith, length-append}
+use Rattle.std.proofs.Common.{take-take, ◌≡◌, inl, ℕ, ◌+◌, ◌-◌, ◌≤◌, ◌<◌, ◌==◌, Bool, true, false, cond, not, ◌&&◌, ◌||◌, List, ◌++◌, length, take, drop, min, Option, Some, None, refl, sym, ◌∙◌, ap, subst, arith, length-append}
 use Rattle.std.specs.Prelude.{is_some, nat_lt}
 use Rattle.std.proofs.lemmas.List.{length-take}
 use Rattle.std.proofs.lemmas.Bool.Decides.{nat_tests}
@@ -13,39 +14,33 @@ use Rattle.pushserver.specs.PlainHubs.{Session, Hub}
 use Rattle.pushserver.specs.Hubs.{session_of, taken_by, take_octets}
 use Rattle.pushserver.specs.KeptHubs as hubs
 use Rattle.pushserver.specs.KeptHubs.{KeptHub}
-use Rattle.pushclient.specs.Clients.{Client, Connection, output_of, give_octets, is_connected}
+use Rattle.pushclient.specs.Clients.{Client, output_of, give_octets}
 use Rattle.pushclient.specs.Rule.{KeptClient, StandsFor}
 use Rattle.replay.specs.World.{World, Seat}
-use Rattle.replay.specs.PassedOctets.{Passed, emitted, nothing_emitted, enough, max_wire, say, up, emit, to_client, down, and_then}
+use Rattle.replay.specs.PassedOctets.{Passed, emitted, nothing_emitted, enough, max_wire, say, up, emit, to_client, down, and_then, settled}
 use Rattle.replay.specs.declared.exchanging.Emission.{Emission}
 use Rattle.replay.specs.KeptExchanges.{Emits, IsEmitted}
 use Rattle.replay.specs.KeptSteps.{Delivers, IsDelivered}
 use Rattle.replay.specs.KeptWorlds.{KeptSeat, StandsForSeat}
-use Rattle.replay.specs.KeptPassings.{Passes, Turns}
+use Rattle.replay.specs.declared.settling.Way.{Way}
+use Rattle.replay.specs.declared.settling.Way.TheVariants as ways
+use Rattle.replay.specs.KeptPassings.{Passes, Turns, Moves, passing_of}
 use Rattle.replay.proofs.exchanges.Taking.{take-front}
 use Rattle.replay.proofs.exchanges.Rounds.{Takes}
-use Rattle.replay.proofs.steps.StepsConnected.{delivered-connected}
 
 -- ---- from the client
 
-give-connected : (n : ℕ) (client : Client) → is_connected (give_octets n client) ≡ is_connected client
-give-connected n client = by client.connection
-  where
-    by : (o : Option Connection) → is_some (option_map (λ (c : Connection). record c { output = drop n c.output }) o) ≡ is_some o
-    by None = refl
-    by (Some c) = refl
+abbrev pub room_on : ℕ → List ℕ → ℕ
+room_on n wire = min n (max_wire - length wire)
 
-abbrev pub room_on : List ℕ → ℕ
-room_on wire = min max_wire (max_wire - length wire)
-
-pub say-passes : (hub : KeptHub) (k : KeptSeat) (client : KeptClient) (count : ℕ) (buffer after slice wire : List ℕ) → length buffer ≡ room_on k.up_wire
+pub say-passes : (n : ℕ) (hub : KeptHub) (k : KeptSeat) (client : KeptClient) (count : ℕ) (buffer after slice wire : List ℕ) → length buffer ≡ room_on n k.up_wire
     → ((plain : Client) → StandsFor k.client plain → count ≡ min (length buffer) (length (output_of plain)))
     → ((plain : Client) → StandsFor k.client plain → after ≡ take (length buffer) (output_of plain) ++ drop (length (output_of plain)) buffer)
     → ((plain : Client) → StandsFor k.client plain → StandsFor client (give_octets (min (length buffer) (length (output_of plain))) plain))
     → slice ≡ take count after → wire ≡ k.up_wire ++ slice
-    → Passes (say max_wire) hub k count false None hub (record k { client = client; up_wire = wire })
+    → Passes (say n) hub k count false None hub (record k { client = client; up_wire = wire })
 unfolding Passes
-say-passes hub k client count buffer after slice wire size counts octets gives slice_is wire_is = (
+say-passes n hub k client count buffer after slice wire size counts octets gives slice_is wire_is = (
   refl,
   λ world seat stands s. record {
     moved = moved seat s;
@@ -55,8 +50,7 @@ say-passes hub k client count buffer after slice wire size counts octets gives s
     seat = record {
       word = s.word;
       is_lone = s.is_lone;
-      is_open = s.is_open ∙ sym (give-connected (length (piece seat)) seat.client);
-      client = subst (λ (n : ℕ). StandsFor client (give_octets n seat.client)) (sym (size_of seat s)) (gives seat.client s.client);
+      client = subst (λ (m : ℕ). StandsFor client (give_octets m seat.client)) (sym (size_of seat s)) (gives seat.client s.client);
       session = s.session;
       up_wire = wire_is ∙ (λ i. s.up_wire i ++ (slice_is ∙ said seat s) i);
       down_wire = s.down_wire;
@@ -68,20 +62,20 @@ say-passes hub k client count buffer after slice wire size counts octets gives s
 )
   where
     piece : Seat → List ℕ
-    piece seat = take (min max_wire (max_wire - length seat.up_wire)) (output_of seat.client)
+    piece seat = take (room_on n seat.up_wire) (output_of seat.client)
 
-    room_is : (seat : Seat) → StandsForSeat k seat → length buffer ≡ min max_wire (max_wire - length seat.up_wire)
-    room_is seat s = size ∙ ap room_on s.up_wire
+    room_is : (seat : Seat) → StandsForSeat k seat → length buffer ≡ room_on n seat.up_wire
+    room_is seat s = size ∙ ap (room_on n) s.up_wire
 
     size_of : (seat : Seat) → StandsForSeat k seat → length (piece seat) ≡ min (length buffer) (length (output_of seat.client))
-    size_of seat s = length-take (min max_wire (max_wire - length seat.up_wire)) (output_of seat.client) ∙ ap (λ (n : ℕ). min n (length (output_of seat.client))) (sym (room_is seat s))
+    size_of seat s = length-take (room_on n seat.up_wire) (output_of seat.client) ∙ ap (λ (m : ℕ). min m (length (output_of seat.client))) (sym (room_is seat s))
 
     moved : (seat : Seat) → StandsForSeat k seat → count ≡ length (piece seat)
     moved seat s = counts seat.client s.client ∙ sym (size_of seat s)
 
     said : (seat : Seat) → StandsForSeat k seat → take count after ≡ piece seat
     said seat s =
-        (λ i. take (moved seat s i) ((octets seat.client s.client ∙ ap (λ (n : ℕ). take n (output_of seat.client) ++ drop (length (output_of seat.client)) buffer) (room_is seat s)) i))
+        (λ i. take (moved seat s i) ((octets seat.client s.client ∙ ap (λ (m : ℕ). take m (output_of seat.client) ++ drop (length (output_of seat.client)) buffer) (room_is seat s)) i))
         ∙ take-append_seam (piece seat) (drop (length (output_of seat.client)) buffer)
 
 -- ---- into the session
@@ -102,18 +96,18 @@ take-both k n xs h = take-take k n xs (small k n (length xs) (subst (λ (m : ℕ
     small : (k n m : ℕ) → k ≤ min n m → k ≤ n
     small k n m h = omega arith
 
-pub up-passes : (hub later : KeptHub) (number : ℕ) (k : KeptSeat) (count : ℕ) (slice wire : List ℕ) → slice ≡ take max_wire k.up_wire → Takes hub number slice count later → wire ≡ drop count k.up_wire
-    → Passes (up number max_wire) hub k count false None later (record k { up_wire = wire })
+pub up-passes : (n : ℕ) (hub later : KeptHub) (number : ℕ) (k : KeptSeat) (count : ℕ) (slice wire : List ℕ) → slice ≡ take n k.up_wire → Takes hub number slice count later → wire ≡ drop count k.up_wire
+    → Passes (up number n) hub k count false None later (record k { up_wire = wire })
 unfolding Passes
-up-passes hub later number k count slice wire slice_is takes wire_is = (
+up-passes n hub later number k count slice wire slice_is takes wire_is = (
   refl,
   λ world seat stands s.
-      let piece = take max_wire seat.up_wire in
-      let same : slice ≡ piece = slice_is ∙ ap (take max_wire) s.up_wire in
+      let piece = take n seat.up_wire in
+      let same : slice ≡ piece = slice_is ∙ ap (take n) s.up_wire in
       let moved : count ≡ taken_by world.hub number piece = (takes world.hub stands).0 ∙ ap (taken_by world.hub number) same in
       let gone : take_octets world.hub number slice ≡ take_octets world.hub number (take (taken_by world.hub number piece) seat.up_wire) =
       ap (take_octets world.hub number) same ∙ sym (take-front hub world.hub number piece stands)
-      ∙ ap (take_octets world.hub number) (take-both (taken_by world.hub number piece) max_wire seat.up_wire (taken_within world.hub number piece)) in
+      ∙ ap (take_octets world.hub number) (take-both (taken_by world.hub number piece) n seat.up_wire (taken_within world.hub number piece)) in
       record {
         moved = moved;
         reacts = refl;
@@ -122,7 +116,6 @@ up-passes hub later number k count slice wire slice_is takes wire_is = (
         seat = record {
           word = s.word;
           is_lone = s.is_lone;
-          is_open = s.is_open;
           client = s.client;
           session = s.session;
           up_wire = wire_is ∙ (λ i. drop (moved i) (s.up_wire i));
@@ -139,17 +132,17 @@ up-passes hub later number k count slice wire slice_is takes wire_is = (
 size_behind : (before octets given : List ℕ) → octets ≡ before ++ given → length octets - length before ≡ length given
 size_behind before octets given e = (let size : length octets ≡ length before + length given = ap length e ∙ length-append before given in omega (arith, size))
 
-pub emit-passes : (hub later : KeptHub) (number : ℕ) (k : KeptSeat) (count : ℕ) (wire : List ℕ) (told : List (ℕ × ℕ)) (emission : Emission) → Emits (room_on k.down_wire) hub number k.down_wire k.filled later wire told emission
+pub emit-passes : (n : ℕ) (hub later : KeptHub) (number : ℕ) (k : KeptSeat) (count : ℕ) (wire : List ℕ) (told : List (ℕ × ℕ)) (emission : Emission) → Emits (room_on n k.down_wire) hub number k.down_wire k.filled later wire told emission
     → count ≡ length wire - length k.down_wire
-    → Passes (emit number max_wire) hub k count (emission.reacted || nat_lt 0 count) emission.over later (record k { down_wire = wire; filled = told })
+    → Passes (emit number n) hub k count (emission.reacted || nat_lt 0 count) emission.over later (record k { down_wire = wire; filled = told })
 unfolding Passes Emits
-emit-passes hub later number k count wire told emission made count_is = (
+emit-passes n hub later number k count wire told emission made count_is = (
   refl,
   λ world seat stands s.
-      let whole = emitted enough number (min max_wire (max_wire - length seat.down_wire)) (nothing_emitted world.hub seat.filled) in
+      let whole = emitted enough number (room_on n seat.down_wire) (nothing_emitted world.hub seat.filled) in
       let e : IsEmitted whole k.down_wire later wire told emission =
-      subst (λ (b : ℕ). IsEmitted (emitted enough number b (nothing_emitted world.hub seat.filled)) k.down_wire later wire told emission) (ap room_on s.down_wire)
-      (made (room_on k.down_wire) world.hub seat.filled (least (room_on k.down_wire), inl refl) stands s.filled) in
+      subst (λ (b : ℕ). IsEmitted (emitted enough number b (nothing_emitted world.hub seat.filled)) k.down_wire later wire told emission) (ap (room_on n) s.down_wire)
+      (made (room_on n k.down_wire) world.hub seat.filled (least (room_on n k.down_wire), inl refl) stands s.filled) in
       let moved : count ≡ length whole.octets = count_is ∙ size_behind k.down_wire wire whole.octets e.written in
       record {
         moved = moved;
@@ -159,7 +152,6 @@ emit-passes hub later number k count wire told emission made count_is = (
         seat = record {
           word = s.word;
           is_lone = s.is_lone;
-          is_open = s.is_open;
           client = s.client;
           session = s.session;
           up_wire = s.up_wire;
@@ -171,20 +163,20 @@ emit-passes hub later number k count wire told emission made count_is = (
       },
 )
   where
-    least : (n : ℕ) → n ≤ n
-    least n = omega arith
+    least : (m : ℕ) → m ≤ m
+    least m = omega arith
 
 -- ---- to the client
 
-pub down-passes : (hub : KeptHub) (k : KeptSeat) (client : KeptClient) (count reached : ℕ) (slice wire : List ℕ) → slice ≡ take max_wire k.down_wire → Delivers k.client slice client count → wire ≡ drop count k.down_wire
+pub down-passes : (n : ℕ) (hub : KeptHub) (k : KeptSeat) (client : KeptClient) (count reached : ℕ) (slice wire : List ℕ) → slice ≡ take n k.down_wire → Delivers k.client slice client count → wire ≡ drop count k.down_wire
     → reached ≡ k.reached + count → reached < max_number
-    → Passes (down max_wire) hub k count (nat_lt 0 count) None hub (record k { client = client; down_wire = wire; reached = reached })
+    → Passes (down n) hub k count (nat_lt 0 count) None hub (record k { client = client; down_wire = wire; reached = reached })
 unfolding Passes Delivers
-down-passes hub k client count reached slice wire slice_is delivers wire_is reached_is few = (
+down-passes n hub k client count reached slice wire slice_is delivers wire_is reached_is few = (
   refl,
   λ world seat stands s.
-      let piece = take max_wire seat.down_wire in
-      let d : IsDelivered (to_client piece seat.client) client count = subst (λ (o : List ℕ). IsDelivered (to_client o seat.client) client count) (slice_is ∙ ap (take max_wire) s.down_wire) (delivers seat.client s.client) in
+      let piece = take n seat.down_wire in
+      let d : IsDelivered (to_client piece seat.client) client count = subst (λ (o : List ℕ). IsDelivered (to_client o seat.client) client count) (slice_is ∙ ap (take n) s.down_wire) (delivers seat.client s.client) in
       record {
         moved = d.counts;
         reacts = ap (nat_lt 0) d.counts;
@@ -193,7 +185,6 @@ down-passes hub k client count reached slice wire slice_is delivers wire_is reac
         seat = record {
           word = s.word;
           is_lone = s.is_lone;
-          is_open = s.is_open ∙ sym (delivered-connected enough piece (record { client = seat.client; count = 0; left = piece }));
           client = d.stands;
           session = s.session;
           up_wire = s.up_wire;
@@ -204,6 +195,21 @@ down-passes hub k client count reached slice wire slice_is delivers wire_is reac
         };
       },
 )
+
+-- ---- the passing of a way
+
+-- whether or not it reacted
+pub way-passes : (way other : Way) (number : ℕ) (hub later : KeptHub) (k after : KeptSeat) (count : ℕ) (reacted : Bool) (over : Option EndReason) → way ≡ other
+    → Passes (passing_of other number) hub k count reacted over later after → Moves (passing_of way number) hub k count over later after
+unfolding Passes Moves
+way-passes way other number hub later k after count reacted over is p = subst (λ (x : Way). Moves (passing_of x number) hub k count over later after) (sym is) (
+  p.0,
+  λ world seat stands s. (let m = p.1 world seat stands s in record { moved = m.moved; end_told = m.end_told; stands = m.stands; seat = m.seat }),
+)
+
+pub way-settles : (way : Way) (number : ℕ) (hub later : KeptHub) (k after : KeptSeat) (over : Option EndReason) → way ≡ ways.Settle
+    → Moves (λ world seat. settled enough number world seat None) hub k 0 over later after → Moves (passing_of way number) hub k 0 over later after
+way-settles way number hub later k after over is m = subst (λ (x : Way). Moves (passing_of x number) hub k 0 over later after) (sym is) m
 
 -- ---- a round
 

@@ -1,15 +1,15 @@
 -- Rounds until nothing moves.
 --     Settling      the rounds so far lead to the whole
 --     settling-begins, settling-more, settles-still, settles-used_up      one more
---     settled-seats, settled-keeps      what a settle leaves of the world, and what it keeps of the hub and the seat
-use Rattle.std.proofs.Common.{◌≡◌, ℕ, suc, Bool, true, false, cond, not, Option, None, refl, sym, ◌∙◌, ap, subst}
+use Rattle.std.proofs.Common.{◌≡◌, ℕ, suc, ◌==◌, ◌&&◌, Bool, true, false, cond, not, Option, None, refl, sym, ◌∙◌, ap, subst, arith}
+use Rattle.std.proofs.lemmas.Bool.Decides.{nat_tests}
 use Rattle.std.specs.Prelude.{is_some}
 use Rattle.dsosession.specs.declared.session.EndReason.{EndReason}
 use Rattle.pushserver.specs.KeptHubs.{KeptHub, StandsFor}
 use Rattle.replay.specs.World.{World, Seat}
-use Rattle.replay.specs.PassedOctets.{Passed, passed, enough, round, settled}
+use Rattle.replay.specs.PassedOctets.{is_still, Passed, passed, enough, round, settled}
 use Rattle.replay.specs.KeptWorlds.{KeptSeat, StandsForSeat}
-use Rattle.replay.specs.KeptPassings.{is_still, Turns, Settles}
+use Rattle.replay.specs.KeptPassings.{Turns, Moves}
 
 abbrev either_end : Option EndReason → Option EndReason → Option EndReason
 either_end first second = cond (is_some first) first second
@@ -46,6 +46,10 @@ turned true false e = refl
 turned false true e = refl
 turned false false e = absurd cc
 
+-- a round in which nothing moved
+no-octets : (count : ℕ) (reacted : Bool) → (count == 0 && not reacted) ≡ true → 0 ≡ count
+no-octets count reacted h = grind (arith, nat_tests)
+
 -- one round more
 module _ (number turns : ℕ) (start hub later : KeptHub) (before kept after : KeptSeat) (over over_turn over_then : Option EndReason) (moves : Bool)
     (s : Settling number start before (suc turns) hub kept over) (t : Turns number hub kept moves over_turn later after) (over_is : over_then ≡ either_end over over_turn) where
@@ -67,8 +71,8 @@ module _ (number turns : ℕ) (start hub later : KeptHub) (before kept after : K
         },
   )
 
-  pub settles-still : moves ≡ false → Settles (λ world seat. settled enough number world seat None) start before over_then later after
-  unfolding Settling Turns Settles
+  pub settles-still : moves ≡ false → Moves (λ world seat. settled enough number world seat None) start before 0 over_then later after
+  unfolding Settling Turns Moves
   settles-still is = (
     t.0 ∙ s.0,
     λ world seat stands seated.
@@ -79,6 +83,7 @@ module _ (number turns : ℕ) (start hub later : KeptHub) (before kept after : K
         let whole : settled enough number world seat None ≡ record p { over = over_then } =
         i.same ∙ ap (settled_by turns number p (either_end over p.over)) still ∙ ap (λ (o : Option EndReason). record p { over = o }) (ap (either_end over) (sym r.end_told) ∙ sym over_is) in
         record {
+          moved = no-octets p.count p.reacted still ∙ sym (ap (λ (q : Passed). q.count) whole);
           end_told = sym (ap (λ (q : Passed). q.over) whole);
           stands = subst (λ (q : Passed). StandsFor later q.world.hub) (sym whole) r.stands;
           seat = subst (λ (q : Passed). StandsForSeat after q.seat) (sym whole) r.seat;
@@ -87,14 +92,15 @@ module _ (number turns : ℕ) (start hub later : KeptHub) (before kept after : K
 
 -- all rounds are made
 pub settles-used_up : (number turns : ℕ) (start hub : KeptHub) (before kept : KeptSeat) (over : Option EndReason) → turns ≡ 0 → Settling number start before turns hub kept over
-    → Settles (λ world seat. settled enough number world seat None) start before over hub kept
-unfolding Settling Settles
+    → Moves (λ world seat. settled enough number world seat None) start before 0 over hub kept
+unfolding Settling Moves
 settles-used_up number turns start hub before kept over none s = (
   s.0,
   λ world seat stands seated.
       let i = s.1 world seat stands seated in
       let whole : settled enough number world seat None ≡ record (passed i.world i.seat 0) { over = over } = i.same ∙ ap (λ (n : ℕ). settled n number i.world i.seat over) none in
       record {
+        moved = sym (ap (λ (q : Passed). q.count) whole);
         end_told = sym (ap (λ (q : Passed). q.over) whole);
         stands = subst (λ (q : Passed). StandsFor hub q.world.hub) (sym whole) i.stands;
         seat = subst (λ (q : Passed). StandsForSeat kept q.seat) (sym whole) i.seated;

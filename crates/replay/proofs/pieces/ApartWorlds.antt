@@ -1,9 +1,9 @@
 -- Worlds whose peers' and clients' sessions are apart.
 --     IsApart world      the peers' sessions are apart, and from those of clients, and all were made before the next one
 --     apart-start, apart-lines, apart-placed      it is so of a script's start world, behind built lines, and with one peer more
---     stop-does, cut-does, ask-does, open-does, settle-does, feed-does      what lines of stops, cuts and clients do, by cases
+--     stop-does, cut-does, ask-does, open-does, feed-does      what lines of stops, cuts and clients do, by cases
 use Rattle.std.proofs.Common.{◌≡◌, ℕ, ◌+◌, ◌<◌, ◌≤◌, Bool, true, false, cond, not, ◌&&◌, List, [], ◌∷◌, ◌++◌, fold, filter, find, length, Option, Some, None, option_map, codes, refl, sym, ◌∙◌, ap, subst, true≢false, arith}
-use Rattle.std.specs.Prelude.{nat_lt}
+use Rattle.std.specs.Prelude.{nat_lt, position}
 use Rattle.std.specs.List.{AllByRecursion}
 use Rattle.std.specs.Option.{option_or}
 use Rattle.std.specs.Str.{bytes_eq}
@@ -16,25 +16,28 @@ use Rattle.dsosession.specs.declared.session.EndReason.{EndReason}
 use Rattle.pushserver.specs.PlainHubs.{Hub}
 use Rattle.pushserver.specs.Hubs as hubs
 use Rattle.pushserver.specs.Hubs.{now, connect, max_sessions}
-use Rattle.pushserver.specs.Calls.{updates, moves}
+use Rattle.pushserver.specs.Calls.{updates, hears, moves}
 use Rattle.pushserver.proofs.Walks.{AnyMessage, IsKept, keeps-called, with_new}
-use Rattle.replay.specs.Lines.{Word, ScriptLine, silent, timers, zone, lone, at_moment, update, ask, drop_question, open_connection, cut, send, feed, stop, point, show, client, settle}
-use Rattle.replay.specs.World.{Seat, World, start_world, seat_of, number_in, session_number, hub_without, cut_connection, cut_peer, new_seat, with_seat, without, cut_seat, stopped_hub}
+use Rattle.replay.specs.Lines.{Word, ScriptLine, silent, timers, zone, lone, at_moment, update, ask, drop_question, open_connection, cut, send, feed, stop, point, show, client, settle, link, hear, reconfirm, say, up, emit, down}
+use Rattle.replay.specs.World.{Seat, World, start_world, seat_of, number_in, session_number, hub_without, cut_connection, cut_peer, new_seat, with_seat, without, cut_seat, stopped_hub, is_over, world_cut_if}
 use Rattle.coalesce.proofs.ReadBack.{each-append}
 use Rattle.pushserver.proofs.hub_steps.Pairs.{all-weaken}
 use Rattle.pushserver.proofs.session_steps.Lists.{found-each}
 use Rattle.pushclient.specs.Clients.{Client, closed_as, connected, is_connected}
 use Rattle.pushclient.specs.Steps as steps
-use Rattle.replay.specs.PassedOctets.{Exchanged, exchanged, enough, settling}
+use Rattle.replay.specs.PassedOctets.{Exchanged, exchanged, enough}
 use Rattle.replay.specs.TextWords.{by_history}
-use Rattle.replay.specs.Text.{placed, Printed, quietly, printing, cut_where, end_lines, close_lines, timed, finished, settles, feeds, asks, opens, seated, subscribing, unsubscribing, exchanges, line_does, world_after}
+use Rattle.replay.specs.Text.{placed, Printed, quietly, printing, timed, finished, settles, feeds, asks, opens, seated, subscribing, unsubscribing, exchanges, line_does, world_after, reconfirming, number_or_zero}
 use Rattle.replay.proofs.worlds.BuiltWorlds.{IsBuiltLine}
 use Rattle.replay.proofs.worlds.OneWorld.{shows-leave}
-use Rattle.replay.proofs.worlds.FedSeats.{fed, fed_words, fed_ending, feeds_as, feeds_by}
+use Rattle.replay.proofs.worlds.FedSeats.{fed, fed_words, fed_over, feeds_as, feeds_by}
 use Rattle.replay.proofs.worlds.Keeping.{any-parts, exchanged-keeps, give-keeps}
 use Rattle.replay.proofs.worlds.Seats.{put_seat}
 use Rattle.replay.proofs.worlds.SeatLines.{asks_by, opens_as, opens_by}
-use Rattle.replay.proofs.worlds.SettledWorlds.{PassingsKeep, settling-keeps, settled-world, settled-names}
+use Rattle.replay.specs.declared.settling.Way.{Way}
+use Rattle.replay.specs.declared.settling.Way.TheVariants as ways
+use Rattle.replay.specs.KeptPassings.{passes_way, way_does}
+use Rattle.replay.proofs.worlds.PassedWorlds.{PassingsKeep, passing-keeps, passed-world, passed-names, pass-does}
 use Rattle.replay.proofs.serving.NewPeer.{by_connected, by_number}
 
 abbrev Peers : Type 0
@@ -225,9 +228,9 @@ apart-connection seat world a =
     let there = record world { hub = hub_without seat.session world.hub } in
     apart-put there (cut_seat seat) (seat-without there.hub.numbers_given world.peers (cut_seat seat) refl) (apart-hub world there.hub (made-without world.hub seat.session) a)
 
-apart-cut_where : (ls : List (List ℕ)) (seat : Seat) (world : World) → IsApart world → IsApart (cut_where ls seat world)
-apart-cut_where [] seat world a = a
-apart-cut_where (l ∷ ls) seat world a = apart-connection seat world a
+apart-cut_if : (over : Bool) (seat : Seat) (world : World) → IsApart world → IsApart (world_cut_if over seat world)
+apart-cut_if false seat world a = a
+apart-cut_if true seat world a = apart-connection seat world a
 
 seat-fewer : (n : ℕ) (p : Word × ℕ → Bool) (peers : List (Word × ℕ)) (seat : Seat) → IsSeatApart n peers seat → IsSeatApart n (filter p peers) seat
 seat-fewer n p peers seat a = λ k is. (let one = a k is in (one.0, all_filter (λ (e : Word × ℕ). k ≡ e.1 → ⊥) p peers one.1))
@@ -363,18 +366,18 @@ apart-timed : (t : ℕ) (seats : List Seat) (p : Printed) → AreSeatsApart p.0 
 apart-timed t [] p all a = a
 apart-timed t (seat ∷ seats) p all a =
     let later : Seat = record seat { client = steps.moment seat.client t } in
-    let closing = close_lines seat.word (closed_as later.client) in
+    let over = is_over None (closed_as later.client) in
     let put = with_seat later p.0 in
-    let same : seat_apart put ≡ seat_apart (cut_where closing later put) = same-apart closing later put in
-    apart-timed t seats (timed t p seat) (subst (λ (Q : Seat → Type 0). AllByRecursion Q seats) same all.1) (apart-cut_where closing later put (apart-put p.0 later all.0 a))
+    let same : seat_apart put ≡ seat_apart (world_cut_if over later put) = same-apart over later put in
+    apart-timed t seats (timed t p seat) (subst (λ (Q : Seat → Type 0). AllByRecursion Q seats) same all.1) (apart-cut_if over later put (apart-put p.0 later all.0 a))
   where
     same-given : (hub : Hub) (o : Option ℕ) → hub.numbers_given ≡ (hub_without o hub).numbers_given
     same-given hub None = refl
     same-given hub (Some number) = refl
 
-    same-apart : (ls : List (List ℕ)) (x : Seat) (world : World) → seat_apart world ≡ seat_apart (cut_where ls x world)
-    same-apart [] x world = refl
-    same-apart (l ∷ ls) x world = ap (λ (n : ℕ). IsSeatApart n world.peers) (same-given world.hub x.session)
+    same-apart : (over : Bool) (x : Seat) (world : World) → seat_apart world ≡ seat_apart (world_cut_if over x world)
+    same-apart false x world = refl
+    same-apart true x world = ap (λ (n : ℕ). IsSeatApart n world.peers) (same-given world.hub x.session)
 
 apart-seated : (w : Word) (is_lone : Bool) (world : World) → IsApart world → IsApart (seated w is_lone world).0
 apart-seated w is_lone world a = record {
@@ -410,27 +413,20 @@ apart-opens w world a =
 
 -- octets pass between a client and its session, and what follows
 pub any-seat : PassingsKeep (λ x. Unit {0})
-any-seat = record { says = λ world x n. tt; ups = λ number world x n. tt; emits = λ number world x n. tt; downs = λ world x n. tt }
+any-seat = record { says = λ n world x s. tt; ups = λ number n world x s. tt; emits = λ number n world x s. tt; downs = λ n world x s. tt }
 
-pub settle-does : (P : World → Type 0) (w : Word) (world : World) → P world → ((seat : Seat) → seat_of world w ≡ Some seat → P (finished (codes "settle" ∷ w ∷ []) (settling world seat)).0) → P (settles w world).0
-settle-does P w world none some = by (seat_of world w) refl
-  where
-    by : (o : Option Seat) → seat_of world w ≡ o → P (elim o as (λ _. Printed) [ None ↦ quietly world | Some seat ↦ finished (codes "settle" ∷ w ∷ []) (settling world seat) ]).0
-    by None e = none
-    by (Some seat) e = some seat e
-
-apart-settles : (w : Word) (world : World) → IsApart world → IsApart (settles w world).0
-apart-settles w world a = settle-does IsApart w world a (λ seat e.
-    let p = settling world seat in
+apart-passes : (way : Way) (w : Word) (world : World) → IsApart world → IsApart (way_does way w world).0
+apart-passes way w world a = pass-does IsApart way w world a (λ seat e.
+    let p = passes_way way world seat in
     let given = world.hub.numbers_given in
     let made : given ≤ p.world.hub.numbers_given =
-    (settling-keeps (MadeFrom given) (λ x. Unit {0}) any-seat world seat (λ number some. give-keeps AnyMessage (MadeFrom given) (made-kept given) number) (λ number some hub x k n h. h) (itself given) tt).0 in
-    let there : IsApart p.world = subst IsApart (sym (settled-world world seat)) (apart-hub world p.world.hub made a) in
-    let named = settled-names world seat in
+    (passing-keeps (MadeFrom given) (λ x. Unit {0}) any-seat way world seat (λ number some. give-keeps AnyMessage (MadeFrom given) (made-kept given) number) (λ number some hub x k n h. h) (itself given) tt).0 in
+    let there : IsApart p.world = subst IsApart (sym (passed-world way world seat)) (apart-hub world p.world.hub made a) in
+    let named = passed-names way world seat in
     let one : seat_apart p.world p.seat =
-    subst (λ (x : World). seat_apart x p.seat) (sym (settled-world world seat))
+    subst (λ (x : World). seat_apart x p.seat) (sym (passed-world way world seat))
     (λ n is. (let found = seat-found w world seat e a n (sym named.session ∙ is) in (below given p.world.hub.numbers_given n made found.0, found.1))) in
-    apart-cut_where (end_lines p.seat.word p.over ++ close_lines p.seat.word (closed_as p.seat.client)) p.seat (with_seat p.seat p.world) (apart-put p.world p.seat one there))
+    apart-cut_if (is_over p.over (closed_as p.seat.client)) p.seat (with_seat p.seat p.world) (apart-put p.world p.seat one there))
   where
     below : (m n k : ℕ) → m ≤ n → k < m → k < n
     below m n k le l = omega (arith, le, l)
@@ -450,18 +446,24 @@ feed-does P w octets world none some = by (seat_of world w) refl
 apart-feeds : (w : Word) (octets : List ℕ) (world : World) → IsApart world → IsApart (feeds w octets world).0
 apart-feeds w octets world a = feed-does IsApart w octets world a (λ seat e.
     let p = fed octets world seat in
-    apart-cut_where (fed_ending octets world seat) p.seat (with_seat p.seat world) (apart-put world p.seat (seat-found w world seat e a) a))
+    apart-cut_if (fed_over octets world seat) p.seat (with_seat p.seat world) (apart-put world p.seat (seat-found w world seat e a) a))
 
 pub apart-line : (line : ScriptLine) (world : World) → IsBuiltLine line → IsApart world → IsApart (line_does by_history line world).0
 apart-line silent world is a = a
 apart-line (timers i k) world is a = a
 apart-line (zone apex serial mode) world is a = a
+apart-line (link w domain) world is a = a
 apart-line (client w) world is a = apart-seated w false world a
 apart-line (lone w) world is a = apart-seated w true world a
 apart-line (ask w question) world is a = apart-asks (codes "asked") w (subscribing question) world a
 apart-line (drop_question w question) world is a = apart-asks (codes "dropped") w (unsubscribing question) world a
+apart-line (reconfirm w rr) world is a = apart-asks (codes "reconfirm") w (reconfirming rr) world a
 apart-line (open_connection w) world is a = apart-opens w world a
-apart-line (settle w) world is a = apart-settles w world a
+apart-line (say w n) world is a = apart-passes (ways.Say n) w world a
+apart-line (up w n) world is a = apart-passes (ways.Up n) w world a
+apart-line (emit w n) world is a = apart-passes (ways.Emit n) w world a
+apart-line (down w n) world is a = apart-passes (ways.Down n) w world a
+apart-line (settle w) world is a = apart-passes ways.Settle w world a
 apart-line (feed w octets) world is a = apart-feeds w octets world a
 apart-line (show w question written) world is a = subst IsApart (sym (shows-leave by_history w question written world)) a
 apart-line (at_moment t) world is a =
@@ -469,6 +471,9 @@ apart-line (at_moment t) world is a =
     apart-timed (moment_now world t) world.seats (hub_timed world t) later.seats later
 apart-line (update message) world is a =
     apart-hub world (hubs.update world.hub message).1 (keeps-called AnyMessage (MadeFrom world.hub.numbers_given) (made-kept world.hub.numbers_given) (updates message) world.hub tt (itself world.hub.numbers_given)) a
+apart-line (hear w datagram) world is a =
+    let on = number_or_zero (position (bytes_eq w) world.links) in
+    apart-hub world (hubs.hear world.hub on datagram).1 (keeps-called AnyMessage (MadeFrom world.hub.numbers_given) (made-kept world.hub.numbers_given) (hears on datagram) world.hub tt (itself world.hub.numbers_given)) a
 apart-line (cut w) world is a = cut-does world IsApart w (λ seat e. apart-connection seat world a) (apart-cut w world a)
 apart-line (send w octets) world is a = apart-sends w octets world a
 apart-line (stop w rcode delay) world is a = stop-does world IsApart w rcode delay (λ seat e. by seat.session) (by (session_number world w))
@@ -477,7 +482,6 @@ apart-line (stop w rcode delay) world is a = stop-does world IsApart w rcode del
     by None = a
     by (Some number) = apart-hub world (hubs.stop world.hub number rcode delay) (itself world.hub.numbers_given) a
 apart-line point world is a = a
-apart-line _ world is a = absurd cc
 
 pub apart-lines : (lines : List ScriptLine) (world : World) → AllByRecursion IsBuiltLine lines → IsApart world → IsApart (world_after lines world)
 apart-lines [] world built a = a

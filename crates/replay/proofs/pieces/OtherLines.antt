@@ -2,7 +2,7 @@
 --     peer-stays, peer-stays-lines      a line of others leaves a peer the session that it has; so do several
 --     others-leave      they leave that session as it is, or the history has become longer
 use Rattle.std.proofs.Common.{◌≡◌, ◌⊎◌, inl, inr, ℕ, ◌+◌, ◌<◌, ◌==◌, Bool, true, false, cond, not, List, [], ◌∷◌, ◌++◌, fold, take, find, length, Option, Some, None, option_map, codes, refl, sym, ◌∙◌, ap, subst, arith}
-use Rattle.std.specs.Prelude.{nat_lt}
+use Rattle.std.specs.Prelude.{nat_lt, position}
 use Rattle.std.specs.List.{AllByRecursion, list_all}
 use Rattle.std.specs.Str.{bytes_eq}
 use Rattle.dnsname.proofs.Decisions.{and_true}
@@ -18,28 +18,31 @@ use Rattle.pushserver.specs.Laws.{LeavesSession}
 use Rattle.pushserver.proofs.OtherSessions.{stays, in_session-stays, give_changes_one_session}
 use Rattle.pushserver.proofs.SessionLists.{other-number, found-left}
 use Rattle.pushserver.proofs.hub_steps.Cases.{enters_moment, moment_as}
-use Rattle.pushserver.proofs.Walks.{AnyMessage, holds-update, with_new}
-use Rattle.replay.specs.Lines.{Word, ScriptLine, silent, timers, zone, lone, at_moment, update, ask, drop_question, open_connection, cut, send, feed, stop, point, show, client, settle}
-use Rattle.replay.specs.World.{Seat, World, seat_of, number_in, session_number, hub_without, cut_connection, cut_peer, with_seat}
+use Rattle.pushserver.proofs.Walks.{AnyMessage, holds-update, holds-hear, with_new}
+use Rattle.replay.specs.Lines.{Word, ScriptLine, silent, timers, zone, lone, at_moment, update, ask, drop_question, open_connection, cut, send, feed, stop, point, show, client, settle, link, hear, reconfirm, say, up, emit, down}
+use Rattle.replay.specs.World.{Seat, World, seat_of, number_in, session_number, hub_without, cut_connection, cut_peer, with_seat, is_over, world_cut_if}
 use Rattle.pushserver.proofs.hub_steps.Pairs.{all-weaken}
 use Rattle.pushclient.specs.Clients.{closed_as}
 use Rattle.pushclient.specs.Steps as steps
-use Rattle.replay.specs.PassedOctets.{Exchanged, exchanged, enough, settling}
+use Rattle.replay.specs.PassedOctets.{Exchanged, exchanged, enough}
 use Rattle.replay.specs.TextWords.{by_history}
-use Rattle.replay.specs.Text.{Printed, cut_where, end_lines, close_lines, timed, settles, feeds, subscribing, unsubscribing, exchanges, session_of_word, line_does, world_after}
-use Rattle.replay.specs.Pieces.{is_of_others}
+use Rattle.replay.specs.Text.{Printed, timed, settles, feeds, subscribing, unsubscribing, exchanges, session_of_word, line_does, world_after, reconfirming, number_or_zero}
+use Rattle.replay.specs.ScriptPieces.{is_of_others}
 use Rattle.replay.proofs.rest.AtRest.{At, Longer, StaysLonger}
 use Rattle.replay.proofs.worlds.BuiltWorlds.{IsBuiltLine}
-use Rattle.replay.proofs.worlds.TimedSeats.{peers-timed, peers-cut_where}
+use Rattle.replay.proofs.worlds.TimedSeats.{peers-timed, peers-cut_if}
 use Rattle.replay.proofs.worlds.OneWorld.{shows-leave}
-use Rattle.replay.proofs.worlds.FedSeats.{fed, fed_ending}
+use Rattle.replay.proofs.worlds.FedSeats.{fed, fed_over}
 use Rattle.replay.proofs.worlds.Keeping.{any-parts, keeps-exchanged}
 use Rattle.replay.proofs.worlds.SeatLines.{peers-asks, peers-opens}
-use Rattle.replay.proofs.worlds.SettledWorlds.{settling-keeps, settled-world, settled-names}
+use Rattle.replay.specs.declared.settling.Way.{Way}
+use Rattle.replay.specs.declared.settling.Way.TheVariants as ways
+use Rattle.replay.specs.KeptPassings.{passes_way, way_does}
+use Rattle.replay.proofs.worlds.PassedWorlds.{passing-keeps, passed-world, passed-names, pass-does}
 use Rattle.replay.proofs.rest.Turning.{grows}
 use Rattle.replay.proofs.worlds.Longer.{stays-longer, longer-lines}
 use Rattle.replay.proofs.serving.NewPeer.{by_connected, by_number}
-use Rattle.replay.proofs.pieces.ApartWorlds.{ApartNumbers, IsApart, any-seat, apart-line, apart-more, ask-does, cut-does, feed-does, found-filter, found-more, has_room, hub_timed, made_or_not, moment_now, not_so, not_true, number-all, numbers-apart, one_word, open-does, seat-found, seat_apart, settle-does, stop-does, stopped, with_peer}
+use Rattle.replay.proofs.pieces.ApartWorlds.{ApartNumbers, IsApart, any-seat, apart-line, apart-more, ask-does, cut-does, feed-does, found-filter, found-more, has_room, hub_timed, made_or_not, moment_now, not_so, not_true, number-all, numbers-apart, one_word, open-does, seat-found, seat_apart, stop-does, stopped, with_peer}
 
 -- ---- a peer keeps its session
 
@@ -94,33 +97,36 @@ module _ (w : Word) (number : ℕ) where
       by None = known
       by (Some m) = known
 
-peers-settles : (w : Word) (world : World) → (settles w world).0.peers ≡ world.peers
-peers-settles w world = settle-does (λ later. later.peers ≡ world.peers) w world refl (λ seat e.
-    let p = settling world seat in
-    by (end_lines p.seat.word p.over ++ close_lines p.seat.word (closed_as p.seat.client)) p.seat (with_seat p.seat p.world) ∙ ap (λ (x : World). x.peers) (settled-world world seat))
-  where
-    by : (ls : List (List ℕ)) (x : Seat) (there : World) → (cut_where ls x there).peers ≡ there.peers
-    by [] x there = refl
-    by (l ∷ ls) x there = refl
+peers-passes : (way : Way) (w : Word) (world : World) → (way_does way w world).0.peers ≡ world.peers
+peers-passes way w world = pass-does (λ later. later.peers ≡ world.peers) way w world refl (λ seat e.
+    let p = passes_way way world seat in
+    peers-cut_if (is_over p.over (closed_as p.seat.client)) p.seat (with_seat p.seat p.world) ∙ ap (λ (x : World). x.peers) (passed-world way world seat))
 
 peers-feeds : (w : Word) (octets : List ℕ) (world : World) → (feeds w octets world).0.peers ≡ world.peers
 peers-feeds w octets world = feed-does (λ later. later.peers ≡ world.peers) w octets world refl (λ seat e.
     let p = fed octets world seat in
-    peers-cut_where (fed_ending octets world seat) p.seat (with_seat p.seat world))
+    peers-cut_if (fed_over octets world seat) p.seat (with_seat p.seat world))
 
 pub peer-stays : (w : Word) (number : ℕ) (line : ScriptLine) (world : World) → IsBuiltLine line → is_of_others w line ≡ true → session_number world w ≡ Some number
     → session_number (line_does by_history line world).0 w ≡ Some number
 peer-stays w number silent world is others known = known
 peer-stays w number (timers i k) world is others known = known
 peer-stays w number (zone apex serial mode) world is others known = known
+peer-stays w number (link v domain) world is others known = known
+peer-stays w number (hear v datagram) world is others known = known
 peer-stays w number (at_moment t) world is others known =
     let r = hubs.moment world.hub t in
     ap (λ peers. number_in peers w) (peers-timed (now r.1) world.seats (record world { hub = r.1 }, cond r.0 (codes "full" ∷ []) [])) ∙ known
 peer-stays w number (client v) world is others known = known
 peer-stays w number (lone v) world is others known = known
-peer-stays w number (settle v) world is others known = ap (λ peers. number_in peers w) (peers-settles v world) ∙ known
+peer-stays w number (say v n) world is others known = ap (λ peers. number_in peers w) (peers-passes (ways.Say n) v world) ∙ known
+peer-stays w number (up v n) world is others known = ap (λ peers. number_in peers w) (peers-passes (ways.Up n) v world) ∙ known
+peer-stays w number (emit v n) world is others known = ap (λ peers. number_in peers w) (peers-passes (ways.Emit n) v world) ∙ known
+peer-stays w number (down v n) world is others known = ap (λ peers. number_in peers w) (peers-passes (ways.Down n) v world) ∙ known
+peer-stays w number (settle v) world is others known = ap (λ peers. number_in peers w) (peers-passes ways.Settle v world) ∙ known
 peer-stays w number (ask v question) world is others known = ap (λ peers. number_in peers w) (peers-asks (codes "asked") v (subscribing question) world) ∙ known
 peer-stays w number (drop_question v question) world is others known = ap (λ peers. number_in peers w) (peers-asks (codes "dropped") v (unsubscribing question) world) ∙ known
+peer-stays w number (reconfirm v rr) world is others known = ap (λ peers. number_in peers w) (peers-asks (codes "reconfirm") v (reconfirming rr) world) ∙ known
 peer-stays w number (open_connection v) world is others known = ap (λ peers. number_in peers w) (peers-opens v world) ∙ known
 peer-stays w number (feed v octets) world is others known = ap (λ peers. number_in peers w) (peers-feeds v octets world) ∙ known
 peer-stays w number (show v question written) world is others known = ap (λ (later : World). session_number later w) (shows-leave by_history v question written world) ∙ known
@@ -129,7 +135,6 @@ peer-stays w number (cut v) world is others known = has-cuts w number v world (n
 peer-stays w number (send v octets) world is others known = has-sends w number v octets world (not_true (bytes_eq v w) others) known
 peer-stays w number (stop v rcode delay) world is others known = has-stops w number v rcode delay world known
 peer-stays w number point world is others known = known
-peer-stays w number _ world is others known = absurd cc
 
 pub peer-stays-lines : (w : Word) (number : ℕ) (lines : List ScriptLine) (world : World) → AllByRecursion IsBuiltLine lines → list_all (is_of_others w) lines ≡ true → session_number world w ≡ Some number
     → session_number (world_after lines world) w ≡ Some number
@@ -178,6 +183,9 @@ module _ (hub : Hub) (number : ℕ) (s : Session) where
 
   leaves-update : (later : Hub) (message : List ℕ) → At hub number later s → Leaves (hubs.update later message).1
   leaves-update later message at = holds-update AnyMessage Leaves later (λ entry by. inr (entered-longer later (entered entry later) entry at refl)) (inl at) message tt
+
+  leaves-hear : (later : Hub) (on : ℕ) (datagram : List ℕ) → At hub number later s → Leaves (hubs.hear later on datagram).1
+  leaves-hear later on datagram at = holds-hear AnyMessage Leaves later (λ entry by. inr (entered-longer later (entered entry later) entry at refl)) (inl at) on datagram tt
 
   leaves-more : (later : Hub) → Leaves later → Leaves (with_new later)
   leaves-more later (inl at) =
@@ -269,44 +277,51 @@ module _ (hub : Hub) (number : ℕ) (s : Session) where
     leaves-without None differs later h = h
     leaves-without (Some m) differs later h = leaves-end m (differs m refl) later h
 
-    leaves-cut_where : (ls : List (List ℕ)) (seat : Seat) (world : World) → ((m : ℕ) → seat.session ≡ Some m → number ≡ m → ⊥) → Leaves world.hub → Leaves (cut_where ls seat world).hub
-    leaves-cut_where [] seat world differs h = h
-    leaves-cut_where (l ∷ ls) seat world differs h = leaves-without seat.session differs world.hub h
+    leaves-cut_if : (over : Bool) (seat : Seat) (world : World) → ((m : ℕ) → seat.session ≡ Some m → number ≡ m → ⊥) → Leaves world.hub → Leaves (world_cut_if over seat world).hub
+    leaves-cut_if false seat world differs h = h
+    leaves-cut_if true seat world differs h = leaves-without seat.session differs world.hub h
 
     leaves-timed : (t : ℕ) (seats : List Seat) (p : Printed) → AllByRecursion (λ s. (m : ℕ) → s.session ≡ Some m → number ≡ m → ⊥) seats → Leaves p.0.hub → Leaves (fold (timed t) p seats).0.hub
     leaves-timed t [] p all h = h
     leaves-timed t (seat ∷ seats) p all h =
         let later : Seat = record seat { client = steps.moment seat.client t } in
-        leaves-timed t seats (timed t p seat) all.1 (leaves-cut_where (close_lines seat.word (closed_as later.client)) later (with_seat later p.0) all.0 h)
+        leaves-timed t seats (timed t p seat) all.1 (leaves-cut_if (is_over None (closed_as later.client)) later (with_seat later p.0) all.0 h)
 
     leaves-stop : (o : Option ℕ) (rcode delay : ℕ) (world : World) → ((m : ℕ) → o ≡ Some m → number ≡ m → ⊥) → Leaves world.hub → Leaves (stopped world rcode delay o).hub
     leaves-stop None rcode delay world differs h = h
     leaves-stop (Some m) rcode delay world differs h = leaves-in_session m (differs m refl) (asked_to_stop rcode delay) world.hub h
 
-    leaves-settles : (v : Word) (world : World) → IsApart world → session_number world w ≡ Some number → Leaves world.hub → Leaves (settles v world).0.hub
-    leaves-settles v world a known h = settle-does (λ later. Leaves later.hub) v world h (λ seat e.
-        let p = settling world seat in
+    leaves-passes : (way : Way) (v : Word) (world : World) → IsApart world → session_number world w ≡ Some number → Leaves world.hub → Leaves (way_does way v world).0.hub
+    leaves-passes way v world a known h = pass-does (λ later. Leaves later.hub) way v world h (λ seat e.
+        let p = passes_way way world seat in
         let differs = seat-differs world seat (seat-found v world seat e a) known in
         let behind : Leaves p.world.hub =
-        (settling-keeps Leaves (λ x. Unit {0}) any-seat world seat (λ m some. leaves-give m (differs m some)) (λ m some hub' x k n l. leaves-in_session m (differs m some) (takes (take k x.up_wire)) hub' l) h tt).0 in
-        leaves-cut_where (end_lines p.seat.word p.over ++ close_lines p.seat.word (closed_as p.seat.client)) p.seat (with_seat p.seat p.world) (λ m is. differs m (sym (settled-names world seat).session ∙ is)) behind)
+        (passing-keeps Leaves (λ x. Unit {0}) any-seat way world seat (λ m some. leaves-give m (differs m some)) (λ m some hub' x k n l. leaves-in_session m (differs m some) (takes (take k x.up_wire)) hub' l) h tt).0 in
+        leaves-cut_if (is_over p.over (closed_as p.seat.client)) p.seat (with_seat p.seat p.world) (λ m is. differs m (sym (passed-names way world seat).session ∙ is)) behind)
 
     leaves-feeds : (v : Word) (octets : List ℕ) (world : World) → IsApart world → session_number world w ≡ Some number → Leaves world.hub → Leaves (feeds v octets world).0.hub
     leaves-feeds v octets world a known h = feed-does (λ later. Leaves later.hub) v octets world h (λ seat e.
         let p = fed octets world seat in
-        leaves-cut_where (fed_ending octets world seat) p.seat (with_seat p.seat world) (seat-differs world seat (seat-found v world seat e a) known) h)
+        leaves-cut_if (fed_over octets world seat) p.seat (with_seat p.seat world) (seat-differs world seat (seat-found v world seat e a) known) h)
 
     leaves-line : (line : ScriptLine) (world : World) → IsBuiltLine line → is_of_others w line ≡ true → IsApart world → session_number world w ≡ Some number → At hub number world.hub s
         → Leaves (line_does by_history line world).0.hub
     leaves-line silent world is others a known at = inl at
     leaves-line (timers i k) world is others a known at = inl at
     leaves-line (zone apex serial mode) world is others a known at = inl at
+    leaves-line (link v domain) world is others a known at = inl at
+    leaves-line (hear v datagram) world is others a known at = leaves-hear world.hub (number_or_zero (position (bytes_eq v) world.links)) datagram at
     leaves-line (client v) world is others a known at = inl at
     leaves-line (lone v) world is others a known at = inl at
     leaves-line (ask v question) world is others a known at = ask-does world (λ later. Leaves later.hub) (codes "asked") v (subscribing question) (inl at) (λ seat e. inl at)
     leaves-line (drop_question v question) world is others a known at = ask-does world (λ later. Leaves later.hub) (codes "dropped") v (unsubscribing question) (inl at) (λ seat e. inl at)
+    leaves-line (reconfirm v rr) world is others a known at = ask-does world (λ later. Leaves later.hub) (codes "reconfirm") v (reconfirming rr) (inl at) (λ seat e. inl at)
     leaves-line (open_connection v) world is others a known at = open-does world (λ later. Leaves later.hub) v (inl at) (λ seat e. inl at) (λ seat e. leaves-more world.hub (inl at))
-    leaves-line (settle v) world is others a known at = leaves-settles v world a known (inl at)
+    leaves-line (say v n) world is others a known at = leaves-passes (ways.Say n) v world a known (inl at)
+    leaves-line (up v n) world is others a known at = leaves-passes (ways.Up n) v world a known (inl at)
+    leaves-line (emit v n) world is others a known at = leaves-passes (ways.Emit n) v world a known (inl at)
+    leaves-line (down v n) world is others a known at = leaves-passes (ways.Down n) v world a known (inl at)
+    leaves-line (settle v) world is others a known at = leaves-passes ways.Settle v world a known (inl at)
     leaves-line (feed v octets) world is others a known at = leaves-feeds v octets world a known (inl at)
     leaves-line (show v question written) world is others a known at = subst (λ (later : World). Leaves later.hub) (sym (shows-leave by_history v question written world)) (inl at)
     leaves-line (at_moment t) world is others a known at =
@@ -321,7 +336,6 @@ module _ (hub : Hub) (number : ℕ) (s : Session) where
         stop-does world (λ later. Leaves later.hub) v rcode delay (λ seat e. leaves-stop seat.session rcode delay world (seat-differs world seat (seat-found v world seat e a) known) (inl at))
         (leaves-stop (session_number world v) rcode delay world (λ m same. other-session v m world (not_true (bytes_eq v w) others) a.apart known same) (inl at))
     leaves-line point world is others a known at = inl at
-    leaves-line _ world is others a known at = absurd cc
 
 pub others-leave : (hub : Hub) (number : ℕ) (s : Session) (w : Word) (lines : List ScriptLine) (world : World) → AllByRecursion IsBuiltLine lines → list_all (is_of_others w) lines ≡ true → IsApart world
     → session_number world w ≡ Some number → At hub number world.hub s → At hub number (world_after lines world).hub s ⊎ Longer hub (world_after lines world).hub

@@ -3,7 +3,7 @@
 --     Waits      the session, at rest before some turns
 --     TellsTurns      the octets that are told of each piece, and the lines
 --     turn-lines      the law
-use Rattle.std.proofs.Common.{◌≡◌, ◌⊎◌, inl, inr, ℕ, zero, suc, ◌+◌, ◌<◌, ◌≤◌, true, List, [], ◌∷◌, ◌++◌, map, take, length, flat_map, codes, Option, Some, None, option_map, refl, sym, ◌∙◌, ap, subst, arith, append-nil, length-append}
+use Rattle.std.proofs.Common.{◌≡◌, ◌⊎◌, inl, inr, ℕ, zero, suc, ◌+◌, ◌<◌, ◌≤◌, true, List, [], ◌∷◌, ◌++◌, map, take, length, flat_map, Option, Some, None, option_map, refl, sym, ◌∙◌, ap, subst, arith, append-nil, length-append}
 use Rattle.std.specs.List.{concat, list_all, AllByRecursion}
 use Rattle.coalesce.proofs.Packing.{each-front}
 use Rattle.dsosession.specs.declared.session.EndReason.{EndReason}
@@ -17,9 +17,9 @@ use Rattle.pushserver.specs.PlainHubs.{Session, Hub}
 use Rattle.replay.specs.Lines.{Word, ScriptLine, send}
 use Rattle.replay.specs.World.{World, session_number, hub_without, cut_peer}
 use Rattle.replay.specs.PassedOctets.{Exchanged, exchanged, enough}
-use Rattle.replay.specs.TextWords.{spaced, octets_text, HeldRecords, by_history}
+use Rattle.replay.specs.TextWords.{bytes_line, HeldRecords, by_history}
 use Rattle.replay.specs.Text.{Printed, end_lines, exchanges, sends, line_does, printed_by, world_after}
-use Rattle.replay.specs.Pieces.{is_of_others, Turn, printed_turns}
+use Rattle.replay.specs.ScriptPieces.{is_of_others, Turn, printed_turns}
 use Rattle.replay.proofs.turns.ZoneSizes.{IsBounded}
 use Rattle.replay.proofs.rest.AtRest.{Core, Ran, resting, ran, behind_octets, At, Longer, EmitsAsRan, StaysLonger}
 use Rattle.replay.proofs.worlds.BetweenLines.{each-behind, after-append, printed-append}
@@ -36,12 +36,9 @@ use Rattle.replay.proofs.rest.RestingExchanges.{ExchangedLive, ExchangedBy, Exch
 
 -- ---- one line
 
-abbrev told_line : Word → List ℕ → List ℕ
-told_line w octets = spaced (codes "bytes" ∷ w ∷ octets_text octets ∷ [])
-
 module _ (w : Word) (number : ℕ) (piece : List ℕ) (world : World) where
   abbrev by_over : Exchanged → Option EndReason → Printed
-  by_over x over = (elim over as (λ _. World) [ None ↦ record world { hub = x.hub } | Some reason ↦ cut_peer w (record world { hub = x.hub }) ], told_line w x.octets ∷ end_lines w over)
+  by_over x over = (elim over as (λ _. World) [ None ↦ record world { hub = x.hub } | Some reason ↦ cut_peer w (record world { hub = x.hub }) ], bytes_line w x.octets ∷ end_lines w over)
 
   abbrev exchange : Exchanged
   exchange = exchanged enough number piece world.hub []
@@ -51,7 +48,7 @@ module _ (w : Word) (number : ℕ) (piece : List ℕ) (world : World) where
   sends-known known = ap (by_number world w piece) known
 
   -- and where this goes on, one line is told
-  one-line : session_number world w ≡ Some number → exchange.over ≡ None → line_does by_history (send w piece) world ≡ (record world { hub = exchange.hub }, told_line w exchange.octets ∷ [])
+  one-line : session_number world w ≡ Some number → exchange.over ≡ None → line_does by_history (send w piece) world ≡ (record world { hub = exchange.hub }, bytes_line w exchange.octets ∷ [])
   one-line known live = sends-known known ∙ ap (by_over exchange) live
 
   -- its end leaves the history
@@ -156,13 +153,13 @@ turns_with hub piece pieces core input none r octets told is live same turns (su
 
 -- the lines of a turn before those of others
 turn-before : (records : HeldRecords) (w : Word) (turn : Turn) (turns : List Turn) (octets : List ℕ) (told : List (List ℕ)) (world : World)
-    → (line_does by_history (send w turn.0) world).1 ≡ told_line w octets ∷ []
+    → (line_does by_history (send w turn.0) world).1 ≡ bytes_line w octets ∷ []
     → printed_by records (lines_in w turns) (world_after turn.1 (line_does by_history (send w turn.0) world).0) ≡ printed_turns records w turns told (world_after turn.1 (line_does by_history (send w turn.0) world).0)
     → printed_by records (lines_in w (turn ∷ turns)) world ≡ printed_turns records w (turn ∷ turns) (octets ∷ told) world
 turn-before records w turn turns octets told world one rest =
     let later : World = (line_does by_history (send w turn.0) world).0 in
     ap (λ (lines : List (List ℕ)). lines ++ printed_by records (turn.1 ++ lines_in w turns) later) one
-    ∙ ap (λ (lines : List (List ℕ)). told_line w octets ∷ lines) (printed-append records turn.1 (lines_in w turns) later ∙ ap (λ (lines : List (List ℕ)). printed_by records turn.1 later ++ lines) rest)
+    ∙ ap (λ (lines : List (List ℕ)). bytes_line w octets ∷ lines) (printed-append records turn.1 (lines_in w turns) later ∙ ap (λ (lines : List (List ℕ)). printed_by records turn.1 later ++ lines) rest)
 
 -- what is said of turns
 abbrev pub PrintsTurns : Hub → ℕ → Word → List Turn → Type 0
@@ -230,7 +227,7 @@ module _ (hub : Hub) (number : ℕ) (w : Word) (turn : Turn) (turns : List Turn)
     g : GoesOn hub number second.0 first.1 x (ran hub first.0 core)
     g = goes-on hub number second.0 first.1 x no_entry_piece (ran hub first.0 core) told in_parts
 
-    one : line_does by_history (send w piece) world ≡ (record world { hub = x.hub }, told_line w x.octets ∷ [])
+    one : line_does by_history (send w piece) world ≡ (record world { hub = x.hub }, bytes_line w x.octets ∷ [])
     one = one-line w number piece world h.known g.told.over
 
     known : session_number later w ≡ Some number

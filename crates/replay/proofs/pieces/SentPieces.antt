@@ -13,9 +13,9 @@ use Rattle.pushserver.specs.Hubs.{state_now}
 use Rattle.replay.specs.Lines.{Word, ScriptLine}
 use Rattle.replay.specs.World.{World}
 use Rattle.replay.specs.TextWords.{spaced, octets_text, HeldRecords}
-use Rattle.replay.specs.Cuts.{answers_to, standing_of}
+use Rattle.replay.specs.SessionPieces.{answers_to, standing_of}
 use Rattle.replay.specs.Text.{Printed, ended_lines, sends, printed_by, text_by, world_after}
-use Rattle.replay.specs.Pieces.{Turn, SentInPieces, pieces_of, lines_sent, lines_of, world_start, world_then, world_behind, answered_to_first, answered_to_all, SendsPieces, TellsInTurn, printed_turns, pieces_reply}
+use Rattle.replay.specs.ScriptPieces.{Turn, SentInPieces, pieces_of, lines_sent, lines_of, world_start, world_then, world_behind, answered_to_first, answered_to_all, SendsPieces, TellsInTurn, printed_turns, pieces_reply}
 use Rattle.replay.specs.BuiltScripts.{reply_to_script}
 use Rattle.replay.proofs.turns.ZoneSizes.{IsBounded}
 use Rattle.replay.proofs.rest.AtRest.{Core, Ran, core_of, resting, ran, At, Longer, IsOver, EmitsAsRan}

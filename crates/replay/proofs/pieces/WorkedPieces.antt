@@ -1,6 +1,7 @@
 -- The promise to who sends its octets in pieces has scripts of which it speaks: one with a zone and a peer whose SUBSCRIBE comes in two lines, cut in the midst of its header; between them stand a comment, a point, and a line of another peer.
 use Rattle.std.proofs.Common.{◌≡◌, ℕ, Bool, true, cond, List, [], ◌∷◌, ◌++◌, map, take, drop, codes, Option, Some, None, refl, ap, arith}
 use Rattle.std.specs.Fmt.{digits}
+use Rattle.std.specs.Result.{result_err}
 use Rattle.std.specs.Str.{is_utf8}
 use Rattle.std.proofs.lemmas.Str.{is_utf8-from_IsUtf8}
 use Rattle.push_base.specs.Hexadecimal.{hex}
@@ -13,8 +14,8 @@ use Rattle.replay.specs.Scripts.{nothing_known, lines_from, client_words, lines_
 use Rattle.replay.specs.World.{World, start_world}
 use Rattle.replay.specs.TextWords.{by_notices}
 use Rattle.replay.specs.Text.{world_after}
-use Rattle.replay.specs.BuiltScripts.{first_unbuilt, first_later}
-use Rattle.replay.specs.Pieces.{Turn, SentInPieces, lines_of, answered_to_first, SendsPieces, printed_turns}
+use Rattle.replay.specs.BuiltScripts.{understood, first_later}
+use Rattle.replay.specs.ScriptPieces.{Turn, SentInPieces, lines_of, answered_to_first, SendsPieces, printed_turns}
 use Rattle.replay.proofs.worlds.ClientOutputs.{all_octets}
 use Rattle.replay.proofs.lines.LineWords.{word_utf8}
 use Rattle.replay.proofs.serving.WorkedServing.{frame_sent}
@@ -62,7 +63,7 @@ lines = ap with_comment is_text
 sends : SendsPieces script sent
 unfolding first_later
 sends = record {
-  built = ap (λ (os : List (Option ScriptLine)). first_unbuilt (client_words os) nothing_known 1 os) lines;
+  built = ap (λ (os : List (Option ScriptLine)). result_err (lines_from (client_words os) nothing_known 1 (map understood os))) lines;
   read = ap (λ (os : List (Option ScriptLine)). lines_from (client_words os) nothing_known 1 os) lines;
   place = refl;
   rest = record { there = refl; standing = refl; queue = refl; output = refl; waits = refl };

@@ -173,7 +173,7 @@ TurnsAsTold = (hub : Hub) (number : ℕ) (later : Hub) (message : List ℕ) (cor
 abbrev pub IsFew : Turned → Type 0
 IsFew None = Unit {0}
 IsFew (Some (inl reason)) = Unit {0}
-IsFew (Some (inr left)) = length left.1 ≤ 1000000
+IsFew (Some (inr left)) = length left.1 ≤ 2000000
 
 abbrev pub WritesFew : Type 0
 WritesFew = (hub : Hub) (message : List ℕ) (core : Core) → IsBounded (state_now hub) → IsFew (turned hub message core)

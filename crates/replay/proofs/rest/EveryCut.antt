@@ -11,7 +11,7 @@ use Rattle.pushsession.specs.declared.standing.Standing.TheVariants.{Live, Ended
 use Rattle.pushserver.specs.PlainHubs.{Session, Hub}
 use Rattle.pushserver.specs.Hubs.{state_now}
 use Rattle.pushsession.specs.Sessions.{without_first}
-use Rattle.replay.specs.Cuts.{given_for, answers_to, IsAtRest, ArePassable, standing_of, GivesAsAnswered, AnswersInTurn, OneOutputForEveryCut, AnswersEveryCut}
+use Rattle.replay.specs.SessionPieces.{given_for, answers_to, IsAtRest, ArePassable, standing_of, GivesAsAnswered, AnswersInTurn, OneOutputForEveryCut, AnswersEveryCut}
 use Rattle.replay.proofs.turns.ZoneSizes.{IsBounded}
 use Rattle.replay.proofs.rest.AtRest.{core_of, Ran, ran, Longer, EmitsAsRan, TurnsAsTold, WritesFew, StaysLonger}
 use Rattle.replay.proofs.worlds.InputOctets.{found_octets}

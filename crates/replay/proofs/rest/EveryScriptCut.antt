@@ -5,7 +5,7 @@ use Rattle.pushserver.specs.PlainHubs.{Hub}
 use Rattle.pushserver.specs.Hubs.{connect}
 use Rattle.replay.specs.World.{start_world}
 use Rattle.replay.specs.Text.{world_after}
-use Rattle.replay.specs.Cuts.{AnswersEveryCutIn}
+use Rattle.replay.specs.SessionPieces.{AnswersEveryCutIn}
 use Rattle.replay.proofs.worlds.BetweenLines.{bounded-between, bounded-connected}
 use Rattle.replay.proofs.worlds.InputOctets.{octets-lines, octets-connected}
 use Rattle.replay.proofs.rest.Turning.{turns-as-told}

@@ -7,7 +7,7 @@ use Rattle.pushserver.specs.PlainHubs.{Session, Hub, Giving}
 use Rattle.pushserver.specs.Hubs.{state_now}
 use Rattle.pushserver.specs.Giving.{did, copies, copies_or, given_after, reacted, after_reaction}
 use Rattle.replay.specs.PassedOctets.{enough}
-use Rattle.replay.specs.Cuts.{answers_to}
+use Rattle.replay.specs.SessionPieces.{answers_to}
 use Rattle.replay.proofs.turns.ZoneSizes.{IsBounded}
 use Rattle.replay.proofs.rest.AtRest.{Core, Turned, resting, turned, ran_by, ran, behind_octets, At, Longer, Follows, IsFew, TurnsAsTold, WritesFew, StaysLonger}
 use Rattle.replay.proofs.rest.RestingHubs.{at-in_session}

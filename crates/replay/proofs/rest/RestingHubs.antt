@@ -15,7 +15,7 @@ use Rattle.pushsession.specs.Sessions.{is_open, room_of, takes}
 use Rattle.pushserver.specs.Giving.{did, by_standing, give}
 use Rattle.pushserver.proofs.SessionLists.{found-in}
 use Rattle.pushserver.proofs.hub_steps.Cases.{output_as, give_as}
-use Rattle.replay.specs.Cuts.{IsAtRest}
+use Rattle.replay.specs.SessionPieces.{IsAtRest}
 use Rattle.replay.proofs.rest.AtRest.{Core, core_of, resting, At, IsOver}
 
 -- ---- what is done in a session

@@ -12,7 +12,7 @@ use Rattle.dsotlv.proofs.StreamLaws.{none_found}
 use Rattle.pushserver.specs.PlainHubs.{Hub}
 use Rattle.pushserver.specs.Hubs.{state_now}
 use Rattle.replay.specs.PassedOctets.{Exchanged, exchanged, enough}
-use Rattle.replay.specs.Cuts.{given_for}
+use Rattle.replay.specs.SessionPieces.{given_for}
 use Rattle.replay.proofs.turns.ZoneSizes.{IsBounded}
 use Rattle.replay.proofs.rest.AtRest.{Core, Ran, resting, ran, behind_octets, At, Longer, IsOver, EmitsAsRan, StaysLonger}
 use Rattle.replay.proofs.rest.RanLaws.{followed_by, followed, ran-append}

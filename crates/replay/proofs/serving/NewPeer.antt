@@ -24,7 +24,7 @@ use Rattle.pushserver.proofs.Walks.{with_new}
 use Rattle.replay.specs.Lines.{Word}
 use Rattle.replay.specs.World.{World, session_number}
 use Rattle.replay.specs.PassedOctets.{exchanged, enough}
-use Rattle.replay.specs.TextWords.{spaced, bytes_words}
+use Rattle.replay.specs.TextWords.{bytes_line}
 use Rattle.replay.specs.Text.{Printed, printing, end_lines, exchanges, sends}
 use Rattle.replay.proofs.serving.LastSession.{IsBehind, hub_at, session_of-last, in_session-last}
 use Rattle.replay.proofs.serving.Answering.{notices_for, begun, clocks_at, first_answer-additions}
@@ -32,10 +32,6 @@ use Rattle.replay.proofs.serving.LastAnswering.{Says, IsAnswered, with_push, acc
 use Rattle.replay.proofs.serving.OnePeer.{Gives, gives}
 use Rattle.replay.proofs.turns.ReplySizes.{accepted-size}
 use Rattle.replay.proofs.turns.ZoneSizes.{IsBounded}
-
--- the line of octets that come back
-abbrev pub bytes_line : Word → List ℕ → List ℕ
-bytes_line w octets = spaced (bytes_words w octets)
 
 -- a hub's new session
 abbrev new_in : Hub → Session
@@ -65,8 +61,8 @@ module _ (hub : Hub) (below : IsBehind hub) (message : List ℕ) (question : Que
       subst (λ later. Says hub later (first_reply (with_new hub) message question)) (sym taken_up)
       (subst (λ (octets : List ℕ). Says hub (accepted hub below (clocks_at hub message) (id_of message) question) octets) same_reply (accepted-Says hub below (clocks_at hub message) (id_of message) question))
 
-  is_short : IsBounded (state_now hub) → length (first_reply (with_new hub) message question) ≤ 1000000
-  is_short bounded = subst (λ (octets : List ℕ). length octets ≤ 1000000) same_reply (accepted-size (state_now hub) (id_of message) question bounded)
+  is_short : IsBounded (state_now hub) → length (first_reply (with_new hub) message question) ≤ 2000000
+  is_short bounded = subst (λ (octets : List ℕ). length octets ≤ 2000000) same_reply (accepted-size (state_now hub) (id_of message) question bounded)
 
 -- where a session is made, it is the hub's last
 connect-made : (hub : Hub) → IsSome (connect hub).0 → connect hub ≡ (Some hub.numbers_given, with_new hub)

@@ -23,7 +23,7 @@ pub record Gives (hub : Hub) (x : Exchanged) (reply : List ℕ) : Type 0 where
 
 module _ (hub : Hub) (below : IsBehind hub) where
   module _ (octets message reply : List ℕ) (a : IsAnswered hub below message reply) (found : first_message octets ≡ Some (message, [])) (some : is_empty reply ≡ false)
-      (few : length octets ≤ 65537) (short : length reply ≤ 1000000) where
+      (few : length octets ≤ 65537) (short : length reply ≤ 2000000) where
     abbrev pub taken_by_found : Option Session → ℕ
     taken_by_found None = 0
     taken_by_found (Some session) = min (length octets) (room_of session)

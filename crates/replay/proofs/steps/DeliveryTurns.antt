@@ -6,7 +6,7 @@ use Rattle.pushclient.specs.Clients.{Client, room_of, in_connection, Connection}
 use Rattle.pushclient.specs.Rule.{KeptClient, StandsFor}
 use Rattle.replay.specs.PassedOctets.{Delivered, delivered, to_client, stepped, enough}
 use Rattle.replay.specs.KeptSteps.{Steps, IsDelivered, Delivers}
-use Rattle.replay.proofs.Deliveries.{later_of, delivered_by, one-delivered}
+use Rattle.replay.proofs.ClientPieces.{later_of, delivered_by, one-delivered}
 use Rattle.replay.proofs.exchanges.Taking.{front}
 
 -- the rounds so far lead to the whole

@@ -11,7 +11,7 @@ use Rattle.pushclient.proofs.Reactions.{Told, Does, does-reacted}
 use Rattle.pushclient.proofs.MessageSteps.{step_by, unclosed_by}
 use Rattle.replay.specs.PassedOctets.{stepped, enough}
 use Rattle.replay.specs.KeptSteps.{ends_steps, Steps}
-use Rattle.replay.proofs.Deliveries.{stepped_by}
+use Rattle.replay.proofs.ClientPieces.{stepped_by}
 
 -- ---- a client that waits is as it was
 

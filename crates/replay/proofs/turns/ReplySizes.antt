@@ -1,5 +1,5 @@
 -- The reply to a SUBSCRIBE has far fewer octets than a script's turns.
---     accepted-size      at most 1,000,000 octets, in a state that is within the bounds
+--     accepted-size      at most 2,000,000 octets, in a state that is within the bounds
 use Rattle.std.proofs.Common.{◌≡◌, ℕ, ◌+◌, ◌≤◌, false, List, [], ◌∷◌, ◌++◌, length, flat_map, sym, subst, arith, length-append, le_trans}
 use Rattle.dnsname.specs.Names.{Labels, octets}
 use Rattle.rrset.specs.Header.{answer_octets}
@@ -46,16 +46,16 @@ push-size (m ∷ ms) n few = by (flat_map notice_octets (m ∷ ms)) few
     by : (o : List ℕ) → length o ≤ n → length (frame (answer_octets 0 (dso_flags false 0) ++ tlv_octets (record { kind = push_tlv; octets = o }))) ≤ 18 + n
     by o few = omega arith
 
-notices-size : (state : State) (question : Question) → IsBounded state → length (push_frame (notices_for state question)) ≤ 18 + 960000
+notices-size : (state : State) (question : Question) → IsBounded state → length (push_frame (notices_for state question)) ≤ 18 + 1920000
 notices-size state question b =
     let there = at_name question.name (records state) in
-    push-size (notices_for state question) 960000
-    (subst (λ n. n ≤ 960000) (sym (additions-size (matching question there))) (le_trans (size_of-only (matches question) there) (records-size state question.name b)))
+    push-size (notices_for state question) 1920000
+    (subst (λ n. n ≤ 1920000) (sym (additions-size (matching question there))) (le_trans (size_of-only (matches question) there) (records-size state question.name b)))
 
-pub accepted-size : (state : State) (id : ℕ) (question : Question) → IsBounded state → length (with_push id (notices_for state question)) ≤ 1000000
+pub accepted-size : (state : State) (id : ℕ) (question : Question) → IsBounded state → length (with_push id (notices_for state question)) ≤ 2000000
 accepted-size state id question b =
-    subst (λ n. n ≤ 1000000) (sym (length-append (frame (answer_to id noerror)) (push_frame (notices_for state question))))
+    subst (λ n. n ≤ 2000000) (sym (length-append (frame (answer_to id noerror)) (push_frame (notices_for state question))))
     (sum (length (push_frame (notices_for state question))) (notices-size state question b))
   where
-    sum : (n : ℕ) → n ≤ 18 + 960000 → 14 + n ≤ 1000000
+    sum : (n : ℕ) → n ≤ 18 + 1920000 → 14 + n ≤ 2000000
     sum n h = omega arith

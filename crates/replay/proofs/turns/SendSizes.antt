@@ -4,10 +4,11 @@ use Rattle.std.proofs.Common.{◌≡◌, ℕ, ◌*◌, ◌≤◌, Bool, true, fa
 use Rattle.std.proofs.lemmas.Bool.Decides.{nat_tests}
 use Rattle.push_base.proofs.HexLaws.{read_is_spelled}
 use Rattle.dnsname.specs.Names.{Labels, octets, is_name}
-use Rattle.dnsname.proofs.Decisions.{is_name-Decides}
-use Rattle.history.proofs.ShownAtHome.{all-parts}
+use Rattle.std.specs.List.{list_all}
+use Rattle.dnsname.proofs.Decisions.{is_name-Decides, and_true}
 use Rattle.replay.specs.Lines.{Word, ScriptLine, send, octets_written}
 use Rattle.replay.specs.Scripts.{script_of}
+use Rattle.replay.proofs.worlds.BetweenLines.{each-behind}
 use Rattle.replay.proofs.lines.LineWords.{digits_size}
 use Rattle.replay.proofs.lines.SentOctets.{sent_by, written-by, sends-pass}
 
@@ -35,4 +36,4 @@ named_few name is = is_le (length (octets name)) (few (length (octets name)) ((i
 
 pub sends-short : (text : List ℕ) (before behind : List ScriptLine) (w : Word) (octets : List ℕ) → script_of text ≡ Ok (before ++ send w octets ∷ behind) → length octets ≤ 65537
 sends-short text before behind w octets read =
-    le_is (length octets) (all-parts (λ (line : ScriptLine). are_few (sent_by line) ≡ true) before (send w octets) behind (sends-pass are_few written_few named_few text (before ++ send w octets ∷ behind) read)).1
+    le_is (length octets) (and_true (are_few octets) true (each-behind (λ (line : ScriptLine). list_all are_few (sent_by line) ≡ true) before (send w octets ∷ behind) (sends-pass are_few written_few named_few text (before ++ send w octets ∷ behind) read)).0).0

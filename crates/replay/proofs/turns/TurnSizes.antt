@@ -1,5 +1,5 @@
 -- What a session with an empty queue writes when it reacts to a message has far fewer octets than a script's turns.
---     writes-few      at most 1,000,000 octets, in a state that is within the bounds
+--     writes-few      at most 2,000,000 octets, in a state that is within the bounds
 use Rattle.std.proofs.Common.{◌≡◌, ℕ, ◌+◌, ◌≤◌, Bool, true, false, cond, not, ◌&&◌, List, [], length, Option, Some, None, Result, Ok, Err, sym, ◌∙◌, ap, subst, arith}
 use Rattle.std.specs.Prelude.{bit_and}
 use Rattle.rrset.specs.Header.{id_of, flags_of, answer_octets}
@@ -35,16 +35,16 @@ use Rattle.replay.proofs.rest.AtRest.{Core, silent, Turned, enters, goes_on, lef
 
 -- ---- answers of a header, or with one TLV
 
-header-few : (id flags : ℕ) → length (frame (answer_octets id flags)) ≤ 1000000
+header-few : (id flags : ℕ) → length (frame (answer_octets id flags)) ≤ 2000000
 header-few id flags = omega arith
 
-refusal-few : (id rcode : ℕ) → length (frame (refusal_to id rcode)) ≤ 1000000
+refusal-few : (id rcode : ℕ) → length (frame (refusal_to id rcode)) ≤ 2000000
 refusal-few id rcode = omega arith
 
-grant-few : (id inactivity keepalive : ℕ) → length (frame (grant_to id inactivity keepalive)) ≤ 1000000
+grant-few : (id inactivity keepalive : ℕ) → length (frame (grant_to id inactivity keepalive)) ≤ 2000000
 grant-few id inactivity keepalive = omega arith
 
-none-few : 0 ≤ 1000000
+none-few : 0 ≤ 2000000
 none-few = omega arith
 
 few-cond : (b : Bool) (t u : Turned) → IsFew t → IsFew u → IsFew (cond b t u)
@@ -52,7 +52,7 @@ few-cond true t u h k = h
 few-cond false t u h k = k
 
 -- a session with few octets to write
-few-left : (s : Session) → length s.output ≤ 1000000 → IsFew (left_as s)
+few-left : (s : Session) → length s.output ≤ 2000000 → IsFew (left_as s)
 few-left s few = by s.standing
   where
     turned : Standing → Turned
@@ -81,12 +81,12 @@ module _ (hub : Hub) where
       output_says (keeps_now hub) (now hub) answer notices [] (subscribed (keeps_now hub) id question end (silent core)) ∙ ap (with_push id) (first_answer-silent core question)
 
   module _ (message : List ℕ) (b : IsBounded (state_now hub)) where
-    few-decided : (id : ℕ) (core : Core) (v : Verdict) → length (decided (keeps_now hub) (tells_now hub) (now hub) id v (silent core)).output ≤ 1000000
+    few-decided : (id : ℕ) (core : Core) (v : Verdict) → length (decided (keeps_now hub) (tells_now hub) (now hub) id v (silent core)).output ≤ 2000000
     few-decided id core (Refuse rcode) = refusal-few id rcode
     few-decided id core (Abort reason) = none-few
-    few-decided id core (Accept question) = subst (λ (os : List ℕ). length os ≤ 1000000) (sym (accepted-output id question core)) (accepted-size (state_now hub) id question b)
+    few-decided id core (Accept question) = subst (λ (os : List ℕ). length os ≤ 2000000) (sym (accepted-output id question core)) (accepted-size (state_now hub) id question b)
 
-    few-answered : (core : Core) → length (subscribing hub message (silent core)).output ≤ 1000000
+    few-answered : (core : Core) → length (subscribing hub message (silent core)).output ≤ 2000000
     few-answered core =
         let question = question_of (primary_data message) in
         few-decided (id_of message) core (verdict_on (keeps_now hub) (id_of message) question (has_home hub question) core.subscriptions)
@@ -94,7 +94,7 @@ module _ (hub : Hub) where
     few-updated : (code : ℕ) (core : Core) → IsFew (left_as (answers_with hub (answer_to_update (id_of message) code) (silent core)))
     few-updated code core = header-few (id_of message) (0xa800 + code)
 
-    few-itself : (r : Reaction) (core : Core) → length (reacting hub r message (silent core)).output ≤ 1000000
+    few-itself : (r : Reaction) (core : Core) → length (reacting hub r message (silent core)).output ≤ 2000000
     few-itself (reactions.Answer rcode) core = header-few (id_of message) (dso_flags true rcode)
     few-itself reactions.Grant core = grant-few (id_of message) hub.timers.inactivity hub.timers.keepalive
     few-itself (reactions.Abort reason) core = none-few

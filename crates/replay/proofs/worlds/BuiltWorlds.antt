@@ -4,41 +4,47 @@
 --     AreReady Good C world, any-ready      what is good of what clients have said
 --     keeps-lines      the law
 use Rattle.std.proofs.Common.{◌≡◌, ℕ, Bool, true, false, cond, List, [], ◌∷◌, ◌++◌, fold, Option, Some, None, option_map, sym, subst, codes, ◌-◌, take, min, length, refl}
+use Rattle.std.specs.Prelude.{position}
 use Rattle.std.specs.Str.{bytes_eq}
 use Rattle.coalesce.proofs.ReadBack.{each-append}
 use Rattle.dnsname.specs.Names.{octets}
 use Rattle.rrset.specs.declared.record.Question.{Question}
+use Rattle.rrset.specs.declared.record.Rr.{Rr}
 use Rattle.std.specs.List.{AllByRecursion}
 use Rattle.dsosession.specs.declared.session.EndReason.{EndReason}
 use Rattle.pushserver.specs.Hubs as hubs
 use Rattle.pushserver.specs.PlainHubs.{Hub}
-use Rattle.pushserver.specs.Calls.{updates, moves, connects, stops}
+use Rattle.pushserver.specs.Calls.{updates, hears as hearing, moves, connects, stops}
 use Rattle.pushserver.specs.Hubs.{now, connect, taken_by}
 use Rattle.pushserver.proofs.session_steps.Lists.{found-each}
 use Rattle.pushserver.proofs.Walks.{AnyMessage, IsKept, keeps-called}
-use Rattle.pushclient.specs.Clients.{Client, new_client, subscribe, unsubscribe, closed_as, connected, cut as cut_client, give_octets, output_of, is_connected}
+use Rattle.pushclient.specs.Clients.{Client, new_client, subscribe, unsubscribe, reconfirm as doubt, closed_as, connected, cut as cut_client, give_octets, output_of, is_connected}
 use Rattle.pushclient.specs.Steps as steps
-use Rattle.replay.specs.Lines.{Word, ScriptLine, silent, timers, zone, lone, at_moment, update, ask, drop_question, open_connection, cut, send, feed, stop, point, show, client as joins, settle}
-use Rattle.replay.specs.World.{Seat, World, seat_of, with_seat, session_number, hub_without, cut_connection, cut_peer, new_seat, cut_seat}
-use Rattle.replay.specs.PassedOctets.{Exchanged, exchanged, enough, max_wire, to_client, reached_by, settling}
+use Rattle.replay.specs.Lines.{Word, ScriptLine, silent, timers, zone, link, lone, at_moment, update, hear, ask, drop_question, reconfirm, open_connection, cut, send, feed, stop, point, show, client as joins, settle, say, up, emit, down}
+use Rattle.replay.specs.World.{Seat, World, seat_of, with_seat, session_number, hub_without, cut_connection, cut_peer, new_seat, cut_seat, is_over, world_cut_if}
+use Rattle.replay.specs.PassedOctets.{Exchanged, exchanged, enough, max_wire, to_client, reached_by}
 use Rattle.replay.specs.TextWords.{by_history}
-use Rattle.replay.specs.Text.{Printed, quietly, printing, cut_where, end_lines, close_lines, finished, feeds, timed, asks, subscribing, unsubscribing, opens_lone, opens_hub, opens, exchanges, session_of_word, line_does, world_after, settles, seated, asked_to_stop}
+use Rattle.replay.specs.Text.{Printed, quietly, printing, finished, feeds, timed, asks, subscribing, unsubscribing, reconfirming, number_or_zero, opens_lone, opens_hub, opens, exchanges, session_of_word, line_does, world_after, settles, seated, asked_to_stop}
 use Rattle.replay.specs.BuiltScripts.{is_built}
 use Rattle.replay.proofs.worlds.OneWorld.{shows-leave}
-use Rattle.replay.proofs.worlds.FedSeats.{fed, fed_ending, feeds_as, feeds_by}
+use Rattle.replay.proofs.worlds.FedSeats.{fed, fed_over, feeds_as, feeds_by}
 use Rattle.replay.proofs.worlds.Keeping.{InParts, exchanged-keeps, give-keeps}
-use Rattle.replay.proofs.worlds.SettledWorlds.{PassingsKeep, settling-keeps, settled-world}
+use Rattle.replay.specs.declared.settling.Way.{Way}
+use Rattle.replay.specs.declared.settling.Way.TheVariants as ways
+use Rattle.replay.specs.KeptPassings.{passes_way, way_does}
+use Rattle.replay.proofs.worlds.PassedWorlds.{PassingsKeep, passing-keeps, passed-world, pass-does}
 use Rattle.replay.proofs.worlds.Seats.{put_seat}
 use Rattle.replay.proofs.lines.SentOctets.{sent_by}
 
 abbrev pub IsBuiltLine : ScriptLine → Type 0
 IsBuiltLine line = is_built line ≡ true
 
--- What is kept of a client, whatever it is called and told, if the names that it asks for are good; and what it has to send is good.
+-- What is kept of a client, whatever it is called and told, if the names that it asks for, and the records that it doubts, are good; and what it has to send is good.
 pub record KeepsClients (Good : List ℕ → Type 0) (C : Client → Type 0) : Type 0 where
   pub new : C new_client
   pub subscribes : (client : Client) (q : Question) → Good (octets q.name) → C client → C (subscribe client q).1
   pub unsubscribes : (client : Client) (q : Question) → C client → C (unsubscribe client q).1
+  pub reconfirms : (client : Client) (rr : Rr) → Good (octets rr.owner) → Good rr.rdata → C client → C (doubt client rr).1
   pub connects : (client : Client) (t : ℕ) → C client → C (connected t client)
   pub cuts : (client : Client) → C client → C (cut_client client)
   pub times : (client : Client) (t : ℕ) → C client → C (steps.moment client t)
@@ -54,6 +60,7 @@ any-clients = record {
   new = tt;
   subscribes = λ client q name c. tt;
   unsubscribes = λ client q c. tt;
+  reconfirms = λ client rr name rdata c. tt;
   connects = λ client t c. tt;
   cuts = λ client c. tt;
   times = λ client t c. tt;
@@ -113,9 +120,9 @@ module _ (Good : List ℕ → Type 0) (P : Hub → Type 0) (kept : IsKept Good P
   keeps-cut_connection : (seat : Seat) (world : World) → Ready seat → Has world → Has (cut_connection seat world)
   keeps-cut_connection seat world r h = record { hub = keeps-without world.hub seat.session h.hub; seats = ready-put seat.word (cut_seat seat) world.seats (ready-cut seat r) h.seats }
 
-  keeps-cut_where : (ls : List (List ℕ)) (seat : Seat) (world : World) → Ready seat → Has world → Has (cut_where ls seat world)
-  keeps-cut_where [] seat world r h = h
-  keeps-cut_where (l ∷ ls) seat world r h = keeps-cut_connection seat world r h
+  keeps-cut_if : (over : Bool) (seat : Seat) (world : World) → Ready seat → Has world → Has (world_cut_if over seat world)
+  keeps-cut_if false seat world r h = h
+  keeps-cut_if true seat world r h = keeps-cut_connection seat world r h
 
   -- clients at a moment
   keeps-timed : (t : ℕ) (seats : List Seat) (p : Printed) → AllByRecursion Ready seats → Has p.0 → Has (fold (timed t) p seats).0
@@ -123,7 +130,7 @@ module _ (Good : List ℕ → Type 0) (P : Hub → Type 0) (kept : IsKept Good P
   keeps-timed t (seat ∷ seats) p all h =
       let later : Seat = record seat { client = steps.moment seat.client t } in
       let ready : Ready later = record { wire = all.0.wire; client = clients.times seat.client t all.0.client } in
-      keeps-timed t seats (timed t p seat) all.1 (keeps-cut_where (close_lines seat.word (closed_as later.client)) later (with_seat later p.0) ready (keeps-put later p.0 ready h))
+      keeps-timed t seats (timed t p seat) all.1 (keeps-cut_if (is_over None (closed_as later.client)) later (with_seat later p.0) ready (keeps-put later p.0 ready h))
 
   keeps-exchanges : (w : Word) (number : ℕ) (octets : List ℕ) (world : World) → Good octets → Has world → Has (exchanges w number octets world).0
   keeps-exchanges w number octets world q h = by x.over
@@ -224,27 +231,21 @@ module _ (Good : List ℕ → Type 0) (P : Hub → Type 0) (kept : IsKept Good P
   -- octets pass
   passings-keep : PassingsKeep Ready
   passings-keep = record {
-    says = λ world seat r.
-        let piece = take (min max_wire (max_wire - length seat.up_wire)) (output_of seat.client) in
-        record { wire = parts.behind seat.up_wire piece r.wire (parts.front (min max_wire (max_wire - length seat.up_wire)) (output_of seat.client) (clients.says seat.client r.client)); client = clients.gives seat.client (length piece) r.client };
-    ups = λ number world seat r. record { wire = parts.rest (taken_by world.hub number (take max_wire seat.up_wire)) seat.up_wire r.wire; client = r.client };
-    emits = λ number world seat r. record { wire = r.wire; client = r.client };
-    downs = λ world seat r. record { wire = r.wire; client = clients.delivers seat.client (take max_wire seat.down_wire) r.client };
+    says = λ n world seat r.
+        let piece = take (min n (max_wire - length seat.up_wire)) (output_of seat.client) in
+        record { wire = parts.behind seat.up_wire piece r.wire (parts.front (min n (max_wire - length seat.up_wire)) (output_of seat.client) (clients.says seat.client r.client)); client = clients.gives seat.client (length piece) r.client };
+    ups = λ number n world seat r. record { wire = parts.rest (taken_by world.hub number (take n seat.up_wire)) seat.up_wire r.wire; client = r.client };
+    emits = λ number n world seat r. record { wire = r.wire; client = r.client };
+    downs = λ n world seat r. record { wire = r.wire; client = clients.delivers seat.client (take n seat.down_wire) r.client };
   }
 
-  keeps-settles : (w : Word) (world : World) → Has world → Has (settles w world).0
-  keeps-settles w world h = by (seat_of world w) refl
-    where
-      by_seat : (seat : Seat) → Ready seat → Has (finished (codes "settle" ∷ w ∷ []) (settling world seat)).0
-      by_seat seat r =
-          let p = settling world seat in
-          let both = settling-keeps P Ready passings-keep world seat (λ number some. give-keeps Good P kept number) (λ number some hub x k ready i. kept.takes_in hub number (take k x.up_wire) (parts.front k x.up_wire ready.wire) i) h.hub r in
-          let later : Has p.world = record { hub = both.0; seats = subst (λ (x : World). AllByRecursion Ready x.seats) (sym (settled-world world seat)) h.seats } in
-          keeps-cut_where (end_lines p.seat.word p.over ++ close_lines p.seat.word (closed_as p.seat.client)) p.seat (with_seat p.seat p.world) both.1 (keeps-put p.seat p.world both.1 later)
-
-      by : (o : Option Seat) → seat_of world w ≡ o → Has (elim o as (λ _. Printed) [ None ↦ quietly world | Some seat ↦ finished (codes "settle" ∷ w ∷ []) (settling world seat) ]).0
-      by None e = h
-      by (Some seat) e = by_seat seat (ready-found w world seat e h)
+  keeps-passes : (way : Way) (w : Word) (world : World) → Has world → Has (way_does way w world).0
+  keeps-passes way w world h = pass-does Has way w world h (λ seat e.
+      let p = passes_way way world seat in
+      let both = passing-keeps P Ready passings-keep way world seat (λ number some. give-keeps Good P kept number) (λ number some hub x k ready i. kept.takes_in hub number (take k x.up_wire) (parts.front k x.up_wire ready.wire) i) h.hub
+      (ready-found w world seat e h) in
+      let later : Has p.world = record { hub = both.0; seats = subst (λ (x : World). AllByRecursion Ready x.seats) (sym (passed-world way world seat)) h.seats } in
+      keeps-cut_if (is_over p.over (closed_as p.seat.client)) p.seat (with_seat p.seat p.world) both.1 (keeps-put p.seat p.world both.1 later))
 
   -- octets to a lone client
   keeps-feeds : (w : Word) (octets : List ℕ) (world : World) → Has world → Has (feeds w octets world).0
@@ -256,38 +257,44 @@ module _ (Good : List ℕ → Type 0) (P : Hub → Type 0) (kept : IsKept Good P
       by_open : (seat : Seat) → Ready seat → (b : Bool) → Has (feeds_as w octets world seat b).0
       by_open seat r true =
           let p = fed octets world seat in
-          keeps-cut_where (fed_ending octets world seat) p.seat (with_seat p.seat world) (fed-ready seat r) (keeps-put p.seat world (fed-ready seat r) h)
+          keeps-cut_if (fed_over octets world seat) p.seat (with_seat p.seat world) (fed-ready seat r) (keeps-put p.seat world (fed-ready seat r) h)
       by_open seat r false = h
 
       by : (o : Option Seat) → seat_of world w ≡ o → Has (feeds_by w octets world o).0
       by None e = h
       by (Some seat) e = by_open seat (ready-found w world seat e h) (is_connected seat.client)
 
-  pub keeps-line : (line : ScriptLine) (world : World) → IsBuiltLine line → Good (sent_by line) → Has world → Has (line_does by_history line world).0
+  pub keeps-line : (line : ScriptLine) (world : World) → IsBuiltLine line → AllByRecursion Good (sent_by line) → Has world → Has (line_does by_history line world).0
   keeps-line silent world is q h = h
   keeps-line (timers i k) world is q h = h
   keeps-line (zone apex serial mode) world is q h = h
+  keeps-line (link w domain) world is q h = h
   keeps-line (joins w) world is q h = keeps-seated w false world h
   keeps-line (lone w) world is q h = keeps-seated w true world h
   keeps-line (at_moment t) world is q h =
       let r = hubs.moment world.hub t in
       keeps-timed (now r.1) world.seats (record world { hub = r.1 }, cond r.0 (codes "full" ∷ []) []) h.seats (record { hub = keeps-called Good P kept (moves t) world.hub tt h.hub; seats = h.seats })
-  keeps-line (update message) world is q h = record { hub = keeps-called Good P kept (updates message) world.hub q h.hub; seats = h.seats }
-  keeps-line (ask w question) world is q h = keeps-asks (codes "asked") w (subscribing question) world (λ client c. clients.subscribes client question q c) h
+  keeps-line (update message) world is q h = record { hub = keeps-called Good P kept (updates message) world.hub q.0 h.hub; seats = h.seats }
+  keeps-line (hear w datagram) world is q h = record { hub = keeps-called Good P kept (hearing (number_or_zero (position (bytes_eq w) world.links)) datagram) world.hub q.0 h.hub; seats = h.seats }
+  keeps-line (ask w question) world is q h = keeps-asks (codes "asked") w (subscribing question) world (λ client c. clients.subscribes client question q.0 c) h
   keeps-line (drop_question w question) world is q h = keeps-asks (codes "dropped") w (unsubscribing question) world (λ client c. clients.unsubscribes client question c) h
+  keeps-line (reconfirm w rr) world is q h = keeps-asks (codes "reconfirm") w (reconfirming rr) world (λ client c. clients.reconfirms client rr q.0 q.1.0 c) h
   keeps-line (open_connection w) world is q h = keeps-opens w world h
   keeps-line (cut w) world is q h = keeps-cuts w world h
-  keeps-line (settle w) world is q h = keeps-settles w world h
-  keeps-line (send w octets) world is q h = keeps-sends w octets world q h
+  keeps-line (say w n) world is q h = keeps-passes (ways.Say n) w world h
+  keeps-line (up w n) world is q h = keeps-passes (ways.Up n) w world h
+  keeps-line (emit w n) world is q h = keeps-passes (ways.Emit n) w world h
+  keeps-line (down w n) world is q h = keeps-passes (ways.Down n) w world h
+  keeps-line (settle w) world is q h = keeps-passes ways.Settle w world h
+  keeps-line (send w octets) world is q h = keeps-sends w octets world q.0 h
   keeps-line (feed w octets) world is q h = keeps-feeds w octets world h
   keeps-line (show w question written) world is q h = subst Has (sym (shows-leave by_history w question written world)) h
   keeps-line (stop w rcode delay) world is q h = keeps-stops w rcode delay world h
   keeps-line point world is q h = h
-  keeps-line _ world is q h = absurd cc
 
-  keeps-each : (lines : List ScriptLine) (world : World) → AllByRecursion IsBuiltLine lines → AllByRecursion (λ line. Good (sent_by line)) lines → Has world → Has (world_after lines world)
+  keeps-each : (lines : List ScriptLine) (world : World) → AllByRecursion IsBuiltLine lines → AllByRecursion (λ line. AllByRecursion Good (sent_by line)) lines → Has world → Has (world_after lines world)
   keeps-each [] world built sent h = h
   keeps-each (line ∷ lines) world built sent h = keeps-each lines (line_does by_history line world).0 built.1 sent.1 (keeps-line line world built.0 sent.0 h)
 
-  pub keeps-lines : (lines : List ScriptLine) (world : World) → AllByRecursion IsBuiltLine lines → AllByRecursion (λ line. Good (sent_by line)) lines → AreReady Good C world → P world.hub → P (world_after lines world).hub
+  pub keeps-lines : (lines : List ScriptLine) (world : World) → AllByRecursion IsBuiltLine lines → AllByRecursion (λ line. AllByRecursion Good (sent_by line)) lines → AreReady Good C world → P world.hub → P (world_after lines world).hub
   keeps-lines lines world built sent ready h = (keeps-each lines world built sent (record { hub = h; seats = ready })).hub

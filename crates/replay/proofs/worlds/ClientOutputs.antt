@@ -1,9 +1,9 @@
 -- What a client has to send are octets, whatever it is called and told, if the names that it asks for are.
 --     HasOctets connection, SaysOctets client      what a connection has to send are octets; so are the names of all wishes
---     so-subscribe, so-unsubscribe, so-connected, so-cut, so-moment      so it is behind these calls
+--     so-subscribe, so-unsubscribe, so-reconfirm, so-connected, so-cut, so-moment      so it is behind these calls
 --     so-takes, so-gives, so-delivered      behind octets in and out
 --     output-octets      what the client has to send
-use Rattle.std.proofs.Common.{◌≡◌, ℕ, zero, suc, ◌<◌, ◌==◌, Bool, true, false, cond, not, List, [], ◌∷◌, ◌++◌, length, take, drop, min, fold, filter, Option, Some, None, option_map, Result, Ok, Err, refl, subst, arith}
+use Rattle.std.proofs.Common.{◌≡◌, ℕ, zero, suc, ◌<◌, ◌==◌, Bool, true, false, cond, not, ◌&&◌, List, [], ◌∷◌, ◌++◌, length, take, drop, min, fold, filter, Option, Some, None, option_map, Result, Ok, Err, refl, subst, arith}
 use Rattle.std.specs.Prelude.{IsTrue, if◌then◌else◌, is_some, nat_le, nat_lt}
 use Rattle.std.specs.Int.{w16, w32, to_be_bytes}
 use Rattle.std.specs.List.{AllByRecursion, list_any, list_all}
@@ -15,8 +15,9 @@ use Rattle.pushclient.proofs.SoundWishes.{all_map}
 use Rattle.push_base.specs.Limits.{max_questions}
 use Rattle.dnsname.specs.Names.{octets}
 use Rattle.rrset.specs.Rcodes.{noerror, dsotypeni}
-use Rattle.rrset.specs.Header.{answer_octets, id_of, flags_of, rcode_of}
+use Rattle.rrset.specs.Header.{answer_octets, id_of, flags_of, rcode_of, max_message}
 use Rattle.rrset.specs.declared.record.Question.{Question}
+use Rattle.rrset.specs.declared.record.Rr.{Rr}
 use Rattle.dsotlv.specs.Laws.{AreOctets}
 use Rattle.dsotlv.specs.Messages.{frame, first_message, head_of, primary_data, dso_flags, tlv_octets}
 use Rattle.dsotlv.specs.Answers.{answer_to, keepalive_octets}
@@ -25,7 +26,7 @@ use Rattle.dsotlv.specs.declared.message.Tlv.{Tlv}
 use Rattle.dsotlv.specs.declared.message.DsoHead.{DsoHead}
 use Rattle.dsotlv.specs.declared.message.Notice.{Notice}
 use Rattle.dsotlv.specs.declared.message.PushFault.{PushFault}
-use Rattle.dsotlv.specs.TlvKinds.{keepalive_tlv, push_tlv, subscribe_tlv, unsubscribe_tlv}
+use Rattle.dsotlv.specs.TlvKinds.{keepalive_tlv, push_tlv, reconfirm_tlv, subscribe_tlv, unsubscribe_tlv}
 use Rattle.dsosession.specs.Reactions.{client_reaction}
 use Rattle.dsosession.specs.Timing.{default_timers, client_due, least_keepalive, restarted}
 use Rattle.dsosession.specs.declared.session.Due.{Due}
@@ -38,12 +39,12 @@ use Rattle.pushclient.specs.declared.client.Asked.{Asked}
 use Rattle.pushclient.specs.declared.client.Asked.TheVariants as asked
 use Rattle.pushclient.specs.declared.client.Step.{Step}
 use Rattle.pushclient.specs.declared.client.Step.TheVariants as steps
-use Rattle.pushclient.specs.Clients.{Client, Connection, Wish, RequestState, not_asked, unanswered, refused, answered, new_client, new_connection, next_id, writes, question_octets, subscribe_message, unsubscribe_message, open_connection, with_connection, in_connection, asks, unasked, wanted_questions, connected, cut, wish_for, without_wish, subscribe, drops, unsubscribe, take_octets, give_octets, output_of, room_of}
+use Rattle.pushclient.specs.Clients.{Client, Connection, Wish, RequestState, not_asked, unanswered, refused, answered, new_client, new_connection, next_id, writes, question_octets, subscribe_message, unsubscribe_message, reconfirm_message, open_connection, with_connection, in_connection, asks, unasked, wanted_questions, connected, cut, wish_for, without_wish, subscribe, drops, unsubscribe, reconfirm, take_octets, give_octets, output_of, room_of}
 use Rattle.pushclient.specs.Steps.{closes_as, establishes, is_active, request_of, with_standing, forgets, subscribe_answered, timers_of, adopts, keepalive_answered, is_keepalive_out, answer_taken, notices_taken, push_taken, by_reaction, counts_as_keepalive, reacted, step, keepalive_message, does, at_later, moment}
-use Rattle.pushclient.specs.SoundClients.{connects, is_cut, subscribes, unsubscribes, comes_to, reacts}
+use Rattle.pushclient.specs.SoundClients.{connects, is_cut, subscribes, unsubscribes, reconfirms, comes_to, reacts}
 use Rattle.pushclient.proofs.AskedFor.{called_pass}
 use Rattle.replay.specs.PassedOctets.{Delivered, stepped, delivered, enough}
-use Rattle.replay.proofs.Deliveries.{stepped_by, later_of, delivered_by, stops_at}
+use Rattle.replay.proofs.ClientPieces.{stepped_by, later_of, delivered_by, stops_at}
 
 abbrev IsOctet : ℕ → Type 0
 IsOctet o = o < 256
@@ -84,6 +85,14 @@ subscribing id q name =
 
 unsubscribing : (id : ℕ) → AreOctets (unsubscribe_message id)
 unsubscribing id = both (answer_octets 0 (dso_flags false 0)) (tlv_octets (record { kind = unsubscribe_tlv; octets = to_be_bytes w16 id })) (header 0 (dso_flags false 0)) (tlv (record { kind = unsubscribe_tlv; octets = to_be_bytes w16 id }) (two_octets id))
+
+doubting : (rr : Rr) → AreOctets (octets rr.owner) → AreOctets rr.rdata → AreOctets (reconfirm_message rr)
+doubting rr name rdata =
+    let kind = both (octets rr.owner) (to_be_bytes w16 rr.kind) name (two_octets rr.kind) in
+    let class = both (octets rr.owner ++ to_be_bytes w16 rr.kind) (to_be_bytes w16 rr.class) kind (two_octets rr.class) in
+    let data' = both (octets rr.owner ++ to_be_bytes w16 rr.kind ++ to_be_bytes w16 rr.class) rr.rdata class rdata in
+    let t : Tlv = record { kind = reconfirm_tlv; octets = octets rr.owner ++ to_be_bytes w16 rr.kind ++ to_be_bytes w16 rr.class ++ rr.rdata } in
+    both (answer_octets 0 (dso_flags false 0)) (tlv_octets t) (header 0 (dso_flags false 0)) (tlv t data')
 
 keeping : (id : ℕ) → AreOctets (keepalive_message id)
 keeping id =
@@ -181,6 +190,20 @@ says-unsubscribe p q h = by (wish_for p q)
     by : (o : Option Wish) → (let r : Bool × Client = elim o [ None ↦ (false, p) | Some wish ↦ if wish.wanted then (true, drops wish.standing wish p) else (false, p) ] in Says r.1)
     by None = h
     by (Some w) = tested w.wanted w
+
+says-reconfirm : (p : Client) (rr : Rr) → AreOctets (octets rr.owner) → AreOctets rr.rdata → Says p → Says (reconfirm p rr).1
+says-reconfirm p rr name rdata h = by (open_connection p) refl
+  where
+    said : (c : Connection) → AreOctets c.output → (b : Bool) → Says (cond {A = Bool × Client} b (true, with_connection (writes false p.now (reconfirm_message rr) c) p) (false, p)).1
+    said c below true = written false p.now (reconfirm_message rr) (doubting rr name rdata) c below
+    said c below false = h
+
+    by : (o : Option Connection) → open_connection p ≡ o → Says (elim o as (λ _. Bool × Client) [
+      | None ↦ (false, p)
+      | Some c ↦ cond {A = Bool × Client} (c.established && nat_le (length (reconfirm_message rr)) max_message) (true, with_connection (writes false p.now (reconfirm_message rr) c) p) (false, p)
+    ]).1
+    by None e = h
+    by (Some c) e = said c (opened p c e h) (c.established && nat_le (length (reconfirm_message rr)) max_message)
 
 says-moment : (p : Client) (t : ℕ) → Says p → Says (moment p t)
 says-moment p t h = by-open p (at_later t p) (λ c. does (client_due c.clocks t (list_any (λ w. is_active w.standing) p.wishes) (is_some c.keepalive_out)) c (at_later t p)) h
@@ -314,6 +337,9 @@ so-subscribe client q name s = record { says = says-subscribe client q (all_octe
 
 pub so-unsubscribe : (client : Client) (q : Question) → SaysOctets client → SaysOctets (unsubscribe client q).1
 so-unsubscribe client q s = record { says = says-unsubscribe client q s.says; names = called_pass named_octets client (unsubscribes q) refl s.names }
+
+pub so-reconfirm : (client : Client) (rr : Rr) → AreOctets (octets rr.owner) → AreOctets rr.rdata → SaysOctets client → SaysOctets (reconfirm client rr).1
+so-reconfirm client rr name rdata s = record { says = says-reconfirm client rr name rdata s.says; names = called_pass named_octets client (reconfirms rr) refl s.names }
 
 abbrev IsNamed : Wish → Type 0
 IsNamed w = IsTrue (named_octets w.question)

@@ -29,7 +29,7 @@ one_line l = sym (append-nil (l ++ 10 ∷ []))
 
 -- ---- a world whose hub is another one
 
-with_hub : (later : KeptHub) (hub : Hub) (kept : KeptHub) (known : Parties) (world : World) → StandsForWorld kept known world → StandsFor later hub → StandsForWorld later known (record world { hub = hub })
+pub with_hub : (later : KeptHub) (hub : Hub) (kept : KeptHub) (known : Parties) (world : World) → StandsForWorld kept known world → StandsFor later hub → StandsForWorld later known (record world { hub = hub })
 with_hub later hub kept known world w stands = record { hub = stands; peers = w.peers; seats = w.seats; links = w.links }
 
 -- ---- updates, points and moments
@@ -78,7 +78,7 @@ moments-act kept between later known known_later t full text written does is tim
         hub = told.hub;
         peers = timed_so.peers ∙ w.peers ∙ sym (peers-timed at world.seats first);
         seats = told.stands;
-        links = links-timed at world.seats first ∙ w.links;
+        links = timed_so.links ∙ w.links ∙ sym (links-timed at world.seats first);
       };
     })
 

@@ -1,5 +1,5 @@
 -- What octets to a client print, and the world behind them.
---     fed-does, feeds-on, feeds-closed      what they make of a client that goes on, or has closed
+--     fed-does, feeds-makes      what they make of a client
 --     fed-line      the lines of what was handed out, and of a client that has closed
 --     feeds-none, feeds-shut, feeds-open      the line, where no client has the word, and by whether it has a connection
 use Rattle.std.proofs.Common.{◌≡◌, ℕ, Bool, true, false, List, [], ◌∷◌, ◌++◌, get_or, Option, Some, None, refl, sym, ◌∙◌, ap, subst, codes}
@@ -7,22 +7,21 @@ use Rattle.std.specs.Prelude.{position}
 use Rattle.dsosession.specs.declared.session.CloseReason.{CloseReason}
 use Rattle.pushserver.specs.KeptHubs as hubs
 use Rattle.pushserver.specs.KeptHubs.{KeptHub}
-use Rattle.pushclient.specs.Clients.{Client, closed_as, output_of}
+use Rattle.pushclient.specs.Clients.{Client, output_of}
 use Rattle.pushclient.specs.Rule.{KeptClient, StandsFor}
 use Rattle.replay.specs.Lines.{Word}
-use Rattle.replay.specs.World.{Seat, World, with_seat, cut_seat, with_client, hub_then}
+use Rattle.replay.specs.World.{Seat, World, with_seat, cut_seat, with_client, is_over, cut_if, hub_cut_if, world_cut_if}
 use Rattle.replay.specs.TextWords.{spaced, octets_text}
-use Rattle.replay.specs.Text.{Printed, close_lines, cut_where, feeds}
+use Rattle.replay.specs.Text.{Printed, close_lines, feeds}
 use Rattle.replay.specs.KeptSteps.{Delivers, HandsOut}
 use Rattle.replay.specs.KeptWorlds.{KeptSeat, Seated, Parties, StandsForSeat, StandForSeats, HasPrinted, Acts}
-use Rattle.replay.specs.KeptSeats.{has_word, Makes, Calls, Answers, HasCut, closing_text}
+use Rattle.replay.specs.KeptSeats.{has_word, Makes, Calls, Answers, HasFinished, TellsConnected, closing_text}
 use Rattle.replay.specs.KeptFeeds.{fed_seat, HasFed, fed_text}
 use Rattle.replay.specs.PassedOctets.{reached_by, fed_client}
-use Rattle.replay.proofs.steps.StepsConnected.{fed-connected}
 use Rattle.replay.proofs.worlds.Doing.{one_line, two_parts, worded}
 use Rattle.replay.proofs.worlds.FedSeats.{feeds_as, feeds_by}
 use Rattle.replay.proofs.worlds.Seats.{absent, called, IsCalled, is-seated, IsSeated, put-put, stays-makes}
-use Rattle.replay.proofs.worlds.SeatsDoing.{with_seats, TellsOpen}
+use Rattle.replay.proofs.worlds.SeatsDoing.{with_seats}
 
 -- ---- a client
 
@@ -35,26 +34,18 @@ fed-does kept between later octets told went_in delivers hands plain stands =
     (h.all, h.stands)
 
 module _ (octets told : List ℕ) (closing : Option CloseReason) (hub : KeptHub) (k : KeptSeat) (client : KeptClient)
-    (does : (plain : Client) → StandsFor k.client plain → (told ≡ output_of (reached_by octets plain)) × StandsFor client (fed_client octets plain)) (tells : (plain : Client) → StandsFor client plain → closing ≡ closed_as plain) where
+    (does : (plain : Client) → StandsFor k.client plain → (told ≡ output_of (reached_by octets plain)) × StandsFor client (fed_client octets plain)) where
   abbrev IsTold : Client → Type 0
-  IsTold c = (told ≡ output_of (reached_by octets c)) × (closing ≡ closed_as (fed_client octets c))
+  IsTold c = told ≡ output_of (reached_by octets c)
 
   abbrev fed_first : Makes (Answers IsTold) (with_client (fed_client octets)) k (record k { client = client })
-  fed_first = stays-makes IsTold (fed_client octets) k client (λ plain s. (let d = does plain s in ((d.0, tells (fed_client octets plain) d.1), d.1))) (fed-connected octets)
+  fed_first = stays-makes IsTold (fed_client octets) k client does
 
-  pub feeds-on : closing ≡ None → Makes (HasFed octets told None hub hub) (fed_seat octets None) k (record k { client = client })
-  feeds-on none = record {
-    word = refl;
-    answer = λ seat s. (let a = fed_first.answer seat s in record { handed_out = a.0; closes = sym none ∙ a.1; hub = λ plain stands. stands });
-    stands = fed_first.stands;
-  }
-
-  pub feeds-closed : (reason : CloseReason) (later : KeptHub) (after : KeptSeat) → closing ≡ Some reason → Makes (HasCut hub later) cut_seat (record k { client = client }) after
-      → Makes (HasFed octets told (Some reason) hub later) (fed_seat octets (Some reason)) k after
-  feeds-closed reason later after some cuts = record {
-    word = cuts.word;
-    answer = λ seat s. (let a = fed_first.answer seat s in record { handed_out = a.0; closes = sym some ∙ a.1; hub = cuts.answer (with_client (fed_client octets) seat) (fed_first.stands seat s) });
-    stands = λ seat s. cuts.stands (with_client (fed_client octets) seat) (fed_first.stands seat s);
+  pub feeds-makes : (later : KeptHub) (after : KeptSeat) → Makes (HasFinished None closing hub later) (cut_if (is_over None closing)) (record k { client = client }) after → Makes (HasFed octets told closing hub later) (fed_seat octets closing) k after
+  feeds-makes later after ends = record {
+    word = ends.word;
+    answer = λ seat s. (let a = ends.answer (with_client (fed_client octets) seat) (fed_first.stands seat s) in record { handed_out = fed_first.answer seat s; closes = a.closes; hub = a.hub });
+    stands = λ seat s. ends.stands (with_client (fed_client octets) seat) (fed_first.stands seat s);
   }
 
 -- ---- the line
@@ -68,36 +59,36 @@ feeds-none kept known w octets written none is world s d =
     subst (λ (o : Option Seat). HasPrinted kept known written (feeds_by w octets world o)) (sym (absent w known.seats world.seats s.seats none)) (record { text = is; stands = s })
 
 -- without a connection nothing goes in
-pub feeds-shut : (kept : KeptHub) (known : Parties) (w : Word) (octets : List ℕ) (place : ℕ) (k : KeptSeat) (written : List ℕ) → position (has_word w) known.seats ≡ Some place → k ≡ get_or known.seats place k → TellsOpen known.seats place false
+pub feeds-shut : (kept : KeptHub) (known : Parties) (w : Word) (octets : List ℕ) (place : ℕ) (k : KeptSeat) (written : List ℕ) → position (has_word w) known.seats ≡ Some place → k ≡ get_or known.seats place k → TellsConnected known.seats place false
     → written ≡ codes "bytes " ++ two_parts w (octets_text []) → Acts (feeds w octets) kept known written kept known
 unfolding Acts
 feeds-shut kept known w octets place k written at there tells is world s d =
     let p : IsSeated w known.seats place world = is-seated w known.seats world place s.seats at in
     let here : StandsForSeat k p.seat = p.here k there in
     subst (λ (o : Option Seat). HasPrinted kept known written (feeds_by w octets world o)) (sym p.found)
-    (subst (λ (b : Bool). HasPrinted kept known written (feeds_as w octets world p.seat b)) (tells k there ∙ here.is_open)
+    (subst (λ (b : Bool). HasPrinted kept known written (feeds_as w octets world p.seat b)) (tells k p.seat there here)
     (record { text = is ∙ worded (codes "bytes ") w (codes "-") ∙ one_line (codes "bytes " ++ (w ++ 32 ∷ codes "-")); stands = s }))
 
 -- what is printed, and the world, by the reason of the close
 abbrev fed_as : List ℕ → List ℕ → World → Seat → Option CloseReason → Printed
 fed_as octets told world seat closing =
     let x : Seat = with_client (fed_client octets) seat in
-    (cut_where (close_lines seat.word closing) x (with_seat x world), spaced (codes "bytes" ∷ seat.word ∷ octets_text told ∷ []) ∷ close_lines seat.word closing)
+    (world_cut_if (is_over None closing) x (with_seat x world), spaced (codes "bytes" ∷ seat.word ∷ octets_text told ∷ []) ∷ close_lines seat.word closing)
 
 pub feeds-open : (kept between : KeptHub) (known : Parties) (later : Seated) (w : Word) (octets told : List ℕ) (closing : Option CloseReason) (place : ℕ) (k : KeptSeat) (written : List ℕ) → position (has_word w) known.seats ≡ Some place
-    → k ≡ get_or known.seats place k → TellsOpen known.seats place true → Calls (HasFed octets told closing kept between) (fed_seat octets closing) known.seats place later → written ≡ fed_text w told closing
+    → k ≡ get_or known.seats place k → TellsConnected known.seats place true → Calls (HasFed octets told closing kept between) (fed_seat octets closing) known.seats place later → written ≡ fed_text w told closing
     → Acts (feeds w octets) kept known written between (with_seats known later)
 unfolding Acts
 feeds-open kept between known later w octets told closing place k written at there tells c is world s d =
     let r : IsCalled w known.seats later place world (HasFed octets told closing kept between) (fed_seat octets closing) = called w known.seats later world place (HasFed octets told closing kept between) (fed_seat octets closing) s.seats d at c in
     let here : StandsForSeat k r.seat = r.here k there in
     subst (λ (o : Option Seat). HasPrinted between (with_seats known later) written (feeds_by w octets world o)) (sym r.found)
-    (subst (λ (b : Bool). HasPrinted between (with_seats known later) written (feeds_as w octets world r.seat b)) (tells k there ∙ here.is_open)
+    (subst (λ (b : Bool). HasPrinted between (with_seats known later) written (feeds_as w octets world r.seat b)) (tells k r.seat there here)
     (subst (λ (o : Option CloseReason). HasPrinted between (with_seats known later) written (fed_as octets (output_of (reached_by octets r.seat.client)) world r.seat o)) r.answer.closes
     (subst (λ (t : List ℕ). HasPrinted between (with_seats known later) written (fed_as octets t world r.seat closing)) r.answer.handed_out
     (by r.seat closing r.stands (is ∙ ap (λ (v : Word). fed_text v told closing) (sym r.word)) (r.answer.hub world.hub s.hub)))))
   where
-    by : (seat : Seat) (o : Option CloseReason) → StandForSeats later (with_seat (fed_seat octets o seat) world).seats → written ≡ fed_text seat.word told o → hubs.StandsFor between (hub_then o seat world.hub)
+    by : (seat : Seat) (o : Option CloseReason) → StandForSeats later (with_seat (fed_seat octets o seat) world).seats → written ≡ fed_text seat.word told o → hubs.StandsFor between (hub_cut_if (is_over None o) seat world.hub)
         → HasPrinted between (with_seats known later) written (fed_as octets told world seat o)
     by seat None stands text hub = record { text = text; stands = record { hub = hub; peers = s.peers; seats = stands; links = s.links } }
     by seat (Some reason) stands text hub =

@@ -35,7 +35,7 @@ use Rattle.replay.specs.BuiltScripts.{first_later}
 use Rattle.replay.proofs.worlds.BuiltHeads.{built-script}
 use Rattle.replay.specs.PassedOctets.{enough}
 use Rattle.replay.proofs.worlds.BuiltWorlds.{IsBuiltLine, KeepsClients, keeps-lines}
-use Rattle.replay.proofs.worlds.ClientOutputs.{SaysOctets, all_octets, says-new, so-subscribe, so-unsubscribe, so-connected, so-cut, so-moment, so-gives, so-delivered, output-octets}
+use Rattle.replay.proofs.worlds.ClientOutputs.{SaysOctets, all_octets, says-new, so-subscribe, so-unsubscribe, so-reconfirm, so-connected, so-cut, so-moment, so-gives, so-delivered, output-octets}
 use Rattle.replay.proofs.worlds.StepInputs.{step-input}
 use Rattle.replay.proofs.worlds.Keeping.{InParts}
 use Rattle.replay.proofs.lines.SentOctets.{sent_by, some_octets, written-by, sends-pass}
@@ -119,9 +119,16 @@ named_octets name is = append_octets (labels_octets name) (0 ∷ []) (labels-oct
 
 -- ---- what lines bring
 
-octets-sent : (text : List ℕ) (lines : List ScriptLine) → script_of text ≡ Ok lines → AllByRecursion (λ line. AreOctets (sent_by line)) lines
+abbrev BringOctets : ScriptLine → Type 0
+BringOctets line = AllByRecursion AreOctets (sent_by line)
+
+each_octets : (pieces : List (List ℕ)) → list_all are_octets pieces ≡ true → AllByRecursion AreOctets pieces
+each_octets [] h = tt
+each_octets (p ∷ ps) h = (let parts = and_true (are_octets p) (list_all are_octets ps) h in (all_octets p parts.0, each_octets ps parts.1))
+
+octets-sent : (text : List ℕ) (lines : List ScriptLine) → script_of text ≡ Ok lines → AllByRecursion BringOctets lines
 octets-sent text lines read =
-    all-weaken (λ (line : ScriptLine). are_octets (sent_by line) ≡ true) (λ (line : ScriptLine). AreOctets (sent_by line)) (λ line h. all_octets (sent_by line) h) lines
+    all-weaken (λ (line : ScriptLine). list_all are_octets (sent_by line) ≡ true) BringOctets (λ line h. each_octets (sent_by line) h) lines
     (sends-pass are_octets written_octets named_octets text lines read)
 
 -- ---- what sessions hold
@@ -193,6 +200,7 @@ octets-clients = record {
   new = says-new;
   subscribes = λ client q name c. so-subscribe client q (test_octets (octets q.name) name) c;
   unsubscribes = so-unsubscribe;
+  reconfirms = λ client rr name rdata c. so-reconfirm client rr name rdata c;
   connects = so-connected;
   cuts = so-cut;
   times = so-moment;
@@ -206,7 +214,7 @@ pub octets-lines : (text : List ℕ) (before behind : List ScriptLine) → first
 octets-lines text before behind built read =
     let lines = built-script text (before ++ behind) built read in
     let sent = octets-sent text (before ++ behind) read in
-    keeps-lines AreOctets HoldsOctets octets-kept octets-parts SaysOctets octets-clients before (start_world (before ++ behind)) (each-front IsBuiltLine before behind lines.0) (each-front (λ (line : ScriptLine). AreOctets (sent_by line)) before behind sent) tt tt
+    keeps-lines AreOctets HoldsOctets octets-kept octets-parts SaysOctets octets-clients before (start_world (before ++ behind)) (each-front IsBuiltLine before behind lines.0) (each-front BringOctets before behind sent) tt tt
 
 pub octets-connected : (hub : Hub) → AllByRecursion (λ e. All (λ o. o < 256) e.1.input) hub.sessions → AllByRecursion (λ e. All (λ o. o < 256) e.1.input) (connect hub).1.sessions
 octets-connected hub h = keeps-called AreOctets HoldsOctets octets-kept connects hub tt h

@@ -51,9 +51,13 @@ module _ (start : State) where
     drops = from-drops;
   }
 
-pub any_sent : (lines : List ScriptLine) → AllByRecursion (λ line. AnyMessage (sent_by line)) lines
+any_pieces : (pieces : List (List ℕ)) → AllByRecursion AnyMessage pieces
+any_pieces [] = tt
+any_pieces (p ∷ ps) = (tt, any_pieces ps)
+
+pub any_sent : (lines : List ScriptLine) → AllByRecursion (λ line. AllByRecursion AnyMessage (sent_by line)) lines
 any_sent [] = tt
-any_sent (line ∷ lines) = (tt, any_sent lines)
+any_sent (line ∷ lines) = (any_pieces (sent_by line), any_sent lines)
 
 pub from-lines : (start : State) (lines : List ScriptLine) (world : World) → AllByRecursion IsBuiltLine lines → IsFrom start world.hub → IsFrom start (world_after lines world).hub
 from-lines start lines world built h = keeps-lines AnyMessage (IsFrom start) (from-kept start) any-parts AnyClient any-clients lines world built (any_sent lines) (any-ready world) h

@@ -11,16 +11,19 @@ use Rattle.pushserver.specs.Hubs as hubs
 use Rattle.pushserver.specs.Hubs.{now, connect}
 use Rattle.pushclient.specs.Clients.{Client, closed_as, connected, is_connected}
 use Rattle.pushclient.specs.Steps as steps
-use Rattle.replay.specs.Lines.{Word, ScriptLine, silent, timers, zone, lone, at_moment, update, ask, drop_question, open_connection, cut, send, feed, stop, point, show, client, settle}
+use Rattle.replay.specs.Lines.{Word, ScriptLine, silent, timers, zone, lone, at_moment, update, ask, drop_question, open_connection, cut, send, feed, stop, point, show, client, settle, link, hear, reconfirm, say, up, emit, down}
 use Rattle.replay.specs.Scripts.{client_word}
-use Rattle.replay.specs.World.{Seat, World, new_seat, seat_of, with_seat, session_number, cut_seat, cut_connection, cut_peer}
-use Rattle.replay.specs.PassedOctets.{Exchanged, exchanged, enough, settling}
+use Rattle.replay.specs.World.{Seat, World, new_seat, seat_of, with_seat, session_number, cut_seat, cut_connection, cut_peer, is_over, world_cut_if}
+use Rattle.replay.specs.PassedOctets.{Exchanged, exchanged, enough}
 use Rattle.replay.specs.TextWords.{by_history}
-use Rattle.replay.specs.Text.{Printed, quietly, printing, cut_where, end_lines, close_lines, feeds, timed, asks, subscribing, unsubscribing, opens_lone, opens_hub, opens, exchanges, session_of_word, line_does, finished, asked_to_stop}
+use Rattle.replay.specs.Text.{Printed, quietly, printing, feeds, timed, asks, subscribing, unsubscribing, opens_lone, opens_hub, opens, exchanges, session_of_word, line_does, finished, asked_to_stop, reconfirming}
 use Rattle.replay.specs.KeptWorlds.{AreDistinct, words_in}
 use Rattle.replay.proofs.worlds.OneWorld.{shows-leave}
-use Rattle.replay.proofs.worlds.FedSeats.{fed, fed_ending, feeds_as, feeds_by}
-use Rattle.replay.proofs.worlds.SettledWorlds.{settled-world}
+use Rattle.replay.proofs.worlds.FedSeats.{fed, fed_over, feeds_as, feeds_by}
+use Rattle.replay.specs.declared.settling.Way.{Way}
+use Rattle.replay.specs.declared.settling.Way.TheVariants as ways
+use Rattle.replay.specs.KeptPassings.{passes_way, way_does}
+use Rattle.replay.proofs.worlds.PassedWorlds.{passed-world, pass-does}
 use Rattle.replay.proofs.worlds.BuiltWorlds.{IsBuiltLine}
 use Rattle.replay.proofs.worlds.Seats.{words-put}
 
@@ -40,15 +43,15 @@ same-put x world = words-put x world.seats
 same-cut_connection : (seat : Seat) (world : World) → Same world (cut_connection seat world)
 same-cut_connection seat world = words-put (cut_seat seat) world.seats
 
-same-cut_where : (ls : List (List ℕ)) (seat : Seat) (world : World) → Same world (cut_where ls seat world)
-same-cut_where [] seat world = refl
-same-cut_where (l ∷ ls) seat world = same-cut_connection seat world
+same-cut_if : (over : Bool) (seat : Seat) (world : World) → Same world (world_cut_if over seat world)
+same-cut_if false seat world = refl
+same-cut_if true seat world = same-cut_connection seat world
 
 same-timed : (t : ℕ) (seats : List Seat) (p : Printed) → Same p.0 (fold (timed t) p seats).0
 same-timed t [] p = refl
 same-timed t (seat ∷ seats) p =
     let later : Seat = record seat { client = steps.moment seat.client t } in
-    same-timed t seats (timed t p seat) ∙ same-cut_where (close_lines seat.word (closed_as later.client)) later (with_seat later p.0) ∙ same-put later p.0
+    same-timed t seats (timed t p seat) ∙ same-cut_if (is_over None (closed_as later.client)) later (with_seat later p.0) ∙ same-put later p.0
 
 module _ (world : World) where
   abbrev Keeps : World → Type 0
@@ -139,20 +142,12 @@ module _ (world : World) where
       by None = refl
       by (Some seat) = by_open seat (is_connected seat.client)
 
-  -- a client that settles keeps its word
-  same-settles : (w : Word) → Keeps (line_does by_history (settle w) world).0
-  same-settles w = by (seat_of world w)
-    where
-      by_seat : (seat : Seat) → Keeps (finished (codes "settle" ∷ w ∷ []) (settling world seat)).0
-      by_seat seat =
-          let p = settling world seat in
-          let same : words_in p.world ≡ words_in world = ap words_in (settled-world world seat) in
-          let ending = end_lines p.seat.word p.over ++ close_lines p.seat.word (closed_as p.seat.client) in
-          same-cut_where ending p.seat (with_seat p.seat p.world) ∙ same-put p.seat p.world ∙ same
-
-      by : (o : Option Seat) → Keeps (elim o as (λ _. Printed) [ None ↦ quietly world | Some seat ↦ finished (codes "settle" ∷ w ∷ []) (settling world seat) ]).0
-      by None = refl
-      by (Some seat) = by_seat seat
+  -- a client whose octets pass keeps its word
+  same-passes : (way : Way) (w : Word) → Keeps (way_does way w world).0
+  same-passes way w = pass-does Keeps way w world refl (λ seat e.
+      let p = passes_way way world seat in
+      let same : words_in p.world ≡ words_in world = ap words_in (passed-world way world seat) in
+      same-cut_if (is_over p.over (closed_as p.seat.client)) p.seat (with_seat p.seat p.world) ∙ same-put p.seat p.world ∙ same)
 
   same-feeds : (w : Word) (octets : List ℕ) → Keeps (feeds w octets world).0
   same-feeds w octets = by (seat_of world w)
@@ -160,7 +155,7 @@ module _ (world : World) where
       by_open : (seat : Seat) (b : Bool) → Keeps (feeds_as w octets world seat b).0
       by_open seat true =
           let p = fed octets world seat in
-          same-cut_where (fed_ending octets world seat) p.seat (with_seat p.seat world) ∙ same-put p.seat world
+          same-cut_if (fed_over octets world seat) p.seat (with_seat p.seat world) ∙ same-put p.seat world
       by_open seat false = refl
 
       by : (o : Option Seat) → Keeps (feeds_by w octets world o).0
@@ -174,13 +169,20 @@ pub words-line : (line : ScriptLine) (world : World) → IsBuiltLine line → wo
 words-line silent world is = quiet world world refl
 words-line (timers i k) world is = quiet world world refl
 words-line (zone apex serial mode) world is = quiet world world refl
+words-line (link w domain) world is = quiet world world refl
 words-line (client w) world is = map-append (λ (s : Seat). s.word) world.seats (new_seat w false ∷ [])
-words-line (settle w) world is = quiet world (line_does by_history (settle w) world).0 (same-settles world w)
+words-line (say w n) world is = quiet world (line_does by_history (say w n) world).0 (same-passes world (ways.Say n) w)
+words-line (up w n) world is = quiet world (line_does by_history (up w n) world).0 (same-passes world (ways.Up n) w)
+words-line (emit w n) world is = quiet world (line_does by_history (emit w n) world).0 (same-passes world (ways.Emit n) w)
+words-line (down w n) world is = quiet world (line_does by_history (down w n) world).0 (same-passes world (ways.Down n) w)
+words-line (settle w) world is = quiet world (line_does by_history (settle w) world).0 (same-passes world ways.Settle w)
 words-line (lone w) world is = map-append (λ (s : Seat). s.word) world.seats (new_seat w true ∷ [])
 words-line (at_moment t) world is =
     let r = hubs.moment world.hub t in
     quiet world (line_does by_history (at_moment t) world).0 (same-timed (now r.1) world.seats (record world { hub = r.1 }, cond r.0 (codes "full" ∷ []) []))
 words-line (update message) world is = quiet world (line_does by_history (update message) world).0 refl
+words-line (hear w datagram) world is = quiet world (line_does by_history (hear w datagram) world).0 refl
+words-line (reconfirm w rr) world is = quiet world (line_does by_history (reconfirm w rr) world).0 (same-asks world (codes "reconfirm") w (reconfirming rr))
 words-line (ask w question) world is = quiet world (line_does by_history (ask w question) world).0 (same-asks world (codes "asked") w (subscribing question))
 words-line (drop_question w question) world is = quiet world (line_does by_history (drop_question w question) world).0 (same-asks world (codes "dropped") w (unsubscribing question))
 words-line (open_connection w) world is = quiet world (line_does by_history (open_connection w) world).0 (same-opens world w)
@@ -190,4 +192,3 @@ words-line (feed w octets) world is = quiet world (line_does by_history (feed w 
 words-line (show w question written) world is = quiet world (line_does by_history (show w question written) world).0 (ap words_in (shows-leave by_history w question written world))
 words-line (stop w rcode delay) world is = quiet world (line_does by_history (stop w rcode delay) world).0 (same-stops world w rcode delay)
 words-line point world is = quiet world world refl
-words-line _ world is = absurd cc

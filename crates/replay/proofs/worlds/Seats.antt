@@ -4,7 +4,7 @@
 --     called      what a call of the client of a word makes of the seats
 --     words-put      a client that is another one keeps its word
 --     put-put      one that becomes another one twice is the latter
---     seat-there, calls-made      what the code has of a client at a place
+--     seat-there, calls-made, tells-connected      what the code has of a client at a place
 use Rattle.std.proofs.Common.{◌≡◌, ℕ, zero, suc, ◌<◌, Bool, true, false, cond, List, [], ◌∷◌, ◌++◌, map, find, length, set, get_or, Option, Some, None, option_map, refl, sym, ◌∙◌, ap, subst, arith}
 use Rattle.std.specs.Prelude.{position}
 use Rattle.std.specs.List.{IsDistinct, AllByRecursion}
@@ -12,20 +12,19 @@ use Rattle.std.specs.Str.{bytes_eq}
 use Rattle.std.proofs.lemmas.List.{get_or-map, map-set}
 use Rattle.std.proofs.lemmas.Slice.Eq.{bytes_eq-Decides}
 use Rattle.history.proofs.Positions.{position-cons}
-use Rattle.history.proofs.ZoneLists.{position-map}
+use Rattle.history.proofs.Positions.{position-map}
 use Rattle.dsosession.specs.declared.session.CloseReason.{CloseReason}
 use Rattle.pushserver.specs.PlainHubs.{Hub}
 use Rattle.pushserver.specs.KeptHubs as hubs
 use Rattle.pushserver.specs.KeptHubs.{KeptHub}
-use Rattle.pushclient.specs.Clients.{Client, is_connected, connected, cut, closed_as}
+use Rattle.pushclient.specs.Clients.{Client, is_connected, connected, cut}
 use Rattle.pushclient.specs.Steps.{moment}
 use Rattle.pushclient.specs.Rule.{KeptClient, StandsFor}
 use Rattle.replay.specs.Lines.{Word}
-use Rattle.replay.specs.World.{Seat, World, seat_of, with_seat, cut_seat, hub_without, with_client, joined}
+use Rattle.replay.specs.World.{Seat, World, seat_of, with_seat, cut_seat, hub_without, with_client, joined, is_over, cut_if}
 use Rattle.replay.specs.declared.seats.Seat as program
 use Rattle.replay.specs.KeptWorlds.{KeptSeat, Seated, seat_kept, seated, StandsForSeat, StandForSeats, AreDistinct, words_in}
-use Rattle.replay.specs.KeptSeats.{has_word, timed_seat, Makes, Calls, Answers, HasCut, HasTimed}
-use Rattle.replay.proofs.worlds.Connected.{connected-is, moment-connected}
+use Rattle.replay.specs.KeptSeats.{has_word, timed_seat, Makes, Calls, Answers, HasCut, HasFinished, HasTimed, TellsConnected}
 
 -- ---- words
 
@@ -131,6 +130,11 @@ calls-made answers next seats later place s after within is later_is makes = rec
   is = ap seated later_is ∙ map-set seat_kept seats place after;
   makes = makes;
 }
+
+pub tells-connected : (seats : List program.Seat) (place : ℕ) (s : program.Seat) (answer : Bool) → place < length seats → ((plain : Client) → StandsFor (get_or seats place s).client plain → answer ≡ is_connected plain) → TellsConnected (seated seats) place answer
+tells-connected seats place s answer within tells k seat there stands =
+    let same : k ≡ seat_kept (get_or seats place s) = there ∙ get_or-map seat_kept seats place s k within in
+    tells seat.client (subst (λ (x : KeptSeat). StandsFor x.client seat.client) same stands.client)
 
 -- ---- the client of a word
 
@@ -241,16 +245,15 @@ is-seated w ks world place h at =
 
 -- ---- what one client makes of a call
 
--- a call that leaves its connection, or that it has none
+-- a call of the client alone
 pub stays-makes : (answers : Client → Type 0) (next : Client → Client) (k : KeptSeat) (client : KeptClient) → ((plain : Client) → StandsFor k.client plain → answers plain × StandsFor client (next plain))
-    → ((plain : Client) → is_connected (next plain) ≡ is_connected plain) → Makes (Answers answers) (with_client next) k (record k { client = client })
-stays-makes answers next k client does keeps = record {
+    → Makes (Answers answers) (with_client next) k (record k { client = client })
+stays-makes answers next k client does = record {
   word = refl;
   answer = λ seat s. (does seat.client s.client).0;
   stands = λ seat s. record {
     word = s.word;
     is_lone = s.is_lone;
-    is_open = s.is_open ∙ sym (keeps seat.client);
     client = (does seat.client s.client).1;
     session = s.session;
     up_wire = s.up_wire;
@@ -261,14 +264,13 @@ stays-makes answers next k client does keeps = record {
   };
 }
 
-pub opened-makes : (t : ℕ) (k : KeptSeat) (client : KeptClient) → ((plain : Client) → StandsFor k.client plain → StandsFor client (connected t plain)) → Makes (λ s. Unit {0}) (with_client (connected t)) k (record k { is_open = true; client = client })
+pub opened-makes : (t : ℕ) (k : KeptSeat) (client : KeptClient) → ((plain : Client) → StandsFor k.client plain → StandsFor client (connected t plain)) → Makes (λ s. Unit {0}) (with_client (connected t)) k (record k { client = client })
 opened-makes t k client does = record {
   word = refl;
   answer = λ seat s. tt;
   stands = λ seat s. record {
     word = s.word;
     is_lone = s.is_lone;
-    is_open = sym (connected-is t seat.client);
     client = does seat.client s.client;
     session = s.session;
     up_wire = s.up_wire;
@@ -287,7 +289,6 @@ joined-makes t number k after m = record {
   stands = λ seat s. (let n = m.stands seat s in record {
     word = n.word;
     is_lone = n.is_lone;
-    is_open = n.is_open;
     client = n.client;
     session = refl;
     up_wire = n.up_wire;
@@ -300,7 +301,7 @@ joined-makes t number k after m = record {
 
 -- what is kept of a seat that was cut
 abbrev pub cut_kept : KeptSeat → KeptClient → KeptSeat
-cut_kept k client = record k { is_open = false; client = client; session = None; up_wire = []; down_wire = []; reached = 0; filled = [] }
+cut_kept k client = record k { client = client; session = None; up_wire = []; down_wire = []; reached = 0; filled = [] }
 
 pub cut-makes : (k after : KeptSeat) (client : KeptClient) → after ≡ cut_kept k client → ((plain : Client) → StandsFor k.client plain → StandsFor client (cut plain)) → Makes (λ s. Unit {0}) cut_seat k after
 cut-makes k after client is does = subst (Makes (λ s. Unit {0}) cut_seat k) (sym is) (record {
@@ -309,7 +310,6 @@ cut-makes k after client is does = subst (Makes (λ s. Unit {0}) cut_seat k) (sy
   stands = λ seat s. record {
     word = s.word;
     is_lone = s.is_lone;
-    is_open = refl;
     client = does seat.client s.client;
     session = refl;
     up_wire = refl;
@@ -328,22 +328,15 @@ cuts-both hub later k after ends m = record {
   stands = m.stands;
 }
 
-module _ (t : ℕ) (hub : KeptHub) (k : KeptSeat) (client : KeptClient) (closing : Option CloseReason) (does : (plain : Client) → StandsFor k.client plain → StandsFor client (moment plain t)) (tells : (plain : Client) → StandsFor client plain → closing ≡ closed_as plain) where
-  abbrev timed_first : Makes (λ s. closing ≡ closed_as (moment s.client t)) (with_client (λ c. moment c t)) k (record k { client = client })
-  timed_first = stays-makes (λ c. closing ≡ closed_as (moment c t)) (λ c. moment c t) k client (λ plain s. (let m = does plain s in (tells (moment plain t) m, m))) (moment-connected t)
+module _ (t : ℕ) (hub : KeptHub) (k : KeptSeat) (client : KeptClient) (closing : Option CloseReason) (does : (plain : Client) → StandsFor k.client plain → StandsFor client (moment plain t)) where
+  abbrev timed_first : Makes (Answers (λ c. Unit {0})) (with_client (λ c. moment c t)) k (record k { client = client })
+  timed_first = stays-makes (λ c. Unit {0}) (λ c. moment c t) k client (λ plain s. (tt, does plain s))
 
-  pub goes-on-makes : closing ≡ None → Makes (HasTimed t None hub hub) (timed_seat t None) k (record k { client = client })
-  goes-on-makes none = record {
-    word = refl;
-    answer = λ seat s. record { closes = sym none ∙ timed_first.answer seat s; hub = λ plain stands. stands };
-    stands = timed_first.stands;
-  }
-
-  pub closes-makes : (reason : CloseReason) (later : KeptHub) (after : KeptSeat) → closing ≡ Some reason → Makes (HasCut hub later) cut_seat (record k { client = client }) after → Makes (HasTimed t (Some reason) hub later) (timed_seat t (Some reason)) k after
-  closes-makes reason later after some cuts = record {
-    word = cuts.word;
-    answer = λ seat s. record { closes = sym some ∙ timed_first.answer seat s; hub = cuts.answer (with_client (λ c. moment c t) seat) (timed_first.stands seat s) };
-    stands = λ seat s. cuts.stands (with_client (λ c. moment c t) seat) (timed_first.stands seat s);
+  pub timed-makes : (later : KeptHub) (after : KeptSeat) → Makes (HasFinished None closing hub later) (cut_if (is_over None closing)) (record k { client = client }) after → Makes (HasTimed t closing hub later) (timed_seat t closing) k after
+  timed-makes later after ends = record {
+    word = ends.word;
+    answer = λ seat s. (let a = ends.answer (with_client (λ c. moment c t) seat) (timed_first.stands seat s) in record { closes = a.closes; hub = a.hub });
+    stands = λ seat s. ends.stands (with_client (λ c. moment c t) seat) (timed_first.stands seat s);
   }
 
 -- what is known of an answer, said in other words

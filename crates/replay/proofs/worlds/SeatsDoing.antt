@@ -19,7 +19,7 @@ use Rattle.replay.specs.TextWords.{spaced}
 use Rattle.replay.specs.Text.{Printed, quietly, ended_lines, printing, asks, opens, opens_lone, opens_hub, cuts, seated, by_seat}
 use Rattle.replay.specs.declared.seats.Seat as program
 use Rattle.replay.specs.KeptWorlds.{KeptSeat, Seated, seat_kept, seated as seats_kept, Parties, StandsForSeat, StandForSeats, HasPrinted, Acts}
-use Rattle.replay.specs.KeptSeats.{has_word, Calls, Answers, HasCut}
+use Rattle.replay.specs.KeptSeats.{TellsConnected, has_word, Calls, Answers, HasCut}
 use Rattle.replay.proofs.worlds.Doing.{one_line, two_parts, worded, if_acts, refused-same}
 use Rattle.replay.proofs.worlds.SeatLines.{asks_by, opens_as, opens_by, hub_opens}
 use Rattle.replay.proofs.worlds.Seats.{absent, called, IsCalled, is-seated, IsSeated, stand-more}
@@ -88,21 +88,18 @@ opens-none kept known w written none is world s d =
 abbrev pub Tells : {X : Type 0} → (KeptSeat → X) → Seated → ℕ → X → Type 0
 Tells field seats place answer = (seat : KeptSeat) → seat ≡ get_or seats place seat → answer ≡ field seat
 
--- whether it has a connection, and whether it is a lone one
-abbrev pub TellsOpen : Seated → ℕ → Bool → Type 0
-TellsOpen seats place answer = Tells (λ k. k.is_open) seats place answer
-
+-- whether it is a lone one
 abbrev pub TellsLone : Seated → ℕ → Bool → Type 0
 TellsLone seats place answer = Tells (λ k. k.is_lone) seats place answer
 
-pub opens-already : (kept : KeptHub) (known : Parties) (w : Word) (place : ℕ) (k : KeptSeat) (written : List ℕ) → position (has_word w) known.seats ≡ Some place → k ≡ get_or known.seats place k → TellsOpen known.seats place true
+pub opens-already : (kept : KeptHub) (known : Parties) (w : Word) (place : ℕ) (k : KeptSeat) (written : List ℕ) → position (has_word w) known.seats ≡ Some place → k ≡ get_or known.seats place k → TellsConnected known.seats place true
     → written ≡ codes "already " ++ (w ++ 10 ∷ []) → Acts (opens w) kept known written kept known
 unfolding Acts
 opens-already kept known w place k written at there tells is world s d =
     let p : IsSeated w known.seats place world = is-seated w known.seats world place s.seats at in
     let here : StandsForSeat k p.seat = p.here k there in
     subst (λ (o : Option Seat). HasPrinted kept known written (opens_by w world o)) (sym p.found)
-    (subst (λ (b : Bool). HasPrinted kept known written (opens_as w world p.seat b p.seat.is_lone)) (tells k there ∙ here.is_open)
+    (subst (λ (b : Bool). HasPrinted kept known written (opens_as w world p.seat b p.seat.is_lone)) (tells k p.seat there here)
     (record { text = is ∙ one_line (codes "already " ++ w); stands = s }))
 
 abbrev seat_by : (Seat → World → Printed) → World → Option Seat → Printed
@@ -114,13 +111,13 @@ opens_with true = opens_lone
 opens_with false = opens_hub
 
 opens-with : (lone : Bool) (kept later : KeptHub) (known known_later : Parties) (w : Word) (place : ℕ) (k : KeptSeat) (written : List ℕ) → position (has_word w) known.seats ≡ Some place → k ≡ get_or known.seats place k
-    → TellsOpen known.seats place false → TellsLone known.seats place lone → Acts (by_seat (opens_with lone) w) kept known written later known_later → Acts (opens w) kept known written later known_later
+    → TellsConnected known.seats place false → TellsLone known.seats place lone → Acts (by_seat (opens_with lone) w) kept known written later known_later → Acts (opens w) kept known written later known_later
 unfolding Acts
 opens-with lone kept later known known_later w place k written at there shut tells does world s d =
     let p : IsSeated w known.seats place world = is-seated w known.seats world place s.seats at in
     let here : StandsForSeat k p.seat = p.here k there in
     subst (λ (o : Option Seat). HasPrinted later known_later written (opens_by w world o)) (sym p.found)
-    (subst (λ (b : Bool). HasPrinted later known_later written (opens_as w world p.seat b p.seat.is_lone)) (shut k there ∙ here.is_open)
+    (subst (λ (b : Bool). HasPrinted later known_later written (opens_as w world p.seat b p.seat.is_lone)) (shut k p.seat there here)
     (subst (λ (b : Bool). HasPrinted later known_later written (opens_as w world p.seat false b)) (tells k there ∙ here.is_lone)
     (by p.seat lone (subst (λ (o : Option Seat). HasPrinted later known_later written (seat_by (opens_with lone) world o)) p.found (does world s d)))))
   where
@@ -129,11 +126,11 @@ opens-with lone kept later known known_later w place k written at there shut tel
     by seat false h = h
 
 pub opens-as_lone : (kept later : KeptHub) (known known_later : Parties) (w : Word) (place : ℕ) (k : KeptSeat) (written : List ℕ) → position (has_word w) known.seats ≡ Some place → k ≡ get_or known.seats place k
-    → TellsOpen known.seats place false → TellsLone known.seats place true → Acts (by_seat opens_lone w) kept known written later known_later → Acts (opens w) kept known written later known_later
+    → TellsConnected known.seats place false → TellsLone known.seats place true → Acts (by_seat opens_lone w) kept known written later known_later → Acts (opens w) kept known written later known_later
 opens-as_lone = opens-with true
 
 pub opens-as_hub : (kept later : KeptHub) (known known_later : Parties) (w : Word) (place : ℕ) (k : KeptSeat) (written : List ℕ) → position (has_word w) known.seats ≡ Some place → k ≡ get_or known.seats place k
-    → TellsOpen known.seats place false → TellsLone known.seats place false → Acts (by_seat opens_hub w) kept known written later known_later → Acts (opens w) kept known written later known_later
+    → TellsConnected known.seats place false → TellsLone known.seats place false → Acts (by_seat opens_hub w) kept known written later known_later → Acts (opens w) kept known written later known_later
 opens-as_hub = opens-with false
 
 -- ---- the connection

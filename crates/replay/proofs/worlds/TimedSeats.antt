@@ -2,7 +2,7 @@
 --     peers-timed, links-timed      at a moment they leave the peers and the links
 --     Timing      the first clients have had their moment
 --     timing-begins, timing-more, timing-ends      one more has it
-use Rattle.std.proofs.Common.{◌≡◌, ℕ, suc, ◌+◌, ◌<◌, ◌≤◌, List, [], ◌∷◌, ◌++◌, fold, length, set, get_or, Option, Some, None, refl, sym, ◌∙◌, ap, subst, arith, append_assoc, append-nil, length-append}
+use Rattle.std.proofs.Common.{◌≡◌, Bool, true, false, ℕ, suc, ◌+◌, ◌<◌, ◌≤◌, List, [], ◌∷◌, ◌++◌, fold, length, set, get_or, Option, Some, None, refl, sym, ◌∙◌, ap, subst, arith, append_assoc, append-nil, length-append}
 use Rattle.std.proofs.lemmas.List.{get_or-set_same}
 use Rattle.dsosession.specs.declared.session.CloseReason.{CloseReason}
 use Rattle.pushserver.specs.KeptHubs as hubs
@@ -10,33 +10,33 @@ use Rattle.pushserver.specs.KeptHubs.{KeptHub}
 use Rattle.pushclient.specs.Clients.{closed_as}
 use Rattle.pushclient.specs.Steps as steps
 use Rattle.replay.specs.Lines.{Word}
-use Rattle.replay.specs.World.{Seat, World, with_seat, cut_seat, hub_then}
-use Rattle.replay.specs.Text.{Printed, ended_lines, close_lines, cut_where, timed}
+use Rattle.replay.specs.World.{Seat, World, with_seat, cut_seat, is_over, hub_cut_if, world_cut_if}
+use Rattle.replay.specs.Text.{Printed, ended_lines, close_lines, timed}
 use Rattle.replay.specs.KeptWorlds.{KeptSeat, Seated, StandsForSeat, StandForSeats, AreDistinct, words_in}
 use Rattle.replay.specs.KeptSeats.{timed_seat, Calls, HasTimed, closing_text, IsTimed, Times}
 use Rattle.replay.proofs.worlds.Seats.{words_of, put_seat, put-at, put-put, seat-at, set-at}
 
 -- ---- what they leave
 
-pub peers-cut_where : (ls : List (List ℕ)) (seat : Seat) (world : World) → (cut_where ls seat world).peers ≡ world.peers
-peers-cut_where [] seat world = refl
-peers-cut_where (l ∷ ls) seat world = refl
+pub peers-cut_if : (over : Bool) (seat : Seat) (world : World) → (world_cut_if over seat world).peers ≡ world.peers
+peers-cut_if false seat world = refl
+peers-cut_if true seat world = refl
 
 pub peers-timed : (t : ℕ) (seats : List Seat) (p : Printed) → (fold (timed t) p seats).0.peers ≡ p.0.peers
 peers-timed t [] p = refl
 peers-timed t (seat ∷ seats) p =
     let later : Seat = record seat { client = steps.moment seat.client t } in
-    peers-timed t seats (timed t p seat) ∙ peers-cut_where (close_lines seat.word (closed_as later.client)) later (with_seat later p.0)
+    peers-timed t seats (timed t p seat) ∙ peers-cut_if (is_over None (closed_as later.client)) later (with_seat later p.0)
 
-links-cut_where : (ls : List (List ℕ)) (seat : Seat) (world : World) → (cut_where ls seat world).links ≡ world.links
-links-cut_where [] seat world = refl
-links-cut_where (l ∷ ls) seat world = refl
+links-cut_if : (over : Bool) (seat : Seat) (world : World) → (world_cut_if over seat world).links ≡ world.links
+links-cut_if false seat world = refl
+links-cut_if true seat world = refl
 
 pub links-timed : (t : ℕ) (seats : List Seat) (p : Printed) → (fold (timed t) p seats).0.links ≡ p.0.links
 links-timed t [] p = refl
 links-timed t (seat ∷ seats) p =
     let later : Seat = record seat { client = steps.moment seat.client t } in
-    links-timed t seats (timed t p seat) ∙ links-cut_where (close_lines seat.word (closed_as later.client)) later (with_seat later p.0)
+    links-timed t seats (timed t p seat) ∙ links-cut_if (is_over None (closed_as later.client)) later (with_seat later p.0)
 
 -- ---- one client
 
@@ -44,7 +44,7 @@ abbrev at_moment : ℕ → Seat → Seat
 at_moment t s = record s { client = steps.moment s.client t }
 
 abbrev timed_as : ℕ → Printed → Seat → Option CloseReason → Printed
-timed_as t p s closing = (cut_where (close_lines s.word closing) (at_moment t s) (with_seat (at_moment t s) p.0), p.1 ++ close_lines s.word closing)
+timed_as t p s closing = (world_cut_if (is_over None closing) (at_moment t s) (with_seat (at_moment t s) p.0), p.1 ++ close_lines s.word closing)
 
 seats-timed : (t : ℕ) (p : Printed) (front back : List Seat) (s : Seat) (closing : Option CloseReason) → AreDistinct (words_of (front ++ s ∷ back)) → p.0.seats ≡ front ++ s ∷ back
     → (timed_as t p s closing).0.seats ≡ front ++ timed_seat t closing s ∷ back
@@ -52,7 +52,7 @@ seats-timed t p front back s None distinct is = ap (put_seat s.word (at_moment t
 seats-timed t p front back s (Some reason) distinct is =
     put-put s.word (at_moment t s) (cut_seat (at_moment t s)) p.0.seats refl ∙ ap (put_seat s.word (cut_seat (at_moment t s))) is ∙ put-at s.word front back s (cut_seat (at_moment t s)) distinct refl
 
-hub-then : (t : ℕ) (p : Printed) (s : Seat) (closing : Option CloseReason) → (timed_as t p s closing).0.hub ≡ hub_then closing s p.0.hub
+hub-then : (t : ℕ) (p : Printed) (s : Seat) (closing : Option CloseReason) → (timed_as t p s closing).0.hub ≡ hub_cut_if (is_over None closing) s p.0.hub
 hub-then t p s None = refl
 hub-then t p s (Some reason) = refl
 

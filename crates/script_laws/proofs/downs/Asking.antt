@@ -25,7 +25,7 @@ use Rattle.flight_laws.specs.Taking.{written, GoesUp, asked_by, dropped_by, reco
 use Rattle.flight_laws.proofs.CallsOnOctets.{subscribes-go-up, unsubscribes-go-up, reconfirms-go-up, moments-go-up}
 use Rattle.flight_laws.proofs.Opening.{still-open}
 use Rattle.replay.specs.World.{Seat}
-use Rattle.replay.specs.Headline.{ShownPoints, ShowsNoLater, point_taken}
+use Rattle.replay.specs.Promises.{ShownPoints, ShowsNoLater, point_taken}
 use Rattle.replay.proofs.rest.RestingStreams.{octets-both}
 use Rattle.script_laws.specs.Reached.{ReachedSessions}
 use Rattle.script_laws.specs.Joined.{ClosedByDelay, IsJoined}

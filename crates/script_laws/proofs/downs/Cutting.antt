@@ -5,7 +5,7 @@ use Rattle.std.specs.Prelude.{IsTrue, map}
 use Rattle.pushserver.specs.Hubs.{newest}
 use Rattle.pushserver.proofs.hub_steps.Pairs.{all-weaken}
 use Rattle.inflight.specs.Messages.{made_of}
-use Rattle.replay.specs.Headline.{point_taken}
+use Rattle.replay.specs.Promises.{point_taken}
 use Rattle.script_laws.specs.Walk.{CutsStandAlone}
 use Rattle.script_laws.proofs.downs.Points.{lies, taken-below}
 use Rattle.script_laws.proofs.downs.Wishes.{sound-cut}

@@ -14,7 +14,7 @@ use Rattle.inflight.specs.Flight.{IsUnderWay}
 use Rattle.flight_laws.proofs.OctetCalls.{clients-take}
 use Rattle.replay.specs.PassedOctets.{Delivered, delivered, enough, stepped}
 use Rattle.replay.specs.World.{Seat}
-use Rattle.replay.specs.Headline.{ShownPoints, ShowsNoLater, point_taken}
+use Rattle.replay.specs.Promises.{ShownPoints, ShowsNoLater, point_taken}
 use Rattle.script_laws.specs.Reached.{IsReached, ReachedSessions}
 use Rattle.script_laws.specs.Joined.{IsJoined, Waits}
 use Rattle.script_laws.specs.Walk.{DownsPass, DownsWait}

@@ -23,7 +23,7 @@ use Rattle.inflight.specs.Flight.{AreSoundWishes}
 use Rattle.flight_laws.specs.Taking.{Opens}
 use Rattle.flight_laws.proofs.Opening.{connections-open}
 use Rattle.replay.specs.World.{Seat}
-use Rattle.replay.specs.Headline.{ShownPoints, ShowsNoLater, IsUnconnected, point_taken}
+use Rattle.replay.specs.Promises.{ShownPoints, ShowsNoLater, IsUnconnected, point_taken}
 use Rattle.script_laws.specs.Reached.{IsReached, ReachedSessions}
 use Rattle.script_laws.specs.Joined.{ClosedByDelay, IsJoined, StandsWith}
 use Rattle.script_laws.specs.Walk.{NewOnesAreJoined}

@@ -12,7 +12,7 @@ use Rattle.pushtelling.specs.Runs.{notes_of, LiesBetween}
 use Rattle.pushtelling.proofs.Between.{notes_lie_between}
 use Rattle.pushclient.proofs.SoundWishes.{all_at}
 use Rattle.replay.specs.World.{last_of}
-use Rattle.replay.specs.Headline.{point_taken}
+use Rattle.replay.specs.Promises.{point_taken}
 use Rattle.script_laws.specs.Reached.{Began}
 
 pub lies : (hub : Hub) (number start : ℕ) (session : Session) → Began hub number start → session_of hub number ≡ Some session → AllByRecursion (LiesBetween start (newest hub)) (notes_of hub session)

@@ -29,7 +29,7 @@ use Rattle.flight_laws.proofs.OnOctets.{steps-taken}
 use Rattle.flight_laws.proofs.Opening.{still-open}
 use Rattle.replay.specs.PassedOctets.{stepped}
 use Rattle.replay.specs.World.{Seat}
-use Rattle.replay.specs.Headline.{ShownPoints, point_taken}
+use Rattle.replay.specs.Promises.{ShownPoints, point_taken}
 use Rattle.script_laws.specs.Reached.{IsReached, SessionIsReached, ReachedSessions}
 use Rattle.script_laws.specs.Joined.{ClosedByDelay, IsJoined, Waits}
 use Rattle.script_laws.specs.Turns.{owes}

@@ -29,7 +29,7 @@ use Rattle.inflight.specs.Flight.{AreSoundWishes}
 use Rattle.flight_laws.proofs.Refusals.{questions-differ}
 use Rattle.flight_laws.proofs.Replaced.{Differ, differ-left}
 use Rattle.flight_laws.proofs.WantedAgain.{none-other}
-use Rattle.replay.proofs.worlds.Connected.{subscribe-connected, unsubscribe-connected, moment-connected}
+use Rattle.script_laws.proofs.downs.Connected.{subscribe-connected, unsubscribe-connected, moment-connected}
 use Rattle.script_laws.specs.Walk.{WishesStaySound}
 
 abbrev Fit : Wish → Type 0

@@ -31,7 +31,7 @@ use Rattle.flight_laws.proofs.TakesNothing.{gives-take-nothing}
 use Rattle.flight_laws.proofs.GoesOn.{sessions-go-on}
 use Rattle.replay.specs.World.{World, Seat}
 use Rattle.replay.specs.PassedOctets.{Emitted, subscriptions_in, with_giving, emitted, nothing_emitted, enough, max_wire}
-use Rattle.replay.specs.Headline.{ShownPoints, is_end_by_itself}
+use Rattle.replay.specs.Promises.{ShownPoints, is_end_by_itself}
 use Rattle.replay.proofs.exchanges.Walks.{gives-counted}
 use Rattle.script_laws.specs.Reached.{FitCalls, IsReached, ReachedOnesGoOn, BegunOnesGoOn, ReachedOnesAreSound, ReachedSessions}
 use Rattle.script_laws.specs.Joined.{ClosedByDelay, IsJoined, PassesSo}
@@ -66,7 +66,7 @@ module _ (reached-on : ReachedOnesGoOn) (begun-on : BegunOnesGoOn) (are-sound : 
     gave = give hub number room
 
     standing-behind : (standing : Standing) → session.standing ≡ standing → StandsBehind gave number standing
-    standing-behind Live is = live-stands gave number (sessions-go-on hub number room seat.filled session seat.client c seat.up_wire seat.down_wire (are-sound hub reached) j.there is j.flight)
+    standing-behind Live is = live-stands gave number (sessions-go-on hub number room seat.filled session seat.client c seat.up_wire seat.down_wire j.there is j.flight)
     standing-behind (AskedToStop rcode delay) is = subst (StandsBehind gave number) is (gives-stand number room hub session j.there j.ended (λ live. let both : AskedToStop rcode delay ≡ Live = sym is ∙ live in absurd cc))
     standing-behind (Stopped since) is = subst (StandsBehind gave number) is (gives-stand number room hub session j.there j.ended (λ live. let both : Stopped since ≡ Live = sym is ∙ live in absurd cc))
     standing-behind (Ended reason) is = subst (StandsBehind gave number) is (gives-stand number room hub session j.there j.ended (λ live. let both : Ended reason ≡ Live = sym is ∙ live in absurd cc))

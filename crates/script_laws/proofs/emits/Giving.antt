@@ -18,7 +18,7 @@ use Rattle.pushserver.specs.Giving.{did, copies, copies_or, given_after, by_stan
 use Rattle.pushserver.proofs.SessionLists.{found-in}
 use Rattle.pushserver.proofs.hub_steps.Cases.{found_as, output_as, give_as}
 use Rattle.flight_laws.specs.GoesOn.{GoesOn, gives_on}
-use Rattle.replay.specs.Headline.{EndedByItself, is_end_by_itself}
+use Rattle.replay.specs.Promises.{EndedByItself, is_end_by_itself}
 use Rattle.replay.proofs.exchanges.Walks.{give-walk}
 
 pub record StandsBehind (g : Giving) (number : ℕ) (standing : Standing) : Type 0 where

@@ -9,7 +9,7 @@ use Rattle.pushserver.specs.Calls.{after_calls}
 use Rattle.pushclient.specs.Clients.{Connection}
 use Rattle.replay.specs.World.{World, Seat}
 use Rattle.replay.specs.PassedOctets.{Passed, passed, max_wire, say, up, emit, down, and_then, round, settled}
-use Rattle.replay.specs.Headline.{ShownPoints, is_end_by_itself}
+use Rattle.replay.specs.Promises.{ShownPoints, is_end_by_itself}
 use Rattle.script_laws.specs.Reached.{IsReached, ReachedOnesGoOn}
 use Rattle.script_laws.specs.Joined.{IsJoined, PassesSo}
 use Rattle.script_laws.specs.Walk.{Keeps, SaysPass, UpsPass, EmitsPass, DownsPass, RoundsPass, SettlesPass}

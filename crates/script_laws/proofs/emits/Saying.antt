@@ -19,7 +19,7 @@ use Rattle.flight_laws.specs.GoesOn.{AreTheSame}
 use Rattle.flight_laws.proofs.OctetCalls.{sessions-take, clients-give}
 use Rattle.replay.specs.World.{World, Seat}
 use Rattle.replay.specs.PassedOctets.{Passed, passed, max_wire}
-use Rattle.replay.specs.Headline.{ShownPoints, ShowsNoLater, point_taken}
+use Rattle.replay.specs.Promises.{ShownPoints, ShowsNoLater, point_taken}
 use Rattle.script_laws.specs.Reached.{BegunOnesGoOn, FitCalls}
 use Rattle.script_laws.specs.Joined.{IsJoined, PassesSo}
 use Rattle.script_laws.specs.Walk.{SaysPass, UpsPass}

@@ -23,7 +23,7 @@ use Rattle.replay.specs.World.{World, Seat, seat_of, session_number}
 use Rattle.replay.specs.PassedOctets.{Passed, passed, enough, Exchanged, exchanged, settled, to_client}
 use Rattle.replay.specs.TextWords.{spaced, octets_text}
 use Rattle.replay.specs.Text.{Printed, quietly, printing, end_lines, close_lines, finished, passes, settles, timed, moments, exchanges, sends, feeds_connected, feeds}
-use Rattle.replay.specs.Headline.{is_end_by_itself, is_close_by_itself}
+use Rattle.replay.specs.Promises.{is_end_by_itself, is_close_by_itself}
 use Rattle.replay.proofs.worlds.Seats.{same_word, words_of}
 use Rattle.replay.proofs.worlds.SeatWords.{distinct-front}
 use Rattle.script_laws.specs.Joined.{ClosedByDelay, SeatStands, ShownToEach, WorldStands}

@@ -1,4 +1,4 @@
--- What each line of a script without links tells of a hub's client.
+-- What each line of a script tells of a hub's client.
 --     no-ends      no end and no close but those that come by themselves
 use Rattle.std.proofs.Common.{◌≡◌, ℕ, Bool, true, false, cond, List, [], ◌∷◌, Option, Some, None, refl, sym, ◌∙◌}
 use Rattle.std.specs.Prelude.{IsTrue, map, codes, decimal}
@@ -16,8 +16,8 @@ use Rattle.replay.specs.World.{World, Seat, seat_of, with_seat, start_world}
 use Rattle.replay.specs.PassedOctets as running
 use Rattle.replay.specs.TextWords.{spaced, record_line, by_history, show_at}
 use Rattle.replay.specs.Text.{Printed, quietly, printing, asks, subscribing, unsubscribing, reconfirming, heard_words, opens_lone, opens_hub, opens, shows, line_does, world_after}
+use Rattle.replay.specs.Promises.{NoMessageEnds}
 use Rattle.script_laws.specs.Joined.{ShownToEach}
-use Rattle.script_laws.specs.Whole.{NoMessageEndsOnZones}
 use Rattle.script_laws.specs.Lines.{IsWord, IsRead}
 use Rattle.script_laws.proofs.lines.Premises.{LineLaws}
 use Rattle.script_laws.proofs.lines.Following.{read-words}
@@ -129,9 +129,9 @@ module _ (laws : LineLaws) (all : List Word) (words : AllByRecursion IsWord all)
   line-says (client v) is e = tt
   line-says (lone v) is e = tt
 
-pub no-ends : LineLaws → NoMessageEndsOnZones
-no-ends laws text script before after line w seat read none split found joins =
-    let b = stands-before laws text script before after line read none split in
+pub no-ends : LineLaws → NoMessageEnds
+no-ends laws text script before after line w seat read split found joins =
+    let b = stands-before laws text script before after line read split in
     let world = world_after before (start_world script) in
     let says = line-says laws (client_words (lines_read text)) (read-words text) b.known b.next nothing_shown world b.walked w seat found joins line b.is b.fits in
     let tells = tells-no-other seat.word (line_does by_history line world).1 says in

@@ -14,9 +14,10 @@ use Rattle.dsosession.specs.declared.session.CloseReason.{CloseReason}
 use Rattle.dsosession.specs.declared.session.CloseReason.TheVariants as closes
 use Rattle.pushserver.proofs.hub_steps.Pairs.{all-weaken}
 use Rattle.replay.specs.Lines.{Word, is_word_octet}
+use Rattle.replay.specs.Scripts.{is_among}
 use Rattle.replay.specs.TextWords.{spaced, end_words, close_words}
 use Rattle.replay.specs.Text.{end_lines, close_lines}
-use Rattle.replay.specs.Headline.{is_end_by_itself, is_close_by_itself, tells_line}
+use Rattle.replay.specs.Promises.{is_end_by_itself, is_close_by_itself}
 use Rattle.replay.proofs.worlds.Seats.{same_word}
 use Rattle.script_laws.specs.Lines.{IsWord}
 
@@ -152,8 +153,8 @@ any-line P line (l ∷ ls) all h = by (any-line P line ls all.1) (bytes_eq line 
     by rest false is h = rest h
 
 pub record TellNoOther (w : Word) (lines : List (List ℕ)) : Type 0 where
-  pub end : (reason : EndReason) → IsTrue (tells_line lines (end_line w reason)) → IsTrue (is_end_by_itself reason)
-  pub close : (reason : CloseReason) → IsTrue (tells_line lines (close_line w reason)) → IsTrue (is_close_by_itself reason)
+  pub end : (reason : EndReason) → IsTrue (is_among lines (end_line w reason)) → IsTrue (is_end_by_itself reason)
+  pub close : (reason : CloseReason) → IsTrue (is_among lines (close_line w reason)) → IsTrue (is_close_by_itself reason)
 
 pub tells-no-other : (w : Word) (lines : List (List ℕ)) → AllByRecursion (TellsByItself w) lines → TellNoOther w lines
 tells-no-other w lines all = record {

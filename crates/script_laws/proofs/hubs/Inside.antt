@@ -36,7 +36,7 @@ module _ (P : Hub → Type 0) (k : IsKeptInside P) where
 
   pub keeps-inside : (call : HubCall) (hub : Hub) → IsInside call → P hub → P (called call hub)
   keeps-inside (updates message) hub inside h = holds-update AnyMessage P hub (λ entry by. k.enters hub entry h) h message tt
-  keeps-inside (hears link datagram) hub inside h = holds-hear AnyMessage P hub (λ entry by. k.enters hub entry h) h link datagram
+  keeps-inside (hears link datagram) hub inside h = holds-hear AnyMessage P hub (λ entry by. k.enters hub entry h) h link datagram tt
   keeps-inside (moves t) hub inside h = holds-moment AnyMessage P hub (λ entry by. k.enters hub entry h) h k.times t
   keeps-inside connects hub inside h = absurd inside
   keeps-inside (takes number piece) hub inside h = k.takes_in hub number piece h

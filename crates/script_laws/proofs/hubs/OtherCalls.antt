@@ -67,7 +67,7 @@ module _ (number : ℕ) (Q : Session → Type 0)
 
   pub others-keep : (hub : Hub) (call : HubCall) → IsOfOthers number call → IsThereSo hub → IsThereSo (called call hub)
   others-keep hub (updates message) apart h = holds-update AnyMessage IsThereSo hub (λ entry by. behind-entry hub entry h) h message tt
-  others-keep hub (hears link datagram) apart h = holds-hear AnyMessage IsThereSo hub (λ entry by. behind-entry hub entry h) h link datagram
+  others-keep hub (hears link datagram) apart h = holds-hear AnyMessage IsThereSo hub (λ entry by. behind-entry hub entry h) h link datagram tt
   others-keep hub (moves t) apart h = holds-moment AnyMessage IsThereSo hub (λ entry by. behind-entry hub entry h) h behind-timers t
   others-keep hub connects apart h = holds-connect IsThereSo hub (behind-connection hub h) h
   others-keep hub (takes other piece) apart (session, there, q) = (session, found-elsewhere other (takes_piece piece) number apart hub.sessions ∙ there, q)

@@ -26,7 +26,7 @@ use Rattle.flight_laws.specs.OtherCalls.{IsOfOthers}
 use Rattle.flight_laws.proofs.OtherSteps.{other-calls-leave}
 use Rattle.flight_laws.proofs.TakesNothing.{others-take-nothing}
 use Rattle.replay.specs.World.{Seat}
-use Rattle.replay.specs.Headline.{EndedByItself, ShownPoints, ShowsNoLater, point_taken, is_end_by_itself, IsUnconnected}
+use Rattle.replay.specs.Promises.{EndedByItself, ShownPoints, ShowsNoLater, point_taken, is_end_by_itself, IsUnconnected}
 use Rattle.script_laws.specs.Reached.{FitsCall, FitCalls, IsReached, Avoids}
 use Rattle.script_laws.specs.Joined.{IsJoined, StandsWith, ClosedByDelay}
 use Rattle.script_laws.specs.Walk.{OthersLeaveSeats}

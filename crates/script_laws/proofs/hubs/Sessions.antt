@@ -37,7 +37,7 @@ reached-below hub number session r there = below-found hub number session there 
 reached-history : (hub : Hub) (number : ℕ) (session : Session) → IsReached hub → session_of hub number ≡ Some session → TellsHistory hub session
 reached-history hub number session r there =
     let octets = all-weaken FitsCall BringsOctets (λ call fit. fit.0) r.calls r.fit in
-    let all : AllByRecursion (λ e. TellsHistory hub e.1) hub.sessions = subst (λ (h : Hub). AllByRecursion (λ e. TellsHistory h e.1) h.sessions) (sym r.is) (sessions_tell r.start r.timers r.calls r.zones octets) in
+    let all : AllByRecursion (λ e. TellsHistory hub e.1) hub.sessions = subst (λ (h : Hub). AllByRecursion (λ e. TellsHistory h e.1) h.sessions) (sym r.is) (sessions_tell r.start r.timers r.calls r.homes octets) in
     found-one (TellsHistory hub) number hub.sessions session there all
 
 pub reached-sessions : ReachedSessions

@@ -19,7 +19,7 @@ use Rattle.flight_laws.proofs.Counting.{count-append}
 use Rattle.replay.specs.Lines.{Word}
 use Rattle.replay.specs.KeptWorlds.{AreDistinct}
 use Rattle.replay.specs.World.{World, Seat, new_seat, seat_of, with_seat, session_number, without, cut_seat, hub_without}
-use Rattle.replay.specs.Headline.{NumbersFit, numbers_of}
+use Rattle.replay.specs.Promises.{NumbersFit, numbers_of}
 use Rattle.replay.proofs.worlds.Seats.{other_way, words_of, words-put}
 use Rattle.replay.proofs.worlds.SeatWords.{distinct-front}
 use Rattle.script_laws.specs.Numbers.{numbers_in, CallsFit, SeatsChangeFit, SeatsComeFit, SeatsOpenFit, PeersOpenFit, SeatsAreCutFit, PeersAreCutFit}

@@ -15,7 +15,7 @@ use Rattle.pushclient.specs.Clients.{Client, Connection, reconfirm, closed_as}
 use Rattle.replay.specs.Lines.{Word}
 use Rattle.replay.specs.World.{World, Seat, seat_of, with_seat}
 use Rattle.replay.specs.Text.{Printed, quietly, printing, asks, subscribing, unsubscribing, reconfirming}
-use Rattle.replay.specs.Headline.{ShownPoints, IsUnconnected}
+use Rattle.replay.specs.Promises.{ShownPoints, IsUnconnected}
 use Rattle.script_laws.specs.Reached.{IsReached}
 use Rattle.script_laws.specs.Joined.{SeatStands, StandsWith, ShownToEach, WorldStands}
 use Rattle.script_laws.specs.Walk.{KeepsJoined}

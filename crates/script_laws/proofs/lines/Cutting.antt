@@ -14,7 +14,7 @@ use Rattle.pushclient.specs.Clients.{Client, Connection, Wish, unasked}
 use Rattle.pushserver.specs.PlainHubs.{Hub, Session}
 use Rattle.pushserver.specs.Hubs.{newest}
 use Rattle.replay.specs.World.{Seat, cut_seat, hub_without}
-use Rattle.replay.specs.Headline.{ShownPoints, IsUnconnected}
+use Rattle.replay.specs.Promises.{ShownPoints, IsUnconnected}
 use Rattle.script_laws.specs.Reached.{IsReached}
 use Rattle.script_laws.specs.Joined.{IsJoined, StandsWith, SeatStands}
 use Rattle.script_laws.specs.Walk.{CutsStandAlone}

@@ -1,4 +1,4 @@
--- After each line of a script without links the world stands, and what is under way holds.
+-- After each line of a script the world stands, and what is under way holds.
 --     stands-after-each-line, holds-after-each-line      the laws
 use Rattle.std.proofs.Common.{◌≡◌, ℕ, ◌≤◌, Bool, true, false, cond, List, [], ◌∷◌, ◌++◌, find, length, Option, Some, None, option_map, refl, sym, ◌∙◌, ap, subst, append_assoc, append-nil}
 use Rattle.std.specs.Prelude.{◌==◌, option_to_list}
@@ -18,11 +18,11 @@ use Rattle.replay.specs.World.{World, Seat, start_world}
 use Rattle.replay.specs.TextWords.{by_history}
 use Rattle.replay.specs.Text.{line_does, world_after}
 use Rattle.replay.specs.HeldPoints.{point_at, point_of_held, held_points_from, is_show_of}
-use Rattle.replay.specs.Headline.{ShownPoints, IsUnconnected, IsConnected, SeatHolds}
+use Rattle.replay.specs.Promises.{ShownPoints, IsUnconnected, IsConnected, SeatHolds, HoldsAfterEachLine}
 use Rattle.script_laws.specs.Reached.{IsReached}
 use Rattle.script_laws.specs.Joined.{SeatStands, StandsWith, ShownToEach, WorldStands}
 use Rattle.script_laws.specs.Texts.{ShownIsTaken}
-use Rattle.script_laws.specs.Whole.{StandsAfterEachLine, HoldsAfterEachLineOfZones}
+use Rattle.script_laws.specs.Whole.{StandsAfterEachLine}
 use Rattle.script_laws.specs.Lines.{IsRead, Follow}
 use Rattle.script_laws.proofs.lines.Premises.{LineLaws}
 use Rattle.script_laws.proofs.lines.Following.{read-script, follow-front}
@@ -56,9 +56,9 @@ module _ (laws : LineLaws) (shows : ShownIsTaken) (all : List Word) where
       (walked-lines f.0 lines then later f.2 read.1 next)
 
 pub stands-after-each-line : LineLaws → ShownIsTaken → StandsAfterEachLine
-stands-after-each-line laws shows text script before after read none split =
+stands-after-each-line laws shows text script before after read split =
     let all = client_words (lines_read text) in
-    let r = read-script text script read none in
+    let r = read-script text script read in
     let start : Walked all nothing_known (λ w question. []) (start_world script) = record { stands = start-stands all script r.0 r.1; fits = start-fits all script r.0 r.1; clients = λ w e question. refl } in
     walked-lines laws shows all nothing_known before (λ w question. []) (start_world script)
     (follow-front all nothing_known before after (subst (Follow all nothing_known) split r.0)) (each-front (IsRead all) before after (subst (AllByRecursion (IsRead all)) split r.1)) start
@@ -112,9 +112,9 @@ module _ (laws : LineLaws) (hub : Hub) (reached : IsReached hub) where
       by None h = h
       by (Some number) h = connection-holds (shown seat.word) seat number h
 
-pub holds-after-each-line : LineLaws → StandsAfterEachLine → HoldsAfterEachLineOfZones
-holds-after-each-line laws each text script before after read none split =
+pub holds-after-each-line : LineLaws → StandsAfterEachLine → HoldsAfterEachLine
+holds-after-each-line laws each text script before after read split =
     let world = world_after before (start_world script) in
     let shown : ShownToEach = λ w question. held_points_from w question before (start_world script) in
-    let stands = each text script before after read none split in
+    let stands = each text script before after read split in
     record { numbers = stands.numbers; seats = all-weaken (λ (s : Seat). SeatStands world.hub (shown s.word) s) (SeatHolds world.hub shown) (λ s h. seat-holds laws world.hub stands.reached shown s h) world.seats stands.seats }

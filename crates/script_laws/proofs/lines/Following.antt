@@ -1,17 +1,17 @@
--- What is known of the lines of a script that was read, if it has no links.
+-- What is known of the lines of a script that was read.
 --     read-script      each line may stand where it stands, is within bounds, and names no client but those of the script
 --     read-words      the words of its clients are words
 --     follow-front      so may the first ones
 use Rattle.std.proofs.Common.{◌≡◌, ℕ, ◌+◌, Bool, true, false, cond, ◌||◌, List, [], ◌∷◌, ◌++◌, map, length, Option, Some, None, Result, Ok, Err, nat_lt, refl, sym, ◌∙◌, ap, subst}
-use Rattle.std.specs.List.{AllByRecursion}
+use Rattle.std.specs.List.{AllByRecursion, cons_option}
 use Rattle.std.specs.Str.{bytes_eq}
 use Rattle.dsotlv.proofs.Results.{same_found}
+use Rattle.pushserver.proofs.hub_steps.Pairs.{all-weaken}
 use Rattle.pushserver.proofs.session_steps.Lists.{each-both}
 use Rattle.replay.specs.Lines.{Word, ScriptLine, client, lone, line_of}
 use Rattle.replay.specs.Scripts.{Known, nothing_known, client_word, client_words, is_among, fits, with_line, lines_from, lines_in, lines_read, last_is_outside, max_script, script_of}
 use Rattle.replay.proofs.lines.SentOctets.{done, lines_or}
 use Rattle.replay.proofs.worlds.Seats.{word_itself}
-use Rattle.script_laws.specs.Whole.{IsNoLink, HasNoLinks}
 use Rattle.script_laws.specs.Lines.{IsWord, AreWithin, IsNamed, IsRead, Follow}
 use Rattle.script_laws.proofs.lines.ReadLines.{line_within}
 
@@ -74,7 +74,7 @@ all_named (None ∷ os) all h = ((λ line e. absurd cc), all_named os all h)
 all_named (Some l ∷ os) all h = by (client_word l) refl (λ k. all_named os all k) h
   where
     by : (o : Option Word) → client_word l ≡ o → (Among (client_words os) all → AllByRecursion (OfLine (IsNamed all)) os)
-        → Among (elim o as (λ _. List Word) [ None ↦ client_words os | Some w ↦ w ∷ client_words os ]) all → AllByRecursion (OfLine (IsNamed all)) (Some l ∷ os)
+        → Among (cons_option o (client_words os)) all → AllByRecursion (OfLine (IsNamed all)) (Some l ∷ os)
     by None is rest h =
         let here : OfLine (IsNamed all) (Some l) = λ line e w f. (let wrong : None ≡ Some w = sym is ∙ ap client_word (same_found l line e) ∙ f in absurd cc) in
         (here, rest h)
@@ -94,7 +94,7 @@ all_words [] all = tt
 all_words (None ∷ os) all = all_words os all.1
 all_words (Some l ∷ os) all = by (client_word l) refl (all_words os all.1)
   where
-    by : (o : Option Word) → client_word l ≡ o → AllByRecursion IsWord (client_words os) → AllByRecursion IsWord (elim o as (λ _. List Word) [ None ↦ client_words os | Some w ↦ w ∷ client_words os ])
+    by : (o : Option Word) → client_word l ≡ o → AllByRecursion IsWord (client_words os) → AllByRecursion IsWord (cons_option o (client_words os))
     by None is rest = rest
     by (Some w) is rest = (client_named l w is (all.0 l refl), rest)
 
@@ -103,16 +103,14 @@ read-words text = all_words (lines_read text) (read_within text)
 
 -- ---- the script
 
-pub read-script : (text : List ℕ) (script : List ScriptLine) → script_of text ≡ Ok script → HasNoLinks script
+pub read-script : (text : List ℕ) (script : List ScriptLine) → script_of text ≡ Ok script
     → Follow (client_words (lines_read text)) nothing_known script × AllByRecursion (IsRead (client_words (lines_read text))) script
-read-script text script read none =
+read-script text script read =
     let all = client_words (lines_read text) in
     let both : AllByRecursion (OfLine (λ line. AreWithin line × IsNamed all line)) (lines_read text) =
     each-both (OfLine AreWithin) (OfLine (IsNamed all)) (OfLine (λ line. AreWithin line × IsNamed all line)) (λ o a b line e. (a line e, b line e)) (lines_read text) (read_within text) (all_named (lines_read text) all (λ w h. h)) in
-    let follows = each-follows (λ line. AreWithin line × IsNamed all line) all nothing_known 1 (lines_read text) script both read in (
-      follows.0,
-      each-both (λ line. AreWithin line × IsNamed all line) IsNoLink (IsRead all) (λ line a no. record { within = a.0; named = a.1; no_link = no }) script follows.1 none,
-    )
+    let follows = each-follows (λ line. AreWithin line × IsNamed all line) all nothing_known 1 (lines_read text) script both read in
+    (follows.0, all-weaken (λ line. AreWithin line × IsNamed all line) (IsRead all) (λ line a. record { within = a.0; named = a.1 }) script follows.1)
 
 pub follow-front : (all : List Word) (known : Known) (before after : List ScriptLine) → Follow all known (before ++ after) → Follow all known before
 follow-front all known [] after f = tt

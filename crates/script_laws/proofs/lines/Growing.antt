@@ -14,7 +14,7 @@ use Rattle.replay.specs.Lines.{ScriptLine}
 use Rattle.replay.specs.World.{World, Seat, seat_of}
 use Rattle.replay.specs.TextWords.{is_filling, note_in}
 use Rattle.replay.specs.HeldPoints.{point_of_note, point_of_held, point_at, is_show_of}
-use Rattle.replay.specs.Headline.{ShownPoints, ShowsNoLater, point_taken, IsUnconnected}
+use Rattle.replay.specs.Promises.{ShownPoints, ShowsNoLater, point_taken, IsUnconnected}
 use Rattle.replay.proofs.worlds.Seats.{words_of}
 use Rattle.replay.proofs.worlds.SeatWords.{distinct-front}
 use Rattle.script_laws.specs.Reached.{IsReached}

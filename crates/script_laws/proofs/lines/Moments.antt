@@ -18,9 +18,9 @@ use Rattle.pushclient.specs.Steps as steps
 use Rattle.pushclient.specs.Steps.{does, at_later, is_active}
 use Rattle.dsotlv.specs.Messages.{first_message}
 use Rattle.replay.specs.Lines.{Word}
-use Rattle.replay.specs.World.{World, Seat, seat_of, with_seat, cut_seat, hub_without}
-use Rattle.replay.specs.Text.{Printed, close_lines, cut_where, timed, moments}
-use Rattle.replay.specs.Headline.{IsUnconnected}
+use Rattle.replay.specs.World.{World, Seat, seat_of, with_seat, cut_seat, hub_without, is_over, world_cut_if}
+use Rattle.replay.specs.Text.{Printed, timed, moments}
+use Rattle.replay.specs.Promises.{IsUnconnected}
 use Rattle.replay.specs.KeptWorlds.{AreDistinct}
 use Rattle.replay.proofs.worlds.Seats.{words_of}
 use Rattle.replay.proofs.worlds.SeatWords.{distinct-front}
@@ -30,7 +30,7 @@ use Rattle.script_laws.proofs.texts.Along.{seat-stands}
 use Rattle.script_laws.proofs.lines.Premises.{LineLaws}
 use Rattle.script_laws.proofs.lines.Cutting.{stands-with, with-stands, stands-alone, joined-cut, cut-other}
 use Rattle.script_laws.proofs.lines.Knowing.{put-other, each-found, same-put, LeadsTo, leads-none, leads-on}
-use Rattle.script_laws.proofs.lines.Passing.{cut-where-told, finished-alone, same-cut}
+use Rattle.script_laws.proofs.lines.Passing.{cut-where-over, finished-alone, same-cut}
 use Rattle.script_laws.proofs.lines.Asking.{lone-other, no-connection, unconnected-other, closed-is}
 
 -- ---- a client at a moment
@@ -57,13 +57,13 @@ at_moment t seat = record seat { client = steps.moment seat.client t }
 
 -- the world behind the moment of one client
 abbrev world_timed : ℕ → World → Seat → World
-world_timed t world seat = cut_where (close_lines seat.word (closed_as (at_moment t seat).client)) (at_moment t seat) (with_seat (at_moment t seat) world)
+world_timed t world seat = world_cut_if (is_over None (closed_as (at_moment t seat).client)) (at_moment t seat) (with_seat (at_moment t seat) world)
 
 -- the other seats stay
 timed-other : (t : ℕ) (world : World) (seat : Seat) (v : Word) → bytes_eq seat.word v ≡ false → seat_of (world_timed t world seat) v ≡ seat_of world v
 timed-other t world seat v other =
     let later : Seat = at_moment t seat in
-    cut-where-told (λ (x : World). seat_of x v ≡ seat_of world v) seat.word None (closed_as later.client) later (with_seat later world)
+    cut-where-over (λ (x : World). seat_of x v ≡ seat_of world v) None (closed_as later.client) later (with_seat later world)
     (λ over closing. put-other world later v other)
     (put-other (with_seat later world) (cut_seat later) v other ∙ put-other world later v other)
 
@@ -94,7 +94,7 @@ module _ (laws : LineLaws) (all : List Word) (shown : ShownToEach) where
 
     joined-timed : (number : ℕ) → seat.session ≡ Some number → LeadsTo all shown world (world_timed t world seat)
     joined-timed number has =
-        cut-where-told (LeadsTo all shown world) seat.word None (closed_as later.client) later (with_seat later world)
+        cut-where-over (LeadsTo all shown world) None (closed_as later.client) later (with_seat later world)
         (λ over closing. record {
           stands = laws.seats_pass shown world seat.word seat later [] stands found refl refl tt tt tt (with-stands world.hub (shown seat.word) later number has (goes_on closing));
           clients = same-put world seat.word seat later found refl refl;

@@ -14,7 +14,7 @@ use Rattle.replay.specs.Scripts.{is_peer}
 use Rattle.replay.specs.World.{World, Seat, seat_of, with_seat, cut_seat, cut_connection, cut_peer, without, hub_without}
 use Rattle.replay.specs.PassedOctets.{to_client}
 use Rattle.replay.specs.Text.{Printed, quietly, printing, opens_lone, opens_hub, opens, cuts, feeds_connected, feeds}
-use Rattle.replay.specs.Headline.{ShownPoints, IsUnconnected}
+use Rattle.replay.specs.Promises.{ShownPoints, IsUnconnected}
 use Rattle.script_laws.specs.Joined.{SeatStands, ShownToEach, WorldStands}
 use Rattle.script_laws.proofs.texts.Along.{seat-stands}
 use Rattle.script_laws.proofs.lines.Premises.{LineLaws}

@@ -1,7 +1,8 @@
 -- Octets pass between a client and its session, and an end or a close that is told cuts the connection.
 --     passes-stand, settles-stand      lines by which octets pass
 --     finished-alone      a client without a session that passes nothing
-use Rattle.std.proofs.Common.{◌≡◌, ℕ, List, [], ◌∷◌, ◌++◌, Option, Some, None, refl, sym, ◌∙◌, ap, subst}
+--     told-none      where nothing is told
+use Rattle.std.proofs.Common.{◌≡◌, ℕ, List, [], ◌∷◌, ◌++◌, length, Option, Some, None, refl, sym, ◌∙◌, ap, subst, arith}
 use Rattle.std.specs.Prelude.{codes, decimal}
 use Rattle.dsosession.specs.declared.session.EndReason.{EndReason}
 use Rattle.dsosession.specs.declared.session.CloseReason.{CloseReason}
@@ -9,10 +10,10 @@ use Rattle.pushserver.specs.PlainHubs.{Hub}
 use Rattle.pushserver.specs.Calls.{after_calls}
 use Rattle.pushclient.specs.Clients.{Connection, closed_as}
 use Rattle.replay.specs.Lines.{Word}
-use Rattle.replay.specs.World.{World, Seat, seat_of, with_seat, cut_seat, cut_connection, hub_without}
+use Rattle.replay.specs.World.{World, Seat, seat_of, with_seat, cut_seat, cut_connection, hub_without, is_over, world_cut_if}
 use Rattle.replay.specs.PassedOctets.{Passed, passed, enough, settled}
-use Rattle.replay.specs.Text.{Printed, quietly, end_lines, close_lines, cut_where, finished, passes, settles}
-use Rattle.replay.specs.Headline.{IsUnconnected}
+use Rattle.replay.specs.Text.{Printed, quietly, end_lines, close_lines, finished, passes, settles}
+use Rattle.replay.specs.Promises.{IsUnconnected}
 use Rattle.script_laws.specs.Reached.{IsReached}
 use Rattle.script_laws.specs.Numbers.{KeepNumbers, AreForNoOther}
 use Rattle.script_laws.specs.Joined.{IsJoined, SeatStands, StandsWith, ShownToEach, WorldStands, PassesSo}
@@ -23,12 +24,17 @@ use Rattle.script_laws.proofs.lines.Cutting.{stands-with, with-stands, stands-al
 use Rattle.script_laws.proofs.lines.Knowing.{put-found, same-put, AreSameClients, LeadsTo, leads-none}
 
 -- what ends or closes is cut
-pub cut-where-told : (P : World → Type 0) (v : Word) (over : Option EndReason) (closing : Option CloseReason) (seat : Seat) (world : World)
-    → (over ≡ None → closing ≡ None → P world) → P (cut_connection seat world) → P (cut_where (end_lines v over ++ close_lines v closing) seat world)
-cut-where-told P v None None seat world stays cuts = stays refl refl
-cut-where-told P v None (Some reason) seat world stays cuts = cuts
-cut-where-told P v (Some end) None seat world stays cuts = cuts
-cut-where-told P v (Some end) (Some reason) seat world stays cuts = cuts
+pub cut-where-over : (P : World → Type 0) (over : Option EndReason) (closing : Option CloseReason) (seat : Seat) (world : World)
+    → (over ≡ None → closing ≡ None → P world) → P (cut_connection seat world) → P (world_cut_if (is_over over closing) seat world)
+cut-where-over P None None seat world stays cuts = stays refl refl
+cut-where-over P None (Some reason) seat world stays cuts = cuts
+cut-where-over P (Some end) closing seat world stays cuts = cuts
+
+-- where nothing else is printed no end and no close are told
+pub told-none : (v : Word) (over : Option EndReason) (closing : Option CloseReason) → length (end_lines v over ++ close_lines v closing) ≡ 0 → (over ≡ None) × (closing ≡ None)
+told-none v None None none = (refl, refl)
+told-none v None (Some reason) none = absurd (omega (arith, none))
+told-none v (Some reason) closing none = absurd (omega (arith, none))
 
 -- the clients are the same behind a passing, and behind a cut with it
 pub same-cut : (world : World) (hub : Hub) (w : Word) (seat x : Seat) → seat_of world w ≡ Some seat → x.word ≡ seat.word → x.is_lone ≡ seat.is_lone → AreSameClients world (cut_connection x (with_seat x (record world { hub = hub })))
@@ -44,9 +50,9 @@ module _ (laws : LineLaws) (all : List Word) (shown : ShownToEach) (world : Worl
 
   -- it has another client, which has closed or not
   pub finished-alone : (later : Seat) → seat.session ≡ None → later.word ≡ seat.word → later.is_lone ≡ seat.is_lone → later.session ≡ seat.session → IsUnconnected world.hub (shown seat.word) later
-      → Leads (cut_where (end_lines later.word None ++ close_lines later.word (closed_as later.client)) later (with_seat later world))
+      → Leads (world_cut_if (is_over None (closed_as later.client)) later (with_seat later world))
   finished-alone later none word lone session alone =
-      cut-where-told Leads later.word None (closed_as later.client) later (with_seat later world)
+      cut-where-over Leads None (closed_as later.client) later (with_seat later world)
       (λ over closing. record {
         stands = laws.seats_pass shown world w seat later [] stands found word session tt tt tt (alone-stands world.hub (shown seat.word) later (session ∙ none) alone);
         clients = same-put world w seat later found word lone;
@@ -66,10 +72,10 @@ module _ (laws : LineLaws) (all : List Word) (shown : ShownToEach) (world : Worl
     here = stands-with world.hub (shown seat.word) seat number has (seat-stands shown world w seat stands found)
 
     finishes : (p : Passed) → PassesSo number world (shown seat.word) seat here.connection p
-        → Leads (cut_where (end_lines p.seat.word p.over ++ close_lines p.seat.word (closed_as p.seat.client)) p.seat (with_seat p.seat p.world))
+        → Leads (world_cut_if (is_over p.over (closed_as p.seat.client)) p.seat (with_seat p.seat p.world))
     finishes p so =
-        subst (λ (v : World). Leads (cut_where (end_lines x.word p.over ++ close_lines x.word (closed_as x.client)) x (with_seat x v))) (sym so.world_is)
-        (cut-where-told Leads x.word p.over (closed_as x.client) x (with_seat x middle)
+        subst (λ (v : World). Leads (world_cut_if (is_over p.over (closed_as x.client)) x (with_seat x v))) (sym so.world_is)
+        (cut-where-over Leads p.over (closed_as x.client) x (with_seat x middle)
         (λ over closing. record {
           stands = laws.seats_pass shown world w seat x so.calls stands found so.word so.session so.fit own.1 (subst (λ (o : Option ℕ). AreForNoOther o so.calls) (sym has) own.0) (goes_on closing);
           clients = same-put middle w seat x found so.word so.lone;
@@ -113,7 +119,7 @@ module _ (laws : LineLaws) (all : List Word) (shown : ShownToEach) (world : Worl
             })
 
     kept-finishes : (passing : World → Seat → Passed) → Keeps passing number
-        → Leads (cut_where (end_lines (passing world seat).seat.word (passing world seat).over ++ close_lines (passing world seat).seat.word (closed_as (passing world seat).seat.client)) (passing world seat).seat (with_seat (passing world seat).seat (passing world seat).world))
+        → Leads (world_cut_if (is_over (passing world seat).over (closed_as (passing world seat).seat.client)) (passing world seat).seat (with_seat (passing world seat).seat (passing world seat).world))
     kept-finishes passing keeps = finishes (passing world seat) (keeps world (shown seat.word) seat here.session here.connection stands.reached here.joined)
 
   -- ---- either

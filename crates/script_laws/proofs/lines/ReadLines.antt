@@ -2,10 +2,9 @@
 --     line_within      of a line by itself
 use Rattle.std.proofs.Common.{◌≡◌, ℕ, ◌+◌, ◌-◌, ◌*◌, ◌≤◌, ◌<◌, ◌^◌, Bool, true, false, cond, ◌&&◌, List, [], ◌∷◌, fold, length, Option, Some, None, option_map, option_and_then, nat_le, refl, subst, arith}
 use Rattle.std.specs.Prelude.{◌==◌, IsTrue}
-use Rattle.std.specs.List.{AllByRecursion, list_all, slice_split}
+use Rattle.std.specs.List.{AllByRecursion, list_all}
 use Rattle.std.specs.Str.{is_utf8}
 use Rattle.std.proofs.lemmas.Bool.Decides.{nat_tests}
-use Rattle.push_base.specs.Cases.{chosen}
 use Rattle.push_base.specs.Limits.{max_moment}
 use Rattle.push_base.specs.Optional.{◌>>=◌}
 use Rattle.dnsname.specs.Names.{Labels, is_name}
@@ -15,7 +14,8 @@ use Rattle.dsotlv.proofs.Results.{same_found}
 use Rattle.rrset.specs.declared.record.Question.{Question}
 use Rattle.dsosession.specs.Timing.{least_keepalive}
 use Rattle.inflight.specs.Ends.{is_question}
-use Rattle.replay.specs.Lines.{Word, ScriptLine, is_word_octet, silent, timers, zone, link, client, lone, at_moment, update, hear, ask, drop_question, reconfirm, open_connection, cut, say, up, emit, down, settle, send, feed, stop, point, show, max_octets_passed, has_form, number, number16, number32, max_u32, word, octets_written, question, alone, of_word, of_octets, of_word_and_octets, of_word_and_number, of_word_and_question, timers_line, writable_of, zone_line, link_line, at_line, reconfirm_line, stop_line, show_line, lines_by, by_first_word, of_words, line_of}
+use Rattle.replay.specs.Lines.{words_in, Word, ScriptLine, is_word_octet, silent, timers, zone, link, client, lone, at_moment, update, hear, ask, drop_question, reconfirm, open_connection, cut, say, up, emit, down, settle, send, feed, stop, point, show, max_octets_passed, has_form, number, number16, number32, max_u32, word, octets_written, question, alone, of_word, of_octets, of_word_and_octets, of_word_and_number, of_word_and_question, timers_line, writable_of, zone_line, link_line, at_line, reconfirm_line, stop_line, show_line, of_words, line_of}
+use Rattle.replay.proofs.lines.LineKinds.{OnEach, on-words}
 use Rattle.replay.proofs.worlds.ClientOutputs.{all_octets}
 use Rattle.replay.proofs.worlds.InputOctets.{written_octets}
 use Rattle.replay.proofs.turns.SendSizes.{le_is, written_few}
@@ -48,10 +48,6 @@ then_gives P f (Some a) h = h a refl
 if_gives : {X : Type 0} (P : X → Type 0) (b : Bool) (x y : Option X) → (b ≡ true → Gives P x) → (b ≡ false → Gives P y) → Gives P (cond b x y)
 if_gives P true x y h k = h refl
 if_gives P false x y h k = k refl
-
-chosen_gives : {X : Type 0} (P : X → Type 0) (cases : List (Bool × Option X)) → AllByRecursion (λ c. Gives P c.1) cases → Gives P (chosen cases None)
-chosen_gives P [] h = none_gives P
-chosen_gives P (c ∷ cases) h = if_gives P c.0 c.1 (chosen cases None) (λ is. h.0) (λ is. chosen_gives P cases h.1)
 
 -- ---- words
 
@@ -164,12 +160,12 @@ zone_within (n ∷ s ∷ m ∷ v ∷ ws) = none_gives AreWithin
 link_within : (ws : List Word) → Within (link_line ws)
 link_within [] = none_gives AreWithin
 link_within (w ∷ []) = none_gives AreWithin
-link_within (w ∷ n ∷ []) = bind_gives AreWithin (word w) _ (λ l is. bind_gives AreWithin (name_of_text n) _ (λ domain at. some_gives AreWithin (link l domain) tt))
+link_within (w ∷ n ∷ []) = bind_gives AreWithin (word w) _ (λ l is. bind_gives AreWithin (name_of_text n) _ (λ domain at. some_gives AreWithin (link l domain) (name_is_name n domain at)))
 link_within (w ∷ n ∷ v ∷ ws) = none_gives AreWithin
 
 at_within : (ws : List Word) → Within (at_line ws)
 at_within [] = none_gives AreWithin
-at_within (t ∷ []) = map_gives AreWithin (number max_moment t) at_moment (λ n is. tt)
+at_within (t ∷ []) = map_gives AreWithin (number max_moment t) at_moment (λ n is. number_at_most max_moment t n is)
 at_within (t ∷ v ∷ ws) = none_gives AreWithin
 
 reconfirm_within : (ws : List Word) → Within (reconfirm_line ws)
@@ -215,73 +211,41 @@ point_within : (ws : List Word) → Within (alone point ws)
 point_within [] = some_gives AreWithin point tt
 point_within (w ∷ ws) = none_gives AreWithin
 
-first_word_within : (w : Word) (ws : List Word) → Within (by_first_word w ws)
-first_word_within w ws = chosen_gives AreWithin (lines_by w ws) (
-  timers_within ws,
-  (
-    zone_within ws,
-    (
-      link_within ws,
-      (
-        word_within client (λ v h. h) ws,
-        (
-          word_within lone (λ v h. h) ws,
-          (
-            at_within ws,
-            (
-              octets_within update (λ o h. h) ws,
-              (
-                word_octets_within hear (λ v o k h. h) ws,
-                (
-                  word_question_within ask (λ v q h. h) ws,
-                  (
-                    word_question_within drop_question (λ v q h. h) ws,
-                    (
-                      reconfirm_within ws,
-                      (
-                        word_within open_connection (λ v h. tt) ws,
-                        (
-                          word_within cut (λ v h. tt) ws,
-                          (
-                            word_number_within say (λ v n. tt) ws,
-                            (
-                              word_number_within up (λ v n. tt) ws,
-                              (
-                                word_number_within emit (λ v n. tt) ws,
-                                (
-                                  word_number_within down (λ v n. tt) ws,
-                                  (
-                                    word_within settle (λ v h. tt) ws,
-                                    (
-                                      word_octets_within send (λ v o k h. (k, h)) ws,
-                                      (word_octets_within feed (λ v o k h. h) ws, (stop_within ws, (point_within ws, (show_within ws, tt)))),
-                                    ),
-                                  ),
-                                ),
-                              ),
-                            ),
-                          ),
-                        ),
-                      ),
-                    ),
-                  ),
-                ),
-              ),
-            ),
-          ),
-        ),
-      ),
-    ),
-  ),
-)
+each_within : (ws : List Word) → OnEach Within ws
+each_within ws = record {
+  on_timers = timers_within ws;
+  on_zone = zone_within ws;
+  on_link = link_within ws;
+  on_at = at_within ws;
+  on_update = octets_within update (λ o h. h) ws;
+  on_hear = word_octets_within hear (λ v o k h. h) ws;
+  on_send = word_octets_within send (λ v o k h. (k, h)) ws;
+  on_stop = stop_within ws;
+  on_cut = word_within cut (λ v h. tt) ws;
+  on_point = point_within ws;
+  on_client = word_within client (λ v h. h) ws;
+  on_lone = word_within lone (λ v h. h) ws;
+  on_open = word_within open_connection (λ v h. tt) ws;
+  on_ask = word_question_within ask (λ v q h. h) ws;
+  on_drop = word_question_within drop_question (λ v q h. h) ws;
+  on_reconfirm = reconfirm_within ws;
+  on_say = word_number_within say (λ v n. tt) ws;
+  on_up = word_number_within up (λ v n. tt) ws;
+  on_emit = word_number_within emit (λ v n. tt) ws;
+  on_down = word_number_within down (λ v n. tt) ws;
+  on_settle = word_within settle (λ v h. tt) ws;
+  on_feed = word_octets_within feed (λ v o k h. h) ws;
+  on_show = show_within ws;
+  on_other = none_gives AreWithin;
+}
 
 words_within : (ws : List Word) → Within (of_words ws)
 words_within [] = none_gives AreWithin
-words_within (w ∷ ws) = first_word_within w ws
+words_within (w ∷ ws) = on-words Within w ws (each_within ws)
 
 pub line_within : (text : List ℕ) (line : ScriptLine) → line_of text ≡ Some line → AreWithin line
 line_within [] = some_gives AreWithin silent tt
 line_within (c ∷ cs) =
-    if_gives AreWithin (c == 35) (cond (is_utf8 cs) (Some silent) None) (of_words (slice_split (λ d. d == 32) (c ∷ cs)))
+    if_gives AreWithin (c == 35) (cond (is_utf8 cs) (Some silent) None) (of_words (words_in (c ∷ cs)))
     (λ is. if_gives AreWithin (is_utf8 cs) (Some silent) None (λ good. some_gives AreWithin silent tt) (λ bad. none_gives AreWithin))
-    (λ is. words_within (slice_split (λ d. d == 32) (c ∷ cs)))
+    (λ is. words_within (words_in (c ∷ cs)))

@@ -1,20 +1,20 @@
 -- What a peer sends, and what changes the hub alone.
 --     sends-stand      octets to the session of a peer and back
---     updates-stand, stops-stand      calls of the hub
+--     updates-stand, hears-stand, stops-stand      calls of the hub
 use Rattle.std.proofs.Common.{◌≡◌, ℕ, ◌<◌, ◌^◌, Bool, true, false, cond, List, [], ◌∷◌, ◌++◌, find, Option, Some, None, option_map, refl, sym, ap, subst}
-use Rattle.std.specs.Prelude.{IsTrue, codes}
+use Rattle.std.specs.Prelude.{IsTrue, position, codes}
 use Rattle.std.specs.Str.{bytes_eq}
 use Rattle.coalesce.proofs.ReadBack.{each-append}
 use Rattle.dsotlv.specs.Laws.{AreOctets}
 use Rattle.dsosession.specs.declared.session.EndReason.{EndReason}
 use Rattle.pushserver.specs.PlainHubs.{Hub}
 use Rattle.pushserver.specs.Hubs.{connect}
-use Rattle.pushserver.specs.Calls.{updates as updating, stops as stopping}
+use Rattle.pushserver.specs.Calls.{updates as updating, hears as hearing, stops as stopping}
 use Rattle.replay.specs.Lines.{Word}
 use Rattle.replay.specs.Scripts.{is_peer}
 use Rattle.replay.specs.World.{World, seat_of, number_in, session_number, cut_peer}
 use Rattle.replay.specs.PassedOctets.{Exchanged, exchanged, enough}
-use Rattle.replay.specs.Text.{Printed, printing, updates, exchanges, sends, asked_to_stop, session_of_word, stops}
+use Rattle.replay.specs.Text.{Printed, printing, number_or_zero, hears, updates, exchanges, sends, asked_to_stop, session_of_word, stops}
 use Rattle.replay.proofs.worlds.Seats.{word_itself}
 use Rattle.script_laws.specs.Numbers.{AreForNoOther}
 use Rattle.script_laws.specs.Joined.{ShownToEach, WorldStands}
@@ -44,6 +44,14 @@ module _ (laws : LineLaws) (all : List Word) (shown : ShownToEach) where
     updates-stand message good = record {
       stands = laws.hubs_go_on shown world [] (updating message ∷ []) stands ((good, tt), tt) (tt, tt) (tt, tt);
       clients = λ w. refl;
+      peers = λ h. h;
+    }
+
+    -- a datagram of the link of a word
+    pub hears-stand : (w : Word) (datagram : List ℕ) → AreOctets datagram → LeadsTo all shown world (hears w datagram world).0
+    hears-stand w datagram good = record {
+      stands = laws.hubs_go_on shown world [] (hearing (number_or_zero (position (bytes_eq w) world.links)) datagram ∷ []) stands ((good, tt), tt) (tt, tt) (tt, tt);
+      clients = λ v. refl;
       peers = λ h. h;
     }
 

@@ -1,12 +1,13 @@
--- The world with which a script without links starts.
---     start-head      its head has zones that may stand together, and no links
+-- The world with which a script starts.
+--     start-homes      its head has homes that stand apart
 --     start-stands, start-fits      each client stands, as there is none, and what is known fits
-use Rattle.std.proofs.Common.{◌≡◌, ℕ, Bool, true, false, ◌&&◌, not, List, [], ◌∷◌, ◌++◌, fold, Option, Some, None, is_none, refl, sym, ◌∙◌, ap, subst, arith}
+use Rattle.std.proofs.Common.{◌≡◌, ℕ, Bool, true, false, cond, ◌&&◌, not, List, [], ◌∷◌, ◌++◌, filter, fold, Option, Some, None, is_none, refl, sym, ◌∙◌, ap, subst, arith}
 use Rattle.std.specs.Prelude.{IsTrue}
 use Rattle.std.specs.List.{AllByRecursion, IsDistinct}
-use Rattle.std.proofs.lemmas.List.{map-append}
-use Rattle.std.proofs.lemmas.List.Elements.{All-from_recursion}
+use Rattle.std.proofs.lemmas.List.{map-append, append-nil}
+use Rattle.std.proofs.lemmas.List.Elements.{All-from_recursion, filter-append}
 use Rattle.dnsname.specs.Names.{Labels, is_name}
+use Rattle.rrset.proofs.Places.{all_filter}
 use Rattle.rrset.proofs.Sets.{both_true}
 use Rattle.dsotlv.proofs.Results.{same_found}
 use Rattle.coalesce.proofs.ReadBack.{each-append}
@@ -14,15 +15,15 @@ use Rattle.zoneupdate.specs.Zones.{ZoneState, new_zone}
 use Rattle.history.specs.Homes.{NamedHome, home_fault}
 use Rattle.history.specs.States.{LinkState}
 use Rattle.history.specs.Plans.{may_stand_together}
-use Rattle.history.specs.Standing.{named_zones}
+use Rattle.history.specs.AtHome.{named_zones, named_links, AreNamesOf}
 use Rattle.history.specs.declared.entry.HomeFault.{HomeFault}
-use Rattle.history.proofs.Together.{together-more}
+use Rattle.history.proofs.Together.{together-more, names-apart}
 use Rattle.pushclient.specs.ServerMessages.{CanBeGranted}
-use Rattle.pushtelling.specs.Laws.{IsStartOfZones}
+use Rattle.pushtelling.specs.Laws.{IsStartOfHomes}
 use Rattle.replay.specs.Lines.{Word, ScriptLine, silent, timers, zone, link, client, lone, at_moment, update, hear, ask, drop_question, reconfirm, open_connection, cut, say, up, emit, down, settle, send, feed, stop, point, show}
-use Rattle.replay.specs.Scripts.{Known, nothing_known, fits, allowed, with_home, with_client}
+use Rattle.replay.specs.Scripts.{Known, nothing_known, is_among, fits, allowed, with_home, with_client}
 use Rattle.replay.specs.World.{Head, empty_head, with_head_line, start_world}
-use Rattle.replay.specs.Headline.{NumbersFit}
+use Rattle.replay.specs.Promises.{NumbersFit}
 use Rattle.script_laws.specs.Joined.{WorldStands}
 use Rattle.script_laws.specs.Lines.{IsRead, Follow, KnownFits}
 
@@ -37,46 +38,83 @@ is_allowed false k later e = absurd cc
 abbrev IsNewZone : ZoneState → Type 0
 IsNewZone z = (serial : ℕ) × (z ≡ new_zone z.apex serial z.writable)
 
--- the homes known are the zones of the head, which has no links
+abbrev HasNoRows : LinkState → Type 0
+HasNoRows l = l.rows ≡ []
+
+abbrev IsNamedWell : NamedHome → Type 0
+IsNamedWell h = IsTrue (is_name h.0)
+
+-- the homes known are those of the head, in the order of their lines, each of which was added without a fault
 record HeadFits (known : Known) (head : Head) : Type 0 where
-  homes : known.homes ≡ named_zones head.start.zones
-  links : known.links ≡ []
-  none : head.start.links ≡ []
-  now : head.start.now ≡ 0
-  zones : AllByRecursion IsNewZone head.start.zones
+  homes : AreNamesOf known.homes head.start
   together : may_stand_together known.homes ≡ true
-  names : AllByRecursion (λ z. IsTrue (is_name z.apex)) head.start.zones
+  names : AllByRecursion IsNamedWell known.homes
+  zones : AllByRecursion IsNewZone head.start.zones
+  links : AllByRecursion HasNoRows head.start.links
+  now : head.start.now ≡ 0
   granted : CanBeGranted head.timers
 
 no_fault : (o : Option HomeFault) → is_none o ≡ true → o ≡ None
 no_fault None h = refl
 no_fault (Some f) h = absurd cc
 
-head-zone : (known : Known) (head : Head) (apex : Labels) (serial : ℕ) (mode : Bool) → is_none (home_fault known.homes (apex, false)) ≡ true → IsTrue (is_name apex) → HeadFits known head
-    → HeadFits (with_home (apex, false) known) (with_head_line head (zone apex serial mode))
-head-zone known head apex serial mode free name h =
-    let z : ZoneState = new_zone apex serial mode in
-    record {
-      homes = ap (λ (hs : List NamedHome). hs ++ (apex, false) ∷ []) h.homes ∙ sym (map-append (λ (y : ZoneState). (y.apex, false)) head.start.zones (z ∷ []));
-      links = h.links;
-      none = h.none;
-      now = h.now;
-      zones = each-append IsNewZone head.start.zones (z ∷ []) h.zones ((serial, refl), tt);
-      together = together-more known.homes (apex, false) h.together (no_fault (home_fault known.homes (apex, false)) free);
-      names = each-append (λ y. IsTrue (is_name y.apex)) head.start.zones (z ∷ []) h.names (name, tt);
-      granted = h.granted;
-    }
+module _ (known : Known) (head : Head) (h : HeadFits known head) where
+  -- the homes known, and one more
+  abbrev one_more : NamedHome → List NamedHome
+  one_more new = known.homes ++ new ∷ []
 
--- a line that leaves homes and links
-head-stays : (known later : Known) (head : Head) → later.homes ≡ known.homes → later.links ≡ known.links → HeadFits known head → HeadFits later head
-head-stays known later head same links h = record {
-  homes = same ∙ h.homes;
-  links = links ∙ h.links;
-  none = h.none;
-  now = h.now;
-  zones = h.zones;
+  -- of a zone, and of a link
+  kept : (test : NamedHome → Bool) (new : NamedHome) (named : List NamedHome) → test new ≡ true → filter test known.homes ≡ named → filter test (one_more new) ≡ named ++ new ∷ []
+  kept test new named is same = filter-append test known.homes (new ∷ []) ∙ (λ i. same i ++ cond (is i) (new ∷ []) [])
+
+  left : (test : NamedHome → Bool) (new : NamedHome) (named : List NamedHome) → test new ≡ false → filter test known.homes ≡ named → filter test (one_more new) ≡ named
+  left test new named is same = filter-append test known.homes (new ∷ []) ∙ (λ i. same i ++ cond (is i) (new ∷ []) []) ∙ append-nil named
+
+  together-then : (new : NamedHome) → is_none (home_fault known.homes new) ≡ true → may_stand_together (one_more new) ≡ true
+  together-then new free = together-more known.homes new h.together (no_fault (home_fault known.homes new) free)
+
+  head-zone : (apex : Labels) (serial : ℕ) (mode : Bool) → is_none (home_fault known.homes (apex, false)) ≡ true → IsTrue (is_name apex) → HeadFits (with_home (apex, false) known) (with_head_line head (zone apex serial mode))
+  head-zone apex serial mode free name =
+      let z : ZoneState = new_zone apex serial mode in
+      record {
+        homes = record {
+          zones = kept (λ n. not n.1) (apex, false) (named_zones head.start.zones) refl h.homes.zones ∙ sym (map-append (λ (y : ZoneState). (y.apex, false)) head.start.zones (z ∷ []));
+          links = left (λ n. n.1) (apex, false) (named_links head.start.links) refl h.homes.links;
+        };
+        together = together-then (apex, false) free;
+        names = each-append IsNamedWell known.homes ((apex, false) ∷ []) h.names (name, tt);
+        zones = each-append IsNewZone head.start.zones (z ∷ []) h.zones ((serial, refl), tt);
+        links = h.links;
+        now = h.now;
+        granted = h.granted;
+      }
+
+  head-link : (w : Word) (domain : Labels) → is_none (home_fault known.homes (domain, true)) ≡ true → IsTrue (is_name domain)
+      → HeadFits (with_home (domain, true) (record known { links = known.links ++ w ∷ [] })) (with_head_line head (link w domain))
+  head-link w domain free name =
+      let l : LinkState = record { domain = domain; rows = [] } in
+      record {
+        homes = record {
+          zones = left (λ n. not n.1) (domain, true) (named_zones head.start.zones) refl h.homes.zones;
+          links = kept (λ n. n.1) (domain, true) (named_links head.start.links) refl h.homes.links ∙ sym (map-append (λ (y : LinkState). (y.domain, true)) head.start.links (l ∷ []));
+        };
+        together = together-then (domain, true) free;
+        names = each-append IsNamedWell known.homes ((domain, true) ∷ []) h.names (name, tt);
+        zones = h.zones;
+        links = each-append HasNoRows head.start.links (l ∷ []) h.links (refl, tt);
+        now = h.now;
+        granted = h.granted;
+      }
+
+-- a line that leaves the homes
+head-stays : (known later : Known) (head : Head) → later.homes ≡ known.homes → HeadFits known head → HeadFits later head
+head-stays known later head same h = record {
+  homes = subst (λ (ns : List NamedHome). AreNamesOf ns head.start) (sym same) h.homes;
   together = ap may_stand_together same ∙ h.together;
-  names = h.names;
+  names = subst (AllByRecursion IsNamedWell) (sym same) h.names;
+  zones = h.zones;
+  links = h.links;
+  now = h.now;
   granted = h.granted;
 }
 
@@ -85,43 +123,46 @@ module _ (all : List Word) (known later : Known) (head : Head) (h : HeadFits kno
   abbrev Goes : Option Known → Type 0
   Goes o = o ≡ Some later → HeadFits later head
 
-  goes-some : (k : Known) → k.homes ≡ known.homes → k.links ≡ known.links → Goes (Some k)
-  goes-some k same links e = subst (λ (n : Known). HeadFits n head) (same_found k later e) (head-stays known k head same links h)
+  goes-some : (k : Known) → k.homes ≡ known.homes → Goes (Some k)
+  goes-some k same e = subst (λ (n : Known). HeadFits n head) (same_found k later e) (head-stays known k head same h)
 
-  goes-allowed : (b : Bool) (k : Known) → k.homes ≡ known.homes → k.links ≡ known.links → Goes (allowed b k)
-  goes-allowed b k same links e = subst (λ (n : Known). HeadFits n head) (is_allowed b k later e).1 (head-stays known k head same links h)
+  goes-allowed : (b : Bool) (k : Known) → k.homes ≡ known.homes → Goes (allowed b k)
+  goes-allowed b k same e = subst (λ (n : Known). HeadFits n head) (is_allowed b k later e).1 (head-stays known k head same h)
 
   head-line : (line : ScriptLine) → IsRead all line → fits all known line ≡ Some later → HeadFits later (with_head_line head line)
-  head-line silent is e = goes-some known refl refl e
+  head-line silent is e = goes-some known refl e
   head-line (timers i k) is e =
       let a = is_allowed (known.in_head && not known.has_timers) (record known { has_timers = true }) later e in
       subst (λ (n : Known). HeadFits n (with_head_line head (timers i k))) a.1
-      (record { homes = h.homes; links = h.links; none = h.none; now = h.now; zones = h.zones; together = h.together; names = h.names; granted = is.within })
+      (record { homes = h.homes; together = h.together; names = h.names; zones = h.zones; links = h.links; now = h.now; granted = is.within })
   head-line (zone apex serial mode) is e =
       let a = is_allowed (known.in_head && is_none (home_fault known.homes (apex, false))) (with_home (apex, false) known) later e in
       subst (λ (n : Known). HeadFits n (with_head_line head (zone apex serial mode))) a.1
-      (head-zone known head apex serial mode (both_true known.in_head (is_none (home_fault known.homes (apex, false))) a.0).1 is.within.0 h)
-  head-line (link w domain) is e = absurd is.no_link
-  head-line (client w) is e = goes-allowed _ (with_client w false known) refl refl e
-  head-line (lone w) is e = goes-allowed _ (with_client w true known) refl refl e
-  head-line (at_moment t) is e = goes-some (record known { in_head = false }) refl refl e
-  head-line (update o) is e = goes-some (record known { in_head = false }) refl refl e
-  head-line (hear w o) is e = goes-allowed _ (record known { in_head = false }) refl refl e
-  head-line (ask w q) is e = goes-allowed _ (record known { in_head = false }) refl refl e
-  head-line (drop_question w q) is e = goes-allowed _ (record known { in_head = false }) refl refl e
-  head-line (reconfirm w rr) is e = goes-allowed _ (record known { in_head = false }) refl refl e
-  head-line (open_connection w) is e = goes-allowed _ (record known { in_head = false }) refl refl e
-  head-line (cut w) is e = goes-allowed _ (record known { in_head = false }) refl refl e
-  head-line (say w n) is e = goes-allowed _ (record known { in_head = false }) refl refl e
-  head-line (up w n) is e = goes-allowed _ (record known { in_head = false }) refl refl e
-  head-line (emit w n) is e = goes-allowed _ (record known { in_head = false }) refl refl e
-  head-line (down w n) is e = goes-allowed _ (record known { in_head = false }) refl refl e
-  head-line (settle w) is e = goes-allowed _ (record known { in_head = false }) refl refl e
-  head-line (send w o) is e = goes-allowed _ (record known { in_head = false }) refl refl e
-  head-line (feed w o) is e = goes-allowed _ (record known { in_head = false }) refl refl e
-  head-line (stop w r d) is e = goes-allowed _ (record known { in_head = false }) refl refl e
-  head-line point is e = goes-some (record known { in_head = false }) refl refl e
-  head-line (show w q n) is e = goes-allowed _ (record known { in_head = false }) refl refl e
+      (head-zone known head h apex serial mode (both_true known.in_head (is_none (home_fault known.homes (apex, false))) a.0).1 is.within.0)
+  head-line (link w domain) is e =
+      let a = is_allowed (known.in_head && not (is_among known.links w) && is_none (home_fault known.homes (domain, true))) (with_home (domain, true) (record known { links = known.links ++ w ∷ [] })) later e in
+      subst (λ (n : Known). HeadFits n (with_head_line head (link w domain))) a.1
+      (head-link known head h w domain (both_true (known.in_head && not (is_among known.links w)) (is_none (home_fault known.homes (domain, true))) a.0).1 is.within)
+  head-line (client w) is e = goes-allowed _ (with_client w false known) refl e
+  head-line (lone w) is e = goes-allowed _ (with_client w true known) refl e
+  head-line (at_moment t) is e = goes-some (record known { in_head = false }) refl e
+  head-line (update o) is e = goes-some (record known { in_head = false }) refl e
+  head-line (hear w o) is e = goes-allowed _ (record known { in_head = false }) refl e
+  head-line (ask w q) is e = goes-allowed _ (record known { in_head = false }) refl e
+  head-line (drop_question w q) is e = goes-allowed _ (record known { in_head = false }) refl e
+  head-line (reconfirm w rr) is e = goes-allowed _ (record known { in_head = false }) refl e
+  head-line (open_connection w) is e = goes-allowed _ (record known { in_head = false }) refl e
+  head-line (cut w) is e = goes-allowed _ (record known { in_head = false }) refl e
+  head-line (say w n) is e = goes-allowed _ (record known { in_head = false }) refl e
+  head-line (up w n) is e = goes-allowed _ (record known { in_head = false }) refl e
+  head-line (emit w n) is e = goes-allowed _ (record known { in_head = false }) refl e
+  head-line (down w n) is e = goes-allowed _ (record known { in_head = false }) refl e
+  head-line (settle w) is e = goes-allowed _ (record known { in_head = false }) refl e
+  head-line (send w o) is e = goes-allowed _ (record known { in_head = false }) refl e
+  head-line (feed w o) is e = goes-allowed _ (record known { in_head = false }) refl e
+  head-line (stop w r d) is e = goes-allowed _ (record known { in_head = false }) refl e
+  head-line point is e = goes-some (record known { in_head = false }) refl e
+  head-line (show w q n) is e = goes-allowed _ (record known { in_head = false }) refl e
 
 head-lines : (all : List Word) (known : Known) (head : Head) (lines : List ScriptLine) → Follow all known lines → AllByRecursion (IsRead all) lines → HeadFits known head
     → (later : Known) × HeadFits later (fold with_head_line head lines)
@@ -129,7 +170,7 @@ head-lines all known head [] f read h = (known, h)
 head-lines all known head (line ∷ lines) f read h = head-lines all f.0 (with_head_line head line) lines f.2 read.1 (head-line all known f.0 head h line read.0 f.1)
 
 begins : HeadFits nothing_known empty_head
-begins = record { homes = refl; links = refl; none = refl; now = refl; zones = tt; together = refl; names = tt; granted = (omega arith, omega arith, omega arith) }
+begins = record { homes = record { zones = refl; links = refl }; together = refl; names = tt; zones = tt; links = tt; now = refl; granted = (omega arith, omega arith, omega arith) }
 
 -- ---- the world
 
@@ -140,14 +181,16 @@ module _ (all : List Word) (script : List ScriptLine) (f : Follow all nothing_kn
   start_fits : (later : Known) × HeadFits later head
   start_fits = head-lines all nothing_known empty_head script f read begins
 
-  start-zones : IsStartOfZones head.start
-  start-zones =
+  start-homes : IsStartOfHomes head.start
+  start-homes =
       let h = start_fits.1 in
+      let of_kind : (test : NamedHome → Bool) (named : List NamedHome) → filter test start_fits.0.homes ≡ named → AllByRecursion IsNamedWell named =
+      λ test named same. subst (AllByRecursion IsNamedWell) same (all_filter IsNamedWell test start_fits.0.homes h.names) in
       record {
-        begins = record { zones = All-from_recursion IsNewZone head.start.zones h.zones; links = All-from_recursion (λ (l : LinkState). l.rows ≡ []) head.start.links (subst (λ (ls : List LinkState). AllByRecursion (λ l. l.rows ≡ []) ls) (sym h.none) tt); now = h.now };
-        links = h.none;
-        together = subst (λ (hs : List NamedHome). IsTrue (may_stand_together hs)) h.homes h.together;
-        names = h.names;
+        begins = record { zones = All-from_recursion IsNewZone head.start.zones h.zones; links = All-from_recursion HasNoRows head.start.links h.links; now = h.now };
+        apart = names-apart start_fits.0.homes head.start h.together h.homes;
+        names = each-append IsNamedWell (named_zones head.start.zones) (named_links head.start.links)
+            (of_kind (λ n. not n.1) (named_zones head.start.zones) h.homes.zones) (of_kind (λ n. n.1) (named_links head.start.links) h.homes.links);
       }
 
   start-numbers : NumbersFit (start_world script)
@@ -156,10 +199,10 @@ module _ (all : List Word) (script : List ScriptLine) (f : Follow all nothing_kn
 
   pub start-stands : WorldStands (λ w question. []) (start_world script)
   start-stands = record {
-    reached = record { start = head.start; timers = head.timers; calls = []; zones = start-zones; granted = start_fits.1.granted; fit = tt; is = refl };
+    reached = record { start = head.start; timers = head.timers; calls = []; homes = start-homes; granted = start_fits.1.granted; fit = tt; is = refl };
     numbers = start-numbers;
     seats = tt;
   }
 
   pub start-fits : KnownFits all nothing_known (start_world script)
-  start-fits = record { clients = λ w. refl; named = λ w is_lone e. absurd cc; peers = tt; links = refl }
+  start-fits = record { clients = λ w. refl; named = λ w is_lone e. absurd cc; peers = tt }

@@ -1,7 +1,7 @@
 -- Each line leads from a world that stands, and of which what is known fits, to such a world.
 --     Walked all known shown world      the world stands, what is known fits, and nothing was shown to a client that isn't there yet
 --     walked-line      the law
-use Rattle.std.proofs.Common.{◌≡◌, ℕ, Bool, true, false, cond, not, ◌≤◌, List, [], ◌∷◌, find, Option, Some, None, option_map, refl, sym, ◌∙◌, ap, subst, arith}
+use Rattle.std.proofs.Common.{◌≡◌, ℕ, Bool, true, false, cond, not, ◌≤◌, List, [], ◌∷◌, ◌++◌, find, Option, Some, None, option_map, refl, sym, ◌∙◌, ap, subst, arith}
 use Rattle.std.specs.Prelude.{is_some, map, codes, decimal, IsTrue}
 use Rattle.std.specs.Option.{option_or}
 use Rattle.std.specs.List.{AllByRecursion, IsDistinct}
@@ -18,7 +18,7 @@ use Rattle.replay.specs.World.{World, Seat, new_seat, seat_of, number_in}
 use Rattle.replay.specs.PassedOctets as running
 use Rattle.replay.specs.TextWords.{by_history, show_at, spaced, record_line}
 use Rattle.replay.specs.Text.{Printed, quietly, seated, line_does}
-use Rattle.replay.specs.Headline.{ShownPoints, IsUnconnected}
+use Rattle.replay.specs.Promises.{ShownPoints, IsUnconnected}
 use Rattle.replay.proofs.worlds.Seats.{same_word, word_itself, other_way, is_of_word}
 use Rattle.script_laws.specs.Joined.{SeatStands, ShownToEach, WorldStands}
 use Rattle.script_laws.specs.Lines.{IsRead, KnownFits}
@@ -30,7 +30,7 @@ use Rattle.script_laws.proofs.lines.Passing.{passes-stand, settles-stand}
 use Rattle.script_laws.proofs.lines.Asking.{subscribes-stand, unsubscribes-stand, reconfirms-stand}
 use Rattle.script_laws.proofs.lines.Opening.{opens-stand, cuts-stand, feeds-stand}
 use Rattle.script_laws.proofs.lines.Moments.{moments-stand}
-use Rattle.script_laws.proofs.lines.Sending.{updates-stand, stops-stand, sends-stand}
+use Rattle.script_laws.proofs.lines.Sending.{updates-stand, hears-stand, stops-stand, sends-stand}
 
 -- nothing was shown to a client that isn't there
 abbrev pub ShowsToClients : ShownToEach → World → Type 0
@@ -57,9 +57,9 @@ some_true (Some b) e = ap Some e
 
 -- ---- a line that names nobody new
 
-leads-walk : (all : List Word) (known next : Known) (shown : ShownToEach) (world later : World) → Walked all known shown world → next.clients ≡ known.clients → next.links ≡ known.links → LeadsTo all shown world later
+leads-walk : (all : List Word) (known next : Known) (shown : ShownToEach) (world later : World) → Walked all known shown world → next.clients ≡ known.clients → LeadsTo all shown world later
     → Walked all next shown later
-leads-walk all known next shown world later h same links l =
+leads-walk all known next shown world later h same l =
     let lone_same : (w : Word) → lone_of next w ≡ lone_of known w = λ w. ap (λ (cs : List (Word × Bool)). option_map (λ (e : Word × Bool). e.1) (find (λ (e : Word × Bool). bytes_eq w e.0) cs)) same in
     record {
       stands = l.stands;
@@ -67,21 +67,20 @@ leads-walk all known next shown world later h same links l =
         clients = λ w. lone_same w ∙ h.fits.clients w ∙ sym (l.clients w);
         named = λ w is_lone e. h.fits.named w is_lone (sym (lone_same w) ∙ e);
         peers = l.peers h.fits.peers;
-        links = links ∙ h.fits.links;
       };
       clients = λ w none question. h.clients w (map_none (λ (s : Seat). s.is_lone) (seat_of world w) (sym (l.clients w) ∙ ap (option_map (λ (s : Seat). s.is_lone)) none)) question;
     }
 
 module _ (all : List Word) (known next : Known) (shown : ShownToEach) (world : World) (h : Walked all known shown world) where
   -- where it is allowed by a test
-  by-test : (test : Bool) (k : Known) (later : World) → allowed test k ≡ Some next → k.clients ≡ known.clients → k.links ≡ known.links → (test ≡ true → LeadsTo all shown world later) → Walked all next shown later
-  by-test test k later e same links leads =
+  by-test : (test : Bool) (k : Known) (later : World) → allowed test k ≡ Some next → k.clients ≡ known.clients → (test ≡ true → LeadsTo all shown world later) → Walked all next shown later
+  by-test test k later e same leads =
       let a = is_allowed test k next e in
-      subst (λ (n : Known). Walked all n shown later) a.1 (leads-walk all known k shown world later h same links (leads a.0))
+      subst (λ (n : Known). Walked all n shown later) a.1 (leads-walk all known k shown world later h same (leads a.0))
 
   -- where it always is
-  by-line : (k : Known) (later : World) → Some k ≡ Some next → k.clients ≡ known.clients → k.links ≡ known.links → LeadsTo all shown world later → Walked all next shown later
-  by-line k later e same links leads = subst (λ (n : Known). Walked all n shown later) (same_found k next e) (leads-walk all known k shown world later h same links leads)
+  by-line : (k : Known) (later : World) → Some k ≡ Some next → k.clients ≡ known.clients → LeadsTo all shown world later → Walked all next shown later
+  by-line k later e same leads = subst (λ (n : Known). Walked all n shown later) (same_found k next e) (leads-walk all known k shown world later h same leads)
 
 -- ---- a client that comes
 
@@ -165,7 +164,7 @@ module _ (laws : LineLaws) (all : List Word) (known : Known) (shown : ShownToEac
       numbers = laws.seats_come world w is_lone nobody (no-peer all w world.peers h.fits.peers named) h.stands.numbers;
       seats = each-append (λ (s : Seat). SeatStands world.hub (shown s.word) s) world.seats (new_seat w is_lone ∷ []) h.stands.seats (new-alone world.hub (shown w) w is_lone (h.clients w nobody), tt);
     };
-    fits = record { clients = clients-then; named = named-then; peers = h.fits.peers; links = h.fits.links };
+    fits = record { clients = clients-then; named = named-then; peers = h.fits.peers };
     clients = λ v none question. h.clients v (still-none v none) question;
   }
 
@@ -199,35 +198,30 @@ module _ (laws : LineLaws) (all : List Word) (known next : Known) (shown : Shown
       by None e = map_none (λ (s : Seat). s.is_lone) (seat_of world w) (sym (h.fits.clients w) ∙ e)
       by (Some b) e = (let wrong : not true ≡ true = subst (λ (t : Bool). not t ≡ true) (h.fits.named w b e) peer in absurd cc)
 
-  no-hearing : (w : Word) (k : Known) → allowed (is_among known.links w) k ≡ Some next → ⊥
-  no-hearing w k e =
-      let wrong : false ≡ true = sym (ap (λ (ls : List Word). is_among ls w) h.fits.links) ∙ (is_allowed (is_among known.links w) k next e).0 in
-      absurd cc
-
   pub walked-line : (line : ScriptLine) → IsRead all line → fits all known line ≡ Some next → Walked all next shown (line_does by_history line world).0
-  walked-line silent is e = by-line all known next shown world h known world e refl refl nothing
-  walked-line (timers i k) is e = by-test all known next shown world h _ (record known { has_timers = true }) world e refl refl (λ t. nothing)
-  walked-line (zone apex serial mode) is e = by-test all known next shown world h _ (with_home (apex, false) known) world e refl refl (λ t. nothing)
-  walked-line (link w domain) is e = absurd is.no_link
+  walked-line silent is e = by-line all known next shown world h known world e refl nothing
+  walked-line (timers i k) is e = by-test all known next shown world h _ (record known { has_timers = true }) world e refl (λ t. nothing)
+  walked-line (zone apex serial mode) is e = by-test all known next shown world h _ (with_home (apex, false) known) world e refl (λ t. nothing)
+  walked-line (link w domain) is e = by-test all known next shown world h _ (with_home (domain, true) (record known { links = known.links ++ w ∷ [] })) world e refl (λ t. nothing)
   walked-line (client w) is e = client-comes w false (is.named w refl) e
   walked-line (lone w) is e = client-comes w true (is.named w refl) e
-  walked-line (at_moment t) is e = by-line all known next shown world h (in_events known) _ e refl refl (moments-stand laws all shown t world h.stands)
-  walked-line (update message) is e = by-line all known next shown world h (in_events known) _ e refl refl (updates-stand laws all shown world h.stands message is.within.0)
-  walked-line (hear w datagram) is e = absurd (no-hearing w (in_events known) e)
-  walked-line (ask w question) is e = by-test all known next shown world h _ (in_events known) _ e refl refl (λ t. subscribes-stand laws all shown world h.stands (codes "asked") w question is.within)
-  walked-line (drop_question w question) is e = by-test all known next shown world h _ (in_events known) _ e refl refl (λ t. unsubscribes-stand laws all shown world h.stands (codes "dropped") w question)
-  walked-line (reconfirm w rr) is e = by-test all known next shown world h _ (in_events known) _ e refl refl (λ t. reconfirms-stand laws all shown world h.stands (codes "reconfirm") w rr is.within.0 is.within.1.0)
-  walked-line (open_connection w) is e = by-test all known next shown world h _ (in_events known) _ e refl refl (λ t. opens-stand laws all shown world h.stands w)
-  walked-line (cut w) is e = by-test all known next shown world h _ (in_events known) _ e refl refl (λ t. cuts-stand laws all shown world h.stands w)
-  walked-line (say w n) is e = by-test all known next shown world h _ (in_events known) _ e refl refl (λ t. passes-stand laws all shown world h.stands (codes "say") w (λ number. running.say n) (λ number. laws.says n number))
-  walked-line (up w n) is e = by-test all known next shown world h _ (in_events known) _ e refl refl (λ t. passes-stand laws all shown world h.stands (codes "up") w (λ number. running.up number n) (λ number. laws.ups n number))
-  walked-line (emit w n) is e = by-test all known next shown world h _ (in_events known) _ e refl refl (λ t. passes-stand laws all shown world h.stands (codes "emit") w (λ number. running.emit number n) (λ number. laws.emits n number))
-  walked-line (down w n) is e = by-test all known next shown world h _ (in_events known) _ e refl refl (λ t. passes-stand laws all shown world h.stands (codes "down") w (λ number. running.down n) (λ number. laws.downs n number))
-  walked-line (settle w) is e = by-test all known next shown world h _ (in_events known) _ e refl refl (λ t. settles-stand laws all shown world h.stands w)
-  walked-line (send w octets) is e = by-test all known next shown world h _ (in_events known) _ e refl refl (λ t. sends-stand laws all shown world h.stands w octets (no-client w t) t is.within.1.0)
+  walked-line (at_moment t) is e = by-line all known next shown world h (in_events known) _ e refl (moments-stand laws all shown t world h.stands)
+  walked-line (update message) is e = by-line all known next shown world h (in_events known) _ e refl (updates-stand laws all shown world h.stands message is.within.0)
+  walked-line (hear w datagram) is e = by-test all known next shown world h _ (in_events known) _ e refl (λ t. hears-stand laws all shown world h.stands w datagram is.within.0)
+  walked-line (ask w question) is e = by-test all known next shown world h _ (in_events known) _ e refl (λ t. subscribes-stand laws all shown world h.stands (codes "asked") w question is.within)
+  walked-line (drop_question w question) is e = by-test all known next shown world h _ (in_events known) _ e refl (λ t. unsubscribes-stand laws all shown world h.stands (codes "dropped") w question)
+  walked-line (reconfirm w rr) is e = by-test all known next shown world h _ (in_events known) _ e refl (λ t. reconfirms-stand laws all shown world h.stands (codes "reconfirm") w rr is.within.0 is.within.1.0)
+  walked-line (open_connection w) is e = by-test all known next shown world h _ (in_events known) _ e refl (λ t. opens-stand laws all shown world h.stands w)
+  walked-line (cut w) is e = by-test all known next shown world h _ (in_events known) _ e refl (λ t. cuts-stand laws all shown world h.stands w)
+  walked-line (say w n) is e = by-test all known next shown world h _ (in_events known) _ e refl (λ t. passes-stand laws all shown world h.stands (codes "say") w (λ number. running.say n) (λ number. laws.says n number))
+  walked-line (up w n) is e = by-test all known next shown world h _ (in_events known) _ e refl (λ t. passes-stand laws all shown world h.stands (codes "up") w (λ number. running.up number n) (λ number. laws.ups n number))
+  walked-line (emit w n) is e = by-test all known next shown world h _ (in_events known) _ e refl (λ t. passes-stand laws all shown world h.stands (codes "emit") w (λ number. running.emit number n) (λ number. laws.emits n number))
+  walked-line (down w n) is e = by-test all known next shown world h _ (in_events known) _ e refl (λ t. passes-stand laws all shown world h.stands (codes "down") w (λ number. running.down n) (λ number. laws.downs n number))
+  walked-line (settle w) is e = by-test all known next shown world h _ (in_events known) _ e refl (λ t. settles-stand laws all shown world h.stands w)
+  walked-line (send w octets) is e = by-test all known next shown world h _ (in_events known) _ e refl (λ t. sends-stand laws all shown world h.stands w octets (no-client w t) t is.within.1.0)
   walked-line (feed w octets) is e =
-      by-test all known next shown world h (is_lone_client known w) (in_events known) _ e refl refl (λ t. feeds-stand laws all shown world h.stands w octets (sym (h.fits.clients w) ∙ some_true (lone_of known w) t))
-  walked-line (stop w rcode delay) is e = by-test all known next shown world h _ (in_events known) _ e refl refl (λ t. stops-stand laws all shown world h.stands w rcode delay is.within.0 is.within.1)
-  walked-line point is e = by-line all known next shown world h (in_events known) world e refl refl nothing
+      by-test all known next shown world h (is_lone_client known w) (in_events known) _ e refl (λ t. feeds-stand laws all shown world h.stands w octets (sym (h.fits.clients w) ∙ some_true (lone_of known w) t))
+  walked-line (stop w rcode delay) is e = by-test all known next shown world h _ (in_events known) _ e refl (λ t. stops-stand laws all shown world h.stands w rcode delay is.within.0 is.within.1)
+  walked-line point is e = by-line all known next shown world h (in_events known) world e refl nothing
   walked-line (show w question written) is e =
-      subst (Walked all next shown) (sym (shows-nothing w question written)) (by-test all known next shown world h _ (in_events known) world e refl refl (λ t. nothing))
+      subst (Walked all next shown) (sym (shows-nothing w question written)) (by-test all known next shown world h _ (in_events known) world e refl (λ t. nothing))

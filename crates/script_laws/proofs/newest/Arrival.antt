@@ -35,7 +35,7 @@ use Rattle.flight_laws.proofs.Holding.{picked}
 use Rattle.flight_laws.proofs.Served.{hubs-serve-alike, homes-stay}
 use Rattle.replay.specs.World.{Seat}
 use Rattle.replay.specs.TextWords.{is_filling}
-use Rattle.replay.specs.Headline.{ShownPoints, IsQuiet}
+use Rattle.replay.specs.Promises.{ShownPoints, IsQuiet}
 use Rattle.script_laws.specs.Joined.{IsJoined}
 use Rattle.script_laws.specs.Reached.{SessionIsReached}
 use Rattle.script_laws.proofs.settles.Fronts.{front-nil}

@@ -14,13 +14,13 @@ use Rattle.replay.specs.World.{World, Seat, seat_of, start_world}
 use Rattle.replay.specs.TextWords.{by_history}
 use Rattle.replay.specs.Text.{line_does, world_after}
 use Rattle.replay.specs.HeldPoints.{held_points_from, settles_alone, leaves_settled, settled_from}
-use Rattle.replay.specs.Headline.{ShowsNewest, held_lines, SeatIsQuiet}
+use Rattle.replay.specs.Promises.{ShowsNewest, held_lines, SeatIsQuiet, EverySettleEmptiesBothWays, EveryScriptKeepsPromises}
 use Rattle.replay.proofs.worlds.BetweenLines.{after-append}
 use Rattle.replay.proofs.worlds.Seats.{same_word}
 use Rattle.script_laws.specs.Reached.{ReachedSessions, ReachedOnesAreSound}
 use Rattle.script_laws.specs.Joined.{StandsWith, ShownToEach, WorldStands}
 use Rattle.script_laws.specs.Walk.{SettlesPass}
-use Rattle.script_laws.specs.Whole.{StandsAfterEachLine, ScriptsOfZonesNeverGoBack, SettlesOfZonesEmptyBothWays, ScriptsOfZonesKeepPromises}
+use Rattle.script_laws.specs.Whole.{StandsAfterEachLine, ScriptsNeverGoBack}
 use Rattle.script_laws.proofs.texts.Along.{told_line, shows_of, seat-stands}
 use Rattle.script_laws.proofs.texts.Shows.{stands_as}
 use Rattle.script_laws.proofs.newest.Showing.{shows-newest}
@@ -104,11 +104,11 @@ module _ (sessions : ReachedSessions) (sound : ReachedOnesAreSound) (settles : S
             subst (λ v. ShowsNewest v w) (sym (same-world line world both.1)) (had both.0)
         by false false settled_now stays h = absurd (true≢false (sym h))
 
-  pub keeps-promises : StandsAfterEachLine → ScriptsOfZonesNeverGoBack → SettlesOfZonesEmptyBothWays → ScriptsOfZonesKeepPromises
-  keeps-promises stands never quiet text script read none w = (
-    λ question. never text script w question read none,
+  pub keeps-promises : StandsAfterEachLine → ScriptsNeverGoBack → EverySettleEmptiesBothWays → EveryScriptKeepsPromises
+  keeps-promises stands never quiet text script read w = (
+    λ question. never text script w question read,
     λ before after split is. settled-stays (start_world script) w (λ front v question. held_points_from v question front (start_world script)) [] before false
-        (λ front back parts. stands text script front (back ++ after) read none (split ∙ ap (λ ls. ls ++ after) parts ∙ append_assoc front back after))
-        (λ front back v parts alone seat there. quiet text script front (back ++ after) v seat read none (split ∙ ap (λ ls. ls ++ after) parts ∙ append_assoc front (settle v ∷ back) after) alone there)
+        (λ front back parts. stands text script front (back ++ after) read (split ∙ ap (λ ls. ls ++ after) parts ∙ append_assoc front back after))
+        (λ front back v parts alone seat there. quiet text script front (back ++ after) v seat read (split ∙ ap (λ ls. ls ++ after) parts ∙ append_assoc front (settle v ∷ back) after) alone there)
         (λ no. absurd (true≢false (sym no))) is,
   )

@@ -11,14 +11,15 @@ use Rattle.pushserver.specs.PlainHubs.{Hub}
 use Rattle.pushclient.specs.Clients.{Connection, closed_as, is_connected}
 use Rattle.pushclient.proofs.SoundWishes.{some_is}
 use Rattle.replay.specs.Lines.{Word, settle}
-use Rattle.replay.specs.World.{World, Seat, seat_of, with_seat}
+use Rattle.replay.specs.World.{World, Seat, seat_of, with_seat, is_over, world_cut_if}
 use Rattle.replay.specs.PassedOctets.{Passed, passed, enough, settled}
 use Rattle.replay.specs.TextWords.{by_history, spaced}
-use Rattle.replay.specs.Text.{Printed, quietly, line_does, end_lines, close_lines, cut_where, finished}
+use Rattle.replay.specs.Text.{Printed, quietly, line_does, end_lines, close_lines, finished}
 use Rattle.replay.specs.HeldPoints.{settles_alone}
 use Rattle.script_laws.specs.Joined.{ShownToEach, WorldStands, PassesSo}
 use Rattle.script_laws.specs.Walk.{SettlesPass}
 use Rattle.script_laws.proofs.lines.Knowing.{put-found}
+use Rattle.script_laws.proofs.lines.Passing.{told-none}
 use Rattle.script_laws.proofs.texts.Along.{seat-stands}
 use Rattle.script_laws.proofs.texts.Shows.{stands_as}
 
@@ -58,8 +59,9 @@ module _ (settles : SettlesPass) (shown : ShownToEach) (world : World) (w : Word
     of-passed p c so alone =
         let ending : List (List ℕ) = end_lines p.seat.word p.over ++ close_lines p.seat.word (closed_as p.seat.client) in
         let none : ending ≡ [] = none-behind (spaced (codes "settle" ∷ w ∷ [])) ending alone in
+        let told = told-none p.seat.word p.over (closed_as p.seat.client) (ap length none) in
         let kept : KeepsSession (with_seat p.seat p.world) w = subst (λ (v : World). KeepsSession (with_seat p.seat v) w) (sym so.world_is) (in-place (after_calls so.calls world.hub) p.seat so.word so.session) in
-        subst (λ (ls : List (List ℕ)). KeepsSession (cut_where ls p.seat (with_seat p.seat p.world)) w) (sym none) kept
+        subst (λ (b : Bool). KeepsSession (world_cut_if b p.seat (with_seat p.seat p.world)) w) (λ i. is_over (sym told.0 i) (sym told.1 i)) kept
 
   of-session : (seat : Seat) → seat_of world w ≡ Some seat → (not seat.is_lone && is_connected seat.client) ≡ true → (o : Option ℕ) → seat.session ≡ o → stands_as world.hub (shown seat.word) seat o
       → (length (finished (codes "settle" ∷ w ∷ []) (passed_as world seat o)).1 == 1) ≡ true → KeepsSession (finished (codes "settle" ∷ w ∷ []) (passed_as world seat o)).0 w

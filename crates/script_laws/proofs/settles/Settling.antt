@@ -14,20 +14,21 @@ use Rattle.pushserver.specs.Hubs.{session_of}
 use Rattle.pushclient.specs.Clients.{Connection, closed_as, is_connected}
 use Rattle.replay.specs.HeldPoints.{settles_alone}
 use Rattle.replay.specs.Lines.{Word, settle}
-use Rattle.replay.specs.Text.{Printed, quietly, end_lines, close_lines, cut_where, finished, line_does, world_after}
+use Rattle.replay.specs.Text.{Printed, quietly, end_lines, close_lines, finished, line_does, world_after}
 use Rattle.replay.specs.TextWords.{by_history}
-use Rattle.replay.specs.World.{World, Seat, seat_of, with_seat, start_world}
-use Rattle.replay.specs.PassedOctets.{Passed, passed, enough, round, settled}
-use Rattle.replay.specs.Headline.{ShownPoints, IsQuiet, SeatIsQuiet}
+use Rattle.replay.specs.World.{World, Seat, seat_of, with_seat, start_world, is_over, world_cut_if}
+use Rattle.replay.specs.PassedOctets.{is_still, Passed, passed, enough, round, settled}
+use Rattle.replay.specs.Promises.{ShownPoints, IsQuiet, SeatIsQuiet, EverySettleEmptiesBothWays}
 use Rattle.replay.proofs.worlds.BetweenLines.{after-append}
 use Rattle.script_laws.specs.Reached.{IsReached, ReachedOnesGoOn}
 use Rattle.script_laws.specs.Joined.{IsJoined, StandsWith, PassesSo, ShownToEach, WorldStands}
 use Rattle.script_laws.specs.Walk.{RoundsPass}
-use Rattle.script_laws.specs.Whole.{StandsAfterEachLine, SettlesOfZonesEmptyBothWays}
-use Rattle.script_laws.specs.Settling.{is_still, IsEmptied, QuietAtLast, ends_still, RoundsFall, FewRoundsEnd, SettlesEmpty, TurnsSuffice, IsLittleAtSettles}
+use Rattle.script_laws.specs.Whole.{StandsAfterEachLine}
+use Rattle.script_laws.specs.Settling.{IsEmptied, QuietAtLast, ends_still, RoundsFall, FewRoundsEnd, SettlesEmpty, TurnsSuffice, IsLittleAtSettles}
 use Rattle.script_laws.proofs.emits.Passing.{reached-behind, settles-pass}
 use Rattle.script_laws.proofs.lines.Cutting.{stands-with}
 use Rattle.script_laws.proofs.lines.Knowing.{put-found}
+use Rattle.script_laws.proofs.lines.Passing.{told-none}
 use Rattle.script_laws.proofs.settles.StillRounds.{no-over}
 use Rattle.script_laws.proofs.texts.Along.{seat-stands}
 
@@ -96,16 +97,6 @@ module _ (reached-on : ReachedOnesGoOn) (rounds : RoundsPass) where
 
 -- ---- the line
 
--- where nothing else is printed no end and no close are told
-told-none : (v : Word) (over : Option EndReason) (closing : Option CloseReason) → length (end_lines v over ++ close_lines v closing) ≡ 0 → (over ≡ None) × (closing ≡ None)
-told-none v None None none = (refl, refl)
-told-none v None (Some reason) none = absurd (omega (arith, none))
-told-none v (Some reason) closing none = absurd (omega (arith, none))
-
-no-line : (ls : List (List ℕ)) → length ls ≡ 0 → ls ≡ []
-no-line [] none = refl
-no-line (l ∷ ls) none = absurd (omega (arith, none))
-
 module _ (w : Word) (world : World) where
   abbrev settled_by : Seat → Option ℕ → Passed
   settled_by seat o = elim o as (λ _. Passed) [ None ↦ passed world seat 0 | Some number ↦ settled enough number world seat None ]
@@ -127,7 +118,7 @@ module _ (w : Word) (world : World) where
       let ending : List (List ℕ) = end_lines p.seat.word p.over ++ close_lines p.seat.word (closed_as p.seat.client) in
       let none : length ending ≡ 0 = less (length ending) alone in
       let told = told-none p.seat.word p.over (closed_as p.seat.client) none in
-      subst (λ (ls : List (List ℕ)). (later : Seat) → seat_of (cut_where ls p.seat (with_seat p.seat p.world)) w ≡ Some later → SeatIsQuiet (cut_where ls p.seat (with_seat p.seat p.world)).hub later) (sym (no-line ending none))
+      subst (λ (b : Bool). (later : Seat) → seat_of (world_cut_if b p.seat (with_seat p.seat p.world)) w ≡ Some later → SeatIsQuiet (world_cut_if b p.seat (with_seat p.seat p.world)).hub later) (λ i. is_over (sym told.0 i) (sym told.1 i))
       (λ later there. subst (λ (s : Seat). SeatIsQuiet p.world.hub s) (same_found p.seat later (sym found ∙ there)) (quiet told.0 told.1))
     where
       less : (n : ℕ) → suc n ≡ 1 → n ≡ 0
@@ -164,16 +155,16 @@ module _ (w : Word) (world : World) where
 -- ---- whole scripts
 
 pub turns-suffice : ReachedOnesGoOn → RoundsPass → StandsAfterEachLine → (size : ℕ → World → Seat → ℕ) → RoundsFall size → IsLittleAtSettles size → TurnsSuffice
-turns-suffice reached-on rounds stand size fall little text script before after w seat number read linkless are found has =
+turns-suffice reached-on rounds stand size fall little text script before after w seat number read are found has =
     let world : World = world_after before (start_world script) in
-    let stands = stand text script before (settle w ∷ after) read linkless are in
+    let stands = stand text script before (settle w ∷ after) read are in
     let here = stands-with world.hub _ seat number has (seat-stands _ world w seat stands found) in
     few-rounds-end reached-on rounds size fall enough number world _ seat here.session here.connection stands.reached here.joined (λ unclosed. here.waits)
-    (little text script before after w seat number read linkless are found has)
+    (little text script before after w seat number read are found has)
 
-pub settles-of-zones : ReachedOnesGoOn → RoundsPass → QuietAtLast → StandsAfterEachLine → TurnsSuffice → SettlesOfZonesEmptyBothWays
-settles-of-zones reached-on rounds quiet stand suffice text script before after w seat read linkless are alone =
+pub settles-of-zones : ReachedOnesGoOn → RoundsPass → QuietAtLast → StandsAfterEachLine → TurnsSuffice → EverySettleEmptiesBothWays
+settles-of-zones reached-on rounds quiet stand suffice text script before after w seat read are alone =
     let world : World = world_after before (start_world script) in
     subst (λ (later : World). seat_of later w ≡ Some seat → SeatIsQuiet later.hub seat) (sym (after-append before (settle w ∷ []) (start_world script)))
-    (line-quiet w world reached-on rounds quiet _ (stand text script before (settle w ∷ after) read linkless are)
-    (λ s number found has. suffice text script before after w s number read linkless are found has) alone seat)
+    (line-quiet w world reached-on rounds quiet _ (stand text script before (settle w ∷ after) read are)
+    (λ s number found has. suffice text script before after w s number read are found has) alone seat)

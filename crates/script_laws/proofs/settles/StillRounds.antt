@@ -34,12 +34,12 @@ use Rattle.inflight.specs.Flight.{IsUnderWay}
 use Rattle.flight_laws.specs.Meeting.{is_within}
 use Rattle.flight_laws.proofs.ReadBack.{read-back, taken-up-within}
 use Rattle.replay.specs.World.{World, Seat}
-use Rattle.replay.specs.PassedOctets.{Passed, Emitted, Delivered, nothing_emitted, emitted, enough, max_wire, say, up, emit, down, round, stepped, delivered, to_client}
-use Rattle.replay.specs.Headline.{ShownPoints, IsQuiet}
+use Rattle.replay.specs.PassedOctets.{is_still, Passed, Emitted, Delivered, nothing_emitted, emitted, enough, max_wire, say, up, emit, down, round, stepped, delivered, to_client}
+use Rattle.replay.specs.Promises.{ShownPoints, IsQuiet}
 use Rattle.script_laws.specs.Reached.{IsReached, ReachedOnesGoOn}
 use Rattle.script_laws.specs.Joined.{IsJoined, Waits, PassesSo}
 use Rattle.script_laws.specs.Walk.{SaysPass, UpsPass, EmitsPass}
-use Rattle.script_laws.specs.Settling.{is_stopped, SaysStop, StoppedOnesSaidSo, is_still, IsEmptied, QuietAtLast}
+use Rattle.script_laws.specs.Settling.{is_stopped, SaysStop, StoppedOnesSaidSo, IsEmptied, QuietAtLast}
 use Rattle.script_laws.proofs.emits.Passing.{reached-behind}
 use Rattle.script_laws.proofs.emits.Saying.{AskNoStop}
 use Rattle.script_laws.proofs.lines.Asking.{closed-is}

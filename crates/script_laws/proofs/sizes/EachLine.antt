@@ -66,9 +66,9 @@ module _ (laws : LineLaws) (shows : ShownIsTaken) (emits-low : EmitsLower) (down
       one-more m n k is = omega (arith, is)
 
 pub sized-after-lines : LineLaws → ShownIsTaken → EmitsLower → DownsLower → SizedAfterLines
-sized-after-lines laws shows emits-low downs-low text script before after read none split =
+sized-after-lines laws shows emits-low downs-low text script before after read split =
     let all = client_words (lines_read text) in
-    let r = read-script text script read none in
+    let r = read-script text script read in
     let start : Walked all nothing_known (λ w question. []) (start_world script) = record { stands = start-stands all script r.0 r.1; fits = start-fits all script r.0 r.1; clients = λ w e question. refl } in
     sized-lines laws shows emits-low downs-low all (length before) 0 nothing_known before (λ w question. []) (start_world script) (omega arith)
     (follow-front all nothing_known before after (subst (Follow all nothing_known) split r.0)) (each-front (IsRead all) before after (subst (AllByRecursion (IsRead all)) split r.1)) start tt
@@ -96,13 +96,13 @@ one-stop (Stopped since) = omega arith
 one-stop (Ended reason) = omega arith
 
 pub work-is-little : ReachedOnesAreSound → StandsAfterEachLine → SizedAfterLines → QueuesAreShort → HistoriesAreShort → ScriptsAreShort → IsLittleAtSettles work_left
-work-is-little are-sound stand sizes queues histories scripts text script before after w seat number read linkless are found has =
+work-is-little are-sound stand sizes queues histories scripts text script before after w seat number read are found has =
     let world : World = world_after before (start_world script) in
-    let stands = stand text script before (settle w ∷ after) read linkless are in
+    let stands = stand text script before (settle w ∷ after) read are in
     let here = stands-with world.hub _ seat number has (seat-stands _ world w seat stands found) in
     let session : Session = here.session in
     let within = within-session world.hub number session (are-sound world.hub stands.reached) here.joined.there in
-    let owed = found-sized (length before) world w seat (sizes text script before (settle w ∷ after) read linkless are) found here.lone in
+    let owed = found-sized (length before) world w seat (sizes text script before (settle w ∷ after) read are) found here.lone in
     let few = fewer (length before) (length after) (length script) (ap length are ∙ length-append before (settle w ∷ after)) (scripts text script read) in
     let work : work_in (session_of world.hub number) ≡ work_of session = ap work_in here.joined.there in
     little (work_in (session_of world.hub number)) (length session.output) (length session.input) (length session.queue) (asked_stops session.standing) (newest world.hub) (length seat.down_wire) (length seat.up_wire) (owes seat.client) (length before)

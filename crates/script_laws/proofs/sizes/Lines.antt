@@ -16,11 +16,11 @@ use Rattle.pushclient.specs.Steps as steps
 use Rattle.pushclient.proofs.SoundWishes.{all_found}
 use Rattle.inflight.specs.Flight.{AreSoundWishes}
 use Rattle.replay.specs.Lines.{Word, ScriptLine, silent, timers, zone, link, client, lone, at_moment, update, hear, ask, drop_question, reconfirm, open_connection, cut, say, up, emit, down, settle, send, feed, stop, point, show}
-use Rattle.replay.specs.World.{World, Seat, new_seat, seat_of, with_seat, session_number, cut_seat, cut_connection, cut_peer}
+use Rattle.replay.specs.World.{World, Seat, new_seat, seat_of, with_seat, session_number, cut_seat, cut_connection, cut_peer, is_over, world_cut_if}
 use Rattle.replay.specs.PassedOctets as running
 use Rattle.replay.specs.PassedOctets.{Passed, passed, Delivered, to_client, Exchanged, exchanged, settled, enough}
 use Rattle.replay.specs.TextWords.{by_history, show_at, spaced, record_line, octets_text}
-use Rattle.replay.specs.Text.{Printed, quietly, printing, end_lines, close_lines, cut_where, finished, passes, timed, moments, asks, subscribing, unsubscribing, reconfirming, opens_lone, opens_hub, opens, cuts, exchanges, sends, feeds, stops, asked_to_stop, session_of_word, seated, line_does}
+use Rattle.replay.specs.Text.{Printed, quietly, printing, end_lines, close_lines, finished, passes, timed, moments, asks, subscribing, unsubscribing, reconfirming, opens_lone, opens_hub, opens, cuts, exchanges, sends, feeds, stops, asked_to_stop, session_of_word, seated, line_does}
 use Rattle.script_laws.specs.Joined.{SeatStands, StandsWith, ShownToEach, WorldStands, PassesSo}
 use Rattle.script_laws.specs.Lines.{IsRead}
 use Rattle.script_laws.specs.Turns.{owes, IsSized, EmitsLower, DownsLower}
@@ -69,13 +69,13 @@ cut-sized n seat sized own = le_trans (cut-owes seat.client) (sized own)
 abbrev Sized : ℕ → World → Type 0
 Sized n world = AllSized n world.seats
 
-where-sized : (n : ℕ) (ls : List (List ℕ)) (seat : Seat) (world : World) → IsSized n seat → Sized n world → Sized n (cut_where ls seat world)
-where-sized n [] seat world sized all = all
-where-sized n (l ∷ ls) seat world sized all = put-sized n (cut_seat seat) world.seats (cut-sized n seat sized) all
+where-sized : (n : ℕ) (over : Bool) (seat : Seat) (world : World) → IsSized n seat → Sized n world → Sized n (world_cut_if over seat world)
+where-sized n false seat world sized all = all
+where-sized n true seat world sized all = put-sized n (cut_seat seat) world.seats (cut-sized n seat sized) all
 
 finished-sized : (n : ℕ) (words : List (List ℕ)) (p : Passed) → IsSized n p.seat → Sized n p.world → Sized n (finished words p).0
 finished-sized n words p sized all =
-    where-sized n (end_lines p.seat.word p.over ++ close_lines p.seat.word (closed_as p.seat.client)) p.seat (with_seat p.seat p.world) sized (put-sized n p.seat p.world.seats sized all)
+    where-sized n (is_over p.over (closed_as p.seat.client)) p.seat (with_seat p.seat p.world) sized (put-sized n p.seat p.world.seats sized all)
 
 pub found-sized : (n : ℕ) (world : World) (w : Word) (seat : Seat) → Sized n world → seat_of world w ≡ Some seat → IsSized n seat
 found-sized n world w seat all found = all_found (IsSized n) (λ s. bytes_eq s.word w) world.seats seat all found
@@ -110,7 +110,7 @@ module _ (n : ℕ) (world : World) (sized : Sized n world) where
       let later : Seat = record seat { client = steps.moment seat.client t } in
       let one : IsSized (suc n) later = more-sized n seat (steps.moment seat.client t) some.0 (moment-owes seat.client t) in
       timed-sized t seats (timed t p seat) some.1
-      (where-sized (suc n) (close_lines seat.word (closed_as later.client)) later (with_seat later p.0) one (put-sized (suc n) later p.0.seats one all))
+      (where-sized (suc n) (is_over None (closed_as later.client)) later (with_seat later p.0) one (put-sized (suc n) later p.0.seats one all))
 
   pub moments-sized : (t : ℕ) → After (moments t world).0
   moments-sized t =

@@ -8,7 +8,7 @@ use Rattle.pushserver.specs.PlainHubs.{Session}
 use Rattle.pushclient.specs.Clients.{Connection}
 use Rattle.replay.specs.World.{World, Seat}
 use Rattle.replay.specs.PassedOctets.{Passed, round, settled}
-use Rattle.replay.specs.Headline.{ShownPoints}
+use Rattle.replay.specs.Promises.{ShownPoints}
 use Rattle.script_laws.specs.Reached.{IsReached, ReachedOnesGoOn}
 use Rattle.script_laws.specs.Joined.{IsJoined, PassesSo}
 use Rattle.script_laws.specs.Turns.{owes, LowersAlways}

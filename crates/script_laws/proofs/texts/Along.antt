@@ -1,4 +1,4 @@
--- What a script without links prints, line by line.
+-- What a script prints, line by line.
 --     one-text      what is held is what the notices taken lead to
 --     never-back      no `held` line shows an earlier point than one before it
 use Rattle.std.proofs.Common.{◌≡◌, ℕ, List, [], ◌∷◌, ◌++◌, Option, Some, None, refl, ap, sym, ◌∙◌, append_assoc}
@@ -12,9 +12,10 @@ use Rattle.replay.specs.TextWords.{ShowTold, HeldRecords, by_history, by_notices
 use Rattle.replay.specs.Text.{Printed, quietly, line_does, world_after, printed_by, ended_lines}
 use Rattle.replay.specs.HeldPoints.{held_points_from}
 use Rattle.replay.proofs.worlds.BetweenLines.{after-append}
+use Rattle.replay.specs.Promises.{EveryScriptTellsOneText}
 use Rattle.script_laws.specs.Reached.{ReachedSessions}
 use Rattle.script_laws.specs.Joined.{ShownToEach, SeatStands, WorldStands}
-use Rattle.script_laws.specs.Whole.{StandsAfter, StandsAfterEachLine, ScriptsOfZonesTellOneText}
+use Rattle.script_laws.specs.Whole.{StandsAfter, StandsAfterEachLine}
 use Rattle.script_laws.proofs.texts.Shows.{shows-alike}
 
 -- the seat of a word stands
@@ -74,5 +75,5 @@ module _ (sessions : ReachedSessions) where
       ap (λ ls. (line_does by_history line world).1 ++ ls) (ap (printed_by by_history lines) (sym later) ∙ rest ∙ ap (printed_by by_notices lines) later)
       ∙ ap (λ p. p.1 ++ printed_by by_notices lines p.0) one
 
-  pub one-text : StandsAfterEachLine → ScriptsOfZonesTellOneText
-  one-text stands text script read none = ap ended_lines (printed-alike (start_world script) [] script (λ front back split. stands text script front back read none split))
+  pub one-text : StandsAfterEachLine → EveryScriptTellsOneText
+  one-text stands text script read = ap ended_lines (printed-alike (start_world script) [] script (λ front back split. stands text script front back read split))

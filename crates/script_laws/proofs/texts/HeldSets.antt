@@ -27,7 +27,7 @@ use Rattle.flight_laws.specs.Holding.{HoldsHistory, IsHeldAtLast}
 use Rattle.flight_laws.proofs.HeldHistory.{held-is-history}
 use Rattle.replay.specs.World.{Seat, last_of, last_note, filled_of}
 use Rattle.replay.specs.TextWords.{records_told, note_in}
-use Rattle.replay.specs.Headline.{ShownPoints}
+use Rattle.replay.specs.Promises.{ShownPoints}
 use Rattle.script_laws.specs.Reached.{ReachedSessions}
 use Rattle.script_laws.specs.Joined.{StandsWith}
 use Rattle.script_laws.specs.Texts.{HeldIsTold}

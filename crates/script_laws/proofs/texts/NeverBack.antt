@@ -16,10 +16,10 @@ use Rattle.replay.specs.World.{World, Seat, seat_of, start_world}
 use Rattle.replay.specs.TextWords.{by_history, note_in, is_filling}
 use Rattle.replay.specs.Text.{line_does, world_after}
 use Rattle.replay.specs.HeldPoints.{is_show_of, point_of_note, point_of_held, point_at, held_points_from}
-use Rattle.replay.specs.Headline.{point_taken}
+use Rattle.replay.specs.Promises.{point_taken}
 use Rattle.replay.proofs.worlds.Seats.{same_word}
 use Rattle.script_laws.specs.Reached.{ReachedSessions}
-use Rattle.script_laws.specs.Whole.{shown_by, StandsAfter, StandsAfterEachLine, ScriptsOfZonesNeverGoBack}
+use Rattle.script_laws.specs.Whole.{shown_by, StandsAfter, StandsAfterEachLine, ScriptsNeverGoBack}
 use Rattle.script_laws.proofs.texts.Shows.{shown-taken, stands_as}
 use Rattle.script_laws.proofs.texts.Along.{seat-stands}
 
@@ -106,6 +106,6 @@ module _ (sessions : ReachedSessions) where
         (rises (before ++ line ∷ []) lines (λ front back split. stands front back (sym (append_assoc before (line ∷ []) lines) ∙ split))
         (one-further before line (stands before (line ∷ lines) refl) rising))
 
-  pub never-back : StandsAfterEachLine → ScriptsOfZonesNeverGoBack
-  never-back stands text script w question read none =
-      rises (start_world script) w question [] script (λ front back split. stands text script front back read none split) (IsNonDecreasingBy-short (λ x. x) [] (omega arith))
+  pub never-back : StandsAfterEachLine → ScriptsNeverGoBack
+  never-back stands text script w question read =
+      rises (start_world script) w question [] script (λ front back split. stands text script front back read split) (IsNonDecreasingBy-short (λ x. x) [] (omega arith))

@@ -10,7 +10,7 @@ use Rattle.pushclient.specs.Clients.{Connection, Held, off, asked_only, refused_
 use Rattle.replay.specs.World.{World, Seat, last_of}
 use Rattle.replay.specs.TextWords.{ShowTold, with_records, by_history, by_notices, note_in, is_filling, told_of}
 use Rattle.replay.specs.HeldPoints.{point_of_note, point_of_held}
-use Rattle.replay.specs.Headline.{ShownPoints, point_taken, IsUnconnected}
+use Rattle.replay.specs.Promises.{ShownPoints, point_taken, IsUnconnected}
 use Rattle.script_laws.specs.Reached.{IsReached, ReachedSessions}
 use Rattle.script_laws.specs.Joined.{SeatStands, StandsWith}
 use Rattle.script_laws.specs.Texts.{ShowsAlike, ShownIsTaken}

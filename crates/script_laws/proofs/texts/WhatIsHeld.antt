@@ -11,7 +11,7 @@ use Rattle.flight_laws.specs.Holding.{IsHeldAtLast}
 use Rattle.flight_laws.proofs.HeldHistory.{held-is-history}
 use Rattle.replay.specs.World.{Seat, last_of, filled_of}
 use Rattle.replay.specs.TextWords.{records_told, is_filling}
-use Rattle.replay.specs.Headline.{HoldsHistory, HoldsTheHistory}
+use Rattle.replay.specs.Promises.{HoldsHistory, HoldsTheHistory}
 use Rattle.script_laws.proofs.texts.Arrived.{last-behind}
 use Rattle.script_laws.proofs.texts.HeldSets.{has-arrived}
 

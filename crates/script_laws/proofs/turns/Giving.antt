@@ -19,7 +19,7 @@ use Rattle.pushsession.specs.Subscribing.{packs, says_notices}
 use Rattle.pushserver.specs.declared.given.Given.{Given}
 use Rattle.pushserver.specs.declared.given.Given.TheVariants.{Worked, Nothing, Ending, End}
 use Rattle.pushserver.specs.PlainHubs.{Session, Queue, Hub, Giving}
-use Rattle.pushserver.specs.Hubs.{newest, now, keeps_now, tells_now, session_of, in_session}
+use Rattle.pushserver.specs.Hubs.{now, keeps_now, tells_now, session_of, in_session}
 use Rattle.pushserver.specs.Giving.{did, copies, copies_or, given_after, by_standing, give}
 use Rattle.pushserver.specs.SoundHubs.{IsSoundHub, IsSoundSession}
 use Rattle.pushserver.specs.Calls.{gives}
@@ -242,7 +242,7 @@ module _ (hub : Hub) (number : ℕ) (session : Session) (there : session_of hub 
               s,
               record {
                 leaves = λ room.
-                    let gave = gives-so hub number room session m found.1 ((sound.states (newest hub) (omega arith)).home.links) one.met in
+                    let gave = gives-so hub number room session m found.1 one.met in
                     record {
                       later = record s { output = drop room s.output };
                       there = gave.leaves.session;

@@ -11,7 +11,7 @@ use Rattle.pushserver.proofs.SessionLists.{found-in}
 use Rattle.pushclient.specs.Clients.{Connection, output_of, give_octets}
 use Rattle.replay.specs.World.{World, Seat}
 use Rattle.replay.specs.PassedOctets.{Passed, Emitted, Delivered, max_wire, enough, delivered, say, up, emit, down, and_then, round}
-use Rattle.replay.specs.Headline.{ShownPoints}
+use Rattle.replay.specs.Promises.{ShownPoints}
 use Rattle.script_laws.specs.Reached.{ReachedOnesGoOn, BegunOnesGoOn, ReachedOnesAreSound, ReachedSessions}
 use Rattle.script_laws.specs.Joined.{IsJoined, Waits}
 use Rattle.script_laws.specs.Walk.{Keeps, SaysPass, UpsPass, EmitsPass}

@@ -1,6 +1,7 @@
 -- The plan of the update, and what is held of it.
 use Rattle.std.proofs.Common.{subst, ap, ◌∙◌}
-use Rattle.history.specs.Standing.{Checks, at_moment}
+use Rattle.history.specs.HeldPlans.{Checks}
+use Rattle.history.specs.Kept.{at_moment}
 use Rattle.history.specs.declared.plan.Planned.TheVariants as plans
 use Rattle.history.proofs.HeldPlans.{told-refused, held-refused, told-accepted, held-accepted}
 use Rattle.history.proofs.planning.plan_of_update.Goals as goal

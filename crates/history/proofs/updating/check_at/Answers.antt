@@ -1,9 +1,11 @@
 -- The zone has its records, and the room that was made.
-use Rattle.history.proofs.KeptZones.{states-kept, room-here}
+use Rattle.zoneupdate.specs.Keeping.{ZoneKept}
+use Rattle.history.proofs.Elements.{map-kept}
+use Rattle.history.proofs.ZoneSlots.{room-here}
 use Rattle.history.proofs.updating.check_at.Goals as goal
 
 pub returns-clause-states : goal.returns-clause-states
-returns-clause-states c = states-kept c.args.zones.now c.args.index c.index-zones-index.result c.check.new.self c.requires c.index-zones-index.is c.check.ensures.state
+returns-clause-states c = map-kept (λ (z : ZoneKept). z.state) c.args.zones.now c.args.index c.index-zones-index.result c.check.new.self c.requires c.index-zones-index.is c.check.ensures.state
 
 pub returns-clause-room : goal.returns-clause-room
 returns-clause-room c = room-here c.args.zones.now c.args.index c.check.new.self c.check.result c.requires c.check.ensures.room

@@ -1,8 +1,6 @@
 use Rattle.std.proofs.Common.{◌∙◌, sym, ap}
 use Rattle.std.specs.Option.{option_map}
-use Rattle.clockqueue.specs.Deadlines.{moment_of}
 use Rattle.rrset.specs.KeyedRows.{row_at}
-use Rattle.rrset.specs.Records.{key_cmp}
 use Rattle.linkcache.specs.Rows.{LinkRows}
 use Rattle.linkcache.specs.declared.row.HeardRow.{HeardRow}
 use Rattle.linkcache.proofs.RowEnds.{kept}

@@ -1,10 +1,13 @@
-use Rattle.pushserver.proofs.hub_steps.Calls.{updates_stand, moments_stand, connects_stand, takes_stand, stops_stand, ends_stand}
+use Rattle.pushserver.proofs.hub_steps.Calls.{updates_stand, hears_stand, moments_stand, connects_stand, takes_stand, stops_stand, ends_stand}
 use Rattle.pushserver.proofs.hub_steps.Giving.{gives_stand}
 use Rattle.pushserver.proofs.told_rows.HubTells.{hubs_tell}
 use Rattle.pushserver.proofs.laws.kept_hubs_stand.Goals as goal
 
 pub returns-clause-updates : goal.returns-clause-updates
 returns-clause-updates c = updates_stand
+
+pub returns-clause-hears : goal.returns-clause-hears
+returns-clause-hears c = hears_stand
 
 pub returns-clause-moments : goal.returns-clause-moments
 returns-clause-moments c = moments_stand

@@ -1,10 +1,12 @@
 -- A session that goes on: it reacts to its first message, or packs a PUSH.
-use Rattle.std.proofs.Common.{Some, sym, ap, ◌∙◌}
+use Rattle.std.proofs.Common.{Option, Some, sym, ap, ◌∙◌}
+use Rattle.rrset.specs.declared.record.Rr.{Rr}
 use Rattle.pushsession.specs.declared.request.Request.{Request}
+use Rattle.pushsession.specs.declared.request.Request.TheVariants as requests
 use Rattle.pushserver.specs.Giving.{given_after}
-use Rattle.pushserver.proofs.SessionTurns.{HandsOn, moment-is, can_be_told, packed-gave, itself-gave, subscribe-gave, reconfirm-gave}
+use Rattle.pushserver.proofs.SessionTurns.{HandsOn, moment-is, can_be_told, packed-gave, itself-gave, subscribe-gave, no_record-gave}
 use Rattle.pushserver.proofs.turning.work.Goals as goal
-use Rattle.pushserver.proofs.turning.work.Goals.{in-Itself, in-Reconfirm, in-Subscribe+in_ok-subscribe-in-Subscribe}
+use Rattle.pushserver.proofs.turning.work.Goals.{in-Itself, in-Reconfirm-None, in-Subscribe+in_ok-subscribe-in-Subscribe}
 
 pub returns-in_default-clause-ok : goal.returns-in_default-clause-ok
 returns-in_default-clause-ok c = λ kept number seat.
@@ -23,9 +25,9 @@ returns-clause-ok c = λ kept number seat.
       | in-Itself w ↦
           itself-gave number kept c.args.session.now seat.there seat.apart c.requires.live c.requires.silent c.args.timers c.now-now.result c.after_reaction.result c.args.buf.now c.after_reaction.new.buf c.match-request.session c.after_reaction.new.session
           (sym c.in_ok-request.ensures.request ∙ c.in-Some.is ∙ ap (λ (r : Request). Some r) w.in-Itself.is) seat.timers_is moment (w.session-is ∙ w.react.ensures) on
-      | in-Reconfirm w ↦
-          reconfirm-gave number kept c.args.session.now seat.there seat.apart c.requires.live c.requires.silent seat.home w.in-Reconfirm.rr c.now-now.result c.after_reaction.result c.args.buf.now c.after_reaction.new.buf c.match-request.session c.after_reaction.new.session
-          (sym c.in_ok-request.ensures.request ∙ c.in-Some.is ∙ ap (λ (r : Request). Some r) w.in-Reconfirm.is) moment (w.session-is ∙ w.reconfirm.ensures) on
+      | in-Reconfirm-None w ↦
+          no_record-gave number kept c.args.session.now seat.there seat.apart c.requires.live c.requires.silent c.now-now.result c.after_reaction.result c.args.buf.now c.after_reaction.new.buf c.match-request.session c.after_reaction.new.session
+          (sym c.in_ok-request.ensures.request ∙ c.in-Some.is ∙ ap (λ (r : Request). Some r) (w.in-Reconfirm-None.is ∙ ap (λ (o : Option Rr). requests.Reconfirm o) w.in-Reconfirm-None.field-0-is)) moment (w.session-is ∙ w.reconfirm.ensures) on
       | in-Subscribe+in_ok-subscribe-in-Subscribe w ↦
           subscribe-gave number kept c.args.session.now seat.there seat.apart c.requires.live c.requires.silent w.in-Subscribe.question w.has_home-has_home.result c.args.index.now.rows c.now-now.result c.after_reaction.result c.args.buf.now c.after_reaction.new.buf c.match-request.session c.after_reaction.new.session
           (sym c.in_ok-request.ensures.request ∙ c.in-Some.is ∙ ap (λ (r : Request). Some r) w.in-Subscribe.is) (w.has_home-has_home.ensures kept seat.past_is) seat.rows_is moment (w.session-is ∙ w.in_ok-subscribe-in-Subscribe.ensures.ok) on

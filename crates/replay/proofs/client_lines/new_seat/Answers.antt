@@ -6,7 +6,6 @@ pub returns : goal.returns
 returns c = record {
   word = c.in_ok-word.ensures.ok;
   is_lone = refl;
-  is_open = refl;
   client = c.new.ensures;
   session = refl;
   up_wire = c.new-2.ensures.items;

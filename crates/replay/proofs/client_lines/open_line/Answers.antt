@@ -16,8 +16,8 @@ returns-in-None c =
     opens-none world.hub (parties_of world) w (string_bytes c.new.result) (place-known w world.seats.items c.deref.result.now c.place_of.result c.deref.ensures.value c.place_of.ensures.place ∙ c.in-None.is) c.new.ensures.bytes
 
 -- it has a connection
-pub returns-then-is_open_at : goal.returns-then-is_open_at
-returns-then-is_open_at c =
+pub returns-then-is_connected_at : goal.returns-then-is_connected_at
+returns-then-is_connected_at c =
     let w = c.args.word.now in
     let world = c.args.world.now in
     let seats = world.seats.items in
@@ -28,7 +28,7 @@ returns-then-is_open_at c =
     let here = is-there (seated seats) place within in
     if_acts (opens w) world.hub world.hub known known (codes "already " ++ (w ++ 10 ∷ [])) c.already_text.result
     (λ written is. opens-already world.hub known w place here.kept written at here.there
-    (λ k there. sym c.if-is_open_at.true ∙ c.is_open_at.ensures k (there ∙ ap (λ (l : List Seat). get_or (seated l) place k) (sym c.deref-in-Some.ensures.value))) is) c.already_text.ensures
+    (λ k seat there stands. sym c.if-is_connected_at.true ∙ c.is_connected_at.ensures k seat (there ∙ ap (λ (l : List Seat). get_or (seated l) place k) (sym c.deref-in-Some.ensures.value)) stands) is) c.already_text.ensures
 
 -- a lone one opens one
 pub returns-then-is_lone_at : goal.returns-then-is_lone_at
@@ -43,7 +43,7 @@ returns-then-is_lone_at c =
     let here = is-there (seated seats) place within in
     if_then (by_seat opens_lone w) (opens w) world.hub world.hub c.open_lone.new.world.hub known known (parties_of c.open_lone.new.world) c.open_lone.result
     (λ written does. opens-as_lone world.hub c.open_lone.new.world.hub known (parties_of c.open_lone.new.world) w place here.kept written at here.there
-    (λ k there. sym c.if-is_open_at.false ∙ c.is_open_at.ensures k (there ∙ ap (λ (l : List Seat). get_or (seated l) place k) (sym c.deref-in-Some.ensures.value)))
+    (λ k seat there stands. sym c.if-is_connected_at.false ∙ c.is_connected_at.ensures k seat (there ∙ ap (λ (l : List Seat). get_or (seated l) place k) (sym c.deref-in-Some.ensures.value)) stands)
     (λ k there. sym c.if-is_lone_at.true ∙ c.is_lone_at.ensures k (there ∙ ap (λ (l : List Seat). get_or (seated l) place k) (sym c.deref-in-Some-2.ensures.value))) does)
     (c.open_lone.ensures at)
 
@@ -60,6 +60,6 @@ returns-else-is_lone_at c =
     let here = is-there (seated seats) place within in
     if_then (by_seat opens_hub w) (opens w) world.hub world.hub c.open_hub.new.world.hub known known (parties_of c.open_hub.new.world) c.open_hub.result
     (λ written does. opens-as_hub world.hub c.open_hub.new.world.hub known (parties_of c.open_hub.new.world) w place here.kept written at here.there
-    (λ k there. sym c.if-is_open_at.false ∙ c.is_open_at.ensures k (there ∙ ap (λ (l : List Seat). get_or (seated l) place k) (sym c.deref-in-Some.ensures.value)))
+    (λ k seat there stands. sym c.if-is_connected_at.false ∙ c.is_connected_at.ensures k seat (there ∙ ap (λ (l : List Seat). get_or (seated l) place k) (sym c.deref-in-Some.ensures.value)) stands)
     (λ k there. sym c.if-is_lone_at.false ∙ c.is_lone_at.ensures k (there ∙ ap (λ (l : List Seat). get_or (seated l) place k) (sym c.deref-in-Some-2.ensures.value))) does)
     (c.open_hub.ensures at)

@@ -18,8 +18,8 @@ returns-in-None c =
     feeds-none world.hub (parties_of world) w c.args.octets.now (string_bytes c.new.result) (place-known w world.seats.items c.deref.result.now c.place_of.result c.deref.ensures.value c.place_of.ensures.place ∙ c.in-None.is) c.new.ensures.bytes
 
 -- it has no connection
-pub returns-then-not-is_open_at : goal.returns-then-not-is_open_at
-returns-then-not-is_open_at c =
+pub returns-then-not-is_connected_at : goal.returns-then-not-is_connected_at
+returns-then-not-is_connected_at c =
     let w = c.args.word.now in
     let world = c.args.world.now in
     let seats = world.seats.items in
@@ -30,7 +30,7 @@ returns-then-not-is_open_at c =
     let here = is-there (seated seats) place within in
     if_acts (feeds w c.args.octets.now) world.hub world.hub known known (codes "bytes " ++ two_parts w (octets_text [])) c.bytes_line.result
     (λ written is. feeds-shut world.hub known w c.args.octets.now place here.kept written at here.there
-    (λ k there. sym c.if-not-is_open_at.true ∙ c.is_open_at.ensures k (there ∙ ap (λ (l : List Seat). get_or (seated l) place k) (sym c.deref-in-Some.ensures.value))) is) c.bytes_line.ensures
+    (λ k seat there stands. sym c.if-not-is_connected_at.true ∙ c.is_connected_at.ensures k seat (there ∙ ap (λ (l : List Seat). get_or (seated l) place k) (sym c.deref-in-Some.ensures.value)) stands) is) c.bytes_line.ensures
 
 -- octets go in
 pub returns-in_ok-fed-in-Some : goal.returns-in_ok-fed-in-Some
@@ -50,4 +50,4 @@ returns-in_ok-fed-in-Some c =
     (with_items_is world.seats changed (c.feed_at.auto.seats ∙ c.deref_mut.ensures.len)) c.in_ok-fed-in-Some.ensures in
     if_acts (feeds w octets) world.hub c.feed_at.new.hub known _ (fed_text w fed.octets.items fed.closing) c.fed_lines.result
     (λ written is. feeds-open world.hub c.feed_at.new.hub known _ w octets fed.octets.items fed.closing place here.kept written at here.there
-    (λ k there. sym c.if-not-is_open_at.false ∙ c.is_open_at.ensures k (there ∙ ap (λ (l : List Seat). get_or (seated l) place k) (sym c.deref-in-Some.ensures.value))) calls is) c.fed_lines.ensures
+    (λ k seat there stands. sym c.if-not-is_connected_at.false ∙ c.is_connected_at.ensures k seat (there ∙ ap (λ (l : List Seat). get_or (seated l) place k) (sym c.deref-in-Some.ensures.value)) stands) calls is) c.fed_lines.ensures

@@ -1,4 +1,4 @@
-use Rattle.replay.proofs.Deliveries.{delivers-pieces, feeds-pieces}
+use Rattle.replay.proofs.ClientPieces.{delivers-pieces, feeds-pieces}
 use Rattle.replay.proofs.laws.clients_take_pieces.Goals as goal
 
 pub returns-clause-delivered : goal.returns-clause-delivered

@@ -1,20 +1,23 @@
 use Rattle.std.proofs.Common.{◌≡◌, [], IfOk, sym, ap, ◌∙◌, subst}
 use Rattle.std.specs.Prelude.{Option, option_map}
-use Rattle.replay.specs.Lines.{ScriptLine}
-use Rattle.replay.specs.KeptLines.{said, words_in, said_behind}
+use Rattle.replay.specs.Lines.{words_in, ScriptLine, line_behind}
+use Rattle.replay.specs.BuiltScripts.{understood}
+use Rattle.replay.specs.KeptLines.{said}
 use Rattle.replay.specs.declared.line.Kind.{Kind}
 use Rattle.replay.specs.declared.line.Line.{Line}
-use Rattle.replay.proofs.lines.LineKinds.{line_built}
+use Rattle.replay.proofs.lines.LineKinds.{line_by_kind}
 use Rattle.replay.proofs.line.speaking_line.Goals as goal
 
-pub returns-in-Some-clause-exact : goal.returns-in-Some-clause-exact
-returns-in-Some-clause-exact c =
+pub returns-in-Some : goal.returns-in-Some
+returns-in-Some c =
     let rest = words_in c.in-Some.rest.now in
-    let kept = ap (λ (k : Kind). said_behind k rest) c.kind_of.ensures ∙ sym (line_built c.args.line.now c.in-Some.word.now rest c.requires c.in-Some.ensures.found) in
-    subst (λ (line : Option ScriptLine). IfOk c.longer_line.result (λ (found : Option Line). option_map {T = Line} {U = ScriptLine} (λ l. said l) found ≡ line)) kept c.longer_line.ensures.exact
+    let says = ap (λ (k : Kind). line_behind k rest) c.kind_of.ensures ∙ sym (line_by_kind c.args.line.now c.in-Some.word.now rest c.requires c.in-Some.ensures.found) in
+    record { exact = subst (λ (line : Option ScriptLine). IfOk c.longer_line.result (λ (found : Option Line). option_map {T = Line} {U = ScriptLine} (λ l. said l) found ≡ understood line)) says c.longer_line.ensures.exact }
 
-pub returns-in-None-clause-exact : goal.returns-in-None-clause-exact
-returns-in-None-clause-exact c =
-    c.single_word.ensures.exact
-    ∙ ap (λ (k : Kind). said_behind k []) c.kind_of-in-None.ensures
-    ∙ sym (line_built c.args.line.now c.args.line.now [] c.requires c.in-None.ensures.none)
+pub returns-in-None : goal.returns-in-None
+returns-in-None c = record {
+  exact =
+      c.single_word.ensures.exact
+      ∙ ap (λ (k : Kind). understood (line_behind k [])) c.kind_of-in-None.ensures
+      ∙ ap understood (sym (line_by_kind c.args.line.now c.args.line.now [] c.requires c.in-None.ensures.none));
+}

@@ -1,10 +1,11 @@
 use Rattle.std.proofs.Common.{◌≡◌, Bool, ◌&&◌, ◌+◌, ◌≤◌, List, length, map, sym, ap, subst, ◌∙◌, arith}
-use Rattle.std.specs.Prelude.{Option, option_map, string_bytes, IfSome}
+use Rattle.std.specs.Prelude.{Option, option_map, string_bytes}
 use Rattle.std.specs.declared.alloc.Global.{Global}
 use Rattle.std.specs.declared.string.String.{String}
 use Rattle.push_base.specs.Cases.{is_empty}
 use Rattle.replay.specs.Lines.{Word, ScriptLine}
-use Rattle.replay.specs.KeptLines.{said, IsSound}
+use Rattle.replay.specs.KeptLines.{said}
+use Rattle.replay.specs.KeptWorlds.{words_of}
 use Rattle.replay.specs.declared.line.Line.{Line}
 use Rattle.replay.specs.Drafts.{taken_of, TakesLine}
 use Rattle.replay.proofs.lines.SoFar.{IsOf, clients_of, begins, outside, unread, unfit, more, ends}
@@ -34,7 +35,7 @@ returns-then-not-branch c =
     unfit octets (taken_of c.lines.draft) c.lines.number c.lines.rest.now c.split_line.result.0.now after c.in-Some.line c.lines.invariant c.split_line.ensures.lines inside read refused
 
 pub lines-init : goal.lines-init
-lines-init c = begins c.args.octets.now c.new.result c.new-2.result.items c.new-3.result.items c.new.ensures c.new-2.ensures.items c.new-3.ensures.items
+lines-init c = begins c.args.octets.now c.new.result c.new-2.result.items c.new-3.result.items c.new-4.result.items c.new.ensures c.new-2.ensures.items c.new-3.ensures.items c.new-4.ensures.items
 
 pub lines-preserved : goal.lines-preserved
 lines-preserved c =
@@ -43,14 +44,13 @@ lines-preserved c =
     let inside = ap (λ (b : Bool). b && is_empty after) (sym c.is_too_long-too_long.ensures) ∙ sym c.is_outside.ensures ∙ c.if-is_outside.false in
     let counted : c.lines.number + 1 + length after ≤ length octets = omega (arith, c.lines.invariant.counted, c.split_line.ensures.shorter) in
     let read = ap (λ (o : Option Line). option_map {T = Line} {U = ScriptLine} (λ l. said l) o) (sym c.in-Some.is) ∙ c.in_ok-line.ensures.exact in
-    let sound = subst (λ (o : Option Line). IfSome o IsSound) c.in-Some.is c.in_ok-line.ensures.sound in
     let clients = ap (λ (cs : List (String Global)). map (λ (w : String Global). string_bytes w) cs) c.deref.ensures.value ∙ c.in_ok-clients.ensures in
     let takes = subst (λ (ws : List Word). TakesLine ws c.lines.draft c.in-Some.line c.take.new.self c.in_ok-take.field-0) clients c.in_ok-take.ensures in
     let taken = subst (TakesLine (clients_of octets) c.lines.draft c.in-Some.line c.take.new.self) c.if-not-branch.false takes in
-    more octets (taken_of c.lines.draft) (taken_of c.take.new.self) c.lines.number c.lines.rest.now c.split_line.result.0.now after c.in-Some.line c.lines.invariant c.split_line.ensures.lines inside read sound taken.0 taken.1 counted
+    more octets (taken_of c.lines.draft) (taken_of c.take.new.self) c.lines.number c.lines.rest.now c.split_line.result.0.now after c.in-Some.line c.lines.invariant c.split_line.ensures.lines inside read taken.0 taken.1 counted
 
 pub returns : goal.returns
 returns c =
     let none : length c.lines.rest.now ≡ 0 = grind arith in
-    let of : IsOf c.finish.result (taken_of c.lines.draft) = record { timers = c.finish.ensures.timers; homes = c.finish.ensures.homes; events = c.finish.ensures.events } in
+    let of : IsOf c.finish.result (taken_of c.lines.draft) = record { timers = c.finish.ensures.timers; homes = c.finish.ensures.homes; links = ap words_of c.finish.ensures.links; events = c.finish.ensures.events } in
     ends c.args.octets.now c.finish.result (taken_of c.lines.draft) c.lines.number c.lines.rest.now of c.lines.invariant none

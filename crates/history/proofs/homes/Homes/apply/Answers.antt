@@ -1,19 +1,16 @@
--- The zones keep their names.
-use Rattle.std.proofs.Common.{◌≡◌, ◌∙◌, sym, ap, subst}
-use Rattle.std.specs.Prelude.{Some}
+-- The homes keep their names.
+use Rattle.std.proofs.Common.{refl, sym, subst, ◌∙◌}
 use Rattle.std.proofs.lemmas.List.{with_items_is}
-use Rattle.history.specs.Keeping.{named_homes, held_for}
-use Rattle.history.specs.Plans.{may_stand_together}
-use Rattle.history.specs.Standing.{AreAtHome, at_moment}
-use Rattle.history.specs.declared.entry.Entry.TheVariants as entries
-use Rattle.history.proofs.KeptRecords.{together-home}
+use Rattle.history.specs.Kept.{HomesKept, states_at}
+use Rattle.history.specs.HeldPlans.{AreKept, led_to}
+use Rattle.history.proofs.KeptHomes.{kept-led}
 use Rattle.history.proofs.homes.Homes.apply.Goals as goal
 
 pub invariant_of-self : goal.invariant_of-self
 invariant_of-self c =
-    let same : c.args.self.now ≡ c.deref_mut.result.now = sym c.self.view_is ∙ sym c.deref_mut.ensures.value in
-    let both =
-    c.apply_zones.ensures c.requires.moment c.requires.update (subst (λ zs. AreAtHome (at_moment zs c.requires.moment)) same c.requires.home)
-    (subst (λ zs. held_for (at_moment zs c.requires.moment) (entries.Update c.requires.update) ≡ Some (record { zone = Some c.args.index; changed = c.args.plan })) same c.requires.held) in
-    ap (λ zs. may_stand_together (named_homes zs)) (with_items_is c.self.inside.zones c.apply_zones.new.zones (c.apply_zones.auto.zones ∙ c.deref_mut.ensures.len))
-    ∙ together-home c.apply_zones.new.zones c.requires.moment both.1
+    let old : HomesKept = record { zones = c.self.inside.zones.items; links = c.self.inside.links.items; names = c.self.inside.names.items } in
+    let new : HomesKept = record { zones = c.apply_plan.new.zones; links = c.apply_plan.new.links; names = c.self.inside.names.items } in
+    let zones = with_items_is c.self.inside.zones c.apply_plan.new.zones (c.apply_plan.auto.zones ∙ c.deref_mut.ensures.len) in
+    let links = with_items_is c.self.inside.links c.apply_plan.new.links (c.apply_plan.auto.links ∙ c.deref_mut-2.ensures.len) in
+    let led = c.apply_plan.ensures ∙ (λ i. led_to (states_at (c.deref_mut.ensures.value i) (c.deref_mut-2.ensures.value i) c.args.moment) c.args.plan) in
+    subst AreKept (λ i. record { zones = sym zones i; links = sym links i; names = c.self.inside.names.items }) (kept-led old new c.args.moment c.apply_plan.result c.args.plan c.self.invariant refl led)

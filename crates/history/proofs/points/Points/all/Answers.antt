@@ -1,6 +1,6 @@
 -- The records of the homes are those after all entries.
 use Rattle.std.proofs.Common.{ap}
-use Rattle.history.specs.Keeping.{PointsKept, state_of}
+use Rattle.history.specs.Kept.{PointsKept, state_of}
 use Rattle.history.proofs.Present.{all-present}
 use Rattle.history.proofs.points.Points.all.Goals as goal
 

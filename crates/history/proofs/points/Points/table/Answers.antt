@@ -2,7 +2,7 @@
 use Rattle.std.proofs.Common.{ap}
 use Rattle.rrset.specs.Tables.{TableState}
 use Rattle.rrset.specs.declared.record.Shown.{Shown}
-use Rattle.history.specs.Keeping.{PointsKept, state_of}
+use Rattle.history.specs.Kept.{PointsKept, state_of}
 use Rattle.history.proofs.Present.{all-present}
 use Rattle.history.proofs.points.Points.table.Goals as goal
 

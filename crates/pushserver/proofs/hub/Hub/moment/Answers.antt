@@ -6,8 +6,8 @@ use Rattle.pushserver.proofs.Soundness.{sound}
 use Rattle.pushserver.proofs.HubSteps.{keeps-hub, same-hub, moment-stands, seen}
 use Rattle.pushserver.proofs.hub.Hub.moment.Goals as goal
 
-pub moment-requires : goal.moment-requires
-moment-requires c = sound c.self.inside.keeping c.self.invariant
+pub moment-requires-clause-sound : goal.moment-requires-clause-sound
+moment-requires-clause-sound c = sound c.self.inside.keeping c.self.invariant
 
 pub invariant_of-self : goal.invariant_of-self
 invariant_of-self c = same-hub c.self.inside.keeping c.moment.new.self c.moment.ensures.index c.in_err-moment.ensures.err c.self.invariant

@@ -2,7 +2,7 @@
 use Rattle.std.proofs.Common.{ℕ, sym, ap, subst, ◌∙◌}
 use Rattle.rrset.specs.RecordSet.{with_changes}
 use Rattle.zoneupdate.proofs.Plans.{HaveLowerKeys}
-use Rattle.history.specs.Keeping.{records_now}
+use Rattle.history.specs.Kept.{records_now}
 use Rattle.pushsession.specs.Kept.{taken_back}
 use Rattle.pushserver.specs.Hubs.{all_sessions, entry_changes}
 use Rattle.pushserver.specs.Keeping.{kept_of}

@@ -4,8 +4,8 @@ use Rattle.std.specs.Prelude.{IfOk, OnErr}
 use Rattle.pushsession.specs.Kept.{KeptSession}
 use Rattle.pushserver.specs.Hubs.{Numbered}
 use Rattle.pushserver.specs.Giving.{give}
-use Rattle.pushserver.specs.Keeping.{kept_of, Gave, IsSound, IsToJudge}
-use Rattle.pushserver.proofs.GiveSteps.{on_some, on_each_err, seat-of, as_before, did-gave, to-judge, turn-wants, judge-wants}
+use Rattle.pushserver.specs.Keeping.{kept_of, Gave, IsSound, IsToJudge, IsToReconfirm}
+use Rattle.pushserver.proofs.GiveSteps.{on_some, on_each_err, seat-of, as_before, did-gave, to-judge, to-reconfirm, turn-wants, judge-wants, reconfirm-wants}
 use Rattle.pushserver.proofs.keeping.Keeping.give.Goals as goal
 
 pub returns-in_err-given-clause-err : goal.returns-in_err-given-clause-err
@@ -55,3 +55,35 @@ returns-in-Judge-clause-memory c =
     let came = to-judge c.args.self.now c.args.number c.in-Some.session.now c.take_turn.new.session c.in_ok-given.field-0 c.in-Judge.found c.args.buf.now c.take_turn.new.buf (c.get_mut.follows.lender c.take_turn.new.session) c.requires c.in-Some.ensures.value c.in-Some.ensures.apart
     c.in-Judge.is (on_some c.get_mut.result c.in-Some.session c.in-Some.is (c.get_mut.follows.holds c.take_turn.new.session)) c.in_ok-given.ensures.ok in
     on_each_err c.answer_update.result (judge-wants (kept_of c.args.self.now) c.args.number c.in-Judge.found came.ready)
+
+pub take_reconfirm-requires-clause-sound : goal.take_reconfirm-requires-clause-sound
+take_reconfirm-requires-clause-sound c =
+    let came = to-reconfirm c.args.self.now c.args.number c.in-Some.session.now c.take_turn.new.session c.in_ok-given.field-0 c.in-Reconfirm.rr c.args.buf.now c.take_turn.new.buf (c.get_mut.follows.lender c.take_turn.new.session) c.requires c.in-Some.ensures.value c.in-Some.ensures.apart
+    c.in-Reconfirm.is (on_some c.get_mut.result c.in-Some.session c.in-Some.is (c.get_mut.follows.holds c.take_turn.new.session)) c.in_ok-given.ensures.ok in
+    subst (λ (xs : Numbered KeptSession). IsSound (record c.args.self.now { sessions = xs })) (sym came.sessions) c.requires
+
+pub take_reconfirm-requires-clause-ready : goal.take_reconfirm-requires-clause-ready
+take_reconfirm-requires-clause-ready c =
+    let came = to-reconfirm c.args.self.now c.args.number c.in-Some.session.now c.take_turn.new.session c.in_ok-given.field-0 c.in-Reconfirm.rr c.args.buf.now c.take_turn.new.buf (c.get_mut.follows.lender c.take_turn.new.session) c.requires c.in-Some.ensures.value c.in-Some.ensures.apart
+    c.in-Reconfirm.is (on_some c.get_mut.result c.in-Some.session c.in-Some.is (c.get_mut.follows.holds c.take_turn.new.session)) c.in_ok-given.ensures.ok in
+    subst (IsToReconfirm c.args.number c.in-Reconfirm.rr) (sym came.sessions) came.ready
+
+pub returns-in-Reconfirm-clause-ok : goal.returns-in-Reconfirm-clause-ok
+returns-in-Reconfirm-clause-ok c =
+    let came = to-reconfirm c.args.self.now c.args.number c.in-Some.session.now c.take_turn.new.session c.in_ok-given.field-0 c.in-Reconfirm.rr c.args.buf.now c.take_turn.new.buf (c.get_mut.follows.lender c.take_turn.new.session) c.requires c.in-Some.ensures.value c.in-Some.ensures.apart
+    c.in-Reconfirm.is (on_some c.get_mut.result c.in-Some.session c.in-Some.is (c.get_mut.follows.holds c.take_turn.new.session)) c.in_ok-given.ensures.ok in
+    subst (λ (buf : List ℕ). IfOk c.take_reconfirm.result (λ given. Gave (give (kept_of c.args.self.now) c.args.number (length buf)) given buf c.take_reconfirm.new.buf (kept_of c.take_reconfirm.new.self))) came.octets
+    (subst (λ (xs : Numbered KeptSession). IfOk c.take_reconfirm.result (λ given. Gave (give (kept_of (record c.args.self.now { sessions = xs })) c.args.number (length c.take_turn.new.buf)) given c.take_turn.new.buf c.take_reconfirm.new.buf (kept_of c.take_reconfirm.new.self))) came.sessions
+    c.take_reconfirm.ensures.ok)
+
+pub returns-in-Reconfirm-clause-err : goal.returns-in-Reconfirm-clause-err
+returns-in-Reconfirm-clause-err c =
+    let came = to-reconfirm c.args.self.now c.args.number c.in-Some.session.now c.take_turn.new.session c.in_ok-given.field-0 c.in-Reconfirm.rr c.args.buf.now c.take_turn.new.buf (c.get_mut.follows.lender c.take_turn.new.session) c.requires c.in-Some.ensures.value c.in-Some.ensures.apart
+    c.in-Reconfirm.is (on_some c.get_mut.result c.in-Some.session c.in-Some.is (c.get_mut.follows.holds c.take_turn.new.session)) c.in_ok-given.ensures.ok in
+    subst (λ (xs : Numbered KeptSession). OnErr c.take_reconfirm.result (kept_of c.take_reconfirm.new.self ≡ kept_of (record c.args.self.now { sessions = xs }))) came.sessions c.take_reconfirm.ensures.err
+
+pub returns-in-Reconfirm-clause-memory : goal.returns-in-Reconfirm-clause-memory
+returns-in-Reconfirm-clause-memory c =
+    let came = to-reconfirm c.args.self.now c.args.number c.in-Some.session.now c.take_turn.new.session c.in_ok-given.field-0 c.in-Reconfirm.rr c.args.buf.now c.take_turn.new.buf (c.get_mut.follows.lender c.take_turn.new.session) c.requires c.in-Some.ensures.value c.in-Some.ensures.apart
+    c.in-Reconfirm.is (on_some c.get_mut.result c.in-Some.session c.in-Some.is (c.get_mut.follows.holds c.take_turn.new.session)) c.in_ok-given.ensures.ok in
+    on_each_err c.take_reconfirm.result (reconfirm-wants (kept_of c.args.self.now) c.args.number c.in-Reconfirm.rr came.ready)

@@ -14,3 +14,8 @@ pub returns-in-Zone : goal.returns-in-Zone
 returns-in-Zone c =
     let all = map (λ (w : String Global). string_bytes w) c.args.clients.now in
     subst (λ (line : Line). IfOk c.take_zone.result (λ taken. TakesLine all c.args.self.now line c.take_zone.new.self taken)) (sym c.in-Zone.is) (c.take_zone.ensures all)
+
+pub returns-in-Link : goal.returns-in-Link
+returns-in-Link c =
+    let all = map (λ (w : String Global). string_bytes w) c.args.clients.now in
+    subst (λ (line : Line). IfOk c.take_link.result (λ taken. TakesLine all c.args.self.now line c.take_link.new.self taken)) (sym c.in-Link.is) (c.take_link.ensures all)

@@ -4,6 +4,7 @@ use Rattle.std.specs.declared.string.String.{String}
 use Rattle.replay.specs.declared.clients.KnownClient.{KnownClient}
 use Rattle.replay.specs.Scripts.{may_follow}
 use Rattle.replay.specs.KeptLines.{event_said}
+use Rattle.replay.specs.KeptWorlds.{words_of}
 use Rattle.replay.specs.Drafts.{taken_of, known_clients, known_by}
 use Rattle.replay.proofs.lines.MoreLines.{may-happen}
 use Rattle.replay.proofs.script.Draft.take_event.Goals as goal
@@ -12,7 +13,8 @@ pub returns-then-not-may_happen : goal.returns-then-not-may_happen
 returns-then-not-may_happen c =
     let all = map (λ (w : String Global). string_bytes w) c.args.clients.now in
     may-happen all (taken_of c.args.self.now) c.args.event
-    ∙ ap (λ (cs : List KnownClient). may_follow all (known_by (known_clients cs)) (event_said c.args.event)) (sym c.deref.ensures.value)
+    ∙ ap (λ (ls : List (String Global)). may_follow all (known_by (words_of ls) (known_clients c.args.self.now.clients.items)) (event_said c.args.event)) (sym c.deref.ensures.value)
+    ∙ ap (λ (cs : List KnownClient). may_follow all (known_by (words_of c.deref.result.now) (known_clients cs)) (event_said c.args.event)) (sym c.deref-2.ensures.value)
     ∙ sym c.may_happen.ensures
     ∙ c.if-not-may_happen.true
 
@@ -20,7 +22,8 @@ pub returns : goal.returns
 returns c =
     let all = map (λ (w : String Global). string_bytes w) c.args.clients.now in (
       may-happen all (taken_of c.args.self.now) c.args.event
-          ∙ ap (λ (cs : List KnownClient). may_follow all (known_by (known_clients cs)) (event_said c.args.event)) (sym c.deref.ensures.value)
+          ∙ ap (λ (ls : List (String Global)). may_follow all (known_by (words_of ls) (known_clients c.args.self.now.clients.items)) (event_said c.args.event)) (sym c.deref.ensures.value)
+          ∙ ap (λ (cs : List KnownClient). may_follow all (known_by (words_of c.deref.result.now) (known_clients cs)) (event_said c.args.event)) (sym c.deref-2.ensures.value)
           ∙ sym c.may_happen.ensures
           ∙ c.if-not-may_happen.false,
       (λ i. record (taken_of c.args.self.now) { events = c.in_ok-push.ensures.items i; clients = c.in_ok-add_seat.ensures i }),

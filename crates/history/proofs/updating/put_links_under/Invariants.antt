@@ -1,0 +1,6 @@
+use Rattle.std.proofs.Common.{◌≡◌, ◌++◌, filter, map, take}
+use Rattle.zoneupdate.specs.Keeping.{lies_under}
+use Rattle.history.proofs.updating.put_links_under.Given as goal
+
+abbrev pub invariant-links : goal.invariant-links
+invariant-links l = l.names.items ≡ l.fn.names.items ++ filter (lies_under l.apex) (map (λ k. k.state.domain) (take l.link-index l.links))

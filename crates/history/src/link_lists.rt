@@ -1,0 +1,231 @@
+//! Links one behind another, in the order in which they were added.
+
+ghost use Rattle.std.specs.Prelude.{◌≡◌, ◌≤◌, ◌<◌, ◌+◌, ◌++◌, ℕ, List, Option, Some, not, map, fold, take, drop, length, IfOk, IfSome, OnOk, IsTrue, slice_get};
+ghost use Rattle.std.specs.List.{AllByRecursion, AllZip};
+ghost use Rattle.push_base.specs.Cases.{changed_at, is_empty};
+ghost use Rattle.push_base.specs.Limits.{max_moment};
+ghost use Rattle.dnsname.specs.Names.{Labels, is_name};
+ghost use Rattle.rrset.specs.RecordSet.{matching, union};
+ghost use Rattle.rrset.specs.Records.{rr_of};
+ghost use Rattle.linkcache.specs.Links.{LinkKept};
+ghost use Rattle.linkcache.specs.Plans.{IsHeardPlan, IsMomentPlan, IsReconfirmPlan};
+ghost use Rattle.linkcache.specs.Rows.{has_key, heard, reconfirmed, shown_rows, usable_of};
+ghost use Rattle.history.specs.AtHome.{IsHomeAt};
+ghost use Rattle.history.specs.Longest.{IsLongest, place_behind};
+ghost use Rattle.history.specs.LinkSteps.{EndsBy, StepsTo, has_row, link_rows};
+ghost use Rattle.history.specs.HeldPlans.{IsLinkReady, IsPlanIn, link_changed, links_changed};
+
+use crate::matching::table_matching;
+use dnsname::Name;
+use linkcache::{Cache, HearPlan};
+use rrset::{HeardRr, Key, NoMemory, Question, Rrs, Table, put_all};
+use std::alloc::Global;
+
+/// The link with the longest domain that a name ends in, of those of more octets than a number; nothing where there is
+/// none.
+pub(crate) fn longest_link(links: &[Cache], name: &Name, more_than: usize) -> Option<usize>
+    ensures { (before : List Labels) (best : Option ℕ) → IsLongest before name.now best more_than → IsHomeAt (before ++ map (λ l. l.state.domain) links.now) name.now (place_behind before best result) }
+{
+    let mut found = None;
+    let mut most = more_than;
+    'links: for (index, link) in links.iter().enumerate() {
+        let octets = link.domain().octets().len();
+        if octets > most && name.ends_in(link.domain()) {
+            found = Some(index);
+            most = octets;
+        }
+    }
+    found
+}
+
+/// Tells that the domains of links are names (RFC 1035, 3.1).
+pub(crate) fn tell_links(links: &[Cache])
+    ensures { AllByRecursion (λ l. IsTrue (is_name l.state.domain)) links.now }
+{
+    'links: for link in links {
+        let _ = link.domain().octets();
+    }
+}
+
+/// The same links.
+pub(crate) fn copies_of_links(alloc: Global, links: &[Cache]) -> Result<Vec<Cache>, NoMemory>
+    ensures { IfOk result (λ copy. map (λ l. l.state) copy.items ≡ map (λ l. l.state) links.now) }
+{
+    let mut copy = Vec::new(alloc);
+    'links: for link in links {
+        copy.push(link.copy(alloc)?)?;
+    }
+    Ok(copy)
+}
+
+/// Puts the records that all of some links show into a table.
+pub(crate) fn put_all_shown(alloc: Global, all: &mut Table, links: &[Cache]) -> Result<(), NoMemory>
+    ensures { OnOk result (all.new.rows ≡ fold union all.old.rows (map (λ l. shown_rows l.state.domain l.state.rows) links.now)) }
+{
+    'links: for link in links {
+        let shown = link.shown(alloc)?;
+        put_all(all, shown.entries())?;
+    }
+    Ok(())
+}
+
+/// The records that one of some links shows and a question asks for. There are none where there is no such link.
+pub(crate) fn link_matching(
+    alloc: Global,
+    links: &[Cache],
+    index: usize,
+    question: &Question,
+) -> Result<Rrs, NoMemory>
+    ensures { IfOk result (λ rrs. rrs ≡ map (λ e. rr_of e.0 e.1) (matching question.now (link_rows (slice_get links.now index)))) }
+{
+    match links.get(index) {
+        Some(link) => {
+            let shown = link.shown(alloc)?;
+            table_matching(alloc, &shown, question)
+        }
+        None => Ok(Rrs::new(alloc)),
+    }
+}
+
+/// What a hearing will change in one of some links.
+fn hear_at(
+    alloc: Global,
+    links: &mut [Cache],
+    index: usize,
+    now: u64,
+    hearing: &[HeardRr],
+) -> Result<HearPlan, NoMemory>
+    requires within { index < length links.old }
+    requires moment { now ≤ max_moment }
+    ensures plan { IfOk result (λ plan. (link : LinkKept) → slice_get links.old index ≡ Some link → IsHeardPlan link.state.domain link.state.rows now hearing.now plan) }
+    ensures states { map (λ l. l.state) links.new ≡ map (λ l. l.state) links.old }
+    ensures room { IfOk result (IsLinkReady (slice_get links.new index)) }
+{
+    links[index].hear(alloc, now, hearing)
+}
+
+/// What a hearing will change in one of some links; nothing where there is no such link, or no record is usable. The rows
+/// stay, and room is made for the plan.
+pub(crate) fn hear(
+    alloc: Global,
+    links: &mut [Cache],
+    index: usize,
+    now: u64,
+    hearing: &[HeardRr],
+) -> Result<Option<HearPlan>, NoMemory>
+    requires { now ≤ max_moment }
+    ensures plan { IfOk result (λ plan. StepsTo (λ l. not (is_empty (usable_of l.domain hearing.now))) (λ l. heard l.domain l.rows now hearing.now) (slice_get (map (λ l. l.state) links.old) index) plan) }
+    ensures states { map (λ l. l.state) links.new ≡ map (λ l. l.state) links.old }
+    ensures room { IfOk result (λ plan. IfSome plan (IsLinkReady (slice_get links.new index))) }
+{
+    if index >= links.len() {
+        return Ok(None);
+    }
+    let plan = hear_at(alloc, links, index, now, hearing)?;
+    if !plan.is_usable() {
+        return Ok(None);
+    }
+    Ok(Some(plan))
+}
+
+/// What a reconfirmation of a key will change in one of some links.
+fn reconfirm_at(
+    alloc: Global,
+    links: &mut [Cache],
+    index: usize,
+    now: u64,
+    key: &Key,
+) -> Result<HearPlan, NoMemory>
+    requires within { index < length links.old }
+    requires moment { now ≤ max_moment }
+    ensures plan { IfOk result (λ plan. (link : LinkKept) → slice_get links.old index ≡ Some link → IsReconfirmPlan link.state.domain link.state.rows key.now now plan) }
+    ensures states { map (λ l. l.state) links.new ≡ map (λ l. l.state) links.old }
+    ensures room { IfOk result (IsLinkReady (slice_get links.new index)) }
+{
+    links[index].reconfirm(alloc, key, now)
+}
+
+/// Whether there is such a link, with a row of a key.
+fn has_row(links: &[Cache], index: usize, key: &Key) -> bool
+    ensures { result ≡ has_row key.now (slice_get links.now index) }
+{
+    match links.get(index) {
+        Some(link) => link.has(key),
+        None => false,
+    }
+}
+
+/// What a reconfirmation of a key will change in one of some links; nothing where there is no such link, or no row of the
+/// key. The rows stay, and room is made for the plan.
+pub(crate) fn reconfirm(
+    alloc: Global,
+    links: &mut [Cache],
+    index: usize,
+    now: u64,
+    key: &Key,
+) -> Result<Option<HearPlan>, NoMemory>
+    requires { now ≤ max_moment }
+    ensures plan { IfOk result (λ plan. StepsTo (λ l. has_key key.now l.rows) (λ l. reconfirmed l.rows key.now now) (slice_get (map (λ l. l.state) links.old) index) plan) }
+    ensures states { map (λ l. l.state) links.new ≡ map (λ l. l.state) links.old }
+    ensures room { IfOk result (λ plan. IfSome plan (IsLinkReady (slice_get links.new index))) }
+{
+    if !has_row(links, index, key) {
+        return Ok(None);
+    }
+    let plan = reconfirm_at(alloc, links, index, now, key)?;
+    Ok(Some(plan))
+}
+
+/// What a moment will change in one of some links.
+fn moment_at(
+    alloc: Global,
+    links: &mut [Cache],
+    index: usize,
+    now: u64,
+) -> Result<HearPlan, NoMemory>
+    requires { index < length links.old }
+    ensures plan { IfOk result (λ plan. (link : LinkKept) → slice_get links.old index ≡ Some link → EndsBy now link.state plan) }
+    ensures states { map (λ l. l.state) links.new ≡ map (λ l. l.state) links.old }
+    ensures room { IfOk result (IsLinkReady (slice_get links.new index)) }
+    ensures front { take index links.new ≡ take index links.old }
+{
+    links[index].moment(alloc, now)
+}
+
+/// What a moment will change in each of some links. The rows stay, and room is made for the plans.
+pub(crate) fn moments(
+    alloc: Global,
+    links: &mut [Cache],
+    now: u64,
+) -> Result<Vec<HearPlan>, NoMemory>
+    ensures plans { IfOk result (λ plans. AllZip (EndsBy now) (map (λ l. l.state) links.old) plans.items) }
+    ensures states { map (λ l. l.state) links.new ≡ map (λ l. l.state) links.old }
+    ensures room { IfOk result (λ plans. AllZip IsPlanIn links.new plans.items) }
+{
+    let mut plans = Vec::new(alloc);
+    'links: for index in 0..links.len() {
+        plans.push(moment_at(alloc, links, index, now)?)?;
+    }
+    Ok(plans)
+}
+
+/// Makes the changes of a plan, which was made of these rows, to one of some links. It takes no memory.
+pub(crate) fn apply_link(links: &mut [Cache], index: usize, plan: HearPlan)
+    requires { IsLinkReady (slice_get links.old index) plan }
+    ensures states { map (λ l. l.state) links.new ≡ changed_at index (link_changed plan) (map (λ l. l.state) links.old) }
+    ensures behind { drop (index + 1) links.new ≡ drop (index + 1) links.old }
+{
+    links[index].apply(plan)
+}
+
+/// Makes the changes of plans, each of which was made of the rows of the link at its place. It takes no memory.
+pub(crate) fn apply_links(links: &mut [Cache], plans: Vec<HearPlan>)
+    requires { AllZip IsPlanIn links.old plans.items }
+    ensures { map (λ l. l.state) links.new ≡ links_changed plans.items (map (λ l. l.state) links.old) }
+{
+    let mut index = 0;
+    'plans: for plan in plans {
+        apply_link(links, index, plan);
+        index += 1;
+    }
+}

@@ -1,0 +1,41 @@
+-- What a datagram of a link prints, and the world behind it.
+--     hears-act      the law
+--     link-known      the link of a word
+use Rattle.std.proofs.Common.{◌≡◌, ℕ, List, [], ◌∷◌, ◌++◌, Option, sym, ◌∙◌, ap, subst, string_bytes}
+use Rattle.std.specs.Prelude.{position}
+use Rattle.std.specs.declared.alloc.Global.{Global}
+use Rattle.std.specs.declared.string.String.{String}
+use Rattle.std.specs.Str.{bytes_eq}
+use Rattle.history.proofs.Positions.{position-map}
+use Rattle.pushserver.specs.Hubs as hubs
+use Rattle.pushserver.specs.PlainHubs.{Hub}
+use Rattle.pushserver.specs.KeptHubs.{KeptHub, StandsFor}
+use Rattle.pushserver.specs.declared.given.Heard.{Heard}
+use Rattle.replay.specs.Lines.{Word}
+use Rattle.replay.specs.World.{World}
+use Rattle.replay.specs.Text.{Printed, printing, ended_lines, heard_words, hears, number_or_zero}
+use Rattle.replay.specs.Drafts.{is_word}
+use Rattle.replay.specs.KeptWorlds.{Parties, HasPrinted, Acts, words_of}
+use Rattle.replay.proofs.worlds.Doing.{one_line, with_hub}
+
+-- the link of a word, by the words as they are kept
+pub link-known : (links : List (String Global)) (w : Word) → number_or_zero (position (is_word w) links) ≡ number_or_zero (position (bytes_eq w) (words_of links))
+link-known links w = ap number_or_zero (sym (position-map (λ (l : String Global). string_bytes l) (bytes_eq w) links))
+
+-- a datagram on a link
+abbrev heard_on : List ℕ → World → ℕ → Printed
+heard_on datagram world link = (let r = hubs.hear world.hub link datagram in printing (heard_words r.0 ∷ []) (record world { hub = r.1 }))
+
+pub hears-act : (kept later : KeptHub) (known : Parties) (w : Word) (link : ℕ) (datagram written : List ℕ) (answer : Option Heard)
+    → link ≡ number_or_zero (position (bytes_eq w) known.links)
+    → ((hub : Hub) → StandsFor kept hub → ((hubs.hear hub link datagram).0 ≡ answer) × StandsFor later (hubs.hear hub link datagram).1)
+    → written ≡ heard_words answer ++ 10 ∷ [] → Acts (hears w datagram) kept known written later known
+unfolding Acts
+hears-act kept later known w link datagram written answer at does is world s d =
+    let r = does world.hub s.hub in
+    let there : link ≡ number_or_zero (position (bytes_eq w) world.links) = at ∙ ap (λ (ls : List Word). number_or_zero (position (bytes_eq w) ls)) s.links in
+    subst (λ (n : ℕ). HasPrinted later known written (heard_on datagram world n)) there
+    (record {
+      text = is ∙ one_line (heard_words answer) ∙ ap (λ (a : Option Heard). ended_lines (heard_words a ∷ [])) (sym r.0);
+      stands = with_hub later (hubs.hear world.hub link datagram).1 kept known world s r.1;
+    })

@@ -1,0 +1,301 @@
+//! The lines that events print, and the words in them.
+
+ghost use Rattle.std.specs.Prelude.{◌≡◌, ◌++◌, ◌∷◌, [], codes, decimal, IfOk, Some, string_bytes};
+ghost use Rattle.replay.specs.TextWords.{close_words, end_words, octets_text, why_words};
+ghost use Rattle.replay.specs.Text.{asked_words, end_lines, ended_lines, heard_words, yes_or_no};
+ghost use Rattle.replay.specs.KeptSeats.{closing_text};
+ghost use Rattle.replay.specs.KeptPassings.{way_text};
+
+use crate::settling::Way;
+use dsosession::session::{CloseReason, EndReason};
+use push_base::{NoMemory, hex_text};
+use pushclient::client::Asked;
+use pushserver::given::{Heard, Why};
+use std::alloc::Global;
+
+/// The line of an update, with its RCODE.
+pub(crate) fn update_text(alloc: Global, code: u8) -> Result<String, NoMemory>
+    ensures { IfOk result (λ text. string_bytes text ≡ codes "update " ++ (decimal code ++ 10 ∷ [])) }
+{
+    format!(in alloc; "update {code}\n")
+}
+
+/// The line of a point, with the newest one and the moment.
+pub(crate) fn point_text(alloc: Global, point: u64, moment: u64) -> Result<String, NoMemory>
+    ensures { IfOk result (λ text. string_bytes text ≡ codes "point " ++ (decimal point ++ 32 ∷ (decimal moment ++ 10 ∷ []))) }
+{
+    format!(in alloc; "point {point} {moment}\n")
+}
+
+/// The line of a moment for which the journal has no room.
+pub(crate) fn full_text(alloc: Global) -> Result<String, NoMemory>
+    ensures { IfOk result (λ text. string_bytes text ≡ codes "full" ++ 10 ∷ []) }
+{
+    format!(in alloc; "full\n")
+}
+
+/// The line of a datagram of a link, with what became of it.
+pub(crate) fn heard_text(alloc: Global, heard: Heard) -> Result<String, NoMemory>
+    ensures { IfOk result (λ text. string_bytes text ≡ heard_words (Some heard) ++ 10 ∷ []) }
+{
+    match heard {
+        Heard::Entered => format!(in alloc; "heard\n"),
+        Heard::Ignored(why) => {
+            let words = why_words(alloc, why)?;
+            ignored_text(alloc, words.as_str())
+        }
+    }
+}
+
+fn ignored_text(alloc: Global, words: &str) -> Result<String, NoMemory>
+    ensures { IfOk result (λ text. string_bytes text ≡ codes "ignored " ++ (words.now ++ 10 ∷ [])) }
+{
+    format!(in alloc; "ignored {words}\n")
+}
+
+// The words of why a datagram was not entered.
+fn why_words(alloc: Global, why: Why) -> Result<String, NoMemory>
+    ensures { IfOk result (λ text. string_bytes text ≡ why_words why) }
+{
+    match why {
+        Why::Long => format!(in alloc; "long"),
+        Why::Short => format!(in alloc; "short"),
+        Why::Query => format!(in alloc; "query"),
+        Why::Coded => format!(in alloc; "coded"),
+        Why::Unreadable(place) => format!(in alloc; "unreadable {place}"),
+        Why::Nothing => format!(in alloc; "nothing"),
+    }
+}
+
+/// The line of a stop.
+pub(crate) fn stop_text(alloc: Global, word: &str) -> Result<String, NoMemory>
+    ensures { IfOk result (λ text. string_bytes text ≡ codes "stop " ++ (word.now ++ 10 ∷ [])) }
+{
+    format!(in alloc; "stop {word}\n")
+}
+
+/// The line of a cut.
+pub(crate) fn cut_text(alloc: Global, word: &str) -> Result<String, NoMemory>
+    ensures { IfOk result (λ text. string_bytes text ≡ codes "cut " ++ (word.now ++ 10 ∷ [])) }
+{
+    format!(in alloc; "cut {word}\n")
+}
+
+/// The line of the octets that come back.
+pub(crate) fn bytes_line(alloc: Global, word: &str, octets: &[u8]) -> Result<String, NoMemory>
+    ensures { IfOk result (λ text. string_bytes text ≡ codes "bytes " ++ (word.now ++ 32 ∷ (octets_text octets.now ++ 10 ∷ []))) }
+{
+    let digits = octets_text(alloc, octets)?;
+    bytes_text(alloc, word, digits.as_str())
+}
+
+/// Octets in hexadecimal, and `-` for none.
+pub(crate) fn octets_text(alloc: Global, octets: &[u8]) -> Result<String, NoMemory>
+    ensures { IfOk result (λ text. string_bytes text ≡ octets_text octets.now) }
+{
+    if octets.is_empty() {
+        format!(in alloc; "-")
+    } else {
+        hex_text(alloc, octets)
+    }
+}
+
+fn bytes_text(alloc: Global, word: &str, digits: &str) -> Result<String, NoMemory>
+    ensures { IfOk result (λ text. string_bytes text ≡ codes "bytes " ++ (word.now ++ 32 ∷ (digits.now ++ 10 ∷ []))) }
+{
+    format!(in alloc; "bytes {word} {digits}\n")
+}
+
+/// The line of a client that has opened a connection.
+pub(crate) fn open_text(alloc: Global, word: &str) -> Result<String, NoMemory>
+    ensures { IfOk result (λ text. string_bytes text ≡ codes "open " ++ (word.now ++ 10 ∷ [])) }
+{
+    format!(in alloc; "open {word}\n")
+}
+
+/// The line of a client that has a connection already.
+pub(crate) fn already_text(alloc: Global, word: &str) -> Result<String, NoMemory>
+    ensures { IfOk result (λ text. string_bytes text ≡ codes "already " ++ (word.now ++ 10 ∷ [])) }
+{
+    format!(in alloc; "already {word}\n")
+}
+
+/// The line of a client, or a peer, for which the hub has no seat.
+pub(crate) fn noseat_text(alloc: Global, word: &str) -> Result<String, NoMemory>
+    ensures { IfOk result (λ text. string_bytes text ≡ codes "noseat " ++ (word.now ++ 10 ∷ [])) }
+{
+    format!(in alloc; "noseat {word}\n")
+}
+
+/// The line of what became of a wish.
+pub(crate) fn asked_line(alloc: Global, word: &str, asked: Asked) -> Result<String, NoMemory>
+    ensures { IfOk result (λ text. string_bytes text ≡ codes "asked " ++ (word.now ++ 32 ∷ (asked_words asked ++ 10 ∷ []))) }
+{
+    let words = asked_words(alloc, asked)?;
+    asked_text(alloc, word, words.as_str())
+}
+
+// What became of a wish.
+fn asked_words(alloc: Global, asked: Asked) -> Result<String, NoMemory>
+    ensures { IfOk result (λ text. string_bytes text ≡ asked_words asked) }
+{
+    match asked {
+        Asked::New => format!(in alloc; "new"),
+        Asked::Already => format!(in alloc; "already"),
+        Asked::Many => format!(in alloc; "many"),
+    }
+}
+
+fn asked_text(alloc: Global, word: &str, words: &str) -> Result<String, NoMemory>
+    ensures { IfOk result (λ text. string_bytes text ≡ codes "asked " ++ (word.now ++ 32 ∷ (words.now ++ 10 ∷ []))) }
+{
+    format!(in alloc; "asked {word} {words}\n")
+}
+
+/// Whether a question was wanted that was dropped.
+pub(crate) fn dropped_line(alloc: Global, word: &str, wanted: bool) -> Result<String, NoMemory>
+    ensures { IfOk result (λ text. string_bytes text ≡ codes "dropped " ++ (word.now ++ 32 ∷ (yes_or_no wanted ++ 10 ∷ []))) }
+{
+    let words = yes_or_no(alloc, wanted)?;
+    dropped_text(alloc, word, words.as_str())
+}
+
+/// The line of a client that says that a record may be out of date, with whether it did.
+pub(crate) fn reconfirmed_line(alloc: Global, word: &str, said: bool) -> Result<String, NoMemory>
+    ensures { IfOk result (λ text. string_bytes text ≡ codes "reconfirm " ++ (word.now ++ 32 ∷ (yes_or_no said ++ 10 ∷ []))) }
+{
+    let words = yes_or_no(alloc, said)?;
+    reconfirmed_text(alloc, word, words.as_str())
+}
+
+fn reconfirmed_text(alloc: Global, word: &str, words: &str) -> Result<String, NoMemory>
+    ensures { IfOk result (λ text. string_bytes text ≡ codes "reconfirm " ++ (word.now ++ 32 ∷ (words.now ++ 10 ∷ []))) }
+{
+    format!(in alloc; "reconfirm {word} {words}\n")
+}
+
+// Yes or no.
+fn yes_or_no(alloc: Global, wanted: bool) -> Result<String, NoMemory>
+    ensures { IfOk result (λ text. string_bytes text ≡ yes_or_no wanted) }
+{
+    if wanted {
+        format!(in alloc; "yes")
+    } else {
+        format!(in alloc; "no")
+    }
+}
+
+fn dropped_text(alloc: Global, word: &str, words: &str) -> Result<String, NoMemory>
+    ensures { IfOk result (λ text. string_bytes text ≡ codes "dropped " ++ (word.now ++ 32 ∷ (words.now ++ 10 ∷ []))) }
+{
+    format!(in alloc; "dropped {word} {words}\n")
+}
+
+/// The line of octets that passed one way, with their number, or of a settle.
+pub(crate) fn way_text(
+    alloc: Global,
+    word: &str,
+    way: Way,
+    count: usize,
+) -> Result<String, NoMemory>
+    ensures { IfOk result (λ text. string_bytes text ≡ way_text way word.now count) }
+{
+    match way {
+        Way::Say(_) => format!(in alloc; "say {word} {count}\n"),
+        Way::Up(_) => format!(in alloc; "up {word} {count}\n"),
+        Way::Emit(_) => format!(in alloc; "emit {word} {count}\n"),
+        Way::Down(_) => format!(in alloc; "down {word} {count}\n"),
+        Way::Settle => format!(in alloc; "settle {word}\n"),
+    }
+}
+
+/// The line of the end of a session, if it was told.
+pub(crate) fn end_line(
+    alloc: Global,
+    word: &str,
+    over: Option<EndReason>,
+) -> Result<String, NoMemory>
+    ensures { IfOk result (λ text. string_bytes text ≡ ended_lines (end_lines word.now over)) }
+{
+    match over {
+        None => Ok(String::new(alloc)),
+        Some(reason) => {
+            let words = end_words(alloc, reason)?;
+            end_text(alloc, word, words.as_str())
+        }
+    }
+}
+
+/// The line of the end of a session.
+pub(crate) fn end_text(alloc: Global, word: &str, words: &str) -> Result<String, NoMemory>
+    ensures { IfOk result (λ text. string_bytes text ≡ codes "end " ++ (word.now ++ 32 ∷ (words.now ++ 10 ∷ []))) }
+{
+    format!(in alloc; "end {word} {words}\n")
+}
+
+/// The words of the reason of an end.
+pub(crate) fn end_words(alloc: Global, reason: EndReason) -> Result<String, NoMemory>
+    ensures { IfOk result (λ text. string_bytes text ≡ end_words reason) }
+{
+    match reason {
+        EndReason::Short => format!(in alloc; "short"),
+        EndReason::Answer => format!(in alloc; "answer"),
+        EndReason::Counts => format!(in alloc; "counts"),
+        EndReason::Tlvs => format!(in alloc; "tlvs"),
+        EndReason::Early => format!(in alloc; "early"),
+        EndReason::Misuse(kind) => format!(in alloc; "misuse {kind}"),
+        EndReason::BadData(kind) => format!(in alloc; "data {kind}"),
+        EndReason::Unknown(kind) => format!(in alloc; "type {kind}"),
+        EndReason::IdInUse(id) => format!(in alloc; "id {id}"),
+        EndReason::Twice(id) => format!(in alloc; "twice {id}"),
+        EndReason::Silent => format!(in alloc; "silent"),
+        EndReason::Idle => format!(in alloc; "idle"),
+        EndReason::Stopped => format!(in alloc; "stopped"),
+        EndReason::Behind(point) => format!(in alloc; "behind {point}"),
+        EndReason::Gone => format!(in alloc; "gone"),
+    }
+}
+
+/// The line of a client that has closed its connection, if it has.
+pub(crate) fn closing_line(
+    alloc: Global,
+    word: &str,
+    closing: Option<CloseReason>,
+) -> Result<String, NoMemory>
+    ensures { IfOk result (λ text. string_bytes text ≡ closing_text word.now closing) }
+{
+    match closing {
+        None => Ok(String::new(alloc)),
+        Some(reason) => {
+            let words = close_words(alloc, reason)?;
+            closed_text(alloc, word, words.as_str())
+        }
+    }
+}
+
+fn closed_text(alloc: Global, word: &str, words: &str) -> Result<String, NoMemory>
+    ensures { IfOk result (λ text. string_bytes text ≡ codes "closed " ++ (word.now ++ 32 ∷ (words.now ++ 10 ∷ []))) }
+{
+    format!(in alloc; "closed {word} {words}\n")
+}
+
+// The words of the reason of a close.
+fn close_words(alloc: Global, reason: CloseReason) -> Result<String, NoMemory>
+    ensures { IfOk result (λ text. string_bytes text ≡ close_words reason) }
+{
+    match reason {
+        CloseReason::Short => format!(in alloc; "short"),
+        CloseReason::Opcode => format!(in alloc; "opcode"),
+        CloseReason::Counts => format!(in alloc; "counts"),
+        CloseReason::Tlvs => format!(in alloc; "tlvs"),
+        CloseReason::Early => format!(in alloc; "early"),
+        CloseReason::Idle => format!(in alloc; "idle"),
+        CloseReason::Stranger(id) => format!(in alloc; "stranger {id}"),
+        CloseReason::Misuse(kind) => format!(in alloc; "misuse {kind}"),
+        CloseReason::BadData(kind) => format!(in alloc; "data {kind}"),
+        CloseReason::Unknown(kind) => format!(in alloc; "type {kind}"),
+        CloseReason::Interval(interval) => format!(in alloc; "interval {interval}"),
+        CloseReason::Kept(rcode) => format!(in alloc; "kept {rcode}"),
+        CloseReason::Delay(delay, rcode) => format!(in alloc; "delay {delay} {rcode}"),
+    }
+}
