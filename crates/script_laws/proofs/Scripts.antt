@@ -7,9 +7,9 @@
 use Rattle.replay.specs.Promises.{HoldsAfterEachLine, EveryScriptTellsOneText, EverySettleEmptiesBothWays, EveryScriptKeepsPromises, NoMessageEnds}
 use Rattle.script_laws.specs.Settling.{TurnsSuffice}
 use Rattle.script_laws.specs.Replies.{RepliesAreOne, ScriptsThatAreBuiltKeepPromises}
-use Rattle.script_laws.specs.Turns.{work_left, EmitsLower, DownsLower}
+use Rattle.script_laws.specs.Turns.{work_left, LowersAlways}
 use Rattle.script_laws.specs.Whole.{StandsAfterEachLine, ScriptsNeverGoBack}
-use Rattle.script_laws.specs.Walk.{UpsPass, EmitsPass, DownsPass, RoundsPass, SettlesPass}
+use Rattle.script_laws.specs.Walk.{Keeps, OfUps, OfEmits, OfDowns, RoundsPass, SettlesPass}
 use Rattle.script_laws.proofs.hubs.Reaching.{reached-go-on, begun-go-on, points-rise}
 use Rattle.script_laws.proofs.hubs.Sound.{reached-sound}
 use Rattle.script_laws.proofs.hubs.Sessions.{reached-sessions, begun-tell-since}
@@ -42,13 +42,13 @@ use Rattle.script_laws.proofs.texts.NeverBack.{never-back}
 use Rattle.script_laws.proofs.texts.Replies.{one-reply, built-keep}
 use Rattle.script_laws.proofs.ends.Telling.{no-ends}
 
-ups : UpsPass
+ups : OfUps Keeps
 ups = ups-pass begun-go-on
 
-emitting : EmitsPass
+emitting : OfEmits Keeps
 emitting = emits-pass reached-go-on begun-go-on reached-sound reached-sessions
 
-downward : DownsPass
+downward : OfDowns Keeps
 downward = downs-pass reached-sessions
 
 rounds : RoundsPass
@@ -105,10 +105,10 @@ pub replies-one : RepliesAreOne
 replies-one = one-reply tell-one-text
 
 -- each settle comes to a still round
-emitting-lower : EmitsLower
+emitting-lower : OfEmits LowersAlways
 emitting-lower = emits-lower reached-go-on begun-go-on reached-sound reached-sessions
 
-downward-lower : DownsLower
+downward-lower : OfDowns LowersAlways
 downward-lower = downs-lower reached-sessions
 
 pub turns-are-enough : TurnsSuffice

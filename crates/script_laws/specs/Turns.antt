@@ -1,7 +1,7 @@
 -- A number that falls in each round of a settle, and how large it is behind the lines of a script.
 --     work_left number world seat      what is still to be done between a client and its session
 --     Lowers number world seat p      a passing leaves less by the octets that it moved, and less where a message was reacted to
---     SaysLower, UpsLower, EmitsLower, DownsLower      each passing does
+--     LowersAlways passing number      it does from wherever both ends are joined
 --     QueuesAreShort, HistoriesAreShort, ScriptsAreShort      bounds of what a hub keeps, and of a script
 --     IsSized n seat, SizedAfterLines      what a client owes behind so many lines
 use Rattle.std.specs.Prelude.{◌≡◌, ℕ, ◌+◌, ◌*◌, ◌<◌, ◌≤◌, ◌^◌, true, false, List, ◌++◌, length, Option, Some, None, Ok}
@@ -16,7 +16,7 @@ use Rattle.pushclient.specs.Clients.{Client, Connection, output_of}
 use Rattle.replay.specs.Lines.{ScriptLine}
 use Rattle.replay.specs.Scripts.{max_script, script_of}
 use Rattle.replay.specs.World.{World, Seat, start_world}
-use Rattle.replay.specs.PassedOctets.{Passed, say, up, emit, down}
+use Rattle.replay.specs.PassedOctets.{Passed}
 use Rattle.replay.specs.Text.{world_after}
 use Rattle.replay.specs.Promises.{ShownPoints}
 use Rattle.script_laws.specs.Reached.{IsReached}
@@ -59,18 +59,6 @@ pub record Lowers (number : ℕ) (world : World) (seat : Seat) (p : Passed) : Ty
 abbrev pub LowersAlways : (World → Seat → Passed) → ℕ → Type 0
 LowersAlways passing number = (world : World) (shown : ShownPoints) (seat : Seat) (session : Session) (c : Connection)
     → IsReached world.hub → IsJoined world.hub shown seat number session c → Lowers number world seat (passing world seat)
-
-abbrev pub SaysLower : Type 0
-SaysLower = (n number : ℕ) → LowersAlways (say n) number
-
-abbrev pub UpsLower : Type 0
-UpsLower = (n number : ℕ) → LowersAlways (up number n) number
-
-abbrev pub EmitsLower : Type 0
-EmitsLower = (n number : ℕ) → LowersAlways (emit number n) number
-
-abbrev pub DownsLower : Type 0
-DownsLower = (n number : ℕ) → LowersAlways (down n) number
 
 -- ---- bounds
 

@@ -1,5 +1,6 @@
 -- What lines do to a world that stands, kind by kind.
---     SaysPass, UpsPass, EmitsPass, DownsPass, RoundsPass, SettlesPass      octets pass between a client and its session
+--     OfSays, OfUps, OfEmits, OfDowns      so it is of each of the four passings
+--     Keeps, RoundsPass, SettlesPass      octets pass between a client and its session
 --     AsksStay, MomentsStay      a client that is joined is asked for something, or comes to a moment
 --     OthersLeaveSeats      calls that aren't for a seat's session leave it as it stands
 use Rattle.std.specs.Prelude.{◌≡◌, ℕ, ◌≤◌, false, List, Option, Some, None, IsTrue}
@@ -29,17 +30,18 @@ abbrev pub Keeps : (World → Seat → Passed) → ℕ → Type 0
 Keeps passing number = (world : World) (shown : ShownPoints) (seat : Seat) (session : Session) (c : Connection)
     → IsReached world.hub → IsJoined world.hub shown seat number session c → PassesSo number world shown seat c (passing world seat)
 
-abbrev pub SaysPass : Type 0
-SaysPass = (n number : ℕ) → Keeps (say n) number
+-- so it is of each of the four passings, whatever the bound
+abbrev pub OfSays : ((World → Seat → Passed) → ℕ → Type 0) → Type 0
+OfSays Holds = (n number : ℕ) → Holds (say n) number
 
-abbrev pub UpsPass : Type 0
-UpsPass = (n number : ℕ) → Keeps (up number n) number
+abbrev pub OfUps : ((World → Seat → Passed) → ℕ → Type 0) → Type 0
+OfUps Holds = (n number : ℕ) → Holds (up number n) number
 
-abbrev pub EmitsPass : Type 0
-EmitsPass = (n number : ℕ) → Keeps (emit number n) number
+abbrev pub OfEmits : ((World → Seat → Passed) → ℕ → Type 0) → Type 0
+OfEmits Holds = (n number : ℕ) → Holds (emit number n) number
 
-abbrev pub DownsPass : Type 0
-DownsPass = (n number : ℕ) → Keeps (down n) number
+abbrev pub OfDowns : ((World → Seat → Passed) → ℕ → Type 0) → Type 0
+OfDowns Holds = (n number : ℕ) → Holds (down n) number
 
 -- the first passing, and behind it the second
 abbrev pub RoundsPass : Type 0

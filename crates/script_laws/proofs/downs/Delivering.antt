@@ -17,7 +17,7 @@ use Rattle.replay.specs.World.{Seat}
 use Rattle.replay.specs.Promises.{ShownPoints, ShowsNoLater, point_taken}
 use Rattle.script_laws.specs.Reached.{IsReached, ReachedSessions}
 use Rattle.script_laws.specs.Joined.{IsJoined, Waits}
-use Rattle.script_laws.specs.Walk.{DownsPass, DownsWait}
+use Rattle.script_laws.specs.Walk.{Keeps, OfDowns, DownsWait}
 use Rattle.script_laws.specs.Turns.{owes}
 use Rattle.script_laws.proofs.turns.Owing.{takes-owe}
 use Rattle.script_laws.proofs.downs.Stepping.{TakesAll, joined-stepped}
@@ -171,7 +171,7 @@ delivers sessions n number hub shown seat session c reached j =
     none-more : (m : ℕ) → m ≡ m + 0
     none-more m = omega arith
 
-pub downs-pass : ReachedSessions → DownsPass
+pub downs-pass : ReachedSessions → OfDowns Keeps
 downs-pass sessions n number world shown seat session c reached j =
     let all = delivers sessions n number world.hub shown seat session c reached j in
     record {

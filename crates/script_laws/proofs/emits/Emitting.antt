@@ -36,7 +36,7 @@ use Rattle.replay.proofs.exchanges.Walks.{gives-counted}
 use Rattle.script_laws.specs.Reached.{FitCalls, IsReached, ReachedOnesGoOn, BegunOnesGoOn, ReachedOnesAreSound, ReachedSessions}
 use Rattle.script_laws.specs.Joined.{ClosedByDelay, IsJoined, PassesSo}
 use Rattle.script_laws.specs.Turns.{work_of}
-use Rattle.script_laws.specs.Walk.{EmitsPass}
+use Rattle.script_laws.specs.Walk.{Keeps, OfEmits}
 use Rattle.script_laws.proofs.turns.Giving.{GivesLess, gives-less}
 use Rattle.script_laws.proofs.emits.Leading.{IsLedTo, led-none, led-one, led-both}
 use Rattle.script_laws.proofs.emits.Saying.{same-taken}
@@ -275,7 +275,7 @@ module _ (reached-on : ReachedOnesGoOn) (begun-on : BegunOnesGoOn) (are-sound : 
       same : (n : ℕ) → n + 2 * 0 ≤ n
       same n = omega arith
 
-  pub emits-pass : EmitsPass
+  pub emits-pass : OfEmits Keeps
   emits-pass n number world shown seat session c reached j = passes (emitted_by n number world seat) (emits-so-far n number world shown seat session c reached j)
     where
       passes : (e : Emitted) → SoFar number shown world.hub seat c reached session e

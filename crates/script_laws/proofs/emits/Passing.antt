@@ -12,7 +12,7 @@ use Rattle.replay.specs.PassedOctets.{Passed, passed, max_wire, say, up, emit, d
 use Rattle.replay.specs.Promises.{ShownPoints, is_end_by_itself}
 use Rattle.script_laws.specs.Reached.{IsReached, ReachedOnesGoOn}
 use Rattle.script_laws.specs.Joined.{IsJoined, PassesSo}
-use Rattle.script_laws.specs.Walk.{Keeps, SaysPass, UpsPass, EmitsPass, DownsPass, RoundsPass, SettlesPass}
+use Rattle.script_laws.specs.Walk.{OfSays, OfUps, OfEmits, OfDowns, Keeps, RoundsPass, SettlesPass}
 use Rattle.script_laws.proofs.emits.Leading.{IsLedTo, led-both}
 
 -- what is told of an end came by itself
@@ -95,7 +95,7 @@ module _ (reached-on : ReachedOnesGoOn) where
       let k = other p.world shown p.seat h.later h.connection (reached-behind number world shown seat c p reached h) h.joined in
       passes-over number world shown seat c q (passes-behind number world shown seat c p q h k) _ _ (if is_some p.over then p.over else q.over) (first-over p.over q.over h.over k.over)
 
-  module _ (says : SaysPass) (ups : UpsPass) (emits : EmitsPass) (downs : DownsPass) where
+  module _ (says : OfSays Keeps) (ups : OfUps Keeps) (emits : OfEmits Keeps) (downs : OfDowns Keeps) where
     pub rounds-pass : RoundsPass
     rounds-pass number =
         keeps-then number (λ world seat. and_then (and_then (say max_wire world seat) (up number max_wire)) (emit number max_wire)) (down max_wire)

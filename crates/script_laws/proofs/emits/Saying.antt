@@ -22,7 +22,7 @@ use Rattle.replay.specs.PassedOctets.{Passed, passed, max_wire}
 use Rattle.replay.specs.Promises.{ShownPoints, ShowsNoLater, point_taken}
 use Rattle.script_laws.specs.Reached.{BegunOnesGoOn, FitCalls}
 use Rattle.script_laws.specs.Joined.{IsJoined, PassesSo}
-use Rattle.script_laws.specs.Walk.{SaysPass, UpsPass}
+use Rattle.script_laws.specs.Walk.{Keeps, OfSays, OfUps}
 
 abbrev IsOctet : ℕ → Type 0
 IsOctet o = o < 256
@@ -112,7 +112,7 @@ module _ (number : ℕ) (world : World) (shown : ShownPoints) (seat : Seat) (ses
       subst (λ (os : List ℕ). PassesSo number world shown seat c (said (length (take m os)) (take m os))) (sym is)
       (says-front m (fits-wire max_wire (length seat.up_wire) n (length c.output) (length (take m c.output)) j.up_wire (length-take m c.output)))
 
-pub says-pass : SaysPass
+pub says-pass : OfSays Keeps
 says-pass n number world shown seat session c reached j =
     says-output number world shown seat session c j n (output_of seat.client) (ap (λ (o : Option Connection). elim o as (λ _. List ℕ) [ None ↦ [] | Some d ↦ d.output ]) j.connected)
 
@@ -183,5 +183,5 @@ module _ (begun-on : BegunOnesGoOn) where
         counted : (whole n room k front taken : ℕ) → k ≡ min front room → front ≡ min n whole → taken ≡ min k whole → min taken room ≡ k
         counted whole n room k front taken first is all = omega (arith, first, is, all)
 
-  pub ups-pass : UpsPass
+  pub ups-pass : OfUps Keeps
   ups-pass n number world shown seat session c reached j = ups-many number world shown seat session c j (taken_by world.hub number (take n seat.up_wire)) (all-taken number world shown seat session c j n)

@@ -2,7 +2,7 @@
 use Rattle.script_laws.specs.Reached.{ReachedOnesGoOn, ReachedOnesAreSound, ReachedSessions, BegunOnesTellSince, PointsRise}
 use Rattle.script_laws.specs.Numbers.{OwnCallsAreForNoOther, SeatsComeFit}
 use Rattle.script_laws.specs.Worlds.{SeatsPass, HubsGoOn, SeatsOpen, PeersOpen, SeatsAreCut, SeatsPassAndAreCut, PeersAreCut}
-use Rattle.script_laws.specs.Walk.{SaysPass, UpsPass, EmitsPass, DownsPass, SettlesPass, ExchangesAreCalls, AsksStay, MomentsStay, WishesStaySound, NewOnesAreJoined, CutsStandAlone}
+use Rattle.script_laws.specs.Walk.{Keeps, OfSays, OfUps, OfEmits, OfDowns, SettlesPass, ExchangesAreCalls, AsksStay, MomentsStay, WishesStaySound, NewOnesAreJoined, CutsStandAlone}
 
 pub record LineLaws : Type 0 where
   pub go_on : ReachedOnesGoOn
@@ -21,10 +21,10 @@ pub record LineLaws : Type 0 where
   pub seats_come : SeatsComeFit
   pub peers_are_cut : PeersAreCut
   -- a seat behind a change
-  pub says : SaysPass
-  pub ups : UpsPass
-  pub emits : EmitsPass
-  pub downs : DownsPass
+  pub says : OfSays Keeps
+  pub ups : OfUps Keeps
+  pub emits : OfEmits Keeps
+  pub downs : OfDowns Keeps
   pub settles : SettlesPass
   pub exchanges : ExchangesAreCalls
   pub asks : AsksStay

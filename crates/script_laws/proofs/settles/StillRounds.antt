@@ -38,7 +38,7 @@ use Rattle.replay.specs.PassedOctets.{is_still, Passed, Emitted, Delivered, noth
 use Rattle.replay.specs.Promises.{ShownPoints, IsQuiet}
 use Rattle.script_laws.specs.Reached.{IsReached, ReachedOnesGoOn}
 use Rattle.script_laws.specs.Joined.{IsJoined, Waits, PassesSo}
-use Rattle.script_laws.specs.Walk.{SaysPass, UpsPass, EmitsPass}
+use Rattle.script_laws.specs.Walk.{Keeps, OfSays, OfUps, OfEmits}
 use Rattle.script_laws.specs.Settling.{is_stopped, SaysStop, StoppedOnesSaidSo, IsEmptied, QuietAtLast}
 use Rattle.script_laws.proofs.emits.Passing.{reached-behind}
 use Rattle.script_laws.proofs.emits.Saying.{AskNoStop}
@@ -191,7 +191,7 @@ session-takes-none session = ap (λ (os : List ℕ). record session { input = os
 
 -- ---- the round
 
-module _ (reached-on : ReachedOnesGoOn) (said-so : StoppedOnesSaidSo) (says : SaysPass) (ups : UpsPass) (emits : EmitsPass) where
+module _ (reached-on : ReachedOnesGoOn) (said-so : StoppedOnesSaidSo) (says : OfSays Keeps) (ups : OfUps Keeps) (emits : OfEmits Keeps) where
   module _ (number : ℕ) (world : World) (shown : ShownPoints) (seat : Seat) (session : Session) (c : Connection) (reached : IsReached world.hub) (j : IsJoined world.hub shown seat number session c) (waits : Waits c) where
     -- the four passings of a round
     abbrev said : Passed

@@ -26,7 +26,7 @@ use Rattle.script_laws.specs.Lines.{IsRead, Follow}
 use Rattle.script_laws.specs.Reached.{ReachedOnesAreSound}
 use Rattle.script_laws.specs.Settling.{IsLittleAtSettles}
 use Rattle.script_laws.specs.Texts.{ShownIsTaken}
-use Rattle.script_laws.specs.Turns.{reaction_cost, asked_stops, work_of, work_in, owes, work_left, QueuesAreShort, HistoriesAreShort, ScriptsAreShort, SizedAfterLines, EmitsLower, DownsLower}
+use Rattle.script_laws.specs.Turns.{reaction_cost, asked_stops, work_of, work_in, owes, work_left, QueuesAreShort, HistoriesAreShort, ScriptsAreShort, SizedAfterLines, LowersAlways}
 use Rattle.script_laws.specs.Whole.{StandsAfterEachLine}
 use Rattle.script_laws.proofs.lines.EachLine.{grown-clients}
 use Rattle.script_laws.proofs.lines.Following.{read-script, follow-front}
@@ -37,6 +37,7 @@ use Rattle.script_laws.proofs.lines.Starting.{start-stands, start-fits, is_allow
 use Rattle.script_laws.proofs.lines.Walking.{Walked, walked-line}
 use Rattle.script_laws.proofs.sizes.Lines.{AllSized, found-sized, sized-line}
 use Rattle.script_laws.proofs.texts.Along.{seat-stands}
+use Rattle.script_laws.specs.Walk.{OfDowns, OfEmits}
 
 -- ---- lines one behind another
 
@@ -48,7 +49,7 @@ fed-lone all known next shown world line h e w octets seat is found =
     let known_so : lone_of known w ≡ Some seat.is_lone = h.fits.clients w ∙ ap (option_map (λ (s : Seat). s.is_lone)) found in
     sym (ap (λ (o : Option Bool). elim o as (λ _. Bool) [ None ↦ false | Some is_lone ↦ is_lone ]) known_so) ∙ may.0
 
-module _ (laws : LineLaws) (shows : ShownIsTaken) (emits-low : EmitsLower) (downs-low : DownsLower) (all : List Word) where
+module _ (laws : LineLaws) (shows : ShownIsTaken) (emits-low : OfEmits LowersAlways) (downs-low : OfDowns LowersAlways) (all : List Word) where
   sized-lines : (m n : ℕ) (known : Known) (lines : List ScriptLine) (shown : ShownToEach) (world : World) → m ≡ n + length lines → Follow all known lines → AllByRecursion (IsRead all) lines → Walked all known shown world
       → AllSized n world.seats → AllSized m (world_after lines world).seats
   sized-lines m n known [] shown world count f read h sized = subst (λ k. AllSized k world.seats) (sym (none m n count)) sized
@@ -65,7 +66,7 @@ module _ (laws : LineLaws) (shows : ShownIsTaken) (emits-low : EmitsLower) (down
       one-more : (m n k : ℕ) → m ≡ n + suc k → m ≡ suc n + k
       one-more m n k is = omega (arith, is)
 
-pub sized-after-lines : LineLaws → ShownIsTaken → EmitsLower → DownsLower → SizedAfterLines
+pub sized-after-lines : LineLaws → ShownIsTaken → OfEmits LowersAlways → OfDowns LowersAlways → SizedAfterLines
 sized-after-lines laws shows emits-low downs-low text script before after read split =
     let all = client_words (lines_read text) in
     let r = read-script text script read in

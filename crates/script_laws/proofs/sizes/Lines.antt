@@ -23,8 +23,8 @@ use Rattle.replay.specs.TextWords.{by_history, show_at, spaced, record_line, oct
 use Rattle.replay.specs.Text.{Printed, quietly, printing, end_lines, close_lines, finished, passes, timed, moments, asks, subscribing, unsubscribing, reconfirming, opens_lone, opens_hub, opens, cuts, exchanges, sends, feeds, stops, asked_to_stop, session_of_word, seated, line_does}
 use Rattle.script_laws.specs.Joined.{SeatStands, StandsWith, ShownToEach, WorldStands, PassesSo}
 use Rattle.script_laws.specs.Lines.{IsRead}
-use Rattle.script_laws.specs.Turns.{owes, IsSized, EmitsLower, DownsLower}
-use Rattle.script_laws.specs.Walk.{Keeps}
+use Rattle.script_laws.specs.Turns.{owes, IsSized, LowersAlways}
+use Rattle.script_laws.specs.Walk.{OfEmits, OfDowns, Keeps}
 use Rattle.script_laws.proofs.emits.Passing.{rounds-pass}
 use Rattle.script_laws.proofs.lines.Premises.{LineLaws}
 use Rattle.script_laws.proofs.lines.Cutting.{stands-with, stands-alone}
@@ -278,7 +278,7 @@ module _ (n : ℕ) (world : World) (sized : Sized n world) where
 
 -- ---- each line
 
-module _ (laws : LineLaws) (emits-low : EmitsLower) (downs-low : DownsLower) (all : List Word) (n : ℕ) (shown : ShownToEach) (world : World) (stands : WorldStands shown world) (sized : Sized n world) where
+module _ (laws : LineLaws) (emits-low : OfEmits LowersAlways) (downs-low : OfDowns LowersAlways) (all : List Word) (n : ℕ) (shown : ShownToEach) (world : World) (stands : WorldStands shown world) (sized : Sized n world) where
   passes-by : (verb : List ℕ) (w : Word) (passing : ℕ → World → Seat → Passed) → ((number : ℕ) → Keeps (passing number) number) → ((number : ℕ) → OwesNoMore (passing number) number)
       → Sized (suc n) (passes verb w passing world).0
   passes-by verb w passing keeps less = passing-sized n world sized shown stands w (λ p. verb ∷ w ∷ decimal p.count ∷ []) passing keeps less

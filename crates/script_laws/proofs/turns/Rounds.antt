@@ -14,9 +14,9 @@ use Rattle.replay.specs.PassedOctets.{Passed, Emitted, Delivered, max_wire, enou
 use Rattle.replay.specs.Promises.{ShownPoints}
 use Rattle.script_laws.specs.Reached.{ReachedOnesGoOn, BegunOnesGoOn, ReachedOnesAreSound, ReachedSessions}
 use Rattle.script_laws.specs.Joined.{IsJoined, Waits}
-use Rattle.script_laws.specs.Walk.{Keeps, SaysPass, UpsPass, EmitsPass}
+use Rattle.script_laws.specs.Walk.{OfSays, OfUps, OfEmits, OfDowns, Keeps}
 use Rattle.script_laws.specs.Settling.{RoundsFall}
-use Rattle.script_laws.specs.Turns.{reaction_cost, asked_stops, work_of, work_in, owes, work_left, Lowers, LowersAlways, SaysLower, UpsLower, EmitsLower, DownsLower}
+use Rattle.script_laws.specs.Turns.{reaction_cost, asked_stops, work_of, work_in, owes, work_left, Lowers, LowersAlways}
 use Rattle.script_laws.proofs.downs.Delivering.{Delivers, begun, delivers}
 use Rattle.script_laws.proofs.emits.Emitting.{SoFar, emitted_by, emits-so-far}
 use Rattle.script_laws.proofs.emits.Passing.{keeps-then, reached-behind}
@@ -53,14 +53,14 @@ module _ (number : ℕ) (world : World) (shown : ShownPoints) (seat : Seat) (ses
           → (work + down + 131076 * longer + 131077 * less) + k ≤ work + down + 131076 * wire + 131077 * owed
       goes-on work down wire longer k less owed is left = omega (arith, is, left)
 
-pub says-lower : SaysLower
+pub says-lower : OfSays LowersAlways
 says-lower n number world shown seat session c reached j =
     says-front number world shown seat session c j (min n (max_wire - length seat.up_wire)) (output_of seat.client)
     (ap (λ (o : Option Connection). elim o as (λ _. List ℕ) [ None ↦ [] | Some d ↦ d.output ]) j.connected)
 
 -- ---- from the wire into the session
 
-pub ups-lower : UpsLower
+pub ups-lower : OfUps LowersAlways
 ups-lower n number world shown seat session c reached j = record { moved = moved; reacted = λ is. absurd cc; owed = omega arith }
   where
     k : ℕ
@@ -99,7 +99,7 @@ ups-lower n number world shown seat session c reached j = record { moved = moved
 -- ---- from the session onto the wire
 
 module _ (reached-on : ReachedOnesGoOn) (begun-on : BegunOnesGoOn) (are-sound : ReachedOnesAreSound) (sessions-are : ReachedSessions) where
-  pub emits-lower : EmitsLower
+  pub emits-lower : OfEmits LowersAlways
   emits-lower n number world shown seat session c reached j = lowers (emitted_by reached-on begun-on are-sound sessions-are n number world seat) (emits-so-far reached-on begun-on are-sound sessions-are n number world shown seat session c reached j)
     where
       lowers : (e : Emitted) → SoFar reached-on begun-on are-sound sessions-are number shown world.hub seat c reached session e
@@ -140,7 +140,7 @@ module _ (reached-on : ReachedOnesGoOn) (begun-on : BegunOnesGoOn) (are-sound : 
 
 -- ---- from the wire to the client
 
-pub downs-lower : ReachedSessions → DownsLower
+pub downs-lower : ReachedSessions → OfDowns LowersAlways
 downs-lower sessions n number world shown seat session c reached j = lowers (delivered enough (take n seat.down_wire) (begun n seat)) (delivers sessions n number world.hub shown seat session c reached j)
   where
     lowers : (d : Delivered) → Delivers sessions world.hub shown seat number session reached (Waits c) d
@@ -193,7 +193,7 @@ module _ (reached-on : ReachedOnesGoOn) where
       lowers-both number world seat p (second p.world p.seat) (one world shown seat session c reached j)
       (other p.world shown p.seat h.later h.connection (reached-behind reached-on number world shown seat c p reached h) h.joined)
 
-  module _ (says : SaysPass) (ups : UpsPass) (emits : EmitsPass) (emits-low : EmitsLower) (downs-low : DownsLower) where
+  module _ (says : OfSays Keeps) (ups : OfUps Keeps) (emits : OfEmits Keeps) (emits-low : OfEmits LowersAlways) (downs-low : OfDowns LowersAlways) where
     pub rounds-lower : (number : ℕ) → LowersAlways (round number) number
     rounds-lower number =
         let two : Keeps (λ world seat. and_then (say max_wire world seat) (up number max_wire)) number = keeps-then reached-on number (say max_wire) (up number max_wire) (says max_wire number) (ups max_wire number) in
