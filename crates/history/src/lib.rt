@@ -18,9 +18,10 @@ mod zone_lists;
 ghost use Rattle.std.specs.Prelude.{◌≡◌, [], ◌∷◌, true, false, codes, Some, None, Err, option_map};
 ghost use Rattle.std.specs.Result.{result_ok};
 ghost use Rattle.push_base.specs.Hexadecimal.{hex};
+ghost use Rattle.push_base.specs.Limits.{max_home_octets, max_octets_at_name};
 ghost use Rattle.dnsname.specs.Text.{name};
-ghost use Rattle.history.specs.Homes.{fault_of_last};
-ghost use Rattle.history.specs.States.{verdict, accepts, reconfirm_key};
+ghost use Rattle.history.specs.Homes.{max_zones, fault_of_last};
+ghost use Rattle.history.specs.States.{entry_octets, max_journal_entries, max_journal_octets, verdict, accepts, reconfirm_key};
 ghost use Rattle.history.specs.Worked.{start, heard_host, added_address, sizes_after};
 
 use crate::entry::HomeFault;
@@ -43,6 +44,16 @@ pub fn worked_rows()
     ensures sizes { sizes_after (added_address ∷ heard_host 1 ∷ []) ≡ 2 ∷ 3 ∷ 4 ∷ [] }
     ensures heard { accepts start (heard_host 1) ≡ true }
     ensures not_later { accepts start (entry.Moment 0) ≡ false }
+{}
+
+/// The limits of zones (and of links), of the journal and of homes; where no unit is named, in octets.
+pub fn limit_rows()
+    ensures zones { max_zones ≡ 16 }
+    ensures entries { max_journal_entries ≡ 65536 }
+    ensures journal { max_journal_octets ≡ 67108864 }
+    ensures entry { entry_octets ≡ 32 }
+    ensures home { max_home_octets ≡ 200 }
+    ensures at_name { max_octets_at_name ≡ 60000 }
 {}
 
 ghost use Rattle.history.specs.declared.entry.Entry.TheVariants as entry;

@@ -3,6 +3,7 @@ pub mod Suffixes
 pub mod Changed
 pub mod Shown
 pub mod OneKey
+pub mod HeardBack
 pub mod OneSize
 pub mod Tests
 pub mod WholeRecords

@@ -1,9 +1,10 @@
--- Records with one key are usable, and shown, as one.
+-- Records with one key are usable, shown and heard as one.
 use Rattle.std.proofs.Common.{◌≡◌, ℕ, Bool, true, false, cond, not, ◌&&◌, ◌||◌, List, [], ◌∷◌, ◌++◌, map, Option, Some, None, Result, Ok, Err, refl, sym, ap, subst, ◌∙◌}
-use Rattle.std.specs.Prelude.{◌==◌, flat_map, option_map}
+use Rattle.std.specs.Prelude.{◌==◌, flat_map, option_map, if◌then◌else◌}
 use Rattle.std.specs.List.{list_any, list_all}
 use Rattle.std.proofs.lemmas.Bool.{eqb-true}
 use Rattle.dnsname.specs.Names.{Labels, IsName, octets, lower, ends_in}
+use Rattle.dnsname.proofs.Decisions.{and_true}
 use Rattle.dnsname.proofs.ReadAgain.{CanStand}
 use Rattle.rrset.specs.Kinds.{in_class, nsec_kind, is_meta, a_kind, aaaa_kind}
 use Rattle.rrset.specs.Records.{key_of}
@@ -11,10 +12,10 @@ use Rattle.rrset.specs.Rdata.{Field, raw, named, field_octets, field_names, fiel
 use Rattle.rrset.specs.declared.record.Rr.{Rr}
 use Rattle.rrset.specs.declared.record.Key.{Key}
 use Rattle.rrset.proofs.ReadBack.{fields_done, not_done}
-use Rattle.linkmap.specs.Translation.{local, renamed, renamed_rr, fits_a_name, is_usable, is_link_local_v4, is_link_local_v6, shown_as}
+use Rattle.linkmap.specs.Translation.{local, renamed, renamed_rr, fits_a_name, names_fit, is_translatable, is_usable, is_link_local, is_link_local_v4, is_link_local_v6, shown_as, heard_as}
 use Rattle.linkmap.proofs.Suffixes.{renamed_alike, ends-as, fits-as, can-lower}
 use Rattle.linkmap.proofs.Changed.{OnNames, names_map, can-names, with_names-Ok, with_names-Err, read_changed, twice, same_changed}
-use Rattle.linkmap.proofs.Shown.{Inside, names_in, inside_can, usable-parts, heads, tails, raw_of, name_of, apart, v4_kept, v6_kept, and_none}
+use Rattle.linkmap.proofs.Shown.{Inside, names_in, inside_can, local_name, usable-parts, heads, tails, raw_of, name_of, apart, v4_kept, v6_kept, and_none}
 
 -- fields that are one but for case
 abbrev pub Alike : List Field → List Field → Type 0
@@ -103,34 +104,41 @@ names_every p alike kind rdata other same = by (rdata_fields kind rdata) (rdata_
     by (Err p_) (Ok others) e o = absurd (unread kind other rdata others p_ (sym same) o e)
     by (Err p_) (Err q) e o = ap (λ (r : Result (List Field) ℕ). list_all p (names_in r)) e ∙ sym (ap (λ (r : Result (List Field) ℕ). list_all p (names_in r)) o)
 
+-- the names of a record fit where those of one with its key do
+translatable_alike : (old new owner again : Labels) (class kind ttl later : ℕ) (rdata other : List ℕ) → lower owner ≡ lower again → lowered_rdata kind rdata ≡ lowered_rdata kind other
+    → is_translatable old new (record { owner = owner; class = class; kind = kind; ttl = ttl; rdata = rdata }) ≡ is_translatable old new (record { owner = again; class = class; kind = kind; ttl = later; rdata = other })
+translatable_alike old new owner again class kind ttl later rdata other owners same =
+    let none = names_any (λ name. ends_in name new) (λ a b e. ends-as a b new e) kind rdata other same in
+    let one = fits-as (renamed old new owner) (renamed old new again) (renamed_alike old new owner again owners) in
+    let all = names_every (λ name. fits_a_name (renamed old new name)) (λ a b e. fits-as (renamed old new a) (renamed old new b) (renamed_alike old new a b e)) kind rdata other same in
+    (λ i. not (none i) && (one i && all i))
+
 -- a record is usable where one with its key is
 usable_alike : (domain owner again : Labels) (class kind ttl later : ℕ) (rdata other : List ℕ) → lower owner ≡ lower again → lowered_rdata kind rdata ≡ lowered_rdata kind other
     → is_usable domain (record { owner = owner; class = class; kind = kind; ttl = ttl; rdata = rdata }) ≡ is_usable domain (record { owner = again; class = class; kind = kind; ttl = later; rdata = other })
 usable_alike domain owner again class kind ttl later rdata other owners same =
     let ends = ends-as owner again local owners in
-    let none = names_any (λ name. ends_in name domain) (λ a b e. ends-as a b domain e) kind rdata other same in
-    let one = fits-as (renamed local domain owner) (renamed local domain again) (renamed_alike local domain owner again owners) in
-    let all = names_every (λ name. fits_a_name (renamed local domain name)) (λ a b e. fits-as (renamed local domain a) (renamed local domain b) (renamed_alike local domain a b e)) kind rdata other same in
-    (λ i. (class == in_class && not (kind == nsec_kind) && not (is_meta kind) && ends i) && (not (none i) && (one i && all i)))
+    let fit = translatable_alike local domain owner again class kind ttl later rdata other owners same in
+    (λ i. (class == in_class && not (kind == nsec_kind) && not (is_meta kind) && ends i) && fit i)
 
 -- rdata with one key, renamed, has one key
-renamed_rdata : (domain : Labels) → (kind : ℕ) (rdata other : List ℕ) → lowered_rdata kind rdata ≡ lowered_rdata kind other
-    → Inside (λ name. CanStand 0 (renamed local domain name)) kind rdata → Inside (λ name. CanStand 0 (renamed local domain name)) kind other
-    → lowered_rdata kind (with_names (renamed local domain) kind rdata) ≡ lowered_rdata kind (with_names (renamed local domain) kind other)
-renamed_rdata domain kind rdata other same can may = by (rdata_fields kind rdata) (rdata_fields kind other) refl refl
+renamed_rdata : (old new : Labels) (kind : ℕ) (rdata other : List ℕ) → lowered_rdata kind rdata ≡ lowered_rdata kind other
+    → Inside (λ name. CanStand 0 (renamed old new name)) kind rdata → Inside (λ name. CanStand 0 (renamed old new name)) kind other
+    → lowered_rdata kind (with_names (renamed old new) kind rdata) ≡ lowered_rdata kind (with_names (renamed old new) kind other)
+renamed_rdata old new kind rdata other same can may = by (rdata_fields kind rdata) (rdata_fields kind other) refl refl
   where
-    changed : (text : List ℕ) (fields : List Field) → rdata_fields kind text ≡ fields_done fields → Inside (λ name. CanStand 0 (renamed local domain name)) kind text
-        → lowered_rdata kind (with_names (renamed local domain) kind text) ≡ flat_map (λ field. field_octets (field_with (λ name. lower (renamed local domain name)) field)) fields
-    changed text fields e can = twice (renamed local domain) lower kind text fields e (can fields e) ∙ with_names-Ok (λ name. lower (renamed local domain name)) kind text fields e
+    changed : (text : List ℕ) (fields : List Field) → rdata_fields kind text ≡ fields_done fields → Inside (λ name. CanStand 0 (renamed old new name)) kind text
+        → lowered_rdata kind (with_names (renamed old new) kind text) ≡ flat_map (λ field. field_octets (field_with (λ name. lower (renamed old new name)) field)) fields
+    changed text fields e can = twice (renamed old new) lower kind text fields e (can fields e) ∙ with_names-Ok (λ name. lower (renamed old new name)) kind text fields e
 
-    by : (r q : Result (List Field) ℕ) → rdata_fields kind rdata ≡ r → rdata_fields kind other ≡ q → lowered_rdata kind (with_names (renamed local domain) kind rdata) ≡ lowered_rdata kind (with_names (renamed local domain) kind other)
+    by : (r q : Result (List Field) ℕ) → rdata_fields kind rdata ≡ r → rdata_fields kind other ≡ q → lowered_rdata kind (with_names (renamed old new) kind rdata) ≡ lowered_rdata kind (with_names (renamed old new) kind other)
     by (Ok fields) (Ok others) e o =
         changed rdata fields e can
-        ∙ octets_alike (renamed local domain) (λ a b e. renamed_alike local domain a b e) fields others (same_changed lower lower kind rdata other fields others e o (low kind rdata fields e) (low kind other others o) same)
+        ∙ octets_alike (renamed old new) (λ a b e. renamed_alike old new a b e) fields others (same_changed lower lower kind rdata other fields others e o (low kind rdata fields e) (low kind other others o) same)
         ∙ sym (changed other others o may)
     by (Ok fields) (Err p) e o = absurd (unread kind rdata other fields p same e o)
     by (Err p) (Ok others) e o = absurd (unread kind other rdata others p (sym same) o e)
-    by (Err p) (Err q) e o = ap (lowered_rdata kind) (with_names-Err (renamed local domain) kind rdata p e) ∙ same ∙ sym (ap (lowered_rdata kind) (with_names-Err (renamed local domain) kind other q o))
+    by (Err p) (Err q) e o = ap (lowered_rdata kind) (with_names-Err (renamed old new) kind rdata p e) ∙ same ∙ sym (ap (lowered_rdata kind) (with_names-Err (renamed old new) kind other q o))
 
 -- an address of its link alone
 abbrev is_hidden : ℕ → List ℕ → Bool
@@ -156,7 +164,7 @@ shown_alike domain owner again class kind ttl later rdata other is owners same u
     let mine = usable-parts domain (record { owner = owner; class = class; kind = kind; ttl = ttl; rdata = rdata }) usable in
     let its = usable-parts domain (record { owner = again; class = class; kind = kind; ttl = later; rdata = other }) useful in
     let names = renamed_alike local domain owner again owners in
-    let texts = renamed_rdata domain kind rdata other same (inside_can local domain is kind rdata mine.fit) (inside_can local domain is kind other its.fit) in
+    let texts = renamed_rdata local domain kind rdata other same (inside_can local domain is kind rdata mine.fit) (inside_can local domain is kind other its.fit) in
     let key : key_of (renamed_rr local domain (record { owner = owner; class = class; kind = kind; ttl = ttl; rdata = rdata })) ≡ key_of (renamed_rr local domain (record { owner = again; class = class; kind = kind; ttl = later; rdata = other })) =
     (λ i. record { owner = names i; class = class; kind = kind; rdata = texts i }) in
     of _ _ (renamed_rr local domain (record { owner = owner; class = class; kind = kind; ttl = ttl; rdata = rdata })) (renamed_rr local domain (record { owner = again; class = class; kind = kind; ttl = later; rdata = other })) (local_alike kind rdata other same) key
@@ -190,3 +198,51 @@ shown_as_one domain rr other is same usable =
         → (is_usable domain (record other { class = c; kind = kind_again }) ≡ true) × (option_map key_of (shown_as domain (record rr { class = class; kind = kind })) ≡ option_map key_of (shown_as domain (record other { class = c; kind = kind_again })))) classes
         (subst (λ (k : ℕ). lower rr.owner ≡ lower other.owner → lowered_rdata kind rr.rdata ≡ lowered_rdata k other.rdata → is_usable domain (record rr { class = class; kind = kind }) ≡ true
         → (is_usable domain (record other { class = class; kind = k }) ≡ true) × (option_map key_of (shown_as domain (record rr { class = class; kind = kind })) ≡ option_map key_of (shown_as domain (record other { class = class; kind = k })))) kinds (of_one class kind))
+
+-- ---- heard as one
+
+-- the record that is heard, by the three tests
+abbrev heard_by : Bool → Bool → Bool → Rr → Option Rr
+heard_by under fits hidden rr = if not under then None else if not fits then None else if hidden then None else Some rr
+
+heard_by-keys : (under fits hidden : Bool) (rr other : Rr) → (fits ≡ true → key_of rr ≡ key_of other) → option_map key_of (heard_by under fits hidden rr) ≡ option_map key_of (heard_by under fits hidden other)
+heard_by-keys false fits hidden rr other same = refl
+heard_by-keys true false hidden rr other same = refl
+heard_by-keys true true true rr other same = refl
+heard_by-keys true true false rr other same = ap Some (same refl)
+
+translatable-names : (old new : Labels) (rr : Rr) → is_translatable old new rr ≡ true → list_all (λ name. fits_a_name (renamed old new name)) (rdata_names rr.kind rr.rdata) ≡ true
+translatable-names old new rr e =
+    let fit = and_true (not (list_any (λ name. ends_in name new) (rdata_names rr.kind rr.rdata))) (names_fit old new rr) e in
+    (and_true (fits_a_name (renamed old new rr.owner)) (list_all (λ name. fits_a_name (renamed old new name)) (rdata_names rr.kind rr.rdata)) fit.1).1
+
+heard_alike : (domain owner again : Labels) (class kind ttl later : ℕ) (rdata other : List ℕ) → lower owner ≡ lower again → lowered_rdata kind rdata ≡ lowered_rdata kind other
+    → option_map key_of (heard_as domain (record { owner = owner; class = class; kind = kind; ttl = ttl; rdata = rdata })) ≡ option_map key_of (heard_as domain (record { owner = again; class = class; kind = kind; ttl = later; rdata = other }))
+heard_alike domain owner again class kind ttl later rdata other owners same =
+    let under = ends-as owner again domain owners in
+    let fits = translatable_alike domain local owner again class kind ttl later rdata other owners same in
+    let hidden = local_alike kind rdata other same in
+    let names = renamed_alike domain local owner again owners in
+    (λ i. option_map key_of (heard_by (under i) (fits i) (hidden i) (renamed_rr domain local (record { owner = owner; class = class; kind = kind; ttl = ttl; rdata = rdata }))))
+    ∙ heard_by-keys (ends_in again domain) (is_translatable domain local (record { owner = again; class = class; kind = kind; ttl = later; rdata = other })) (is_link_local (record { owner = again; class = class; kind = kind; ttl = later; rdata = other })) (renamed_rr domain local (record { owner = owner; class = class; kind = kind; ttl = ttl; rdata = rdata })) (renamed_rr domain local (record { owner = again; class = class; kind = kind; ttl = later; rdata = other }))
+    (λ fit.
+    let mine = translatable-names domain local (record { owner = owner; class = class; kind = kind; ttl = ttl; rdata = rdata }) (fits ∙ fit) in
+    let its = translatable-names domain local (record { owner = again; class = class; kind = kind; ttl = later; rdata = other }) fit in
+    let texts = renamed_rdata domain local kind rdata other same (inside_can domain local local_name kind rdata mine) (inside_can domain local local_name kind other its) in
+    (λ i. record { owner = names i; class = class; kind = kind; rdata = texts i }))
+
+-- records with one key are heard as records with one key, or none of them is
+pub heard_as_one : (domain : Labels) (rr other : Rr) → key_of rr ≡ key_of other → option_map key_of (heard_as domain rr) ≡ option_map key_of (heard_as domain other)
+heard_as_one domain rr other same =
+    let kinds : rr.kind ≡ other.kind = ap (λ (k : Key). k.kind) same in
+    let classes : rr.class ≡ other.class = ap (λ (k : Key). k.class) same in
+    let owners : lower rr.owner ≡ lower other.owner = ap (λ (k : Key). k.owner) same in
+    let texts : lowered_rdata rr.kind rr.rdata ≡ lowered_rdata other.kind other.rdata = ap (λ (k : Key). k.rdata) same in
+    by other.class other.kind classes kinds owners texts
+  where
+    by : (class kind : ℕ) → rr.class ≡ class → rr.kind ≡ kind → lower rr.owner ≡ lower other.owner → lowered_rdata rr.kind rr.rdata ≡ lowered_rdata kind other.rdata
+        → option_map key_of (heard_as domain rr) ≡ option_map key_of (heard_as domain (record other { class = class; kind = kind }))
+    by class kind classes kinds owners texts =
+        subst (λ (c : ℕ). option_map key_of (heard_as domain rr) ≡ option_map key_of (heard_as domain (record other { class = c; kind = kind }))) classes
+        (subst (λ (k : ℕ). lowered_rdata rr.kind rr.rdata ≡ lowered_rdata k other.rdata → option_map key_of (heard_as domain rr) ≡ option_map key_of (heard_as domain (record other { class = rr.class; kind = k }))) kinds
+        (λ same. heard_alike domain rr.owner other.owner rr.class rr.kind rr.ttl other.ttl rr.rdata other.rdata owners same) texts)

@@ -47,7 +47,7 @@ inside_can old new is kind rdata fit fields e =
 
 -- ---- there and back
 
-rdata_back : (first second : Labels) (kind : ℕ) (rdata : List ℕ) → Inside (λ name. CanStand 0 (renamed first second name)) kind rdata → Inside (λ name. CanStand 0 (renamed second first (renamed first second name))) kind rdata
+pub rdata_back : (first second : Labels) (kind : ℕ) (rdata : List ℕ) → Inside (λ name. CanStand 0 (renamed first second name)) kind rdata → Inside (λ name. CanStand 0 (renamed second first (renamed first second name))) kind rdata
     → Inside (λ name. ends_in name second ≡ false) kind rdata → lowered_rdata kind (with_names (renamed second first) kind (with_names (renamed first second) kind rdata)) ≡ lowered_rdata kind rdata
 rdata_back first second kind rdata can_there can_back none = by (rdata_fields kind rdata) refl
   where

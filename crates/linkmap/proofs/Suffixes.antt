@@ -120,7 +120,7 @@ lengths-can size (label ∷ name) lengths fits =
     let more = fewer_labels name in
     (record { some = lengths.0.0; few = lengths.0.1; fits = omega arith }, lengths-can (size + (1 + length label)) name lengths.1 (omega arith))
 
-can-size : (size : ℕ) (name : Labels) → size + 1 ≤ 255 → CanStand size name → size + length (octets name) ≤ 255
+pub can-size : (size : ℕ) (name : Labels) → size + 1 ≤ 255 → CanStand size name → size + length (octets name) ≤ 255
 can-size size [] small can = omega arith
 can-size size (label ∷ name) small can =
     let long : length (octets (label ∷ name)) ≡ suc (length label + length (octets name)) = ap (λ (t : List ℕ). length t) (octets-cons label name) ∙ ap suc (length-append label (octets name)) in

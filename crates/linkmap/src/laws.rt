@@ -1,10 +1,15 @@
 //! What the two translations promise of each other.
 
-ghost use Rattle.linkmap.specs.Laws.{HeardIsShown, EachIsShownByItself, OneKeyIsOfOneSize, OneKeyIsShownAsOne, ShownIsUnderTheDomain};
+ghost use Rattle.linkmap.specs.Laws.{HeardIsShown, ShownIsHeard, EachIsShownByItself, OneKeyIsOfOneSize, OneKeyIsShownAsOne, ShownIsUnderTheDomain};
 
 /// What is heard as a record is shown with the record's key.
 pub fn heard_is_shown()
     ensures { HeardIsShown }
+{}
+
+/// What is shown of a record is heard, with any record of its key, as one with the record's key.
+pub fn shown_is_heard()
+    ensures { ShownIsHeard }
 {}
 
 /// Two records of a link that aren't one are never shown with one key.

@@ -60,3 +60,14 @@ pub fn unheard_rows()
     ensures longest_owner { is_some (heard_as (name (codes "a.")) (record (at_domain 16 []) { owner = long_name 55 (name (codes "a.")) })) ≡ true }
     ensures longer_owner { heard_as (name (codes "a.")) (record (at_domain 16 []) { owner = long_name 56 (name (codes "a.")) }) ≡ None }
 {}
+
+/// Examples of records that are shown and heard back, and of those that aren't: under a domain that ends in `local.`, and
+/// with an owner of 256 octets, which is no name.
+pub fn heard_back_rows()
+    ensures pointer { let rr = at_link 12 (octets (name (codes "H.LOCAL."))) in option_map key_of (option_and_then (heard_as lan) (shown_as lan rr)) ≡ Some (key_of rr) }
+    ensures domain_of_a_link { option_and_then (heard_as (name (codes "x.local."))) (shown_as (name (codes "x.local.")) (at_link 12 (octets (name (codes "h.local."))))) ≡ None }
+    ensures usable_there { is_usable (name (codes "x.local.")) (at_link 12 (octets (name (codes "h.local.")))) ≡ true }
+    ensures longest_owner { let rr = record (at_link 16 []) { owner = long_name 55 local } in option_map key_of (option_and_then (heard_as (name (codes "a."))) (shown_as (name (codes "a.")) rr)) ≡ Some (key_of rr) }
+    ensures longer_owner { option_and_then (heard_as (name (codes "a."))) (shown_as (name (codes "a.")) (record (at_link 16 []) { owner = long_name 56 local })) ≡ None }
+    ensures usable_with_it { is_usable (name (codes "a.")) (record (at_link 16 []) { owner = long_name 56 local }) ≡ true }
+{}
