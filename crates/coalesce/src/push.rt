@@ -10,7 +10,7 @@ ghost use Rattle.coalesce.specs.Waiting.{CanBePacked, nets_in, packed_of};
 use crate::frame::Frame;
 use crate::records::{FRAME_HEAD, MESSAGE_HEAD, append_head};
 use crate::waiting::Waiting;
-use rrset::Table;
+use nametable::NameTable;
 use subscr::Subscriptions;
 
 /// The most octets of a PUSH of several names. The number is this project's own.
@@ -35,7 +35,7 @@ fn fits(size: u64, more: u64) -> bool
 }
 
 /// The names that go into one message, up to the first that doesn't fit.
-pub(crate) fn front_of(names: &[Waiting], questions: &Subscriptions, index: &Table) -> Front
+pub(crate) fn front_of(names: &[Waiting], questions: &Subscriptions, index: &NameTable) -> Front
     requires { CanBePacked index.now.rows names.now }
     ensures names { result.names ≡ length names.now - length (packed_of questions.now index.now.rows names.now).1 }
     ensures size { result.size ≡ size_of_notices (packed_of questions.now index.now.rows names.now).0 }
@@ -63,7 +63,7 @@ pub(crate) fn front_of(names: &[Waiting], questions: &Subscriptions, index: &Tab
 }
 
 /// Appends the records of all these names.
-fn append_names(out: &mut Frame, names: &[Waiting], questions: &Subscriptions, index: &Table)
+fn append_names(out: &mut Frame, names: &[Waiting], questions: &Subscriptions, index: &NameTable)
     requires sides { CanBePacked index.now.rows names.now }
     requires room { length out.old + size_of_notices (all_notices (nets_in questions.now index.now.rows names.now)) ≤ frame_octets }
     ensures { out.new ≡ out.old ++ flat_map notice_octets (all_notices (nets_in questions.now index.now.rows names.now)) }
@@ -81,7 +81,7 @@ pub(crate) fn append_push(
     names: &[Waiting],
     front: Front,
     questions: &Subscriptions,
-    index: &Table,
+    index: &NameTable,
 ) -> usize
     requires sides { CanBePacked index.now.rows names.now }
     requires names { front.names ≡ length names.now - length (packed_of questions.now index.now.rows names.now).1 }

@@ -15,7 +15,8 @@ use crate::frame::Frame;
 use crate::push::{append_push, drop_front, front_of};
 use crate::waiting::{Waiting, keep_before, take_out, waiting_at, waits};
 use dnsname::Name;
-use rrset::{Key, Question, Shown, Table};
+use nametable::NameTable;
+use rrset::{Key, Question, Shown};
 use std::alloc::Global;
 use std::marker::Model;
 use subscr::Subscriptions;
@@ -103,7 +104,7 @@ impl Queue {
         &'a self,
         name: &Name,
         questions: &'a Subscriptions,
-        index: &'a Table,
+        index: &'a NameTable,
     ) -> bool
         ensures changed { result ≡ differs questions.now index.now.rows (find (is_named name.now) self.now) }
         ensures net { CanBePacked index.now.rows self.now
@@ -123,7 +124,7 @@ impl Queue {
         &self,
         question: &Question,
         questions: &Subscriptions,
-        index: &Table,
+        index: &NameTable,
         out: &mut Frame,
     ) -> usize
         requires side { IsOneSide (at_name question.now.name index.now.rows) }
@@ -140,7 +141,7 @@ impl Queue {
     /// where no name has anything to tell, nothing and 0. The first name with a net always goes in, and others as long
     /// as the message has at most 16,382 octets. The names in front of the first that doesn't fit leave the
     /// queue, also those with nothing to tell; the others stay in their order. It takes no memory.
-    pub fn pack(&mut self, questions: &Subscriptions, index: &Table, out: &mut Frame) -> usize
+    pub fn pack(&mut self, questions: &Subscriptions, index: &NameTable, out: &mut Frame) -> usize
         requires sides { CanBePacked index.now.rows self.old }
         requires room { max_net_frame ≤ frame_octets - length out.old }
         ensures written { out.new ≡ out.old ++ push_frame (packed_of questions.now index.now.rows self.old).0 }

@@ -11,7 +11,8 @@ use crate::form::{append_net, net_size, same_records};
 use crate::frame::Frame;
 use crate::side::{Records, Side};
 use dnsname::Name;
-use rrset::{Key, Shown, Table};
+use nametable::NameTable;
+use rrset::{Key, Shown};
 use std::alloc::Global;
 use std::marker::Model;
 use subscr::Subscriptions;
@@ -106,7 +107,11 @@ impl Waiting {
     }
 
     /// Whether its records differ, as questions ask for them.
-    pub(crate) fn is_changed<'a>(&'a self, questions: &'a Subscriptions, index: &'a Table) -> bool
+    pub(crate) fn is_changed<'a>(
+        &'a self,
+        questions: &'a Subscriptions,
+        index: &'a NameTable,
+    ) -> bool
         ensures { result ≡ is_changed questions.now index.now.rows self.now }
     {
         let old = Records::asked(&self.old, questions);
@@ -115,7 +120,7 @@ impl Waiting {
     }
 
     /// The octets of its net's records, as questions ask for them.
-    pub(crate) fn size<'a>(&'a self, questions: &'a Subscriptions, index: &'a Table) -> u64
+    pub(crate) fn size<'a>(&'a self, questions: &'a Subscriptions, index: &'a NameTable) -> u64
         requires { IsPackable index.now.rows self.now }
         ensures size { result ≡ size_of_notices (asked_net questions.now index.now.rows self.now) }
         ensures most { result ≤ max_net_size }
@@ -130,7 +135,7 @@ impl Waiting {
         &'a self,
         out: &mut Frame,
         questions: &'a Subscriptions,
-        index: &'a Table,
+        index: &'a NameTable,
     )
         requires sides { IsPackable index.now.rows self.now }
         requires room { length out.old + size_of_notices (asked_net questions.now index.now.rows self.now) ≤ frame_octets }

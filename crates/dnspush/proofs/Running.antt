@@ -1,16 +1,20 @@
 -- What a run answers, by what is told of its source.
 use Rattle.std.proofs.Common.{◌≡◌, ◌⊎◌, inl, inr, ⊎_elim, ℕ, Option, Some, None, Err, List, [], ◌∷◌, ◌++◌, length, refl, sym, ◌∙◌, ap, subst, arith, length-append}
 use Rattle.std.proofs.lemmas.List.{append_cancel_left}
+use Rattle.std.specs.Prelude.{fold}
 use Rattle.push_base.specs.Causes.{Rose}
 use Rattle.replay.specs.declared.outcome.Outcome.{Outcome}
 use Rattle.replay.specs.declared.outcome.Outcome.TheVariants.{WriteFault}
 use Rattle.replay.specs.TextWords.{by_history, by_notices}
-use Rattle.replay.specs.BuiltScripts.{front_read, reply_to_script}
+use Rattle.replay.specs.ScriptReplies.{front_read}
 use Rattle.replay.specs.Outcomes.{status_of}
-use Rattle.replay.specs.Reply.{IsFrontOf, Answers, Took, In_full}
+use Rattle.replay.specs.Reply.{IsFrontOf, Answers, Took, In_full, line}
 use Rattle.replay.specs.Sources.{Gave}
 use Rattle.replay.proofs.replies.Written.{Replied, answers_with_cause}
 use Rattle.script_laws.specs.Replies.{RepliesAreOne}
+use Rattle.big_scripts.specs.Scripts.{script_octets, rounds_of}
+use Rattle.big_scripts.specs.Sums.{sums_of_text, no_sums, added}
+use Rattle.big_scripts.specs.Replies.{reply_to_number, summary_of}
 use Rattle.dnspush.specs.declared.outside.OpenFault.{OpenFault}
 use Rattle.dnspush.specs.declared.outside.OpenFault.TheVariants.{Failed}
 use Rattle.dnspush.specs.declared.status.Status.{Status}
@@ -19,11 +23,19 @@ use Rattle.dnspush.specs.Opening.{CountsFailure}
 use Rattle.dnspush.specs.Outside.{Used, AddsUse, IsFresh, RaisedBy, MayHaveGiven}
 use Rattle.dnspush.specs.Runs.{reply_to, MayBeOctets, SourceRose}
 use Rattle.dnspush.specs.Status.{code_of}
-use Rattle.dnspush.specs.Words.{Request, Replay_input, Replay_path, usage}
+use Rattle.dnspush.specs.Tasks.{task_reply}
+use Rattle.dnspush.specs.Words.{Request, On_input, At_path, Big, usage}
+use Rattle.dnspush.specs.declared.tasks.Task.{Task}
+use Rattle.dnspush.specs.declared.tasks.Task.TheVariants.{Replay, Check}
 
--- what a script of these octets is answered
-abbrev pub RepliedTo : Type 0 → Option (List ℕ) → Option (List ℕ) → Outcome → List ℕ → Type 0
-RepliedTo cause taken taken_now result octets = Took taken taken_now (Answers cause (reply_to_script by_notices (front_read octets)) (status_of result))
+-- what is answered to a task on a script of these octets
+abbrev pub RepliedTo : Task → Type 0 → Option (List ℕ) → Option (List ℕ) → Outcome → List ℕ → Type 0
+RepliedTo task cause taken taken_now result octets = Took taken taken_now (Answers cause (task_reply by_notices task (front_read octets)) (status_of result))
+
+-- where the task is known
+pub replied_to : (task known : Task) (cause : Type 0) (left taken taken_now : Option (List ℕ)) (result : Outcome) → task ≡ known
+    → Replied (task_reply by_notices known) cause left taken taken_now result → Replied (task_reply by_notices task) cause left taken taken_now result
+replied_to task known cause left taken taken_now result is h = subst (λ (t : Task). Replied (task_reply by_notices t) cause left taken taken_now result) (sym is) h
 
 -- where one more was added at its end, a list isn't what it was, and the added one is known
 one_added : (before now : List Used) (u : Used) (octets : List ℕ) → now ≡ before ++ u ∷ [] → MayHaveGiven (Some before) (Some now) octets → u.gave ++ u.left ≡ octets
@@ -41,17 +53,17 @@ all_had left (Some start) gave rest fresh h =
     h.1 ∙ ap (λ l. Some (l ++ rest)) (sym (is ∙ ap (λ l. l ++ h.0) fresh))
 
 -- a source that was opened, used and taken back
-pub replied_back : (cause wider : Type 0) (left left_now given given_now taken taken_now : Option (List ℕ)) (before now : Option (List Used)) (result : Outcome)
-    → (cause → wider) → IsFresh given → Gave left left_now given given_now → Replied cause left taken taken_now result → AddsUse before now given_now left_now
-    → (octets : List ℕ) → MayHaveGiven before now octets → RepliedTo wider taken taken_now result octets
-replied_back cause wider left left_now given given_now taken taken_now None now result brings fresh moved replied adds octets may = absurd may
-replied_back cause wider left left_now given given_now taken taken_now (Some before) None result brings fresh moved replied adds octets may = absurd may
-replied_back cause wider left left_now given None taken taken_now (Some before) (Some now) result brings fresh moved replied adds octets may = absurd adds
-replied_back cause wider left None given (Some gave) taken taken_now (Some before) (Some now) result brings fresh moved replied adds octets may = absurd adds
-replied_back cause wider left (Some rest) given (Some gave) taken taken_now (Some before) (Some now) result brings fresh moved replied adds octets may =
+pub replied_back : (task : Task) (cause wider : Type 0) (left left_now given given_now taken taken_now : Option (List ℕ)) (before now : Option (List Used)) (result : Outcome)
+    → (cause → wider) → IsFresh given → Gave left left_now given given_now → Replied (task_reply by_notices task) cause left taken taken_now result → AddsUse before now given_now left_now
+    → (octets : List ℕ) → MayHaveGiven before now octets → RepliedTo task wider taken taken_now result octets
+replied_back task cause wider left left_now given given_now taken taken_now None now result brings fresh moved replied adds octets may = absurd may
+replied_back task cause wider left left_now given given_now taken taken_now (Some before) None result brings fresh moved replied adds octets may = absurd may
+replied_back task cause wider left left_now given None taken taken_now (Some before) (Some now) result brings fresh moved replied adds octets may = absurd adds
+replied_back task cause wider left None given (Some gave) taken taken_now (Some before) (Some now) result brings fresh moved replied adds octets may = absurd adds
+replied_back task cause wider left (Some rest) given (Some gave) taken taken_now (Some before) (Some now) result brings fresh moved replied adds octets may =
     let all = all_had left given gave rest fresh moved in
     let had : gave ++ rest ≡ octets = one_added before now (record { gave = gave; left = rest }) octets adds may in
-    let told = subst (RepliedTo cause taken taken_now result) had (subst (λ l. Replied cause l taken taken_now result) all replied) in
+    let told = subst (RepliedTo task cause taken taken_now result) had (subst (λ l. Replied (task_reply by_notices task) cause l taken taken_now result) all replied) in
     (told.0, told.1, answers_with_cause cause wider _ _ _ brings told.2)
 
 -- a fault of a source that was taken back
@@ -88,22 +100,36 @@ usage_answered input_rose outside_rose request octets taken taken_now result cod
     )
 
 -- told from the notices it is what is told from the history
-as_history : RepliesAreOne → (cause : Type 0) (taken taken_now : Option (List ℕ)) (octets : List ℕ) (result : Outcome)
-    → RepliedTo cause taken taken_now result octets → Took taken taken_now (Answers cause (reply_to_script by_history (front_read octets)) (status_of result))
-as_history one cause taken taken_now octets result h = subst (λ r. Took taken taken_now (Answers cause r (status_of result))) (one (front_read octets)) h
+as_history : RepliesAreOne → (task : Task) (cause : Type 0) (taken taken_now : Option (List ℕ)) (octets : List ℕ) (result : Outcome)
+    → RepliedTo task cause taken taken_now result octets → Took taken taken_now (Answers cause (task_reply by_history task (front_read octets)) (status_of result))
+as_history one Replay cause taken taken_now octets result h = subst (λ r. Took taken taken_now (Answers cause r (status_of result))) (one (front_read octets)) h
+as_history one Check cause taken taken_now octets result h = h
 
-pub input_answered : RepliesAreOne → (input_rose outside_rose : Type 0) (request : Option Request) (input taken taken_now : Option (List ℕ)) (before now : Option (List Used)) (octets : List ℕ) (result : Outcome) (code : ℕ)
-    → Some Replay_input ≡ request → code ≡ status_of result → Replied input_rose input taken taken_now result → MayBeOctets request input before now octets
+pub input_answered : RepliesAreOne → (input_rose outside_rose : Type 0) (request : Option Request) (task : Task) (input taken taken_now : Option (List ℕ)) (before now : Option (List Used)) (octets : List ℕ) (result : Outcome) (code : ℕ)
+    → Some (On_input task) ≡ request → code ≡ status_of result → Replied (task_reply by_notices task) input_rose input taken taken_now result → MayBeOctets request input before now octets
     → Took taken taken_now (Answers (SourceRose request input_rose outside_rose) (reply_to request octets) code)
-input_answered one input_rose outside_rose request input taken taken_now before now octets result code is code_is replied may =
+input_answered one input_rose outside_rose request task input taken taken_now before now octets result code is code_is replied may =
     let told : input ≡ Some octets = subst (λ r. MayBeOctets r input before now octets) (sym is) may in
-    answers_by (λ r. SourceRose r input_rose outside_rose) request (Some Replay_input) octets taken taken_now result code is code_is
-    (as_history one input_rose taken taken_now octets result (subst (λ i. Replied input_rose i taken taken_now result) told replied))
+    answers_by (λ r. SourceRose r input_rose outside_rose) request (Some (On_input task)) octets taken taken_now result code is code_is
+    (as_history one task input_rose taken taken_now octets result (subst (λ i. Replied (task_reply by_notices task) input_rose i taken taken_now result) told replied))
 
-pub path_answered : RepliesAreOne → (input_rose outside_rose : Type 0) (request : Option Request) (path : List ℕ) (input taken taken_now : Option (List ℕ)) (before now : Option (List Used)) (octets : List ℕ) (result : Outcome) (code : ℕ)
-    → Some (Replay_path path) ≡ request → code ≡ status_of result → (MayHaveGiven before now octets → RepliedTo outside_rose taken taken_now result octets) → MayBeOctets request input before now octets
+pub path_answered : RepliesAreOne → (input_rose outside_rose : Type 0) (request : Option Request) (task : Task) (path : List ℕ) (input taken taken_now : Option (List ℕ)) (before now : Option (List Used)) (octets : List ℕ) (result : Outcome) (code : ℕ)
+    → Some (At_path task path) ≡ request → code ≡ status_of result → (MayHaveGiven before now octets → RepliedTo task outside_rose taken taken_now result octets) → MayBeOctets request input before now octets
     → Took taken taken_now (Answers (SourceRose request input_rose outside_rose) (reply_to request octets) code)
-path_answered one input_rose outside_rose request path input taken taken_now before now octets result code is code_is replied may =
+path_answered one input_rose outside_rose request task path input taken taken_now before now octets result code is code_is replied may =
     let told : MayHaveGiven before now octets = subst (λ r. MayBeOctets r input before now octets) (sym is) may in
-    answers_by (λ r. SourceRose r input_rose outside_rose) request (Some (Replay_path path)) octets taken taken_now result code is code_is
-    (as_history one outside_rose taken taken_now octets result (replied told))
+    answers_by (λ r. SourceRose r input_rose outside_rose) request (Some (At_path task path)) octets taken taken_now result code is code_is
+    (as_history one task outside_rose taken taken_now octets result (replied told))
+
+numbers_as_history : RepliesAreOne → (number : ℕ) → reply_to_number by_notices number ≡ reply_to_number by_history number
+numbers_as_history one number = λ i. record {
+  status = 0;
+  text = line (summary_of number (fold (λ sums rounds. added sums (sums_of_text (one (script_octets rounds) i).text)) no_sums (rounds_of number)));
+}
+
+pub number_answered : RepliesAreOne → (input_rose outside_rose : Type 0) (request : Option Request) (number : ℕ) (taken taken_now : Option (List ℕ)) (octets : List ℕ) (result : Outcome) (code : ℕ)
+    → Some (Big number) ≡ request → code ≡ status_of result → Took taken taken_now (Answers ⊥ (reply_to_number by_notices number) (status_of result))
+    → Took taken taken_now (Answers (SourceRose request input_rose outside_rose) (reply_to request octets) code)
+number_answered one input_rose outside_rose request number taken taken_now octets result code is code_is replied =
+    answers_by (λ r. SourceRose r input_rose outside_rose) request (Some (Big number)) octets taken taken_now result code is code_is
+    (subst (λ r. Took taken taken_now (Answers ⊥ r (status_of result))) (numbers_as_history one number) replied)

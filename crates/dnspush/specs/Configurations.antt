@@ -1,6 +1,6 @@
 -- Configurations: texts of lines, as scripts are.
 --     serving_of text, subscribing_of text      the configuration, or the number of the first line outside
-use Rattle.std.specs.Prelude.{ℕ, ◌+◌, not, ◌&&◌, ◌||◌, List, [], ◌∷◌, ◌++◌, length, min, Option, Some, None, Result, Ok, Err, is_some, nat_lt, nat_le, ◌==◌, codes, option_map, if◌then◌else◌}
+use Rattle.std.specs.Prelude.{ℕ, ◌+◌, not, ◌&&◌, ◌||◌, List, [], ◌∷◌, ◌++◌, length, min, Option, Some, None, Result, Ok, Err, is_some, nat_lt, nat_le, codes, option_map, if◌then◌else◌}
 use Rattle.std.specs.List.{list_any}
 use Rattle.std.specs.Str.{bytes_eq, is_utf8}
 use Rattle.push_base.specs.Cases.{is_empty}

@@ -1,4 +1,5 @@
 pub mod Words
+pub mod Tasks
 pub mod Runs
 pub mod Status
 pub mod Outside

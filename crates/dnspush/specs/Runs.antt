@@ -1,6 +1,7 @@
 -- What a run does for what its words ask.
 --     reply_to request octets      what is answered, given the octets of the source that the request names
---     AsksServed request script asked, AsksInPieces request script sent, AsksFor request octets script      the script that is asked for is one of which a promise speaks
+--     AsksReplay request      a script is to be run
+--     AsksServed request script asked, AsksAccepted request script asked, AsksInPieces request script sent, AsksFed request script fed, AsksFor request octets script      the script that is to be run is one of which a promise speaks
 --     IsAnswered request .. octets reply      where these may be the octets of the source, this reply was written, or what a fault leaves of it
 --     LeavesRest, OpensPath, InputStays      what becomes of the source, the path, and the input
 use Rattle.std.specs.Prelude.{◌≡◌, ◌⊎◌, ⊤, ℕ, Some, None, Ok, List, [], ◌∷◌, ◌++◌}
@@ -10,44 +11,64 @@ use Rattle.replay.specs.Lines.{ScriptLine}
 use Rattle.replay.specs.Scripts.{script_of}
 use Rattle.replay.specs.Reply.{Reply, Answers, Took}
 use Rattle.replay.specs.TextWords.{by_history}
-use Rattle.replay.specs.BuiltScripts.{front_read, left_behind, first_later, reply_to_script}
+use Rattle.replay.specs.ScriptReplies.{front_read, left_behind}
 use Rattle.replay.specs.Sources.{HasRead, LeftBehind}
 use Rattle.replay.specs.Serving.{Asked, AsksFirst}
 use Rattle.replay.specs.ScriptPieces.{SentInPieces, SendsPieces}
+use Rattle.replay.specs.FedLines.{Fed, FeedsLone}
+use Rattle.script_laws.specs.Sending.{Asks, AsksAnywhere}
+use Rattle.big_scripts.specs.Replies.{reply_to_number}
 use Rattle.dnspush.specs.Outside.{Used, Adds, MayHaveGiven}
-use Rattle.dnspush.specs.Words.{Request, Replay_input, Replay_path, usage}
+use Rattle.dnspush.specs.Tasks.{task_reply}
+use Rattle.dnspush.specs.Words.{Request, On_input, At_path, Big, usage}
+use Rattle.dnspush.specs.declared.tasks.Task.TheVariants.{Replay}
 
 -- what is answered, given the octets of the source that the request names
 abbrev pub reply_to : Option Request → List ℕ → Reply
 reply_to None octets = record { status = 1; text = usage }
-reply_to (Some request) octets = reply_to_script by_history (front_read octets)
+reply_to (Some (On_input task)) octets = task_reply by_history task (front_read octets)
+reply_to (Some (At_path task path)) octets = task_reply by_history task (front_read octets)
+reply_to (Some (Big number)) octets = reply_to_number by_history number
 
--- a script is asked for in which a peer's first SUBSCRIBE is accepted
+-- a script is to be run
+abbrev pub AsksReplay : Option Request → Type 0
+AsksReplay (Some (On_input Replay)) = ⊤
+AsksReplay (Some (At_path Replay path)) = ⊤
+AsksReplay request = ⊥
+
+-- a script is to be run in which a peer's first SUBSCRIBE is accepted
 abbrev pub AsksServed : Option Request → List ℕ → Asked → Type 0
-AsksServed None script asked = ⊥
-AsksServed (Some request) script asked = AsksFirst script asked
+AsksServed request script asked = AsksReplay request × AsksFirst script asked
 
--- a script is asked for in which a peer sends its octets in pieces
+-- one in which, at any line, on any session, after any messages, a peer's SUBSCRIBE meets none of the refusing tests in its turn
+abbrev pub AsksAccepted : Option Request → List ℕ → Asks → Type 0
+AsksAccepted request script asked = AsksReplay request × AsksAnywhere script asked
+
+-- a script is to be run in which a peer sends its octets in pieces, and its session goes on or ends with the last one
 abbrev pub AsksInPieces : Option Request → List ℕ → SentInPieces → Type 0
-AsksInPieces None script sent = ⊥
-AsksInPieces (Some request) script sent = SendsPieces script sent
+AsksInPieces request script sent = AsksReplay request × SendsPieces script sent
 
--- a script is asked for whose lines are built, and these are its lines
+-- one in which a lone client that is connected is fed
+abbrev pub AsksFed : Option Request → List ℕ → Fed → Type 0
+AsksFed request script fed = AsksReplay request × FeedsLone script fed
+
+-- a script is to be run, and these are its lines
 abbrev pub AsksFor : Option Request → List ℕ → List ScriptLine → Type 0
-AsksFor None octets script = ⊥
-AsksFor (Some request) octets script = (first_later octets ≡ None) × (script_of octets ≡ Ok script)
+AsksFor request octets script = AsksReplay request × (script_of octets ≡ Ok script)
 
--- by what is told, these may be the octets of the source that the request names
+-- by what is told, these may be the octets of the source that the request names; any, where it names none
 abbrev pub MayBeOctets : Option Request → Option (List ℕ) → Option (List Used) → Option (List Used) → List ℕ → Type 0
 MayBeOctets None input before now octets = ⊤
-MayBeOctets (Some Replay_input) input before now octets = input ≡ Some octets
-MayBeOctets (Some (Replay_path path)) input before now octets = MayHaveGiven before now octets
+MayBeOctets (Some (On_input task)) input before now octets = input ≡ Some octets
+MayBeOctets (Some (At_path task path)) input before now octets = MayHaveGiven before now octets
+MayBeOctets (Some (Big number)) input before now octets = ⊤
 
 -- the count that must have risen for a read fault: the input's, or the outside's
 abbrev pub SourceRose : Option Request → Type 0 → Type 0 → Type 0
 SourceRose None input outside = ⊥
-SourceRose (Some Replay_input) input outside = input
-SourceRose (Some (Replay_path path)) input outside = outside
+SourceRose (Some (On_input task)) input outside = input
+SourceRose (Some (At_path task path)) input outside = outside
+SourceRose (Some (Big number)) input outside = ⊥
 
 -- Where these may be the octets of the source, this reply was written with the status, or what a fault leaves of it. Told are what the
 -- input had left, and before the run and behind it the sources that were taken back, what the sink took, and the counts of the faults of the input and of the outside.
@@ -64,17 +85,20 @@ UsesWhole (Some before) (Some now) = (u : Used) × (now ≡ before ++ u ∷ []) 
 -- once the script was read, only what is behind a script too long is left of its source
 abbrev pub LeavesRest : Option Request → ℕ → Option (List ℕ) → Option (List ℕ) → Option (List Used) → Option (List Used) → Type 0
 LeavesRest None status left now before after = ⊤
-LeavesRest (Some Replay_input) status left now before after = HasRead status → LeftBehind left now
-LeavesRest (Some (Replay_path path)) status left now before after = HasRead status → UsesWhole before after
+LeavesRest (Some (On_input task)) status left now before after = HasRead status → LeftBehind left now
+LeavesRest (Some (At_path task path)) status left now before after = HasRead status → UsesWhole before after
+LeavesRest (Some (Big number)) status left now before after = ⊤
 
 -- the path alone is handed to `open`, once; with 4 and 5 perhaps not
 abbrev pub OpensPath : Option Request → Option (List (List ℕ)) → Option (List (List ℕ)) → ℕ → Type 0
-OpensPath (Some (Replay_path path)) before now status = Adds before now path ⊎ ((now ≡ before) × ((status ≡ 4) ⊎ (status ≡ 5)))
+OpensPath (Some (At_path task path)) before now status = Adds before now path ⊎ ((now ≡ before) × ((status ≡ 4) ⊎ (status ≡ 5)))
 OpensPath None before now status = now ≡ before
-OpensPath (Some Replay_input) before now status = now ≡ before
+OpensPath (Some (On_input task)) before now status = now ≡ before
+OpensPath (Some (Big number)) before now status = now ≡ before
 
 -- the input stays as it is, but where it is asked for
 abbrev pub InputStays : {A : Type 0} → Option Request → A → A → Type 0
-InputStays (Some Replay_input) before now = ⊤
+InputStays (Some (On_input task)) before now = ⊤
 InputStays None before now = now ≡ before
-InputStays (Some (Replay_path path)) before now = now ≡ before
+InputStays (Some (At_path task path)) before now = now ≡ before
+InputStays (Some (Big number)) before now = now ≡ before

@@ -1,4 +1,4 @@
-//! Replays scripts of DNS Push sessions.
+//! Replays scripts of DNS Push sessions, and checks them.
 #![tactic(auto)]
 
 mod adapters;
@@ -7,6 +7,7 @@ mod mem_outside;
 mod outside;
 mod program;
 mod status;
+mod tasks;
 #[cfg(test)]
 mod tests;
 mod words;

@@ -3,27 +3,30 @@
 ghost use Rattle.std.specs.Prelude.{◌≡◌, ◌+◌, ◌⊎◌, ℕ, List, IsNone};
 ghost use Rattle.push_base.specs.Causes.{Rose};
 ghost use Rattle.replay.specs.Promises.{KeepsPromises};
+ghost use Rattle.replay.specs.FedLines.{Fed, fed_reply};
 ghost use Rattle.replay.specs.Lines.{ScriptLine};
 ghost use Rattle.replay.specs.Scripts.{max_script};
-ghost use Rattle.replay.specs.BuiltScripts.{front_read, reply_to_script};
-ghost use Rattle.replay.specs.Outcomes.{status_of};
+ghost use Rattle.replay.specs.ScriptReplies.{front_read};
 ghost use Rattle.replay.specs.ScriptPieces.{SentInPieces, TellsInTurn, pieces_reply};
-ghost use Rattle.replay.specs.Reply.{Answers, IsFrontOf, Took};
+ghost use Rattle.replay.specs.Reply.{IsFrontOf, Took};
 ghost use Rattle.replay.specs.Serving.{Asked, served_reply};
-ghost use Rattle.replay.specs.Sources.{HasRead, LostAtMost};
-ghost use Rattle.replay.specs.TextWords.{by_history, by_notices};
-ghost use Rattle.dnspush.specs.Outside.{Adds, MayHaveGiven};
-ghost use Rattle.dnspush.specs.Runs.{AsksFor, AsksInPieces, AsksServed, InputStays, IsAnswered, LeavesRest, OpensPath, SourceRose, UsesWhole, reply_to};
+ghost use Rattle.script_laws.specs.Sending.{Asks, AskIsAnswered, asked_reply};
+ghost use Rattle.replay.specs.Sources.{LostAtMost};
+ghost use Rattle.replay.specs.TextWords.{by_history};
+ghost use Rattle.dnspush.specs.Runs.{AsksAccepted, AsksFed, AsksFor, AsksInPieces, AsksServed, InputStays, IsAnswered, LeavesRest, OpensPath, SourceRose, reply_to};
 ghost use Rattle.dnspush.specs.Status.{code_of};
 ghost use Rattle.dnspush.specs.Words.{request_in, usage};
 ghost use Rattle.dnspush.specs.declared.status.Status.{Status};
 
-use crate::outside::{OpenFault, Outside};
+use crate::outside::Outside;
 use crate::status::Status;
+use crate::tasks::{at_path, on_source};
 use crate::words::{Command, read_words};
+use big_scripts::tell_sums;
 use push_base::{Failed, Sink};
-use replay::{NO_MEMORY, Outcome, READ_FAULT, replay, tell, write_all};
-use script_laws::{built_scripts_keep_promises, replies_are_one};
+use replay::laws::lone_clients_react_to_each_message;
+use replay::{Outcome, write_all};
+use script_laws::{replies_are_one, scripts_keep_promises, sends_are_answered};
 use std::alloc::Global;
 
 /// What is written where the words aren't as they should be: a line that names all commands, also those that aren't
@@ -44,17 +47,30 @@ pub fn run<O: Outside>(
         IsAnswered (request_in words.now) (O.In.left input.old) (O.used outside.old) (O.used outside.new) (O.Out.taken out.old) (O.Out.taken out.new)
         (O.In.faults input.old) (O.In.faults input.new) (O.reads outside.old) (O.reads outside.new) result octets (reply_to (request_in words.now) octets) }
 
-    // In every built script a peer's first SUBSCRIBE that a new session accepts is answered NOERROR, and the records follow.
+    // In every script a peer's first SUBSCRIBE that a new session accepts is answered NOERROR, and the records follow.
     ensures served { (octets : List ℕ) (asked : Asked) → AsksServed (request_in words.now) (front_read octets) asked →
         IsAnswered (request_in words.now) (O.In.left input.old) (O.used outside.old) (O.used outside.new) (O.Out.taken out.old) (O.Out.taken out.new)
         (O.In.faults input.old) (O.In.faults input.new) (O.reads outside.old) (O.reads outside.new) result octets (served_reply by_history asked) }
 
-    // In every built script, as long as no entry is made, what is told of the pieces in which a peer sends its octets answers the whole messages that they complete.
+    // In every script, at any line, on any session, after any messages, a peer's SUBSCRIBE that meets none of the refusing tests is answered
+    // NOERROR, and the records follow.
+    ensures asked { (octets : List ℕ) (asked : Asks) (asks : AsksAccepted (request_in words.now) (front_read octets) asked) → (answer : AskIsAnswered by_history (front_read octets) asked asks.1) ×
+        IsAnswered (request_in words.now) (O.In.left input.old) (O.used outside.old) (O.used outside.new) (O.Out.taken out.old) (O.Out.taken out.new)
+        (O.In.faults input.old) (O.In.faults input.new) (O.reads outside.old) (O.reads outside.new) result octets
+        (asked_reply by_history (front_read octets) asked asks.1 answer.front answer.back answer.over) }
+
+    // In every script, as long as no entry is made, what is told of the pieces in which a peer sends its octets answers the whole messages that
+    // they complete; where the last piece ends its session, the line of the end stands behind it.
     ensures pieces { (octets : List ℕ) (sent : SentInPieces) → AsksInPieces (request_in words.now) (front_read octets) sent → (told : List (List ℕ)) × TellsInTurn sent told ×
         IsAnswered (request_in words.now) (O.In.left input.old) (O.used outside.old) (O.used outside.new) (O.Out.taken out.old) (O.Out.taken out.new)
         (O.In.faults input.old) (O.In.faults input.new) (O.reads outside.old) (O.reads outside.new) result octets (pieces_reply by_history sent told) }
 
-    // In every built script no `held` line shows an earlier point than one before it of that client and question, and right after a settle each
+    // In every script a lone client reacts to each whole message that it is fed, one after the other.
+    ensures fed { (octets : List ℕ) (fed : Fed) → AsksFed (request_in words.now) (front_read octets) fed →
+        IsAnswered (request_in words.now) (O.In.left input.old) (O.used outside.old) (O.used outside.new) (O.Out.taken out.old) (O.Out.taken out.new)
+        (O.In.faults input.old) (O.In.faults input.new) (O.reads outside.old) (O.reads outside.new) result octets (fed_reply by_history fed) }
+
+    // In every script no `held` line shows an earlier point than one before it of that client and question, and right after a settle each
     // question that a client wants, and that is served, is held with the newest records.
     ensures promises { (octets : List ℕ) (script : List ScriptLine) → AsksFor (request_in words.now) (front_read octets) script → KeepsPromises script }
 
@@ -76,14 +92,17 @@ pub fn run<O: Outside>(
     ensures input { InputStays (request_in words.now) input.old input.new }
 {
     replies_are_one();
-    built_scripts_keep_promises();
+    sends_are_answered();
+    lone_clients_react_to_each_message();
+    scripts_keep_promises();
     match read_words(words) {
         None => tell_usage(out).code(),
-        Some(Command::ReplayInput) => Status::Ended(replay(alloc, input, out).outcome).code(),
-        Some(Command::ReplayPath(path)) => {
-            let outcome = replay_path(alloc, path, out, outside);
+        Some(Command::OnInput(task)) => Status::Ended(on_source(alloc, task, input, out)).code(),
+        Some(Command::AtPath(task, path)) => {
+            let outcome = at_path(alloc, task, path, out, outside);
             Status::Ended(outcome).code()
         }
+        Some(Command::Big(number)) => Status::Ended(tell_sums(alloc, number, out)).code(),
     }
 }
 
@@ -96,27 +115,5 @@ fn tell_usage<K: Sink>(out: &mut K) -> Status
     match write_all(out, USAGE) {
         Ok(()) => Status::Usage,
         Err(Failed) => Status::Ended(Outcome::WriteFault),
-    }
-}
-
-// Replays the script at a path, and hands its source back.
-fn replay_path<O: Outside>(alloc: Global, path: &str, out: &mut O::Out, outside: &mut O) -> Outcome
-    ensures replied { (octets : List ℕ) → MayHaveGiven (O.used outside.old) (O.used outside.new) octets →
-        Took (O.Out.taken out.old) (O.Out.taken out.new)
-        (Answers (Rose (O.reads outside.old) (O.reads outside.new)) (reply_to_script by_notices (front_read octets)) (status_of result)) }
-    ensures read_fault { result ≡ Outcome.ReadFault → Rose (O.reads outside.old) (O.reads outside.new) }
-    ensures write_fault { result ≡ Outcome.WriteFault → Rose (O.Out.faults out.old) (O.Out.faults out.new) }
-    ensures rest { HasRead (status_of result) → UsesWhole (O.used outside.old) (O.used outside.new) }
-    ensures opened { Adds (O.opened outside.old) (O.opened outside.new) path.now
-        ⊎ ((O.opened outside.new ≡ O.opened outside.old) × ((result ≡ Outcome.NoMemory) ⊎ (result ≡ Outcome.WriteFault))) }
-{
-    match outside.open(path) {
-        Ok(mut source) => {
-            let replayed = replay(alloc, &mut source, out);
-            outside.back_in(source);
-            replayed.outcome
-        }
-        Err(OpenFault::Failed) => tell(out, Outcome::ReadFault, READ_FAULT),
-        Err(OpenFault::NoMemory) => tell(out, Outcome::NoMemory, NO_MEMORY),
     }
 }

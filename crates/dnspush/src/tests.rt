@@ -12,6 +12,17 @@ use std::test::Fail;
 const TOLD: &[u8] =
     b"open c\nasked c new\nsettle c\nshow c printer.example.com. 1 1 held 0\nupdate 0\nsettle c\nshow c printer.example.com. 1 1 held 1\nrr printer.example.com. 120 1 1 c0000201\n";
 
+// A script's pieces, and the status and the text with which it is checked.
+const CHECKED: &[(&[&[u8]], u8, &str)] = &[
+    (&[], 0, "good 0\n"),
+    (&[b"client c\n#\n", b"\nopen c"], 0, "good 4\n"),
+    (
+        &[b"client c\nopen c\n", b"ask c example.com. 6"],
+        2,
+        "line 3\n",
+    ),
+];
+
 // What a run answered and wrote.
 #[derive(Drop)]
 struct Ran {
@@ -67,6 +78,25 @@ fn replay_pieces(
     run_over(alloc, &["replay", "-"], pieces, fails, limits, outside)
 }
 
+// Checks a script that comes in these pieces, which has this status and this text.
+fn is_checked_so(alloc: Global, pieces: &[&[u8]], status: u8, text: &str) -> Result<(), Fail> {
+    let outside = MemOutside::new(alloc, Vec::new(alloc));
+    let (fails, limits) = (Vec::new(alloc), Vec::new(alloc));
+    let ran = run_over(alloc, &["check", "-"], pieces, fails, limits, outside)?;
+    if ran.status == status && ran.wrote.as_slice() == text.as_bytes() {
+        return Ok(());
+    }
+    Err(Fail::new(format_args!("{text}: status {}", ran.status)))
+}
+
+#[test]
+fn scripts_that_are_checked(rt: HostRuntime) -> Result<(), Fail> {
+    for (pieces, status, text) in CHECKED {
+        is_checked_so(rt.alloc(), pieces, *status, text)?;
+    }
+    Ok(())
+}
+
 #[test]
 fn a_read_that_fails(rt: HostRuntime) -> Result<(), Fail> {
     let alloc = rt.alloc();
@@ -82,7 +112,7 @@ fn a_sink_that_takes_nothing(rt: HostRuntime) -> Result<(), Fail> {
     let alloc = rt.alloc();
     let ran = replay_pieces(alloc, &[b"x"], Vec::new(alloc), vec![in alloc; 3, 0]?)?;
     assert_eq!(rt; ran.status, 5);
-    assert_eq!(rt; ran.wrote.as_slice(), b"lat".as_slice());
+    assert_eq!(rt; ran.wrote.as_slice(), b"lin".as_slice());
     Ok(())
 }
 
@@ -119,8 +149,8 @@ fn a_script_at_a_path(rt: HostRuntime) -> Result<(), Fail> {
         Vec::new(alloc),
         outside,
     )?;
-    assert_eq!(rt; ran.status, 8);
-    assert_eq!(rt; ran.wrote.as_slice(), b"later 2\n".as_slice());
+    assert_eq!(rt; ran.status, 2);
+    assert_eq!(rt; ran.wrote.as_slice(), b"line 2\n".as_slice());
     let ran = run_over(
         alloc,
         &words,
@@ -134,6 +164,26 @@ fn a_script_at_a_path(rt: HostRuntime) -> Result<(), Fail> {
     assert_eq!(rt; ran.outside.reads(), 1);
     assert_eq!(rt; ran.outside.opened().len(), 2);
     assert_eq!(rt; ran.outside.used().len(), 1);
+    Ok(())
+}
+
+// The sums over the text of the one script of 1, which has one round.
+#[test]
+fn the_scripts_of_a_number(rt: HostRuntime) -> Result<(), Fail> {
+    let alloc = rt.alloc();
+    let ran = run_over(
+        alloc,
+        &["big", "1"],
+        &[],
+        Vec::new(alloc),
+        Vec::new(alloc),
+        MemOutside::new(alloc, Vec::new(alloc)),
+    )?;
+    assert_eq!(rt; ran.status, 0);
+    assert_eq!(rt;
+        ran.wrote.as_slice(),
+        b"big 1 points 2 held 2 lines 14\n".as_slice()
+    );
     Ok(())
 }
 

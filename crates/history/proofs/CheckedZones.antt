@@ -107,7 +107,7 @@ first-within zones apex i is =
 
 -- an accepted update's plan is one of the zone's, which has room for its keys
 pub room-at : (zones now : List ZoneKept) (links : List LinkKept) (update : Update) (apex : Labels) (i : ℕ) (under : List Labels) (changed : List Changed) → Some i ≡ first_named zones apex → UnderAt zones links i under
-    → JudgesAt zones i under update (verdicts.Accept changed) → states now ≡ states zones → ((zone : ZoneKept) → slice_get now i ≡ Some zone → HasRoom zone.spare (verdicts.Accept changed)) → IsCheckReady now (results.Accept i changed)
+    → JudgesAt zones i under update (verdicts.Accept changed) → states now ≡ states zones → ((zone : ZoneKept) → slice_get now i ≡ Some zone → HasRoom zone.nodes (verdicts.Accept changed)) → IsCheckReady now (results.Accept i changed)
 room-at zones now links update apex i under changed found is judges same room =
     let old = element_here zones i (first-within zones apex i found) in
     let later = element_at (λ (z : ZoneKept). z.state) now i old.0.state (ap (λ (ss : List ZoneState). slice_get ss i) same ∙ slice_get-map (λ (z : ZoneKept). z.state) zones i old.0 old.1) in

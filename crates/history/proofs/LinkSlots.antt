@@ -5,7 +5,7 @@ use Rattle.std.specs.List.{AllZip}
 use Rattle.push_base.specs.Cases.{changed_at}
 use Rattle.rrset.specs.declared.record.Key.{Key}
 use Rattle.rrset.specs.declared.record.HeardRr.{HeardRr}
-use Rattle.linkcache.specs.Links.{LinkState, LinkKept}
+use Rattle.linkcache.specs.Links.{LinkState, LinkKept, HasRoom}
 use Rattle.linkcache.specs.Plans.{LinkPlan, IsPlanOf, IsHeardPlan, IsMomentPlan, IsReconfirmPlan}
 use Rattle.linkcache.specs.Rows.{at_moment, heard, reconfirmed}
 use Rattle.history.specs.LinkSteps.{EndsBy}
@@ -19,25 +19,25 @@ link_states links = map (λ l. l.state) links
 
 -- a plan that was made of the link at a place, which was put back with room for it
 pub ready-here : {E : Type 0} (links : List LinkKept) (i : ℕ) (old new : LinkKept) (r : Result LinkPlan E) → i < length links → new.state ≡ (get_or links i old).state
-    → IfOk r (IsPlanOf (get_or links i old).state.domain (get_or links i old).state.rows) → IfOk r (λ plan. length plan.rows ≤ new.spare) → IfOk r (IsLinkReady (slice_get (set links i new) i))
+    → IfOk r (IsPlanOf (get_or links i old).state.domain (get_or links i old).state.rows) → IfOk r (λ plan. HasRoom plan.rows new) → IfOk r (IsLinkReady (slice_get (set links i new) i))
 ready-here links i old new (Err e) h same planned room = tt
 ready-here links i old new (Ok plan) h same planned room =
     subst (λ o. IsLinkReady o plan) (sym (slice_get-set links i new h)) (record { planned = subst (λ (s : LinkState). IsPlanOf s.domain s.rows plan) (sym same) planned; room = room })
 
 pub ready-heard : {E : Type 0} (links : List LinkKept) (i : ℕ) (old new : LinkKept) (now : ℕ) (hearing : List HeardRr) (r : Result LinkPlan E) → i < length links → new.state ≡ (get_or links i old).state
-    → IfOk r (IsHeardPlan (get_or links i old).state.domain (get_or links i old).state.rows now hearing) → IfOk r (λ plan. length plan.rows ≤ new.spare) → IfOk r (IsLinkReady (slice_get (set links i new) i))
+    → IfOk r (IsHeardPlan (get_or links i old).state.domain (get_or links i old).state.rows now hearing) → IfOk r (λ plan. HasRoom plan.rows new) → IfOk r (IsLinkReady (slice_get (set links i new) i))
 ready-heard links i old new now hearing r h same planned room =
     let s = (get_or links i old).state in
     ready-here links i old new r h same (ok-as (IsHeardPlan s.domain s.rows now hearing) (IsPlanOf s.domain s.rows) (λ plan is. (heard s.domain s.rows now hearing, is.leads)) r planned) room
 
 pub ready-reconfirmed : {E : Type 0} (links : List LinkKept) (i : ℕ) (old new : LinkKept) (key : Key) (now : ℕ) (r : Result LinkPlan E) → i < length links → new.state ≡ (get_or links i old).state
-    → IfOk r (IsReconfirmPlan (get_or links i old).state.domain (get_or links i old).state.rows key now) → IfOk r (λ plan. length plan.rows ≤ new.spare) → IfOk r (IsLinkReady (slice_get (set links i new) i))
+    → IfOk r (IsReconfirmPlan (get_or links i old).state.domain (get_or links i old).state.rows key now) → IfOk r (λ plan. HasRoom plan.rows new) → IfOk r (IsLinkReady (slice_get (set links i new) i))
 ready-reconfirmed links i old new key now r h same planned room =
     let s = (get_or links i old).state in
     ready-here links i old new r h same (ok-as (IsReconfirmPlan s.domain s.rows key now) (IsPlanOf s.domain s.rows) (λ plan is. (reconfirmed s.rows key now, is.leads)) r planned) room
 
 pub ready-moment : {E : Type 0} (links : List LinkKept) (i : ℕ) (old new : LinkKept) (now : ℕ) (r : Result LinkPlan E) → i < length links → new.state ≡ (get_or links i old).state
-    → IfOk r (IsMomentPlan (get_or links i old).state.domain (get_or links i old).state.rows now) → IfOk r (λ plan. length plan.rows ≤ new.spare) → IfOk r (IsLinkReady (slice_get (set links i new) i))
+    → IfOk r (IsMomentPlan (get_or links i old).state.domain (get_or links i old).state.rows now) → IfOk r (λ plan. HasRoom plan.rows new) → IfOk r (IsLinkReady (slice_get (set links i new) i))
 ready-moment links i old new now r h same planned room =
     let s = (get_or links i old).state in
     ready-here links i old new r h same (ok-as (IsMomentPlan s.domain s.rows now) (IsPlanOf s.domain s.rows) (λ plan is. (at_moment s.rows now, is.leads)) r planned) room

@@ -1,23 +1,24 @@
 -- What an update gets of zones that are kept one behind another, and what a plan makes of one of them.
-use Rattle.std.proofs.Common.{◌≡◌, ℕ, ◌<◌, ◌≤◌, List, length, get_or, set, map, Option, Some, None, Result, Ok, Err, refl, sym, subst, ◌∙◌}
+use Rattle.std.proofs.Common.{◌≡◌, ℕ, ◌<◌, List, length, get_or, set, map, Option, Some, None, Result, Ok, Err, refl, sym, subst, ◌∙◌}
 use Rattle.std.specs.Prelude.{slice_get, IfOk}
 use Rattle.push_base.specs.Cases.{changed_at}
 use Rattle.rrset.specs.RecordSet.{RecordSet}
 use Rattle.rrset.specs.declared.record.Changed.{Changed}
+use Rattle.nametable.specs.Nodes.{HasRoomFor, keys_put}
 use Rattle.zoneupdate.specs.declared.plan.Verdict.{Verdict}
 use Rattle.zoneupdate.specs.Keeping.{ZoneKept, IsKept, IsPlanOf, HasRoom, Leads}
 use Rattle.zoneupdate.proofs.Plans.{led}
 use Rattle.history.specs.HeldPlans.{IsZoneReady, zone_changed}
 use Rattle.history.proofs.Elements.{same_some, slice_get-read, get_or-same, slice_get-set, slice_get-within, map-changed}
 
-pub room-here : (zones : List ZoneKept) (i : ℕ) (new : ZoneKept) {E : Type 0} (r : Result Verdict E) → i < length zones → IfOk r (HasRoom new.spare) → IfOk r (λ verdict. (zone : ZoneKept) → slice_get (set zones i new) i ≡ Some zone → HasRoom zone.spare verdict)
+pub room-here : (zones : List ZoneKept) (i : ℕ) (new : ZoneKept) {E : Type 0} (r : Result Verdict E) → i < length zones → IfOk r (HasRoom new.nodes) → IfOk r (λ verdict. (zone : ZoneKept) → slice_get (set zones i new) i ≡ Some zone → HasRoom zone.nodes verdict)
 room-here zones i new (Err e) h room = tt
-room-here zones i new (Ok verdict) h room = λ zone is. subst (λ (z : ZoneKept). HasRoom z.spare verdict) (same_some new zone (sym (slice_get-set zones i new h) ∙ is)) room
+room-here zones i new (Ok verdict) h room = λ zone is. subst (λ (z : ZoneKept). HasRoom z.nodes verdict) (same_some new zone (sym (slice_get-set zones i new h) ∙ is)) room
 
 -- ---- a plan is made
 
 abbrev pub IsReadyZone : ZoneKept → List Changed → Type 0
-IsReadyZone zone changed = IsPlanOf zone.state changed × (length changed ≤ zone.spare)
+IsReadyZone zone changed = IsPlanOf zone.state changed × HasRoomFor (keys_put changed) zone.nodes
 
 ready-zone : (o : Option ZoneKept) (changed : List Changed) → IsZoneReady o changed → (zone : ZoneKept) × (o ≡ Some zone) × IsReadyZone zone changed
 ready-zone None changed ready = absurd ready

@@ -13,9 +13,10 @@ use Rattle.push_base.specs.Limits.{max_moment}
 use Rattle.rrset.specs.RecordSet.{with_changes}
 use Rattle.rrset.specs.declared.record.Changed.{Changed}
 use Rattle.dnswire.specs.declared.message.Update.{Update}
+use Rattle.nametable.specs.Nodes.{HasRoomFor, keys_put}
 use Rattle.zoneupdate.specs.Zones.{ZoneState}
 use Rattle.zoneupdate.specs.Keeping.{ZoneKept, IsPlanOf}
-use Rattle.linkcache.specs.Links.{LinkKept}
+use Rattle.linkcache.specs.Links.{LinkKept, HasRoom}
 use Rattle.linkcache.specs.Plans as links
 use Rattle.linkcache.specs.Plans.{LinkPlan, with_row_changes}
 use Rattle.history.specs.Plans.{may_stand_together, planned, refuse, accept}
@@ -64,15 +65,15 @@ led_by state (Some plan) = led_to state plan
 
 -- ---- plans with room for them
 
--- there is such a zone, an update was accepted with these keys, and it has room for as many
+-- there is such a zone, an update was accepted with these keys, and it has room for all that are put
 abbrev pub IsZoneReady : Option ZoneKept → List Changed → Type 0
 IsZoneReady None changed = ⊥
-IsZoneReady (Some zone) changed = IsPlanOf zone.state changed × (length changed ≤ zone.spare)
+IsZoneReady (Some zone) changed = IsPlanOf zone.state changed × HasRoomFor (keys_put changed) zone.nodes
 
--- the plan was made of the link, and it has room for as many rows
+-- the plan was made of the link, and it has room for what it changes
 pub record IsPlanIn (link : LinkKept) (plan : LinkPlan) : Type 0 where
   pub planned : links.IsPlanOf link.state.domain link.state.rows plan
-  pub room : length plan.rows ≤ link.spare
+  pub room : HasRoom plan.rows link
 
 abbrev pub IsLinkReady : Option LinkKept → LinkPlan → Type 0
 IsLinkReady None plan = ⊥

@@ -5,6 +5,7 @@ ghost use Rattle.dnsname.specs.Names.{same_name};
 ghost use Rattle.rrset.specs.Records.{rr_of};
 ghost use Rattle.rrset.specs.RecordSet.{matching};
 
+use nametable::NameTable;
 use rrset::{Key, NoMemory, Question, Rr, Rrs, Shown, Table, matches};
 use std::alloc::Global;
 
@@ -39,6 +40,17 @@ fn matching_rrs(alloc: Global, rows: &[(Key, Shown)], question: &Question) -> Re
 pub(crate) fn table_matching(
     alloc: Global,
     table: &Table,
+    question: &Question,
+) -> Result<Rrs, NoMemory>
+    ensures { IfOk result (λ rrs. rrs ≡ map (λ e. rr_of e.0 e.1) (matching question.now table.now.rows)) }
+{
+    matching_rrs(alloc, table.at(&question.name), question)
+}
+
+/// The same of records by names.
+pub(crate) fn names_matching(
+    alloc: Global,
+    table: &NameTable,
     question: &Question,
 ) -> Result<Rrs, NoMemory>
     ensures { IfOk result (λ rrs. rrs ≡ map (λ e. rr_of e.0 e.1) (matching question.now table.now.rows)) }

@@ -99,7 +99,22 @@ fn under_at(alloc: Global, zones: &[Zone], links: &[Cache], index: usize) -> Res
     Ok(Under::from_vec(names))
 }
 
-/// What an update gets from one of some zones.
+/// What an update gets from a zone in which no plan is pending: names without records are given back, and room is made.
+fn check_anew(
+    alloc: Global,
+    zone: &mut Zone,
+    update: &Update,
+    under: &Under,
+) -> Result<Verdict, NoMemory>
+    ensures verdict { IfOk result (λ verdict. (homes : List Labels) → IsUnder homes zone.old.state.apex under.now → Judges zone.old.state verdict (judged homes zone.old.state update.now)) }
+    ensures state { zone.new.state ≡ zone.old.state }
+    ensures room { IfOk result (HasRoom zone.new.nodes) }
+{
+    zone.give_back();
+    zone.check(alloc, update, under)
+}
+
+/// What an update gets from one of some zones, in which no plan is pending.
 fn check_at(
     alloc: Global,
     zones: &mut [Zone],
@@ -110,9 +125,9 @@ fn check_at(
     requires { index < length zones.old }
     ensures verdict { IfOk result (λ verdict. (zone : ZoneKept) (homes : List Labels) → slice_get zones.old index ≡ Some zone → IsUnder homes zone.state.apex under.now → Judges zone.state verdict (judged homes zone.state update.now)) }
     ensures states { map (λ z. z.state) zones.new ≡ map (λ z. z.state) zones.old }
-    ensures room { IfOk result (λ verdict. (zone : ZoneKept) → slice_get zones.new index ≡ Some zone → HasRoom zone.spare verdict) }
+    ensures room { IfOk result (λ verdict. (zone : ZoneKept) → slice_get zones.new index ≡ Some zone → HasRoom zone.nodes verdict) }
 {
-    zones[index].check(alloc, update, under)
+    check_anew(alloc, &mut zones[index], update, under)
 }
 
 /// What an update gets of zones beside links: the records stay, and room is made for the plan.

@@ -10,9 +10,10 @@ ghost use Rattle.history.specs.Longest.{IsLongest};
 ghost use Rattle.history.specs.LinkSteps.{zone_rows};
 ghost use Rattle.history.specs.HeldPlans.{IsZoneReady, zone_changed};
 
-use crate::matching::table_matching;
+use crate::matching::names_matching;
 use dnsname::Name;
-use rrset::{NoMemory, Question, Rrs, Table, put_all};
+use nametable::put_all_names;
+use rrset::{NoMemory, Question, Rrs, Table};
 use std::alloc::Global;
 use zoneupdate::{Zone, ZonePlan};
 
@@ -64,7 +65,7 @@ pub(crate) fn put_all_rows(all: &mut Table, zones: &[Zone]) -> Result<(), NoMemo
     ensures { OnOk result (all.new.rows ≡ fold union all.old.rows (map (λ z. z.state.rows) zones.now)) }
 {
     'zones: for zone in zones {
-        put_all(all, zone.rows().entries())?;
+        put_all_names(all, zone.rows())?;
     }
     Ok(())
 }
@@ -79,7 +80,7 @@ pub(crate) fn zone_matching(
     ensures { IfOk result (λ rrs. rrs ≡ map (λ e. rr_of e.0 e.1) (matching question.now (zone_rows (slice_get zones.now index)))) }
 {
     match zones.get(index) {
-        Some(zone) => table_matching(alloc, zone.rows(), question),
+        Some(zone) => names_matching(alloc, zone.rows(), question),
         None => Ok(Rrs::new(alloc)),
     }
 }

@@ -16,3 +16,5 @@ pub mod OwnerSizes
 pub mod ShownSizes
 pub mod LeadingPlans
 pub mod KeptEnds
+pub mod PlanRoom
+pub mod ShownNodes

@@ -2,11 +2,12 @@
 --     LinkPlan      whether a record could be used, the keys that are shown otherwise, and the rows that change
 --     with_row_changes      the rows with such changes made to them
 --     moves part work      the changes that make a part of the rows another one
+--     keys_put cs      the keys at which changes put a row
 --     Leads domain rows plan later      the plan leads from the rows to later ones, and tells what is shown otherwise
 --     IsPlanBetween domain part work plan      the plan is made of the changes from one part to another
 --     IsPlanOf domain rows plan      it leads somewhere
 --     IsHeardPlan, IsMomentPlan, IsReconfirmPlan      the plan is that of a hearing; of a moment; of a reconfirmation
-use Rattle.std.specs.Prelude.{◌≡◌, ℕ, Bool, false, not, List, ◌++◌, map, fold, Some, None, is_some}
+use Rattle.std.specs.Prelude.{◌≡◌, ℕ, Bool, false, not, List, ◌++◌, map, filter, fold, Some, None, is_some}
 use Rattle.std.specs.List.{AllByRecursion}
 use Rattle.push_base.specs.Cases.{is_empty}
 use Rattle.dnsname.specs.Names.{Labels}
@@ -42,6 +43,10 @@ change_to work e = record { key = e.0; after = row_at e.0 work }
 -- the keys that go, and behind them all that are there later
 abbrev pub moves : LinkRows → LinkRows → List RowChange
 moves part work = map (change_to work) (only_rows (λ key. not (is_some (row_at key work))) part ++ work)
+
+-- the keys at which changes put a row
+abbrev pub keys_put : List RowChange → List Key
+keys_put cs = map (λ c. c.key) (filter (λ c. is_some c.after) cs)
 
 abbrev pub HaveLowerKeys : List RowChange → Type 0
 HaveLowerKeys cs = AllByRecursion (λ c. HasLowerOwner c.key) cs

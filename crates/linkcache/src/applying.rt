@@ -1,27 +1,34 @@
 //! The changes of a plan, which take no memory.
 
-ghost use Rattle.std.specs.Prelude.{◌≡◌, ◌≤◌, ◌+◌, None, IsTrue, length, map, option_map};
+ghost use Rattle.std.specs.Prelude.{◌≡◌, ◌≤◌, ◌+◌, ◌∷◌, [], List, false, None, IsTrue, length, map, option_map};
 ghost use Rattle.std.specs.List.{AllByRecursion};
+ghost use Rattle.std.specs.Ordering.{is_eq};
 ghost use Rattle.clockqueue.specs.Deadlines.{moment_of, without};
+ghost use Rattle.dnsname.specs.Names.{Labels};
+ghost use Rattle.nametable.specs.Nodes.{HasRoomFor, name_cmp, room_at};
 ghost use Rattle.rrset.specs.KeyedRows.{put_row, row_at};
 ghost use Rattle.rrset.specs.Records.{key_cmp};
 ghost use Rattle.rrset.specs.Tables.{HasLowerOwner};
 ghost use Rattle.linkcache.specs.Ends.{AreEnds, with_end, with_end_change};
-ghost use Rattle.linkcache.specs.Plans.{with_row_change, with_row_changes};
+ghost use Rattle.linkcache.specs.Plans.{keys_put, with_row_change, with_row_changes};
+ghost use Rattle.linkcache.specs.declared.plan.RowChange.{RowChange};
 ghost use Rattle.linkcache.specs.declared.row.HeardRow.{HeardRow};
 ghost use Rattle.rrset.specs.declared.record.Key.{Key};
 
+use crate::end_key::EndKey;
 use crate::plan::{PlannedRow, RowChange};
 use crate::row::HeardRow;
 use clockqueue::Deadlines;
-use rrset::{Key, Table};
+use nametable::NameTable;
+use rrset::Key;
 
 /// Puts a row at a key, where there is room for it.
-fn put_in_room(rows: &mut Table<HeardRow>, key: Key, row: HeardRow)
+fn put_in_room(rows: &mut NameTable<HeardRow>, key: Key, row: HeardRow)
     requires lower { HasLowerOwner key }
-    requires room { 1 ≤ rows.old.spare }
+    requires room { 1 ≤ room_at rows.old.nodes key.owner }
     ensures rows { rows.new.rows ≡ put_row key row rows.old.rows }
-    ensures room { rows.old.spare ≤ rows.new.spare + 1 }
+    ensures here { room_at rows.old.nodes key.owner ≤ room_at rows.new.nodes key.owner + 1 }
+    ensures others { (name : Labels) → is_eq (name_cmp name key.owner) ≡ false → room_at rows.old.nodes name ≤ room_at rows.new.nodes name }
 {
     match rows.put(key, row) {
         Ok(_) => {}
@@ -29,12 +36,12 @@ fn put_in_room(rows: &mut Table<HeardRow>, key: Key, row: HeardRow)
     }
 }
 
-/// Puts or takes out the row of a key as a change has it, where there is room for it.
-fn change_row(rows: &mut Table<HeardRow>, change: RowChange)
+/// Puts or takes out the row of a key as a change has it, where there is room for it, and leaves the room of others.
+fn change_row(rows: &mut NameTable<HeardRow>, change: RowChange)
     requires lower { HasLowerOwner change.key }
-    requires room { 1 ≤ rows.old.spare }
+    requires room { HasRoomFor (keys_put (change ∷ [])) rows.old.nodes }
     ensures rows { rows.new.rows ≡ with_row_change rows.old.rows change }
-    ensures room { rows.old.spare ≤ rows.new.spare + 1 }
+    ensures left { (others : List RowChange) → HasRoomFor (keys_put (change ∷ others)) rows.old.nodes → HasRoomFor (keys_put others) rows.new.nodes }
 {
     let RowChange { key, after } = change;
     match after {
@@ -46,7 +53,7 @@ fn change_row(rows: &mut Table<HeardRow>, change: RowChange)
 }
 
 /// When the row of a key ends, if there is one.
-fn end_of(rows: &Table<HeardRow>, key: &Key) -> Option<u64>
+fn end_of(rows: &NameTable<HeardRow>, key: &Key) -> Option<u64>
     ensures { result ≡ option_map (λ (row : HeardRow). row.ends) (row_at key.now rows.now.rows) }
 {
     match rows.get(key) {
@@ -66,7 +73,7 @@ fn end_after(after: &Option<HeardRow>) -> Option<u64>
 }
 
 /// Takes out the moment of a key, if it has one.
-fn take_end(ends: &mut Deadlines<Key>, key: &Key, before: Option<u64>)
+fn take_end(ends: &mut Deadlines<EndKey>, key: &EndKey, before: Option<u64>)
     requires { moment_of key_cmp key.now ends.old.deadlines ≡ before }
     ensures deadlines { ends.new.deadlines ≡ without key_cmp key.now ends.old.deadlines }
     ensures room { ends.old.spare ≤ ends.new.spare }
@@ -77,7 +84,7 @@ fn take_end(ends: &mut Deadlines<Key>, key: &Key, before: Option<u64>)
 }
 
 /// Gives a key a moment, if there is one, where it has none and there is room for it.
-fn put_end(ends: &mut Deadlines<Key>, key: Key, after: Option<u64>)
+fn put_end(ends: &mut Deadlines<EndKey>, key: EndKey, after: Option<u64>)
     requires none { moment_of key_cmp key ends.old.deadlines ≡ None }
     requires room { 1 ≤ ends.old.spare }
     ensures deadlines { ends.new.deadlines ≡ with_end ends.old.deadlines key after }
@@ -104,14 +111,19 @@ fn same_end(before: Option<u64>, after: Option<u64>) -> bool
 
 /// Changes the moment of a key as a change of its row has it, where there is room for it. Nothing is moved where the row
 /// keeps its end.
-fn change_end(ends: &mut Deadlines<Key>, rows: &Table<HeardRow>, change: &RowChange, again: Key)
+fn change_end(
+    ends: &mut Deadlines<EndKey>,
+    rows: &NameTable<HeardRow>,
+    change: &RowChange,
+    again: EndKey,
+)
     requires again { again ≡ change.now.key }
     requires ends { AreEnds ends.old.deadlines rows.now.rows }
     requires room { 1 ≤ ends.old.spare }
     ensures ends { (query : Key) → moment_of key_cmp query ends.new.deadlines ≡ moment_of key_cmp query (with_end_change ends.old.deadlines change.now) }
     ensures room { ends.old.spare ≤ ends.new.spare + 1 }
 {
-    let before = end_of(rows, &again);
+    let before = end_of(rows, again.key());
     let after = end_after(&change.after);
     if same_end(before, after) {
         return;
@@ -121,15 +133,15 @@ fn change_end(ends: &mut Deadlines<Key>, rows: &Table<HeardRow>, change: &RowCha
 }
 
 /// Makes a change of a row, and of the moment at which it ends, where there is room for both.
-fn make_change(rows: &mut Table<HeardRow>, ends: &mut Deadlines<Key>, planned: PlannedRow)
+fn make_change(rows: &mut NameTable<HeardRow>, ends: &mut Deadlines<EndKey>, planned: PlannedRow)
     requires lower { HasLowerOwner planned.change.key }
     requires again { planned.again ≡ planned.change.key }
     requires ends { AreEnds ends.old.deadlines rows.old.rows }
-    requires row_room { 1 ≤ rows.old.spare }
+    requires row_room { HasRoomFor (keys_put (planned.change ∷ [])) rows.old.nodes }
     requires end_room { 1 ≤ ends.old.spare }
     ensures rows { rows.new.rows ≡ with_row_change rows.old.rows planned.change }
     ensures ends { AreEnds ends.new.deadlines rows.new.rows }
-    ensures row_room { rows.old.spare ≤ rows.new.spare + 1 }
+    ensures left { (others : List RowChange) → HasRoomFor (keys_put (planned.change ∷ others)) rows.old.nodes → HasRoomFor (keys_put others) rows.new.nodes }
     ensures end_room { ends.old.spare ≤ ends.new.spare + 1 }
 {
     let PlannedRow { change, again } = planned;
@@ -137,16 +149,17 @@ fn make_change(rows: &mut Table<HeardRow>, ends: &mut Deadlines<Key>, planned: P
     change_row(rows, change);
 }
 
-/// Makes the changes of a plan, where there is room for all of its keys. It takes no memory.
+/// Makes the changes of a plan, where there is room for all of its keys. It takes no memory, and room that was made for
+/// other plans may be given back.
 pub(crate) fn make_changes(
-    rows: &mut Table<HeardRow>,
-    ends: &mut Deadlines<Key>,
+    rows: &mut NameTable<HeardRow>,
+    ends: &mut Deadlines<EndKey>,
     changes: Vec<PlannedRow>,
 )
     requires lower { AllByRecursion (λ r. HasLowerOwner r.change.key) changes.items }
     requires again { AllByRecursion (λ r. r.again ≡ r.change.key) changes.items }
     requires ends { AreEnds ends.old.deadlines rows.old.rows }
-    requires row_room { length changes.items ≤ rows.old.spare }
+    requires row_room { HasRoomFor (keys_put (map (λ r. r.change) changes.items)) rows.old.nodes }
     requires end_room { length changes.items ≤ ends.old.spare }
     ensures rows { rows.new.rows ≡ with_row_changes (map (λ r. r.change) changes.items) rows.old.rows }
     ensures ends { AreEnds ends.new.deadlines rows.new.rows }
@@ -154,4 +167,5 @@ pub(crate) fn make_changes(
     'changes: for change in changes {
         make_change(rows, ends, change);
     }
+    rows.give_back();
 }

@@ -3,19 +3,22 @@
 ghost use Rattle.std.specs.Prelude.{◌≡◌, ◌≤◌, [], length, IfOk, OnOk};
 ghost use Rattle.push_base.specs.Limits.{max_moment};
 ghost use Rattle.clockqueue.specs.Deadlines.{AreDeadlines};
+ghost use Rattle.dnsname.specs.Names.{Labels};
 ghost use Rattle.rrset.specs.Records.{key_cmp};
-ghost use Rattle.linkcache.specs.Links.{IsLink};
+ghost use Rattle.nametable.specs.Nodes.{room_at};
+ghost use Rattle.linkcache.specs.Links.{HasRoom, IsLink};
 ghost use Rattle.linkcache.specs.Plans.{IsHeardPlan, IsMomentPlan, IsPlanOf, IsReconfirmPlan, with_row_changes};
 ghost use Rattle.linkcache.specs.Rows.{has_key, next_end, shown_rows};
 
 use crate::applying::make_changes;
-use crate::hearing::has;
+use crate::end_key::EndKey;
 use crate::plan::HearPlan;
-use crate::planning::{heard_plan, moment_plan, reconfirm_plan};
+use crate::planning::{has_row, heard_plan, moment_plan, reconfirm_plan};
 use crate::row::HeardRow;
-use crate::showing::shown_rows;
+use crate::showing::shown_nodes;
 use clockqueue::Deadlines;
 use dnsname::Name;
+use nametable::NameTable;
 use rrset::{HeardRr, Key, NoMemory, Table};
 use std::alloc::Global;
 use std::marker::Model;
@@ -24,28 +27,27 @@ use std::marker::Model;
 #[derive(Debug, Drop)]
 pub struct Cache {
     domain: Name,
-    rows: Table<HeardRow>,
-    ends: Deadlines<Key>,
+    rows: NameTable<HeardRow>,
+    ends: Deadlines<EndKey>,
 }
 
 impl Model for Cache {
-    ghost use Rattle.std.specs.Prelude.{min};
     ghost use Rattle.linkcache.specs.Links.{LinkKept, IsKept};
 
     ghost Value = { LinkKept };
 
-    ghost view = { λ c. record { state = record { domain = c.domain; rows = c.rows.rows }; spare = min c.rows.spare c.ends.spare } };
+    ghost view = { λ c. record { state = record { domain = c.domain; rows = c.rows.rows }; nodes = c.rows.nodes; spare = c.ends.spare } };
 
     ghost invariant = { λ c. IsKept (record { domain = c.domain; rows = c.rows.rows }) c.ends.deadlines };
 }
 
 /// The same moments and keys.
-fn copied_ends(alloc: Global, ends: &[(u64, Key)]) -> Result<Vec<(u64, Key)>, NoMemory>
+fn copied_ends(alloc: Global, ends: &[(u64, EndKey)]) -> Result<Vec<(u64, EndKey)>, NoMemory>
     ensures { IfOk result (λ copy. copy.items ≡ ends.now) }
 {
     let mut copy = Vec::new(alloc);
     'ends: for (moment, key) in ends {
-        copy.push((*moment, key.copy()?))?;
+        copy.push((*moment, EndKey::copied(alloc, key.key())?))?;
     }
     Ok(copy)
 }
@@ -59,7 +61,7 @@ impl Cache {
         let _name = domain.octets();
         Cache {
             domain,
-            rows: Table::new(alloc),
+            rows: NameTable::new(alloc),
             ends: Deadlines::new(alloc),
         }
     }
@@ -72,7 +74,7 @@ impl Cache {
     }
 
     /// What the link has heard, in key order.
-    pub fn rows(&self) -> &Table<HeardRow>
+    pub fn rows(&self) -> &NameTable<HeardRow>
         ensures rows { result.now.rows ≡ self.now.state.rows }
         ensures link { IsLink self.now.state }
     {
@@ -83,14 +85,14 @@ impl Cache {
     pub fn shown(&self, alloc: Global) -> Result<Table, NoMemory>
         ensures { IfOk result (λ set. set.rows ≡ shown_rows self.now.state.domain self.now.state.rows) }
     {
-        shown_rows(alloc, &self.domain, self.rows.entries())
+        shown_nodes(alloc, &self.domain, self.rows.nodes())
     }
 
     /// Whether there is a row of a key.
     pub fn has(&self, key: &Key) -> bool
         ensures { result ≡ has_key key.now self.now.state.rows }
     {
-        has(&self.rows, key)
+        has_row(&self.rows, key)
     }
 
     /// The least moment at which a row ends; nothing where there is no row.
@@ -100,13 +102,13 @@ impl Cache {
         self.ends.next()
     }
 
-    /// Makes room for so many further rows.
+    /// Makes room for the moments at which so many further rows end.
     fn make_room(&mut self, rows: usize) -> Result<(), NoMemory>
         ensures state { self.new.state ≡ self.old.state }
+        ensures nodes { self.new.nodes ≡ self.old.nodes }
         ensures room { OnOk result (rows ≤ self.new.spare) }
         ensures kept { self.old.spare ≤ self.new.spare }
     {
-        self.rows.reserve(rows)?;
         self.ends.reserve(rows)
     }
 
@@ -120,10 +122,11 @@ impl Cache {
         requires { now ≤ max_moment }
         ensures plan { IfOk result (IsHeardPlan self.old.state.domain self.old.state.rows now hearing.now) }
         ensures state { self.new.state ≡ self.old.state }
-        ensures room { IfOk result (λ plan. length plan.rows ≤ self.new.spare) }
+        ensures room { IfOk result (λ plan. HasRoom plan.rows self.new) }
+        ensures names { (name : Labels) → room_at self.old.nodes name ≤ room_at self.new.nodes name }
         ensures kept { self.old.spare ≤ self.new.spare }
     {
-        let plan = heard_plan(alloc, &self.domain, &self.rows, now, hearing)?;
+        let plan = heard_plan(alloc, &self.domain, &mut self.rows, now, hearing)?;
         self.make_room(plan.len())?;
         Ok(plan)
     }
@@ -132,7 +135,8 @@ impl Cache {
     pub fn moment(&mut self, alloc: Global, now: u64) -> Result<HearPlan, NoMemory>
         ensures plan { IfOk result (IsMomentPlan self.old.state.domain self.old.state.rows now) }
         ensures state { self.new.state ≡ self.old.state }
-        ensures room { IfOk result (λ plan. length plan.rows ≤ self.new.spare) }
+        ensures room { IfOk result (λ plan. HasRoom plan.rows self.new) }
+        ensures names { (name : Labels) → room_at self.old.nodes name ≤ room_at self.new.nodes name }
         ensures kept { self.old.spare ≤ self.new.spare }
     {
         let plan = moment_plan(alloc, &self.domain, &self.rows, &self.ends, now)?;
@@ -146,18 +150,20 @@ impl Cache {
         requires { now ≤ max_moment }
         ensures plan { IfOk result (IsReconfirmPlan self.old.state.domain self.old.state.rows key.now now) }
         ensures state { self.new.state ≡ self.old.state }
-        ensures room { IfOk result (λ plan. length plan.rows ≤ self.new.spare) }
+        ensures room { IfOk result (λ plan. HasRoom plan.rows self.new) }
+        ensures names { (name : Labels) → room_at self.old.nodes name ≤ room_at self.new.nodes name }
         ensures kept { self.old.spare ≤ self.new.spare }
     {
-        let plan = reconfirm_plan(alloc, &self.domain, &self.rows, key, now)?;
+        let plan = reconfirm_plan(alloc, &self.domain, &mut self.rows, key, now)?;
         self.make_room(plan.len())?;
         Ok(plan)
     }
 
-    /// Makes the changes of a plan that was made of these rows. It takes no memory.
+    /// Makes the changes of a plan that was made of these rows. It takes no memory, and room that was made for other plans
+    /// may be given back.
     pub fn apply(&mut self, plan: HearPlan)
         requires planned { IsPlanOf self.old.state.domain self.old.state.rows plan }
-        requires room { length plan.rows ≤ self.old.spare }
+        requires room { HasRoom plan.rows self.old }
         ensures { self.new.state ≡ record self.old.state { rows = with_row_changes plan.rows self.old.state.rows } }
     {
         let HearPlan { rows, .. } = plan;

@@ -20,7 +20,7 @@ use rrset::{Copied, HeardRr, Key, NoMemory, Rr, Table, counted_ttl, rr_size};
 use std::alloc::Global;
 
 /// Whether there is a row of a key.
-pub(crate) fn has(rows: &Table<HeardRow>, key: &Key) -> bool
+fn has(rows: &Table<HeardRow>, key: &Key) -> bool
     ensures { result ≡ has_key key.now rows.now.rows }
 {
     rows.get(key).is_some()

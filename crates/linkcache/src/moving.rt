@@ -6,6 +6,7 @@ ghost use Rattle.rrset.specs.KeyedRows.{only_rows, row_at};
 ghost use Rattle.linkcache.specs.Plans.{change_to, moves, IsPlanBetween};
 ghost use Rattle.linkcache.specs.Sound.{AreLinkRows};
 
+use crate::end_key::EndKey;
 use crate::plan::{HearPlan, PlannedRow, RowChange};
 use crate::row::HeardRow;
 use crate::showing::shown_rows;
@@ -78,7 +79,7 @@ fn planned(alloc: Global, moves: Vec<RowChange>) -> Result<Vec<PlannedRow>, NoMe
 {
     let mut rows = Vec::new(alloc);
     'moves: for change in moves {
-        let again = change.key.copy()?;
+        let again = EndKey::copied(alloc, &change.key)?;
         rows.push(PlannedRow { change, again })?;
     }
     Ok(rows)

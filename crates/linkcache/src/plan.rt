@@ -2,6 +2,7 @@
 
 ghost use Rattle.std.specs.Prelude.{◌≡◌, false, [], length};
 
+use crate::end_key::EndKey;
 use crate::row::HeardRow;
 use rrset::{Changed, Key};
 use std::alloc::Global;
@@ -22,7 +23,7 @@ pub(crate) struct PlannedRow {
     /// The change.
     pub(crate) change: RowChange,
     /// The same key.
-    pub(crate) again: Key,
+    pub(crate) again: EndKey,
 }
 
 /// What a step changes in a link: its rows, and the keys that are shown otherwise under its domain.

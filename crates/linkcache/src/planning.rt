@@ -1,42 +1,58 @@
 //! What hearings, moments and reconfirmations will change.
 
-ghost use Rattle.std.specs.Prelude.{◌≡◌, ◌≤◌, ◌+◌, length, IfOk};
+ghost use Rattle.std.specs.Prelude.{◌≡◌, ◌≤◌, ◌<◌, ◌+◌, ◌^◌, length, IfOk};
 ghost use Rattle.clockqueue.specs.Deadlines.{AreDeadlines, first_moment};
 ghost use Rattle.push_base.specs.Limits.{max_moment};
+ghost use Rattle.dnsname.specs.Names.{Labels};
 ghost use Rattle.rrset.specs.Records.{key_cmp};
+ghost use Rattle.nametable.specs.Nodes.{HasRoomFor, room_at};
 ghost use Rattle.linkcache.specs.Ends.{AreEnds, has_come};
 ghost use Rattle.linkcache.specs.Links.{IsLink};
-ghost use Rattle.linkcache.specs.Plans.{IsHeardPlan, IsMomentPlan, IsReconfirmPlan};
+ghost use Rattle.linkcache.specs.Plans.{IsHeardPlan, IsMomentPlan, IsReconfirmPlan, keys_put};
+ghost use Rattle.linkcache.specs.Rows.{has_key};
 
-use crate::hearing::{end_row, has, heard, some_usable};
+use crate::end_key::EndKey;
+use crate::hearing::{end_row, heard, some_usable};
 use crate::moving::plan_between;
 use crate::plan::HearPlan;
 use crate::row::{HeardRow, RECONFIRMATION};
 use crate::touching::{copy_row, due_rows, touched};
 use clockqueue::Deadlines;
 use dnsname::Name;
+use nametable::NameTable;
 use rrset::{HeardRr, Key, NoMemory, Table};
 use std::alloc::Global;
 
+/// Whether there is a row of a key.
+pub(crate) fn has_row(rows: &NameTable<HeardRow>, key: &Key) -> bool
+    ensures { result ≡ has_key key.now rows.now.rows }
+{
+    rows.get(key).is_some()
+}
+
 /// How many rows there are beside a part of them.
-fn rows_beside(part: &Table<HeardRow>, rows: &Table<HeardRow>) -> usize
-    requires { length part.now.rows ≤ length rows.now.rows }
+fn rows_beside(part: &Table<HeardRow>, rows: &NameTable<HeardRow>) -> usize
+    requires count { length rows.now.rows < 2 ^ 64 }
+    requires part { length part.now.rows ≤ length rows.now.rows }
     ensures { result + length part.now.rows ≡ length rows.now.rows }
 {
     rows.len() - part.len()
 }
 
-/// The plan of a hearing. It looks at the records heard and the rows of their owners.
+/// The plan of a hearing, with room for the rows that it puts. It looks at the records heard and the rows of their owners.
 pub(crate) fn heard_plan(
     alloc: Global,
     domain: &Name,
-    rows: &Table<HeardRow>,
+    rows: &mut NameTable<HeardRow>,
     now: u64,
     hearing: &[HeardRr],
 ) -> Result<HearPlan, NoMemory>
     requires moment { now ≤ max_moment }
-    requires link { IsLink (record { domain = domain.now; rows = rows.now.rows }) }
-    ensures { IfOk result (IsHeardPlan domain.now rows.now.rows now hearing.now) }
+    requires link { IsLink (record { domain = domain.now; rows = rows.old.rows }) }
+    ensures plan { IfOk result (IsHeardPlan domain.now rows.old.rows now hearing.now) }
+    ensures rows { rows.new.rows ≡ rows.old.rows }
+    ensures room { IfOk result (λ plan. HasRoomFor (keys_put plan.rows) rows.new.nodes) }
+    ensures kept { (name : Labels) → room_at rows.old.nodes name ≤ room_at rows.new.nodes name }
 {
     if !some_usable(domain, hearing) {
         return Ok(HearPlan::nothing(alloc));
@@ -44,11 +60,12 @@ pub(crate) fn heard_plan(
     let part = touched(alloc, domain, rows, hearing)?;
     let others = rows_beside(&part, rows);
     let work = heard(alloc, domain, now, others, &part, hearing)?;
+    rows.reserve_for_rows(&work)?;
     plan_between(alloc, domain, true, &part, &work)
 }
 
 /// Whether the least moment has come.
-fn some_due(ends: &Deadlines<Key>, now: u64) -> bool
+fn some_due(ends: &Deadlines<EndKey>, now: u64) -> bool
     ensures due { result ≡ has_come now (first_moment ends.now.deadlines) }
     ensures order { AreDeadlines key_cmp ends.now.deadlines }
 {
@@ -58,17 +75,19 @@ fn some_due(ends: &Deadlines<Key>, now: u64) -> bool
     }
 }
 
-/// The plan of a moment. It looks at the rows that have ended, and at none where the least end lies later.
+/// The plan of a moment, which puts no row. It looks at the rows that have ended, and at none where the least end lies
+/// later.
 pub(crate) fn moment_plan(
     alloc: Global,
     domain: &Name,
-    rows: &Table<HeardRow>,
-    ends: &Deadlines<Key>,
+    rows: &NameTable<HeardRow>,
+    ends: &Deadlines<EndKey>,
     now: u64,
 ) -> Result<HearPlan, NoMemory>
     requires link { IsLink (record { domain = domain.now; rows = rows.now.rows }) }
     requires ends { AreEnds ends.now.deadlines rows.now.rows }
-    ensures { IfOk result (IsMomentPlan domain.now rows.now.rows now) }
+    ensures plan { IfOk result (IsMomentPlan domain.now rows.now.rows now) }
+    ensures room { IfOk result (λ plan. HasRoomFor (keys_put plan.rows) rows.now.nodes) }
 {
     if !some_due(ends, now) {
         return Ok(HearPlan::nothing(alloc));
@@ -78,24 +97,28 @@ pub(crate) fn moment_plan(
     plan_between(alloc, domain, false, &part, &work)
 }
 
-/// The plan of a reconfirmation. It looks at the row of the key.
+/// The plan of a reconfirmation, with room for the row that it puts. It looks at the row of the key.
 pub(crate) fn reconfirm_plan(
     alloc: Global,
     domain: &Name,
-    rows: &Table<HeardRow>,
+    rows: &mut NameTable<HeardRow>,
     key: &Key,
     now: u64,
 ) -> Result<HearPlan, NoMemory>
     requires moment { now ≤ max_moment }
-    requires link { IsLink (record { domain = domain.now; rows = rows.now.rows }) }
-    ensures { IfOk result (IsReconfirmPlan domain.now rows.now.rows key.now now) }
+    requires link { IsLink (record { domain = domain.now; rows = rows.old.rows }) }
+    ensures plan { IfOk result (IsReconfirmPlan domain.now rows.old.rows key.now now) }
+    ensures rows { rows.new.rows ≡ rows.old.rows }
+    ensures room { IfOk result (λ plan. HasRoomFor (keys_put plan.rows) rows.new.nodes) }
+    ensures kept { (name : Labels) → room_at rows.old.nodes name ≤ room_at rows.new.nodes name }
 {
-    if !has(rows, key) {
+    if !has_row(rows, key) {
         return Ok(HearPlan::nothing(alloc));
     }
     let mut part = Table::new(alloc);
     copy_row(&mut part, rows, key)?;
     let mut work = part.copy()?;
     end_row(&mut work, key, now + RECONFIRMATION)?;
+    rows.reserve_for_rows(&work)?;
     plan_between(alloc, domain, false, &part, &work)
 }

@@ -1,13 +1,15 @@
 //! What rows of a link show under its domain.
 
-ghost use Rattle.std.specs.Prelude.{◌≡◌, IfOk, OnOk};
+ghost use Rattle.std.specs.Prelude.{◌≡◌, fold, IfOk, OnOk};
 ghost use Rattle.rrset.specs.RecordSet.{put_rr};
+ghost use Rattle.nametable.specs.Nodes.{all_rows};
 ghost use Rattle.linkcache.specs.Rows.{put_shown, shown_rows};
 ghost use Rattle.linkcache.specs.Sound.{IsLinkRow, AreLinkRows};
 
 use crate::row::{HeardRow, record_of};
 use dnsname::Name;
 use linkmap::show;
+use nametable::Node;
 use rrset::{Key, NoMemory, Rr, Shown, Table};
 use std::alloc::Global;
 
@@ -44,6 +46,22 @@ fn put_shown(
     }
 }
 
+/// Puts what rows show.
+fn put_shown_rows(
+    alloc: Global,
+    domain: &Name,
+    set: &mut Table,
+    rows: &[(Key, HeardRow)],
+) -> Result<(), NoMemory>
+    requires { AreLinkRows domain.now rows.now }
+    ensures { OnOk result (set.new.rows ≡ fold (put_shown domain.now) set.old.rows rows.now) }
+{
+    'rows: for (key, row) in rows {
+        put_shown(alloc, domain, set, key, row)?;
+    }
+    Ok(())
+}
+
 /// The records that rows of a link show under its domain.
 pub(crate) fn shown_rows(
     alloc: Global,
@@ -54,8 +72,22 @@ pub(crate) fn shown_rows(
     ensures { IfOk result (λ set. set.rows ≡ shown_rows domain.now rows.now) }
 {
     let mut set = Table::new(alloc);
-    'rows: for (key, row) in rows {
-        put_shown(alloc, domain, &mut set, key, row)?;
+    put_shown_rows(alloc, domain, &mut set, rows)?;
+    Ok(set)
+}
+
+/// The records that the rows of some names show under a link's domain.
+pub(crate) fn shown_nodes(
+    alloc: Global,
+    domain: &Name,
+    nodes: &[Node<HeardRow>],
+) -> Result<Table, NoMemory>
+    requires { AreLinkRows domain.now (all_rows nodes.now) }
+    ensures { IfOk result (λ set. set.rows ≡ shown_rows domain.now (all_rows nodes.now)) }
+{
+    let mut set = Table::new(alloc);
+    'nodes: for node in nodes {
+        put_shown_rows(alloc, domain, &mut set, node.table().entries())?;
     }
     Ok(set)
 }

@@ -10,17 +10,19 @@ ghost use Rattle.clockqueue.specs.Deadlines.{due};
 ghost use Rattle.linkcache.specs.Parts.{copied, is_touched};
 ghost use Rattle.linkcache.specs.Rows.{usable_of};
 
+use crate::end_key::EndKey;
 use crate::row::HeardRow;
 use clockqueue::Deadlines;
 use dnsname::Name;
 use linkmap::usable;
+use nametable::NameTable;
 use rrset::{Copied, HeardRr, Key, NoMemory, Table};
 use std::alloc::Global;
 
 /// Copies what rows have of a key, if anything, into a part of them.
 pub(crate) fn copy_row(
     part: &mut Table<HeardRow>,
-    rows: &Table<HeardRow>,
+    rows: &NameTable<HeardRow>,
     key: &Key,
 ) -> Result<(), NoMemory>
     requires { HaveLowerOwners rows.now.rows }
@@ -38,7 +40,7 @@ pub(crate) fn copy_row(
 /// Copies what rows have of the keys of some of them into a part of them.
 fn copy_all(
     part: &mut Table<HeardRow>,
-    rows: &Table<HeardRow>,
+    rows: &NameTable<HeardRow>,
     entries: &[(Key, HeardRow)],
 ) -> Result<(), NoMemory>
     requires { HaveLowerOwners rows.now.rows }
@@ -51,7 +53,11 @@ fn copy_all(
 }
 
 /// Copies the rows of an owner into a part of the rows, where none of them is there yet.
-fn touch(part: &mut Table<HeardRow>, rows: &Table<HeardRow>, owner: &Name) -> Result<(), NoMemory>
+fn touch(
+    part: &mut Table<HeardRow>,
+    rows: &NameTable<HeardRow>,
+    owner: &Name,
+) -> Result<(), NoMemory>
     requires order { IsTrue (is_rising rows.now.rows) }
     requires lower { HaveLowerOwners rows.now.rows }
     ensures { (usable : List HeardRr) → part.old.rows ≡ only_rows (is_touched usable) rows.now.rows → OnOk result (part.new.rows ≡ only_rows (λ key. same_name owner.now key.owner || is_touched usable key) rows.now.rows) }
@@ -67,7 +73,7 @@ fn touch(part: &mut Table<HeardRow>, rows: &Table<HeardRow>, owner: &Name) -> Re
 pub(crate) fn touched(
     alloc: Global,
     domain: &Name,
-    rows: &Table<HeardRow>,
+    rows: &NameTable<HeardRow>,
     hearing: &[HeardRr],
 ) -> Result<Table<HeardRow>, NoMemory>
     requires order { IsTrue (is_rising rows.now.rows) }
@@ -86,8 +92,8 @@ pub(crate) fn touched(
 /// The rows whose keys are due, in the order in which they are.
 pub(crate) fn due_rows(
     alloc: Global,
-    rows: &Table<HeardRow>,
-    ends: &Deadlines<Key>,
+    rows: &NameTable<HeardRow>,
+    ends: &Deadlines<EndKey>,
     now: u64,
 ) -> Result<Table<HeardRow>, NoMemory>
     requires { HaveLowerOwners rows.now.rows }
@@ -98,7 +104,7 @@ pub(crate) fn due_rows(
         if *moment > now {
             return Ok(part);
         }
-        copy_row(&mut part, rows, key)?;
+        copy_row(&mut part, rows, key.key())?;
     }
     Ok(part)
 }

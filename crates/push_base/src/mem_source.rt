@@ -10,6 +10,7 @@ ghost use Rattle.push_base.specs.Supply.{first_item};
 ghost use Rattle.push_base.specs.MemSource.{count_for, after_reading, after_failing};
 
 use crate::calls::Calls;
+use crate::front::copy_front;
 use crate::supply::Supply;
 use crate::{Failed, Octets, Source};
 use std::marker::Model;
@@ -77,9 +78,7 @@ impl Source for MemSource {
         ensures err { OnErr result (self.new ≡ after_failing self.old) }
     {
         self.calls.begin()?;
-        let item = self.octets.first();
-        let count = item.len().min(buf.len());
-        buf[..count].copy_from_slice(&item[..count]);
+        let count = copy_front(self.octets.first(), buf);
         self.octets.give(count);
         Ok(count)
     }

@@ -10,7 +10,8 @@ use Rattle.rrset.specs.Rcodes.{formerr}
 use Rattle.rrset.specs.declared.record.Changed.{Changed}
 use Rattle.rrset.proofs.WithChanges.{with_changes-new}
 use Rattle.dnswire.specs.declared.message.Update.{Update}
-use Rattle.zoneupdate.proofs.Plans.{HaveLowerKeys, lower-changes}
+use Rattle.nametable.specs.Nodes.{HaveRisingKeys}
+use Rattle.zoneupdate.proofs.Plans.{HaveLowerKeys, lower-changes, rising-changes}
 use Rattle.zoneupdate.proofs.RecordSets.{set-in_order}
 use Rattle.history.specs.Kept.{Past, state_now, records_now, told_plan}
 use Rattle.history.specs.Plans.{Plan, refuse, idle, accept, planned}
@@ -55,6 +56,9 @@ later_home past entry home = subst AreAtHome (sym (now-entered past entry)) (hom
 
 pub entry-lower : (past : Past) (entry : Entry) → AreAtHome (state_now past) → HaveLowerKeys (entry_changes entry past)
 entry-lower past entry home = lower-changes (records_now past) (records_now (with_entry entry past)) (set-records (state_now past) home) (set-records (state_now (with_entry entry past)) (later_home past entry home))
+
+pub entry-rising : (past : Past) (entry : Entry) → AreAtHome (state_now past) → HaveRisingKeys (entry_changes entry past)
+entry-rising past entry home = rising-changes (records_now past) (records_now (with_entry entry past)) (set-in_order (records_now past) (set-records (state_now past) home))
 
 pub entry-rows : (past : Past) (entry : Entry) → AreAtHome (state_now past) → with_changes (entry_changes entry past) (records_now past) ≡ records_now (with_entry entry past)
 entry-rows past entry home =

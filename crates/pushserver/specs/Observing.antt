@@ -34,7 +34,7 @@ told_of newest name (Some session) = told (note_of newest session) name
 abbrev pub told_in : Hub → ℕ → Labels → ℕ
 told_in hub number name = told_of (newest hub) name (session_of hub number)
 
--- each fault has its own word; a datagram that is read is entered, or has no record that can be shown
+-- each fault has its own word; a datagram that is read is entered, or none of its records is used, as where there is no such link
 abbrev pub SaysWhy : Heard → Result Hearing HearFault → Type 0
 SaysWhy heard (Err fault) = heard ≡ Ignored (why_not fault)
 SaysWhy heard (Ok hearing) = (heard ≡ Entered) ⊎ (heard ≡ Ignored whys.Nothing)

@@ -46,7 +46,7 @@ impl Keeping {
         ensures index { self.new.index.rows ≡ records_now (kept_of self.new) }
     {
         let point = self.points.point();
-        self.index.reserve(changed.as_slice().len())?;
+        self.index.reserve_for(changed.as_slice())?;
         self.sessions.note(changed.as_slice(), &self.index, point)?;
         if append(&mut self.points, entry).is_err() {
             self.sessions.take_back(point);

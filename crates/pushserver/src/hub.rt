@@ -63,9 +63,9 @@ impl Hub {
         Ok(self.keeping.update(message)?)
     }
 
-    /// Hears a datagram of a link, counted from 0 (RFC 6762, 18), and enters it where a record of it can be used; there may
-    /// be no such link. `Ignored`: it is no hearing, or no record of it can be shown. `Full`: it could be entered, and the
-    /// journal has no room for it.
+    /// Hears a datagram of a link, counted from 0 (RFC 6762, 18), and enters it where a record of it is used. `Ignored`: it is
+    /// no hearing, or none of its records is used, as where there is no such link. `Full`: it could be entered, and the journal
+    /// has no room for it.
     pub fn hear(&mut self, link: usize, datagram: &[u8]) -> Result<Heard, HubFault>
         ensures ok { IfOk result (λ heard. (hub : Plain) → StandsFor self.old hub → ((hear hub link datagram.now).0 ≡ Some heard) × StandsFor self.new (hear hub link datagram.now).1) }
         ensures full { IsErrOf result HubFault.Full → (hub : Plain) → StandsFor self.old hub → ((hear hub link datagram.now).0 ≡ None) × StandsFor self.new (hear hub link datagram.now).1 }

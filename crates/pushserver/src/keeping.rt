@@ -22,10 +22,11 @@ use dnswire::Update;
 use dsosession::session::Timers;
 use history::entry::Entry;
 use history::{Homes, Planned, Points};
+use nametable::{NameTable, by_names};
 use push_base::limits::MAX_NUMBER;
 use pushsession::{NoMemory, PushSession};
 use rrset::rcodes::{FORMERR, NOERROR, SERVFAIL};
-use rrset::{Hearing, Rr, Table};
+use rrset::{Hearing, Rr};
 use std::alloc::Global;
 
 /// The history, what is granted, all records in one table, the sessions, and the number of the next one.
@@ -33,7 +34,7 @@ use std::alloc::Global;
 pub(crate) struct Keeping {
     pub(crate) points: Points,
     pub(crate) timers: Timers,
-    pub(crate) index: Table,
+    pub(crate) index: NameTable,
     pub(crate) sessions: Sessions,
     pub(crate) numbers_given: u64,
 }
@@ -50,7 +51,7 @@ impl Keeping {
         homes.tell_names();
         let alloc = homes.allocator();
         let points = Points::new(homes)?;
-        let index = points.table(alloc)?;
+        let index = by_names(alloc, points.table(alloc)?)?;
         Ok(Keeping {
             points,
             timers,

@@ -9,8 +9,9 @@ ghost use Rattle.pushserver.specs.Hubs.{all_sessions, session_in, without_sessio
 ghost use Rattle.pushserver.specs.Lending.{LendsSession};
 ghost use Rattle.pushserver.specs.NumberedSessions.{AreApart, WaitBefore};
 
+use nametable::NameTable;
 use pushsession::{NoMemory, PushSession};
-use rrset::{Changed, Table};
+use rrset::Changed;
 use std::alloc::Global;
 use std::marker::Model;
 
@@ -46,7 +47,7 @@ fn place_of(numbered: &[(u64, PushSession)], number: u64) -> Option<usize>
 fn note_all(
     numbered: &mut [(u64, PushSession)],
     changed: &[Changed],
-    index: &Table,
+    index: &NameTable,
     point: u64,
 ) -> Result<(), NoMemory>
     ensures ok { OnOk result (numbered.new ≡ all_sessions (noted keeping changed.now index.now.rows point) numbered.old) }
@@ -71,7 +72,7 @@ fn take_back_all(numbered: &mut [(u64, PushSession)], point: u64)
 fn note_or_none(
     numbered: &mut [(u64, PushSession)],
     changed: &[Changed],
-    index: &Table,
+    index: &NameTable,
     point: u64,
 ) -> Result<(), NoMemory>
     requires { WaitBefore point numbered.old }
@@ -167,7 +168,7 @@ impl Sessions {
     pub(crate) fn note(
         &mut self,
         changed: &[Changed],
-        index: &Table,
+        index: &NameTable,
         point: u64,
     ) -> Result<(), NoMemory>
         requires { WaitBefore point self.old }

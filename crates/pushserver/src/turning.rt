@@ -16,8 +16,9 @@ use crate::reading::read_message;
 use dnswire::Update;
 use dsosession::session::Timers;
 use history::Points;
+use nametable::NameTable;
 use pushsession::{NoMemory, PushSession, Request, Standing};
-use rrset::{Question, Rr, Table};
+use rrset::{Question, Rr};
 use std::alloc::Global;
 
 /// What a session's turn came to.
@@ -82,7 +83,7 @@ fn work(
     session: &mut PushSession,
     alloc: Global,
     points: &Points,
-    index: &Table,
+    index: &NameTable,
     timers: Timers,
     buf: &mut [u8],
 ) -> Result<Turn, NoMemory>
@@ -118,7 +119,7 @@ pub(crate) fn take_turn(
     session: &mut PushSession,
     alloc: Global,
     points: &Points,
-    index: &Table,
+    index: &NameTable,
     timers: Timers,
     buf: &mut [u8],
 ) -> Result<Turn, NoMemory>

@@ -8,7 +8,8 @@ ghost use Rattle.pushsession.specs.Kept.{keeping, taken_back};
 use crate::NoMemory;
 use crate::session::PushSession;
 use coalesce::Queue;
-use rrset::{Changed, Table};
+use nametable::NameTable;
+use rrset::Changed;
 use subscr::Subscriptions;
 
 /// Each name at which a key that the questions ask for changes waits from now on.
@@ -16,7 +17,7 @@ fn note_names(
     queue: &mut Queue,
     questions: &Subscriptions,
     changed: &[Changed],
-    index: &Table,
+    index: &NameTable,
     point: u64,
 ) -> Result<(), NoMemory>
     ensures ok { OnOk result (queue.new ≡ fold (keeping.with_name point index.now.rows) queue.old (touched keeping (record { asked = questions.now; filled = [] }) changed.now)) }
@@ -36,7 +37,12 @@ impl PushSession {
     /// a question asks for waits from now on, in the order of the changes, with its records as they are. Where memory
     /// runs out, some may wait; `take_back` of the point undoes that, where all others wait since
     /// an earlier one.
-    pub fn note(&mut self, changed: &[Changed], index: &Table, point: u64) -> Result<(), NoMemory>
+    pub fn note(
+        &mut self,
+        changed: &[Changed],
+        index: &NameTable,
+        point: u64,
+    ) -> Result<(), NoMemory>
         ensures ok { OnOk result (self.new ≡ noted keeping changed.now index.now.rows point self.old) }
         ensures err { OnErr result (taken_back point self.new ≡ taken_back point self.old) }
     {

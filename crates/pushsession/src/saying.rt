@@ -14,7 +14,7 @@ use crate::session::PushSession;
 use crate::standing::Standing;
 use dsotlv::LENGTH;
 use dsotlv::flags::REQUEST;
-use rrset::Table;
+use nametable::NameTable;
 
 impl PushSession {
     /// A message behind its length was written, so many octets in all: they count, and restart the timers (RFC 8490, 6.3).
@@ -48,7 +48,7 @@ impl PushSession {
 
     /// Writes one PUSH of the names that fit, as the questions ask for their records (RFC 8765, 6.3). The names in
     /// front of the first that doesn't fit wait no more, also those with nothing to tell.
-    pub fn pack(&mut self, index: &Table, now: u64)
+    pub fn pack(&mut self, index: &NameTable, now: u64)
         requires output { self.old.output ≡ [] }
         requires sides { CanBePacked index.now.rows self.old.queue }
         ensures { self.new ≡ packs keeping (telling index.now.rows) now self.old }

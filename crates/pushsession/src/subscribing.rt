@@ -22,10 +22,11 @@ use coalesce::{Frame, Queue};
 use dsosession::session::EndReason;
 use dsotlv::LENGTH;
 use dsotlv::delays::REFUSAL;
+use nametable::NameTable;
+use rrset::Question;
 use rrset::classes::{ANY, IN};
 use rrset::header::HEADER;
 use rrset::rcodes::{FORMERR, NOERROR, NOTAUTH, REFUSED};
-use rrset::{Question, Table};
 use subscr::{MAX_QUESTIONS, Subscriptions};
 
 /// Whether records of a class are served.
@@ -42,7 +43,7 @@ fn append_first_answer(
     question: &Question,
     queue: &Queue,
     questions: &Subscriptions,
-    index: &Table,
+    index: &NameTable,
 ) -> usize
     requires empty { out.old ≡ [] }
     requires side { IsOneSide (at_name question.now.name index.now.rows) }
@@ -74,7 +75,7 @@ impl PushSession {
 
     /// What of accepting a SUBSCRIBE can run out of memory: all but that the message is taken up, the timers restart and
     /// the session is established. Where it does, nothing changes.
-    fn hold(&mut self, id: u16, question: Question, index: &Table) -> Result<(), NoMemory>
+    fn hold(&mut self, id: u16, question: Question, index: &NameTable) -> Result<(), NoMemory>
         requires output { self.old.output ≡ [] }
         requires accepted { verdict_on keeping id (Some question) true self.old.subscriptions ≡ Accept question }
         requires side { IsOneSide (at_name question.name index.now.rows) }
@@ -110,7 +111,7 @@ impl PushSession {
         &mut self,
         id: u16,
         question: Question,
-        index: &Table,
+        index: &NameTable,
         now: u64,
     ) -> Result<(), NoMemory>
         requires output { self.old.output ≡ [] }
@@ -134,7 +135,7 @@ impl PushSession {
         &mut self,
         question: Option<Question>,
         has_home: bool,
-        index: &Table,
+        index: &NameTable,
         now: u64,
     ) -> Result<(), NoMemory>
         requires output { self.old.output ≡ [] }

@@ -7,6 +7,8 @@ mod asked;
 #[cfg(test)]
 mod made;
 #[cfg(test)]
+mod name_tables;
+#[cfg(test)]
 mod nets;
 #[cfg(test)]
 mod queues;

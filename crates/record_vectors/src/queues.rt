@@ -1,6 +1,6 @@
 //! Names that wait, and what one PUSH takes of them (RFC 8765, 6.3).
 
-ghost use Rattle.std.specs.Prelude.{IfOk};
+ghost use Rattle.std.specs.Prelude.{◌≡◌, IfOk};
 ghost use Rattle.coalesce.specs.Waiting.{CanBePacked};
 
 use crate::asked::add_new;
@@ -8,6 +8,7 @@ use crate::made::{holds, is_text, put, question, record};
 use crate::sides::can_be_told;
 use coalesce::{Frame, Queue};
 use dnsname::Name;
+use nametable::{NameTable, by_names};
 use push_base::{NoMemory, hex_text};
 use rrset::{Key, Shown, Table, kinds};
 use std::alloc::Global;
@@ -103,6 +104,13 @@ fn changed(alloc: Global, index: &Table) -> Result<Queue, Fail>
     Ok(queue)
 }
 
+/// The records of a table by names.
+fn named(alloc: Global, index: &Table) -> Result<NameTable, NoMemory>
+    ensures { IfOk result (λ rows. rows.rows ≡ index.now.rows) }
+{
+    by_names(alloc, index.copy()?)
+}
+
 /// The names that wait, each with its point, and a plus where it has something to tell.
 fn waiting(
     alloc: Global,
@@ -110,6 +118,7 @@ fn waiting(
     asked: &Subscriptions,
     index: &Table,
 ) -> Result<String, Fail> {
+    let rows = named(alloc, index)?;
     let mut text = String::new(alloc);
     'names: for (_, owner, _) in ASKED {
         let name = Name::from_text(alloc, owner)?;
@@ -117,7 +126,7 @@ fn waiting(
             text.push_str(owner)?;
             text.push_str(&point.to_string(alloc)?)?;
         }
-        if queue.differs(&name, asked, index) {
+        if queue.differs(&name, asked, &rows) {
             text.push('+')?;
         }
     }
@@ -134,8 +143,9 @@ fn packed(
     requires { CanBePacked index.now.rows queue.old }
     ensures { CanBePacked index.now.rows queue.new }
 {
+    let rows = named(alloc, index)?;
     let mut out = Frame::new(alloc)?;
-    let size = queue.pack(asked, index, &mut out);
+    let size = queue.pack(asked, &rows, &mut out);
     Ok((out, size))
 }
 

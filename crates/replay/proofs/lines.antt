@@ -5,7 +5,6 @@ pub mod Lines
 pub mod LineKinds
 pub mod LineWords
 pub mod Splits
-pub mod Unbuilt
 pub mod SoFar
 pub mod MoreLines
 pub mod Happening

@@ -1,4 +1,4 @@
 -- What a script is answered, and what is written of it.
 pub mod Written
 pub mod ReadAndWritten
-pub mod BuiltReplies
+pub mod ScriptReplies

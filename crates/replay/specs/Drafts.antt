@@ -4,11 +4,11 @@
 --     known_by links clients      what lines that made these alone have made
 --     client_added line      the client that a line adds
 --     known_of taken      what the lines so far have made
---     may_stand all known line      whether a line is built and may stand there
+--     may_stand all known line      whether a line may stand there
 --     GrowsBy taken line later      the head and the events with a further line
 --     TakesLine all draft line later taken      the line is taken where it may stand there
 --     client_in line, is_any_word w words      the client that a line names, and whether a word is among others
-use Rattle.std.specs.Prelude.{◌≡◌, ℕ, Bool, true, false, ◌&&◌, ◌==◌, List, [], ◌∷◌, ◌++◌, map, length, Option, Some, is_some, string_bytes}
+use Rattle.std.specs.Prelude.{◌≡◌, ℕ, Bool, true, false, ◌==◌, List, [], ◌∷◌, ◌++◌, map, length, Option, Some, is_some, string_bytes}
 use Rattle.std.specs.List.{list_any}
 use Rattle.std.specs.Str.{bytes_eq}
 use Rattle.std.specs.declared.alloc.Global.{Global}
@@ -29,7 +29,6 @@ use Rattle.replay.specs.declared.script.Draft.{Draft}
 use Rattle.replay.specs.declared.clients.KnownClient.{KnownClient}
 use Rattle.replay.specs.KeptLines.{event_said, said}
 use Rattle.replay.specs.KeptWorlds.{words_of}
-use Rattle.replay.specs.BuiltScripts.{is_built}
 
 -- ---- clients
 
@@ -64,9 +63,9 @@ taken_of draft = record { timers = draft.timers; homes = draft.homes; links = wo
 abbrev pub known_of : Taken → Known
 known_of taken = record { in_head = length taken.events == 0; has_timers = is_some taken.timers; homes = taken.homes.names; links = taken.links; clients = taken.clients }
 
--- the line is built, and may stand there
+-- the line may stand there
 abbrev pub may_stand : List Word → Known → ScriptLine → Bool
-may_stand all known line = is_built line && is_some (fits all known line)
+may_stand all known line = is_some (fits all known line)
 
 -- ---- the draft behind it
 

@@ -1,4 +1,4 @@
--- The lines that are built, as the program holds them.
+-- The lines of a script, as the program holds them.
 --     said line      what a line that was read says
 --     begins_silent text      whether a text is empty or begins with #
 --     one_in words, two_in words, three_in words, four_in words, five_in words      the words, where they are so many

@@ -2,11 +2,11 @@
 --     status_of outcome      the status of an outcome
 use Rattle.std.specs.Prelude.{ℕ}
 use Rattle.replay.specs.declared.outcome.Outcome.{Outcome}
-use Rattle.replay.specs.declared.outcome.Outcome.TheVariants.{Done, ReadFault, NoMemory, WriteFault, Later}
+use Rattle.replay.specs.declared.outcome.Outcome.TheVariants.{Done, Outside, ReadFault, NoMemory, WriteFault}
 
 abbrev pub status_of : Outcome → ℕ
 status_of Done = 0
+status_of Outside = 2
 status_of ReadFault = 3
 status_of NoMemory = 4
 status_of WriteFault = 5
-status_of Later = 8

@@ -1,24 +1,29 @@
--- What a script that is built tells of the pieces in which a peer sends its octets, as long as no entry is made.
+-- What a script tells of the pieces in which a peer sends its octets, as long as no entry is made.
 --     SentInPieces      a peer's word, the pieces that it sends in lines with those of others between them, its session, and the lines before and behind
---     SendsPieces script sent      the script is built, these are its lines, no entry is made, and the session goes on
+--     SendsPieces script sent      these are the lines of the script, no entry is made, and the session goes on, or ends with the last piece
 --     TellsInTurn sent told      what is told of each piece answers the messages that it completes
 --     pieces_reply records sent told      the status and the text, where this is told
-use Rattle.std.specs.Prelude.{◌≡◌, ℕ, Bool, true, not, List, [], ◌∷◌, ◌++◌, map, take, length, flat_map, Some, None, Ok}
+--     LeavesPeer sent over      how the peer's session is left: as it has answered all messages, or gone
+--     OneTextForEveryCut      as long as no entry is made, the same octets to the same session are told the same, and leave it alike, however they are cut and whatever others do
+use Rattle.std.specs.Prelude.{◌≡◌, ℕ, ◌-◌, ◌≤◌, Bool, true, not, List, [], ◌∷◌, ◌++◌, map, take, length, flat_map, Option, Some, None, IsSome, option_map, Ok}
 use Rattle.std.specs.List.{concat, list_all, AllByRecursion}
 use Rattle.std.specs.Str.{bytes_eq}
+use Rattle.dsosession.specs.declared.session.EndReason.{EndReason}
 use Rattle.dsotlv.specs.Messages.{messages_in}
-use Rattle.pushsession.specs.declared.standing.Standing.TheVariants.{Live}
+use Rattle.pushsession.specs.declared.standing.Standing.{Standing}
+use Rattle.pushsession.specs.declared.standing.Standing.TheVariants.{Live, Ended}
+use Rattle.pushsession.specs.Sessions.{without_first}
 use Rattle.pushserver.specs.PlainHubs.{Session, Hub}
+use Rattle.pushserver.specs.Hubs.{session_of}
 use Rattle.replay.specs.Lines.{Word, ScriptLine, cut, send, stop}
 use Rattle.replay.specs.Scripts.{script_of}
-use Rattle.replay.specs.World.{World, start_world}
+use Rattle.replay.specs.World.{World, start_world, session_number}
 use Rattle.replay.specs.TextWords.{bytes_line, HeldRecords, by_history}
-use Rattle.replay.specs.Text.{ended_lines, placed, line_does, printed_by, world_after}
+use Rattle.replay.specs.Text.{end_lines, ended_lines, placed, line_does, printed_by, world_after}
 use Rattle.replay.specs.SessionPieces.{IsAtRest, ArePassable, answers_to, standing_of}
 use Rattle.replay.specs.declared.outcome.Outcome.TheVariants as outcomes
 use Rattle.replay.specs.Outcomes.{status_of}
 use Rattle.replay.specs.Reply.{Reply}
-use Rattle.replay.specs.BuiltScripts.{first_later}
 
 -- whether a line neither sends a peer's octets, nor stops its session, nor cuts its connection
 abbrev pub is_of_others : Word → ScriptLine → Bool
@@ -31,11 +36,13 @@ is_of_others w _ = true
 abbrev pub Turn : Type 0
 Turn = List ℕ × List ScriptLine
 
--- The number of the peer's session, the world with it, and the session are those behind the lines before: its own, or a new one.
+-- The number of the peer's session, the world with it, and the session are those behind the lines before: its own, or a new one. Why
+-- it ends with the last piece, if it does.
 pub record SentInPieces : Type 0 where
   pub before : List ScriptLine
   pub word : Word
   pub turns : List Turn
+  pub over : Option EndReason
   pub behind : List ScriptLine
   pub number : ℕ
   pub world : World
@@ -65,39 +72,83 @@ world_behind sent = world_after (lines_sent sent) (world_then sent)
 abbrev pub answered_to_first : ℕ → SentInPieces → List ℕ × Hub
 answered_to_first n sent = answers_to sent.number (messages_in (sent.session.input ++ concat (take n (pieces_of sent)))).0 sent.world.hub
 
--- and to those in all pieces
-abbrev pub answered_to_all : SentInPieces → List ℕ × Hub
-answered_to_all sent = answers_to sent.number (messages_in (sent.session.input ++ concat (pieces_of sent))).0 sent.world.hub
+-- the whole messages in its input and all pieces, and the octets behind them
+abbrev pub messages_sent : SentInPieces → List (List ℕ) × List ℕ
+messages_sent sent = messages_in (sent.session.input ++ concat (pieces_of sent))
 
--- The script is built; the peer's session is at rest; the lines between are of others; no entry is made until the last of them is done;
--- and the session goes on behind the whole messages in its input and all pieces.
+-- what it answers to these, and the hub after them
+abbrev pub answered_to_all : SentInPieces → List ℕ × Hub
+answered_to_all sent = answers_to sent.number (messages_sent sent).0 sent.world.hub
+
+-- a session that goes on, and one that has ended
+abbrev pub standing_with : Option EndReason → Standing
+standing_with None = Live
+standing_with (Some reason) = Ended reason
+
+-- The peer's session is at rest; the lines between are of others; no entry is made until the last of them is done; and behind the
+-- whole messages in its input and all pieces the session goes on, or has ended so, and not before the last piece.
 pub record SendsPieces (script : List ℕ) (sent : SentInPieces) : Type 0 where
-  pub built : first_later script ≡ None
   pub read : script_of script ≡ Ok (lines_of sent)
   pub place : placed sent.word (world_then sent) ≡ Some (sent.number, sent.world)
   pub rest : IsAtRest sent.world.hub sent.number sent.session
   pub passable : ArePassable (concat (pieces_of sent))
   pub others : AllByRecursion (λ t. list_all (is_of_others sent.word) t.1 ≡ true) sent.turns
   pub no_entry : (world_behind sent).hub.history ≡ sent.world.hub.history
-  pub goes_on : standing_of (answered_to_all sent).1 sent.number ≡ Some Live
+  pub over : standing_of (answered_to_all sent).1 sent.number ≡ Some (standing_with sent.over)
+  pub not_before : IsSome sent.over → standing_of (answered_to_first (length sent.turns - 1) sent).1 sent.number ≡ Some Live
 
 -- for each piece something is told; and what is told of the first pieces, together, is the answers to the whole messages in the input and these
 pub record TellsInTurn (sent : SentInPieces) (told : List (List ℕ)) : Type 0 where
   pub count : length told ≡ length sent.turns
   pub turns : (n : ℕ) → concat (take n told) ≡ (answered_to_first n sent).0
 
--- a line with each of these, and behind it what the lines of others print
-abbrev pub printed_turns : HeldRecords → Word → List Turn → List (List ℕ) → World → List (List ℕ)
-printed_turns records w [] told world = []
-printed_turns records w (turn ∷ turns) [] world = []
-printed_turns records w (turn ∷ turns) (octets ∷ told) world =
+-- the end is told behind the last piece
+abbrev pub end_behind : List Turn → Option EndReason → Option EndReason
+end_behind [] over = over
+end_behind (turn ∷ turns) over = None
+
+-- a line with each of these, behind the last the line of the end, if there is one, and then what the lines of others print
+abbrev pub printed_turns : HeldRecords → Word → Option EndReason → List Turn → List (List ℕ) → World → List (List ℕ)
+printed_turns records w over [] told world = []
+printed_turns records w over (turn ∷ turns) [] world = []
+printed_turns records w over (turn ∷ turns) (octets ∷ told) world =
     let later = (line_does by_history (send w turn.0) world).0 in
-    bytes_line w octets ∷ (printed_by records turn.1 later ++ printed_turns records w turns told (world_after turn.1 later))
+    bytes_line w octets ∷ (end_lines w (end_behind turns over) ++ (printed_by records turn.1 later ++ printed_turns records w over turns told (world_after turn.1 later)))
 
 -- those lines alone stand between what the lines before print and what those behind do
 abbrev pub pieces_reply : HeldRecords → SentInPieces → List (List ℕ) → Reply
 pieces_reply records sent told = record {
   status = status_of outcomes.Done;
   text = ended_lines (printed_by records sent.before (world_start sent))
-      ++ (ended_lines (printed_turns records sent.word sent.turns told (world_then sent)) ++ ended_lines (printed_by records sent.behind (world_behind sent)));
+      ++ (ended_lines (printed_turns records sent.word sent.over sent.turns told (world_then sent)) ++ ended_lines (printed_by records sent.behind (world_behind sent)));
 }
+
+-- Behind its lines the peer has the session that has answered all messages, with the octets behind them in its input; or, where that
+-- has ended, it has none, and the session is gone.
+abbrev pub LeavesPeer : SentInPieces → Option EndReason → Type 0
+LeavesPeer sent None = (session_number (world_behind sent) sent.word ≡ Some sent.number)
+    × (session_of (world_behind sent).hub sent.number ≡ option_map (without_first (messages_sent sent).1) (session_of (answered_to_all sent).1 sent.number))
+LeavesPeer sent (Some reason) = (session_number (world_behind sent) sent.word ≡ None) × (session_of (world_behind sent).hub sent.number ≡ None)
+
+abbrev pub PiecesLeavePeers : Type 0
+PiecesLeavePeers = (script : List ℕ) (sent : SentInPieces) → SendsPieces script sent → 1 ≤ length sent.turns → LeavesPeer sent sent.over
+
+-- The same octets to the same session of the same hub, in whatever pieces, with whatever lines of others between. Where the first
+-- pieces end the session, the last of the second may bring more behind that end.
+pub record SendTheSame (first second : SentInPieces) : Type 0 where
+  pub some : (1 ≤ length first.turns) × (1 ≤ length second.turns)
+  pub hub : first.world.hub ≡ second.world.hub
+  pub number : first.number ≡ second.number
+  pub more : List ℕ
+  pub octets : concat (pieces_of first) ++ more ≡ concat (pieces_of second)
+  pub none_more : first.over ≡ None → more ≡ []
+
+-- the same octets are told, the session ends for the same reason or goes on in both, and is left the same
+pub record TellTheSame (first second : SentInPieces) (told others : List (List ℕ)) : Type 0 where
+  pub octets : concat told ≡ concat others
+  pub over : first.over ≡ second.over
+  pub session : session_of (world_behind first).hub first.number ≡ session_of (world_behind second).hub second.number
+
+abbrev pub OneTextForEveryCut : Type 0
+OneTextForEveryCut = (script other : List ℕ) (first second : SentInPieces) (told others : List (List ℕ)) → SendsPieces script first → SendsPieces other second → SendTheSame first second
+    → TellsInTurn first told → TellsInTurn second others → TellTheSame first second told others

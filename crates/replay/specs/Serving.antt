@@ -1,7 +1,7 @@
 -- The promise to who subscribes: a SUBSCRIBE that a peer sends as its first octets, for a name that has a home and a class that is served, is answered NOERROR, and the records that it asks for as they are then follow (RFC 8765, 6.2.2 and 6.3).
 --     Asked      a peer's word, what it sends, its question, and the lines before and behind it
 --     world_then asked, connected_then asked, session_then asked      the world before that line, the hub with the peer's new session, and this session
---     AsksFirst script asked      the script is built, these are its lines, and the question is served
+--     AsksFirst script asked      these are the lines of the script, and the question is served
 --     served_reply records asked      the status and the text
 use Rattle.std.specs.Prelude.{◌≡◌, ℕ, List, [], ◌∷◌, ◌++◌, Some, None, Ok, IsSome}
 use Rattle.rrset.specs.Header.{id_of}
@@ -22,7 +22,6 @@ use Rattle.replay.specs.Text.{ended_lines, line_does, printed_by, world_after}
 use Rattle.replay.specs.declared.outcome.Outcome.TheVariants as outcomes
 use Rattle.replay.specs.Outcomes.{status_of}
 use Rattle.replay.specs.Reply.{Reply}
-use Rattle.replay.specs.BuiltScripts.{first_later}
 
 pub record Asked : Type 0 where
   pub before : List ScriptLine
@@ -52,9 +51,8 @@ connected_then asked = (connect (world_then asked).hub).1
 abbrev pub session_then : Asked → Session
 session_then asked = (let hub = (world_then asked).hub in new_session (keeps_now hub) (now hub))
 
--- the script is built; the peer has no session yet and gets one; its octets are one whole frame, and a new session accepts the message
+-- the peer has no session yet and gets one; its octets are one whole frame, and a new session accepts the message
 pub record AsksFirst (script : List ℕ) (asked : Asked) : Type 0 where
-  pub built : first_later script ≡ None
   pub read : script_of script ≡ Ok (lines_of asked)
   pub new_peer : session_number (world_then asked) asked.word ≡ None
   pub seat : IsSome (connect (world_then asked).hub).0

@@ -3,7 +3,7 @@
 --     answers_to number messages hub      what a live session without output answers to whole messages, one after the other, until it ends
 --     AnswersInTurn      what it gives for pieces is what it answers to the whole messages in its input and all pieces
 --     OneOutputForEveryCut      so it gives one output for the same octets, however they are cut into pieces
---     AnswersEveryCutIn script      of each session between any two lines of a script that is built
+--     AnswersEveryCutIn script      of each session between any two lines of a script
 use Rattle.std.specs.Prelude.{◌≡◌, ℕ, ◌<◌, ◌≤◌, List, [], ◌∷◌, ◌++◌, length, All, Option, Some, None, option_map, Ok}
 use Rattle.std.specs.List.{concat}
 use Rattle.dsotlv.specs.Messages.{first_message, messages_in}
@@ -19,7 +19,6 @@ use Rattle.replay.specs.Scripts.{script_of}
 use Rattle.replay.specs.World.{start_world}
 use Rattle.replay.specs.PassedOctets.{exchanged, enough}
 use Rattle.replay.specs.Text.{world_after}
-use Rattle.replay.specs.BuiltScripts.{first_later}
 
 -- the octets that a session gives for pieces that come one after the other, and the hub after them
 abbrev pub given_for : ℕ → List (List ℕ) → Hub → List ℕ × Hub
@@ -83,5 +82,5 @@ AnswersEveryCutNow hub = AnswersEveryCut hub × AnswersEveryCut (connect hub).1
 -- messages in its input and all pieces are answered one after the other, until it ends, and all pieces of the same octets give
 -- the same output.
 unfoldable pub AnswersEveryCutIn : List ℕ → Type 0
-AnswersEveryCutIn script = (before behind : List ScriptLine) → first_later script ≡ None → script_of script ≡ Ok (before ++ behind)
+AnswersEveryCutIn script = (before behind : List ScriptLine) → script_of script ≡ Ok (before ++ behind)
     → AnswersEveryCutNow (world_after before (start_world (before ++ behind))).hub

@@ -8,7 +8,7 @@ use Rattle.std.specs.declared.option.Option.{Option}
 use Rattle.std.specs.Io.KnownBytes.{append_known, prepend_known}
 use Rattle.replay.specs.declared.outcome.Outcome.TheVariants as outcomes
 use Rattle.replay.specs.Outcomes.{status_of}
-use Rattle.replay.specs.BuiltScripts.{left_behind}
+use Rattle.replay.specs.ScriptReplies.{left_behind}
 
 -- where a source tells them: what it has left lost some octets from its front, and what it gave grew by these
 abbrev pub Gave : Option (List ℕ) → Option (List ℕ) → Option (List ℕ) → Option (List ℕ) → Type 0
@@ -20,7 +20,7 @@ LostAtMost most left left_now = IfSome left (λ octets. (n : ℕ) × (n ≤ most
 
 -- the status says that the script was read
 abbrev pub HasRead : ℕ → Type 0
-HasRead status = (status ≡ status_of outcomes.Done) ⊎ (status ≡ status_of outcomes.Later)
+HasRead status = (status ≡ status_of outcomes.Done) ⊎ (status ≡ status_of outcomes.Outside)
 
 -- where the source told what it had, only what is behind a script too long is left
 abbrev pub LeftBehind : Option (List ℕ) → Option (List ℕ) → Type 0

@@ -219,9 +219,13 @@ text_of_script script = text_by by_history script
 abbrev pub text_by_notices : List ScriptLine → List ℕ
 text_by_notices script = text_by by_notices script
 
+-- what is written where that line is the first outside
+abbrev pub outside_text : ℕ → List ℕ
+outside_text number = line (codes "line " ++ decimal number)
+
 -- the status and the whole text for the octets of a script
 abbrev pub text_with : HeldRecords → List ℕ → ℕ × List ℕ
-text_with records text = elim (script_of text) [ Ok script ↦ (status_of outcomes.Done, text_by records script) | Err n ↦ (2, ended_lines (spaced (codes "line" ∷ decimal n ∷ []) ∷ [])) ]
+text_with records text = elim (script_of text) [ Ok script ↦ (status_of outcomes.Done, text_by records script) | Err n ↦ (status_of outcomes.Outside, outside_text n) ]
 
 abbrev pub text_of : List ℕ → ℕ × List ℕ
 text_of text = text_with by_history text

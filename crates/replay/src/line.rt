@@ -1,14 +1,17 @@
-//! The lines of a script that are built.
+//! The lines of a script.
 
 ghost use Rattle.std.specs.Prelude.{◌≡◌, false, ◌∷◌, [], IfOk, IfSome, IfNone, None, position, ◌==◌, ◌<◌, option_map, length, string_bytes, List, ℕ};
 ghost use Rattle.push_base.specs.Cases.{chosen};
-ghost use Rattle.replay.specs.Lines.{words_in, Word, ScriptLine, lone, ask, drop_question, open_connection, cut, feed, hear, send, update, timers_line, zone_line, link_line, at_line, reconfirm_line, show_line, stop_line, of_word, of_octets, of_word_and_octets, of_word_and_question, line_of, question, client, settle, kind_of, client_kinds, line_behind, of_word_and_number, say, up, emit, down};
-ghost use Rattle.replay.specs.BuiltScripts.{understood};
+ghost use Rattle.replay.specs.Lines.{words_in, Word, ScriptLine, cut, hear, send, update, timers_line, zone_line, link_line, at_line, stop_line, of_word, of_octets, of_word_and_octets, line_of, kind_of, client_kinds, line_behind};
 ghost use Rattle.replay.specs.KeptLines.{said, one_in, two_in, three_in, four_in, five_in, begins_silent};
 
+use crate::client_readers::{
+    ask_line, client_line, down_line, drop_line, emit_line, feed_line, lone_line, open_line,
+    reconfirm_line, say_line, settle_line, show_line, up_line,
+};
 use crate::line_words::{
-    Moment, count_of_word, moment_of_word, name_of_word, number_of_word, octets_of_word,
-    plain_word, rcode_of_word, short_number_of_word, text_of_word, writable_of_word,
+    Moment, moment_of_word, name_of_word, number_of_word, octets_of_word, plain_word,
+    rcode_of_word, writable_of_word,
 };
 use dnsname::name::{Name, Octets};
 use dsosession::session::Timers;
@@ -176,7 +179,7 @@ pub enum Event {
     Reconfirm(Reconfirming),
 }
 
-/// A line of a script that is built.
+/// A line of a script.
 #[derive(Debug, Drop)]
 pub enum Line {
     /// It says nothing.
@@ -191,7 +194,7 @@ pub enum Line {
     Event(Event),
 }
 
-// The kinds of lines that say something, built or not; what begins with no word of the grammar is `Other`.
+// The kinds of lines that say something; what begins with no word of the grammar is `Other`.
 #[derive(Clone, Copy)]
 enum Kind {
     Timers,
@@ -220,9 +223,9 @@ enum Kind {
     Other,
 }
 
-/// What a line says, if it is built.
+/// What a line says, if it is in the grammar.
 pub(crate) fn read_line(alloc: Global, line: &[u8]) -> Result<Option<Line>, NoMemory>
-    ensures exact { IfOk result (λ found. option_map (λ l. said l) found ≡ understood (line_of line.now)) }
+    ensures exact { IfOk result (λ found. option_map (λ l. said l) found ≡ line_of line.now) }
 {
     match line {
         [] => Ok(Some(Line::Silent)),
@@ -233,7 +236,7 @@ pub(crate) fn read_line(alloc: Global, line: &[u8]) -> Result<Option<Line>, NoMe
 
 // A line that begins with `#`, by what follows: it says nothing, and is UTF-8.
 fn comment_line(comment: &[u8]) -> Option<Line>
-    ensures exact { option_map (λ l. said l) result ≡ understood (line_of (35 ∷ comment.now)) }
+    ensures exact { option_map (λ l. said l) result ≡ line_of (35 ∷ comment.now) }
 {
     match str::from_utf8(comment) {
         Ok(_) => Some(Line::Silent),
@@ -244,7 +247,7 @@ fn comment_line(comment: &[u8]) -> Option<Line>
 // What a line says that neither is empty nor begins with `#`.
 fn speaking_line(alloc: Global, line: &[u8]) -> Result<Option<Line>, NoMemory>
     requires { begins_silent line.now ≡ false }
-    ensures exact { IfOk result (λ found. option_map (λ l. said l) found ≡ understood (line_of line.now)) }
+    ensures exact { IfOk result (λ found. option_map (λ l. said l) found ≡ line_of line.now) }
 {
     match split_word(line) {
         Some((word, rest)) => longer_line(alloc, kind_of(word), rest),
@@ -316,9 +319,9 @@ fn client_kind(word: &[u8]) -> Kind
     }
 }
 
-// What a line of this kind says with nothing behind its first word, if it is built.
+// What a line of this kind says with nothing behind its first word, if that is in the grammar.
 fn single_word(kind: Kind) -> Option<Line>
-    ensures exact { option_map (λ l. said l) result ≡ understood (line_behind kind []) }
+    ensures exact { option_map (λ l. said l) result ≡ line_behind kind [] }
 {
     match kind {
         Kind::Point => Some(Line::Event(Event::Point)),
@@ -330,9 +333,9 @@ fn single_word(kind: Kind) -> Option<Line>
     }
 }
 
-// What a line of this kind says with that text behind its first word, if it is built.
+// What a line of this kind says with that text behind its first word, if that is in the grammar.
 fn longer_line(alloc: Global, kind: Kind, text: &[u8]) -> Result<Option<Line>, NoMemory>
-    ensures exact { IfOk result (λ found. option_map (λ l. said l) found ≡ understood (line_behind kind (words_in text.now))) }
+    ensures exact { IfOk result (λ found. option_map (λ l. said l) found ≡ line_behind kind (words_in text.now)) }
 {
     match kind {
         Kind::Timers => Ok(timers_line(text)),
@@ -364,7 +367,7 @@ fn longer_line(alloc: Global, kind: Kind, text: &[u8]) -> Result<Option<Line>, N
 // What follows the first word of a line of timers: the time without activity after which a session ends, and the
 // interval of Keepalives, in milliseconds (RFC 8490, 6.2), which is 10 seconds or more.
 fn timers_line(text: &[u8]) -> Option<Line>
-    ensures exact { option_map (λ l. said l) result ≡ understood (timers_line (words_in text.now)) }
+    ensures exact { option_map (λ l. said l) result ≡ timers_line (words_in text.now) }
 {
     let (inactivity, keepalive) = two_words(text)?;
     let inactivity = number_of_word(inactivity)?;
@@ -380,7 +383,7 @@ fn timers_line(text: &[u8]) -> Option<Line>
 
 // What follows the first word of a zone line: the apex, the serial, and `open` or `shut`.
 fn zone_line(alloc: Global, text: &[u8]) -> Result<Option<Line>, NoMemory>
-    ensures exact { IfOk result (λ found. option_map (λ l. said l) found ≡ understood (zone_line (words_in text.now))) }
+    ensures exact { IfOk result (λ found. option_map (λ l. said l) found ≡ zone_line (words_in text.now)) }
 {
     let Some((apex, serial, mode)) = three_words(text) else {
         return Ok(None);
@@ -403,7 +406,7 @@ fn zone_line(alloc: Global, text: &[u8]) -> Result<Option<Line>, NoMemory>
 
 // What follows the first word of a link line: its word, and its domain.
 fn link_line(alloc: Global, text: &[u8]) -> Result<Option<Line>, NoMemory>
-    ensures exact { IfOk result (λ found. option_map (λ l. said l) found ≡ understood (link_line (words_in text.now))) }
+    ensures exact { IfOk result (λ found. option_map (λ l. said l) found ≡ link_line (words_in text.now)) }
 {
     let Some((word, domain)) = two_words(text) else {
         return Ok(None);
@@ -419,7 +422,7 @@ fn link_line(alloc: Global, text: &[u8]) -> Result<Option<Line>, NoMemory>
 
 // What follows the first word of a line with a moment: the moment, in milliseconds.
 fn at_line(text: &[u8]) -> Option<Line>
-    ensures exact { option_map (λ l. said l) result ≡ understood (at_line (words_in text.now)) }
+    ensures exact { option_map (λ l. said l) result ≡ at_line (words_in text.now) }
 {
     let moment = moment_of_word(one_word(text)?)?;
     Some(Line::Event(Event::At(moment)))
@@ -427,7 +430,7 @@ fn at_line(text: &[u8]) -> Option<Line>
 
 // What follows the first word of an update line: the octets of the message.
 fn update_line(alloc: Global, text: &[u8]) -> Result<Option<Line>, NoMemory>
-    ensures exact { IfOk result (λ found. option_map (λ l. said l) found ≡ understood (of_octets update (words_in text.now))) }
+    ensures exact { IfOk result (λ found. option_map (λ l. said l) found ≡ of_octets update (words_in text.now)) }
 {
     let Some(octets) = one_word(text) else {
         return Ok(None);
@@ -438,8 +441,8 @@ fn update_line(alloc: Global, text: &[u8]) -> Result<Option<Line>, NoMemory>
     Ok(Some(Line::Event(Event::Update(octets))))
 }
 
-// What follows the first word of a line that names one more word alone.
-fn word_alone(alloc: Global, text: &[u8]) -> Result<Option<String>, NoMemory>
+/// What follows the first word of a line that names one more word alone.
+pub(crate) fn word_alone(alloc: Global, text: &[u8]) -> Result<Option<String>, NoMemory>
     ensures { IfOk result (λ found. (line : Word → ScriptLine) → option_map (λ w. line (string_bytes w)) found ≡ of_word line (words_in text.now)) }
 {
     let Some(word) = one_word(text) else {
@@ -448,8 +451,8 @@ fn word_alone(alloc: Global, text: &[u8]) -> Result<Option<String>, NoMemory>
     plain_word(alloc, word)
 }
 
-// What follows the first word of a line that names a word, and then octets.
-fn word_and_octets(alloc: Global, text: &[u8]) -> Result<Option<Sent>, NoMemory>
+/// What follows the first word of a line that names a word, and then octets.
+pub(crate) fn word_and_octets(alloc: Global, text: &[u8]) -> Result<Option<Sent>, NoMemory>
     ensures exact { IfOk result (λ found. (line : Word → List ℕ → ScriptLine) → option_map (λ s. line (string_bytes s.word) s.octets) found ≡ of_word_and_octets line (words_in text.now)) }
 {
     let Some((word, octets)) = two_words(text) else {
@@ -464,41 +467,9 @@ fn word_and_octets(alloc: Global, text: &[u8]) -> Result<Option<Sent>, NoMemory>
     Ok(Some(Sent { word, octets }))
 }
 
-// What follows the first word of a line that names a word, and then a number of octets.
-fn word_and_number(alloc: Global, text: &[u8]) -> Result<Option<Passing>, NoMemory>
-    ensures exact { IfOk result (λ found. (line : Word → ℕ → ScriptLine) → option_map (λ p. line (string_bytes p.word) p.most) found ≡ of_word_and_number line (words_in text.now)) }
-{
-    let Some((word, most)) = two_words(text) else {
-        return Ok(None);
-    };
-    let Some(word) = plain_word(alloc, word)? else {
-        return Ok(None);
-    };
-    let Some(most) = count_of_word(most) else {
-        return Ok(None);
-    };
-    Ok(Some(Passing { word, most }))
-}
-
-// What follows the first word of a line that names a word, and then a question.
-fn word_and_question(alloc: Global, text: &[u8]) -> Result<Option<Asking>, NoMemory>
-    ensures exact { IfOk result (λ found. (line : Word → Question → ScriptLine) → option_map (λ a. line (string_bytes a.word) a.question) found ≡ of_word_and_question line (words_in text.now)) }
-{
-    let Some((word, name, kind, class)) = four_words(text) else {
-        return Ok(None);
-    };
-    let Some(word) = plain_word(alloc, word)? else {
-        return Ok(None);
-    };
-    let Some(question) = question_of(alloc, name, kind, class)? else {
-        return Ok(None);
-    };
-    Ok(Some(Asking { word, question }))
-}
-
 // What follows the first word of a line that cuts a connection: the word of the peer or of the client.
 fn cut_line(alloc: Global, text: &[u8]) -> Result<Option<Line>, NoMemory>
-    ensures exact { IfOk result (λ found. option_map (λ l. said l) found ≡ understood (of_word cut (words_in text.now))) }
+    ensures exact { IfOk result (λ found. option_map (λ l. said l) found ≡ of_word cut (words_in text.now)) }
 {
     let Some(word) = word_alone(alloc, text)? else {
         return Ok(None);
@@ -508,7 +479,7 @@ fn cut_line(alloc: Global, text: &[u8]) -> Result<Option<Line>, NoMemory>
 
 // What follows the first word of a send line: the peer's word, and the octets.
 fn send_line(alloc: Global, text: &[u8]) -> Result<Option<Line>, NoMemory>
-    ensures exact { IfOk result (λ found. option_map (λ l. said l) found ≡ understood (of_word_and_octets send (words_in text.now))) }
+    ensures exact { IfOk result (λ found. option_map (λ l. said l) found ≡ of_word_and_octets send (words_in text.now)) }
 {
     let Some(sent) = word_and_octets(alloc, text)? else {
         return Ok(None);
@@ -519,7 +490,7 @@ fn send_line(alloc: Global, text: &[u8]) -> Result<Option<Line>, NoMemory>
 // What follows the first word of a line that stops a session: the word of the peer or of the client, the RCODE, and the
 // delay.
 fn stop_line(alloc: Global, text: &[u8]) -> Result<Option<Line>, NoMemory>
-    ensures exact { IfOk result (λ found. option_map (λ l. said l) found ≡ understood (stop_line (words_in text.now))) }
+    ensures exact { IfOk result (λ found. option_map (λ l. said l) found ≡ stop_line (words_in text.now)) }
 {
     let Some((word, rcode, delay)) = three_words(text) else {
         return Ok(None);
@@ -536,119 +507,9 @@ fn stop_line(alloc: Global, text: &[u8]) -> Result<Option<Line>, NoMemory>
     Ok(Some(Line::Event(Event::Stop(Stopping { word, rcode, delay }))))
 }
 
-// What follows the first word of a line of a client of the hub: its word.
-fn client_line(alloc: Global, text: &[u8]) -> Result<Option<Line>, NoMemory>
-    ensures exact { IfOk result (λ found. option_map (λ l. said l) found ≡ understood (of_word client (words_in text.now))) }
-{
-    let Some(word) = word_alone(alloc, text)? else {
-        return Ok(None);
-    };
-    Ok(Some(Line::Event(Event::Client(Joining { word }))))
-}
-
-// What follows the first word of a line of a lone client: its word.
-fn lone_line(alloc: Global, text: &[u8]) -> Result<Option<Line>, NoMemory>
-    ensures exact { IfOk result (λ found. option_map (λ l. said l) found ≡ understood (of_word lone (words_in text.now))) }
-{
-    let Some(word) = word_alone(alloc, text)? else {
-        return Ok(None);
-    };
-    Ok(Some(Line::Event(Event::Lone(Alone { word }))))
-}
-
-// What follows the first word of a line that opens a connection: the client's word.
-fn open_line(alloc: Global, text: &[u8]) -> Result<Option<Line>, NoMemory>
-    ensures exact { IfOk result (λ found. option_map (λ l. said l) found ≡ understood (of_word open_connection (words_in text.now))) }
-{
-    let Some(word) = word_alone(alloc, text)? else {
-        return Ok(None);
-    };
-    Ok(Some(Line::Event(Event::Open(Opening { word }))))
-}
-
-// What follows the first word of a line that lets octets go from a client onto the wire: the client's word, and how many.
-fn say_line(alloc: Global, text: &[u8]) -> Result<Option<Line>, NoMemory>
-    ensures exact { IfOk result (λ found. option_map (λ l. said l) found ≡ understood (of_word_and_number say (words_in text.now))) }
-{
-    let Some(passing) = word_and_number(alloc, text)? else {
-        return Ok(None);
-    };
-    Ok(Some(Line::Event(Event::Say(passing))))
-}
-
-// What follows the first word of a line that lets octets go from the wire into a session: the client's word, and how many.
-fn up_line(alloc: Global, text: &[u8]) -> Result<Option<Line>, NoMemory>
-    ensures exact { IfOk result (λ found. option_map (λ l. said l) found ≡ understood (of_word_and_number up (words_in text.now))) }
-{
-    let Some(passing) = word_and_number(alloc, text)? else {
-        return Ok(None);
-    };
-    Ok(Some(Line::Event(Event::Up(passing))))
-}
-
-// What follows the first word of a line that lets octets go from a session onto the wire: the client's word, and how many.
-fn emit_line(alloc: Global, text: &[u8]) -> Result<Option<Line>, NoMemory>
-    ensures exact { IfOk result (λ found. option_map (λ l. said l) found ≡ understood (of_word_and_number emit (words_in text.now))) }
-{
-    let Some(passing) = word_and_number(alloc, text)? else {
-        return Ok(None);
-    };
-    Ok(Some(Line::Event(Event::Emit(passing))))
-}
-
-// What follows the first word of a line that lets octets go from the wire to a client: the client's word, and how many.
-fn down_line(alloc: Global, text: &[u8]) -> Result<Option<Line>, NoMemory>
-    ensures exact { IfOk result (λ found. option_map (λ l. said l) found ≡ understood (of_word_and_number down (words_in text.now))) }
-{
-    let Some(passing) = word_and_number(alloc, text)? else {
-        return Ok(None);
-    };
-    Ok(Some(Line::Event(Event::Down(passing))))
-}
-
-// What follows the first word of a line that settles: the client's word.
-fn settle_line(alloc: Global, text: &[u8]) -> Result<Option<Line>, NoMemory>
-    ensures exact { IfOk result (λ found. option_map (λ l. said l) found ≡ understood (of_word settle (words_in text.now))) }
-{
-    let Some(word) = word_alone(alloc, text)? else {
-        return Ok(None);
-    };
-    Ok(Some(Line::Event(Event::Settle(Settling { word }))))
-}
-
-// What follows the first word of a line that asks: the client's word, and the question.
-fn ask_line(alloc: Global, text: &[u8]) -> Result<Option<Line>, NoMemory>
-    ensures exact { IfOk result (λ found. option_map (λ l. said l) found ≡ understood (of_word_and_question ask (words_in text.now))) }
-{
-    let Some(asking) = word_and_question(alloc, text)? else {
-        return Ok(None);
-    };
-    Ok(Some(Line::Event(Event::Ask(asking))))
-}
-
-// What follows the first word of a line that drops a question: the client's word, and the question.
-fn drop_line(alloc: Global, text: &[u8]) -> Result<Option<Line>, NoMemory>
-    ensures exact { IfOk result (λ found. option_map (λ l. said l) found ≡ understood (of_word_and_question drop_question (words_in text.now))) }
-{
-    let Some(asking) = word_and_question(alloc, text)? else {
-        return Ok(None);
-    };
-    Ok(Some(Line::Event(Event::Drop(asking))))
-}
-
-// What follows the first word of a feed line: the client's word, and the octets.
-fn feed_line(alloc: Global, text: &[u8]) -> Result<Option<Line>, NoMemory>
-    ensures exact { IfOk result (λ found. option_map (λ l. said l) found ≡ understood (of_word_and_octets feed (words_in text.now))) }
-{
-    let Some(sent) = word_and_octets(alloc, text)? else {
-        return Ok(None);
-    };
-    Ok(Some(Line::Event(Event::Feed(sent))))
-}
-
 // What follows the first word of a line with a datagram: the link's word, and the octets.
 fn hear_line(alloc: Global, text: &[u8]) -> Result<Option<Line>, NoMemory>
-    ensures exact { IfOk result (λ found. option_map (λ l. said l) found ≡ understood (of_word_and_octets hear (words_in text.now))) }
+    ensures exact { IfOk result (λ found. option_map (λ l. said l) found ≡ of_word_and_octets hear (words_in text.now)) }
 {
     let Some(sent) = word_and_octets(alloc, text)? else {
         return Ok(None);
@@ -656,87 +517,8 @@ fn hear_line(alloc: Global, text: &[u8]) -> Result<Option<Line>, NoMemory>
     Ok(Some(Line::Event(Event::Hear(sent))))
 }
 
-// What follows the first word of a line that doubts a record: the client's word, the record's name, TYPE and CLASS, and
-// its RDATA.
-fn reconfirm_line(alloc: Global, text: &[u8]) -> Result<Option<Line>, NoMemory>
-    ensures exact { IfOk result (λ found. option_map (λ l. said l) found ≡ understood (reconfirm_line (words_in text.now))) }
-{
-    let Some((word, name, kind, class, rdata)) = five_words(text) else {
-        return Ok(None);
-    };
-    let Some(word) = plain_word(alloc, word)? else {
-        return Ok(None);
-    };
-    let Some(question) = question_of(alloc, name, kind, class)? else {
-        return Ok(None);
-    };
-    let Some(rdata) = octets_of_word(alloc, rdata)? else {
-        return Ok(None);
-    };
-    let rr = record_of(question, rdata);
-    Ok(Some(Line::Event(Event::Reconfirm(Reconfirming { word, rr }))))
-}
-
-// The record that a question names, with that RDATA and a TTL of 0.
-fn record_of(question: Question, rdata: Octets) -> Rr
-    ensures { result ≡ record { owner = question.name; class = question.class; kind = question.kind; ttl = 0; rdata = rdata } }
-{
-    let Question { name, kind, class } = question;
-    Rr {
-        owner: name,
-        class,
-        kind,
-        ttl: 0,
-        rdata,
-    }
-}
-
-// What follows the first word of a line that shows what a client knows: the client's word, and the question.
-fn show_line(alloc: Global, text: &[u8]) -> Result<Option<Line>, NoMemory>
-    ensures exact { IfOk result (λ found. option_map (λ l. said l) found ≡ understood (show_line (words_in text.now))) }
-{
-    let Some((word, name, kind, class)) = four_words(text) else {
-        return Ok(None);
-    };
-    let Some(word) = plain_word(alloc, word)? else {
-        return Ok(None);
-    };
-    let Some(question) = question_of(alloc, name, kind, class)? else {
-        return Ok(None);
-    };
-    let Some(written) = text_of_word(alloc, name)? else {
-        return Ok(None);
-    };
-    Ok(Some(Line::Event(Event::Show(Showing {
-        word,
-        question,
-        written,
-    }))))
-}
-
-// The question that three words are: its name, its TYPE and its CLASS.
-fn question_of(
-    alloc: Global,
-    name: &[u8],
-    kind: &[u8],
-    class: &[u8],
-) -> Result<Option<Question>, NoMemory>
-    ensures { IfOk result (λ found. found ≡ question name.now kind.now class.now) }
-{
-    let Some(name) = name_of_word(alloc, name)? else {
-        return Ok(None);
-    };
-    let Some(kind) = short_number_of_word(kind) else {
-        return Ok(None);
-    };
-    let Some(class) = short_number_of_word(class) else {
-        return Ok(None);
-    };
-    Ok(Some(Question { name, kind, class }))
-}
-
-// The words of a text that has five.
-fn five_words(text: &[u8]) -> Option<(&[u8], &[u8], &[u8], &[u8], &[u8])>
+/// The words of a text that has five.
+pub(crate) fn five_words(text: &[u8]) -> Option<(&[u8], &[u8], &[u8], &[u8], &[u8])>
     ensures found { IfSome result (λ words. words_in text.now ≡ words.0.now ∷ words.1.now ∷ words.2.now ∷ words.3.now ∷ words.4.now ∷ []) }
     ensures none { IfNone result (five_in (words_in text.now) ≡ None) }
 {
@@ -750,8 +532,8 @@ fn five_words(text: &[u8]) -> Option<(&[u8], &[u8], &[u8], &[u8], &[u8])>
     }
 }
 
-// The words of a text that has four.
-fn four_words(text: &[u8]) -> Option<(&[u8], &[u8], &[u8], &[u8])>
+/// The words of a text that has four.
+pub(crate) fn four_words(text: &[u8]) -> Option<(&[u8], &[u8], &[u8], &[u8])>
     ensures found { IfSome result (λ words. words_in text.now ≡ words.0.now ∷ words.1.now ∷ words.2.now ∷ words.3.now ∷ []) }
     ensures none { IfNone result (four_in (words_in text.now) ≡ None) }
 {
@@ -777,8 +559,8 @@ fn three_words(text: &[u8]) -> Option<(&[u8], &[u8], &[u8])>
     }
 }
 
-// The words of a text that has two.
-fn two_words(text: &[u8]) -> Option<(&[u8], &[u8])>
+/// The words of a text that has two.
+pub(crate) fn two_words(text: &[u8]) -> Option<(&[u8], &[u8])>
     ensures found { IfSome result (λ words. words_in text.now ≡ words.0.now ∷ words.1.now ∷ []) }
     ensures none { IfNone result (two_in (words_in text.now) ≡ None) }
 {
@@ -800,8 +582,8 @@ fn one_word(text: &[u8]) -> Option<&[u8]>
     }
 }
 
-// The first word of a text, and what follows its space.
-fn split_word(text: &[u8]) -> Option<(&[u8], &[u8])>
+/// The first word of a text, and what follows its space, where there is one.
+pub fn split_word(text: &[u8]) -> Option<(&[u8], &[u8])>
     ensures found { IfSome result (λ parts. words_in text.now ≡ parts.0.now ∷ words_in parts.1.now) }
     ensures none { IfNone result (words_in text.now ≡ text.now ∷ []) }
 {

@@ -84,7 +84,7 @@ fn octets_of_digits(alloc: Global, text: &[u8]) -> Result<Option<Octets>, NoMemo
 }
 
 /// The decimal number below 2^32 that a word is, without leading zeros.
-pub(crate) fn number_of_word(text: &[u8]) -> Option<u32>
+pub fn number_of_word(text: &[u8]) -> Option<u32>
     ensures { result ≡ number max_u32 text.now }
 {
     let number = number_up_to(MAX_U32, text)?;

@@ -4,7 +4,7 @@ ghost use Rattle.std.specs.Prelude.{◌≡◌, ◌+◌, ◌≤◌, length, Some,
 ghost use Rattle.push_base.specs.Causes.{Rose};
 ghost use Rattle.replay.specs.Sources.{Gave, LostAtMost};
 ghost use Rattle.replay.specs.Scripts.{max_script};
-ghost use Rattle.replay.specs.BuiltScripts.{front_read, left_behind};
+ghost use Rattle.replay.specs.ScriptReplies.{front_read, left_behind};
 ghost use Rattle.replay.specs.declared.read.ReadError.TheVariants.{Failed as ReadFailed, NoMemory as OutOfMemory};
 
 use push_base::{Failed, NoMemory, Source};

@@ -6,7 +6,7 @@ ghost use Rattle.push_base.specs.Causes.{Rose};
 ghost use Rattle.replay.specs.Reply.{Answers, Took};
 ghost use Rattle.replay.specs.Sources.{Gave, HasRead, LeftBehind, LostAtMost};
 ghost use Rattle.replay.specs.TextWords.{by_notices};
-ghost use Rattle.replay.specs.BuiltScripts.{front_read, reply_to_script};
+ghost use Rattle.replay.specs.ScriptReplies.{front_read, reply_to_script};
 ghost use Rattle.replay.specs.KeptEnds.{AreEnds, EndsWhenDone, ends_with};
 ghost use Rattle.replay.specs.Outcomes.{status_of};
 

@@ -1,8 +1,9 @@
 //! What a script is answered.
 
 ghost use Rattle.std.specs.Prelude.{◌≡◌, ◌⊎◌, IfOk, IfSome, string_bytes};
+ghost use Rattle.replay.specs.Text.{outside_text};
 ghost use Rattle.replay.specs.TextWords.{by_notices};
-ghost use Rattle.replay.specs.BuiltScripts.{later, reply_to_script};
+ghost use Rattle.replay.specs.ScriptReplies.{reply_to_script};
 ghost use Rattle.replay.specs.KeptEnds.{AreEnds, EndsWhenDone};
 ghost use Rattle.replay.specs.Reply.{reply_of};
 
@@ -16,7 +17,7 @@ use std::alloc::Global;
 /// How a replay ends if all goes well, the text that is then written, and what the script leaves.
 #[derive(Drop)]
 pub struct Reply {
-    /// `Done` or `Later`.
+    /// `Done` or `Outside`.
     pub outcome: Outcome,
     /// What is written.
     pub text: String,
@@ -24,15 +25,15 @@ pub struct Reply {
     pub ends: Option<Ends>,
 }
 
-/// The text of the script, or the first line that isn't built.
+/// The text of the script, or the number of the first line outside.
 pub fn reply_to(alloc: Global, octets: &[u8]) -> Result<Reply, NoMemory>
     ensures exact { IfOk result (λ reply. reply_of reply ≡ reply_to_script by_notices octets.now) }
-    ensures outcome { IfOk result (λ reply. (reply.outcome ≡ Outcome.Done) ⊎ (reply.outcome ≡ Outcome.Later)) }
+    ensures outcome { IfOk result (λ reply. (reply.outcome ≡ Outcome.Done) ⊎ (reply.outcome ≡ Outcome.Outside)) }
     ensures there { IfOk result (λ reply. EndsWhenDone reply.outcome reply.ends) }
     ensures ends { IfOk result (λ reply. IfSome reply.ends (AreEnds octets.now)) }
 {
     match read_script_lines(alloc, octets)? {
-        ReadScript::Built(script) => {
+        ReadScript::Whole(script) => {
             let Played { text, world } = script_text(alloc, script)?;
             let ends = ends_of(alloc, world)?;
             Ok(Reply {
@@ -41,10 +42,10 @@ pub fn reply_to(alloc: Global, octets: &[u8]) -> Result<Reply, NoMemory>
                 ends: Some(ends),
             })
         }
-        ReadScript::Later(number) => {
-            let text = later_text(alloc, number)?;
+        ReadScript::Outside(number) => {
+            let text = line_text(alloc, number)?;
             Ok(Reply {
-                outcome: Outcome::Later,
+                outcome: Outcome::Outside,
                 text,
                 ends: None,
             })
@@ -52,8 +53,9 @@ pub fn reply_to(alloc: Global, octets: &[u8]) -> Result<Reply, NoMemory>
     }
 }
 
-fn later_text(alloc: Global, number: usize) -> Result<String, NoMemory>
-    ensures { IfOk result (λ text. string_bytes text ≡ later number) }
+/// What is written where that line is the first outside.
+pub(crate) fn line_text(alloc: Global, number: usize) -> Result<String, NoMemory>
+    ensures { IfOk result (λ text. string_bytes text ≡ outside_text number) }
 {
-    format!(in alloc; "later {number}\n")
+    format!(in alloc; "line {number}\n")
 }

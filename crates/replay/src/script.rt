@@ -1,4 +1,4 @@
-//! Scripts whose lines are built.
+//! Scripts, read line by line.
 
 ghost use Rattle.std.specs.Prelude.{◌≡◌, ◌==◌, List, length, ◌++◌, ◌∷◌, [], IfOk, OnOk, map, string_bytes, unwrap_or};
 ghost use Rattle.dsosession.specs.Timing.{default_timers};
@@ -19,9 +19,11 @@ use push_base::NoMemory;
 use std::alloc::Global;
 use zoneupdate::{Zone, ZoneFault};
 
-/// A script whose lines are built: the timers of the server, its zones and links, and then what happens.
+/// A script: the timers of the server, its zones and links, and then what happens.
 #[derive(Debug, Drop)]
 pub struct Script {
+    /// How many lines it has, those that say nothing too.
+    pub lines: usize,
     /// What the server grants to a Keepalive (RFC 8490, 7.1).
     pub timers: Timers,
     /// The zones and the links.
@@ -32,13 +34,13 @@ pub struct Script {
     pub events: Vec<Event>,
 }
 
-/// What was read of a script: all of it, or the number of the first line that isn't built.
+/// What was read of a script: all of it, or the number of the first line outside.
 #[derive(Debug, Drop)]
 pub enum ReadScript {
-    /// Each line is built, and stands where it may.
-    Built(Script),
-    /// The first line that isn't built, or may not stand where it does, counted from 1.
-    Later(usize),
+    /// Each line is in the grammar, and stands where it may.
+    Whole(Script),
+    /// The first line that is outside the grammar, or may not stand where it does, counted from 1.
+    Outside(usize),
 }
 
 // What was read of a script so far, with the clients that there are; no timers where no line has said them.
@@ -51,8 +53,8 @@ struct Draft {
     clients: Vec<KnownClient>,
 }
 
-/// Reads a script: all of it where each line is built, and else the number of the first line that isn't built or
-/// may not stand where it does, counted from 1. The zones and links may then stand side by side, no peer has the word of a
+/// Reads a script: all of it, or the number of the first line that is outside the grammar, or may not stand where it
+/// does, counted from 1. The zones and links may then stand side by side, no peer has the word of a
 /// client, and no two clients have one word.
 pub fn read_script_lines(alloc: Global, octets: &[u8]) -> Result<ReadScript, NoMemory>
     ensures { IfOk result (λ read. ReadsAs octets.now read) }
@@ -72,17 +74,17 @@ pub fn read_script_lines(alloc: Global, octets: &[u8]) -> Result<ReadScript, NoM
         let (text, after) = split_line(rest);
         number += 1;
         if is_outside(after, too_long) {
-            return Ok(ReadScript::Later(number));
+            return Ok(ReadScript::Outside(number));
         }
         let Some(line) = read_line(alloc, text)? else {
-            return Ok(ReadScript::Later(number));
+            return Ok(ReadScript::Outside(number));
         };
         if !draft.take(alloc, line, &clients)? {
-            return Ok(ReadScript::Later(number));
+            return Ok(ReadScript::Outside(number));
         }
         rest = after;
     }
-    Ok(ReadScript::Built(draft.finish()))
+    Ok(ReadScript::Whole(draft.finish(number)))
 }
 
 impl Draft {
@@ -180,8 +182,9 @@ impl Draft {
         Ok(true)
     }
 
-    // The script whose lines were all taken.
-    fn finish(self) -> Script
+    // The script whose lines, so many, were all taken.
+    fn finish(self, lines: usize) -> Script
+        ensures lines { result.lines ≡ lines }
         ensures timers { result.timers ≡ unwrap_or self.timers default_timers }
         ensures homes { result.homes ≡ self.homes }
         ensures links { result.links.items ≡ self.links.items }
@@ -195,6 +198,7 @@ impl Draft {
             clients: _,
         } = self;
         Script {
+            lines,
             timers: timers_or_default(timers),
             homes,
             links,

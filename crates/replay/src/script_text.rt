@@ -24,7 +24,7 @@ pub struct Played {
     pub world: World,
 }
 
-/// Runs a script whose lines are built.
+/// Runs a script.
 pub fn script_text(alloc: Global, script: Script) -> Result<Played, NoMemory>
     requires start { IsStart (state_of script.homes) }
     requires distinct { AreDistinct (filter_map client_word (events_said script.events.items)) }
@@ -32,6 +32,7 @@ pub fn script_text(alloc: Global, script: Script) -> Result<Played, NoMemory>
     ensures world { IfOk result (λ played. IsWorld played.world (world_after (events_said script.events.items) (world_at_start script))) }
 {
     let Script {
+        lines: _,
         timers,
         homes,
         links,

@@ -21,7 +21,7 @@ pub(crate) fn is_outside(after: &[u8], too_long: bool) -> bool
 }
 
 /// The first line, and what follows its end.
-pub(crate) fn split_line(text: &[u8]) -> (&[u8], &[u8])
+pub fn split_line(text: &[u8]) -> (&[u8], &[u8])
     requires { 0 < length text.now }
     ensures lines { lines_in text.now ≡ result.0.now ∷ lines_in result.1.now }
     ensures shorter { length result.1.now < length text.now }

@@ -63,7 +63,7 @@ impl Ord for Key {
 }
 
 /// The order of octets and of others in lower case.
-fn compare_with_lower(octets: &[u8], other: &[u8]) -> Ordering
+pub fn compare_with_lower(octets: &[u8], other: &[u8]) -> Ordering
     ensures { result ≡ octets_cmp octets.now (map to_ascii_lowercase other.now) }
 {
     let shared = octets.len().min(other.len());

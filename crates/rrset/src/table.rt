@@ -120,13 +120,13 @@ impl<V: Drop> Table<V> {
         entries
     }
 
-    /// Makes room for so many further keys.
+    /// Makes room for so many further keys, and no more where there was less.
     pub fn reserve(&mut self, keys: usize) -> Result<(), NoMemory>
         ensures rows { self.new.rows ≡ self.old.rows }
         ensures room { OnOk result (keys ≤ self.new.spare) }
         ensures kept { self.old.spare ≤ self.new.spare }
     {
-        self.entries.reserve(keys)
+        self.entries.reserve_exact(keys)
     }
 
     /// Gives a key this value, and gives back the one that it had. It takes no memory where the key is there, or there

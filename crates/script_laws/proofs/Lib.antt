@@ -9,3 +9,4 @@ pub mod ends
 pub mod Scripts
 pub mod sizes
 pub mod turns
+pub mod calls

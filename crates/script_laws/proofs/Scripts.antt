@@ -6,9 +6,9 @@
 --     settles-empty, keep-promises      what is so behind it
 use Rattle.replay.specs.Promises.{HoldsAfterEachLine, EveryScriptTellsOneText, EverySettleEmptiesBothWays, EveryScriptKeepsPromises, NoMessageEnds}
 use Rattle.script_laws.specs.Settling.{TurnsSuffice}
-use Rattle.script_laws.specs.Replies.{RepliesAreOne, ScriptsThatAreBuiltKeepPromises}
+use Rattle.script_laws.specs.Replies.{RepliesAreOne}
 use Rattle.script_laws.specs.Turns.{work_left, LowersAlways}
-use Rattle.script_laws.specs.Whole.{StandsAfterEachLine, ScriptsNeverGoBack}
+use Rattle.script_laws.specs.Whole.{StandsAfterEachLine, ScriptsNeverGoBack, OnlyLoneOnesAreFed}
 use Rattle.script_laws.specs.Walk.{Keeps, OfUps, OfEmits, OfDowns, RoundsPass, SettlesPass}
 use Rattle.script_laws.proofs.hubs.Reaching.{reached-go-on, begun-go-on, points-rise}
 use Rattle.script_laws.proofs.hubs.Sound.{reached-sound}
@@ -39,7 +39,8 @@ use Rattle.script_laws.proofs.newest.Promises.{keeps-promises}
 use Rattle.script_laws.proofs.texts.Shows.{shown-taken}
 use Rattle.script_laws.proofs.texts.Along.{one-text}
 use Rattle.script_laws.proofs.texts.NeverBack.{never-back}
-use Rattle.script_laws.proofs.texts.Replies.{one-reply, built-keep}
+use Rattle.script_laws.proofs.texts.Replies.{one-reply}
+use Rattle.script_laws.proofs.ends.FedOnes.{only-lone}
 use Rattle.script_laws.proofs.ends.Telling.{no-ends}
 
 ups : OfUps Keeps
@@ -101,6 +102,9 @@ never-go-back = never-back reached-sessions stands-after
 pub no-message-ends : NoMessageEnds
 no-message-ends = no-ends all-laws
 
+pub only-lone-fed : OnlyLoneOnesAreFed
+only-lone-fed = only-lone all-laws
+
 pub replies-one : RepliesAreOne
 replies-one = one-reply tell-one-text
 
@@ -121,6 +125,3 @@ settles-empty = settles-of-zones reached-go-on rounds (quiet-at-last reached-go-
 
 pub keep-promises : EveryScriptKeepsPromises
 keep-promises = keeps-promises reached-sessions reached-sound settling stands-after never-go-back settles-empty
-
-pub built-ones-keep : ScriptsThatAreBuiltKeepPromises
-built-ones-keep = built-keep keep-promises

@@ -3,3 +3,4 @@ pub mod Words
 pub mod Before
 pub mod Passing
 pub mod Telling
+pub mod FedOnes

@@ -9,3 +9,7 @@ pub mod Lines
 pub mod Settling
 pub mod Turns
 pub mod Replies
+pub mod LineCalls
+pub mod EachMessage
+pub mod Sending
+pub mod WorkedSends

@@ -1,10 +1,15 @@
 //! Whole scripts: what is under way between each client and its session fits together after each line. The crate has laws alone.
 #![tactic(auto)]
 
+ghost use Rattle.std.specs.Prelude.{◌≡◌, [], ◌∷◌, codes};
 ghost use Rattle.replay.specs.Promises.{HoldsTheHistory, HoldsAfterEachLine, NoMessageEnds, EveryScriptKeepsPromises, EveryScriptTellsOneText, EverySettleEmptiesBothWays};
-ghost use Rattle.script_laws.specs.Replies.{RepliesAreOne, ScriptsThatAreBuiltKeepPromises};
+ghost use Rattle.script_laws.specs.EachMessage.{ScriptCallsFit, MessagesAreReactedTo, EachHasItsTurn, SubscribesAreAnswered};
+ghost use Rattle.script_laws.specs.LineCalls.{LinesAreCalls, ScriptsAreCalls};
+ghost use Rattle.script_laws.specs.Replies.{RepliesAreOne};
+ghost use Rattle.script_laws.specs.Sending.{SendsAreAnswered, AsksAreAnswered, EachIsBroughtUp, FirstOnesAskAnywhere};
 ghost use Rattle.script_laws.specs.Settling.{TurnsSuffice};
-ghost use Rattle.script_laws.specs.Whole.{ScriptsNeverGoBack};
+ghost use Rattle.script_laws.specs.Whole.{OnlyLoneOnesAreFed, ScriptsNeverGoBack};
+ghost use Rattle.script_laws.specs.WorkedSends.{second_line};
 
 /// After each line of a script, of each client of the hub, what is under way between it and its session fits, no wire
 /// holds more than it may, the octets that have reached the client are counted, and each session is that of one client or peer.
@@ -30,6 +35,11 @@ pub fn no_message_ends_a_script()
     ensures ends { NoMessageEnds }
 {}
 
+/// In a script each client that a line `feed` feeds is a lone one, so that what `replay::laws` says of these is so of all such lines.
+pub fn only_lone_clients_are_fed()
+    ensures lone { OnlyLoneOnesAreFed }
+{}
+
 /// Where what is under way between a client and its session holds, as it does after each line, the client holds the history: each
 /// question whose first answer has arrived has by the notices taken exactly the records of the history at the note of the last message
 /// taken, so it will after each further message at that message's note, and after all of them with what counts as sent.
@@ -51,13 +61,48 @@ pub fn scripts_keep_promises()
     ensures promises { EveryScriptKeepsPromises }
 {}
 
-/// What a script is answered whose lines are built is the same, told from the history or from the notices that its clients took.
+/// What a script is answered is the same, told from the history or from the notices that its clients took.
 pub fn replies_are_one()
     ensures one { RepliesAreOne }
 {}
 
-/// In a script whose lines are built no `held` line goes back, and after a settle that printed its line alone, and lines that change
-/// nothing, a `show` of a question that the client wants prints the records of the newest point.
-pub fn built_scripts_keep_promises()
-    ensures promises { ScriptsThatAreBuiltKeepPromises }
+/// Each line of a script does to the hub what certain calls do, one behind the other, which are told as a function of the
+/// line and the world; so does each script, and what its calls bring are octets.
+pub fn lines_are_calls()
+    ensures lines { LinesAreCalls }
+    ensures scripts { ScriptsAreCalls }
+    ensures fit { ScriptCallsFit }
+{}
+
+/// In a script, of each session, a client's or a peer's, behind any of its calls: the messages that were reacted to are the
+/// first of the one list of whole messages in the octets that came, whatever pieces they came in; those that wait are the
+/// others. Each was reacted to in one call, in which what the server's table tells was done: the messages that were made, the
+/// session's end, its questions, and the history (RFC 8490, 5; RFC 8765, 6). What was made went out, or waits to.
+pub fn messages_are_reacted_to()
+    ensures reacted { MessagesAreReactedTo }
+    ensures each { EachHasItsTurn }
+{}
+
+/// A SUBSCRIBE that none of the tests refuses when its turn comes is answered NOERROR, and then the first answer's PUSH
+/// follows, where it has notices: at any line, on any session, after any messages (RFC 8765, 6.2.2 and 6.3).
+pub fn subscribes_are_answered()
+    ensures answered { SubscribesAreAnswered }
+{}
+
+/// A peer's second SUBSCRIBE comes in a later line, behind an update: NOERROR and the SOA follow, with the serial that the
+/// update has raised, and then the address that the update added, for which the first SUBSCRIBE asked.
+pub fn worked_sends()
+    ensures second { second_line ≡ codes "bytes p 000c0002b0000000000000000000006300003000000000000000000000410053076578616d706c6503636f6d000006000100000e10003c026e73076578616d706c6503636f6d000a686f73746d6173746572076578616d706c6503636f6d000000000200000e1000000258000151800000003c002d0000300000000000000000000041001d0161076578616d706c6503636f6d00000100010000003c0004c0000201" ∷ [] }
+{}
+
+/// What a peer sends in a line is answered in it: while the session is open, each whole message in what waited and what came
+/// is reacted to; the line tells the frames of the messages that were made in it, for these messages, for names that waited
+/// and for a stop; nothing waits behind it, and an end is told where the session has come to one. So the text holds NOERROR
+/// and the first answer for each SUBSCRIBE among them that none of the tests refuses, be it among a
+/// peer's first octets or behind any others.
+pub fn sends_are_answered()
+    ensures sends { SendsAreAnswered }
+    ensures asks { AsksAreAnswered }
+    ensures each { EachIsBroughtUp }
+    ensures first { FirstOnesAskAnywhere }
 {}

@@ -7,6 +7,10 @@ mod deadlines;
 #[cfg(test)]
 mod hearings;
 #[cfg(test)]
+mod jobs;
+#[cfg(test)]
+mod lines;
+#[cfg(test)]
 mod names;
 #[cfg(test)]
 mod notices;

@@ -1,5 +1,6 @@
 -- The check of an update by the touched part of a zone, and what it means for the update step.
-use Rattle.std.proofs.Common.{◌≡◌, ℕ, ◌+◌, ◌≤◌, Bool, true, cond, ◌&&◌, ◌||◌, List, [], ◌∷◌, map, length, fold, Option, Some, None, Result, Ok, Err, refl, sym, ap, ◌∙◌, subst, arith}
+use Rattle.std.proofs.Common.{◌≡◌, ℕ, ◌+◌, ◌^◌, ◌<◌, ◌≤◌, Bool, true, cond, ◌&&◌, ◌||◌, List, [], ◌∷◌, map, length, fold, Option, Some, None, Result, Ok, Err, refl, sym, ap, ◌∙◌, subst, arith}
+use Rattle.std.proofs.lemmas.Bool.{leb-true}
 use Rattle.std.specs.Prelude.{nat_le}
 use Rattle.std.specs.List.{list_any, list_all}
 use Rattle.push_base.specs.Limits.{max_octets_at_name}
@@ -17,13 +18,20 @@ use Rattle.zoneupdate.specs.Updates.{with_counted_ttl, changed_by, with_risen_se
 use Rattle.zoneupdate.specs.Keeping.{Judges}
 use Rattle.zoneupdate.specs.Touched.{is_touched, part_of, part_after}
 use Rattle.zoneupdate.specs.Checking.{is_within, Plans}
-use Rattle.zoneupdate.proofs.Filters.{filter_same}
+use Rattle.zoneupdate.proofs.Filters.{filter_same, and-left}
 use Rattle.zoneupdate.proofs.RecordSets.{IsSet}
 use Rattle.zoneupdate.proofs.TouchedParts.{after-changes, after-length}
 use Rattle.zoneupdate.proofs.LimitedParts.{after-limits}
 
 pub length-only : (p : Key → Bool) (set : RecordSet) → length (only p set) ≤ length set
 length-only p set = let parts = length-parts p set in omega arith
+
+-- a zone within its limits has so few records that they are counted
+pub few-records : (rows : RecordSet) → is_within_limits rows ≡ true → length rows ≤ max_zone_records
+few-records rows h = leb-true _ _ (and-left _ _ h)
+
+pub counted-records : (rows : RecordSet) (n : ℕ) → is_within_limits rows ≡ true → (length rows < 2 ^ 64 → n ≡ length rows) → n ≡ length rows
+counted-records rows n h counted = counted (let few = few-records rows h in omega (arith, few))
 
 -- ---- the counted TTLs leave the owners
 

@@ -1,5 +1,5 @@
 -- Zones as they are kept, and what an update is planned to change.
---     ZoneKept      a zone, and the number of new keys that are sure to have room
+--     ZoneKept      a zone, and the nodes in which its records stand, which tell its room
 --     IsKept state      what else every zone that is kept has
 --     IsUnder homes apex under      the homes that lie under an apex
 --     Judges state verdict judged      the verdict is that of the update step
@@ -10,16 +10,18 @@ use Rattle.push_base.specs.Limits.{max_home_octets}
 use Rattle.dnsname.specs.Names.{Labels, octets, same_name, ends_in}
 use Rattle.rrset.specs.RecordSet.{RecordSet, changes}
 use Rattle.rrset.specs.declared.record.Changed.{Changed}
+use Rattle.rrset.specs.declared.record.Shown.{Shown}
+use Rattle.nametable.specs.Nodes.{Nodes, HasRoomFor, keys_put}
 use Rattle.dnswire.specs.declared.message.Update.{Update}
 use Rattle.zoneupdate.specs.declared.plan.Verdict.{Verdict}
 use Rattle.zoneupdate.specs.declared.plan.Verdict.TheVariants.{Refuse, Accept}
 use Rattle.zoneupdate.specs.Zones.{ZoneState, is_zone}
 use Rattle.zoneupdate.specs.Updates.{judged, is_within_limits}
 
--- a zone, and how many new keys are sure to have room
+-- a zone, and the nodes in which its records stand, of which callers need the room alone
 pub record ZoneKept : Type 0 where
   pub state : ZoneState
-  pub spare : ℕ
+  pub nodes : Nodes Shown
 
 -- a zone within its limits; its name has at most 200 octets
 pub record IsKept (state : ZoneState) : Type 0 where
@@ -41,10 +43,10 @@ abbrev pub Judges : ZoneState → Verdict → Result RecordSet ℕ → Type 0
 Judges state (Refuse code) step = step ≡ Err code
 Judges state (Accept changed) step = (rows : RecordSet) × (step ≡ Ok rows) × (changed ≡ changes state.rows rows)
 
--- there is room for all keys of an accepted plan
-abbrev pub HasRoom : ℕ → Verdict → Type 0
-HasRoom spare (Refuse code) = Unit {0}
-HasRoom spare (Accept changed) = length changed ≤ spare
+-- there is room for all keys that an accepted plan puts
+abbrev pub HasRoom : Nodes Shown → Verdict → Type 0
+HasRoom nodes (Refuse code) = Unit {0}
+HasRoom nodes (Accept changed) = HasRoomFor (keys_put changed) nodes
 
 -- the update step leads from the zone to these rows, and the keys are those shown otherwise in them
 pub record Leads (state : ZoneState) (changed : List Changed) (rows : RecordSet) : Type 0 where

@@ -8,6 +8,7 @@ ghost use Rattle.zoneupdate.specs.Checking.{is_in, is_of_kind, has_same_set};
 ghost use Rattle.zoneupdate.specs.Updates.{sets_agree, with_counted_ttl};
 
 use crate::changing::shown_of;
+use nametable::NameTable;
 use rrset::classes::IN;
 use rrset::{Key, NoMemory, Rr, Rrs, Shown, Table, same_key};
 use std::alloc::Global;
@@ -50,14 +51,14 @@ fn have_same_kind(kind: u16, first: &[(Key, Shown)], second: &[(Key, Shown)]) ->
 }
 
 /// Whether the set of a record's owner and kind has the same keys in two tables.
-fn have_same_set(wanted: &Table, rows: &Table, rr: &Rr) -> bool
+fn have_same_set(wanted: &Table, rows: &NameTable, rr: &Rr) -> bool
     ensures { result ≡ same_keys (set_at rr.now.owner rr.now.kind wanted.now.rows) (set_at rr.now.owner rr.now.kind rows.now.rows) }
 {
     have_same_kind(rr.kind, wanted.at(&rr.owner), rows.at(&rr.owner))
 }
 
 /// Whether each set of class IN that prerequisites name has the same keys in two tables.
-fn all_have_same_set(wanted: &Table, rows: &Table, prereqs: &Rrs) -> bool
+fn all_have_same_set(wanted: &Table, rows: &NameTable, prereqs: &Rrs) -> bool
     ensures { result ≡ list_all (has_same_set wanted.now.rows rows.now.rows) prereqs.now }
 {
     'prereqs: for rr in prereqs.as_slice() {
@@ -82,7 +83,7 @@ fn wanted(alloc: Global, prereqs: &Rrs) -> Result<Table, NoMemory>
 }
 
 /// Whether each set that prerequisites of class IN name is the zone's.
-pub(crate) fn sets_agree(alloc: Global, prereqs: &Rrs, rows: &Table) -> Result<bool, NoMemory>
+pub(crate) fn sets_agree(alloc: Global, prereqs: &Rrs, rows: &NameTable) -> Result<bool, NoMemory>
     ensures { IfOk result (λ agree. agree ≡ sets_agree (map with_counted_ttl prereqs.now) rows.now.rows) }
 {
     let wanted = wanted(alloc, prereqs)?;

@@ -1,18 +1,24 @@
 //! The changes of a plan, which take no memory.
 
-ghost use Rattle.std.specs.Prelude.{◌≡◌, ◌≤◌, ◌+◌, length};
+ghost use Rattle.std.specs.Prelude.{◌≡◌, ◌≤◌, ◌+◌, ◌∷◌, [], false, List};
 ghost use Rattle.std.specs.List.{AllByRecursion};
+ghost use Rattle.std.specs.Ordering.{is_eq};
+ghost use Rattle.dnsname.specs.Names.{Labels};
 ghost use Rattle.rrset.specs.RecordSet.{put, with_changed, with_changes};
 ghost use Rattle.rrset.specs.Tables.{HasLowerOwner};
+ghost use Rattle.rrset.specs.declared.record.Changed.{Changed};
+ghost use Rattle.nametable.specs.Nodes.{HasRoomFor, keys_put, name_cmp, room_at};
 
-use rrset::{Changed, Key, Shown, Table};
+use nametable::NameTable;
+use rrset::{Changed, Key, Shown};
 
 /// Shows this of a key, where there is room for it.
-fn put_in_room(rows: &mut Table, key: Key, shown: Shown)
+fn put_in_room(rows: &mut NameTable, key: Key, shown: Shown)
     requires lower { HasLowerOwner key }
-    requires room { 1 ≤ rows.old.spare }
+    requires room { 1 ≤ room_at rows.old.nodes key.owner }
     ensures rows { rows.new.rows ≡ put key shown rows.old.rows }
-    ensures room { rows.old.spare ≤ rows.new.spare + 1 }
+    ensures here { room_at rows.old.nodes key.owner ≤ room_at rows.new.nodes key.owner + 1 }
+    ensures others { (name : Labels) → is_eq (name_cmp name key.owner) ≡ false → room_at rows.old.nodes name ≤ room_at rows.new.nodes name }
 {
     match rows.put(key, shown) {
         Ok(_) => {}
@@ -20,12 +26,12 @@ fn put_in_room(rows: &mut Table, key: Key, shown: Shown)
     }
 }
 
-/// Shows a key as it is after a change, where there is room for it.
-fn make_change(rows: &mut Table, change: Changed)
+/// Shows a key as it is after a change, where there is room for it, and leaves the room of others.
+fn make_change(rows: &mut NameTable, change: Changed)
     requires lower { HasLowerOwner change.key }
-    requires room { 1 ≤ rows.old.spare }
+    requires room { HasRoomFor (keys_put (change ∷ [])) rows.old.nodes }
     ensures rows { rows.new.rows ≡ with_changed rows.old.rows change }
-    ensures room { rows.old.spare ≤ rows.new.spare + 1 }
+    ensures left { (others : List Changed) → HasRoomFor (keys_put (change ∷ others)) rows.old.nodes → HasRoomFor (keys_put others) rows.new.nodes }
 {
     let Changed { key, after, .. } = change;
     match after {
@@ -36,13 +42,15 @@ fn make_change(rows: &mut Table, change: Changed)
     }
 }
 
-/// Makes the changes of a plan, where there is room for all of its keys. It takes no memory.
-pub fn make_changes(rows: &mut Table, changed: Vec<Changed>)
+/// Makes the changes of a plan, where there is room for all keys that it puts. It takes no memory, and room that was
+/// made for other plans may be given back.
+pub fn make_changes(rows: &mut NameTable, changed: Vec<Changed>)
     requires lower { AllByRecursion (λ c. HasLowerOwner c.key) changed.items }
-    requires room { length changed.items ≤ rows.old.spare }
+    requires room { HasRoomFor (keys_put changed.items) rows.old.nodes }
     ensures { rows.new.rows ≡ with_changes changed.items rows.old.rows }
 {
     'changes: for change in changed {
         make_change(rows, change);
     }
+    rows.give_back();
 }

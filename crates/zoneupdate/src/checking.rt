@@ -16,6 +16,7 @@ use crate::prescan::changes_refusal;
 use crate::serial::raise_serial;
 use dnsname::Name;
 use dnswire::Update;
+use nametable::NameTable;
 use rrset::rcodes::{NXRRSET, REFUSED};
 use rrset::{NoMemory, Rrs, Table};
 use std::alloc::Global;
@@ -23,7 +24,7 @@ use std::alloc::Global;
 /// What prerequisites, permission and prescan refuse an update with.
 pub(crate) fn refused_first(
     alloc: Global,
-    rows: &Table,
+    rows: &NameTable,
     apex: &Name,
     writable: bool,
     update: &Update,
@@ -61,7 +62,7 @@ fn changed_part(
 /// The keys that changes show otherwise, or nothing where the zone would pass its limits.
 pub(crate) fn planned(
     alloc: Global,
-    rows: &Table,
+    rows: &NameTable,
     apex: &Name,
     changes: &Rrs,
 ) -> Result<Option<ZonePlan>, NoMemory>

@@ -1,15 +1,16 @@
 //! The part of a zone that an update touches, and the limits of a zone.
 
-ghost use Rattle.std.specs.Prelude.{◌≡◌, ◌≤◌, ◌+◌, ℕ, ◌&&◌, length, nat_le, IfOk, OnOk, IsTrue};
+ghost use Rattle.std.specs.Prelude.{◌≡◌, ◌≤◌, ◌+◌, ℕ, ◌&&◌, not, length, nat_le, IfOk, OnOk, IsTrue};
 ghost use Rattle.std.specs.List.{list_all};
+ghost use Rattle.push_base.specs.Cases.{is_empty};
 ghost use Rattle.push_base.specs.Limits.{max_octets_at_name};
 ghost use Rattle.rrset.specs.RecordSet.{is_record_set, at_name, size_at, union};
 ghost use Rattle.zoneupdate.specs.Updates.{max_zone_records};
 ghost use Rattle.zoneupdate.specs.Touched.{part_of};
 ghost use Rattle.zoneupdate.specs.Checking.{is_within};
 
-use crate::prerequisites::has_name;
 use dnsname::Name;
+use nametable::NameTable;
 use push_base::limits::MAX_OCTETS_AT_NAME;
 use rrset::{NoMemory, Rrs, Table, put_all};
 use std::alloc::Global;
@@ -18,17 +19,24 @@ use std::alloc::Global;
 const MAX_RECORDS: usize = 65_536;
 
 /// Copies the records of a name from one table into another.
-fn copy_name(part: &mut Table, rows: &Table, name: &Name) -> Result<(), NoMemory>
+fn copy_name(part: &mut Table, rows: &NameTable, name: &Name) -> Result<(), NoMemory>
     requires { IsTrue (is_record_set rows.now.rows) }
     ensures { OnOk result (part.new.rows ≡ union part.old.rows (at_name name.now rows.now.rows)) }
 {
     put_all(part, rows.at(name))
 }
 
+/// Whether a part has records of a name.
+fn has_name(part: &Table, owner: &Name) -> bool
+    ensures { result ≡ not (is_empty (at_name owner.now part.now.rows)) }
+{
+    !part.at(owner).is_empty()
+}
+
 /// The records of the apex, and those of each name that a change names.
 pub(crate) fn touched(
     alloc: Global,
-    rows: &Table,
+    rows: &NameTable,
     apex: &Name,
     changes: &Rrs,
 ) -> Result<Table, NoMemory>

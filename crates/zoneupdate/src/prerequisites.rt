@@ -15,9 +15,10 @@ use crate::changing::counted_ttl;
 use crate::plan::Under;
 use crate::refusing::{first_refusal, is_empty, is_inside};
 use dnsname::Name;
+use nametable::NameTable;
 use rrset::classes::{ANY, IN, NONE};
 use rrset::rcodes::{FORMERR, NOTZONE, NXDOMAIN, NXRRSET, YXDOMAIN, YXRRSET};
-use rrset::{Key, Rr, Rrs, Shown, Table, kinds};
+use rrset::{Key, Rr, Rrs, Shown, kinds};
 
 /// Whether some of the records of a name have a kind.
 fn has_kind(named: &[(Key, Shown)], kind: u16) -> bool
@@ -27,21 +28,21 @@ fn has_kind(named: &[(Key, Shown)], kind: u16) -> bool
 }
 
 /// Whether the zone has records of a name and kind.
-fn has_set(rows: &Table, owner: &Name, kind: u16) -> bool
+fn has_set(rows: &NameTable, owner: &Name, kind: u16) -> bool
     ensures { result ≡ not (is_empty (set_at owner.now kind rows.now.rows)) }
 {
     has_kind(rows.at(owner), kind)
 }
 
-/// Whether a table has records of a name.
-pub(crate) fn has_name(rows: &Table, owner: &Name) -> bool
+/// Whether the zone has records of a name.
+fn has_name(rows: &NameTable, owner: &Name) -> bool
     ensures { result ≡ not (is_empty (at_name owner.now rows.now.rows)) }
 {
     !rows.at(owner).is_empty()
 }
 
 /// The RCODE that a prerequisite is refused with.
-fn refusal(rows: &Table, apex: &Name, under: &Under, rr: &Rr) -> Option<u8>
+fn refusal(rows: &NameTable, apex: &Name, under: &Under, rr: &Rr) -> Option<u8>
     ensures { (homes : List Labels) (writable : Bool) → IsUnder homes apex.now under.now → result ≡ prerequisite_refusal homes (record { apex = apex.now; writable = writable; rows = rows.now.rows }) (with_counted_ttl rr.now) }
 {
     let inside = is_inside(apex, under, &rr.owner);
@@ -67,7 +68,7 @@ fn refusal(rows: &Table, apex: &Name, under: &Under, rr: &Rr) -> Option<u8>
 /// The RCODE of the first prerequisite that doesn't hold, where those of class IN are not compared with the zone's
 /// sets (RFC 2136, 3.2.1, 3.2.2 and 3.2.4).
 pub(crate) fn prerequisites_refusal(
-    rows: &Table,
+    rows: &NameTable,
     apex: &Name,
     under: &Under,
     prereqs: &Rrs,

@@ -3,14 +3,17 @@
 ghost use Rattle.std.specs.Prelude.{◌≡◌, ◌<◌, ◌≤◌, ◌+◌, ◌++◌, [], ◌∷◌, length, IfOk, OnOk};
 ghost use Rattle.std.specs.Int.{w32, to_be_bytes};
 ghost use Rattle.dnsname.specs.Names.{octets};
+ghost use Rattle.rrset.specs.Records.{key_of, shown_of};
 ghost use Rattle.rrset.specs.RecordSet.{put_rr, set_of};
+ghost use Rattle.rrset.specs.Tables.{HasLowerOwner};
 ghost use Rattle.zoneupdate.specs.Zones.{first_ns, first_soa};
 
 use dnsname::Name;
 use dnsname::name::Octets;
+use nametable::NameTable;
 use rrset::classes::IN;
 use rrset::kinds::{NS, SOA};
-use rrset::{NoMemory, Rr, Shown, Table};
+use rrset::{Key, NoMemory, Rr, Shown, Table};
 use std::alloc::Global;
 
 // The times of a zone's first records, in seconds; they are this project's own (RFC 1035, 3.3.13).
@@ -89,9 +92,10 @@ fn soa_numbers(alloc: Global, serial: u32) -> Result<Vec<u8>, NoMemory>
     Ok(octets)
 }
 
-/// Puts a record into a table.
-pub(crate) fn put_record(table: &mut Table, rr: Rr) -> Result<(), NoMemory>
-    ensures { OnOk result (table.new.rows ≡ put_rr table.old.rows rr) }
+/// The key of a record, and what is shown of it.
+fn entry_of(rr: Rr) -> Result<(Key, Shown), NoMemory>
+    ensures entry { IfOk result (λ entry. entry ≡ (key_of rr, shown_of rr)) }
+    ensures lower { IfOk result (λ entry. HasLowerOwner entry.0) }
 {
     let key = rr.key()?;
     let Rr {
@@ -100,16 +104,33 @@ pub(crate) fn put_record(table: &mut Table, rr: Rr) -> Result<(), NoMemory>
         rdata,
         ..
     } = rr;
-    table.put(key, Shown { owner, ttl, rdata })?;
+    Ok((key, Shown { owner, ttl, rdata }))
+}
+
+/// Puts a record into a table.
+pub(crate) fn put_record(table: &mut Table, rr: Rr) -> Result<(), NoMemory>
+    ensures { OnOk result (table.new.rows ≡ put_rr table.old.rows rr) }
+{
+    let entry = entry_of(rr)?;
+    table.put(entry.0, entry.1)?;
+    Ok(())
+}
+
+/// Puts a record of a new zone.
+fn put_first(rows: &mut NameTable, rr: Rr) -> Result<(), NoMemory>
+    ensures { OnOk result (rows.new.rows ≡ put_rr rows.old.rows rr) }
+{
+    let entry = entry_of(rr)?;
+    rows.put(entry.0, entry.1)?;
     Ok(())
 }
 
 /// The records that a zone begins with.
-pub(crate) fn first_records(alloc: Global, apex: &Name, serial: u32) -> Result<Table, NoMemory>
-    ensures { IfOk result (λ table. table.rows ≡ set_of (first_soa apex.now serial ∷ first_ns apex.now ∷ [])) }
+pub(crate) fn first_records(alloc: Global, apex: &Name, serial: u32) -> Result<NameTable, NoMemory>
+    ensures { IfOk result (λ rows. rows.rows ≡ set_of (first_soa apex.now serial ∷ first_ns apex.now ∷ [])) }
 {
-    let mut table = Table::new(alloc);
-    put_record(&mut table, first_soa(alloc, apex, serial)?)?;
-    put_record(&mut table, first_ns(alloc, apex)?)?;
-    Ok(table)
+    let mut rows = NameTable::new(alloc);
+    put_first(&mut rows, first_soa(alloc, apex, serial)?)?;
+    put_first(&mut rows, first_ns(alloc, apex)?)?;
+    Ok(rows)
 }

@@ -10,6 +10,7 @@ use crate::records::put_record;
 use crate::sets::{copied_rrset, first_of_rrset, take_set};
 use dnsname::name::Octets;
 use dnsname::{Name, plain_name_end};
+use nametable::NameTable;
 use rrset::kinds::SOA;
 use rrset::{Key, NoMemory, Rr, Shown, Table, same_rows};
 use std::alloc::Global;
@@ -44,7 +45,7 @@ pub(crate) fn serial_of(rdata: &[u8]) -> Option<u32>
 }
 
 /// The serial of the SOA of a name.
-pub(crate) fn serial_at(rows: &Table, name: &Name) -> Option<u32>
+pub(crate) fn serial_at(rows: &NameTable, name: &Name) -> Option<u32>
     ensures { result ≡ serial_at name.now rows.now.rows }
 {
     match first_of_rrset(rows.at(name), name, SOA) {

@@ -4,6 +4,7 @@ ghost use Rattle.std.specs.Prelude.{◌≡◌, ◌≤◌, ◌<◌, List, Some, O
 ghost use Rattle.push_base.specs.Limits.{max_home_octets};
 ghost use Rattle.dnsname.specs.Names.{Labels, octets};
 ghost use Rattle.rrset.specs.RecordSet.{RecordSet};
+ghost use Rattle.nametable.specs.Nodes.{HasRoomFor, keys_put, room_at};
 ghost use Rattle.zoneupdate.specs.Zones.{new_zone, serial_of_zone};
 ghost use Rattle.zoneupdate.specs.Updates.{judged};
 ghost use Rattle.zoneupdate.specs.Keeping.{IsKept, IsUnder, Judges, HasRoom, Leads, IsPlanOf};
@@ -15,9 +16,10 @@ use crate::records::first_records;
 use crate::serial::serial_at;
 use dnsname::Name;
 use dnswire::Update;
+use nametable::NameTable;
 use push_base::limits::MAX_HOME_OCTETS;
+use rrset::NoMemory;
 use rrset::rcodes::REFUSED;
-use rrset::{NoMemory, Table};
 use std::alloc::Global;
 use std::marker::Model;
 
@@ -26,7 +28,7 @@ use std::marker::Model;
 pub struct Zone {
     apex: Name,
     writable: bool,
-    rows: Table,
+    rows: NameTable,
 }
 
 impl Model for Zone {
@@ -34,7 +36,7 @@ impl Model for Zone {
 
     ghost Value = { ZoneKept };
 
-    ghost view = { λ z. record { state = record { apex = z.apex; writable = z.writable; rows = z.rows.rows }; spare = z.rows.spare } };
+    ghost view = { λ z. record { state = record { apex = z.apex; writable = z.writable; rows = z.rows.rows }; nodes = z.rows.nodes } };
 
     ghost invariant = { λ z. IsKept (record { apex = z.apex; writable = z.writable; rows = z.rows.rows }) };
 }
@@ -70,8 +72,8 @@ impl Zone {
     ) -> Result<Verdict, NoMemory>
         ensures verdict { IfOk result (λ verdict. (homes : List Labels) → IsUnder homes self.old.state.apex under.now → Judges self.old.state verdict (judged homes self.old.state update.now)) }
         ensures state { self.new.state ≡ self.old.state }
-        ensures room { IfOk result (λ verdict. HasRoom self.new.spare verdict) }
-        ensures kept { self.old.spare ≤ self.new.spare }
+        ensures room { IfOk result (λ verdict. HasRoom self.new.nodes verdict) }
+        ensures kept { (name : Labels) → room_at self.old.nodes name ≤ room_at self.new.nodes name }
     {
         let (rows, apex) = (&self.rows, &self.apex);
         if let Some(code) = refused_first(alloc, rows, apex, self.writable, update, under)? {
@@ -80,22 +82,29 @@ impl Zone {
         let Some(plan) = planned(alloc, rows, apex, &update.changes)? else {
             return Ok(Verdict::Refuse(REFUSED));
         };
-        self.rows.reserve(plan.changed.len())?;
+        self.rows.reserve_for(&plan.changed)?;
         Ok(Verdict::Accept(plan))
     }
 
     /// Makes the changes of a plan, which `check` made of these records. It takes no memory.
     pub fn apply(&mut self, plan: ZonePlan)
         requires planned { IsPlanOf self.old.state plan }
-        requires room { length plan ≤ self.old.spare }
+        requires room { HasRoomFor (keys_put plan) self.old.nodes }
         ensures { (rows : RecordSet) → Leads self.old.state plan rows → self.new.state ≡ record self.old.state { rows = rows } }
     {
         let ZonePlan { changed } = plan;
         make_changes(&mut self.rows, changed);
     }
 
+    /// Gives back names without records, and room that was made for plans. To be called where no plan is pending.
+    pub fn give_back(&mut self)
+        ensures { self.new.state ≡ self.old.state }
+    {
+        self.rows.give_back();
+    }
+
     /// The zone's records.
-    pub fn rows(&self) -> &Table
+    pub fn rows(&self) -> &NameTable
         ensures rows { result.now.rows ≡ self.now.state.rows }
         ensures kept { IsKept self.now.state }
     {

@@ -3,9 +3,9 @@
 --     left-are, none-are      what they stand for
 use Rattle.std.proofs.Common.{◌≡◌, ◌⊎◌, inl, inr, ℕ, List, Option, Some, None, IfSome, sym, subst}
 use Rattle.replay.specs.declared.outcome.Outcome.{Outcome}
-use Rattle.replay.specs.declared.outcome.Outcome.TheVariants.{Done, ReadFault, NoMemory, WriteFault, Later}
+use Rattle.replay.specs.declared.outcome.Outcome.TheVariants.{Done, ReadFault, NoMemory, WriteFault, Outside}
 use Rattle.replay.specs.declared.ends.Ends.{Ends}
-use Rattle.replay.specs.BuiltScripts.{front_read}
+use Rattle.replay.specs.ScriptReplies.{front_read}
 use Rattle.replay.specs.KeptEnds.{AreEnds, EndsWhenDone, ends_with}
 
 -- a text was told, or its write failed
@@ -23,7 +23,7 @@ left-there told outcome last ends left cause there tells last_is left_is =
     whole ReadFault e h = tt
     whole NoMemory e h = tt
     whole WriteFault e h = tt
-    whole Later e h = tt
+    whole Outside e h = tt
 
     by : Tells told outcome cause → EndsWhenDone outcome (ends_with outcome ends)
     by (inl is) = subst (λ (o : Outcome). EndsWhenDone o (ends_with o ends)) (sym is) (whole told ends there)
@@ -58,7 +58,7 @@ left-are source script outcome ends left read are is = subst (StandIn source) (s
     kept ReadFault = tt
     kept NoMemory = tt
     kept WriteFault = tt
-    kept Later = tt
+    kept Outside = tt
 
     by : (o : Option (List ℕ)) → IfSome o (λ octets. script ≡ front_read octets) → StandIn o (ends_with outcome ends)
     by None read = tt

@@ -23,7 +23,7 @@ use Rattle.replay.specs.declared.world.World as program
 use Rattle.replay.specs.declared.script.Script.{Script}
 use Rattle.replay.specs.declared.ends.Ends.{Ends}
 use Rattle.replay.specs.KeptWorlds.{KeptSeat, Seated, seated, StandsForSeat, StandForSeats, IsWorld}
-use Rattle.replay.specs.KeptScripts.{events_said, world_at_start, IsBuilt}
+use Rattle.replay.specs.KeptScripts.{events_said, world_at_start, IsWhole}
 use Rattle.replay.specs.KeptEnds.{AreEnds}
 use Rattle.replay.proofs.lines.SentOctets.{lines_or}
 
@@ -99,11 +99,11 @@ ends-stand kept hub clients world stands hub_is clients_are =
     (subst (λ (cs : List KeptClient). EndsStandFor by_notices kept.hub cs world) (sym clients_are)
     (record { hub = stands.hub; seats = all-stand world (seated kept.seats.items) world.seats stands.seats }))
 
-pub ends-are : (octets : List ℕ) (script : Script) (kept : program.World) (ends : Ends) → IsBuilt octets script → IsWorld kept (world_after (events_said script.events.items) (world_at_start script))
+pub ends-are : (octets : List ℕ) (script : Script) (kept : program.World) (ends : Ends) → IsWhole octets script → IsWorld kept (world_after (events_said script.events.items) (world_at_start script))
     → ends.hub ≡ kept.hub → ends.clients.items ≡ map (λ (k : KeptSeat). k.client) (seated kept.seats.items) → AreEnds octets ends
 unfolding AreEnds
-ends-are octets script kept ends built stands hub_is clients_are lines read =
-    let same : built.lines ≡ lines = ap (lines_or []) (sym built.read ∙ read) in
-    let last : world_after built.lines (start_world built.lines) ≡ world_after (events_said script.events.items) (world_at_start script) = built.last ∙ ap (world_after (events_said script.events.items)) (sym built.head) in
+ends-are octets script kept ends whole stands hub_is clients_are lines read =
+    let same : whole.lines ≡ lines = ap (lines_or []) (sym whole.read ∙ read) in
+    let last : world_after whole.lines (start_world whole.lines) ≡ world_after (events_said script.events.items) (world_at_start script) = whole.last ∙ ap (world_after (events_said script.events.items)) (sym whole.head) in
     subst (λ (ls : List ScriptLine). EndsStandFor by_notices ends.hub ends.clients.items (world_after ls (start_world ls))) same
     (subst (EndsStandFor by_notices ends.hub ends.clients.items) (sym last) (ends-stand kept ends.hub ends.clients.items (world_after (events_said script.events.items) (world_at_start script)) stands hub_is clients_are))

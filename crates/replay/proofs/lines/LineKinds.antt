@@ -10,7 +10,6 @@ use Rattle.push_base.specs.Optional.{◌>>=◌}
 use Rattle.rrset.specs.declared.record.Question.{Question}
 use Rattle.dnsname.specs.Text.{name_of_text}
 use Rattle.replay.specs.Lines.{words_in, Word, ScriptLine, silent, timers, zone, link, at_moment, reconfirm, stop, show, number32, number, max_octets_passed, word, octets_written, is, writable_of, question, alone, of_word, of_octets, of_word_and_octets, of_word_and_number, of_word_and_question, timers_line, zone_line, link_line, at_line, reconfirm_line, stop_line, show_line, server_kinds, client_kinds, kind_of, line_behind, of_words, line_of, update, hear, send, cut, point, client, lone, open_connection, ask, drop_question, say, up, emit, down, settle, feed}
-use Rattle.replay.specs.BuiltScripts.{understood}
 use Rattle.push_base.specs.Limits.{max_moment}
 use Rattle.replay.specs.KeptLines.{begins_silent}
 use Rattle.replay.specs.declared.line.Kind.{Kind}
@@ -205,11 +204,11 @@ line_by_kind [] w ws speaks e = absurd cc
 line_by_kind (c ∷ cs) w ws speaks e = ap (λ (b : Bool). cond b (cond (is_utf8 cs) (Some silent) None) (of_words (words_in (c ∷ cs)))) speaks ∙ ap of_words e
 
 -- a line that begins with #
-pub comment_built : (cs : List ℕ) → is_utf8 cs ≡ true → Some silent ≡ understood (line_of (35 ∷ cs))
-comment_built cs h = sym (ap (λ (b : Bool). understood (cond b (Some silent) None)) h)
+pub comment_inside : (cs : List ℕ) → is_utf8 cs ≡ true → Some silent ≡ line_of (35 ∷ cs)
+comment_inside cs h = sym (ap (λ (b : Bool). cond b (Some silent) None) h)
 
-pub comment_outside : (cs : List ℕ) → (IsUtf8 cs → ⊥) → None ≡ understood (line_of (35 ∷ cs))
+pub comment_outside : (cs : List ℕ) → (IsUtf8 cs → ⊥) → None ≡ line_of (35 ∷ cs)
 comment_outside cs never = elim (cases_Bool (is_utf8 cs)) [
   | inl is ↦ absurd (never (IsUtf8-from_is_utf8 cs is))
-  | inr other ↦ sym (ap (λ (b : Bool). understood (cond b (Some silent) None)) other)
+  | inr other ↦ sym (ap (λ (b : Bool). cond b (Some silent) None) other)
 ]

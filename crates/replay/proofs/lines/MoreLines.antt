@@ -8,7 +8,6 @@ use Rattle.std.specs.Str.{bytes_eq}
 use Rattle.std.proofs.lemmas.Bool.Decides.{nat_tests}
 use Rattle.std.proofs.lemmas.List.{append-nil, map-append}
 use Rattle.std.proofs.lemmas.List.Elements.{All-append, filter_map-append}
-use Rattle.dnsname.proofs.Decisions.{and_true}
 use Rattle.rrset.proofs.Distinct.{distinct_push, distinct_none}
 use Rattle.dsosession.specs.declared.session.Timers.{Timers}
 use Rattle.dsosession.specs.Timing.{default_timers}
@@ -30,7 +29,6 @@ use Rattle.replay.specs.KeptLines.{timers_said, zone_said, link_said, event_said
 use Rattle.replay.specs.KeptScripts.{events_said}
 use Rattle.replay.specs.KeptWorlds.{AreDistinct}
 use Rattle.replay.specs.Drafts.{Taken, known_of, known_by, client_added, may_stand, with_zone, HasZone, with_link, HasLink, GrowsBy}
-use Rattle.replay.specs.BuiltScripts.{is_built}
 use Rattle.replay.proofs.worlds.Seats.{same_word, word_itself, other_way}
 use Rattle.replay.proofs.lines.Happening.{happening, happening-more, head_behind, head-more}
 
@@ -65,7 +63,6 @@ no_lines = record { happen = refl; head = refl; start = no_start; named = refl; 
 
 -- what a line that may stand there makes of the head and the events
 pub record Adds (all : List Word) (taken : Taken) (line : Line) (later : Taken) : Type 0 where
-  pub built : is_built (said line) ≡ true
   pub fit : fits all (known_of taken) (said line) ≡ Some (known_of later)
   pub lines : (front : List ScriptLine) → AreLines front taken → AreLines (front ++ said line ∷ []) later
 
@@ -85,7 +82,6 @@ happen-head front taken line are quiet = happening-more front line ∙ ap (λ (l
 
 silent_adds : (all : List Word) (taken : Taken) → Adds all taken lines.Silent taken
 silent_adds all taken = record {
-  built = refl;
   fit = refl;
   lines = λ front are. record { happen = happen-head front taken _ are refl; head = head-then front taken _ are; start = are.start; named = are.named; distinct = are.distinct };
 }
@@ -95,7 +91,6 @@ with_timers taken t = record taken { timers = Some t }
 
 timers_adds : (all : List Word) (taken : Taken) (t : Timers) → may_stand all (known_of taken) (timers_said t) ≡ true → Adds all taken (lines.Timers t) (with_timers taken t)
 timers_adds all taken t h = record {
-  built = refl;
   fit = allowed_some _ _ h;
   lines = λ front are. record { happen = happen-head front taken (timers_said t) are refl; head = head-then front taken (timers_said t) are; start = are.start; named = are.named; distinct = are.distinct };
 }
@@ -120,7 +115,6 @@ with_homes taken homes = record taken { homes = homes }
 
 zone_adds : (all : List Word) (taken : Taken) (homes : HomesKept) (z : ZoneLine) → may_stand all (known_of taken) (zone_said z) ≡ true → HasZone taken.homes z homes → Adds all taken (lines.Zone z) (with_homes taken homes)
 zone_adds all taken homes z h has = record {
-  built = refl;
   fit = allowed_some _ _ h ∙ ap (λ (names : List NamedHome). Some (record (known_of taken) { homes = names })) (sym has.named);
   lines = λ front are. record {
     happen = happen-head front taken (zone_said z) are refl;
@@ -151,7 +145,6 @@ with_linked taken homes w = record taken { homes = homes; links = taken.links ++
 
 link_adds : (all : List Word) (taken : Taken) (homes : HomesKept) (l : LinkLine) → may_stand all (known_of taken) (link_said l) ≡ true → HasLink taken.homes l homes → Adds all taken (lines.Link l) (with_linked taken homes (string_bytes l.word))
 link_adds all taken homes l h has = record {
-  built = refl;
   fit = allowed_some _ _ h ∙ ap (λ (names : List NamedHome). Some (record (known_of taken) { homes = names; links = taken.links ++ string_bytes l.word ∷ [] })) (sym has.named);
   lines = λ front are. record {
     happen = happen-head front taken (link_said l) are refl;
@@ -270,28 +263,6 @@ event_heads head (events.Settle s) = refl
 event_heads head (events.Hear s) = refl
 event_heads head (events.Reconfirm r) = refl
 
-pub event-built : (e : Event) → is_built (event_said e) ≡ true
-event-built (events.Update o) = refl
-event-built (events.Send s) = refl
-event-built events.Point = refl
-event-built (events.At t) = refl
-event-built (events.Stop s) = refl
-event-built (events.Cut c) = refl
-event-built (events.Client j) = refl
-event-built (events.Lone l) = refl
-event-built (events.Ask a) = refl
-event-built (events.Drop a) = refl
-event-built (events.Open o) = refl
-event-built (events.Feed s) = refl
-event-built (events.Show s) = refl
-event-built (events.Say p) = refl
-event-built (events.Up p) = refl
-event-built (events.Emit p) = refl
-event-built (events.Down p) = refl
-event-built (events.Settle s) = refl
-event-built (events.Hear s) = refl
-event-built (events.Reconfirm r) = refl
-
 -- ---- the words of the clients
 
 -- a word, if there is one, in front of others
@@ -373,11 +344,9 @@ distinct-more all taken (events.Reconfirm r) h d = subst AreDistinct (sym (appen
 
 event_adds : (all : List Word) (taken : Taken) (e : Event) → may_stand all (known_of taken) (event_said e) ≡ true → Adds all taken (lines.Event e) (with_event taken e)
 event_adds all taken e h =
-    let both = and_true (is_built (event_said e)) (is_some (fits all (known_of taken) (event_said e))) h in
     let more : events_said (taken.events ++ e ∷ []) ≡ events_said taken.events ++ event_said e ∷ [] = map-append event_said taken.events (e ∷ []) in
     record {
-      built = both.0;
-      fit = event_fits all taken e both.1;
+      fit = event_fits all taken e h;
       lines = λ front are. record {
         happen =
             happening-more front (event_said e)

@@ -20,13 +20,14 @@ use Rattle.replay.specs.Lines.{words_in, question, number16, of_word_and_questio
 use Rattle.replay.specs.declared.line.Kind.{Kind}
 use Rattle.replay.specs.declared.line.Kind.TheVariants as kinds
 use Rattle.replay.specs.Scripts.{Known, nothing_known, fits, with_line, lines_from, lines_in, lines_read, last_is_outside, client_words, max_script, script_of}
-use Rattle.replay.proofs.lines.LineKinds.{if_none, bind_none, alone_none, word_none, word_octets_none, word_number_none, word_question_none, timers_none, zone_none, link_none, at_none, stop_none, show_none}
+use Rattle.replay.proofs.lines.LineKinds.{if_none, bind_none, alone_none, word_none, word_number_none, word_question_none, timers_none, zone_none, link_none, at_none, stop_none, show_none}
 
--- the octets of an update or a datagram, those that a peer sends, those of the name that a client asks for, or those of the record that it doubts
+-- the octets of an update or a datagram, those that a peer sends or a client is fed, those of the name that a client asks for, or those of the record that it doubts
 abbrev pub sent_by : ScriptLine → List (List ℕ)
 sent_by (update octets) = octets ∷ []
 sent_by (hear w octets) = octets ∷ []
 sent_by (send w octets) = octets ∷ []
+sent_by (feed w octets) = octets ∷ []
 sent_by (ask w question) = octets question.name ∷ []
 sent_by (reconfirm w rr) = octets rr.owner ∷ rr.rdata ∷ []
 sent_by _ = []
@@ -96,6 +97,7 @@ module _ (test : List ℕ → Bool) (written : (h octets : List ℕ) → octets_
   abbrev fails : ScriptLine → Option ScriptLine
   fails (update o) = cond (test o) None (Some point)
   fails (send w o) = cond (test o) None (Some point)
+  fails (feed w o) = cond (test o) None (Some point)
   fails (hear w o) = cond (test o) None (Some point)
   fails (ask w q) = cond (test (octets q.name)) None (Some point)
   fails (reconfirm w rr) = cond (test (octets rr.owner) && test rr.rdata) None (Some point)
@@ -193,7 +195,7 @@ module _ (test : List ℕ → Bool) (written : (h octets : List ℕ) → octets_
   behind_none kinds.Emit ws = word_number_none fails emit (λ v n. refl) ws
   behind_none kinds.Down ws = word_number_none fails down (λ v n. refl) ws
   behind_none kinds.Settle ws = word_none fails settle (λ v. refl) ws
-  behind_none kinds.Feed ws = word_octets_none fails feed (λ v o. refl) ws
+  behind_none kinds.Feed ws = octets_none feed (λ p o. refl) ws
   behind_none kinds.Show ws = show_none fails (λ v q n. refl) ws
   behind_none kinds.Other ws = refl
 
@@ -248,6 +250,7 @@ module _ (test : List ℕ → Bool) (written : (h octets : List ℕ) → octets_
 
   passes : (line : ScriptLine) → fails line ≡ None → Passes line
   passes (send w o) e = one o e
+  passes (feed w o) e = one o e
   passes (hear w o) e = one o e
   passes (update o) e = one o e
   passes (ask w q) e = one (octets q.name) e

@@ -5,7 +5,6 @@ use Rattle.std.proofs.lemmas.Bool.{cases_Bool}
 use Rattle.std.proofs.lemmas.List.{take_rest}
 use Rattle.std.proofs.lemmas.Iterator.Adapters.{position_from-zero}
 use Rattle.replay.specs.Lines.{words_in, Word, point, alone as no_words, line_behind}
-use Rattle.replay.specs.BuiltScripts.{understood}
 use Rattle.replay.specs.declared.line.Kind.{Kind}
 use Rattle.replay.specs.declared.line.Kind.TheVariants as kinds
 use Rattle.replay.specs.KeptLines.{one_in, two_in, three_in, four_in, five_in}
@@ -110,10 +109,6 @@ point_of_more : (text : List ℕ) → no_words point (words_in text) ≡ None
 point_of_more text = no_point (words_in text) (some_words text)
 
 -- a point line says nothing with words behind its first, nor does a line outside the grammar
-pub nothing_behind : (kind : Kind) (text : List ℕ) → (kind ≡ kinds.Point) ⊎ (kind ≡ kinds.Other) → None ≡ understood (line_behind kind (words_in text))
-nothing_behind kind text (inl is_point) = sym (ap (λ (k : Kind). understood (line_behind k (words_in text))) is_point ∙ ap understood (point_of_more text))
-nothing_behind kind text (inr other) = sym (ap (λ (k : Kind). understood (line_behind k (words_in text))) other)
-
--- nor does one of a kind of which nothing is built
-pub unbuilt_behind : (kind same : Kind) (text : List ℕ) → kind ≡ same → understood (line_behind same (words_in text)) ≡ None → None ≡ understood (line_behind kind (words_in text))
-unbuilt_behind kind same text is none = sym (ap (λ (k : Kind). understood (line_behind k (words_in text))) is ∙ none)
+pub nothing_behind : (kind : Kind) (text : List ℕ) → (kind ≡ kinds.Point) ⊎ (kind ≡ kinds.Other) → None ≡ line_behind kind (words_in text)
+nothing_behind kind text (inl is_point) = sym (ap (λ (k : Kind). line_behind k (words_in text)) is_point ∙ point_of_more text)
+nothing_behind kind text (inr other) = sym (ap (λ (k : Kind). line_behind k (words_in text)) other)

@@ -1,6 +1,7 @@
 -- Worlds whose peers' and clients' sessions are apart.
 --     IsApart world      the peers' sessions are apart, and from those of clients, and all were made before the next one
---     apart-start, apart-lines, apart-placed      it is so of a script's start world, behind built lines, and with one peer more
+--     MadeFrom n hub, made-kept      the number of the next session is at least this one, and stays so
+--     apart-start, apart-lines, apart-placed      it is so of a script's start world, behind lines, and with one peer more
 --     stop-does, cut-does, ask-does, open-does, feed-does      what lines of stops, cuts and clients do, by cases
 use Rattle.std.proofs.Common.{◌≡◌, ℕ, ◌+◌, ◌<◌, ◌≤◌, Bool, true, false, cond, not, ◌&&◌, List, [], ◌∷◌, ◌++◌, fold, filter, find, length, Option, Some, None, option_map, codes, refl, sym, ◌∙◌, ap, subst, true≢false, arith}
 use Rattle.std.specs.Prelude.{nat_lt, position}
@@ -27,8 +28,7 @@ use Rattle.pushclient.specs.Clients.{Client, closed_as, connected, is_connected}
 use Rattle.pushclient.specs.Steps as steps
 use Rattle.replay.specs.PassedOctets.{Exchanged, exchanged, enough}
 use Rattle.replay.specs.TextWords.{by_history}
-use Rattle.replay.specs.Text.{placed, Printed, quietly, printing, timed, finished, settles, feeds, asks, opens, seated, subscribing, unsubscribing, exchanges, line_does, world_after, reconfirming, number_or_zero}
-use Rattle.replay.proofs.worlds.BuiltWorlds.{IsBuiltLine}
+use Rattle.replay.specs.Text.{placed, Printed, printing, timed, finished, feeds, asks, opens, seated, subscribing, unsubscribing, exchanges, line_does, world_after, reconfirming, number_or_zero}
 use Rattle.replay.proofs.worlds.OneWorld.{shows-leave}
 use Rattle.replay.proofs.worlds.FedSeats.{fed, fed_words, fed_over, feeds_as, feeds_by}
 use Rattle.replay.proofs.worlds.Keeping.{any-parts, exchanged-keeps, give-keeps}
@@ -162,10 +162,10 @@ apart-filter p (e ∷ es) apart = by (p e) (apart-filter p es apart.1)
 -- ---- the number of the next session never falls
 
 -- it is at least so many
-abbrev MadeFrom : ℕ → Hub → Type 0
+abbrev pub MadeFrom : ℕ → Hub → Type 0
 MadeFrom n hub = n ≤ hub.numbers_given
 
-made-kept : (n : ℕ) → IsKept AnyMessage (MadeFrom n)
+pub made-kept : (n : ℕ) → IsKept AnyMessage (MadeFrom n)
 made-kept n = record {
   reads = λ hub number session found there is h. tt;
   takes_up = λ hub number session found there is h. h;
@@ -202,7 +202,7 @@ apart-hub world hub le a = record {
   apart = a.apart;
 }
 
-seats-put : (P : Seat → Type 0) (v : Word) (x : Seat) (seats : List Seat) → P x → AllByRecursion P seats → AllByRecursion P (put_seat v x seats)
+pub seats-put : (P : Seat → Type 0) (v : Word) (x : Seat) (seats : List Seat) → P x → AllByRecursion P seats → AllByRecursion P (put_seat v x seats)
 seats-put P v x [] new all = tt
 seats-put P v x (s ∷ ss) new all = (by (bytes_eq s.word v), seats-put P v x ss new all.1)
   where
@@ -315,24 +315,24 @@ module _ (world : World) where
       by (Some seat) e = asked seat e
 
   pub open-does : (P : World → Type 0) (w : Word) → P world → ((seat : Seat) → seat_of world w ≡ Some seat → P (with_seat (record seat { client = connected (now world.hub) seat.client }) world))
-      → ((seat : Seat) → seat_of world w ≡ Some seat → P (with_seat (record seat { client = connected (now world.hub) seat.client; session = Some world.hub.numbers_given }) (record world { hub = with_new world.hub })))
+      → ((seat : Seat) → seat_of world w ≡ Some seat → seat.is_lone ≡ false → P (with_seat (record seat { client = connected (now world.hub) seat.client; session = Some world.hub.numbers_given }) (record world { hub = with_new world.hub })))
       → P (opens w world).0
   open-does P w none alone joined = by (seat_of world w) refl
     where
-      by_room : (seat : Seat) → seat_of world w ≡ Some seat → (b : Bool) → P (hub_opened world seat (made_or_not world.hub b)).0
-      by_room seat e true = joined seat e
-      by_room seat e false = none
+      by_room : (seat : Seat) → seat_of world w ≡ Some seat → seat.is_lone ≡ false → (b : Bool) → P (hub_opened world seat (made_or_not world.hub b)).0
+      by_room seat e hub true = joined seat e hub
+      by_room seat e hub false = none
 
-      by_seat : (seat : Seat) → seat_of world w ≡ Some seat → (is_open is_lone : Bool) → P (opens_as w world seat is_open is_lone).0
-      by_seat seat e true is_lone = none
-      by_seat seat e false true = alone seat e
-      by_seat seat e false false = by_room seat e (has_room world.hub)
+      by_seat : (seat : Seat) → seat_of world w ≡ Some seat → (is_open is_lone : Bool) → seat.is_lone ≡ is_lone → P (opens_as w world seat is_open is_lone).0
+      by_seat seat e true is_lone is = none
+      by_seat seat e false true is = alone seat e
+      by_seat seat e false false is = by_room seat e is (has_room world.hub)
 
       by : (o : Option Seat) → seat_of world w ≡ o → P (opens_by w world o).0
       by None e = none
-      by (Some seat) e = by_seat seat e (is_connected seat.client) seat.is_lone
+      by (Some seat) e = by_seat seat e (is_connected seat.client) seat.is_lone refl
 
--- ---- each built line leaves a world apart
+-- ---- each line leaves a world apart
 
 apart-exchanges : (w : Word) (number : ℕ) (octets : List ℕ) (world : World) → IsApart world → IsApart (exchanges w number octets world).0
 apart-exchanges w number octets world a = by x.over
@@ -392,7 +392,7 @@ apart-asks verb w call world a = ask-does world IsApart verb w call a (λ seat e
 apart-opens : (w : Word) (world : World) → IsApart world → IsApart (opens w world).0
 apart-opens w world a =
     open-does world IsApart w a (λ seat e. apart-put world (record seat { client = connected (now world.hub) seat.client }) (seat-found w world seat e a) a)
-    (λ seat e. apart-put (record world { hub = with_new world.hub }) (record seat { client = connected (now world.hub) seat.client; session = Some world.hub.numbers_given }) (new_one seat) (apart-hub world (with_new world.hub) (one_more world.hub.numbers_given) a))
+    (λ seat e hub. apart-put (record world { hub = with_new world.hub }) (record seat { client = connected (now world.hub) seat.client; session = Some world.hub.numbers_given }) (new_one seat) (apart-hub world (with_new world.hub) (one_more world.hub.numbers_given) a))
   where
     one_more : (n : ℕ) → n ≤ n + 1
     one_more n = omega arith
@@ -432,60 +432,60 @@ apart-passes way w world a = pass-does IsApart way w world a (λ seat e.
     below m n k le l = omega (arith, le, l)
 
 -- octets to a client, and what follows
-pub feed-does : (P : World → Type 0) (w : Word) (octets : List ℕ) (world : World) → P world → ((seat : Seat) → seat_of world w ≡ Some seat → P (finished (fed_words octets seat) (fed octets world seat)).0) → P (feeds w octets world).0
+pub feed-does : (P : World → Type 0) (w : Word) (octets : List ℕ) (world : World) → P world → ((seat : Seat) → seat_of world w ≡ Some seat → is_connected seat.client ≡ true → P (finished (fed_words octets seat) (fed octets world seat)).0) → P (feeds w octets world).0
 feed-does P w octets world none some = by (seat_of world w) refl
   where
-    by_open : (seat : Seat) → seat_of world w ≡ Some seat → (b : Bool) → P (feeds_as w octets world seat b).0
-    by_open seat e true = some seat e
-    by_open seat e false = none
+    by_open : (seat : Seat) → seat_of world w ≡ Some seat → (b : Bool) → is_connected seat.client ≡ b → P (feeds_as w octets world seat b).0
+    by_open seat e true connects = some seat e connects
+    by_open seat e false connects = none
 
     by : (o : Option Seat) → seat_of world w ≡ o → P (feeds_by w octets world o).0
     by None e = none
-    by (Some seat) e = by_open seat e (is_connected seat.client)
+    by (Some seat) e = by_open seat e (is_connected seat.client) refl
 
 apart-feeds : (w : Word) (octets : List ℕ) (world : World) → IsApart world → IsApart (feeds w octets world).0
-apart-feeds w octets world a = feed-does IsApart w octets world a (λ seat e.
+apart-feeds w octets world a = feed-does IsApart w octets world a (λ seat e connects.
     let p = fed octets world seat in
     apart-cut_if (fed_over octets world seat) p.seat (with_seat p.seat world) (apart-put world p.seat (seat-found w world seat e a) a))
 
-pub apart-line : (line : ScriptLine) (world : World) → IsBuiltLine line → IsApart world → IsApart (line_does by_history line world).0
-apart-line silent world is a = a
-apart-line (timers i k) world is a = a
-apart-line (zone apex serial mode) world is a = a
-apart-line (link w domain) world is a = a
-apart-line (client w) world is a = apart-seated w false world a
-apart-line (lone w) world is a = apart-seated w true world a
-apart-line (ask w question) world is a = apart-asks (codes "asked") w (subscribing question) world a
-apart-line (drop_question w question) world is a = apart-asks (codes "dropped") w (unsubscribing question) world a
-apart-line (reconfirm w rr) world is a = apart-asks (codes "reconfirm") w (reconfirming rr) world a
-apart-line (open_connection w) world is a = apart-opens w world a
-apart-line (say w n) world is a = apart-passes (ways.Say n) w world a
-apart-line (up w n) world is a = apart-passes (ways.Up n) w world a
-apart-line (emit w n) world is a = apart-passes (ways.Emit n) w world a
-apart-line (down w n) world is a = apart-passes (ways.Down n) w world a
-apart-line (settle w) world is a = apart-passes ways.Settle w world a
-apart-line (feed w octets) world is a = apart-feeds w octets world a
-apart-line (show w question written) world is a = subst IsApart (sym (shows-leave by_history w question written world)) a
-apart-line (at_moment t) world is a =
+pub apart-line : (line : ScriptLine) (world : World) → IsApart world → IsApart (line_does by_history line world).0
+apart-line silent world a = a
+apart-line (timers i k) world a = a
+apart-line (zone apex serial mode) world a = a
+apart-line (link w domain) world a = a
+apart-line (client w) world a = apart-seated w false world a
+apart-line (lone w) world a = apart-seated w true world a
+apart-line (ask w question) world a = apart-asks (codes "asked") w (subscribing question) world a
+apart-line (drop_question w question) world a = apart-asks (codes "dropped") w (unsubscribing question) world a
+apart-line (reconfirm w rr) world a = apart-asks (codes "reconfirm") w (reconfirming rr) world a
+apart-line (open_connection w) world a = apart-opens w world a
+apart-line (say w n) world a = apart-passes (ways.Say n) w world a
+apart-line (up w n) world a = apart-passes (ways.Up n) w world a
+apart-line (emit w n) world a = apart-passes (ways.Emit n) w world a
+apart-line (down w n) world a = apart-passes (ways.Down n) w world a
+apart-line (settle w) world a = apart-passes ways.Settle w world a
+apart-line (feed w octets) world a = apart-feeds w octets world a
+apart-line (show w question written) world a = subst IsApart (sym (shows-leave by_history w question written world)) a
+apart-line (at_moment t) world a =
     let later = apart-hub world (hubs.moment world.hub t).1 (keeps-called AnyMessage (MadeFrom world.hub.numbers_given) (made-kept world.hub.numbers_given) (moves t) world.hub tt (itself world.hub.numbers_given)) a in
     apart-timed (moment_now world t) world.seats (hub_timed world t) later.seats later
-apart-line (update message) world is a =
+apart-line (update message) world a =
     apart-hub world (hubs.update world.hub message).1 (keeps-called AnyMessage (MadeFrom world.hub.numbers_given) (made-kept world.hub.numbers_given) (updates message) world.hub tt (itself world.hub.numbers_given)) a
-apart-line (hear w datagram) world is a =
+apart-line (hear w datagram) world a =
     let on = number_or_zero (position (bytes_eq w) world.links) in
     apart-hub world (hubs.hear world.hub on datagram).1 (keeps-called AnyMessage (MadeFrom world.hub.numbers_given) (made-kept world.hub.numbers_given) (hears on datagram) world.hub tt (itself world.hub.numbers_given)) a
-apart-line (cut w) world is a = cut-does world IsApart w (λ seat e. apart-connection seat world a) (apart-cut w world a)
-apart-line (send w octets) world is a = apart-sends w octets world a
-apart-line (stop w rcode delay) world is a = stop-does world IsApart w rcode delay (λ seat e. by seat.session) (by (session_number world w))
+apart-line (cut w) world a = cut-does world IsApart w (λ seat e. apart-connection seat world a) (apart-cut w world a)
+apart-line (send w octets) world a = apart-sends w octets world a
+apart-line (stop w rcode delay) world a = stop-does world IsApart w rcode delay (λ seat e. by seat.session) (by (session_number world w))
   where
     by : (o : Option ℕ) → IsApart (stopped world rcode delay o)
     by None = a
     by (Some number) = apart-hub world (hubs.stop world.hub number rcode delay) (itself world.hub.numbers_given) a
-apart-line point world is a = a
+apart-line point world a = a
 
-pub apart-lines : (lines : List ScriptLine) (world : World) → AllByRecursion IsBuiltLine lines → IsApart world → IsApart (world_after lines world)
-apart-lines [] world built a = a
-apart-lines (line ∷ lines) world built a = apart-lines lines (line_does by_history line world).0 built.1 (apart-line line world built.0 a)
+pub apart-lines : (lines : List ScriptLine) (world : World) → IsApart world → IsApart (world_after lines world)
+apart-lines [] world a = a
+apart-lines (line ∷ lines) world a = apart-lines lines (line_does by_history line world).0 (apart-line line world a)
 
 pub apart-start : (script : List ScriptLine) → IsApart (start_world script)
 apart-start script = record { seats = tt; below = tt; apart = tt }

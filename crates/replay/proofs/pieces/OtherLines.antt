@@ -1,10 +1,12 @@
 -- The lines of others leave a peer's session as it is, or make the history longer.
---     peer-stays, peer-stays-lines      a line of others leaves a peer the session that it has; so do several
+--     peer-stays, peer-stays-lines      a line of others leaves a peer the session that it has, or without one; so do several
 --     others-leave      they leave that session as it is, or the history has become longer
 use Rattle.std.proofs.Common.{◌≡◌, ◌⊎◌, inl, inr, ℕ, ◌+◌, ◌<◌, ◌==◌, Bool, true, false, cond, not, List, [], ◌∷◌, ◌++◌, fold, take, find, length, Option, Some, None, option_map, codes, refl, sym, ◌∙◌, ap, subst, arith}
 use Rattle.std.specs.Prelude.{nat_lt, position}
 use Rattle.std.specs.List.{AllByRecursion, list_all}
+use Rattle.std.specs.Option.{option_or}
 use Rattle.std.specs.Str.{bytes_eq}
+use Rattle.std.proofs.lemmas.List.Folds.{find-append}
 use Rattle.dnsname.proofs.Decisions.{and_true}
 use Rattle.dsosession.specs.declared.session.EndReason.{EndReason}
 use Rattle.history.specs.declared.entry.Entry.{Entry}
@@ -26,10 +28,9 @@ use Rattle.pushclient.specs.Clients.{closed_as}
 use Rattle.pushclient.specs.Steps as steps
 use Rattle.replay.specs.PassedOctets.{Exchanged, exchanged, enough}
 use Rattle.replay.specs.TextWords.{by_history}
-use Rattle.replay.specs.Text.{Printed, timed, settles, feeds, subscribing, unsubscribing, exchanges, session_of_word, line_does, world_after, reconfirming, number_or_zero}
+use Rattle.replay.specs.Text.{Printed, timed, feeds, subscribing, unsubscribing, exchanges, session_of_word, line_does, world_after, reconfirming, number_or_zero}
 use Rattle.replay.specs.ScriptPieces.{is_of_others}
 use Rattle.replay.proofs.rest.AtRest.{At, Longer, StaysLonger}
-use Rattle.replay.proofs.worlds.BuiltWorlds.{IsBuiltLine}
 use Rattle.replay.proofs.worlds.TimedSeats.{peers-timed, peers-cut_if}
 use Rattle.replay.proofs.worlds.OneWorld.{shows-leave}
 use Rattle.replay.proofs.worlds.FedSeats.{fed, fed_over}
@@ -44,11 +45,11 @@ use Rattle.replay.proofs.worlds.Longer.{stays-longer, longer-lines}
 use Rattle.replay.proofs.serving.NewPeer.{by_connected, by_number}
 use Rattle.replay.proofs.pieces.ApartWorlds.{ApartNumbers, IsApart, any-seat, apart-line, apart-more, ask-does, cut-does, feed-does, found-filter, found-more, has_room, hub_timed, made_or_not, moment_now, not_so, not_true, number-all, numbers-apart, one_word, open-does, seat-found, seat_apart, stop-does, stopped, with_peer}
 
--- ---- a peer keeps its session
+-- ---- a peer keeps its session, or has none
 
-module _ (w : Word) (number : ℕ) where
+module _ (w : Word) (o : Option ℕ) where
   abbrev Has : World → Type 0
-  Has world = session_number world w ≡ Some number
+  Has world = session_number world w ≡ o
 
   has-cut : (v : Word) (world : World) → bytes_eq v w ≡ false → Has world → Has (cut_peer v world)
   has-cut v world other known = ap (option_map (λ (e : Word × ℕ). e.1)) (found-filter (λ k. bytes_eq k w) (λ k. not (bytes_eq k v)) left world.peers) ∙ known
@@ -56,8 +57,13 @@ module _ (w : Word) (number : ℕ) where
       left : (k : Word) → bytes_eq k w ≡ true → not (bytes_eq k v) ≡ true
       left k is = ap not (not_so (bytes_eq k v) (λ y. one_word k v w other y is))
 
-  has-more : (v : Word) (n : ℕ) (world : World) → Has world → number_in (world.peers ++ (v, n) ∷ []) w ≡ Some number
-  has-more v n world known = found-more (λ (e : Word × ℕ). bytes_eq e.0 w) (λ (e : Word × ℕ). e.1) world.peers ((v, n) ∷ []) number known
+  has-more : (v : Word) (n : ℕ) (world : World) → bytes_eq v w ≡ false → Has world → number_in (world.peers ++ (v, n) ∷ []) w ≡ o
+  has-more v n world other known =
+      ap (option_map (λ (e : Word × ℕ). e.1)) (find-append (λ (e : Word × ℕ). bytes_eq e.0 w) world.peers ((v, n) ∷ [])) ∙ by (find (λ (e : Word × ℕ). bytes_eq e.0 w) world.peers) known
+    where
+      by : (found : Option (Word × ℕ)) → option_map (λ (e : Word × ℕ). e.1) found ≡ o → option_map (λ (e : Word × ℕ). e.1) (option_or found (cond (bytes_eq v w) (Some (v, n)) None)) ≡ o
+      by (Some e) is = is
+      by None is = ap (λ b. option_map (λ (e : Word × ℕ). e.1) (cond b (Some (v, n)) None)) other ∙ is
 
   has-exchanges : (v : Word) (m : ℕ) (octets : List ℕ) (world : World) → bytes_eq v w ≡ false → Has world → Has (exchanges v m octets world).0
   has-exchanges v m octets world other known = by x.over
@@ -68,7 +74,7 @@ module _ (w : Word) (number : ℕ) where
       later : World
       later = record world { hub = x.hub }
 
-      by : (o : Option EndReason) → Has (elim o as (λ _. World) [ None ↦ later | Some reason ↦ cut_peer v later ])
+      by : (over : Option EndReason) → Has (elim over as (λ _. World) [ None ↦ later | Some reason ↦ cut_peer v later ])
       by None = known
       by (Some reason) = has-cut v later other known
 
@@ -76,24 +82,24 @@ module _ (w : Word) (number : ℕ) where
   has-sends v octets world other known = by (session_number world v)
     where
       by_room : (b : Bool) → Has (by_connected world v octets (made_or_not world.hub b)).0
-      by_room true = has-exchanges v world.hub.numbers_given octets (with_peer v world) other (has-more v world.hub.numbers_given world known)
+      by_room true = has-exchanges v world.hub.numbers_given octets (with_peer v world) other (has-more v world.hub.numbers_given world other known)
       by_room false = known
 
-      by : (o : Option ℕ) → Has (by_number world v octets o).0
+      by : (place : Option ℕ) → Has (by_number world v octets place).0
       by (Some m) = has-exchanges v m octets world other known
       by None = by_room (has_room world.hub)
 
   has-cuts : (v : Word) (world : World) → bytes_eq v w ≡ false → Has world → Has (line_does by_history (cut v) world).0
   has-cuts v world other known = by (seat_of world v)
     where
-      by : (o : Option Seat) → Has (elim o as (λ _. World) [ None ↦ cut_peer v world | Some seat ↦ cut_connection seat world ])
+      by : (seat : Option Seat) → Has (elim seat as (λ _. World) [ None ↦ cut_peer v world | Some seat ↦ cut_connection seat world ])
       by None = has-cut v world other known
       by (Some seat) = known
 
   has-stops : (v : Word) (rcode delay : ℕ) (world : World) → Has world → Has (line_does by_history (stop v rcode delay) world).0
   has-stops v rcode delay world known = by (session_of_word world v)
     where
-      by : (o : Option ℕ) → Has (stopped world rcode delay o)
+      by : (session : Option ℕ) → Has (stopped world rcode delay session)
       by None = known
       by (Some m) = known
 
@@ -103,45 +109,45 @@ peers-passes way w world = pass-does (λ later. later.peers ≡ world.peers) way
     peers-cut_if (is_over p.over (closed_as p.seat.client)) p.seat (with_seat p.seat p.world) ∙ ap (λ (x : World). x.peers) (passed-world way world seat))
 
 peers-feeds : (w : Word) (octets : List ℕ) (world : World) → (feeds w octets world).0.peers ≡ world.peers
-peers-feeds w octets world = feed-does (λ later. later.peers ≡ world.peers) w octets world refl (λ seat e.
+peers-feeds w octets world = feed-does (λ later. later.peers ≡ world.peers) w octets world refl (λ seat e connects.
     let p = fed octets world seat in
     peers-cut_if (fed_over octets world seat) p.seat (with_seat p.seat world))
 
-pub peer-stays : (w : Word) (number : ℕ) (line : ScriptLine) (world : World) → IsBuiltLine line → is_of_others w line ≡ true → session_number world w ≡ Some number
-    → session_number (line_does by_history line world).0 w ≡ Some number
-peer-stays w number silent world is others known = known
-peer-stays w number (timers i k) world is others known = known
-peer-stays w number (zone apex serial mode) world is others known = known
-peer-stays w number (link v domain) world is others known = known
-peer-stays w number (hear v datagram) world is others known = known
-peer-stays w number (at_moment t) world is others known =
+pub peer-stays : (w : Word) (o : Option ℕ) (line : ScriptLine) (world : World) → is_of_others w line ≡ true → session_number world w ≡ o
+    → session_number (line_does by_history line world).0 w ≡ o
+peer-stays w o silent world others known = known
+peer-stays w o (timers i k) world others known = known
+peer-stays w o (zone apex serial mode) world others known = known
+peer-stays w o (link v domain) world others known = known
+peer-stays w o (hear v datagram) world others known = known
+peer-stays w o (at_moment t) world others known =
     let r = hubs.moment world.hub t in
     ap (λ peers. number_in peers w) (peers-timed (now r.1) world.seats (record world { hub = r.1 }, cond r.0 (codes "full" ∷ []) [])) ∙ known
-peer-stays w number (client v) world is others known = known
-peer-stays w number (lone v) world is others known = known
-peer-stays w number (say v n) world is others known = ap (λ peers. number_in peers w) (peers-passes (ways.Say n) v world) ∙ known
-peer-stays w number (up v n) world is others known = ap (λ peers. number_in peers w) (peers-passes (ways.Up n) v world) ∙ known
-peer-stays w number (emit v n) world is others known = ap (λ peers. number_in peers w) (peers-passes (ways.Emit n) v world) ∙ known
-peer-stays w number (down v n) world is others known = ap (λ peers. number_in peers w) (peers-passes (ways.Down n) v world) ∙ known
-peer-stays w number (settle v) world is others known = ap (λ peers. number_in peers w) (peers-passes ways.Settle v world) ∙ known
-peer-stays w number (ask v question) world is others known = ap (λ peers. number_in peers w) (peers-asks (codes "asked") v (subscribing question) world) ∙ known
-peer-stays w number (drop_question v question) world is others known = ap (λ peers. number_in peers w) (peers-asks (codes "dropped") v (unsubscribing question) world) ∙ known
-peer-stays w number (reconfirm v rr) world is others known = ap (λ peers. number_in peers w) (peers-asks (codes "reconfirm") v (reconfirming rr) world) ∙ known
-peer-stays w number (open_connection v) world is others known = ap (λ peers. number_in peers w) (peers-opens v world) ∙ known
-peer-stays w number (feed v octets) world is others known = ap (λ peers. number_in peers w) (peers-feeds v octets world) ∙ known
-peer-stays w number (show v question written) world is others known = ap (λ (later : World). session_number later w) (shows-leave by_history v question written world) ∙ known
-peer-stays w number (update message) world is others known = known
-peer-stays w number (cut v) world is others known = has-cuts w number v world (not_true (bytes_eq v w) others) known
-peer-stays w number (send v octets) world is others known = has-sends w number v octets world (not_true (bytes_eq v w) others) known
-peer-stays w number (stop v rcode delay) world is others known = has-stops w number v rcode delay world known
-peer-stays w number point world is others known = known
+peer-stays w o (client v) world others known = known
+peer-stays w o (lone v) world others known = known
+peer-stays w o (say v n) world others known = ap (λ peers. number_in peers w) (peers-passes (ways.Say n) v world) ∙ known
+peer-stays w o (up v n) world others known = ap (λ peers. number_in peers w) (peers-passes (ways.Up n) v world) ∙ known
+peer-stays w o (emit v n) world others known = ap (λ peers. number_in peers w) (peers-passes (ways.Emit n) v world) ∙ known
+peer-stays w o (down v n) world others known = ap (λ peers. number_in peers w) (peers-passes (ways.Down n) v world) ∙ known
+peer-stays w o (settle v) world others known = ap (λ peers. number_in peers w) (peers-passes ways.Settle v world) ∙ known
+peer-stays w o (ask v question) world others known = ap (λ peers. number_in peers w) (peers-asks (codes "asked") v (subscribing question) world) ∙ known
+peer-stays w o (drop_question v question) world others known = ap (λ peers. number_in peers w) (peers-asks (codes "dropped") v (unsubscribing question) world) ∙ known
+peer-stays w o (reconfirm v rr) world others known = ap (λ peers. number_in peers w) (peers-asks (codes "reconfirm") v (reconfirming rr) world) ∙ known
+peer-stays w o (open_connection v) world others known = ap (λ peers. number_in peers w) (peers-opens v world) ∙ known
+peer-stays w o (feed v octets) world others known = ap (λ peers. number_in peers w) (peers-feeds v octets world) ∙ known
+peer-stays w o (show v question written) world others known = ap (λ (later : World). session_number later w) (shows-leave by_history v question written world) ∙ known
+peer-stays w o (update message) world others known = known
+peer-stays w o (cut v) world others known = has-cuts w o v world (not_true (bytes_eq v w) others) known
+peer-stays w o (send v octets) world others known = has-sends w o v octets world (not_true (bytes_eq v w) others) known
+peer-stays w o (stop v rcode delay) world others known = has-stops w o v rcode delay world known
+peer-stays w o point world others known = known
 
-pub peer-stays-lines : (w : Word) (number : ℕ) (lines : List ScriptLine) (world : World) → AllByRecursion IsBuiltLine lines → list_all (is_of_others w) lines ≡ true → session_number world w ≡ Some number
-    → session_number (world_after lines world) w ≡ Some number
-peer-stays-lines w number [] world built others known = known
-peer-stays-lines w number (line ∷ lines) world built others known =
+pub peer-stays-lines : (w : Word) (o : Option ℕ) (lines : List ScriptLine) (world : World) → list_all (is_of_others w) lines ≡ true → session_number world w ≡ o
+    → session_number (world_after lines world) w ≡ o
+peer-stays-lines w o [] world others known = known
+peer-stays-lines w o (line ∷ lines) world others known =
     let both = and_true (is_of_others w line) (list_all (is_of_others w) lines) others in
-    peer-stays-lines w number lines (line_does by_history line world).0 built.1 both.1 (peer-stays w number line world built.0 both.0 known)
+    peer-stays-lines w o lines (line_does by_history line world).0 both.1 (peer-stays w o line world both.0 known)
 
 -- ---- what is done elsewhere leaves the session, or the history grows
 
@@ -261,7 +267,7 @@ module _ (hub : Hub) (number : ℕ) (s : Session) where
 
         by_room : (b : Bool) → Leaves (by_connected world v octets (made_or_not world.hub b)).0.hub
         by_room true =
-            leaves-exchanges v world.hub.numbers_given octets (with_peer v world) other (apart-more v world a).apart (has-more w number v world.hub.numbers_given world known) (is_new world.hub.numbers_given below)
+            leaves-exchanges v world.hub.numbers_given octets (with_peer v world) other (apart-more v world a).apart (has-more w (Some number) v world.hub.numbers_given world other known) (is_new world.hub.numbers_given below)
             (leaves-more world.hub h)
         by_room false = h
 
@@ -300,54 +306,54 @@ module _ (hub : Hub) (number : ℕ) (s : Session) where
         leaves-cut_if (is_over p.over (closed_as p.seat.client)) p.seat (with_seat p.seat p.world) (λ m is. differs m (sym (passed-names way world seat).session ∙ is)) behind)
 
     leaves-feeds : (v : Word) (octets : List ℕ) (world : World) → IsApart world → session_number world w ≡ Some number → Leaves world.hub → Leaves (feeds v octets world).0.hub
-    leaves-feeds v octets world a known h = feed-does (λ later. Leaves later.hub) v octets world h (λ seat e.
+    leaves-feeds v octets world a known h = feed-does (λ later. Leaves later.hub) v octets world h (λ seat e connects.
         let p = fed octets world seat in
         leaves-cut_if (fed_over octets world seat) p.seat (with_seat p.seat world) (seat-differs world seat (seat-found v world seat e a) known) h)
 
-    leaves-line : (line : ScriptLine) (world : World) → IsBuiltLine line → is_of_others w line ≡ true → IsApart world → session_number world w ≡ Some number → At hub number world.hub s
+    leaves-line : (line : ScriptLine) (world : World) → is_of_others w line ≡ true → IsApart world → session_number world w ≡ Some number → At hub number world.hub s
         → Leaves (line_does by_history line world).0.hub
-    leaves-line silent world is others a known at = inl at
-    leaves-line (timers i k) world is others a known at = inl at
-    leaves-line (zone apex serial mode) world is others a known at = inl at
-    leaves-line (link v domain) world is others a known at = inl at
-    leaves-line (hear v datagram) world is others a known at = leaves-hear world.hub (number_or_zero (position (bytes_eq v) world.links)) datagram at
-    leaves-line (client v) world is others a known at = inl at
-    leaves-line (lone v) world is others a known at = inl at
-    leaves-line (ask v question) world is others a known at = ask-does world (λ later. Leaves later.hub) (codes "asked") v (subscribing question) (inl at) (λ seat e. inl at)
-    leaves-line (drop_question v question) world is others a known at = ask-does world (λ later. Leaves later.hub) (codes "dropped") v (unsubscribing question) (inl at) (λ seat e. inl at)
-    leaves-line (reconfirm v rr) world is others a known at = ask-does world (λ later. Leaves later.hub) (codes "reconfirm") v (reconfirming rr) (inl at) (λ seat e. inl at)
-    leaves-line (open_connection v) world is others a known at = open-does world (λ later. Leaves later.hub) v (inl at) (λ seat e. inl at) (λ seat e. leaves-more world.hub (inl at))
-    leaves-line (say v n) world is others a known at = leaves-passes (ways.Say n) v world a known (inl at)
-    leaves-line (up v n) world is others a known at = leaves-passes (ways.Up n) v world a known (inl at)
-    leaves-line (emit v n) world is others a known at = leaves-passes (ways.Emit n) v world a known (inl at)
-    leaves-line (down v n) world is others a known at = leaves-passes (ways.Down n) v world a known (inl at)
-    leaves-line (settle v) world is others a known at = leaves-passes ways.Settle v world a known (inl at)
-    leaves-line (feed v octets) world is others a known at = leaves-feeds v octets world a known (inl at)
-    leaves-line (show v question written) world is others a known at = subst (λ (later : World). Leaves later.hub) (sym (shows-leave by_history v question written world)) (inl at)
-    leaves-line (at_moment t) world is others a known at =
+    leaves-line silent world others a known at = inl at
+    leaves-line (timers i k) world others a known at = inl at
+    leaves-line (zone apex serial mode) world others a known at = inl at
+    leaves-line (link v domain) world others a known at = inl at
+    leaves-line (hear v datagram) world others a known at = leaves-hear world.hub (number_or_zero (position (bytes_eq v) world.links)) datagram at
+    leaves-line (client v) world others a known at = inl at
+    leaves-line (lone v) world others a known at = inl at
+    leaves-line (ask v question) world others a known at = ask-does world (λ later. Leaves later.hub) (codes "asked") v (subscribing question) (inl at) (λ seat e. inl at)
+    leaves-line (drop_question v question) world others a known at = ask-does world (λ later. Leaves later.hub) (codes "dropped") v (unsubscribing question) (inl at) (λ seat e. inl at)
+    leaves-line (reconfirm v rr) world others a known at = ask-does world (λ later. Leaves later.hub) (codes "reconfirm") v (reconfirming rr) (inl at) (λ seat e. inl at)
+    leaves-line (open_connection v) world others a known at = open-does world (λ later. Leaves later.hub) v (inl at) (λ seat e. inl at) (λ seat e hub. leaves-more world.hub (inl at))
+    leaves-line (say v n) world others a known at = leaves-passes (ways.Say n) v world a known (inl at)
+    leaves-line (up v n) world others a known at = leaves-passes (ways.Up n) v world a known (inl at)
+    leaves-line (emit v n) world others a known at = leaves-passes (ways.Emit n) v world a known (inl at)
+    leaves-line (down v n) world others a known at = leaves-passes (ways.Down n) v world a known (inl at)
+    leaves-line (settle v) world others a known at = leaves-passes ways.Settle v world a known (inl at)
+    leaves-line (feed v octets) world others a known at = leaves-feeds v octets world a known (inl at)
+    leaves-line (show v question written) world others a known at = subst (λ (later : World). Leaves later.hub) (sym (shows-leave by_history v question written world)) (inl at)
+    leaves-line (at_moment t) world others a known at =
         leaves-timed (moment_now world t) world.seats (hub_timed world t)
         (all-weaken (seat_apart world) (λ s. (m : ℕ) → s.session ≡ Some m → number ≡ m → ⊥) (λ seat one. seat-differs world seat one known) world.seats a.seats) (leaves-moment world.hub t at)
-    leaves-line (update message) world is others a known at = leaves-update world.hub message at
-    leaves-line (cut v) world is others a known at =
+    leaves-line (update message) world others a known at = leaves-update world.hub message at
+    leaves-line (cut v) world others a known at =
         cut-does world (λ later. Leaves later.hub) v (λ seat e. leaves-without seat.session (seat-differs world seat (seat-found v world seat e a) known) world.hub (inl at))
         (leaves-cut v world (not_true (bytes_eq v w) others) a.apart known (inl at))
-    leaves-line (send v octets) world is others a known at = leaves-sends v octets world (not_true (bytes_eq v w) others) a known (inl at)
-    leaves-line (stop v rcode delay) world is others a known at =
+    leaves-line (send v octets) world others a known at = leaves-sends v octets world (not_true (bytes_eq v w) others) a known (inl at)
+    leaves-line (stop v rcode delay) world others a known at =
         stop-does world (λ later. Leaves later.hub) v rcode delay (λ seat e. leaves-stop seat.session rcode delay world (seat-differs world seat (seat-found v world seat e a) known) (inl at))
         (leaves-stop (session_number world v) rcode delay world (λ m same. other-session v m world (not_true (bytes_eq v w) others) a.apart known same) (inl at))
-    leaves-line point world is others a known at = inl at
+    leaves-line point world others a known at = inl at
 
-pub others-leave : (hub : Hub) (number : ℕ) (s : Session) (w : Word) (lines : List ScriptLine) (world : World) → AllByRecursion IsBuiltLine lines → list_all (is_of_others w) lines ≡ true → IsApart world
+pub others-leave : (hub : Hub) (number : ℕ) (s : Session) (w : Word) (lines : List ScriptLine) (world : World) → list_all (is_of_others w) lines ≡ true → IsApart world
     → session_number world w ≡ Some number → At hub number world.hub s → At hub number (world_after lines world).hub s ⊎ Longer hub (world_after lines world).hub
-others-leave hub number s w [] world built others a known at = inl at
-others-leave hub number s w (line ∷ lines) world built others a known at =
+others-leave hub number s w [] world others a known at = inl at
+others-leave hub number s w (line ∷ lines) world others a known at =
     let both = and_true (is_of_others w line) (list_all (is_of_others w) lines) others in
-    by (λ left. others-leave hub number s w lines (line_does by_history line world).0 built.1 both.1 (apart-line line world built.0 a) (peer-stays w number line world built.0 both.0 known) left)
-    (leaves-line hub number s w line world built.0 both.0 a known at)
+    by (λ left. others-leave hub number s w lines (line_does by_history line world).0 both.1 (apart-line line world a) (peer-stays w (Some number) line world both.0 known) left)
+    (leaves-line hub number s w line world both.0 a known at)
   where
     one : World
     one = (line_does by_history line world).0
 
     by : (At hub number one.hub s → Leaves hub number s (world_after lines one).hub) → Leaves hub number s one.hub → Leaves hub number s (world_after lines one).hub
     by rest (inl left) = rest left
-    by rest (inr longer) = inr (longer-lines hub lines one built.1 longer)
+    by rest (inr longer) = inr (longer-lines hub lines one longer)

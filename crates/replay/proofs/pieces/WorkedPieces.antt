@@ -1,11 +1,12 @@
 -- The promise to who sends its octets in pieces has scripts of which it speaks: one with a zone and a peer whose SUBSCRIBE comes in two lines, cut in the midst of its header; between them stand a comment, a point, and a line of another peer.
+-- And one whose message of a single octet, too short for a header, comes in two lines with a point between, so that the second ends the session.
 use Rattle.std.proofs.Common.{◌≡◌, ℕ, Bool, true, cond, List, [], ◌∷◌, ◌++◌, map, take, drop, codes, Option, Some, None, refl, ap, arith}
 use Rattle.std.specs.Fmt.{digits}
-use Rattle.std.specs.Result.{result_err}
 use Rattle.std.specs.Str.{is_utf8}
 use Rattle.std.proofs.lemmas.Str.{is_utf8-from_IsUtf8}
 use Rattle.push_base.specs.Hexadecimal.{hex}
 use Rattle.dnsname.specs.Text.{name}
+use Rattle.dsosession.specs.declared.session.EndReason.TheVariants as ends
 use Rattle.pushsession.specs.Sessions.{new_session}
 use Rattle.pushserver.specs.PlainHubs.{plain_keeps}
 use Rattle.pushserver.specs.Hubs.{connect}
@@ -14,7 +15,6 @@ use Rattle.replay.specs.Scripts.{nothing_known, lines_from, client_words, lines_
 use Rattle.replay.specs.World.{World, start_world}
 use Rattle.replay.specs.TextWords.{by_notices}
 use Rattle.replay.specs.Text.{world_after}
-use Rattle.replay.specs.BuiltScripts.{understood, first_later}
 use Rattle.replay.specs.ScriptPieces.{Turn, SentInPieces, lines_of, answered_to_first, SendsPieces, printed_turns}
 use Rattle.replay.proofs.worlds.ClientOutputs.{all_octets}
 use Rattle.replay.proofs.lines.LineWords.{word_utf8}
@@ -38,7 +38,7 @@ abbrev connected : World
 connected = record earlier { hub = (connect earlier.hub).1; peers = (codes "p", 0) ∷ [] }
 
 abbrev sent : SentInPieces
-sent = record { before = before; word = codes "p"; turns = turns; behind = []; number = 0; world = connected; session = new_session (plain_keeps 0) 0 }
+sent = record { before = before; word = codes "p"; turns = turns; over = None; behind = []; number = 0; world = connected; session = new_session (plain_keeps 0) 0 }
 
 -- NOERROR, and the zone's SOA
 abbrev answers_text : List ℕ
@@ -61,16 +61,15 @@ lines : lines_read script ≡ map Some (lines_of sent)
 lines = ap with_comment is_text
 
 sends : SendsPieces script sent
-unfolding first_later
 sends = record {
-  built = ap (λ (os : List (Option ScriptLine)). result_err (lines_from (client_words os) nothing_known 1 (map understood os))) lines;
   read = ap (λ (os : List (Option ScriptLine)). lines_from (client_words os) nothing_known 1 os) lines;
   place = refl;
   rest = record { there = refl; standing = refl; queue = refl; output = refl; waits = refl };
   passable = (all_octets frame_sent refl, omega arith);
   others = (refl, (refl, tt));
   no_entry = refl;
-  goes_on = refl;
+  over = refl;
+  not_before = λ over. absurd cc;
 }
 
 -- nothing is told of the first piece, and the whole answer of the second
@@ -81,6 +80,34 @@ both_told : (answered_to_first 2 sent).0 ≡ answers
 both_told = refl
 
 -- the line of the other peer stands between these two, behind the point
-printed : printed_turns by_notices (codes "p") turns ([] ∷ answers ∷ []) earlier ≡ codes "bytes p -" ∷ codes "point 0 0" ∷ codes "bytes q -" ∷ (codes "bytes p " ++ answers_text) ∷ []
+printed : printed_turns by_notices (codes "p") None turns ([] ∷ answers ∷ []) earlier ≡ codes "bytes p -" ∷ codes "point 0 0" ∷ codes "bytes q -" ∷ (codes "bytes p " ++ answers_text) ∷ []
 unfolding digits
 printed = refl
+
+-- ---- a session that ends
+
+abbrev short_script : List ℕ
+short_script = codes "zone example.com. 1 open" ++ 10 ∷ (codes "send p 0001" ++ 10 ∷ (codes "point" ++ 10 ∷ (codes "send p 00" ++ 10 ∷ [])))
+
+abbrev short_turns : List Turn
+short_turns = (0 ∷ 1 ∷ [], point ∷ []) ∷ (0 ∷ [], []) ∷ []
+
+abbrev sent_short : SentInPieces
+sent_short = record { before = before; word = codes "p"; turns = short_turns; over = Some ends.Short; behind = []; number = 0; world = connected; session = new_session (plain_keeps 0) 0 }
+
+sends_short : SendsPieces short_script sent_short
+sends_short = record {
+  read = refl;
+  place = refl;
+  rest = record { there = refl; standing = refl; queue = refl; output = refl; waits = refl };
+  passable = (all_octets (0 ∷ 1 ∷ 0 ∷ []) refl, omega arith);
+  others = (refl, (refl, tt));
+  no_entry = refl;
+  over = refl;
+  not_before = λ over. refl;
+}
+
+-- nothing is told of its octets, and the end behind the second
+printed_short : printed_turns by_notices (codes "p") (Some ends.Short) short_turns ([] ∷ [] ∷ []) earlier ≡ codes "bytes p -" ∷ codes "point 0 0" ∷ codes "bytes p -" ∷ codes "end p short" ∷ []
+unfolding digits
+printed_short = refl

@@ -4,8 +4,7 @@ use Rattle.replay.specs.declared.outcome.Outcome.{Outcome}
 use Rattle.replay.specs.declared.outcome.Outcome.TheVariants.{WriteFault}
 use Rattle.replay.specs.Outcomes.{status_of}
 use Rattle.replay.specs.Reply.{Reply, IsFrontOf, line, Tells, In_full, Unread, Starved, Answers, Took}
-use Rattle.replay.specs.TextWords.{by_notices}
-use Rattle.replay.specs.BuiltScripts.{front_read, reply_to_script}
+use Rattle.replay.specs.ScriptReplies.{front_read}
 
 -- what `tell` ensures
 abbrev pub Said : Option (List ℕ) → Option (List ℕ) → Outcome → List ℕ → Outcome → Type 0
@@ -37,22 +36,22 @@ pub starved_is : (cause : Type 0) (reply : Reply) → Tells cause reply 4 (line 
 starved_is cause reply = Starved [] (reply.text, refl) refl refl
 
 -- what a script is answered, where the source tells what it had
-abbrev pub Replied : Type 0 → Option (List ℕ) → Option (List ℕ) → Option (List ℕ) → Outcome → Type 0
-Replied cause left before now result = IfSome left (λ octets. Took before now (Answers cause (reply_to_script by_notices (front_read octets)) (status_of result)))
+abbrev pub Replied : (List ℕ → Reply) → Type 0 → Option (List ℕ) → Option (List ℕ) → Option (List ℕ) → Outcome → Type 0
+Replied replies cause left before now result = IfSome left (λ octets. Took before now (Answers cause (replies (front_read octets)) (status_of result)))
 
 -- a whole reply was told
-pub replied : (cause : Type 0) (left before now : Option (List ℕ)) (script text : List ℕ) (status told result : Outcome)
-    → IfSome left (λ octets. script ≡ front_read octets) → record { status = status_of told; text = text } ≡ reply_to_script by_notices script
-    → status ≡ told → Said before now status text result → Replied cause left before now result
-replied cause None before now script text status told result read is status_is said = tt
-replied cause (Some octets) before now script text status told result read is status_is said =
-    let reply = reply_to_script by_notices (front_read octets) in
-    let whole = is ∙ ap (reply_to_script by_notices) read in
+pub replied : (replies : List ℕ → Reply) (cause : Type 0) (left before now : Option (List ℕ)) (script text : List ℕ) (status told result : Outcome)
+    → IfSome left (λ octets. script ≡ front_read octets) → record { status = status_of told; text = text } ≡ replies script
+    → status ≡ told → Said before now status text result → Replied replies cause left before now result
+replied replies cause None before now script text status told result read is status_is said = tt
+replied replies cause (Some octets) before now script text status told result read is status_is said =
+    let reply = replies (front_read octets) in
+    let whole = is ∙ ap replies read in
     answered cause reply before now status result text (In_full (ap status_of status_is ∙ ap (λ (r : Reply). r.status) whole) (ap (λ (r : Reply). r.text) whole)) said
 
 -- so it is of an outcome that is the same
-pub replied_as : (cause : Type 0) (left before now : Option (List ℕ)) (told result : Outcome) → result ≡ told → Replied cause left before now told → Replied cause left before now result
-replied_as cause left before now told result is h = subst (Replied cause left before now) (sym is) h
+pub replied_as : (replies : List ℕ → Reply) (cause : Type 0) (left before now : Option (List ℕ)) (told result : Outcome) → result ≡ told → Replied replies cause left before now told → Replied replies cause left before now result
+replied_as replies cause left before now told result is h = subst (Replied replies cause left before now) (sym is) h
 
 -- a cause that brings another one
 pub with_cause : (cause wider : Type 0) (reply : Reply) (status : ℕ) (text : List ℕ) → (cause → wider) → Tells cause reply status text → Tells wider reply status text

@@ -188,7 +188,7 @@ pub record StaysLonger (hub : Hub) : Type 0 where
 
 -- ---- calls of give, one behind another
 
--- what they gave is what the session wrote
+-- what they gave is what the session wrote; an end is told
 pub record EmittedLive (hub : Hub) (number : ℕ) (rest : List ℕ) (r : Ran) (e : Emitted) : Type 0 where
   pub octets : e.octets ≡ r.octets
   pub over : e.over ≡ None
@@ -196,6 +196,7 @@ pub record EmittedLive (hub : Hub) (number : ℕ) (rest : List ℕ) (r : Ran) (e
 
 pub record EmittedEnd (hub : Hub) (number : ℕ) (reason : EndReason) (r : Ran) (e : Emitted) : Type 0 where
   pub octets : e.octets ≡ r.octets
+  pub told : e.over ≡ Some reason
   pub over : IsOver hub number e.hub reason
 
 abbrev pub EmittedBy : Hub → ℕ → List ℕ → Ran → Emitted → Option EndReason → Type 0

@@ -1,4 +1,4 @@
--- In every script that is built, each session answers whole messages one after the other, however its octets are cut.
+-- In every script each session answers whole messages one after the other, however its octets are cut.
 --     answers-every-cut-in      the law
 use Rattle.std.proofs.Common.{ℕ, List, ◌++◌}
 use Rattle.pushserver.specs.PlainHubs.{Hub}
@@ -16,9 +16,9 @@ use Rattle.replay.proofs.rest.EveryCut.{answers-every-cut}
 
 pub answers-every-cut-in : (script : List ℕ) → AnswersEveryCutIn script
 unfolding AnswersEveryCutIn
-answers-every-cut-in script before behind built read =
+answers-every-cut-in script before behind read =
     let hub : Hub = (world_after before (start_world (before ++ behind))).hub in
-    let bounded = bounded-between script before behind built read in
-    let octets = octets-lines script before behind built read in
+    let bounded = bounded-between script before behind read in
+    let octets = octets-lines script before behind read in
     let law = answers-every-cut turns-as-told writes-few stays-longer (emits-as-ran turns-as-told writes-few stays-longer) in
     (law hub bounded octets, law (connect hub).1 (bounded-connected hub bounded) (octets-connected hub octets))

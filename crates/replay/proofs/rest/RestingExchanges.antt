@@ -1,7 +1,7 @@
 -- What a resting session gives for octets: what it makes of the whole messages in them, in however many exchanges they go in.
 --     ExchangedAs      an exchange is as the messages say
 --     exchanges      each exchange of a resting session is
---     exchanged-over      a session that has ended gives nothing more
+--     exchanged-over, exchanged-told      a session that has ended gives nothing more, and its end is told again
 use Rattle.std.proofs.Common.{◌≡◌, ℕ, zero, suc, ◌-◌, ◌≤◌, ◌==◌, ◌||◌, min, Bool, true, false, List, [], ◌∷◌, ◌++◌, length, take, drop, Option, Some, None, option_map, inl, inr, ◌⊎◌, refl, sym, ◌∙◌, ap, subst, arith, append_assoc, append-nil, take_all, take-append-drop, length-append, length-drop}
 use Rattle.std.proofs.lemmas.Bool.{eqb-true, eqb-false, or_cases, or_parts}
 use Rattle.std.proofs.lemmas.List.{length-take}
@@ -14,7 +14,7 @@ use Rattle.pushserver.specs.declared.given.Given.TheVariants.{End}
 use Rattle.pushserver.specs.Hubs.{state_now, taken_by, take_octets}
 use Rattle.pushserver.specs.PlainHubs.{Hub}
 use Rattle.pushserver.specs.Giving.{did}
-use Rattle.replay.specs.PassedOctets.{Emitted, Exchanged, emitted, exchanged, nothing_emitted, enough}
+use Rattle.replay.specs.PassedOctets.{Emitted, Exchanged, emitted, exchanged, nothing_emitted, with_giving, enough}
 use Rattle.replay.proofs.turns.ZoneSizes.{IsBounded}
 use Rattle.replay.proofs.turns.Turns.{exchanged_as, emitted-turn}
 use Rattle.replay.proofs.rest.AtRest.{Core, Ran, resting, ran, behind_octets, At, Longer, IsOver, EmittedBy, EmittedAs, EmitsAsRan, StaysLonger}
@@ -31,9 +31,10 @@ pub record ExchangedLive (hub : Hub) (number : ℕ) (rest so_far : List ℕ) (r 
   pub over : x.over ≡ None
   pub at : At hub number x.hub (resting r.core rest [])
 
--- the session has ended
+-- the session has ended, and the end is told
 pub record ExchangedEnd (hub : Hub) (number : ℕ) (reason : EndReason) (so_far : List ℕ) (r : Ran) (x : Exchanged) : Type 0 where
   pub octets : x.octets ≡ so_far ++ r.octets
+  pub told : x.over ≡ Some reason
   pub over : IsOver hub number x.hub reason
 
 abbrev pub ExchangedBy : Hub → ℕ → List ℕ → List ℕ → Exchanged → Ran → Option EndReason → Type 0
@@ -68,20 +69,39 @@ module _ (hub : Hub) (number : ℕ) (reason : EndReason) where
     pub octets : x.octets ≡ so_far
     pub over : IsOver hub number x.hub reason
 
-  fed-over : (later : Hub) (piece : List ℕ) → IsOver hub number later reason → (so_far : List ℕ) → StaysOver so_far (exchanged_as (fed number later piece) so_far)
-  fed-over later piece over so_far =
-      let fed_hub : Hub = take_octets later number piece in
-      let still : IsOver hub number fed_hub reason = over-octets hub number later reason over piece in
-      let turn = emitted-turn 18446744073709551615 number enough (nothing_emitted fed_hub []) refl (did (End reason) fed_hub) (give-over hub number fed_hub reason still enough) in
-      record {
-        octets = ap (λ (e : Emitted). so_far ++ e.octets) turn ∙ append-nil so_far;
-        over = subst (λ (h : Hub). IsOver hub number h reason) (sym (ap (λ (e : Emitted). e.hub) turn)) still;
-      }
+  module _ (later : Hub) (piece : List ℕ) (over : IsOver hub number later reason) where
+    abbrev fed_hub : Hub
+    fed_hub = take_octets later number piece
+
+    still_over : IsOver hub number fed_hub reason
+    still_over = over-octets hub number later reason over piece
+
+    -- one call says the end
+    abbrev end_told : Emitted
+    end_told = record (with_giving (did (End reason) fed_hub) number (nothing_emitted fed_hub [])) { over = Some reason }
+
+    one-call : fed number later piece ≡ end_told
+    one-call = emitted-turn 18446744073709551615 number enough (nothing_emitted fed_hub []) refl (did (End reason) fed_hub) (give-over hub number fed_hub reason still_over enough)
+
+    fed-over : (so_far : List ℕ) → StaysOver so_far (exchanged_as (fed number later piece) so_far)
+    fed-over so_far = record {
+      octets = ap (λ (e : Emitted). so_far ++ e.octets) one-call ∙ append-nil so_far;
+      over = subst (λ (h : Hub). IsOver hub number h reason) (sym (ap (λ (e : Emitted). e.hub) one-call)) still_over;
+    }
+
+    fed-told : (fed number later piece).over ≡ Some reason
+    fed-told = ap (λ (e : Emitted). e.over) one-call
 
   pub exchanged-over : (turns : ℕ) (octets : List ℕ) (later : Hub) (so_far : List ℕ) → IsOver hub number later reason → StaysOver so_far (exchanged turns number octets later so_far)
   exchanged-over zero octets later so_far over = record { octets = refl; over = over }
   exchanged-over (suc turns) octets later so_far over = subst (λ (x : Exchanged). StaysOver so_far x)
       (sym (exchanged-turn turns number octets later so_far 0 true (over-taken hub number later reason over octets) refl)) (fed-over later (take 0 octets) over so_far)
+
+  -- its end is told again, where there is a turn
+  pub exchanged-told : (turns : ℕ) (octets : List ℕ) (later : Hub) (so_far : List ℕ) → 1 ≤ turns → IsOver hub number later reason → (exchanged turns number octets later so_far).over ≡ Some reason
+  exchanged-told zero octets later so_far some over = absurd (omega (arith, some))
+  exchanged-told (suc turns) octets later so_far some over =
+      ap (λ (x : Exchanged). x.over) (exchanged-turn turns number octets later so_far 0 true (over-taken hub number later reason over octets) refl) ∙ fed-told later (take 0 octets) over
 
 -- ---- how many octets go in
 
@@ -101,13 +121,21 @@ some_taken : (k n : ℕ) → (k == 0 || k == n) ≡ false → 1 ≤ k
 some_taken zero n test = absurd (eqb-false 0 0 (or_parts (0 == 0) (0 == n) test).0 refl)
 some_taken (suc k) n test = omega arith
 
+-- and some are left
+some_left : (n m : ℕ) → (min n m == 0 || min n m == n) ≡ false → 1 ≤ n - min n m
+some_left n m test = by (n - min n m) refl
+  where
+    by : (left : ℕ) → n - min n m ≡ left → 1 ≤ left
+    by zero e = absurd (eqb-false (min n m) n (or_parts (min n m == 0) (min n m == n) test).1 (omega (arith, e)))
+    by (suc left) e = omega arith
+
 -- ---- the exchanges of a session at rest
 
 module _ (hub : Hub) (number : ℕ) where
   -- what was emitted, when all octets have gone in
   once-by : (rest so_far : List ℕ) (e : Emitted) (r : Ran) (over : Option EndReason) → EmittedBy hub number rest r e over → ExchangedBy hub number rest so_far (exchanged_as e so_far) r over
   once-by rest so_far e r None told = record { octets = ap (λ (octets : List ℕ). so_far ++ octets) told.octets; over = told.over; at = told.at }
-  once-by rest so_far e r (Some reason) told = record { octets = ap (λ (octets : List ℕ). so_far ++ octets) told.octets; over = told.over }
+  once-by rest so_far e r (Some reason) told = record { octets = ap (λ (octets : List ℕ). so_far ++ octets) told.octets; told = told.told; over = told.over }
 
   once : (rest so_far : List ℕ) (e : Emitted) (o : Option Ran) → EmittedAs hub number rest e o → ExchangedAs hub number rest so_far (exchanged_as e so_far) o
   once rest so_far e None told = told
@@ -117,7 +145,7 @@ module _ (hub : Hub) (number : ℕ) where
   behind-by : (rest so_far before octets : List ℕ) (x : Exchanged) (r : Ran) (over : Option EndReason) → before ≡ octets → ExchangedBy hub number rest (so_far ++ before) x r over
       → ExchangedBy hub number rest so_far x (behind_octets octets r) over
   behind-by rest so_far before octets x r None is told = record { octets = told.octets ∙ append_assoc so_far before r.octets ∙ ap (λ (o : List ℕ). so_far ++ (o ++ r.octets)) is; over = told.over; at = told.at }
-  behind-by rest so_far before octets x r (Some reason) is told = record { octets = told.octets ∙ append_assoc so_far before r.octets ∙ ap (λ (o : List ℕ). so_far ++ (o ++ r.octets)) is; over = told.over }
+  behind-by rest so_far before octets x r (Some reason) is told = record { octets = told.octets ∙ append_assoc so_far before r.octets ∙ ap (λ (o : List ℕ). so_far ++ (o ++ r.octets)) is; told = told.told; over = told.over }
 
   behind : (rest so_far before octets : List ℕ) (x : Exchanged) (o : Option Ran) → before ≡ octets → ExchangedAs hub number rest (so_far ++ before) x o → ExchangedAs hub number rest so_far x (option_map (behind_octets octets) o)
   behind rest so_far before octets x None is told = told
@@ -133,20 +161,24 @@ module _ (stays-longer : (hub : Hub) → StaysLonger hub) (hub : Hub) (number tu
   whole_rest = messages_in (rest ++ drop k octets)
 
   -- the further turns, when some octets are left
-  go_on-by : (below : AreOctets (rest ++ drop k octets)) → first_message rest ≡ None → length (drop k octets) ≤ turns → (later : Hub) (r : Ran) (over : Option EndReason) → r.over ≡ over → EmittedBy hub number rest r e over
+  go_on-by : (below : AreOctets (rest ++ drop k octets)) → first_message rest ≡ None → 1 ≤ length (drop k octets) → length (drop k octets) ≤ turns → (later : Hub) (r : Ran) (over : Option EndReason) → r.over ≡ over → EmittedBy hub number rest r e over
       → ExchangedAs hub number whole_rest.1 so_far (again turns number octets later so_far e k) (followed_by hub whole_rest.0 r over)
-  go_on-by below none few later r None is told =
+  go_on-by below none some few later r None is told =
       behind hub number whole_rest.1 so_far e.octets r.octets (again turns number octets later so_far e k) (ran hub whole_rest.0 r.core) told.octets
       (others (drop k octets) e.hub r.core rest (so_far ++ e.octets) told.at none below few)
-  go_on-by below none few later r (Some reason) is told =
+  go_on-by below none some few later r (Some reason) is told =
       let still = exchanged-over hub number reason turns (drop k octets) e.hub (so_far ++ e.octets) told.over in
-      let end : ExchangedEnd hub number reason so_far r (again turns number octets later so_far e k) = record { octets = still.octets ∙ ap (λ (o : List ℕ). so_far ++ o) told.octets; over = still.over } in
+      let end : ExchangedEnd hub number reason so_far r (again turns number octets later so_far e k) = record {
+        octets = still.octets ∙ ap (λ (o : List ℕ). so_far ++ o) told.octets;
+        told = exchanged-told hub number reason turns (drop k octets) e.hub (so_far ++ e.octets) (omega (arith, some, few)) told.over;
+        over = still.over;
+      } in
       subst (λ (o : Option EndReason). ExchangedBy hub number whole_rest.1 so_far (again turns number octets later so_far e k) r o) (sym is) end
 
-  go_on : (below : AreOctets (rest ++ drop k octets)) → first_message rest ≡ None → length (drop k octets) ≤ turns → (later : Hub) (o : Option Ran) → EmittedAs hub number rest e o
+  go_on : (below : AreOctets (rest ++ drop k octets)) → first_message rest ≡ None → 1 ≤ length (drop k octets) → length (drop k octets) ≤ turns → (later : Hub) (o : Option Ran) → EmittedAs hub number rest e o
       → ExchangedAs hub number whole_rest.1 so_far (again turns number octets later so_far e k) (followed hub whole_rest.0 o)
-  go_on below none few later None told = (stays-longer hub).exchanged turns number (drop k octets) e.hub (so_far ++ e.octets) told
-  go_on below none few later (Some r) told = go_on-by below none few later r r.over refl told
+  go_on below none some few later None told = (stays-longer hub).exchanged turns number (drop k octets) e.hub (so_far ++ e.octets) told
+  go_on below none some few later (Some r) told = go_on-by below none some few later r r.over refl told
 
 module _ (stays-longer : (hub : Hub) → StaysLonger hub) (emits-as-ran : EmitsAsRan) (hub : Hub) (number : ℕ) (bounded : IsBounded (state_now hub)) where
   -- no octets, and no turn
@@ -184,9 +216,10 @@ module _ (stays-longer : (hub : Hub) → StaysLonger hub) (emits-as-ran : EmitsA
         let whole : piece ++ behind ≡ octets = take-append-drop going_in octets in
         let some = some_taken going_in (length octets) test in
         let left : length behind ≤ turns = omega (arith, few, some, length-drop going_in octets) in
+        let more : 1 ≤ length behind = omega (arith, some_left (length octets) (69633 - length input) test, length-drop going_in octets) in
         let second = second_part input piece behind in
         let last = go_on stays-longer hub number turns others octets so_far (fed number later piece) (first_part input piece).1 going_in (second-octets input piece behind octets whole below)
-        (rest-has-none (input ++ piece)) left later (ran hub (first_part input piece).0 core) told in
+        (rest-has-none (input ++ piece)) more left later (ran hub (first_part input piece).0 core) told in
         let parts = subst (λ (o : Option Ran). ExchangedAs hub number second.1 so_far (again turns number octets later so_far (fed number later piece) going_in) o) (sym (ran-append hub (first_part input piece).0 second.0 core)) last in
         subst (λ (s : Split). ExchangedAs hub number s.1 so_far (again turns number octets later so_far (fed number later piece) going_in) (ran hub s.0 core)) (sym (cut_behind input piece behind octets whole)) parts
 

@@ -117,7 +117,7 @@ module _ (hub : Hub) (number : ℕ) where
       emits-end reason o =
           let all : Ran = record { octets = so_far.octets ++ []; over = Some reason; core = core } in
           let end : Emitted = record (with_giving (did (End reason) later) number so_far) { over = Some reason } in
-          let is : EmittedAs hub number (messages_in left).1 end (Some all) = record { octets = refl; over = o } in
+          let is : EmittedAs hub number (messages_in left).1 end (Some all) = record { octets = refl; told = refl; over = o } in
           subst (λ (x : Emitted). EmittedAs hub number (messages_in left).1 x (Some all)) (sym (once (did (End reason) later) (give-ended hub number budget later reason o))) is
 
       -- behind octets that were written, or none

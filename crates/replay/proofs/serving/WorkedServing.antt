@@ -3,7 +3,6 @@ use Rattle.std.proofs.Common.{ℕ, true, List, [], ◌∷◌, ◌++◌, drop, co
 use Rattle.push_base.specs.Hexadecimal.{hex}
 use Rattle.dnsname.specs.Text.{name}
 use Rattle.replay.specs.Lines.{zone}
-use Rattle.replay.specs.BuiltScripts.{first_later}
 use Rattle.replay.specs.Serving.{Asked, AsksFirst}
 
 abbrev pub frame_sent : List ℕ
@@ -23,9 +22,7 @@ asked = record {
 }
 
 asks : AsksFirst script asked
-unfolding first_later
 asks = record {
-  built = refl;
   read = refl;
   new_peer = refl;
   seat = refl;

@@ -28,7 +28,7 @@ pub written_few : (h octets : List ℕ) → octets_written h ≡ Some octets →
 written_few h octets e =
     is_le (length octets) (written-by (λ (o : List ℕ). length o ≤ 65537) h octets (omega arith) (λ o small read. few_digits (length o) (length h) (digits_size h o (read_is_spelled h o read)) small) e)
 
-named_few : (name : Labels) → is_name name ≡ true → are_few (octets name) ≡ true
+pub named_few : (name : Labels) → is_name name ≡ true → are_few (octets name) ≡ true
 named_few name is = is_le (length (octets name)) (few (length (octets name)) ((is_name-Decides name).0 is).size)
   where
     few : (n : ℕ) → n ≤ 255 → n ≤ 65537

@@ -1,14 +1,13 @@
--- The text of a script in parts, what holds of the hub between two lines of a script that is built, and its reply.
+-- The text of a script in parts, what holds of the hub between two lines of a script, and its reply.
 --     printed-append, lines-append      what is printed, and its text, part by part
 --     after-append, each-behind      the world behind two parts, and what holds of each line of the latter
 --     from-between, bounded-between      between two lines: the hub's start and its sessions' numbers, and the bounds of its state
 --     bounded-connected      a session more leaves the state
---     reply-is      the reply of a built script
+--     reply-is      the reply of a script
 use Rattle.std.proofs.Common.{◌≡◌, ℕ, Bool, true, false, cond, ◌&&◌, List, [], ◌∷◌, ◌++◌, length, Option, Some, None, Ok, ◌∙◌, ap, sym, subst, refl, append_assoc}
 use Rattle.std.specs.Prelude.{nat_lt}
 use Rattle.std.specs.List.{AllByRecursion}
 use Rattle.push_base.specs.Limits.{max_number}
-use Rattle.coalesce.proofs.Packing.{each-front}
 use Rattle.pushserver.specs.PlainHubs.{Hub}
 use Rattle.pushserver.specs.Hubs.{state_now, connect, max_sessions}
 use Rattle.pushserver.proofs.Walks.{with_new}
@@ -17,12 +16,11 @@ use Rattle.replay.specs.Scripts.{script_of}
 use Rattle.replay.specs.World.{World, start_world}
 use Rattle.replay.specs.TextWords.{HeldRecords, by_history}
 use Rattle.replay.specs.Text.{ended_lines, line_does, printed_by, text_by, world_after}
-use Rattle.replay.specs.BuiltScripts.{first_later, reply_at, reply_to_script}
+use Rattle.replay.specs.ScriptReplies.{reply_to_script}
 use Rattle.replay.proofs.worlds.OneWorld.{one-world}
-use Rattle.replay.proofs.worlds.BuiltHeads.{built-script}
-use Rattle.replay.proofs.worlds.BuiltWorlds.{IsBuiltLine}
+use Rattle.replay.proofs.worlds.BoundedHeads.{bounded-script}
 use Rattle.replay.proofs.worlds.Numbers.{IsFrom, from-lines}
-use Rattle.replay.proofs.replies.BuiltReplies.{told}
+use Rattle.replay.proofs.replies.ScriptReplies.{told}
 use Rattle.replay.proofs.turns.ZoneSizes.{IsBounded, bounded-state}
 
 -- ---- parts of a text
@@ -52,21 +50,20 @@ pub each-behind : {X : Type 0} (P : X → Type 0) (xs ys : List X) → AllByRecu
 each-behind P [] ys all = all
 each-behind P (x ∷ xs) ys all = each-behind P xs ys all.1
 
--- ---- between two lines of a built script
+-- ---- between two lines of a script
 
 abbrev pub world_between : List ScriptLine → List ScriptLine → World
 world_between before behind = world_after before (start_world (before ++ behind))
 
-module _ (script : List ℕ) (before behind : List ScriptLine) (built : first_later script ≡ None) (read : script_of script ≡ Ok (before ++ behind)) where
+module _ (script : List ℕ) (before behind : List ScriptLine) (read : script_of script ≡ Ok (before ++ behind)) where
   pub from-between : IsFrom (start_world (before ++ behind)).hub.start (world_between before behind).hub
   from-between =
-      let all = built-script script (before ++ behind) built read in
-      from-lines (start_world (before ++ behind)).hub.start before (start_world (before ++ behind)) (each-front IsBuiltLine before behind all.0) (record { begins = refl; below = tt })
+      from-lines (start_world (before ++ behind)).hub.start before (start_world (before ++ behind)) (record { begins = refl; below = tt })
 
   pub bounded-between : IsBounded (state_now (world_between before behind).hub)
   bounded-between =
       let hub = (world_between before behind).hub in
-      bounded-state hub.start hub.history (subst IsBounded (sym from-between.begins) (built-script script (before ++ behind) built read).1)
+      bounded-state hub.start hub.history (subst IsBounded (sym from-between.begins) (bounded-script script (before ++ behind) read))
 
 -- a session more leaves the state
 pub bounded-connected : (hub : Hub) → IsBounded (state_now hub) → IsBounded (state_now (connect hub).1)
@@ -78,9 +75,8 @@ bounded-connected hub bounded = by (nat_lt (length hub.sessions) max_sessions &&
 
 -- ---- the reply
 
-pub reply-is : (records : HeldRecords) (script : List ℕ) (lines : List ScriptLine) (text : List ℕ) → first_later script ≡ None → script_of script ≡ Ok lines → text_by records lines ≡ text → reply_to_script records script ≡ record { status = 0; text = text }
+pub reply-is : (records : HeldRecords) (script : List ℕ) (lines : List ScriptLine) (text : List ℕ) → script_of script ≡ Ok lines → text_by records lines ≡ text → reply_to_script records script ≡ record { status = 0; text = text }
 unfolding reply_to_script
-reply-is records script lines text built read is =
-    ap (λ (f : Option ℕ). reply_at records f script) built
-    ∙ ap (λ (p : ℕ × List ℕ). record { status = p.0; text = p.1 }) (ap (told records) read)
+reply-is records script lines text read is =
+    ap (λ (p : ℕ × List ℕ). record { status = p.0; text = p.1 }) (ap (told records) read)
     ∙ ap (λ (t : List ℕ). record { status = 0; text = t }) is

@@ -1,4 +1,4 @@
--- In a script that is built, each session's input holds octets.
+-- In a script each session's input holds octets.
 --     octets-kept      the steps of which calls are made keep octets in all inputs
 --     octets-lines, octets-connected      so they stand there between lines, and with one session more
 use Rattle.std.proofs.Common.{length, ◌≡◌, ℕ, ◌+◌, ◌*◌, ◌<◌, ◌≤◌, Bool, true, false, cond, ◌&&◌, not, List, [], ◌∷◌, ◌++◌, map, take, find, Option, Some, None, option_map, Ok, nat_lt, refl, sym, ◌∙◌, ap, subst, arith}
@@ -31,10 +31,8 @@ use Rattle.replay.specs.Lines.{ScriptLine, octets_written}
 use Rattle.replay.specs.Scripts.{script_of}
 use Rattle.replay.specs.World.{start_world}
 use Rattle.replay.specs.Text.{world_after}
-use Rattle.replay.specs.BuiltScripts.{first_later}
-use Rattle.replay.proofs.worlds.BuiltHeads.{built-script}
 use Rattle.replay.specs.PassedOctets.{enough}
-use Rattle.replay.proofs.worlds.BuiltWorlds.{IsBuiltLine, KeepsClients, keeps-lines}
+use Rattle.replay.proofs.worlds.KeptByLines.{KeepsClients, keeps-lines}
 use Rattle.replay.proofs.worlds.ClientOutputs.{SaysOctets, all_octets, says-new, so-subscribe, so-unsubscribe, so-reconfirm, so-connected, so-cut, so-moment, so-gives, so-delivered, output-octets}
 use Rattle.replay.proofs.worlds.StepInputs.{step-input}
 use Rattle.replay.proofs.worlds.Keeping.{InParts}
@@ -57,7 +55,7 @@ small_octet c d h k = by (digit_value c) (digit_value d) (small_digit c h) (smal
     by : (n m : ℕ) → n < 16 → m < 16 → nat_lt (16 * n + m) 256 ≡ true
     by n m h k = grind (arith, nat_tests)
 
-both : (a b : Bool) → a ≡ true → b ≡ true → (a && b) ≡ true
+pub both : (a b : Bool) → a ≡ true → b ≡ true → (a && b) ≡ true
 both true b h k = k
 both false b h k = absurd cc
 
@@ -114,7 +112,7 @@ labels-octets : (labels : Labels) → AllByRecursion IsLabel labels → are_octe
 labels-octets [] all = refl
 labels-octets (l ∷ ls) all = append_octets (label_octets l) (labels_octets ls) (label-octets l all.0) (labels-octets ls all.1)
 
-named_octets : (name : Labels) → is_name name ≡ true → are_octets (octets name) ≡ true
+pub named_octets : (name : Labels) → is_name name ≡ true → are_octets (octets name) ≡ true
 named_octets name is = append_octets (labels_octets name) (0 ∷ []) (labels-octets name ((is_name-Decides name).0 is).labels) refl
 
 -- ---- what lines bring
@@ -209,12 +207,11 @@ octets-clients = record {
   says = output-octets;
 }
 
-pub octets-lines : (text : List ℕ) (before behind : List ScriptLine) → first_later text ≡ None → script_of text ≡ Ok (before ++ behind)
+pub octets-lines : (text : List ℕ) (before behind : List ScriptLine) → script_of text ≡ Ok (before ++ behind)
     → AllByRecursion (λ e. All (λ o. o < 256) e.1.input) (world_after before (start_world (before ++ behind))).hub.sessions
-octets-lines text before behind built read =
-    let lines = built-script text (before ++ behind) built read in
+octets-lines text before behind read =
     let sent = octets-sent text (before ++ behind) read in
-    keeps-lines AreOctets HoldsOctets octets-kept octets-parts SaysOctets octets-clients before (start_world (before ++ behind)) (each-front IsBuiltLine before behind lines.0) (each-front BringOctets before behind sent) tt tt
+    keeps-lines AreOctets HoldsOctets octets-kept octets-parts SaysOctets octets-clients before (start_world (before ++ behind)) (each-front BringOctets before behind sent) tt tt
 
 pub octets-connected : (hub : Hub) → AllByRecursion (λ e. All (λ o. o < 256) e.1.input) hub.sessions → AllByRecursion (λ e. All (λ o. o < 256) e.1.input) (connect hub).1.sessions
 octets-connected hub h = keeps-called AreOctets HoldsOctets octets-kept connects hub tt h

@@ -1,8 +1,7 @@
 -- A history that has grown stays so, whatever is called.
 --     stays-longer      the law
---     longer-lines      so it does behind built lines
+--     longer-lines      so it does behind lines
 use Rattle.std.proofs.Common.{◌<◌, List, [], ◌∷◌, ◌++◌, length, arith, length-append}
-use Rattle.std.specs.List.{AllByRecursion}
 use Rattle.history.specs.declared.entry.Entry.{Entry}
 use Rattle.pushserver.specs.PlainHubs.{Hub}
 use Rattle.pushserver.proofs.Walks.{AnyMessage, IsKept, walks_alone, walks-reacted, walks-after_reaction}
@@ -10,7 +9,7 @@ use Rattle.replay.specs.Lines.{ScriptLine}
 use Rattle.replay.specs.World.{World}
 use Rattle.replay.specs.Text.{world_after}
 use Rattle.replay.proofs.rest.AtRest.{Longer, StaysLonger}
-use Rattle.replay.proofs.worlds.BuiltWorlds.{IsBuiltLine, AnyClient, any-clients, any-ready, keeps-lines}
+use Rattle.replay.proofs.worlds.KeptByLines.{AnyClient, any-clients, any-ready, keeps-lines}
 use Rattle.replay.proofs.worlds.Keeping.{any-parts, keeps-emitted, give-keeps, exchanged-keeps}
 use Rattle.replay.proofs.worlds.Numbers.{any_sent}
 
@@ -42,5 +41,5 @@ stays-longer hub =
       exchanged = λ turns number octets later so_far h. exchanged-keeps AnyMessage (Longer hub) kept any-parts turns number octets later so_far tt h;
     }
 
-pub longer-lines : (hub : Hub) (lines : List ScriptLine) (world : World) → AllByRecursion IsBuiltLine lines → Longer hub world.hub → Longer hub (world_after lines world).hub
-longer-lines hub lines world built h = keeps-lines AnyMessage (Longer hub) (longer-kept hub) any-parts AnyClient any-clients lines world built (any_sent lines) (any-ready world) h
+pub longer-lines : (hub : Hub) (lines : List ScriptLine) (world : World) → Longer hub world.hub → Longer hub (world_after lines world).hub
+longer-lines hub lines world h = keeps-lines AnyMessage (Longer hub) (longer-kept hub) any-parts AnyClient any-clients lines world (any_sent lines) (any-ready world) h

@@ -2,7 +2,7 @@
 --     IsFrom start hub      the hub began with this state, and its sessions' numbers are below that of the next
 --     from-kept      the steps of which calls are made keep it
 --     any_sent      what lines send are pieces of any kind
---     from-lines      so do built lines
+--     from-lines      so do lines
 use Rattle.std.proofs.Common.{◌≡◌, ℕ, ◌<◌, List, [], ◌∷◌, map, not, cond}
 use Rattle.std.specs.Prelude.{◌==◌}
 use Rattle.std.specs.List.{AllByRecursion}
@@ -15,7 +15,7 @@ use Rattle.pushserver.proofs.Walks.{AnyMessage, IsKept}
 use Rattle.replay.specs.Lines.{ScriptLine}
 use Rattle.replay.specs.World.{World}
 use Rattle.replay.specs.Text.{world_after}
-use Rattle.replay.proofs.worlds.BuiltWorlds.{IsBuiltLine, AnyClient, any-clients, any-ready, keeps-lines}
+use Rattle.replay.proofs.worlds.KeptByLines.{AnyClient, any-clients, any-ready, keeps-lines}
 use Rattle.replay.proofs.worlds.Keeping.{any-parts}
 use Rattle.replay.proofs.serving.LastSession.{AreBelow, IsBehind, below-more}
 use Rattle.replay.proofs.lines.SentOctets.{sent_by}
@@ -59,5 +59,5 @@ pub any_sent : (lines : List ScriptLine) → AllByRecursion (λ line. AllByRecur
 any_sent [] = tt
 any_sent (line ∷ lines) = (any_pieces (sent_by line), any_sent lines)
 
-pub from-lines : (start : State) (lines : List ScriptLine) (world : World) → AllByRecursion IsBuiltLine lines → IsFrom start world.hub → IsFrom start (world_after lines world).hub
-from-lines start lines world built h = keeps-lines AnyMessage (IsFrom start) (from-kept start) any-parts AnyClient any-clients lines world built (any_sent lines) (any-ready world) h
+pub from-lines : (start : State) (lines : List ScriptLine) (world : World) → IsFrom start world.hub → IsFrom start (world_after lines world).hub
+from-lines start lines world h = keeps-lines AnyMessage (IsFrom start) (from-kept start) any-parts AnyClient any-clients lines world (any_sent lines) (any-ready world) h

@@ -17,7 +17,7 @@ use Rattle.replay.specs.KeptScripts.{events_said}
 use Rattle.replay.specs.KeptWorlds.{IsWorld, AreDistinct, words_in, Acts, Does}
 use Rattle.replay.proofs.worlds.OneWorld.{one-world}
 use Rattle.replay.proofs.worlds.SeatWords.{distinct-front, words-line}
-use Rattle.replay.proofs.lines.MoreLines.{event-built, onto_words}
+use Rattle.replay.proofs.lines.MoreLines.{onto_words}
 
 -- the text from a world on
 abbrev pub text_from : World → List Event → List ℕ
@@ -52,7 +52,7 @@ turn before after happened i e text line now whole last within is w does now_is 
           subst AreDistinct
           (ap (λ (ws : List Word). words_in w.world ++ ws) (onto_words (client_word (event_said e)) (filter_map client_word (events_said rest)))
           ∙ sym (append_assoc (words_in w.world) (option_to_list (client_word (event_said e))) (filter_map client_word (events_said rest)))
-          ∙ ap (λ (ws : List Word). ws ++ filter_map client_word (events_said rest)) (sym (ap words_in (one-world by_notices (event_said e) w.world) ∙ words-line (event_said e) w.world (event-built e)))) named;
+          ∙ ap (λ (ws : List Word). ws ++ filter_map client_word (events_said rest)) (sym (ap words_in (one-world by_notices (event_said e) w.world) ∙ words-line (event_said e) w.world))) named;
       said = ap (λ t. t ++ text_from printed.0 rest) (now_is ∙ ap (λ l. text ++ l) p.text)
           ∙ append_assoc text (ended_lines printed.1) (text_from printed.0 rest)
           ∙ ap (λ t. text ++ t) (sym (ended-append printed.1 (printed_by by_notices (events_said rest) printed.0)))

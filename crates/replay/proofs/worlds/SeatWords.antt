@@ -1,4 +1,4 @@
--- The words of a world's clients behind built lines: those that there were, and those that the lines name.
+-- The words of a world's clients behind lines: those that there were, and those that the lines name.
 --     words-line      the law of a line
 --     distinct-front      no word twice among the first
 use Rattle.std.proofs.Common.{◌≡◌, ℕ, Bool, true, false, cond, List, [], ◌∷◌, ◌++◌, fold, Option, Some, None, option_map, option_to_list, ap, refl, sym, ◌∙◌, codes, append-nil}
@@ -16,7 +16,7 @@ use Rattle.replay.specs.Scripts.{client_word}
 use Rattle.replay.specs.World.{Seat, World, new_seat, seat_of, with_seat, session_number, cut_seat, cut_connection, cut_peer, is_over, world_cut_if}
 use Rattle.replay.specs.PassedOctets.{Exchanged, exchanged, enough}
 use Rattle.replay.specs.TextWords.{by_history}
-use Rattle.replay.specs.Text.{Printed, quietly, printing, feeds, timed, asks, subscribing, unsubscribing, opens_lone, opens_hub, opens, exchanges, session_of_word, line_does, finished, asked_to_stop, reconfirming}
+use Rattle.replay.specs.Text.{Printed, quietly, printing, feeds, timed, asks, subscribing, unsubscribing, opens_lone, opens_hub, opens, exchanges, session_of_word, line_does, asked_to_stop, reconfirming}
 use Rattle.replay.specs.KeptWorlds.{AreDistinct, words_in}
 use Rattle.replay.proofs.worlds.OneWorld.{shows-leave}
 use Rattle.replay.proofs.worlds.FedSeats.{fed, fed_over, feeds_as, feeds_by}
@@ -24,7 +24,6 @@ use Rattle.replay.specs.declared.settling.Way.{Way}
 use Rattle.replay.specs.declared.settling.Way.TheVariants as ways
 use Rattle.replay.specs.KeptPassings.{passes_way, way_does}
 use Rattle.replay.proofs.worlds.PassedWorlds.{passed-world, pass-does}
-use Rattle.replay.proofs.worlds.BuiltWorlds.{IsBuiltLine}
 use Rattle.replay.proofs.worlds.Seats.{words-put}
 
 pub distinct-front : (xs ys : List Word) → AreDistinct (xs ++ ys) → AreDistinct xs
@@ -165,30 +164,30 @@ module _ (world : World) where
   quiet : (later : World) → Keeps later → words_in later ≡ words_in world ++ []
   quiet later h = h ∙ sym (append-nil (words_in world))
 
-pub words-line : (line : ScriptLine) (world : World) → IsBuiltLine line → words_in (line_does by_history line world).0 ≡ words_in world ++ option_to_list (client_word line)
-words-line silent world is = quiet world world refl
-words-line (timers i k) world is = quiet world world refl
-words-line (zone apex serial mode) world is = quiet world world refl
-words-line (link w domain) world is = quiet world world refl
-words-line (client w) world is = map-append (λ (s : Seat). s.word) world.seats (new_seat w false ∷ [])
-words-line (say w n) world is = quiet world (line_does by_history (say w n) world).0 (same-passes world (ways.Say n) w)
-words-line (up w n) world is = quiet world (line_does by_history (up w n) world).0 (same-passes world (ways.Up n) w)
-words-line (emit w n) world is = quiet world (line_does by_history (emit w n) world).0 (same-passes world (ways.Emit n) w)
-words-line (down w n) world is = quiet world (line_does by_history (down w n) world).0 (same-passes world (ways.Down n) w)
-words-line (settle w) world is = quiet world (line_does by_history (settle w) world).0 (same-passes world ways.Settle w)
-words-line (lone w) world is = map-append (λ (s : Seat). s.word) world.seats (new_seat w true ∷ [])
-words-line (at_moment t) world is =
+pub words-line : (line : ScriptLine) (world : World) → words_in (line_does by_history line world).0 ≡ words_in world ++ option_to_list (client_word line)
+words-line silent world = quiet world world refl
+words-line (timers i k) world = quiet world world refl
+words-line (zone apex serial mode) world = quiet world world refl
+words-line (link w domain) world = quiet world world refl
+words-line (client w) world = map-append (λ (s : Seat). s.word) world.seats (new_seat w false ∷ [])
+words-line (say w n) world = quiet world (line_does by_history (say w n) world).0 (same-passes world (ways.Say n) w)
+words-line (up w n) world = quiet world (line_does by_history (up w n) world).0 (same-passes world (ways.Up n) w)
+words-line (emit w n) world = quiet world (line_does by_history (emit w n) world).0 (same-passes world (ways.Emit n) w)
+words-line (down w n) world = quiet world (line_does by_history (down w n) world).0 (same-passes world (ways.Down n) w)
+words-line (settle w) world = quiet world (line_does by_history (settle w) world).0 (same-passes world ways.Settle w)
+words-line (lone w) world = map-append (λ (s : Seat). s.word) world.seats (new_seat w true ∷ [])
+words-line (at_moment t) world =
     let r = hubs.moment world.hub t in
     quiet world (line_does by_history (at_moment t) world).0 (same-timed (now r.1) world.seats (record world { hub = r.1 }, cond r.0 (codes "full" ∷ []) []))
-words-line (update message) world is = quiet world (line_does by_history (update message) world).0 refl
-words-line (hear w datagram) world is = quiet world (line_does by_history (hear w datagram) world).0 refl
-words-line (reconfirm w rr) world is = quiet world (line_does by_history (reconfirm w rr) world).0 (same-asks world (codes "reconfirm") w (reconfirming rr))
-words-line (ask w question) world is = quiet world (line_does by_history (ask w question) world).0 (same-asks world (codes "asked") w (subscribing question))
-words-line (drop_question w question) world is = quiet world (line_does by_history (drop_question w question) world).0 (same-asks world (codes "dropped") w (unsubscribing question))
-words-line (open_connection w) world is = quiet world (line_does by_history (open_connection w) world).0 (same-opens world w)
-words-line (cut w) world is = quiet world (line_does by_history (cut w) world).0 (same-cuts world w)
-words-line (send w octets) world is = quiet world (line_does by_history (send w octets) world).0 (same-sends world w octets)
-words-line (feed w octets) world is = quiet world (line_does by_history (feed w octets) world).0 (same-feeds world w octets)
-words-line (show w question written) world is = quiet world (line_does by_history (show w question written) world).0 (ap words_in (shows-leave by_history w question written world))
-words-line (stop w rcode delay) world is = quiet world (line_does by_history (stop w rcode delay) world).0 (same-stops world w rcode delay)
-words-line point world is = quiet world world refl
+words-line (update message) world = quiet world (line_does by_history (update message) world).0 refl
+words-line (hear w datagram) world = quiet world (line_does by_history (hear w datagram) world).0 refl
+words-line (reconfirm w rr) world = quiet world (line_does by_history (reconfirm w rr) world).0 (same-asks world (codes "reconfirm") w (reconfirming rr))
+words-line (ask w question) world = quiet world (line_does by_history (ask w question) world).0 (same-asks world (codes "asked") w (subscribing question))
+words-line (drop_question w question) world = quiet world (line_does by_history (drop_question w question) world).0 (same-asks world (codes "dropped") w (unsubscribing question))
+words-line (open_connection w) world = quiet world (line_does by_history (open_connection w) world).0 (same-opens world w)
+words-line (cut w) world = quiet world (line_does by_history (cut w) world).0 (same-cuts world w)
+words-line (send w octets) world = quiet world (line_does by_history (send w octets) world).0 (same-sends world w octets)
+words-line (feed w octets) world = quiet world (line_does by_history (feed w octets) world).0 (same-feeds world w octets)
+words-line (show w question written) world = quiet world (line_does by_history (show w question written) world).0 (ap words_in (shows-leave by_history w question written world))
+words-line (stop w rcode delay) world = quiet world (line_does by_history (stop w rcode delay) world).0 (same-stops world w rcode delay)
+words-line point world = quiet world world refl

@@ -48,7 +48,7 @@ labels-octets (l ∷ ls) all =
     let first : AreOctets (label_octets l) = All-cons (λ o. o < 256) (length l) l (omega (arith, all.0.few)) (All-from_recursion (λ o. o < 256) l all.0.octets) in
     octets-both (label_octets l) (labels_octets ls) first (labels-octets ls all.1)
 
-name-octets : (name : Labels) → IsTrue (is_name name) → AreOctets (octets name)
+pub name-octets : (name : Labels) → IsTrue (is_name name) → AreOctets (octets name)
 name-octets name named = octets-both (labels_octets name) (0 ∷ []) (labels-octets name ((is_name-Decides name).0 named).labels) (All-from_recursion (λ o. o < 256) (0 ∷ []) (omega arith))
 
 -- ---- messages

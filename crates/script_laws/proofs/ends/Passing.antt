@@ -32,7 +32,8 @@ use Rattle.script_laws.specs.Lines.{IsWord, KnownFits}
 use Rattle.script_laws.proofs.texts.Along.{seat-stands}
 use Rattle.script_laws.proofs.lines.Premises.{LineLaws}
 use Rattle.script_laws.proofs.lines.Cutting.{stands-with, stands-alone}
-use Rattle.script_laws.proofs.lines.Knowing.{found-word, each-found, lone_at}
+use Rattle.replay.proofs.worlds.SeatsFound.{found-word, each-found}
+use Rattle.script_laws.proofs.lines.Knowing.{lone_at}
 use Rattle.script_laws.proofs.lines.Asking.{no-connection, closed-is}
 use Rattle.script_laws.proofs.ends.Words.{TellsByItself, is_other, other-line, ends-say, closes-say}
 

@@ -21,7 +21,7 @@ use Rattle.script_laws.specs.Reached.{IsReached}
 use Rattle.script_laws.specs.Joined.{SeatStands, StandsWith, ShownToEach, WorldStands}
 use Rattle.script_laws.specs.Texts.{ShownIsTaken}
 use Rattle.script_laws.proofs.lines.Cutting.{stands-with, with-stands, stands-alone, alone-stands}
-use Rattle.script_laws.proofs.lines.Knowing.{each-found}
+use Rattle.replay.proofs.worlds.SeatsFound.{each-found}
 use Rattle.script_laws.proofs.lines.Asking.{no-connection}
 
 -- what a line shows

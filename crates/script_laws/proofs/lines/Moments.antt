@@ -29,7 +29,8 @@ use Rattle.script_laws.specs.Walk.{StaysJoined}
 use Rattle.script_laws.proofs.texts.Along.{seat-stands}
 use Rattle.script_laws.proofs.lines.Premises.{LineLaws}
 use Rattle.script_laws.proofs.lines.Cutting.{stands-with, with-stands, stands-alone, joined-cut, cut-other}
-use Rattle.script_laws.proofs.lines.Knowing.{put-other, each-found, same-put, LeadsTo, leads-none, leads-on}
+use Rattle.replay.proofs.worlds.SeatsFound.{put-other, each-found}
+use Rattle.script_laws.proofs.lines.Knowing.{same-put, LeadsTo, leads-none, leads-on}
 use Rattle.script_laws.proofs.lines.Passing.{cut-where-over, finished-alone, same-cut}
 use Rattle.script_laws.proofs.lines.Asking.{lone-other, no-connection, unconnected-other, closed-is}
 

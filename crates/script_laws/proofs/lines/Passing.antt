@@ -21,7 +21,8 @@ use Rattle.script_laws.specs.Walk.{Keeps}
 use Rattle.script_laws.proofs.texts.Along.{seat-stands}
 use Rattle.script_laws.proofs.lines.Premises.{LineLaws}
 use Rattle.script_laws.proofs.lines.Cutting.{stands-with, with-stands, stands-alone, alone-stands, cut-alone, joined-cut}
-use Rattle.script_laws.proofs.lines.Knowing.{put-found, same-put, AreSameClients, LeadsTo, leads-none}
+use Rattle.replay.proofs.worlds.SeatsFound.{put-found}
+use Rattle.script_laws.proofs.lines.Knowing.{same-put, AreSameClients, LeadsTo, leads-none}
 
 -- what ends or closes is cut
 pub cut-where-over : (P : World → Type 0) (over : Option EndReason) (closing : Option CloseReason) (seat : Seat) (world : World)

@@ -18,7 +18,7 @@ use Rattle.replay.specs.Text.{Printed, quietly, line_does, end_lines, close_line
 use Rattle.replay.specs.HeldPoints.{settles_alone}
 use Rattle.script_laws.specs.Joined.{ShownToEach, WorldStands, PassesSo}
 use Rattle.script_laws.specs.Walk.{SettlesPass}
-use Rattle.script_laws.proofs.lines.Knowing.{put-found}
+use Rattle.replay.proofs.worlds.SeatsFound.{put-found}
 use Rattle.script_laws.proofs.lines.Passing.{told-none}
 use Rattle.script_laws.proofs.texts.Along.{seat-stands}
 use Rattle.script_laws.proofs.texts.Shows.{stands_as}

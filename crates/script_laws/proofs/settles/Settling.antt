@@ -27,7 +27,7 @@ use Rattle.script_laws.specs.Whole.{StandsAfterEachLine}
 use Rattle.script_laws.specs.Settling.{IsEmptied, QuietAtLast, ends_still, RoundsFall, FewRoundsEnd, SettlesEmpty, TurnsSuffice, IsLittleAtSettles}
 use Rattle.script_laws.proofs.emits.Passing.{reached-behind, settles-pass}
 use Rattle.script_laws.proofs.lines.Cutting.{stands-with}
-use Rattle.script_laws.proofs.lines.Knowing.{put-found}
+use Rattle.replay.proofs.worlds.SeatsFound.{put-found}
 use Rattle.script_laws.proofs.lines.Passing.{told-none}
 use Rattle.script_laws.proofs.settles.StillRounds.{no-over}
 use Rattle.script_laws.proofs.texts.Along.{seat-stands}

@@ -42,7 +42,7 @@ use Rattle.script_laws.specs.Walk.{OfDowns, OfEmits}
 -- ---- lines one behind another
 
 -- a client that is fed is a lone one
-fed-lone : (all : List Word) (known next : Known) (shown : ShownToEach) (world : World) (line : ScriptLine) → Walked all known shown world → fits all known line ≡ Some next
+pub fed-lone : (all : List Word) (known next : Known) (shown : ShownToEach) (world : World) (line : ScriptLine) → Walked all known shown world → fits all known line ≡ Some next
     → (w : Word) (octets : List ℕ) (seat : Seat) → line ≡ feed w octets → seat_of world w ≡ Some seat → seat.is_lone ≡ true
 fed-lone all known next shown world line h e w octets seat is found =
     let may = is_allowed (is_lone_client known w) (in_events known) next (ap (fits all known) (sym is) ∙ e) in

@@ -1,18 +1,16 @@
--- The replies to scripts whose lines are built.
---     one-reply, built-keep      what is said of them
-use Rattle.std.proofs.Common.{◌≡◌, ℕ, List, [], ◌∷◌, Option, Some, None, Result, Ok, Err, refl, ap, sym, codes}
-use Rattle.std.specs.Prelude.{decimal}
+-- The replies to scripts.
+--     one-reply      each is the same, told from the history or from the notices taken
+use Rattle.std.proofs.Common.{◌≡◌, ℕ, List, Result, Ok, Err, refl, ap, sym}
 use Rattle.replay.specs.Lines.{ScriptLine}
 use Rattle.replay.specs.Scripts.{script_of}
-use Rattle.replay.specs.Reply.{Reply}
-use Rattle.replay.specs.TextWords.{HeldRecords, by_history, by_notices, spaced}
-use Rattle.replay.specs.Text.{text_by, text_with, ended_lines}
-use Rattle.replay.specs.BuiltScripts.{first_later, later, reply_at, reply_to_script}
-use Rattle.replay.specs.Promises.{EveryScriptTellsOneText, EveryScriptKeepsPromises}
-use Rattle.script_laws.specs.Replies.{RepliesAreOne, ScriptsThatAreBuiltKeepPromises}
+use Rattle.replay.specs.TextWords.{HeldRecords, by_history, by_notices}
+use Rattle.replay.specs.Text.{text_by, text_with, outside_text}
+use Rattle.replay.specs.ScriptReplies.{reply_to_script}
+use Rattle.replay.specs.Promises.{EveryScriptTellsOneText}
+use Rattle.script_laws.specs.Replies.{RepliesAreOne}
 
 abbrev told_as : HeldRecords → Result (List ScriptLine) ℕ → ℕ × List ℕ
-told_as records read = elim read as (λ _. ℕ × List ℕ) [ Ok script ↦ (0, text_by records script) | Err n ↦ (2, ended_lines (spaced (codes "line" ∷ decimal n ∷ []) ∷ [])) ]
+told_as records read = elim read as (λ _. ℕ × List ℕ) [ Ok script ↦ (0, text_by records script) | Err n ↦ (2, outside_text n) ]
 
 module _ (one : EveryScriptTellsOneText) where
   texts-one : (octets : List ℕ) → text_with by_notices octets ≡ text_with by_history octets
@@ -24,11 +22,4 @@ module _ (one : EveryScriptTellsOneText) where
 
   pub one-reply : RepliesAreOne
   unfolding reply_to_script
-  one-reply octets = by (first_later octets) refl
-    where
-      by : (found : Option ℕ) → first_later octets ≡ found → reply_at by_notices found octets ≡ reply_at by_history found octets
-      by None built = ap (λ (p : ℕ × List ℕ). record { status = p.0; text = p.1 }) (texts-one octets)
-      by (Some number) built = refl
-
-pub built-keep : EveryScriptKeepsPromises → ScriptsThatAreBuiltKeepPromises
-built-keep keep octets script built read = keep octets script read
+  one-reply octets = ap (λ (p : ℕ × List ℕ). record { status = p.0; text = p.1 }) (texts-one octets)

@@ -22,4 +22,4 @@ pub returns-clause-room : goal.returns-clause-room
 returns-clause-room c =
     room-at c.args.zones.now c.check_at.new.zones c.args.links.now c.args.update.now c.in-Ok.apex.now c.in-Some.index c.in_ok-under.under c.in-Accept.plan c.in-Some.ensures c.in_ok-under.ensures
     (subst (JudgesAt c.args.zones.now c.in-Some.index c.in_ok-under.under c.args.update.now) c.in-Accept.is c.in_ok-code.ensures.verdict) c.in_ok-code.ensures.states
-    (λ zone at. subst (HasRoom zone.spare) c.in-Accept.is (c.in_ok-code.ensures.room zone at))
+    (λ zone at. subst (HasRoom zone.nodes) c.in-Accept.is (c.in_ok-code.ensures.room zone at))

@@ -14,7 +14,7 @@ returns-then-moment-now c =
 
 pub ends-preserved : goal.ends-preserved
 ends-preserved c =
-    ap (λ (l : LinkRows). fold (λ (part : LinkRows) (d : ℕ × Key). copied c.args.rows.now.rows part d.1) l (due c.args.now (drop (c.ends.moment-index + 1) c.entries-moment-items.result.now))) c.in_ok-copy_row.ensures
+    ap (λ (l : LinkRows). fold (λ (part : LinkRows) (d : ℕ × Key). copied c.args.rows.now.rows part d.1) l (due c.args.now (drop (c.ends.moment-index + 1) c.entries-moment-items.result.now))) (c.in_ok-copy_row.ensures ∙ ap (λ (k : Key). copied c.args.rows.now.rows c.ends.part.rows k) c.key.ensures)
     ∙ ap (λ (l : Deadlines Key). fold (λ (part : LinkRows) (d : ℕ × Key). copied c.args.rows.now.rows part d.1) c.ends.part.rows l)
     (sym (due-more c.args.now c.entries-moment-items.result.now c.ends.moment-index c.ends-item.result c.ends-test.true c.ends-item.is c.if-moment-now.false))
     ∙ c.ends.invariant

@@ -1,4 +1,3 @@
-use Rattle.std.proofs.Common.{refl}
 use Rattle.replay.proofs.lines.Splits.{nothing_behind}
 use Rattle.replay.proofs.line.longer_line.Goals as goal
 

@@ -1,6 +1,6 @@
 use Rattle.std.proofs.Common.{◌≡◌, ◌≤◌, ◌++◌, Some, IfSome, sym, subst, ◌∙◌, ap, take, drop, length, length-append, length-take, arith}
 use Rattle.std.specs.Io.KnownBytes.{prepend_known}
-use Rattle.replay.specs.BuiltScripts.{front_read, left_behind}
+use Rattle.replay.specs.ScriptReplies.{front_read, left_behind}
 use Rattle.replay.proofs.replies.ReadAndWritten.{read_all, read_most, rest_all, rest_most, lost_most, read_nothing, read_more, gave_more}
 use Rattle.replay.proofs.read.read_script.Goals as goal
 use Rattle.replay.proofs.read.read_script.Goals.{else-loop-buf-test, then-loop-buf-test+in_ok-count+then-count-eq0}

@@ -53,4 +53,4 @@ pub returns : goal.returns
 returns c =
     let none : length c.lines.rest.now ≡ 0 = grind arith in
     let of : IsOf c.finish.result (taken_of c.lines.draft) = record { timers = c.finish.ensures.timers; homes = c.finish.ensures.homes; links = ap words_of c.finish.ensures.links; events = c.finish.ensures.events } in
-    ends c.args.octets.now c.finish.result (taken_of c.lines.draft) c.lines.number c.lines.rest.now of c.lines.invariant none
+    ends c.args.octets.now c.finish.result (taken_of c.lines.draft) c.lines.number c.lines.rest.now of c.finish.ensures.lines c.lines.invariant none

@@ -5,8 +5,21 @@ use Rattle.zoneupdate.specs.Zones.{ZoneState}
 use Rattle.zoneupdate.specs.Updates.{judged, with_counted_ttl}
 use Rattle.zoneupdate.specs.Keeping.{ZoneKept, IsUnder, Judges}
 use Rattle.zoneupdate.specs.Checking.{Plans}
+use Rattle.zoneupdate.proofs.Plans.{plan_keys}
 use Rattle.zoneupdate.proofs.Judging.{accepts}
 use Rattle.zoneupdate.proofs.zone.Zone.check.Goals as goal
+
+pub reserve_for-requires-clause-lower : goal.reserve_for-requires-clause-lower
+reserve_for-requires-clause-lower c =
+    let state : ZoneState = record { apex = c.self.inside.apex; writable = c.self.inside.writable; rows = c.self.inside.rows.rows } in
+    (plan_keys state (map with_counted_ttl c.args.update.now.changes) c.in-Some-2.plan c.deref.result.now c.self.invariant
+    (subst (λ (o : Option (List Changed)). Plans state (map with_counted_ttl c.args.update.now.changes) o) c.in-Some-2.is c.in_ok-plan.ensures) (c.deref.ensures.value ∙ c.plan.view_is)).lower
+
+pub reserve_for-requires-clause-order : goal.reserve_for-requires-clause-order
+reserve_for-requires-clause-order c =
+    let state : ZoneState = record { apex = c.self.inside.apex; writable = c.self.inside.writable; rows = c.self.inside.rows.rows } in
+    (plan_keys state (map with_counted_ttl c.args.update.now.changes) c.in-Some-2.plan c.deref.result.now c.self.invariant
+    (subst (λ (o : Option (List Changed)). Plans state (map with_counted_ttl c.args.update.now.changes) o) c.in-Some-2.is c.in_ok-plan.ensures) (c.deref.ensures.value ∙ c.plan.view_is)).rising
 
 pub returns-clause-verdict : goal.returns-clause-verdict
 returns-clause-verdict c = λ homes under.

@@ -1,0 +1,125 @@
+-- Datagrams, one behind the other.
+use Rattle.std.proofs.Common.{◌≡◌, ℕ, ◌+◌, ◌-◌, ◌<◌, ◌≤◌, ◌⊎◌, inl, inr, Bool, true, List, [], ◌∷◌, ◌++◌, length, refl, sym, ap, ◌∙◌, subst, append_assoc, append-nil, length-append, arith}
+use Rattle.std.specs.Prelude.{None, Some, Result, Ok, Err}
+use Rattle.std.specs.declared.option.Option.{Option}
+use Rattle.std.proofs.lemmas.Grind.{flat_map-append}
+use Rattle.push_base.specs.Causes.{CountsOne}
+use Rattle.push_base.specs.Told.{TellsMore}
+use Rattle.push_base.specs.Datagrams.{AreOver}
+use Rattle.pushserver.specs.declared.given.Heard.{Heard}
+use Rattle.pushserver.specs.declared.fault.HubFault.{HubFault}
+use Rattle.pushserver.specs.declared.fault.HubFault.TheVariants as faults
+use Rattle.hublock.specs.declared.ends.LoopEnd.{LoopEnd}
+use Rattle.hublock.specs.declared.ends.LoopEnd.TheVariants as ends
+use Rattle.hublock.specs.Calls.{HubCall, Received}
+use Rattle.hublock.specs.Gates.{GateState, DoesTurn, Answers, WasDone}
+use Rattle.hublock.specs.Loops.{Observed, CountsMore, LastWas}
+use Rattle.hublock.specs.Hearing.{IsReceipt, datagrams_in, datagrams_handed, HearRun, IsRefusedReceipt, HearCause, HearsUntil, HearsOn}
+use Rattle.hublock.proofs.Leading.{tells_none, tells_join, counts_none, counts_one, counts_join, ran_none, ran_one, ran_join, last_one, last_join, uses_join, leaves_none}
+
+abbrev Seen : Type 0
+Seen = Observed (List ℕ)
+
+abbrev Datagrams : Type 0
+Datagrams = Option (List (List ℕ))
+
+-- calls that gave no datagram
+run_silent : (link : ℕ) (a b : Seen) (receipts : ℕ) → b.gate ≡ a.gate → b.told ≡ a.told → CountsMore receipts a.calls b.calls → HearRun link a b [] [] receipts
+run_silent link a b receipts e same counts = record {
+  ran = ran_none (IsReceipt link) a.gate b.gate e;
+  datagrams = subst (λ (o : Datagrams). TellsMore a.told o []) (sym same) (tells_none a.told);
+  counted = counts;
+}
+
+run_still : (link : ℕ) (a b : Seen) → b.gate ≡ a.gate → b.told ≡ a.told → b.calls ≡ a.calls → HearRun link a b [] [] 0
+run_still link a b e same calls = run_silent link a b 0 e same (subst (λ (n : Option ℕ). CountsMore 0 a.calls n) (sym calls) (counts_none a.calls))
+
+run_join : (link : ℕ) (a b c : Seen) (rest : List (List ℕ)) (xs ys : List HubCall) (i j : ℕ) → HearRun link a b [] xs i → HearRun link b c rest ys j → HearRun link a c rest (xs ++ ys) (i + j)
+run_join link a b c rest xs ys i j p q =
+    let P : List (List ℕ) → Type 0 = λ os. TellsMore a.told b.told os in
+    let Q : List (List ℕ) → Type 0 = λ os. TellsMore a.told c.told os in
+    let same : datagrams_handed xs ++ (datagrams_handed ys ++ rest) ≡ datagrams_handed (xs ++ ys) ++ rest =
+    sym (append_assoc (datagrams_handed xs) (datagrams_handed ys) rest) ∙ ap (λ (os : List (List ℕ)). os ++ rest) (sym (flat_map-append datagrams_in xs ys)) in
+    record {
+      ran = ran_join (IsReceipt link) xs ys a.gate b.gate c.gate p.ran q.ran;
+      datagrams = subst Q same (tells_join a.told b.told c.told (datagrams_handed xs) (datagrams_handed ys ++ rest) (subst P (append-nil (datagrams_handed xs)) p.datagrams) q.datagrams);
+      counted = counts_join i j a.calls b.calls c.calls p.counted q.counted;
+    }
+
+-- a datagram that was not handed on
+run_kept : (link : ℕ) (a b : Seen) (datagram : List ℕ) → b.gate ≡ a.gate → TellsMore a.told b.told (datagram ∷ []) → CountsOne a.calls b.calls → HearRun link a b (datagram ∷ []) [] 1
+run_kept link a b datagram e more one = record { ran = ran_none (IsReceipt link) a.gate b.gate e; datagrams = more; counted = counts_one a.calls b.calls one }
+
+-- one that was
+run_heard : (link : ℕ) (a b : Seen) (gate : Option GateState) (datagram : List ℕ) (answer : Result Heard HubFault)
+    → gate ≡ a.gate → TellsMore a.told b.told (datagram ∷ []) → CountsOne a.calls b.calls → DoesTurn (Received link datagram answer) gate b.gate → HearRun link a b [] (Received link datagram answer ∷ []) 1
+run_heard link a b gate datagram answer e more one turn = record {
+  ran = ran_one (IsReceipt link) (Received link datagram answer) a.gate gate b.gate refl e turn;
+  datagrams = more;
+  counted = counts_one a.calls b.calls one;
+}
+
+-- ---- the ends of one turn
+
+pub done_at_once : (link : ℕ) (a b : Seen) (left : Datagrams) (turns : ℕ) (answer : Bool)
+    → b.gate ≡ a.gate → b.told ≡ a.told → b.calls ≡ a.calls → Answers a.gate answer → answer ≡ true → HearsUntil link a b left turns ends.Finished
+done_at_once link a b left turns answer e same calls says is =
+    let done : WasDone a.gate = subst (λ (t : Bool). Answers a.gate t) is says in
+    ([], 0, [], run_still link a b e same calls, omega arith, refl, omega arith, inl (subst (λ (s : Option GateState). WasDone s) (sym e) done))
+
+pub turns_at_once : (link : ℕ) (a b : Seen) (left : Datagrams) (turns : ℕ) → b.gate ≡ a.gate → b.told ≡ a.told → b.calls ≡ a.calls → turns ≡ 0 → HearsUntil link a b left turns ends.Turns
+turns_at_once link a b left turns e same calls none = ([], 0, [], run_still link a b e same calls, omega arith, tt, omega arith, tt)
+
+pub ended_by_link : (link : ℕ) (a b : Seen) (left : Datagrams) (turns : ℕ) → b.gate ≡ a.gate → b.told ≡ a.told → CountsOne a.calls b.calls → 0 < turns → AreOver left → HearsUntil link a b left turns ends.Finished
+ended_by_link link a b left turns e same one more over = ([], 1, [], run_silent link a b 1 e same (counts_one a.calls b.calls one), omega arith, refl, omega arith, inr over)
+
+pub failed_by_link : (link : ℕ) (a b : Seen) (left : Datagrams) (turns : ℕ) → b.gate ≡ a.gate → b.told ≡ a.told → CountsOne a.calls b.calls → 0 < turns → HearsUntil link a b left turns ends.LinkFault
+failed_by_link link a b left turns e same one more = ([], 1, [], run_silent link a b 1 e same (counts_one a.calls b.calls one), omega arith, refl, omega arith, tt)
+
+pub quiet_turn : (link : ℕ) (a b : Seen) (left : Datagrams) (turns : ℕ) → b.gate ≡ a.gate → b.told ≡ a.told → CountsOne a.calls b.calls → 0 < turns → HearsOn link a b left turns (Ok (turns - 1))
+quiet_turn link a b left turns e same one more = ([], 1, run_silent link a b 1 e same (counts_one a.calls b.calls one), omega arith, omega arith)
+
+pub turns_at_datagram : (link : ℕ) (a b : Seen) (left : Datagrams) (datagram : List ℕ) (turns : ℕ)
+    → b.gate ≡ a.gate → TellsMore a.told b.told (datagram ∷ []) → CountsOne a.calls b.calls → turns ≡ 1 → HearsUntil link a b left turns ends.Turns
+turns_at_datagram link a b left datagram turns e more one last = ([], 1, datagram ∷ [], run_kept link a b datagram e more one, omega arith, tt, omega arith, tt)
+
+pub heard_on : (link : ℕ) (a b : Seen) (gate : Option GateState) (left : Datagrams) (datagram : List ℕ) (heard : Heard) (turns : ℕ)
+    → gate ≡ a.gate → TellsMore a.told b.told (datagram ∷ []) → CountsOne a.calls b.calls → 1 < turns → DoesTurn (Received link datagram (Ok heard)) gate b.gate → HearsOn link a b left turns (Ok (turns - 2))
+heard_on link a b gate left datagram heard turns e more one some turn =
+    (Received link datagram (Ok heard) ∷ [], 1, run_heard link a b gate datagram (Ok heard) e more one turn, omega arith, omega arith)
+
+pub full_at_hearing : (link : ℕ) (a b : Seen) (gate : Option GateState) (left : Datagrams) (datagram : List ℕ) (turns : ℕ)
+    → gate ≡ a.gate → TellsMore a.told b.told (datagram ∷ []) → CountsOne a.calls b.calls → 1 < turns → DoesTurn (Received link datagram (Err faults.Full)) gate b.gate → HearsUntil link a b left turns ends.Full
+full_at_hearing link a b gate left datagram turns e more one some turn =
+    let call : HubCall = Received link datagram (Err faults.Full) in
+    (call ∷ [], 1, [], run_heard link a b gate datagram (Err faults.Full) e more one turn, omega arith, refl, omega arith, last_one (IsRefusedReceipt faults.Full) call refl)
+
+pub starved_at_hearing : (link : ℕ) (a b : Seen) (gate : Option GateState) (left : Datagrams) (datagram : List ℕ) (turns : ℕ)
+    → gate ≡ a.gate → TellsMore a.told b.told (datagram ∷ []) → CountsOne a.calls b.calls → 1 < turns → DoesTurn (Received link datagram (Err faults.NoMemory)) gate b.gate → HearsUntil link a b left turns ends.NoMemory
+starved_at_hearing link a b gate left datagram turns e more one some turn =
+    let call : HubCall = Received link datagram (Err faults.NoMemory) in
+    (call ∷ [], 1, [], run_heard link a b gate datagram (Err faults.NoMemory) e more one turn, omega arith, refl, omega arith, last_one (IsRefusedReceipt faults.NoMemory) call refl)
+
+-- ---- the loop
+
+abbrev pub HeardSoFar : ℕ → Seen → Seen → ℕ → ℕ → Type 0
+HeardSoFar link a b left turns = (calls : List HubCall) × (receipts : ℕ) × HearRun link a b [] calls receipts × (left + (length calls + receipts) ≡ turns)
+
+pub heard_begun : (link : ℕ) (a : Seen) (turns : ℕ) → HeardSoFar link a a turns turns
+heard_begun link a turns = ([], 0, run_still link a a refl refl refl, omega arith)
+
+pub heard_more : (link : ℕ) (a b c : Seen) (rest : Datagrams) (left less turns : ℕ) → HeardSoFar link a b left turns → HearsOn link b c rest left (Ok less) → HeardSoFar link a c less turns
+heard_more link a b c rest left less turns (xs, i, p, e) (ys, j, q, f, _) = (xs ++ ys, i + j, run_join link a b c [] xs ys i j p q, omega (arith, length-append xs ys))
+
+cause_join : (after : Seen) (rest : Datagrams) (xs ys : List HubCall) (end : LoopEnd) → HearCause after rest ys end → HearCause after rest (xs ++ ys) end
+cause_join after rest xs ys ends.Finished p = p
+cause_join after rest xs ys ends.Turns p = tt
+cause_join after rest xs ys ends.LinkFault p = tt
+cause_join after rest xs ys ends.Full p = last_join (IsRefusedReceipt faults.Full) xs ys p
+cause_join after rest xs ys ends.NoMemory p = last_join (IsRefusedReceipt faults.NoMemory) xs ys p
+cause_join after rest xs ys ends.ReadFault p = absurd p
+cause_join after rest xs ys ends.WriteFault p = absurd p
+
+pub heard_ended : (link : ℕ) (a b c : Seen) (rest : Datagrams) (left turns : ℕ) (end : LoopEnd) → HeardSoFar link a b left turns → HearsUntil link b c rest left end → HearsUntil link a c rest turns end
+heard_ended link a b c rest left turns end (xs, i, p, e) (ys, j, kept, q, few, leaves, used, cause) =
+    (xs ++ ys, i + j, kept, run_join link a b c kept xs ys i j p q, few, leaves, uses_join end xs ys i j left turns e used, cause_join c rest xs ys end cause)

@@ -1,0 +1,104 @@
+-- What the value under the lock tells.
+--     LockedState      the hub, the totals of the books, the lines that are over, how many sessions are still to end, and whether all is to stop
+--     Holds      the hub stands for a plain one, and the books have its totals
+--     AcceptsNone, AcceptsChange, AcceptsMoment, AcceptsHearing      what the journal's counts and a feed's rise by
+--     is_live, marked      whether a session lives; the marks with one more
+--     is_done      whether nothing is left to do for a role
+use Rattle.std.specs.Prelude.{◌≡◌, ℕ, ◌+◌, ◌⊎◌, ◌||◌, ◌==◌, not, Bool, cond, List, [], ◌∷◌, ◌++◌, filter, is_some, Result, Ok, Err}
+use Rattle.std.specs.List.{list_any, IsDistinct}
+use Rattle.history.specs.Totals.{totals}
+use Rattle.history.specs.declared.entry.Totals.{Totals}
+use Rattle.pushserver.specs.PlainHubs.{Hub}
+use Rattle.pushserver.specs.Hubs.{session_of}
+use Rattle.pushserver.specs.KeptHubs.{KeptHub, StandsFor}
+use Rattle.pushserver.specs.declared.given.Heard.{Heard}
+use Rattle.pushserver.specs.declared.given.Heard.TheVariants.{Entered, Ignored}
+use Rattle.pushserver.specs.declared.fault.HubFault.{HubFault}
+use Rattle.push_base.specs.declared.role.Role.{Role}
+use Rattle.push_base.specs.declared.role.Role.TheVariants.{Reader, Writer, Link, Clock}
+use Rattle.hublock.specs.Feeds.{FeedState, one_change_more, one_hearing_more, one_moment_more}
+
+pub record LockedState : Type 0 where
+  pub hub : KeptHub
+  pub books : Totals
+  pub seats : ℕ
+  pub over : List ℕ
+  pub left : ℕ
+  pub quit : Bool
+
+-- the entries of each group
+abbrev pub counted : KeptHub → Totals
+counted hub = totals hub.history
+
+-- the hub stands for a plain one, and the books have its totals
+pub record Holds (hub : KeptHub) (books : Totals) (seats : ℕ) : Type 0 where
+  pub stands : (plain : Hub) × StandsFor hub plain
+  pub counts : books ≡ counted hub
+  pub made : seats ≡ hub.numbers_given
+
+-- the hub changes, and the books' totals with it
+abbrev pub with_hub : LockedState → KeptHub → LockedState
+with_hub state hub = record state { hub = hub; books = counted hub; seats = hub.numbers_given }
+
+-- ---- what was accepted
+
+abbrev pub AcceptsNone : KeptHub → KeptHub → FeedState → FeedState → Type 0
+AcceptsNone old new feed now = (now ≡ feed) × (counted new ≡ counted old)
+
+abbrev pub AcceptsMoment : KeptHub → KeptHub → FeedState → FeedState → Type 0
+AcceptsMoment old new feed now =
+    (now ≡ one_moment_more feed)
+    × (counted new ≡ record (counted old) { moments = (counted old).moments + 1 })
+
+abbrev pub AcceptsChange : KeptHub → KeptHub → FeedState → FeedState → Type 0
+AcceptsChange old new feed now =
+    (now ≡ one_change_more feed)
+    × (counted new ≡ record (counted old) { changes = (counted old).changes + 1 })
+
+abbrev pub AcceptsHearing : KeptHub → KeptHub → FeedState → FeedState → Type 0
+AcceptsHearing old new feed now =
+    (now ≡ one_hearing_more feed)
+    × (counted new ≡ record (counted old) { heard = (counted old).heard + 1 })
+
+-- a moment was entered and the feed rose by it, or neither
+abbrev pub MayAcceptMoment : KeptHub → KeptHub → FeedState → FeedState → Type 0
+MayAcceptMoment old new feed now = AcceptsNone old new feed now ⊎ AcceptsMoment old new feed now
+
+-- the same of a change
+abbrev pub MayAcceptChange : KeptHub → KeptHub → FeedState → FeedState → Type 0
+MayAcceptChange old new feed now = AcceptsNone old new feed now ⊎ AcceptsChange old new feed now
+
+-- a hearing was entered and the feed rose by it exactly where it was answered so
+abbrev pub AcceptsAsHeard : Result Heard HubFault → KeptHub → KeptHub → FeedState → FeedState → Type 0
+AcceptsAsHeard (Ok Entered) old new feed now = AcceptsHearing old new feed now
+AcceptsAsHeard (Ok (Ignored why)) old new feed now = AcceptsNone old new feed now
+AcceptsAsHeard (Err fault) old new feed now = AcceptsNone old new feed now
+
+-- ---- the lines that are over
+
+abbrev pub is_live : KeptHub → ℕ → Bool
+is_live hub session = is_some (session_of hub session)
+
+abbrev pub has_mark : ℕ → List ℕ → Bool
+has_mark session over = list_any (λ mark. mark == session) over
+
+-- no session is marked twice
+abbrev pub AreMarks : List ℕ → Type 0
+AreMarks over = IsDistinct (λ a b. a == b) over
+
+abbrev pub with_mark : ℕ → List ℕ → List ℕ
+with_mark session over = cond (has_mark session over) over (over ++ session ∷ [])
+
+abbrev pub without_mark : ℕ → List ℕ → List ℕ
+without_mark session over = filter (λ mark. not (mark == session)) over
+
+-- a session that lives is marked, and the marks of those that don't go; else all is as before
+abbrev pub marked : KeptHub → ℕ → List ℕ → List ℕ
+marked hub session over = cond (is_live hub session) (with_mark session (filter (is_live hub) over)) over
+
+-- whether nothing is left to do for a role
+abbrev pub is_done : LockedState → Role → Bool
+is_done state (Reader session) = state.quit || not (is_live state.hub session)
+is_done state (Writer session) = state.quit || has_mark session state.over
+is_done state (Link link) = state.quit || (state.left == 0)
+is_done state Clock = state.quit || (state.left == 0)

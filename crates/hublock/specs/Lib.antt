@@ -1,0 +1,11 @@
+pub mod Feeds
+pub mod Calls
+pub mod Gates
+pub mod Inside
+pub mod Sharing
+pub mod Loops
+pub mod Reading
+pub mod Writing
+pub mod Hearing
+pub mod Ticking
+pub mod Jobs

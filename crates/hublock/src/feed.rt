@@ -1,0 +1,112 @@
+//! What was accepted through one thread.
+
+ghost use Rattle.std.specs.Prelude.{◌≡◌, ◌<◌, ◌≤◌, ◌+◌, ◌-◌};
+ghost use Rattle.hublock.specs.Feeds.{HasAtLeast, IsBelow, joined, one_part, raised, with_one_less};
+
+use history::entry::Totals;
+use std::marker::Model;
+use std::sync::ledger::{Book, Ledger, Share};
+
+/// A share of the ledgers of changes, hearings and moments: so many entries were accepted through it. It has at least one
+/// part of each.
+#[derive(Drop)]
+pub struct Feed<C: Ledger, H: Ledger, M: Ledger> {
+    pub(crate) changes: Share<C>,
+    pub(crate) heard: Share<H>,
+    pub(crate) moments: Share<M>,
+}
+
+impl<C: Ledger, H: Ledger, M: Ledger> Model for Feed<C, H, M> {
+    ghost use Rattle.hublock.specs.Feeds.{FeedState};
+
+    ghost Value = { FeedState };
+
+    ghost view = { λ f. record {
+      parts = record { changes = f.changes.parts; heard = f.heard.parts; moments = f.moments.parts };
+      sums = record { changes = f.changes.amount; heard = f.heard.amount; moments = f.moments.amount };
+    } };
+
+    ghost use Rattle.hublock.specs.Feeds.{HasAtLeast};
+
+    ghost invariant = { λ f. HasAtLeast 1 (record { changes = f.changes.parts; heard = f.heard.parts; moments = f.moments.parts }) };
+}
+
+impl<C: Ledger, H: Ledger, M: Ledger> Feed<C, H, M> {
+    /// A feed of one part of each ledger, through which nothing was accepted yet.
+    pub fn split(&mut self) -> Feed<C, H, M>
+        requires { HasAtLeast 2 self.old.parts }
+        ensures one { result ≡ one_part }
+        ensures rest { self.new ≡ with_one_less self.old }
+    {
+        let changes = self.changes.split_off(1, 0);
+        let heard = self.heard.split_off(1, 0);
+        let moments = self.moments.split_off(1, 0);
+        Feed {
+            changes,
+            heard,
+            moments,
+        }
+    }
+
+    /// All that was accepted through both.
+    pub fn join(self, other: Feed<C, H, M>) -> Feed<C, H, M>
+        ensures { result ≡ joined self other }
+    {
+        let Feed {
+            mut changes,
+            mut heard,
+            mut moments,
+        } = self;
+        let Feed {
+            changes: more_changes,
+            heard: more_heard,
+            moments: more_moments,
+        } = other;
+        changes.merge(more_changes);
+        heard.merge(more_heard);
+        moments.merge(more_moments);
+        Feed {
+            changes,
+            heard,
+            moments,
+        }
+    }
+
+    /// As many were accepted as the counts rose.
+    pub(crate) fn record(
+        &mut self,
+        changes: &mut Book<C>,
+        heard: &mut Book<H>,
+        moments: &mut Book<M>,
+        before: Totals,
+        after: Totals,
+    )
+        requires rise { IsBelow before after }
+        ensures feed { self.new ≡ raised before after self.old }
+        ensures changes { changes.new.total ≡ changes.old.total + (after.changes - before.changes) }
+        ensures heard { heard.new.total ≡ heard.old.total + (after.heard - before.heard) }
+        ensures moments { moments.new.total ≡ moments.old.total + (after.moments - before.moments) }
+    {
+        changes.add(&mut self.changes, after.changes - before.changes);
+        heard.add(&mut self.heard, after.heard - before.heard);
+        moments.add(&mut self.moments, after.moments - before.moments);
+    }
+
+    /// How what was accepted stands to the totals of the books.
+    pub(crate) fn audit(
+        &mut self,
+        changes: &mut Book<C>,
+        heard: &mut Book<H>,
+        moments: &mut Book<M>,
+    )
+        ensures same { self.new ≡ self.old }
+        ensures books { (changes.new.total ≡ changes.old.total) × (heard.new.total ≡ heard.old.total) × (moments.new.total ≡ moments.old.total) }
+        ensures changes { (self.old.sums.changes ≤ changes.old.total) × (self.old.parts.changes ≡ C.parts → self.old.sums.changes ≡ changes.old.total) }
+        ensures heard { (self.old.sums.heard ≤ heard.old.total) × (self.old.parts.heard ≡ H.parts → self.old.sums.heard ≡ heard.old.total) }
+        ensures moments { (self.old.sums.moments ≤ moments.old.total) × (self.old.parts.moments ≡ M.parts → self.old.sums.moments ≡ moments.old.total) }
+    {
+        changes.audit(&mut self.changes);
+        heard.audit(&mut self.heard);
+        moments.audit(&mut self.moments);
+    }
+}

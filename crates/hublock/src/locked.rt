@@ -1,0 +1,286 @@
+//! The value under the lock.
+
+ghost use Rattle.std.specs.Prelude.{◌≡◌, ◌≤◌, ◌+◌, ◌-◌, true, length, IfOk, OnOk, OnErr, IsErrOf};
+ghost use Rattle.push_base.specs.Limits.{max_moment};
+ghost use Rattle.dnswire.specs.Reading.{hearing_of};
+ghost use Rattle.history.specs.Totals.{totals};
+ghost use Rattle.pushserver.specs.PlainHubs.{Hub as Plain};
+ghost use Rattle.pushserver.specs.Hubs.{max_sessions};
+ghost use Rattle.pushserver.specs.KeptHubs.{StandsFor};
+ghost use Rattle.pushserver.specs.Counting.{octets_of};
+ghost use Rattle.pushserver.specs.Observing.{SaysWhy};
+ghost use Rattle.hublock.specs.Calls.{Connected, Does, Gave, Left, Passed, Received, Took, fault_of};
+ghost use Rattle.hublock.specs.Feeds.{IsBelow};
+ghost use Rattle.hublock.specs.Inside.{AcceptsAsHeard, AcceptsNone, MayAcceptChange, MayAcceptMoment, counted, is_done, marked, with_hub, without_mark};
+
+use crate::marks::Marks;
+use crate::{Feed, Seats};
+use history::entry::Totals;
+use push_base::Role;
+use pushserver::{ConnectFault, Given, Heard, Hub, HubFault};
+use std::marker::Model;
+use std::sync::ledger::{Book, Ledger};
+
+/// The hub, with the books of what was accepted and of the sessions made, and what ends the loops.
+#[derive(Drop)]
+pub struct Locked<C: Ledger, H: Ledger, M: Ledger, S: Ledger> {
+    hub: Hub,
+    changes: Book<C>,
+    heard: Book<H>,
+    moments: Book<M>,
+    made: Book<S>,
+    over: Marks,
+    left: u64,
+    quit: bool,
+    // It rises, and wraps, where something changed for which a loop may wait. Contracts don't see it.
+    moves: u64,
+}
+
+impl<C: Ledger, H: Ledger, M: Ledger, S: Ledger> Model for Locked<C, H, M, S> {
+    ghost use Rattle.hublock.specs.Inside.{Holds, LockedState};
+
+    ghost Value = { LockedState };
+
+    ghost view = { λ l. record { hub = l.hub; books = record { changes = l.changes.total; heard = l.heard.total; moments = l.moments.total }; seats = l.made.total; over = l.over; left = l.left; quit = l.quit } };
+
+    ghost invariant = { λ l. Holds l.hub (record { changes = l.changes.total; heard = l.heard.total; moments = l.moments.total }) l.made.total };
+}
+
+impl<C: Ledger, H: Ledger, M: Ledger, S: Ledger> Locked<C, H, M, S> {
+    pub(crate) fn new(
+        hub: Hub,
+        changes: Book<C>,
+        heard: Book<H>,
+        moments: Book<M>,
+        made: Book<S>,
+        over: Marks,
+    ) -> Self
+        requires changes { changes.total ≡ (counted hub).changes }
+        requires heard { heard.total ≡ (counted hub).heard }
+        requires moments { moments.total ≡ (counted hub).moments }
+        requires made { made.total ≡ hub.numbers_given }
+        requires stands { (plain : Plain) × StandsFor hub plain }
+        ensures { result.hub ≡ hub }
+    {
+        Locked {
+            hub,
+            changes,
+            heard,
+            moments,
+            made,
+            over,
+            left: 0,
+            quit: false,
+            moves: 0,
+        }
+    }
+
+    /// The hub stands for a plain one, whose counts are the totals of the books.
+    pub fn holds(&self)
+        ensures { (plain : Plain) × StandsFor self.now.hub plain × (self.now.books ≡ totals plain.history) × (self.now.seats ≡ plain.numbers_given) }
+    {
+        let _ = &self.hub;
+    }
+
+    /// Octets that a session's client sent. Gives how many were taken.
+    pub fn take(&mut self, session: u64, piece: &[u8]) -> usize
+        ensures call { Does self.old.hub (Took session piece.now result) self.new.hub }
+        ensures rest { self.new ≡ with_hub self.old self.new.hub }
+        ensures counts { counted self.new.hub ≡ counted self.old.hub }
+        ensures bound { result ≤ length piece.now }
+    {
+        let count = self.hub.take(session, piece);
+        count_move(&mut self.moves, count > 0);
+        count
+    }
+
+    /// One piece of work for a session. It is never `Full`.
+    pub fn give(
+        &mut self,
+        session: u64,
+        buf: &mut [u8],
+        feed: &mut Feed<C, H, M>,
+    ) -> Result<Given, HubFault>
+        ensures call { Does self.old.hub (Gave session buf.old buf.new result) self.new.hub }
+        ensures rest { self.new ≡ with_hub self.old self.new.hub }
+        ensures bound { IfOk result (λ given. octets_of given ≤ length buf.old) }
+        ensures never { IsErrOf result HubFault.Full → ⊥ }
+        ensures feed { MayAcceptChange self.old.hub self.new.hub feed.old feed.new }
+        ensures err { OnErr result (AcceptsNone self.old.hub self.new.hub feed.old feed.new) }
+    {
+        let before = self.hub.counts();
+        let answer = self.hub.give(session, buf);
+        let after = self.hub.counts();
+        feed.record(
+            &mut self.changes,
+            &mut self.heard,
+            &mut self.moments,
+            before,
+            after,
+        );
+        count_move(&mut self.moves, has_worked(&answer));
+        answer
+    }
+
+    /// A datagram of a link.
+    pub fn hear(
+        &mut self,
+        link: usize,
+        datagram: &[u8],
+        feed: &mut Feed<C, H, M>,
+    ) -> Result<Heard, HubFault>
+        ensures call { Does self.old.hub (Received link datagram.now result) self.new.hub }
+        ensures rest { self.new ≡ with_hub self.old self.new.hub }
+        ensures feed { AcceptsAsHeard result self.old.hub self.new.hub feed.old feed.new }
+        ensures unread { IfOk result (λ heard. SaysWhy heard (hearing_of datagram.now)) }
+    {
+        let before = self.hub.counts();
+        let answer = self.hub.hear(link, datagram);
+        let after = self.hub.counts();
+        feed.record(
+            &mut self.changes,
+            &mut self.heard,
+            &mut self.moments,
+            before,
+            after,
+        );
+        count_move(&mut self.moves, after.heard > before.heard);
+        answer
+    }
+
+    /// It is a moment.
+    pub fn moment(&mut self, at: u64, feed: &mut Feed<C, H, M>) -> Result<(), HubFault>
+        requires { at ≤ max_moment }
+        ensures call { Does self.old.hub (Passed at (fault_of result)) self.new.hub }
+        ensures rest { self.new ≡ with_hub self.old self.new.hub }
+        ensures feed { MayAcceptMoment self.old.hub self.new.hub feed.old feed.new }
+        ensures err { OnErr result (AcceptsNone self.old.hub self.new.hub feed.old feed.new) }
+    {
+        let before = self.hub.counts();
+        let answer = self.hub.moment(at);
+        let after = self.hub.counts();
+        feed.record(
+            &mut self.changes,
+            &mut self.heard,
+            &mut self.moments,
+            before,
+            after,
+        );
+        count_move(&mut self.moves, after.moments > before.moments);
+        answer
+    }
+
+    /// A session's connection is gone, and its mark with it.
+    pub fn end(&mut self, session: u64)
+        ensures call { Does self.old.hub (Left session) self.new.hub }
+        ensures rest { self.new ≡ record (with_hub self.old self.new.hub) { over = without_mark session self.old.over } }
+        ensures counts { counted self.new.hub ≡ counted self.old.hub }
+    {
+        self.hub.end(session);
+        self.over.remove(session);
+        count_move(&mut self.moves, true);
+    }
+
+    /// A new session.
+    pub(crate) fn connect(&mut self, seats: &mut Seats<S>) -> Result<u64, ConnectFault>
+        requires { seats.old.parts ≡ S.parts }
+        ensures call { Does self.old.hub (Connected result) self.new.hub }
+        ensures parts { seats.new.parts ≡ seats.old.parts }
+        ensures made { seats.old.made ≡ self.old.hub.numbers_given }
+        ensures ok { IfOk result (λ number. (number ≡ seats.old.made) × (seats.new.made ≡ seats.old.made + 1)) }
+        ensures err { OnErr result (seats.new.made ≡ seats.old.made) }
+        ensures no_seat { IsErrOf result ConnectFault.NoSeat → max_sessions ≤ seats.old.made }
+    {
+        self.made.audit(&mut seats.share);
+        let answer = self.hub.connect();
+        if answer.is_ok() {
+            self.made.add(&mut seats.share, 1);
+        }
+        answer
+    }
+
+    /// The journal's counts, which are the sums of a feed that has every part.
+    pub fn totals(&mut self, feed: &mut Feed<C, H, M>) -> Totals
+        requires { (feed.old.parts.changes ≡ C.parts) × (feed.old.parts.heard ≡ H.parts) × (feed.old.parts.moments ≡ M.parts) }
+        ensures counts { result ≡ counted self.old.hub }
+        ensures sums { result ≡ feed.old.sums }
+        ensures same { (self.new ≡ self.old) × (feed.new ≡ feed.old) }
+    {
+        feed.audit(&mut self.changes, &mut self.heard, &mut self.moments);
+        self.hub.counts()
+    }
+
+    /// Through a feed never more of a group was accepted than the journal counts.
+    pub fn finds(&mut self, feed: &mut Feed<C, H, M>)
+        ensures bound { IsBelow feed.old.sums (counted self.old.hub) }
+        ensures same { (self.new ≡ self.old) × (feed.new ≡ feed.old) }
+    {
+        feed.audit(&mut self.changes, &mut self.heard, &mut self.moments);
+    }
+
+    /// The number of changes for which a loop may wait, wrapping.
+    pub(crate) fn moves(&self) -> u64 {
+        self.moves
+    }
+
+    /// Whether nothing is left to do for a role.
+    pub fn is_done(&self, role: Role) -> bool
+        ensures { result ≡ is_done self.now role }
+    {
+        if self.quit {
+            return true;
+        }
+        match role {
+            Role::Reader(session) => !self.hub.live(session),
+            Role::Writer(session) => self.over.has(session),
+            Role::Link(_) | Role::Clock => self.left == 0,
+        }
+    }
+
+    /// So many sessions are still to end.
+    pub fn begin(&mut self, sessions: u64)
+        ensures { self.new ≡ record self.old { left = sessions } }
+    {
+        self.left = sessions;
+        count_move(&mut self.moves, true);
+    }
+
+    /// The line of a session is over. Nothing happens where it doesn't live.
+    pub fn line_over(&mut self, session: u64)
+        ensures { self.new ≡ record self.old { over = marked self.old.hub session self.old.over } }
+    {
+        self.over.add(session, &self.hub);
+        count_move(&mut self.moves, true);
+    }
+
+    /// One session has ended.
+    pub fn session_over(&mut self)
+        ensures { self.new ≡ record self.old { left = self.old.left - 1 } }
+    {
+        self.left = self.left.saturating_sub(1);
+        count_move(&mut self.moves, true);
+    }
+
+    /// All is to stop.
+    pub fn quit(&mut self)
+        ensures { self.new ≡ record self.old { quit = true } }
+    {
+        self.quit = true;
+        count_move(&mut self.moves, true);
+    }
+}
+
+/// Counts a change for which a loop may wait.
+fn count_move(moves: &mut u64, moved: bool) {
+    if moved {
+        *moves = moves.wrapping_add(1);
+    }
+}
+
+/// Whether octets were given, or a message was reacted to.
+fn has_worked(answer: &Result<Given, HubFault>) -> bool {
+    match answer {
+        Ok(Given::Bytes(_) | Given::Worked | Given::End(_)) => true,
+        Ok(Given::Nothing | Given::Ending) | Err(_) => false,
+    }
+}

@@ -1,0 +1,186 @@
+//! A hub behind its lock, as one thread calls it.
+
+ghost use Rattle.std.specs.Prelude.{◌≡◌, ◌≤◌, ◌⊎◌, None, length, IfOk, IsErrOf, OnErr};
+ghost use Rattle.push_base.specs.Limits.{max_moment};
+ghost use Rattle.dnswire.specs.Reading.{hearing_of};
+ghost use Rattle.pushserver.specs.Counting.{octets_of};
+ghost use Rattle.pushserver.specs.Observing.{SaysWhy};
+ghost use Rattle.hublock.specs.Calls.{Gave, Left, Passed, Received, Took, fault_of};
+ghost use Rattle.hublock.specs.Feeds.{each, one_change_more, one_moment_more, RisesAsHeard};
+ghost use Rattle.hublock.specs.Gates.{DoesApart, DoesTurn};
+ghost use Rattle.hublock.specs.Sharing.{with_feed};
+
+use crate::{Feed, Gate, HubLock};
+use push_base::{NoMemory, Role};
+use pushserver::{Given, Heard, HubFault};
+use std::marker::Model;
+use std::sync::Wait;
+use std::sync::ledger::Ledger;
+
+/// A hold of the hub behind its lock, for one role, with a feed of its own. It tells nothing of the hub.
+#[derive(Drop)]
+pub struct Shared<R: Wait + Copy, C: Ledger, H: Ledger, M: Ledger, S: Ledger> {
+    rt: R,
+    lock: HubLock<C, H, M, S>,
+    feed: Feed<C, H, M>,
+    role: Role,
+    // The changes that were made when the hub was called last. Contracts don't see it.
+    seen: u64,
+}
+
+impl<R: Wait + Copy, C: Ledger, H: Ledger, M: Ledger, S: Ledger> Model for Shared<R, C, H, M, S> {
+    ghost use Rattle.std.specs.Prelude.{◌≡◌};
+    ghost use Rattle.hublock.specs.Sharing.{SharedState};
+    ghost use Rattle.hublock.specs.Feeds.{each};
+
+    ghost Value = { SharedState };
+
+    ghost view = { λ s. record { feed = s.feed; role = s.role } };
+
+    ghost invariant = { λ s. s.feed.parts ≡ each 1 };
+}
+
+impl<R: Wait + Copy, C: Ledger, H: Ledger, M: Ledger, S: Ledger> Shared<R, C, H, M, S> {
+    /// A hold for a role, with a feed of one part of each ledger.
+    pub fn new(
+        rt: R,
+        lock: &HubLock<C, H, M, S>,
+        feed: Feed<C, H, M>,
+        role: Role,
+    ) -> Result<Self, NoMemory>
+        requires { feed.parts ≡ each 1 }
+        ensures { IfOk result (λ shared. shared ≡ record { feed = feed; role = role }) }
+    {
+        Ok(Shared {
+            rt,
+            lock: lock.again()?,
+            feed,
+            role,
+            seen: 0,
+        })
+    }
+
+    /// The line of a session is over.
+    pub fn line_over(&mut self, session: u64)
+        ensures { self.new ≡ self.old }
+    {
+        self.lock.line_over(&self.rt, session);
+    }
+
+    /// One session has ended.
+    pub fn session_over(&mut self)
+        ensures { self.new ≡ self.old }
+    {
+        self.lock.session_over(&self.rt);
+    }
+
+    /// Its feed, of one part of each ledger.
+    pub fn into_feed(self) -> Feed<C, H, M>
+        ensures feed { result ≡ self.feed }
+        ensures one { result.parts ≡ each 1 }
+    {
+        let Shared {
+            rt: _,
+            lock: _,
+            feed,
+            role: _,
+            seen: _,
+        } = self;
+        feed
+    }
+}
+
+impl<R: Wait + Copy, C: Ledger, H: Ledger, M: Ledger, S: Ledger> Gate for Shared<R, C, H, M, S> {
+    ghost state = { λ _. None };
+
+    fn take(&mut self, session: u64, piece: &[u8]) -> usize
+        ensures call { DoesTurn (Took session piece.now result) None None }
+        ensures bound { result ≤ length piece.now }
+        ensures feed { self.new ≡ self.old }
+    {
+        let mut locked = self.lock.held.locked.lock(&self.rt);
+        let before = locked.moves();
+        let count = locked.take(session, piece);
+        self.seen = locked.moves();
+        if self.seen != before {
+            self.lock.held.changed.notify_all();
+        }
+        count
+    }
+
+    fn give(&mut self, session: u64, buf: &mut [u8]) -> Result<Given, HubFault>
+        ensures call { DoesTurn (Gave session buf.old buf.new result) None None }
+        ensures bound { IfOk result (λ given. octets_of given ≤ length buf.old) }
+        ensures never { IsErrOf result HubFault.Full → ⊥ }
+        ensures feed { (self.new ≡ self.old) ⊎ (self.new ≡ with_feed self.old (one_change_more self.old.feed)) }
+        ensures err { OnErr result (self.new ≡ self.old) }
+    {
+        let mut locked = self.lock.held.locked.lock(&self.rt);
+        let before = locked.moves();
+        let answer = locked.give(session, buf, &mut self.feed);
+        self.seen = locked.moves();
+        if self.seen != before {
+            self.lock.held.changed.notify_all();
+        }
+        answer
+    }
+
+    fn hear(&mut self, link: usize, datagram: &[u8]) -> Result<Heard, HubFault>
+        ensures call { DoesTurn (Received link datagram.now result) None None }
+        ensures unread { IfOk result (λ heard. SaysWhy heard (hearing_of datagram.now)) }
+        ensures feed { RisesAsHeard result self.old.feed self.new.feed }
+        ensures role { self.new.role ≡ self.old.role }
+    {
+        let mut locked = self.lock.held.locked.lock(&self.rt);
+        let before = locked.moves();
+        let answer = locked.hear(link, datagram, &mut self.feed);
+        self.seen = locked.moves();
+        if self.seen != before {
+            self.lock.held.changed.notify_all();
+        }
+        answer
+    }
+
+    fn moment(&mut self, at: u64) -> Result<(), HubFault>
+        requires { at ≤ max_moment }
+        ensures call { DoesTurn (Passed at (fault_of result)) None None }
+        ensures feed { (self.new ≡ self.old) ⊎ (self.new ≡ with_feed self.old (one_moment_more self.old.feed)) }
+        ensures err { OnErr result (self.new ≡ self.old) }
+    {
+        let mut locked = self.lock.held.locked.lock(&self.rt);
+        let before = locked.moves();
+        let answer = locked.moment(at, &mut self.feed);
+        self.seen = locked.moves();
+        if self.seen != before {
+            self.lock.held.changed.notify_all();
+        }
+        answer
+    }
+
+    fn end(&mut self, session: u64)
+        ensures call { DoesApart (Left session) None None }
+        ensures feed { self.new ≡ self.old }
+    {
+        self.lock.held.locked.lock(&self.rt).end(session);
+        self.lock.held.changed.notify_all();
+    }
+
+    fn pause(&mut self)
+        ensures feed { self.new ≡ self.old }
+    {
+        let seen = self.seen;
+        let role = self.role;
+        let locked = self.lock.held.locked.lock(&self.rt);
+        let _locked = self.lock.held.changed.wait_while(
+            &self.rt,
+            locked,
+            |l| l.moves() == seen && !l.is_done(role),
+        );
+    }
+
+    fn done(&mut self) -> bool
+        ensures feed { self.new ≡ self.old }
+    {
+        self.lock.held.locked.lock(&self.rt).is_done(self.role)
+    }
+}

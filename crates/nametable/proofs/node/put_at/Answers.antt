@@ -1,0 +1,32 @@
+use Rattle.std.proofs.Common.{get_or, set}
+use Rattle.nametable.proofs.NodePlaces.{found_at}
+use Rattle.nametable.proofs.NodeChanges.{TakesKey, takes_key}
+use Rattle.nametable.proofs.node.put_at.Goals as goal
+
+takes : (g : _) (c : goal.After-put g) → TakesKey c.args.key c.args.value c.args.nodes.now (set c.args.nodes.now c.args.index c.put.new.self) c.put.result
+takes g c =
+    let nodes = c.args.nodes.now in
+    takes_key c.args.key c.args.value nodes c.args.index (get_or nodes c.args.index c.index-nodes-index.result) c.put.new.self c.requires.nodes
+    (found_at c.args.key.owner nodes c.args.index c.index-nodes-index.result c.requires.nodes c.requires.place)
+    c.put.ensures.name c.put.result c.put.ensures.rows c.put.ensures.none c.put.ensures.value c.put.ensures.succeeds c.put.ensures.room
+
+pub returns-clause-nodes : goal.returns-clause-nodes
+returns-clause-nodes g c = (takes g c).are
+
+pub returns-clause-value : goal.returns-clause-value
+returns-clause-value g c = (takes g c).value_before
+
+pub returns-clause-rows : goal.returns-clause-rows
+returns-clause-rows g c = (takes g c).rows
+
+pub returns-clause-none : goal.returns-clause-none
+returns-clause-none g c = (takes g c).none
+
+pub returns-clause-succeeds : goal.returns-clause-succeeds
+returns-clause-succeeds g c = (takes g c).succeeds
+
+pub returns-clause-here : goal.returns-clause-here
+returns-clause-here g c = (takes g c).here
+
+pub returns-clause-others : goal.returns-clause-others
+returns-clause-others g c = (takes g c).others

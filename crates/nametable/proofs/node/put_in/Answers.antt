@@ -1,0 +1,34 @@
+use Rattle.std.proofs.Common.{◌≡◌, ◌≤◌, ◌∙◌, ap, sym, subst, is_some, ◌⊎◌}
+use Rattle.std.proofs.lemmas.List.{with_items_is}
+use Rattle.std.specs.Prelude.{IsTrue}
+use Rattle.std.specs.Result.{IfOk, IsOk, OnOk}
+use Rattle.rrset.specs.KeyedRows.{Rows, put_row, row_at}
+use Rattle.nametable.specs.Nodes.{Nodes, IsNameGap, all_rows, room_at}
+use Rattle.nametable.proofs.NodeChanges.{no_room}
+use Rattle.nametable.proofs.node.put_in.Goals as goal
+
+pub returns-in_err-copy-in-Err-clause-succeeds : goal.returns-in_err-copy-in-Err-clause-succeeds
+returns-in_err-copy-in-Err-clause-succeeds g c = λ either.
+    absurd (no_room c.args.key c.args.nodes.now.items c.in-Err.index c.requires.nodes (subst (λ (ns : Nodes _). IsNameGap c.args.key.owner ns c.in-Err.index) c.deref.ensures.value c.in-Err.ensures.absent) either)
+
+pub returns-in_err-add_name-in-Err-clause-succeeds : goal.returns-in_err-add_name-in-Err-clause-succeeds
+returns-in_err-add_name-in-Err-clause-succeeds g c = λ either.
+    absurd (no_room c.args.key c.args.nodes.now.items c.in-Err.index c.requires.nodes (subst (λ (ns : Nodes _). IsNameGap c.args.key.owner ns c.in-Err.index) c.deref.ensures.value c.in-Err.ensures.absent) either)
+
+pub returns-in-Ok-clause-succeeds : goal.returns-in-Ok-clause-succeeds
+returns-in-Ok-clause-succeeds g c =
+    subst (λ (ns : Nodes _). (1 ≤ room_at ns c.args.key.owner) ⊎ IsTrue (is_some (row_at c.args.key (all_rows ns))) → IsOk c.put_at.result) c.deref_mut.ensures.value c.put_at.ensures.succeeds
+
+pub returns-in_ok-add_name-in-Err-clause-value : goal.returns-in_ok-add_name-in-Err-clause-value
+returns-in_ok-add_name-in-Err-clause-value g c =
+    subst (λ (l : Rows _). IfOk c.put_at-in-Err.result (λ before. before ≡ row_at c.args.key l)) (ap all_rows c.deref_mut-in-Err.ensures.value ∙ c.in_ok-add_name-in-Err.ensures.rows) c.put_at-in-Err.ensures.value
+
+pub returns-in_ok-add_name-in-Err-clause-succeeds : goal.returns-in_ok-add_name-in-Err-clause-succeeds
+returns-in_ok-add_name-in-Err-clause-succeeds g c = λ either.
+    absurd (no_room c.args.key c.args.nodes.now.items c.in-Err.index c.requires.nodes (subst (λ (ns : Nodes _). IsNameGap c.args.key.owner ns c.in-Err.index) c.deref.ensures.value c.in-Err.ensures.absent) either)
+
+pub returns-in-Ok-clause-rows : goal.returns-in-Ok-clause-rows
+returns-in-Ok-clause-rows g c =
+    let later = with_items_is c.args.nodes.now c.put_at.new.nodes (c.put_at.auto.nodes ∙ c.deref_mut.ensures.len) in
+    subst (λ (l : Nodes _). OnOk c.put_at.result (all_rows l ≡ put_row c.args.key c.args.value (all_rows c.args.nodes.now.items))) (sym later)
+    (subst (λ (l : Nodes _). OnOk c.put_at.result (all_rows c.put_at.new.nodes ≡ put_row c.args.key c.args.value (all_rows l))) c.deref_mut.ensures.value c.put_at.ensures.rows)

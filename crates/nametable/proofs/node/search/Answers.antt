@@ -1,0 +1,14 @@
+use Rattle.std.proofs.Common.{rules, of_calls}
+use Rattle.nametable.specs.Nodes.{name_cmp}
+use Rattle.nametable.proofs.NodePlaces.{position-from_clause, name_found, name_absent}
+use Rattle.nametable.proofs.node.search.Goals as goal
+
+pub returns-clause-found : goal.returns-clause-found
+returns-clause-found g c =
+    let answer = position-from_clause (λ g. name_cmp g.0 c.args.name.now) c.args.nodes.now c.binary_search_by.result c.binary_search_by.ensures.position (λ a b f k. search (rules, of_calls)) in
+    name_found c.args.name.now c.args.nodes.now c.binary_search_by.result c.binary_search_by.ensures.bound answer
+
+pub returns-clause-absent : goal.returns-clause-absent
+returns-clause-absent g c =
+    let answer = position-from_clause (λ g. name_cmp g.0 c.args.name.now) c.args.nodes.now c.binary_search_by.result c.binary_search_by.ensures.position (λ a b f k. search (rules, of_calls)) in
+    name_absent c.args.name.now c.args.nodes.now c.binary_search_by.result c.requires c.binary_search_by.ensures.bound answer

@@ -1,0 +1,193 @@
+//! Rows in tables by name.
+
+ghost use Rattle.std.specs.Prelude.{◌≡◌, ◌≤◌, ◌<◌, ◌+◌, ◌-◌, ◌%◌, ◌^◌, ◌⊎◌, [], false, cond, length, IfOk, IsOk, OnOk, OnErr, IsTrue, is_some, Some, None, MatchOption};
+ghost use Rattle.std.specs.Ordering.{is_eq};
+ghost use Rattle.std.specs.List.{AllByRecursion};
+ghost use Rattle.dnsname.specs.Names.{Labels};
+ghost use Rattle.rrset.specs.Records.{same_key};
+ghost use Rattle.rrset.specs.KeyedRows.{row_at, put_row, without_rows, rows_of};
+ghost use Rattle.rrset.specs.Tables.{HasLowerOwner};
+ghost use Rattle.nametable.specs.Nodes.{AreNodes, HasRoomFor, HaveRisingKeys, all_rows, keys_of, keys_put, name_cmp, room_at};
+
+use crate::node::{Node, drop_empty, put_in, remove_in, table_for, table_of};
+use crate::reserving::{copied_nodes, reserve_all, reserve_rows};
+use dnsname::Name;
+use rrset::{Changed, Copied, Key, NoMemory, Shown, Table};
+use std::alloc::Global;
+use std::marker::Model;
+
+/// Of so many names one may be without rows, before these are given back.
+const NAMES_PER_EMPTY: usize = 8;
+
+/// Rows, each a key and its value, in tables by name: a finite map in key order, in which a change moves nothing of
+/// other names but pointers. A name that lost its rows keeps its room until `give_back`, which counts how many names may
+/// have none.
+#[derive(Debug, Drop)]
+pub struct NameTable<V = Shown> {
+    nodes: Vec<Node<V>>,
+    count: usize,
+    perhaps_empty: usize,
+}
+
+impl<V> Model for NameTable<V> {
+    ghost use Rattle.std.specs.Prelude.{◌≡◌, ◌%◌, ◌^◌, length};
+    ghost use Rattle.nametable.specs.Nodes.{NodesState, AreNodes, all_rows};
+
+    ghost Value = { NodesState V };
+
+    ghost view = { λ t. record { rows = all_rows t.nodes.items; nodes = t.nodes.items } };
+
+    ghost invariant = { λ t. AreNodes t.nodes.items × (t.count ≡ length (all_rows t.nodes.items) % 2 ^ 64) };
+}
+
+/// A count of rows after a put that gave back this, modulo 2^64.
+fn count_with<V>(count: usize, before: &Option<V>) -> usize
+    ensures { result ≡ cond (is_some before.now) count ((count + 1) % 2 ^ 64) }
+{
+    match before {
+        Some(_) => count,
+        None => count.wrapping_add(1),
+    }
+}
+
+/// A count of rows after this was taken out, modulo 2^64.
+fn count_without<V>(count: usize, removed: &Option<V>) -> usize
+    ensures { result ≡ cond (is_some removed.now) ((count + (2 ^ 64 - 1)) % 2 ^ 64) count }
+{
+    match removed {
+        Some(_) => count.wrapping_sub(1),
+        None => count,
+    }
+}
+
+impl<V: Drop> NameTable<V> {
+    /// No rows.
+    pub fn new(alloc: Global) -> Self
+        ensures { result.rows ≡ [] }
+    {
+        NameTable {
+            nodes: Vec::new(alloc),
+            count: 0,
+            perhaps_empty: 0,
+        }
+    }
+
+    /// The value of a key.
+    pub fn get(&self, key: &Key) -> Option<&V>
+        ensures { MatchOption result (row_at key.now self.now.rows ≡ None) (λ value. row_at key.now self.now.rows ≡ Some value.now) }
+    {
+        match table_for(&self.nodes, key) {
+            Some(table) => table.get(key),
+            None => None,
+        }
+    }
+
+    /// The rows of an owner, in key order.
+    pub fn at(&self, name: &Name) -> &[(Key, V)]
+        ensures { result.now ≡ rows_of name.now self.now.rows }
+    {
+        match table_of(&self.nodes, name) {
+            Some(table) => table.entries(),
+            None => &[],
+        }
+    }
+
+    /// How many rows there are, where they are fewer than 2^64.
+    pub fn len(&self) -> usize
+        ensures { length self.now.rows < 2 ^ 64 → result ≡ length self.now.rows }
+    {
+        self.count
+    }
+
+    /// The nodes, in the order of names.
+    pub fn nodes(&self) -> &[Node<V>]
+        ensures rows { all_rows result.now ≡ self.now.rows }
+        ensures nodes { AreNodes result.now }
+    {
+        &self.nodes
+    }
+
+    /// Takes a key out, and gives its value. It takes no memory.
+    pub fn remove(&mut self, key: &Key) -> Option<V>
+        ensures value { result ≡ row_at key.now self.old.rows }
+        ensures rows { self.new.rows ≡ without_rows (same_key key.now) self.old.rows }
+        ensures room { (name : Labels) → room_at self.old.nodes name ≤ room_at self.new.nodes name }
+    {
+        let removed = remove_in(&mut self.nodes, key);
+        let count = count_without(self.count, &removed);
+        self.count = count;
+        self.perhaps_empty = self.perhaps_empty.saturating_add(1);
+        removed
+    }
+
+    /// Makes room for the keys that changes put, in time linear in the changes but for searches.
+    pub fn reserve_for(&mut self, changed: &[Changed]) -> Result<(), NoMemory>
+        requires lower { AllByRecursion (λ c. HasLowerOwner c.key) changed.now }
+        requires order { HaveRisingKeys changed.now }
+        ensures rows { self.new.rows ≡ self.old.rows }
+        ensures room { OnOk result (HasRoomFor (keys_put changed.now) self.new.nodes) }
+        ensures kept { (name : Labels) → room_at self.old.nodes name ≤ room_at self.new.nodes name }
+    {
+        let names = self.nodes.len();
+        let made = reserve_all(&mut self.nodes, changed);
+        let more = self.nodes.len().saturating_sub(names);
+        self.perhaps_empty = self.perhaps_empty.saturating_add(more);
+        made
+    }
+
+    /// Makes room for the keys of a table, in time linear in its rows but for searches.
+    pub fn reserve_for_rows(&mut self, rows: &Table<V>) -> Result<(), NoMemory>
+        ensures rows { self.new.rows ≡ self.old.rows }
+        ensures room { OnOk result (HasRoomFor (keys_of rows.now.rows) self.new.nodes) }
+        ensures kept { (name : Labels) → room_at self.old.nodes name ≤ room_at self.new.nodes name }
+    {
+        let names = self.nodes.len();
+        let made = reserve_rows(&mut self.nodes, rows);
+        let more = self.nodes.len().saturating_sub(names);
+        self.perhaps_empty = self.perhaps_empty.saturating_add(more);
+        made
+    }
+
+    /// Gives a key this value, and gives back the one that it had. It takes no memory where the key is there, or there
+    /// is room for one more of its name.
+    pub fn put(&mut self, key: Key, value: V) -> Result<Option<V>, NoMemory>
+        requires { HasLowerOwner key }
+        ensures value { IfOk result (λ before. before ≡ row_at key self.old.rows) }
+        ensures rows { OnOk result (self.new.rows ≡ put_row key value self.old.rows) }
+        ensures none { OnErr result (self.new.rows ≡ self.old.rows) }
+        ensures succeeds { (1 ≤ room_at self.old.nodes key.owner) ⊎ IsTrue (is_some (row_at key self.old.rows)) → IsOk result }
+        ensures here { room_at self.old.nodes key.owner ≤ room_at self.new.nodes key.owner + 1 }
+        ensures others { (name : Labels) → is_eq (name_cmp name key.owner) ≡ false → room_at self.old.nodes name ≤ room_at self.new.nodes name }
+    {
+        let before = put_in(&mut self.nodes, key, value)?;
+        let count = count_with(self.count, &before);
+        self.count = count;
+        Ok(before)
+    }
+
+    /// Gives back the names without rows, and the room in them, where these may be more than one of eight. To be called
+    /// where no plan is pending, since room that was made may be lost. It takes no memory.
+    pub fn give_back(&mut self)
+        ensures { self.new.rows ≡ self.old.rows }
+    {
+        if self.perhaps_empty <= self.nodes.len() / NAMES_PER_EMPTY {
+            return;
+        }
+        drop_empty(&mut self.nodes);
+        self.perhaps_empty = 0;
+    }
+}
+
+impl<V: Copied + Drop> NameTable<V> {
+    /// The same rows.
+    pub fn copy(&self) -> Result<NameTable<V>, NoMemory>
+        ensures { IfOk result (λ table. table.rows ≡ self.now.rows) }
+    {
+        let nodes = copied_nodes(&self.nodes)?;
+        Ok(NameTable {
+            nodes,
+            count: self.count,
+            perhaps_empty: self.perhaps_empty,
+        })
+    }
+}

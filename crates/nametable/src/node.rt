@@ -1,0 +1,294 @@
+//! A name with its rows (RFC 1034, 3.1), and lists of them in the order of names.
+
+ghost use Rattle.std.specs.Prelude.{◌≡◌, ◌≤◌, ◌+◌, ◌⊎◌, [], false, IfOk, IfErr, IsOk, OnOk, OnErr, IsTrue, is_some, Some, None, MatchOption};
+ghost use Rattle.std.specs.Ordering.{is_eq};
+ghost use Rattle.std.specs.List.{filter};
+ghost use Rattle.dnsname.specs.Names.{Labels, lower};
+ghost use Rattle.rrset.specs.Records.{same_key};
+ghost use Rattle.rrset.specs.KeyedRows.{put_row, without_rows, row_at};
+ghost use Rattle.rrset.specs.Tables.{HasLowerOwner};
+ghost use Rattle.nametable.specs.Nodes.{AreNodes, IsNameAt, IsNameGap, all_rows, has_rows, name_cmp, room_at, table_at};
+
+use crate::order::{compare_names, compare_with_lower_name};
+use dnsname::Name;
+use rrset::{Copied, Key, NoMemory, Table};
+use std::alloc::Global;
+use std::marker::Model;
+
+/// A name in lower case, and its rows.
+#[derive(Debug, Drop)]
+struct Named<V> {
+    owner: Name,
+    table: Table<V>,
+}
+
+/// A name in lower case and its rows, behind one pointer, so that few octets move where a name is put between others.
+#[derive(Debug, Drop)]
+pub struct Node<V> {
+    named: Box<Named<V>>,
+}
+
+impl<V> Model for Node<V> {
+    ghost use Rattle.nametable.specs.Nodes.{Node};
+
+    ghost Value = { Node V };
+
+    ghost view = { λ n. (n.named.value.owner, n.named.value.table) };
+}
+
+impl<V: Drop> Node<V> {
+    /// A name without rows, with room for so many keys.
+    fn new(alloc: Global, owner: Name, keys: usize) -> Result<Node<V>, NoMemory>
+        ensures name { IfOk result (λ node. node.0 ≡ owner) }
+        ensures rows { IfOk result (λ node. node.1.rows ≡ []) }
+        ensures room { IfOk result (λ node. keys ≤ node.1.spare) }
+    {
+        let mut table = Table::new(alloc);
+        table.reserve(keys)?;
+        let named = Box::new(alloc, Named { owner, table })?;
+        Ok(Node { named })
+    }
+
+    /// The name.
+    fn owner(&self) -> &Name
+        ensures { result.now ≡ self.now.0 }
+    {
+        &self.named.owner
+    }
+
+    /// Its rows.
+    pub fn table(&self) -> &Table<V>
+        ensures { result.now ≡ self.now.1 }
+    {
+        &self.named.table
+    }
+
+    /// Whether it has rows.
+    fn has_rows(&self) -> bool
+        ensures { result ≡ has_rows self.now }
+    {
+        self.table().len() > 0
+    }
+
+    /// Gives a key this value.
+    fn put(&mut self, key: Key, value: V) -> Result<Option<V>, NoMemory>
+        requires { HasLowerOwner key }
+        ensures name { self.new.0 ≡ self.old.0 }
+        ensures value { IfOk result (λ before. before ≡ row_at key self.old.1.rows) }
+        ensures rows { OnOk result (self.new.1.rows ≡ put_row key value self.old.1.rows) }
+        ensures none { OnErr result (self.new.1.rows ≡ self.old.1.rows) }
+        ensures succeeds { (1 ≤ self.old.1.spare) ⊎ IsTrue (is_some (row_at key self.old.1.rows)) → IsOk result }
+        ensures room { self.old.1.spare ≤ self.new.1.spare + 1 }
+    {
+        self.named.table.put(key, value)
+    }
+
+    /// Takes a key out.
+    fn remove(&mut self, key: &Key) -> Option<V>
+        ensures name { self.new.0 ≡ self.old.0 }
+        ensures value { result ≡ row_at key.now self.old.1.rows }
+        ensures rows { self.new.1.rows ≡ without_rows (same_key key.now) self.old.1.rows }
+        ensures room { self.old.1.spare ≤ self.new.1.spare }
+    {
+        self.named.table.remove(key)
+    }
+
+    /// Makes room for so many further keys.
+    fn reserve(&mut self, keys: usize) -> Result<(), NoMemory>
+        ensures name { self.new.0 ≡ self.old.0 }
+        ensures rows { self.new.1.rows ≡ self.old.1.rows }
+        ensures room { OnOk result (keys ≤ self.new.1.spare) }
+        ensures kept { self.old.1.spare ≤ self.new.1.spare }
+    {
+        self.named.table.reserve(keys)
+    }
+}
+
+impl<V: Copied + Drop> Node<V> {
+    /// The same name with the same rows.
+    pub(crate) fn copy(&self, alloc: Global) -> Result<Node<V>, NoMemory>
+        ensures name { IfOk result (λ node. node.0 ≡ self.now.0) }
+        ensures rows { IfOk result (λ node. node.1.rows ≡ self.now.1.rows) }
+    {
+        let owner = self.owner().copy()?;
+        let table = self.table().copy()?;
+        let named = Box::new(alloc, Named { owner, table })?;
+        Ok(Node { named })
+    }
+}
+
+/// Where a name is among nodes, or where it would go.
+fn search<V: Drop>(nodes: &[Node<V>], name: &Name) -> Result<usize, usize>
+    requires { AreNodes nodes.now }
+    ensures found { IfOk result (IsNameAt name.now nodes.now) }
+    ensures absent { IfErr result (IsNameGap name.now nodes.now) }
+{
+    nodes.binary_search_by(|node| compare_names(node.owner(), name))
+}
+
+/// Where a name in lower case is among nodes, or where it would go.
+fn search_lower<V: Drop>(nodes: &[Node<V>], name: &Name) -> Result<usize, usize>
+    requires { AreNodes nodes.now }
+    ensures found { IfOk result (IsNameAt (lower name.now) nodes.now) }
+    ensures absent { IfErr result (IsNameGap (lower name.now) nodes.now) }
+{
+    nodes.binary_search_by(|node| compare_with_lower_name(node.owner(), name))
+}
+
+/// The table of a key's owner.
+pub(crate) fn table_for<'a, V: Drop>(nodes: &'a [Node<V>], key: &Key) -> Option<&'a Table<V>>
+    requires { AreNodes nodes.now }
+    ensures { MatchOption result (table_at key.now.owner nodes.now ≡ None) (λ table. table_at key.now.owner nodes.now ≡ Some table.now) }
+{
+    match search(nodes, &key.owner) {
+        Ok(index) => Some(nodes[index].table()),
+        Err(_) => None,
+    }
+}
+
+/// The table of a name.
+pub(crate) fn table_of<'a, V: Drop>(nodes: &'a [Node<V>], name: &Name) -> Option<&'a Table<V>>
+    requires { AreNodes nodes.now }
+    ensures { MatchOption result (table_at (lower name.now) nodes.now ≡ None) (λ table. table_at (lower name.now) nodes.now ≡ Some table.now) }
+{
+    match search_lower(nodes, name) {
+        Ok(place) => Some(nodes[place].table()),
+        Err(_) => None,
+    }
+}
+
+/// Gives a key whose name has a node this value.
+fn put_at<V: Drop>(
+    nodes: &mut [Node<V>],
+    index: usize,
+    key: Key,
+    value: V,
+) -> Result<Option<V>, NoMemory>
+    requires nodes { AreNodes nodes.old }
+    requires lower { HasLowerOwner key }
+    requires place { IsNameAt key.owner nodes.old index }
+    ensures nodes { AreNodes nodes.new }
+    ensures value { IfOk result (λ before. before ≡ row_at key (all_rows nodes.old)) }
+    ensures rows { OnOk result (all_rows nodes.new ≡ put_row key value (all_rows nodes.old)) }
+    ensures none { OnErr result (all_rows nodes.new ≡ all_rows nodes.old) }
+    ensures succeeds { (1 ≤ room_at nodes.old key.owner) ⊎ IsTrue (is_some (row_at key (all_rows nodes.old))) → IsOk result }
+    ensures here { room_at nodes.old key.owner ≤ room_at nodes.new key.owner + 1 }
+    ensures others { (name : Labels) → is_eq (name_cmp name key.owner) ≡ false → room_at nodes.old name ≤ room_at nodes.new name }
+{
+    nodes[index].put(key, value)
+}
+
+/// Gives a name that has no node one without rows, with room for so many keys.
+fn add_name<V: Drop>(
+    nodes: &mut Vec<Node<V>>,
+    index: usize,
+    owner: Name,
+    keys: usize,
+) -> Result<(), NoMemory>
+    requires nodes { AreNodes nodes.old.items }
+    requires lower { lower owner ≡ owner }
+    requires place { IsNameGap owner nodes.old.items index }
+    ensures nodes { AreNodes nodes.new.items }
+    ensures place { OnOk result (IsNameAt owner nodes.new.items index) }
+    ensures rows { all_rows nodes.new.items ≡ all_rows nodes.old.items }
+    ensures room { OnOk result (keys ≤ room_at nodes.new.items owner) }
+    ensures kept { (name : Labels) → room_at nodes.old.items name ≤ room_at nodes.new.items name }
+{
+    let node = Node::new(*nodes.allocator(), owner, keys)?;
+    nodes.insert(index, node)?;
+    Ok(())
+}
+
+/// Makes room for so many further keys of a name that has a node.
+fn reserve_at<V: Drop>(
+    nodes: &mut [Node<V>],
+    index: usize,
+    owner: &Name,
+    keys: usize,
+) -> Result<(), NoMemory>
+    requires nodes { AreNodes nodes.old }
+    requires place { IsNameAt owner.now nodes.old index }
+    ensures nodes { AreNodes nodes.new }
+    ensures rows { all_rows nodes.new ≡ all_rows nodes.old }
+    ensures room { OnOk result (keys ≤ room_at nodes.new owner.now) }
+    ensures kept { (name : Labels) → room_at nodes.old name ≤ room_at nodes.new name }
+{
+    nodes[index].reserve(keys)
+}
+
+/// Takes out a key whose name has a node.
+fn remove_at<V: Drop>(nodes: &mut [Node<V>], index: usize, key: &Key) -> Option<V>
+    requires nodes { AreNodes nodes.old }
+    requires place { IsNameAt key.now.owner nodes.old index }
+    ensures nodes { AreNodes nodes.new }
+    ensures value { result ≡ row_at key.now (all_rows nodes.old) }
+    ensures rows { all_rows nodes.new ≡ without_rows (same_key key.now) (all_rows nodes.old) }
+    ensures room { (name : Labels) → room_at nodes.old name ≤ room_at nodes.new name }
+{
+    nodes[index].remove(key)
+}
+
+/// Takes a key out.
+pub(crate) fn remove_in<V: Drop>(nodes: &mut Vec<Node<V>>, key: &Key) -> Option<V>
+    requires { AreNodes nodes.old.items }
+    ensures nodes { AreNodes nodes.new.items }
+    ensures value { result ≡ row_at key.now (all_rows nodes.old.items) }
+    ensures rows { all_rows nodes.new.items ≡ without_rows (same_key key.now) (all_rows nodes.old.items) }
+    ensures room { (name : Labels) → room_at nodes.old.items name ≤ room_at nodes.new.items name }
+{
+    match search(nodes, &key.owner) {
+        Ok(index) => remove_at(nodes, index, key),
+        Err(_) => None,
+    }
+}
+
+/// Makes room for so many further keys of a name.
+pub(crate) fn reserve_in<V: Drop>(
+    nodes: &mut Vec<Node<V>>,
+    owner: &Name,
+    keys: usize,
+) -> Result<(), NoMemory>
+    requires nodes { AreNodes nodes.old.items }
+    requires lower { lower owner.now ≡ owner.now }
+    ensures nodes { AreNodes nodes.new.items }
+    ensures rows { all_rows nodes.new.items ≡ all_rows nodes.old.items }
+    ensures room { OnOk result (keys ≤ room_at nodes.new.items owner.now) }
+    ensures kept { (name : Labels) → room_at nodes.old.items name ≤ room_at nodes.new.items name }
+{
+    match search(nodes, owner) {
+        Ok(index) => reserve_at(nodes, index, owner, keys),
+        Err(index) => add_name(nodes, index, owner.copy()?, keys),
+    }
+}
+
+/// Gives a key this value.
+pub(crate) fn put_in<V: Drop>(
+    nodes: &mut Vec<Node<V>>,
+    key: Key,
+    value: V,
+) -> Result<Option<V>, NoMemory>
+    requires nodes { AreNodes nodes.old.items }
+    requires lower { HasLowerOwner key }
+    ensures nodes { AreNodes nodes.new.items }
+    ensures value { IfOk result (λ before. before ≡ row_at key (all_rows nodes.old.items)) }
+    ensures rows { OnOk result (all_rows nodes.new.items ≡ put_row key value (all_rows nodes.old.items)) }
+    ensures none { OnErr result (all_rows nodes.new.items ≡ all_rows nodes.old.items) }
+    ensures succeeds { (1 ≤ room_at nodes.old.items key.owner) ⊎ IsTrue (is_some (row_at key (all_rows nodes.old.items))) → IsOk result }
+    ensures here { room_at nodes.old.items key.owner ≤ room_at nodes.new.items key.owner + 1 }
+    ensures others { (name : Labels) → is_eq (name_cmp name key.owner) ≡ false → room_at nodes.old.items name ≤ room_at nodes.new.items name }
+{
+    match search(nodes, &key.owner) {
+        Ok(index) => put_at(nodes, index, key, value),
+        Err(index) => {
+            add_name(nodes, index, key.owner.copy()?, 1)?;
+            put_at(nodes, index, key, value)
+        }
+    }
+}
+
+/// Gives back the nodes without rows, and the room in them.
+pub(crate) fn drop_empty<V: Drop>(nodes: &mut Vec<Node<V>>)
+    ensures { nodes.new.items ≡ filter has_rows nodes.old.items }
+{
+    nodes.retain(|node| node.has_rows());
+}

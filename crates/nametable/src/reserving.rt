@@ -1,0 +1,107 @@
+//! Room for the keys of a plan, and copies.
+
+ghost use Rattle.std.specs.Prelude.{◌≡◌, ◌≤◌, ◌<◌, true, IfOk, IsTrue, OnOk, is_some, length};
+ghost use Rattle.std.specs.List.{AllByRecursion, filter};
+ghost use Rattle.std.specs.Ordering.{is_eq};
+ghost use Rattle.dnsname.specs.Names.{Labels, lower};
+ghost use Rattle.rrset.specs.Tables.{HasLowerOwner, HaveLowerOwners};
+ghost use Rattle.nametable.specs.Nodes.{AreAlike, AreNodes, HasRoomFor, HaveRisingKeys, all_rows, count_at, keys_of, keys_put, name_cmp, room_at};
+
+use crate::node::{Node, reserve_in};
+use crate::order::compare_names;
+use dnsname::Name;
+use rrset::{Changed, Copied, NoMemory, Table};
+
+/// The changes at keys of an owner, which stand together.
+fn changes_of<'a>(changed: &'a [Changed], owner: &Name) -> &'a [Changed]
+    requires { HaveRisingKeys changed.now }
+    ensures { result.now ≡ filter (λ c. is_eq (name_cmp owner.now c.key.owner)) changed.now }
+{
+    let begin = changed.partition_point(|change| compare_names(&change.key.owner, owner).is_lt());
+    let (_, rest) = changed.split_at(begin);
+    let count = rest.partition_point(|change| compare_names(&change.key.owner, owner).is_le());
+    let (found, _) = rest.split_at(count);
+    found
+}
+
+/// How many of some changes put something.
+fn puts_among(changed: &[Changed]) -> usize
+    ensures { result ≡ length (filter (λ c. is_some c.after) changed.now) }
+{
+    let mut count = 0;
+    'changes: for change in changed {
+        if change.after.is_some() {
+            count += 1;
+        }
+    }
+    count
+}
+
+/// How many keys of an owner are put.
+fn keys_of(changed: &[Changed], owner: &Name) -> usize
+    requires { HaveRisingKeys changed.now }
+    ensures { result ≡ count_at owner.now (keys_put changed.now) }
+{
+    puts_among(changes_of(changed, owner))
+}
+
+/// Makes room for the keys that changes put.
+pub(crate) fn reserve_all<V: Drop>(
+    nodes: &mut Vec<Node<V>>,
+    changed: &[Changed],
+) -> Result<(), NoMemory>
+    requires nodes { AreNodes nodes.old.items }
+    requires lower { AllByRecursion (λ c. HasLowerOwner c.key) changed.now }
+    requires order { HaveRisingKeys changed.now }
+    ensures nodes { AreNodes nodes.new.items }
+    ensures rows { all_rows nodes.new.items ≡ all_rows nodes.old.items }
+    ensures room { OnOk result (HasRoomFor (keys_put changed.now) nodes.new.items) }
+    ensures kept { (name : Labels) → room_at nodes.old.items name ≤ room_at nodes.new.items name }
+{
+    'changes: for change in changed {
+        let owner = &change.key.owner;
+        let keys = keys_of(changed, owner);
+        reserve_in(nodes, owner, keys)?;
+    }
+    Ok(())
+}
+
+/// How many rows of a table have this owner.
+fn rows_at<V: Drop>(rows: &Table<V>, owner: &Name) -> usize
+    requires rows { HaveLowerOwners rows.now.rows }
+    requires owner { lower owner.now ≡ owner.now }
+    ensures { result ≡ count_at owner.now (keys_of rows.now.rows) }
+{
+    rows.at(owner).len()
+}
+
+/// Makes room for the keys of a table.
+pub(crate) fn reserve_rows<V: Drop>(
+    nodes: &mut Vec<Node<V>>,
+    rows: &Table<V>,
+) -> Result<(), NoMemory>
+    requires nodes { AreNodes nodes.old.items }
+    ensures nodes { AreNodes nodes.new.items }
+    ensures rows { all_rows nodes.new.items ≡ all_rows nodes.old.items }
+    ensures room { OnOk result (HasRoomFor (keys_of rows.now.rows) nodes.new.items) }
+    ensures kept { (name : Labels) → room_at nodes.old.items name ≤ room_at nodes.new.items name }
+{
+    'rows: for (key, _) in rows.entries() {
+        let keys = rows_at(rows, &key.owner);
+        reserve_in(nodes, &key.owner, keys)?;
+    }
+    Ok(())
+}
+
+/// Nodes with the same names and rows, each with room for no more.
+pub(crate) fn copied_nodes<V: Copied + Drop>(nodes: &Vec<Node<V>>) -> Result<Vec<Node<V>>, NoMemory>
+    ensures { IfOk result (λ copies. AreAlike copies.items nodes.now.items) }
+{
+    let alloc = *nodes.allocator();
+    let mut copies = Vec::with_capacity(alloc, nodes.len())?;
+    'nodes: for node in nodes {
+        let copy = node.copy(alloc)?;
+        copies.push(copy)?;
+    }
+    Ok(copies)
+}

@@ -1,0 +1,31 @@
+//! The datagrams of a link.
+
+ghost use Rattle.std.specs.Prelude.{◌<◌, ℕ, List, Option, length};
+ghost use Rattle.push_base.specs.Causes.{HasCause, CountsOne};
+ghost use Rattle.push_base.specs.Datagrams.{FitsWithin, DatagramGives, DatagramTakes};
+
+use crate::{Failed, Got};
+
+/// The datagrams of a link, as they come.
+pub trait Datagrams {
+    /// The datagrams that it has given, where it tells them.
+    ghost given: { Self → Option (List (List ℕ)) };
+
+    /// The datagrams that it has left, where it tells them.
+    ghost left: { Self → Option (List (List ℕ)) };
+
+    /// The number of calls, where it tells that.
+    ghost calls: { Self → Option ℕ };
+
+    /// How often it has failed.
+    ghost faults: { Self → ℕ };
+
+    /// Puts one datagram at the front of the buffer, as much of it as fits. It may have no octets.
+    fn recv(&mut self, buf: &mut [u8]) -> Result<Got, Failed>
+        requires { 0 < length buf.old }
+        ensures bound { FitsWithin result buf.new }
+        ensures given { DatagramGives (given self.old) (given self.new) result buf.new }
+        ensures left { DatagramTakes (left self.old) (left self.new) result buf.new }
+        ensures cause { HasCause (faults self.old) (faults self.new) result }
+        ensures counted { CountsOne (calls self.old) (calls self.new) };
+}

@@ -1,0 +1,77 @@
+-- What a line `feed` prints: the client reacts to each whole message in its input and these octets, one after the other, and all that it has to send then is told (RFC 7766, 8; RFC 8490, 5.4).
+--     Fed      a client's word, the octets, the lines before and behind, and the client where it stands
+--     FeedsLone script fed      these are the lines of the script, and the client is a lone one that is connected
+--     messages_fed fed, reacted_to fed      the whole messages in its input and the octets, and what is left; its reactions to these messages
+--     fed_reply records fed, left_fed fed closing      the status and the text; and how the client is left
+--     FeedsAsMessages      the law
+use Rattle.std.specs.Prelude.{◌≡◌, ℕ, true, List, [], ◌∷◌, ◌++◌, Option, Some, None, Ok}
+use Rattle.dsotlv.specs.Messages.{messages_in}
+use Rattle.dsosession.specs.declared.session.CloseReason.{CloseReason}
+use Rattle.pushclient.specs.Clients.{is_connected, output_of, closed_as}
+use Rattle.pushclient.specs.Pieces.{OnMessages, on_messages, with_input, input_of}
+use Rattle.replay.specs.Lines.{Word, ScriptLine, feed}
+use Rattle.replay.specs.Scripts.{script_of}
+use Rattle.replay.specs.World.{Seat, World, start_world, seat_of, cut_seat}
+use Rattle.replay.specs.PassedOctets.{without_output}
+use Rattle.replay.specs.TextWords.{bytes_line, HeldRecords, by_history}
+use Rattle.replay.specs.Text.{close_lines, ended_lines, line_does, printed_by, world_after}
+use Rattle.replay.specs.declared.outcome.Outcome.TheVariants as outcomes
+use Rattle.replay.specs.Outcomes.{status_of}
+use Rattle.replay.specs.Reply.{Reply}
+use Rattle.replay.specs.ScriptReplies.{reply_to_script}
+
+pub record Fed : Type 0 where
+  pub before : List ScriptLine
+  pub word : Word
+  pub octets : List ℕ
+  pub behind : List ScriptLine
+  pub seat : Seat
+
+abbrev pub lines_of : Fed → List ScriptLine
+lines_of fed = fed.before ++ feed fed.word fed.octets ∷ fed.behind
+
+-- the world before the line, and the one behind it
+abbrev pub world_start : Fed → World
+world_start fed = start_world (lines_of fed)
+
+abbrev pub world_then : Fed → World
+world_then fed = world_after fed.before (world_start fed)
+
+abbrev pub world_behind : Fed → World
+world_behind fed = (line_does by_history (feed fed.word fed.octets) (world_then fed)).0
+
+-- the client stands there, is a lone one, and is connected
+pub record FeedsLone (script : List ℕ) (fed : Fed) : Type 0 where
+  pub read : script_of script ≡ Ok (lines_of fed)
+  pub there : seat_of (world_then fed) fed.word ≡ Some fed.seat
+  pub lone : fed.seat.is_lone ≡ true
+  pub connects : is_connected fed.seat.client ≡ true
+
+-- the whole messages in its input and the octets, and what is left behind them
+abbrev pub messages_fed : Fed → List (List ℕ) × List ℕ
+messages_fed fed = messages_in (input_of fed.seat.client ++ fed.octets)
+
+-- its reactions to these messages, one after the other, until it has closed
+abbrev pub reacted_to : Fed → OnMessages
+reacted_to fed = on_messages (messages_fed fed).0 (with_input [] fed.seat.client)
+
+-- all that it has to send then, and that it has closed
+abbrev pub fed_lines : Fed → List (List ℕ)
+fed_lines fed = bytes_line fed.word (output_of (reacted_to fed).client) ∷ close_lines fed.word (closed_as (reacted_to fed).client)
+
+-- those lines alone stand between what the lines before print and what those behind do
+abbrev pub fed_reply : HeldRecords → Fed → Reply
+fed_reply records fed = record {
+  status = status_of outcomes.Done;
+  text = ended_lines (printed_by records fed.before (world_start fed)) ++ (ended_lines (fed_lines fed) ++ ended_lines (printed_by records fed.behind (world_behind fed)));
+}
+
+-- A client that has closed is cut. Another has nothing more to send, and the octets behind the last whole message wait in its input.
+abbrev pub left_fed : Fed → Option CloseReason → Seat
+left_fed fed None = record fed.seat { client = with_input (messages_fed fed).1 (without_output (reacted_to fed).client) }
+left_fed fed (Some reason) = cut_seat (record fed.seat { client = (reacted_to fed).client })
+
+-- so it is in every script
+abbrev pub FeedsAsMessages : Type 0
+FeedsAsMessages = (script : List ℕ) (fed : Fed) → FeedsLone script fed
+    → ((records : HeldRecords) → reply_to_script records script ≡ fed_reply records fed) × (seat_of (world_behind fed) fed.word ≡ Some (left_fed fed (closed_as (reacted_to fed).client)))

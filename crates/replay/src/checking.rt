@@ -1,0 +1,84 @@
+//! A script is read, and told is how many lines it has, or which one is outside.
+
+ghost use Rattle.std.specs.Prelude.{◌≡◌, ◌⊎◌, ◌+◌, ◌≤◌, IfOk, IfSome, string_bytes};
+ghost use Rattle.push_base.specs.Causes.{Rose};
+ghost use Rattle.replay.specs.Scripts.{max_script};
+ghost use Rattle.replay.specs.Reply.{Answers, Took, reply_of};
+ghost use Rattle.replay.specs.Sources.{Gave, HasRead, LeftBehind, LostAtMost};
+ghost use Rattle.replay.specs.ScriptReplies.{front_read};
+ghost use Rattle.replay.specs.Checks.{checked, good_text};
+ghost use Rattle.replay.specs.Outcomes.{status_of};
+
+use crate::outcome::Outcome;
+use crate::read::{ReadError, read_script};
+use crate::replaying::{NO_MEMORY, READ_FAULT};
+use crate::reply::{Reply, line_text};
+use crate::script::{ReadScript, read_script_lines};
+use crate::write::tell;
+use push_base::{NoMemory, Sink, Source};
+use std::alloc::Global;
+
+/// Reads a script as `replay` does, runs nothing, and writes how many lines it has, or the number of the first line outside.
+pub fn check<S: Source, K: Sink>(alloc: Global, source: &mut S, sink: &mut K) -> Outcome
+    ensures replied { IfSome (S.left source.old) (λ octets. Took (K.taken sink.old) (K.taken sink.new)
+        (Answers (Rose (S.faults source.old) (S.faults source.new)) (checked (front_read octets)) (status_of result))) }
+
+    // Once it was read, only what is behind a script too long is left.
+    ensures rest { HasRead (status_of result) → LeftBehind (S.left source.old) (S.left source.new) }
+    ensures most { LostAtMost (max_script + 1) (S.left source.old) (S.left source.new) }
+
+    // Which faults had a cause.
+    ensures read_fault { result ≡ Outcome.ReadFault → Rose (S.faults source.old) (S.faults source.new) }
+    ensures write_fault { result ≡ Outcome.WriteFault → Rose (K.faults sink.old) (K.faults sink.new) }
+    ensures read_later { S.faults source.old ≤ S.faults source.new }
+    ensures write_later { K.faults sink.old ≤ K.faults sink.new }
+    ensures gave { Gave (S.left source.old) (S.left source.new) (S.given source.old) (S.given source.new) }
+{
+    let script = match read_script(alloc, source) {
+        Ok(script) => script,
+        Err(ReadError::Failed) => return tell(sink, Outcome::ReadFault, READ_FAULT),
+        Err(ReadError::NoMemory) => return tell(sink, Outcome::NoMemory, NO_MEMORY),
+    };
+    match check_reply(alloc, &script) {
+        Ok(
+            Reply {
+                outcome,
+                text,
+                ends: _,
+            },
+        ) => tell(sink, outcome, text.as_bytes()),
+        Err(NoMemory) => tell(sink, Outcome::NoMemory, NO_MEMORY),
+    }
+}
+
+// How many lines the script has, or the number of the first line outside. Nothing is run.
+fn check_reply(alloc: Global, octets: &[u8]) -> Result<Reply, NoMemory>
+    ensures exact { IfOk result (λ reply. reply_of reply ≡ checked octets.now) }
+    ensures outcome { IfOk result (λ reply. (reply.outcome ≡ Outcome.Done) ⊎ (reply.outcome ≡ Outcome.Outside)) }
+{
+    match read_script_lines(alloc, octets)? {
+        ReadScript::Whole(script) => {
+            let text = count_text(alloc, script.lines)?;
+            Ok(Reply {
+                outcome: Outcome::Done,
+                text,
+                ends: None,
+            })
+        }
+        ReadScript::Outside(number) => {
+            let text = line_text(alloc, number)?;
+            Ok(Reply {
+                outcome: Outcome::Outside,
+                text,
+                ends: None,
+            })
+        }
+    }
+}
+
+// What is written of a script with so many lines.
+fn count_text(alloc: Global, lines: usize) -> Result<String, NoMemory>
+    ensures { IfOk result (λ text. string_bytes text ≡ good_text lines) }
+{
+    format!(in alloc; "good {lines}\n")
+}

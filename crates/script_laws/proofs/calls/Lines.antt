@@ -1,0 +1,256 @@
+-- Each line is calls of the hub, and so is each script.
+--     lines-are-calls, scripts-are-calls      the hub behind them
+--     calls-behind      the calls of lines, and of others behind them
+use Rattle.std.proofs.Common.{◌≡◌, ℕ, zero, suc, Bool, true, false, cond, not, ◌&&◌, List, [], ◌∷◌, ◌++◌, fold, Option, Some, None, option_map, refl, sym, ◌∙◌, ap, append_assoc, codes, decimal}
+use Rattle.std.specs.Prelude.{◌==◌, flat_map, is_some, if◌then◌else◌}
+use Rattle.dsosession.specs.declared.session.EndReason.{EndReason}
+use Rattle.pushserver.specs.PlainHubs.{Hub}
+use Rattle.pushserver.specs.Hubs as hubs
+use Rattle.pushserver.specs.Hubs.{now, connect}
+use Rattle.pushserver.specs.Calls.{HubCall, connects, after_calls}
+use Rattle.pushclient.specs.Clients.{Client, closed_as, is_connected, connected}
+use Rattle.pushclient.specs.Steps as steps
+use Rattle.replay.specs.Lines.{Word, ScriptLine, silent, timers, zone, link, client, lone, at_moment, update, hear, ask, drop_question, reconfirm, open_connection, cut, say, up, emit, down, settle, send, feed, stop, point, show}
+use Rattle.replay.specs.World.{World, Seat, seat_of, session_number, hub_without, world_cut_if, with_seat, with_client, is_over, cut_peer, cut_connection, stopped_hub}
+use Rattle.replay.specs.PassedOctets as passing
+use Rattle.replay.specs.PassedOctets.{Passed, passed, Exchanged, enough, max_wire, round, settled, exchanged, fed_client, nothing_emitted}
+use Rattle.replay.specs.TextWords.{by_history}
+use Rattle.replay.specs.Text.{Printed, quietly, printing, finished, asks, subscribing, unsubscribing, reconfirming, timed, exchanges, opens_lone, opens_hub, feeds_connected, session_of_word, line_does, world_after}
+use Rattle.replay.proofs.worlds.SeatLines.{asks_by}
+use Rattle.replay.proofs.worlds.OneWorld.{shows-leave}
+use Rattle.script_laws.specs.LineCalls.{up_calls, out_calls, round_calls, settle_calls, end_calls, cut_calls, passing_calls, of_seat, connect_calls, open_calls, timed_calls, feed_calls, exchange_calls, exchanges_calls, send_calls, stop_calls, line_calls, script_calls, LinesAreCalls, ScriptsAreCalls}
+use Rattle.script_laws.proofs.hubs.Reaching.{calls-append}
+use Rattle.script_laws.proofs.calls.Emitting as emitting
+
+-- ---- octets between a client and its session
+
+outs : (number n : ℕ) (world : World) (seat : Seat) → (passing.emit number n world seat).world.hub ≡ after_calls (out_calls number n world seat) world.hub
+outs number n world seat = (emitting.emits enough number _ (nothing_emitted world.hub seat.filled)).hub_is
+
+rounds : (number : ℕ) (world : World) (seat : Seat) → (round number world seat).world.hub ≡ after_calls (round_calls number world seat) world.hub
+rounds number world seat =
+    let said = passing.say max_wire world seat in
+    let risen = passing.up number max_wire said.world said.seat in
+    outs number max_wire risen.world risen.seat ∙ sym (calls-append (up_calls number max_wire said.world said.seat) (out_calls number max_wire risen.world risen.seat) world.hub)
+
+settles : (turns number : ℕ) (world : World) (seat : Seat) (over : Option EndReason) → (settled turns number world seat over).world.hub ≡ after_calls (settle_calls turns number world seat) world.hub
+settles zero number world seat over = refl
+settles (suc turns) number world seat over = by (settles turns number r.world r.seat so_far) (r.count == 0 && not r.reacted)
+  where
+    r : Passed
+    r = round number world seat
+
+    so_far : Option EndReason
+    so_far = if is_some over then over else r.over
+
+    by : (settled turns number r.world r.seat so_far).world.hub ≡ after_calls (settle_calls turns number r.world r.seat) r.world.hub → (b : Bool)
+        → (elim b as (λ _. Passed) [ true ↦ record r { over = so_far } | false ↦ settled turns number r.world r.seat so_far ]).world.hub
+        ≡ after_calls (elim b as (λ _. List HubCall) [ true ↦ round_calls number world seat | false ↦ round_calls number world seat ++ settle_calls turns number r.world r.seat ]) world.hub
+    by rest true = rounds number world seat
+    by rest false =
+        rest ∙ ap (λ (h : Hub). after_calls (settle_calls turns number r.world r.seat) h) (rounds number world seat)
+        ∙ sym (calls-append (round_calls number world seat) (settle_calls turns number r.world r.seat) world.hub)
+
+-- ---- ends
+
+withouts : (o : Option ℕ) (hub : Hub) → hub_without o hub ≡ after_calls (end_calls o) hub
+withouts None hub = refl
+withouts (Some number) hub = refl
+
+cuts-if : (over : Bool) (seat : Seat) (world : World) → (world_cut_if over seat world).hub ≡ after_calls (cond over (end_calls seat.session) []) world.hub
+cuts-if true seat world = withouts seat.session world.hub
+cuts-if false seat world = refl
+
+-- of a passing, with what follows its end
+module _ (calls : ℕ → World → Seat → List HubCall) (passes : ℕ → World → Seat → Passed) (law : (number : ℕ) (world : World) (seat : Seat) → (passes number world seat).world.hub ≡ after_calls (calls number world seat) world.hub) where
+  session-passes : (world : World) (seat : Seat) (o : Option ℕ) → (elim o as (λ _. Passed) [ None ↦ passed world seat 0 | Some number ↦ passes number world seat ]).world.hub
+      ≡ after_calls (elim o as (λ _. List HubCall) [ None ↦ [] | Some number ↦ calls number world seat ]) world.hub
+  session-passes world seat None = refl
+  session-passes world seat (Some number) = law number world seat
+
+  passes-so : (words : Passed → List (List ℕ)) (w : Word) (world : World)
+      → (elim (seat_of world w) as (λ _. Printed) [ None ↦ quietly world | Some seat ↦ finished (words (passing.by_session passes world seat)) (passing.by_session passes world seat) ]).0.hub
+      ≡ after_calls (of_seat (passing_calls calls passes) w world) world.hub
+  passes-so words w world = by (seat_of world w)
+    where
+      by : (o : Option Seat) → (elim o as (λ _. Printed) [ None ↦ quietly world | Some seat ↦ finished (words (passing.by_session passes world seat)) (passing.by_session passes world seat) ]).0.hub
+          ≡ after_calls (elim o as (λ _. List HubCall) [ None ↦ [] | Some seat ↦ passing_calls calls passes world seat ]) world.hub
+      by None = refl
+      by (Some seat) =
+          let p : Passed = passing.by_session passes world seat in
+          let own : List HubCall = elim seat.session as (λ _. List HubCall) [ None ↦ [] | Some number ↦ calls number world seat ] in
+          cuts-if (is_over p.over (closed_as p.seat.client)) p.seat (with_seat p.seat p.world)
+          ∙ ap (λ (h : Hub). after_calls (cut_calls p) h) (session-passes world seat seat.session)
+          ∙ sym (calls-append own (cut_calls p) world.hub)
+
+-- ---- clients
+
+timed-so : (t : ℕ) (seats : List Seat) (p : Printed) → (fold (timed t) p seats).0.hub ≡ after_calls (flat_map (timed_calls t) seats) p.0.hub
+timed-so t [] p = refl
+timed-so t (seat ∷ seats) p =
+    let later : Seat = with_client (λ c. steps.moment c t) seat in
+    timed-so t seats (timed t p seat)
+    ∙ ap (λ (h : Hub). after_calls (flat_map (timed_calls t) seats) h) (cuts-if (is_over None (closed_as later.client)) later (with_seat later p.0))
+    ∙ sym (calls-append (timed_calls t seat) (flat_map (timed_calls t) seats) p.0.hub)
+
+opens-hub : (world : World) (seat : Seat) → (opens_hub seat world).0.hub ≡ after_calls (connect_calls world.hub) world.hub
+opens-hub world seat = by (connect world.hub).0
+  where
+    by : (o : Option ℕ) → (elim o as (λ _. Printed) [
+      | None ↦ printing (codes "noseat" ∷ seat.word ∷ []) world
+      | Some number ↦ printing (codes "open" ∷ seat.word ∷ []) (with_seat (record seat { client = connected (now world.hub) seat.client; session = Some number }) (record world { hub = (connect world.hub).1 }))
+    ]).0.hub ≡ after_calls (elim o as (λ _. List HubCall) [ None ↦ [] | Some number ↦ connects ∷ [] ]) world.hub
+    by None = refl
+    by (Some number) = refl
+
+opens-so : (w : Word) (world : World) → (line_does by_history (open_connection w) world).0.hub ≡ after_calls (of_seat open_calls w world) world.hub
+opens-so w world = by (seat_of world w)
+  where
+    by_lone : (seat : Seat) (b : Bool) → (cond b (opens_lone seat world) (opens_hub seat world)).0.hub ≡ after_calls (cond b [] (connect_calls world.hub)) world.hub
+    by_lone seat true = refl
+    by_lone seat false = opens-hub world seat
+
+    by_open : (seat : Seat) (b : Bool) → (cond b (printing (codes "already" ∷ w ∷ []) world) (cond seat.is_lone (opens_lone seat world) (opens_hub seat world))).0.hub
+        ≡ after_calls (cond b [] (cond seat.is_lone [] (connect_calls world.hub))) world.hub
+    by_open seat true = refl
+    by_open seat false = by_lone seat seat.is_lone
+
+    by : (o : Option Seat) → (elim o as (λ _. Printed) [
+      | None ↦ quietly world
+      | Some seat ↦ cond (is_connected seat.client) (printing (codes "already" ∷ w ∷ []) world) (cond seat.is_lone (opens_lone seat world) (opens_hub seat world))
+    ]).0.hub ≡ after_calls (elim o as (λ _. List HubCall) [ None ↦ [] | Some seat ↦ open_calls world seat ]) world.hub
+    by None = refl
+    by (Some seat) = by_open seat (is_connected seat.client)
+
+feeds-so : (w : Word) (octets : List ℕ) (world : World) → (line_does by_history (feed w octets) world).0.hub ≡ after_calls (of_seat (feed_calls octets) w world) world.hub
+feeds-so w octets world = by (seat_of world w)
+  where
+    by_open : (seat : Seat) (b : Bool) → (cond b (feeds_connected octets world seat) (printing (codes "bytes" ∷ w ∷ codes "-" ∷ []) world)).0.hub
+        ≡ after_calls (cond b (cond (is_over None (closed_as (fed_client octets seat.client))) (end_calls seat.session) []) []) world.hub
+    by_open seat true = let later : Seat = with_client (fed_client octets) seat in cuts-if (is_over None (closed_as later.client)) later (with_seat later world)
+    by_open seat false = refl
+
+    by : (o : Option Seat) → (elim o as (λ _. Printed) [
+      | None ↦ quietly world
+      | Some seat ↦ cond (is_connected seat.client) (feeds_connected octets world seat) (printing (codes "bytes" ∷ w ∷ codes "-" ∷ []) world)
+    ]).0.hub ≡ after_calls (elim o as (λ _. List HubCall) [ None ↦ [] | Some seat ↦ feed_calls octets world seat ]) world.hub
+    by None = refl
+    by (Some seat) = by_open seat (is_connected seat.client)
+
+cut-so : (w : Word) (world : World) → (line_does by_history (cut w) world).0.hub ≡ after_calls (line_calls (cut w) world) world.hub
+cut-so w world = by (seat_of world w)
+  where
+    by : (o : Option Seat) → (elim o as (λ _. World) [ None ↦ cut_peer w world | Some seat ↦ cut_connection seat world ]).hub
+        ≡ after_calls (elim o as (λ _. List HubCall) [ None ↦ end_calls (session_number world w) | Some seat ↦ end_calls seat.session ]) world.hub
+    by None = withouts (session_number world w) world.hub
+    by (Some seat) = withouts seat.session world.hub
+
+-- ---- peers
+
+exchanges-so : (w : Word) (number : ℕ) (octets : List ℕ) (world : World) → (exchanges w number octets world).0.hub ≡ after_calls (exchanges_calls w number octets world) world.hub
+exchanges-so w number octets world = by x.over
+  where
+    x : Exchanged
+    x = exchanged enough number octets world.hub []
+
+    later : World
+    later = record world { hub = x.hub }
+
+    calls : List HubCall
+    calls = exchange_calls enough number octets world.hub
+
+    is : x.hub ≡ after_calls calls world.hub
+    is = (emitting.exchanges enough number octets world.hub []).hub_is
+
+    by : (o : Option EndReason) → (elim o as (λ _. World) [ None ↦ later | Some reason ↦ cut_peer w later ]).hub
+        ≡ after_calls (calls ++ (elim o as (λ _. List HubCall) [ None ↦ [] | Some reason ↦ end_calls (session_number world w) ])) world.hub
+    by None = is ∙ sym (calls-append calls [] world.hub)
+    by (Some reason) =
+        withouts (session_number world w) x.hub ∙ ap (λ (h : Hub). after_calls (end_calls (session_number world w)) h) is
+        ∙ sym (calls-append calls (end_calls (session_number world w)) world.hub)
+
+sends-so : (w : Word) (octets : List ℕ) (world : World) → (line_does by_history (send w octets) world).0.hub ≡ after_calls (send_calls w octets world) world.hub
+sends-so w octets world = by (session_number world w)
+  where
+    with_peer : ℕ → World
+    with_peer number = record world { hub = (connect world.hub).1; peers = world.peers ++ (w, number) ∷ [] }
+
+    place_of : Option ℕ → Option ℕ → Option (ℕ × World)
+    place_of known made = elim known as (λ _. Option (ℕ × World)) [ Some number ↦ Some (number, world) | None ↦ option_map (λ number. (number, with_peer number)) made ]
+
+    does : Option (ℕ × World) → World
+    does p = (elim p as (λ _. Printed) [ None ↦ printing (codes "noseat" ∷ w ∷ []) world | Some place ↦ exchanges w place.0 octets place.1 ]).0
+
+    connecting : Option ℕ → List HubCall
+    connecting made = elim made as (λ _. List HubCall) [ None ↦ [] | Some number ↦ connects ∷ [] ]
+
+    placing : Option ℕ → Option ℕ → List HubCall
+    placing known made = elim known as (λ _. List HubCall) [ None ↦ connecting made | Some number ↦ [] ]
+
+    calls_of : Option ℕ → Option ℕ → List HubCall
+    calls_of known made = elim (place_of known made) as (λ _. List HubCall) [ None ↦ [] | Some place ↦ placing known made ++ exchanges_calls w place.0 octets place.1 ]
+
+    by_made : (made : Option ℕ) → (does (place_of None made)).hub ≡ after_calls (calls_of None made) world.hub
+    by_made None = refl
+    by_made (Some number) = exchanges-so w number octets (with_peer number)
+
+    by : (known : Option ℕ) → (does (place_of known (connect world.hub).0)).hub ≡ after_calls (calls_of known (connect world.hub).0) world.hub
+    by (Some number) = exchanges-so w number octets world
+    by None = by_made (connect world.hub).0
+
+stops-so : (rcode delay : ℕ) (world : World) (o : Option ℕ) → stopped_hub o rcode delay world.hub ≡ after_calls (stop_calls o rcode delay) world.hub
+stops-so rcode delay world None = refl
+stops-so rcode delay world (Some number) = refl
+
+-- ---- lines
+
+asks-so : (verb : List ℕ) (w : Word) (call : Client → List ℕ × Client) (world : World) → (asks verb w call world).0.hub ≡ world.hub
+asks-so verb w call world = by (seat_of world w)
+  where
+    by : (o : Option Seat) → (asks_by verb w call world o).0.hub ≡ world.hub
+    by None = refl
+    by (Some seat) = refl
+
+pub lines-are-calls : LinesAreCalls
+lines-are-calls silent world = refl
+lines-are-calls (timers i k) world = refl
+lines-are-calls (zone apex serial mode) world = refl
+lines-are-calls (link w domain) world = refl
+lines-are-calls (client w) world = refl
+lines-are-calls (lone w) world = refl
+lines-are-calls (at_moment t) world = (let r = hubs.moment world.hub t in timed-so (now r.1) world.seats (record world { hub = r.1 }, cond r.0 (codes "full" ∷ []) []))
+lines-are-calls (update message) world = refl
+lines-are-calls (hear w datagram) world = refl
+lines-are-calls (ask w question) world = asks-so (codes "asked") w (subscribing question) world
+lines-are-calls (drop_question w question) world = asks-so (codes "dropped") w (unsubscribing question) world
+lines-are-calls (reconfirm w rr) world = asks-so (codes "reconfirm") w (reconfirming rr) world
+lines-are-calls (open_connection w) world = opens-so w world
+lines-are-calls (cut w) world = cut-so w world
+lines-are-calls (say w n) world = passes-so (λ number there seat. []) (λ number. passing.say n) (λ number there seat. refl) (λ p. codes "say" ∷ w ∷ decimal p.count ∷ []) w world
+lines-are-calls (up w n) world = passes-so (λ number. up_calls number n) (λ number. passing.up number n) (λ number there seat. refl) (λ p. codes "up" ∷ w ∷ decimal p.count ∷ []) w world
+lines-are-calls (emit w n) world = passes-so (λ number. out_calls number n) (λ number. passing.emit number n) (λ number. outs number n) (λ p. codes "emit" ∷ w ∷ decimal p.count ∷ []) w world
+lines-are-calls (down w n) world = passes-so (λ number there seat. []) (λ number. passing.down n) (λ number there seat. refl) (λ p. codes "down" ∷ w ∷ decimal p.count ∷ []) w world
+lines-are-calls (settle w) world =
+    passes-so (settle_calls enough) (λ number there seat. settled enough number there seat None) (λ number there seat. settles enough number there seat None) (λ p. codes "settle" ∷ w ∷ []) w world
+lines-are-calls (send w octets) world = sends-so w octets world
+lines-are-calls (feed w octets) world = feeds-so w octets world
+lines-are-calls (stop w rcode delay) world = stops-so rcode delay world (session_of_word world w)
+lines-are-calls point world = refl
+lines-are-calls (show w question written) world = ap (λ (x : World). x.hub) (shows-leave by_history w question written world)
+
+-- ---- scripts
+
+pub scripts-are-calls : ScriptsAreCalls
+scripts-are-calls [] world = refl
+scripts-are-calls (line ∷ lines) world =
+    let later : World = (line_does by_history line world).0 in
+    scripts-are-calls lines later ∙ ap (λ (h : Hub). after_calls (script_calls lines later) h) (lines-are-calls line world)
+    ∙ sym (calls-append (line_calls line world) (script_calls lines later) world.hub)
+
+-- the calls of lines, and behind them those of others
+pub calls-behind : (lines more : List ScriptLine) (world : World) → script_calls (lines ++ more) world ≡ script_calls lines world ++ script_calls more (world_after lines world)
+calls-behind [] more world = refl
+calls-behind (line ∷ lines) more world =
+    let later : World = (line_does by_history line world).0 in
+    ap (λ (cs : List HubCall). line_calls line world ++ cs) (calls-behind lines more later)
+    ∙ sym (append_assoc (line_calls line world) (script_calls lines later) (script_calls more (world_after lines later)))

@@ -1,0 +1,23 @@
+use Rattle.std.proofs.Common.{◌∙◌, sym, ap, subst, List}
+use Rattle.std.specs.List.{AllByRecursion}
+use Rattle.rrset.specs.RecordSet.{RecordSet, with_changes}
+use Rattle.rrset.specs.Tables.{HasLowerOwner}
+use Rattle.rrset.specs.declared.record.Changed.{Changed}
+use Rattle.nametable.specs.Nodes.{HasRoomFor, keys_put}
+use Rattle.nametable.proofs.KeyRoom.{room-front}
+use Rattle.zoneupdate.proofs.applying.make_changes.Goals as goal
+
+pub make_change-requires-clause-room : goal.make_change-requires-clause-room
+make_change-requires-clause-room c =
+    let rest = c.next.new.self.rest.items in
+    room-front c.in-Some.change rest c.changes.rows.nodes (subst (λ (l : List Changed). HasRoomFor (keys_put l) c.changes.rows.nodes) c.in-Some.ensures.steps.0 c.changes.invariant.1)
+
+pub changes-preserved : goal.changes-preserved
+changes-preserved c =
+    let rest = c.next.new.self.rest.items in
+    let rows = c.changes.rows in
+    let steps = c.in-Some.ensures.steps.0 in (
+      (subst (λ (l : List Changed). AllByRecursion (λ d. HasLowerOwner d.key) l) steps c.changes.invariant.0).1,
+      c.make_change.ensures.left rest (subst (λ (l : List Changed). HasRoomFor (keys_put l) rows.nodes) steps c.changes.invariant.1),
+      ap (λ (l : RecordSet). with_changes rest l) c.make_change.ensures.rows ∙ ap (λ (l : List Changed). with_changes l rows.rows) (sym steps) ∙ c.changes.invariant.2,
+    )

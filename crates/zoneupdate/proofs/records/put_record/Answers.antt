@@ -1,7 +1,0 @@
-use Rattle.std.proofs.Common.{subst, sym}
-use Rattle.rrset.specs.Tables.{HasLowerOwner}
-use Rattle.rrset.proofs.LowerNames.{key_of-lower}
-use Rattle.zoneupdate.proofs.records.put_record.Goals as goal
-
-pub put-requires : goal.put-requires
-put-requires c = subst HasLowerOwner (sym c.in_ok-key.ensures) (key_of-lower c.args.rr)
