@@ -2,8 +2,8 @@
 use Rattle.std.proofs.Common.{◌≡◌, ℕ, zero, suc, ◌+◌, ◌*◌, ◌<◌, ◌≤◌, ◌^◌, List, [], ◌∷◌, map, length, refl, sym, ◌∙◌, ap, arith, codes}
 use Rattle.std.specs.Prelude.{sum_by}
 use Rattle.std.proofs.lemmas.List.Sums.{sum_by-cons}
-use Rattle.replay.specs.Lines.{Word, words_in}
-use Rattle.replay.specs.Scripts.{lines_in}
+use Rattle.scripts.specs.Lines.{Word, words_in}
+use Rattle.scripts.specs.Scripts.{lines_in}
 use Rattle.big_scripts.specs.Sums.{number_behind, last_words, sums_of_lines, sums_of_text, no_sums}
 use Rattle.big_scripts.specs.declared.sums.Sums.{Sums}
 

@@ -12,8 +12,8 @@ use Rattle.push_base.specs.Hexadecimal.{hex_text}
 use Rattle.push_base.specs.Optional.{◌>>=◌}
 use Rattle.dnsname.proofs.Decisions.{and_true}
 use Rattle.dnsname.specs.Text.{name}
-use Rattle.replay.specs.Lines.{Word, ScriptLine, silent, timers, zone, link, client, lone, at_moment, update, hear, ask, drop_question, reconfirm, open_connection, cut, say, up, emit, down, settle, send, feed, stop, point, show, line_of}
-use Rattle.replay.specs.Scripts.{Known, nothing_known, client_word, client_words, lines_in, lines_left, lines_read, lines_from, with_line, script_of}
+use Rattle.scripts.specs.Lines.{Word, ScriptLine, silent, timers, zone, link, client, lone, at_moment, update, hear, ask, drop_question, reconfirm, open_connection, cut, say, up, emit, down, settle, send, feed, stop, point, show, line_of}
+use Rattle.scripts.specs.Scripts.{Known, nothing_known, client_word, client_words, lines_in, lines_left, lines_read, lines_from, with_line, script_of}
 use Rattle.replay.specs.Reply.{line}
 use Rattle.replay.specs.Text.{ended_lines}
 use Rattle.big_scripts.specs.Scripts.{update_line, update_of_round, hear_of_round, opening_lines, closing_lines, round_lines, rounds_to, script_lines, script_octets}

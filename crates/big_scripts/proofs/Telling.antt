@@ -5,8 +5,10 @@ use Rattle.std.proofs.lemmas.List.{append_assoc, append-nil, take_all}
 use Rattle.replay.specs.declared.outcome.Outcome.{Outcome}
 use Rattle.replay.specs.declared.outcome.Outcome.TheVariants.{Done, Outside}
 use Rattle.replay.specs.Outcomes.{status_of}
-use Rattle.replay.specs.TextWords.{by_notices, spaced}
-use Rattle.replay.specs.ScriptReplies.{front_read, reply_to_script}
+use Rattle.replay.specs.TextWords.{by_notices}
+use Rattle.scripts.specs.Words.{spaced}
+use Rattle.scripts.specs.Sources.{front_read}
+use Rattle.replay.specs.ScriptReplies.{reply_to_script}
 use Rattle.replay.specs.Reply.{Reply, Tells, In_full, Unread, Starved, Answers, Took, line}
 use Rattle.big_scripts.specs.Scripts.{script_octets}
 use Rattle.big_scripts.proofs.Making.{script_length}

@@ -5,10 +5,10 @@
 --     EachIsAScript      each line of such a script is within the grammar and may stand where it does
 use Rattle.std.specs.Prelude.{◌≡◌, ℕ, zero, suc, ◌+◌, ◌-◌, ◌%◌, ◌/◌, ◌≤◌, List, [], ◌∷◌, ◌++◌, Ok, replicate, codes, ◌==◌, if◌then◌else◌}
 use Rattle.push_base.specs.Hexadecimal.{hex_text}
-use Rattle.replay.specs.Lines.{ScriptLine}
-use Rattle.replay.specs.Scripts.{script_of}
+use Rattle.scripts.specs.Lines.{ScriptLine}
+use Rattle.scripts.specs.Scripts.{script_of}
 use Rattle.replay.specs.Text.{ended_lines}
-use Rattle.big_scripts.specs.declared.scripts.TheConstants as scripts
+use Rattle.big_scripts.specs.declared.rounds.TheConstants as rounds
 
 -- an address added to `a.example.com.` or deleted there (RFC 2136, 2.5): ID, class, TTL and last octet in hexadecimal
 abbrev pub update_line : List ℕ → List ℕ → List ℕ → List ℕ → List ℕ
@@ -49,7 +49,7 @@ script_octets rounds = ended_lines (script_lines rounds)
 
 -- the most rounds of a script: a thousand
 abbrev pub most_rounds : ℕ
-most_rounds = scripts.MOST_ROUNDS
+most_rounds = rounds.MOST_ROUNDS
 
 -- a thousand for each script but the last, which has the rest, at least one
 abbrev pub rounds_of : ℕ → List ℕ

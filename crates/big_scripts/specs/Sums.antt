@@ -3,8 +3,8 @@
 --     sums_of_text text      the point in the last line, how many records are held, and the lines
 --     added sums more      the sums of both
 use Rattle.std.specs.Prelude.{ℕ, ◌+◌, List, [], ◌∷◌, map, sum_by, length, codes, if◌then◌else◌}
-use Rattle.replay.specs.Lines.{Word, is, words_in, number, max_u32}
-use Rattle.replay.specs.Scripts.{lines_in}
+use Rattle.scripts.specs.Lines.{Word, is, words_in, number, max_u32}
+use Rattle.scripts.specs.Scripts.{lines_in}
 use Rattle.replay.specs.Text.{number_or_zero}
 use Rattle.big_scripts.specs.declared.sums.Sums.{Sums}
 

@@ -2,8 +2,8 @@
 #![tactic(auto)]
 
 pub mod laws;
+mod rounds;
 mod running;
-mod scripts;
 mod sums;
 
 pub use running::tell_sums;

@@ -8,7 +8,7 @@ ghost use Rattle.replay.specs.TextWords.{by_notices};
 ghost use Rattle.big_scripts.specs.Scripts.{most_rounds};
 ghost use Rattle.big_scripts.specs.Replies.{reply_to_number, sums_of as sums_of_number, sums_of_script, summary_of};
 
-use crate::scripts::{MOST_ROUNDS, script_of};
+use crate::rounds::{MOST_ROUNDS, script_of};
 use crate::sums::{Sums, sums_of};
 use push_base::{MemSink, MemSource, NoMemory, Sink};
 use replay::{NO_MEMORY, Outcome, replay, tell};

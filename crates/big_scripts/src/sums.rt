@@ -1,10 +1,10 @@
 //! The sums over the text of a script.
 
 ghost use Rattle.std.specs.Prelude.{◌≡◌, ◌+◌, ◌<◌, ◌^◌};
-ghost use Rattle.replay.specs.Lines.{words_in};
+ghost use Rattle.scripts.specs.Lines.{words_in};
 ghost use Rattle.big_scripts.specs.Sums.{added, first_number as number_first, number_behind as number_in, sums_of_text};
 
-use replay::{number_of_word, split_line, split_word};
+use scripts::{number_of_word, split_line, split_word};
 
 /// What texts of scripts tell, in numbers so wide that no sum overflows.
 #[derive(Clone, Copy, Debug)]

@@ -1,3 +1,2 @@
 pub mod Running
 pub mod Promises
-pub mod Endings

@@ -4,10 +4,11 @@
 --     none_asked, number_asks_none      where the words ask for nothing, and for the scripts of a number, no script is to be run
 use Rattle.std.proofs.Common.{◌≡◌, ℕ, List, Option, Some, None, refl, sym, ◌∙◌, subst}
 use Rattle.replay.specs.TextWords.{by_history}
-use Rattle.replay.specs.ScriptReplies.{front_read, reply_to_script}
+use Rattle.scripts.specs.Sources.{front_read}
+use Rattle.replay.specs.ScriptReplies.{reply_to_script}
 use Rattle.replay.specs.Promises.{KeepsPromises, EveryScriptKeepsPromises}
 use Rattle.replay.specs.FedLines.{Fed, fed_reply, FeedsAsMessages}
-use Rattle.replay.specs.Lines.{ScriptLine}
+use Rattle.scripts.specs.Lines.{ScriptLine}
 use Rattle.replay.specs.ScriptPieces.{SentInPieces, TellsInTurn, pieces_reply}
 use Rattle.replay.specs.Reply.{Answers, Took}
 use Rattle.replay.specs.Serving.{Asked, served_reply}

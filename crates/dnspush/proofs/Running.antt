@@ -6,22 +6,21 @@ use Rattle.push_base.specs.Causes.{Rose}
 use Rattle.replay.specs.declared.outcome.Outcome.{Outcome}
 use Rattle.replay.specs.declared.outcome.Outcome.TheVariants.{WriteFault}
 use Rattle.replay.specs.TextWords.{by_history, by_notices}
-use Rattle.replay.specs.ScriptReplies.{front_read}
+use Rattle.scripts.specs.Sources.{front_read, Gave}
 use Rattle.replay.specs.Outcomes.{status_of}
 use Rattle.replay.specs.Reply.{IsFrontOf, Answers, Took, In_full, line}
-use Rattle.replay.specs.Sources.{Gave}
 use Rattle.replay.proofs.replies.Written.{Replied, answers_with_cause}
 use Rattle.script_laws.specs.Replies.{RepliesAreOne}
 use Rattle.big_scripts.specs.Scripts.{script_octets, rounds_of}
 use Rattle.big_scripts.specs.Sums.{sums_of_text, no_sums, added}
 use Rattle.big_scripts.specs.Replies.{reply_to_number, summary_of}
-use Rattle.dnspush.specs.declared.outside.OpenFault.{OpenFault}
-use Rattle.dnspush.specs.declared.outside.OpenFault.TheVariants.{Failed}
+use Rattle.push_outside.specs.declared.outside.OpenFault.{OpenFault}
+use Rattle.push_outside.specs.declared.outside.OpenFault.TheVariants.{Failed}
 use Rattle.dnspush.specs.declared.status.Status.{Status}
 use Rattle.dnspush.specs.declared.status.Status.TheVariants.{Usage, Ended}
-use Rattle.dnspush.specs.Opening.{CountsFailure}
-use Rattle.dnspush.specs.Outside.{Used, AddsUse, IsFresh, RaisedBy, MayHaveGiven}
-use Rattle.dnspush.specs.Runs.{reply_to, MayBeOctets, SourceRose}
+use Rattle.push_outside.specs.Opening.{CountsFailure}
+use Rattle.push_outside.specs.Outside.{Used, AddsUse, IsFresh, RaisedBy}
+use Rattle.dnspush.specs.Runs.{reply_to, MayBeOctets, MayHaveGiven, SourceRose}
 use Rattle.dnspush.specs.Status.{code_of}
 use Rattle.dnspush.specs.Tasks.{task_reply}
 use Rattle.dnspush.specs.Words.{Request, On_input, At_path, Big, usage}

@@ -2,12 +2,4 @@ pub mod Words
 pub mod Tasks
 pub mod Runs
 pub mod Status
-pub mod Outside
-pub mod Opening
-pub mod Origins
-pub mod MemOutside
-pub mod MemOutsideInside
 pub mod Command
-pub mod Configurations
-pub mod Said
-pub mod Worked

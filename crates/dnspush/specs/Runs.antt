@@ -7,18 +7,18 @@
 use Rattle.std.specs.Prelude.{◌≡◌, ◌⊎◌, ⊤, ℕ, Some, None, Ok, List, [], ◌∷◌, ◌++◌}
 use Rattle.std.specs.declared.option.Option.{Option}
 use Rattle.push_base.specs.Causes.{Rose}
-use Rattle.replay.specs.Lines.{ScriptLine}
-use Rattle.replay.specs.Scripts.{script_of}
+use Rattle.scripts.specs.Lines.{ScriptLine}
+use Rattle.scripts.specs.Scripts.{script_of}
 use Rattle.replay.specs.Reply.{Reply, Answers, Took}
 use Rattle.replay.specs.TextWords.{by_history}
-use Rattle.replay.specs.ScriptReplies.{front_read, left_behind}
-use Rattle.replay.specs.Sources.{HasRead, LeftBehind}
+use Rattle.scripts.specs.Sources.{front_read, left_behind, LeftBehind}
+use Rattle.replay.specs.Outcomes.{HasRead}
 use Rattle.replay.specs.Serving.{Asked, AsksFirst}
 use Rattle.replay.specs.ScriptPieces.{SentInPieces, SendsPieces}
 use Rattle.replay.specs.FedLines.{Fed, FeedsLone}
 use Rattle.script_laws.specs.Sending.{Asks, AsksAnywhere}
 use Rattle.big_scripts.specs.Replies.{reply_to_number}
-use Rattle.dnspush.specs.Outside.{Used, Adds, MayHaveGiven}
+use Rattle.push_outside.specs.Outside.{Used, Adds}
 use Rattle.dnspush.specs.Tasks.{task_reply}
 use Rattle.dnspush.specs.Words.{Request, On_input, At_path, Big, usage}
 use Rattle.dnspush.specs.declared.tasks.Task.TheVariants.{Replay}
@@ -55,6 +55,12 @@ AsksFed request script fed = AsksReplay request × FeedsLone script fed
 -- a script is to be run, and these are its lines
 abbrev pub AsksFor : Option Request → List ℕ → List ScriptLine → Type 0
 AsksFor request octets script = AsksReplay request × (script_of octets ≡ Ok script)
+
+-- these may be the octets of the one source that was taken back, if any was
+abbrev pub MayHaveGiven : Option (List Used) → Option (List Used) → List ℕ → Type 0
+MayHaveGiven (Some before) (Some now) octets =
+    (now ≡ before) ⊎ ((u : Used) × (now ≡ before ++ u ∷ []) × (u.gave ++ u.left ≡ octets))
+MayHaveGiven before now octets = ⊥
 
 -- by what is told, these may be the octets of the source that the request names; any, where it names none
 abbrev pub MayBeOctets : Option Request → Option (List ℕ) → Option (List Used) → Option (List Used) → List ℕ → Type 0

@@ -7,7 +7,7 @@ use Rattle.std.specs.declared.alloc.Global.{Global}
 use Rattle.std.specs.declared.string.String.{String}
 use Rattle.std.specs.Str.{bytes_eq}
 use Rattle.push_base.specs.Optional.{◌>>=◌}
-use Rattle.replay.specs.Lines.{number32}
+use Rattle.scripts.specs.Lines.{number32}
 use Rattle.replay.specs.Reply.{line}
 use Rattle.dnspush.specs.declared.tasks.Task.{Task}
 use Rattle.dnspush.specs.declared.tasks.Task.TheVariants.{Replay, Check}

@@ -1,10 +1,6 @@
 //! Replays scripts of DNS Push sessions, and checks them.
 #![tactic(auto)]
 
-mod adapters;
-mod examples;
-mod mem_outside;
-mod outside;
 mod program;
 mod status;
 mod tasks;
@@ -12,7 +8,7 @@ mod tasks;
 mod tests;
 mod words;
 
-use adapters::{Origin, Reading, System, Writing};
+use push_outside::{Origin, Reading, System, Writing};
 use std::env;
 use std::process::ExitCode;
 

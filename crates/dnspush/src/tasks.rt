@@ -2,18 +2,17 @@
 
 ghost use Rattle.std.specs.Prelude.{◌≡◌, ◌+◌, ◌≤◌, ◌⊎◌, ℕ, List, IfSome};
 ghost use Rattle.push_base.specs.Causes.{Rose};
-ghost use Rattle.replay.specs.Scripts.{max_script};
-ghost use Rattle.replay.specs.ScriptReplies.{front_read};
-ghost use Rattle.replay.specs.Outcomes.{status_of};
+ghost use Rattle.scripts.specs.Scripts.{max_script};
+ghost use Rattle.scripts.specs.Sources.{front_read, Gave, LeftBehind, LostAtMost};
+ghost use Rattle.replay.specs.Outcomes.{status_of, HasRead};
 ghost use Rattle.replay.specs.Reply.{Answers, Took};
-ghost use Rattle.replay.specs.Sources.{Gave, HasRead, LeftBehind, LostAtMost};
 ghost use Rattle.replay.specs.TextWords.{by_notices};
-ghost use Rattle.dnspush.specs.Outside.{Adds, MayHaveGiven};
-ghost use Rattle.dnspush.specs.Runs.{UsesWhole};
+ghost use Rattle.push_outside.specs.Outside.{Adds};
+ghost use Rattle.dnspush.specs.Runs.{MayHaveGiven, UsesWhole};
 ghost use Rattle.dnspush.specs.Tasks.{task_reply};
 
-use crate::outside::{OpenFault, Outside};
 use push_base::{Sink, Source};
+use push_outside::{OpenFault, Outside};
 use replay::{NO_MEMORY, Outcome, READ_FAULT, check, replay, tell};
 use std::alloc::Global;
 
@@ -56,14 +55,14 @@ pub fn at_path<O: Outside>(
     out: &mut O::Out,
     outside: &mut O,
 ) -> Outcome
-    ensures replied { (octets : List ℕ) → MayHaveGiven (O.used outside.old) (O.used outside.new) octets →
+    ensures replied { (octets : List ℕ) → MayHaveGiven (O.told outside.old).used (O.told outside.new).used octets →
         Took (O.Out.taken out.old) (O.Out.taken out.new)
         (Answers (Rose (O.reads outside.old) (O.reads outside.new)) (task_reply by_notices task (front_read octets)) (status_of result)) }
     ensures read_fault { result ≡ Outcome.ReadFault → Rose (O.reads outside.old) (O.reads outside.new) }
     ensures write_fault { result ≡ Outcome.WriteFault → Rose (O.Out.faults out.old) (O.Out.faults out.new) }
-    ensures rest { HasRead (status_of result) → UsesWhole (O.used outside.old) (O.used outside.new) }
-    ensures opened { Adds (O.opened outside.old) (O.opened outside.new) path.now
-        ⊎ ((O.opened outside.new ≡ O.opened outside.old) × ((result ≡ Outcome.NoMemory) ⊎ (result ≡ Outcome.WriteFault))) }
+    ensures rest { HasRead (status_of result) → UsesWhole (O.told outside.old).used (O.told outside.new).used }
+    ensures opened { Adds (O.told outside.old).opened (O.told outside.new).opened path.now
+        ⊎ (((O.told outside.new).opened ≡ (O.told outside.old).opened) × ((result ≡ Outcome.NoMemory) ⊎ (result ≡ Outcome.WriteFault))) }
 {
     match outside.open(path) {
         Ok(mut source) => {

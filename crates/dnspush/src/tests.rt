@@ -1,35 +1,105 @@
-//! Runs of the program in memory, and the adapters over readers and writers in memory.
+//! Runs of the program in memory.
 
 ghost use Rattle.std.specs.Prelude.{◌<◌, length, All, IfOk};
 
-use crate::adapters::{Origin, Reading, Writing};
-use crate::mem_outside::MemOutside;
 use crate::program::run;
-use push_base::{Failed, MemSink, MemSource, Octets, Sink, Source};
+use push_base::{MemSink, MemSource, Octets};
+use push_outside::{MemObjects, MemOutside};
 use std::alloc::{AllocError, Global};
 use std::test::Fail;
 
 const TOLD: &[u8] =
     b"open c\nasked c new\nsettle c\nshow c printer.example.com. 1 1 held 0\nupdate 0\nsettle c\nshow c printer.example.com. 1 1 held 1\nrr printer.example.com. 120 1 1 c0000201\n";
 
-// A script's pieces, and the status and the text with which it is checked.
-const CHECKED: &[(&[&[u8]], u8, &str)] = &[
-    (&[], 0, "good 0\n"),
-    (&[b"client c\n#\n", b"\nopen c"], 0, "good 4\n"),
-    (
-        &[b"client c\nopen c\n", b"ask c example.com. 6"],
-        2,
-        "line 3\n",
-    ),
+// A client is told of the address that it asks for by the first settle behind the update which adds it.
+const SETTLED: &[&[u8]] = &[
+    b"zone example.com. 1 open\nclient c\nopen c\n",
+    b"ask c printer.example.com. 1 1\nsettle c\n",
+    b"show c printer.example.com. 1 1\n",
+    b"update 000128000001000000010000076578616d706c6503636f6d0000060001077072696e74657",
+    b"2076578616d706c6503636f6d0000010001000000780004c0000201\n",
+    b"settle c\nshow c printer.example.com. 1 1\n",
 ];
 
-// What a run answered and wrote.
-#[derive(Drop)]
-struct Ran {
-    status: u8,
-    wrote: Vec<u8>,
-    outside: MemOutside,
-}
+// Scripts that are checked and run, a read that fails, a sink that takes nothing, and the sums over the one script of 1.
+const CASES: &[Case] = &[
+    Case {
+        words: &["check", "-"],
+        pieces: &[],
+        fails: &[],
+        limits: &[],
+        status: 0,
+        text: b"good 0\n",
+    },
+    Case {
+        words: &["check", "-"],
+        pieces: &[b"client c\n#\n", b"\nopen c"],
+        fails: &[],
+        limits: &[],
+        status: 0,
+        text: b"good 4\n",
+    },
+    Case {
+        words: &["check", "-"],
+        pieces: &[b"client c\nopen c\n", b"ask c example.com. 6"],
+        fails: &[],
+        limits: &[],
+        status: 2,
+        text: b"line 3\n",
+    },
+    Case {
+        words: &["replay", "-"],
+        pieces: SETTLED,
+        fails: &[],
+        limits: &[],
+        status: 0,
+        text: TOLD,
+    },
+    Case {
+        words: &["big", "1"],
+        pieces: &[],
+        fails: &[],
+        limits: &[],
+        status: 0,
+        text: b"big 1 points 2 held 2 lines 14\n",
+    },
+    Case {
+        words: &["replay", "-"],
+        pieces: &[b"zone example.com. ", b"1 open\n"],
+        fails: &[2],
+        limits: &[],
+        status: 3,
+        text: b"read fault\n",
+    },
+    Case {
+        words: &["replay", "-"],
+        pieces: &[b"x"],
+        fails: &[],
+        limits: &[3, 0],
+        status: 5,
+        text: b"lin",
+    },
+];
+
+// A path where there is a script, and then one where there is none.
+const PATHS: &[Case] = &[
+    Case {
+        words: &["replay", "a/path"],
+        pieces: &[],
+        fails: &[],
+        limits: &[],
+        status: 2,
+        text: b"line 2\n",
+    },
+    Case {
+        words: &["replay", "a/path"],
+        pieces: &[],
+        fails: &[],
+        limits: &[],
+        status: 3,
+        text: b"read fault\n",
+    },
+];
 
 // The pieces that aren't empty, as items of a source.
 fn items(alloc: Global, pieces: &[&[u8]]) -> Result<Vec<Octets>, AllocError>
@@ -44,160 +114,91 @@ fn items(alloc: Global, pieces: &[&[u8]]) -> Result<Vec<Octets>, AllocError>
     Ok(items)
 }
 
-// Runs these words over an input that comes in these pieces, with these files at hand.
-fn run_over(
-    alloc: Global,
-    texts: &[&str],
-    pieces: &[&[u8]],
-    fails: Vec<u64>,
-    limits: Vec<usize>,
-    mut outside: MemOutside,
-) -> Result<Ran, AllocError> {
+fn words_of(alloc: Global, texts: &[&str]) -> Result<Vec<String>, AllocError> {
     let mut words = Vec::new(alloc);
-    for text in texts {
+    'texts: for text in texts {
         words.push(String::from_str(alloc, text)?)?;
     }
-    let mut input = MemSource::new(items(alloc, pieces)?, fails);
-    let mut out = MemSink::new(alloc, limits, Vec::new(alloc), 1024)?;
-    let status = run(alloc, &words, &mut input, &mut out, &mut outside);
-    Ok(Ran {
-        status,
-        wrote: out.taken().to_vec(alloc)?,
-        outside,
-    })
+    Ok(words)
 }
 
-// Replays a script that comes in these pieces.
-fn replay_pieces(
-    alloc: Global,
-    pieces: &[&[u8]],
-    fails: Vec<u64>,
-    limits: Vec<usize>,
-) -> Result<Ran, AllocError> {
-    let outside = MemOutside::new(alloc, Vec::new(alloc));
-    run_over(alloc, &["replay", "-"], pieces, fails, limits, outside)
+// A run: its words, the pieces in which its input comes, the reads of it that fail, and how much each write takes.
+struct Case {
+    words: &'static [&'static str],
+    pieces: &'static [&'static [u8]],
+    fails: &'static [u64],
+    limits: &'static [usize],
+    status: u8,
+    text: &'static [u8],
 }
 
-// Checks a script that comes in these pieces, which has this status and this text.
-fn is_checked_so(alloc: Global, pieces: &[&[u8]], status: u8, text: &str) -> Result<(), Fail> {
-    let outside = MemOutside::new(alloc, Vec::new(alloc));
-    let (fails, limits) = (Vec::new(alloc), Vec::new(alloc));
-    let ran = run_over(alloc, &["check", "-"], pieces, fails, limits, outside)?;
-    if ran.status == status && ran.wrote.as_slice() == text.as_bytes() {
+fn input_of(alloc: Global, case: &Case) -> Result<MemSource, AllocError> {
+    let fails = case.fails.to_vec(alloc)?;
+    Ok(MemSource::new(items(alloc, case.pieces)?, fails))
+}
+
+fn output_of(alloc: Global, case: &Case) -> Result<MemSink, AllocError> {
+    let limits = case.limits.to_vec(alloc)?;
+    MemSink::new(alloc, limits, Vec::new(alloc), 1024)
+}
+
+// Whether a run answered this status and wrote this text.
+fn shows(case: &Case, status: u8, wrote: &[u8]) -> Result<(), Fail> {
+    if status == case.status && wrote == case.text {
         return Ok(());
     }
-    Err(Fail::new(format_args!("{text}: status {}", ran.status)))
+    Err(Fail::new(format_args!("status {status}, {} octets", wrote.len())))
+}
+
+// Whether a run over this outside is so.
+fn runs_so(alloc: Global, case: &Case, outside: &mut MemOutside) -> Result<(), Fail> {
+    let words = words_of(alloc, case.words)?;
+    let mut input = input_of(alloc, case)?;
+    let mut out = output_of(alloc, case)?;
+    let status = run(alloc, &words, &mut input, &mut out, outside);
+    shows(case, status, out.taken())
+}
+
+// Whether a run that reaches nothing else is so.
+fn is_so(alloc: Global, case: &Case) -> Result<(), Fail> {
+    let mut outside = MemOutside::new(alloc, MemObjects::none(alloc));
+    runs_so(alloc, case, &mut outside)
 }
 
 #[test]
-fn scripts_that_are_checked(rt: HostRuntime) -> Result<(), Fail> {
-    for (pieces, status, text) in CHECKED {
-        is_checked_so(rt.alloc(), pieces, *status, text)?;
+fn runs_in_memory(rt: HostRuntime) -> Result<(), Fail> {
+    'cases: for case in CASES {
+        is_so(rt.alloc(), case)?;
     }
     Ok(())
 }
 
-#[test]
-fn a_read_that_fails(rt: HostRuntime) -> Result<(), Fail> {
-    let alloc = rt.alloc();
-    let pieces: [&[u8]; 2] = [b"zone example.com. ", b"1 open\n"];
-    let ran = replay_pieces(alloc, &pieces, vec![in alloc; 2]?, Vec::new(alloc))?;
-    assert_eq!(rt; ran.status, 3);
-    assert_eq!(rt; ran.wrote.as_slice(), b"read fault\n".as_slice());
-    Ok(())
+// An outside with one file.
+fn with_a_file(alloc: Global) -> Result<MemOutside, AllocError> {
+    let file = MemSource::new(items(alloc, &[b"#\n", b"x"])?, Vec::new(alloc));
+    let mut objects = MemObjects::none(alloc);
+    objects.files = vec![in alloc; file]?;
+    Ok(MemOutside::new(alloc, objects))
 }
 
-#[test]
-fn a_sink_that_takes_nothing(rt: HostRuntime) -> Result<(), Fail> {
-    let alloc = rt.alloc();
-    let ran = replay_pieces(alloc, &[b"x"], Vec::new(alloc), vec![in alloc; 3, 0]?)?;
-    assert_eq!(rt; ran.status, 5);
-    assert_eq!(rt; ran.wrote.as_slice(), b"lin".as_slice());
-    Ok(())
+// What an outside tells of two paths, of which one was there.
+fn tells_two_paths(outside: &MemOutside) -> Result<(), Fail> {
+    if outside.reads() == 1 && outside.opened().len() == 2 && outside.used().len() == 1 {
+        return Ok(());
+    }
+    Err(Fail::new(format_args!("{} reads", outside.reads())))
 }
 
-// A client is told of the address that it asks for by the first settle behind the update which adds it.
-#[test]
-fn a_client_that_is_told_of_an_update(rt: HostRuntime) -> Result<(), Fail> {
-    let alloc = rt.alloc();
-    let pieces: [&[u8]; 6] = [
-        b"zone example.com. 1 open\nclient c\nopen c\n",
-        b"ask c printer.example.com. 1 1\nsettle c\n",
-        b"show c printer.example.com. 1 1\n",
-        b"update 000128000001000000010000076578616d706c6503636f6d0000060001077072696e74657",
-        b"2076578616d706c6503636f6d0000010001000000780004c0000201\n",
-        b"settle c\nshow c printer.example.com. 1 1\n",
-    ];
-    let ran = replay_pieces(alloc, &pieces, Vec::new(alloc), Vec::new(alloc))?;
-    assert_eq!(rt; ran.status, 0);
-    assert_eq!(rt; ran.wrote.as_slice(), TOLD);
-    Ok(())
+fn reads_paths(alloc: Global, outside: &mut MemOutside) -> Result<(), Fail> {
+    'paths: for case in PATHS {
+        runs_so(alloc, case, outside)?;
+    }
+    tells_two_paths(outside)
 }
 
 // The script at a path, and a path where there is none.
 #[test]
 fn a_script_at_a_path(rt: HostRuntime) -> Result<(), Fail> {
-    let alloc = rt.alloc();
-    let file = MemSource::new(items(alloc, &[b"#\n", b"x"])?, Vec::new(alloc));
-    let outside = MemOutside::new(alloc, vec![in alloc; file]?);
-    let words = ["replay", "a/path"];
-    let ran = run_over(
-        alloc,
-        &words,
-        &[],
-        Vec::new(alloc),
-        Vec::new(alloc),
-        outside,
-    )?;
-    assert_eq!(rt; ran.status, 2);
-    assert_eq!(rt; ran.wrote.as_slice(), b"line 2\n".as_slice());
-    let ran = run_over(
-        alloc,
-        &words,
-        &[],
-        Vec::new(alloc),
-        Vec::new(alloc),
-        ran.outside,
-    )?;
-    assert_eq!(rt; ran.status, 3);
-    assert_eq!(rt; ran.wrote.as_slice(), b"read fault\n".as_slice());
-    assert_eq!(rt; ran.outside.reads(), 1);
-    assert_eq!(rt; ran.outside.opened().len(), 2);
-    assert_eq!(rt; ran.outside.used().len(), 1);
-    Ok(())
-}
-
-// The sums over the text of the one script of 1, which has one round.
-#[test]
-fn the_scripts_of_a_number(rt: HostRuntime) -> Result<(), Fail> {
-    let alloc = rt.alloc();
-    let ran = run_over(
-        alloc,
-        &["big", "1"],
-        &[],
-        Vec::new(alloc),
-        Vec::new(alloc),
-        MemOutside::new(alloc, Vec::new(alloc)),
-    )?;
-    assert_eq!(rt; ran.status, 0);
-    assert_eq!(rt;
-        ran.wrote.as_slice(),
-        b"big 1 points 2 held 2 lines 14\n".as_slice()
-    );
-    Ok(())
-}
-
-// A source over two readers, of which the second is there, and a sink with room for two octets.
-#[test]
-fn adapters_in_memory(rt: HostRuntime) -> Result<(), Fail> {
-    let mut source = Reading::new(Origin::<&[u8], &[u8]>::File(b"ab"));
-    let mut buf = [0; 3];
-    assert_eq!(rt; source.read(&mut buf), Ok(2));
-    assert_eq!(rt; buf, [b'a', b'b', 0]);
-    assert_eq!(rt; source.read(&mut buf), Ok(0));
-    let mut octets = [0; 2];
-    let mut sink = Writing::new(octets.as_mut_slice());
-    assert_eq!(rt; sink.write(b"abc"), Ok(2));
-    assert_eq!(rt; sink.write(b"c"), Err(Failed));
-    Ok(())
+    let mut outside = with_a_file(rt.alloc())?;
+    reads_paths(rt.alloc(), &mut outside)
 }

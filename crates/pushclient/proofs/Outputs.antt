@@ -1,5 +1,7 @@
 -- What a client has to send already changes nothing of what it does: more is said behind it.
+--     same-reacted      a reaction, where others stand before what is to be sent
 --     takes-before      octets that go in, where others stand before what is to be sent
+--     given-away      all that a client has to send stands before nothing
 --     says-the-same      what is given away between pieces changes nothing
 use Rattle.std.proofs.Common.{◌≡◌, ℕ, zero, suc, Bool, true, false, cond, not, List, [], ◌∷◌, ◌++◌, length, take, drop, ◌-◌, Option, Some, None, Result, Ok, Err, refl, sym, ◌∙◌, ap, append_assoc, append-nil, arith}
 use Rattle.std.proofs.lemmas.List.{drop_all}
@@ -26,11 +28,11 @@ use Rattle.pushclient.proofs.MessageSteps.{over, unclosed_by, step_by}
 use Rattle.pushclient.proofs.PieceSteps.{offered, takes_by}
 use Rattle.pushclient.proofs.Reactions.{at, adopts_by, answer_by, push_by, reacted_by}
 
-abbrev before_step : List ℕ → Step × Client → Step × Client
+abbrev pub before_step : List ℕ → Step × Client → Step × Client
 before_step octets r = (r.0, sends_before octets r.1)
 
 -- a step, or a client, with these octets before what is to be sent
-record IsBefore (y : List ℕ) (r s : Step × Client) : Type 0 where
+pub record IsBefore (y : List ℕ) (r s : Step × Client) : Type 0 where
   pub is : r ≡ before_step y s
 
 record StandsBefore (y : List ℕ) (a b : Client) : Type 0 where
@@ -45,11 +47,11 @@ either_client true first second = first
 either_client false first second = second
 
 module _ (now : ℕ) (y : List ℕ) where
-  abbrev said : Connection → Connection
+  abbrev pub said : Connection → Connection
   said c = record c { output = y ++ c.output }
 
   -- a call does the same
-  abbrev Same : (Client → Step × Client) → List Wish → Connection → Type 0
+  abbrev pub Same : (Client → Step × Client) → List Wish → Connection → Type 0
   Same f ws c = IsBefore y (f (at ws now (said c))) (f (at ws now c))
 
   -- a message is written behind
@@ -93,7 +95,7 @@ module _ (now : ℕ) (y : List ℕ) where
   same-by_reaction Push message id rcode ws c = same-push_taken (primary_data message) ws c
   same-by_reaction (Close reason) message id rcode ws c = record { is = refl }
 
-  same-reacted : (message : List ℕ) (before : Connection) (ws : List Wish) (c : Connection) → Same (reacted message before) ws c
+  pub same-reacted : (message : List ℕ) (before : Connection) (ws : List Wish) (c : Connection) → Same (reacted message before) ws c
   same-reacted message before ws c = by (head_of message)
     where
       by : (head : Option DsoHead) → IsBefore y (reacted_by message before (at ws now (said c)) head) (reacted_by message before (at ws now c) head)
@@ -198,7 +200,7 @@ pieces-before y turns (p ∷ ps) client =
     ∙ ap (λ (s : OnOctets). followed_by (takes turns turns p client) s) (pieces-before y turns ps (takes turns turns p client).client)
 
 -- all that a client has to send is given away
-given-away : (client : Client) → client ≡ sends_before (output_of client) (give_octets (length (output_of client)) client)
+pub given-away : (client : Client) → client ≡ sends_before (output_of client) (give_octets (length (output_of client)) client)
 given-away client = by client.connection
   where
     by : (x : Option Connection) → record client { connection = x } ≡ sends_before (output_of (record client { connection = x })) (give_octets (length (output_of (record client { connection = x }))) (record client { connection = x }))

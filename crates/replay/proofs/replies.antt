@@ -1,4 +1,3 @@
 -- What a script is answered, and what is written of it.
 pub mod Written
-pub mod ReadAndWritten
 pub mod ScriptReplies

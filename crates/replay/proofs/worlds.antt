@@ -1,5 +1,6 @@
 -- Calls kept over the plain world, line by line.
 pub mod OneWorld
+pub mod Happening
 pub mod FedSeats
 pub mod Keeping
 pub mod PassedWorlds

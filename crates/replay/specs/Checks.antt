@@ -4,7 +4,7 @@ use Rattle.std.specs.Prelude.{ℕ, List, ◌++◌, length, Ok, Err, codes, decim
 use Rattle.replay.specs.declared.outcome.Outcome.TheVariants as outcomes
 use Rattle.replay.specs.Outcomes.{status_of}
 use Rattle.replay.specs.Reply.{Reply, line}
-use Rattle.replay.specs.Scripts.{lines_in, script_of}
+use Rattle.scripts.specs.Scripts.{lines_in, script_of}
 use Rattle.replay.specs.Text.{outside_text}
 
 -- what is written of a script with so many lines

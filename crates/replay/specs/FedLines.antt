@@ -9,8 +9,8 @@ use Rattle.dsotlv.specs.Messages.{messages_in}
 use Rattle.dsosession.specs.declared.session.CloseReason.{CloseReason}
 use Rattle.pushclient.specs.Clients.{is_connected, output_of, closed_as}
 use Rattle.pushclient.specs.Pieces.{OnMessages, on_messages, with_input, input_of}
-use Rattle.replay.specs.Lines.{Word, ScriptLine, feed}
-use Rattle.replay.specs.Scripts.{script_of}
+use Rattle.scripts.specs.Lines.{Word, ScriptLine, feed}
+use Rattle.scripts.specs.Scripts.{script_of}
 use Rattle.replay.specs.World.{Seat, World, start_world, seat_of, cut_seat}
 use Rattle.replay.specs.PassedOctets.{without_output}
 use Rattle.replay.specs.TextWords.{bytes_line, HeldRecords, by_history}

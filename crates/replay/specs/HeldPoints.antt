@@ -9,7 +9,7 @@ use Rattle.rrset.specs.Records.{same_question}
 use Rattle.rrset.specs.declared.record.Question.{Question}
 use Rattle.pushserver.specs.PlainHubs.{Note, told}
 use Rattle.pushclient.specs.Clients.{Held, set_held, held, is_connected}
-use Rattle.replay.specs.Lines.{Word, ScriptLine, silent, settle, point, show}
+use Rattle.scripts.specs.Lines.{Word, ScriptLine, silent, settle, point, show}
 use Rattle.replay.specs.World.{Seat, World, seat_of, start_world}
 use Rattle.replay.specs.TextWords.{by_history, note_in, is_filling}
 use Rattle.replay.specs.Text.{line_does}

@@ -2,8 +2,8 @@
 --     AreEnds octets ends      the hub and the clients stand for those behind the last line of the script
 --     EndsWhenDone outcome ends, ends_with outcome ends      ends are there exactly where the whole text of a script was written
 use Rattle.std.specs.Prelude.{◌≡◌, ℕ, List, Option, Some, None, Ok}
-use Rattle.replay.specs.Lines.{ScriptLine}
-use Rattle.replay.specs.Scripts.{script_of}
+use Rattle.scripts.specs.Lines.{ScriptLine}
+use Rattle.scripts.specs.Scripts.{script_of}
 use Rattle.replay.specs.World.{start_world}
 use Rattle.replay.specs.TextWords.{by_notices}
 use Rattle.replay.specs.Text.{world_after}

@@ -7,7 +7,7 @@ use Rattle.dsosession.specs.declared.session.CloseReason.{CloseReason}
 use Rattle.pushserver.specs.PlainHubs.{Hub}
 use Rattle.pushserver.specs.KeptHubs.{KeptHub, StandsFor}
 use Rattle.pushclient.specs.Clients.{closed_as, output_of}
-use Rattle.replay.specs.Lines.{Word}
+use Rattle.scripts.specs.Lines.{Word}
 use Rattle.replay.specs.World.{Seat, with_client, is_over, cut_if, hub_cut_if}
 use Rattle.replay.specs.PassedOctets.{reached_by, fed_client}
 use Rattle.replay.specs.TextWords.{bytes_line}

@@ -10,7 +10,7 @@ use Rattle.dsosession.specs.declared.session.EndReason.{EndReason}
 use Rattle.dsosession.specs.declared.session.CloseReason.{CloseReason}
 use Rattle.pushserver.specs.KeptHubs.{KeptHub, StandsFor}
 use Rattle.pushclient.specs.Clients.{closed_as}
-use Rattle.replay.specs.Lines.{Word}
+use Rattle.scripts.specs.Lines.{Word}
 use Rattle.replay.specs.World.{World, Seat, is_over, cut_if, hub_cut_if}
 use Rattle.replay.specs.PassedOctets.{Passed, say, up, emit, down, is_still, round, settled, enough, by_session}
 use Rattle.replay.specs.Text.{Printed, by_seat, finished}

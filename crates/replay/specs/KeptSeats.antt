@@ -15,10 +15,11 @@ use Rattle.pushserver.specs.Hubs.{now}
 use Rattle.pushserver.specs.KeptHubs.{KeptHub, StandsFor}
 use Rattle.pushclient.specs.Clients.{Client, closed_as, is_connected}
 use Rattle.pushclient.specs.Steps.{moment}
-use Rattle.replay.specs.Lines.{Word}
+use Rattle.scripts.specs.Lines.{Word}
 use Rattle.replay.specs.World.{World, Seat, with_client, is_over, cut_if, hub_without, hub_cut_if}
 use Rattle.replay.specs.Text.{close_lines, ended_lines, timed}
-use Rattle.replay.specs.KeptWorlds.{KeptSeat, Seated, Parties, StandsForSeat, StandForSeats, AreDistinct, words_in}
+use Rattle.replay.specs.KeptWorlds.{KeptSeat, Seated, Parties, StandsForSeat, StandForSeats, words_in}
+use Rattle.scripts.specs.Scripts.{AreDistinct}
 
 abbrev pub has_word : Word → KeptSeat → Bool
 has_word w k = bytes_eq k.word w

@@ -9,11 +9,11 @@ use Rattle.rrset.specs.declared.record.Question.{Question}
 use Rattle.pushserver.specs.PlainHubs.{Hub}
 use Rattle.pushclient.specs.Clients.{held, id_of}
 use Rattle.pushclient.specs.Kept.{IsHeld}
-use Rattle.replay.specs.Lines.{Word}
+use Rattle.scripts.specs.Lines.{Word}
 use Rattle.replay.specs.World.{Seat}
 use Rattle.replay.specs.TextWords.{record_line, ShowTold, shown_lines, by_notices, is_filling, told_of}
 use Rattle.replay.specs.Text.{ended_lines}
-use Rattle.replay.specs.declared.line.Showing.{Showing}
+use Rattle.scripts.specs.declared.line.Showing.{Showing}
 use Rattle.replay.specs.KeptWorlds.{KeptSeat, StandsForSeat}
 
 -- a line for each record

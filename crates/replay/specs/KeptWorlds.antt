@@ -1,33 +1,26 @@
 -- The world that a run stands for: it has a hub, words of links, peers and clients.
---     words_of words      words as they are kept
 --     named peers      the words of the peers with the numbers of their sessions
 --     seated seats      the clients as they are kept
 --     TellsEnds kept plain      the ends of first answers, counted up to the last number
 --     StandsForSeat kept seat      what is kept of a client stands for its seat
---     AreDistinct words      no word twice
 --     StandsForWorld kept parties world, IsWorld kept world      what is kept stands for the world
 --     HasPrinted kept parties text printed      this text was printed, and what is kept stands for the world behind it
 --     Acts act .., Does act before text after      so it is of the act, whatever world is stood for in which each client has its own word
 use Rattle.std.specs.Prelude.{◌≡◌, ℕ, ◌<◌, Bool, Option, option_map, min, List, [], ◌∷◌, map, string_bytes}
-use Rattle.std.specs.List.{IsDistinct}
-use Rattle.std.specs.Str.{bytes_eq}
-use Rattle.std.specs.declared.alloc.Global.{Global}
-use Rattle.std.specs.declared.string.String.{String}
 use Rattle.push_base.specs.Limits.{max_number}
 use Rattle.pushserver.specs.KeptHubs as hubs
 use Rattle.pushserver.specs.KeptHubs.{KeptHub}
 use Rattle.pushclient.specs.Rule as clients
 use Rattle.pushclient.specs.Rule.{KeptClient}
 use Rattle.inflight.specs.Ends.{told_end}
-use Rattle.replay.specs.Lines.{Word}
+use Rattle.scripts.specs.Lines.{Word}
+use Rattle.scripts.specs.KeptLines.{words_of}
+use Rattle.scripts.specs.Scripts.{AreDistinct}
 use Rattle.replay.specs.World.{Seat, World}
 use Rattle.replay.specs.Text.{Printed, ended_lines}
 use Rattle.replay.specs.declared.world.Peer.{Peer}
 use Rattle.replay.specs.declared.seats.Seat as program_seats
 use Rattle.replay.specs.declared.world.World as program
-
-abbrev pub words_of : List (String Global) → List Word
-words_of words = map (λ w. string_bytes w) words
 
 abbrev pub Named : Type 0
 Named = List (Word × ℕ)
@@ -94,10 +87,6 @@ abbrev pub StandForSeats : Seated → List Seat → Type 0
 StandForSeats [] [] = Unit {0}
 StandForSeats (k ∷ ks) (s ∷ ss) = StandsForSeat k s × StandForSeats ks ss
 StandForSeats _ _ = ⊥
-
--- no word twice
-abbrev pub AreDistinct : List Word → Type 0
-AreDistinct words = IsDistinct bytes_eq words
 
 abbrev pub words_in : World → List Word
 words_in world = map (λ (s : Seat). s.word) world.seats

@@ -1,6 +1,7 @@
 -- How a replay ends, as numbers.
 --     status_of outcome      the status of an outcome
-use Rattle.std.specs.Prelude.{ℕ}
+--     HasRead status      the script was read
+use Rattle.std.specs.Prelude.{◌≡◌, ◌⊎◌, ℕ}
 use Rattle.replay.specs.declared.outcome.Outcome.{Outcome}
 use Rattle.replay.specs.declared.outcome.Outcome.TheVariants.{Done, Outside, ReadFault, NoMemory, WriteFault}
 
@@ -10,3 +11,7 @@ status_of Outside = 2
 status_of ReadFault = 3
 status_of NoMemory = 4
 status_of WriteFault = 5
+
+-- the status says that the script was read
+abbrev pub HasRead : ℕ → Type 0
+HasRead status = (status ≡ status_of Done) ⊎ (status ≡ status_of Outside)

@@ -12,7 +12,7 @@ use Rattle.pushclient.specs.declared.client.Step.TheVariants.{Waiting, Closed}
 use Rattle.pushclient.specs.Clients as clients
 use Rattle.pushclient.specs.Clients.{Client, output_of, give_octets, room_of}
 use Rattle.pushclient.specs.Steps.{step}
-use Rattle.replay.specs.Lines.{max_octets_passed}
+use Rattle.scripts.specs.Lines.{max_octets_passed}
 use Rattle.replay.specs.World.{Seat, World}
 use Rattle.inflight.specs.Ends.{remembers}
 

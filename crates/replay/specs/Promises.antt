@@ -35,8 +35,8 @@ use Rattle.inflight.specs.Messages.{Flying, made_of}
 use Rattle.inflight.specs.Ends.{ends_of, going_up, going_down}
 use Rattle.inflight.specs.Flight.{AreSoundWishes, InFlight, FirstAnswersEnd}
 use Rattle.inflight.specs.Holding.{will_hold, HoldsThen}
-use Rattle.replay.specs.Lines.{Word, ScriptLine, show, settle}
-use Rattle.replay.specs.Scripts.{is_among, script_of}
+use Rattle.scripts.specs.Lines.{Word, ScriptLine, show, settle}
+use Rattle.scripts.specs.Scripts.{is_among, script_of}
 use Rattle.replay.specs.World.{World, Seat, seat_of, start_world, last_of}
 use Rattle.replay.specs.TextWords.{HeldRecords, by_history, show_at, with_records, is_filling, records_told, shown_lines, end_line, closed_line}
 use Rattle.replay.specs.Text.{line_does, world_after, text_of_script, text_by_notices}

@@ -15,8 +15,8 @@ use Rattle.pushsession.specs.declared.standing.Standing.TheVariants.{Live, Ended
 use Rattle.pushsession.specs.Sessions.{without_first}
 use Rattle.pushserver.specs.PlainHubs.{Session, Hub}
 use Rattle.pushserver.specs.Hubs.{session_of}
-use Rattle.replay.specs.Lines.{Word, ScriptLine, cut, send, stop}
-use Rattle.replay.specs.Scripts.{script_of}
+use Rattle.scripts.specs.Lines.{Word, ScriptLine, cut, send, stop}
+use Rattle.scripts.specs.Scripts.{script_of}
 use Rattle.replay.specs.World.{World, start_world, session_number}
 use Rattle.replay.specs.TextWords.{bytes_line, HeldRecords, by_history}
 use Rattle.replay.specs.Text.{end_lines, ended_lines, placed, line_does, printed_by, world_after}

@@ -14,8 +14,8 @@ use Rattle.dsotlv.specs.Answers.{answer_to}
 use Rattle.pushsession.specs.Sessions.{new_session}
 use Rattle.pushsession.specs.Subscribing.{first_answer_octets}
 use Rattle.pushserver.specs.Laws.{IsAcceptable}
-use Rattle.replay.specs.Lines.{Word, ScriptLine, send}
-use Rattle.replay.specs.Scripts.{script_of}
+use Rattle.scripts.specs.Lines.{Word, ScriptLine, send}
+use Rattle.scripts.specs.Scripts.{script_of}
 use Rattle.replay.specs.World.{World, start_world, session_number}
 use Rattle.replay.specs.TextWords.{bytes_line, HeldRecords, by_history}
 use Rattle.replay.specs.Text.{ended_lines, line_does, printed_by, world_after}

@@ -18,15 +18,16 @@ use Rattle.pushclient.specs.declared.client.Asked.TheVariants as asked
 use Rattle.pushclient.specs.Clients as clients
 use Rattle.pushclient.specs.Clients.{Client, is_connected, output_of, closed_as, connected}
 use Rattle.pushclient.specs.Steps as steps
-use Rattle.replay.specs.Lines.{Word, ScriptLine, client, lone, at_moment, update, hear, ask, drop_question, reconfirm, open_connection, cut, say, up, emit, down, settle, send, feed, stop, point, show}
+use Rattle.scripts.specs.Lines.{Word, ScriptLine, client, lone, at_moment, update, hear, ask, drop_question, reconfirm, open_connection, cut, say, up, emit, down, settle, send, feed, stop, point, show}
 use Rattle.replay.specs.declared.outcome.Outcome.TheVariants as outcomes
 use Rattle.replay.specs.Outcomes.{status_of}
 use Rattle.replay.specs.Reply.{line}
-use Rattle.replay.specs.Scripts.{script_of}
+use Rattle.scripts.specs.Scripts.{script_of}
 use Rattle.replay.specs.World.{Seat, World, new_seat, start_world, seat_of, with_seat, session_number, with_client, joined, stopped_hub, cut_connection, cut_peer, is_over, world_cut_if}
 use Rattle.replay.specs.PassedOctets as running
 use Rattle.replay.specs.PassedOctets.{Passed, passed, by_session, settling, enough, exchanged, reached_by, fed_client}
-use Rattle.replay.specs.TextWords.{spaced, why_words, bytes_words, bytes_line, open_words, noseat_words, end_line, closed_line, shown_lines, HeldRecords, by_history, by_notices, show_at}
+use Rattle.scripts.specs.Words.{spaced}
+use Rattle.replay.specs.TextWords.{why_words, bytes_words, bytes_line, open_words, noseat_words, end_line, closed_line, shown_lines, HeldRecords, by_history, by_notices, show_at}
 
 -- a world, and the lines that were printed on the way to it
 abbrev pub Printed : Type 0

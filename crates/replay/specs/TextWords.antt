@@ -1,13 +1,9 @@
 -- The words of a script's text.
---     spaced words      words with a space between each two
---     end_words, close_words, why_words      reasons
+--     end_words, why_words      reasons
 --     bytes_words, open_words, noseat_words      the words of such lines
 --     bytes_line, end_line, closed_line, shown_lines      the line on octets, on an end, on a close, and those on a question
 --     show_at records world seat question      what `show` tells behind the question
 use Rattle.std.specs.Prelude.{ℕ, Bool, true, List, [], ◌∷◌, map, length, Option, Some, None, nat_lt, codes, decimal, if◌then◌else◌}
-use Rattle.std.specs.List.{join_with_byte}
-use Rattle.push_base.specs.Hexadecimal.{hex_text}
-use Rattle.push_base.specs.Cases.{is_empty}
 use Rattle.dnsname.specs.Text.{name_text}
 use Rattle.rrset.specs.RecordSet.{RecordSet}
 use Rattle.rrset.specs.declared.record.Key.{Key}
@@ -16,18 +12,15 @@ use Rattle.rrset.specs.declared.record.Question.{Question}
 use Rattle.dsosession.specs.declared.session.EndReason.{EndReason}
 use Rattle.dsosession.specs.declared.session.EndReason.TheVariants as ends
 use Rattle.dsosession.specs.declared.session.CloseReason.{CloseReason}
-use Rattle.dsosession.specs.declared.session.CloseReason.TheVariants as closes
 use Rattle.pushserver.specs.declared.given.Why.{Why}
 use Rattle.pushserver.specs.declared.given.Why.TheVariants as whys
 use Rattle.pushserver.specs.PlainHubs.{Note, Hub}
 use Rattle.pushserver.specs.Hubs.{session_of}
 use Rattle.pushserver.specs.ToldMessages.{records_noted}
 use Rattle.pushclient.specs.Clients.{Held, off, asked_only, refused_with, set_held, held}
-use Rattle.replay.specs.Lines.{Word}
+use Rattle.scripts.specs.Lines.{Word}
+use Rattle.scripts.specs.Words.{spaced, close_words, octets_text}
 use Rattle.replay.specs.World.{Seat, World, last_note, filled_of}
-
-abbrev pub spaced : List (List ℕ) → List ℕ
-spaced words = join_with_byte 32 words
 
 abbrev pub end_words : EndReason → List ℕ
 end_words ends.Short = codes "short"
@@ -46,21 +39,6 @@ end_words ends.Stopped = codes "stopped"
 end_words (ends.Behind point) = spaced (codes "behind" ∷ decimal point ∷ [])
 end_words ends.Gone = codes "gone"
 
-abbrev pub close_words : CloseReason → List ℕ
-close_words closes.Short = codes "short"
-close_words closes.Opcode = codes "opcode"
-close_words closes.Counts = codes "counts"
-close_words closes.Tlvs = codes "tlvs"
-close_words closes.Early = codes "early"
-close_words closes.Idle = codes "idle"
-close_words (closes.Stranger id) = spaced (codes "stranger" ∷ decimal id ∷ [])
-close_words (closes.Misuse kind) = spaced (codes "misuse" ∷ decimal kind ∷ [])
-close_words (closes.BadData kind) = spaced (codes "data" ∷ decimal kind ∷ [])
-close_words (closes.Unknown kind) = spaced (codes "type" ∷ decimal kind ∷ [])
-close_words (closes.Interval ms) = spaced (codes "interval" ∷ decimal ms ∷ [])
-close_words (closes.Kept rcode) = spaced (codes "kept" ∷ decimal rcode ∷ [])
-close_words (closes.Delay ms rcode) = spaced (codes "delay" ∷ decimal ms ∷ decimal rcode ∷ [])
-
 abbrev pub why_words : Why → List ℕ
 why_words whys.Long = codes "long"
 why_words whys.Short = codes "short"
@@ -68,10 +46,6 @@ why_words whys.Query = codes "query"
 why_words whys.Coded = codes "coded"
 why_words (whys.Unreadable place) = spaced (codes "unreadable" ∷ decimal place ∷ [])
 why_words whys.Nothing = codes "nothing"
-
--- octets in hexadecimal, and - for none
-abbrev pub octets_text : List ℕ → List ℕ
-octets_text octets = if is_empty octets then codes "-" else hex_text octets
 
 abbrev pub record_line : Key × Shown → List ℕ
 record_line e = spaced (codes "rr" ∷ name_text e.1.owner ∷ decimal e.1.ttl ∷ decimal e.0.class ∷ decimal e.0.kind ∷ octets_text e.1.rdata ∷ [])

@@ -25,15 +25,14 @@ use Rattle.dsosession.specs.declared.session.CloseReason.TheVariants as closes
 use Rattle.inflight.specs.Messages.{flying_octets}
 use Rattle.inflight.specs.Ends.{ends_of, going_up, going_down}
 use Rattle.inflight.specs.Worked.{client_message, server_message, flying_of, unmet, unmet_together, unmet_of_wishes, count_together, none_twice, first_answers_end}
-use Rattle.replay.specs.Lines.{Word, ScriptLine, ask, settle, show, open_connection}
+use Rattle.scripts.specs.Lines.{Word, ScriptLine, ask, settle, show, open_connection}
 use Rattle.replay.specs.HeldPoints.{held_points, point_at, settles_alone, leaves_settled}
 use Rattle.replay.specs.Promises.{is_wanted, numbers_of, point_taken, is_end_by_itself, is_close_by_itself}
-use Rattle.replay.specs.World.{seat_of}
-use Rattle.replay.specs.TextWords.{spaced, end_words, close_words, ShowTold, show_at, with_records}
-use Rattle.replay.specs.Scripts.{script_of}
-use Rattle.replay.specs.World.{Seat, World, start_world, whole_within}
+use Rattle.replay.specs.World.{seat_of, Seat, World, start_world, whole_within}
+use Rattle.scripts.specs.Words.{spaced, close_words}
+use Rattle.replay.specs.TextWords.{end_words, ShowTold, show_at, with_records, by_history}
+use Rattle.scripts.specs.Scripts.{script_of}
 use Rattle.replay.specs.PassedOctets.{max_wire}
-use Rattle.replay.specs.TextWords.{by_history}
 use Rattle.replay.specs.Text.{line_does, text_of_script, text_by_notices}
 use Rattle.pushclient.specs.ServerMessages.{server_octets}
 

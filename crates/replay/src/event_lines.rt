@@ -7,7 +7,7 @@ ghost use Rattle.replay.specs.Text.{cuts, exchanges, line_does, moments, printin
 ghost use Rattle.pushserver.specs.Hubs.{newest, now};
 ghost use Rattle.pushserver.specs.KeptHubs.{StandsFor};
 ghost use Rattle.pushserver.specs.PlainHubs.{Hub as PlainHub};
-ghost use Rattle.replay.specs.KeptLines.{event_said};
+ghost use Rattle.scripts.specs.KeptLines.{event_said};
 ghost use Rattle.replay.specs.KeptWorlds.{Does, IsWorld, parties_of};
 ghost use Rattle.replay.specs.KeptSeats.{TimesWorld};
 ghost use Rattle.replay.specs.World.{World as Plain, stopped_hub};
@@ -18,7 +18,6 @@ use crate::client_lines::{
 use crate::exchanging::{Exchanged, exchange};
 use crate::feed_lines::feed_lines;
 use crate::hear_lines::hear_line;
-use crate::line::Event;
 use crate::passing_lines::passing_line;
 use crate::printed::{
     bytes_line, cut_text, end_text, end_words, full_text, noseat_text, point_text, stop_text,
@@ -31,6 +30,7 @@ use crate::world::{Peer, World};
 use dsosession::session::EndReason;
 use push_base::NoMemory;
 use pushserver::{ConnectFault, Hub, HubFault};
+use scripts::line::Event;
 use std::alloc::Global;
 
 /// What an event prints, each line with its end.

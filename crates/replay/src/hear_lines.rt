@@ -2,7 +2,7 @@
 
 ghost use Rattle.std.specs.Prelude.{◌≡◌, position, IfOk, string_bytes};
 ghost use Rattle.replay.specs.Text.{hears, number_or_zero};
-ghost use Rattle.replay.specs.Drafts.{is_word};
+ghost use Rattle.scripts.specs.Drafts.{is_word};
 ghost use Rattle.replay.specs.KeptWorlds.{Does};
 
 use crate::printed::{full_text, heard_text};

@@ -9,11 +9,12 @@ ghost use Rattle.replay.specs.PassedOctets.{max_wire};
 
 use crate::printed::{closing_line, end_line, way_text};
 use crate::seats::{Seat, finish, place_of};
-use crate::settling::{MAX_WIRE, Passage, Way, pass};
+use crate::settling::{Passage, Way, pass};
 use crate::world::World;
 use dsosession::session::{CloseReason, EndReason};
 use push_base::NoMemory;
 use pushserver::Hub;
+use scripts::line_words::MAX_WIRE;
 use std::alloc::Global;
 
 /// How a passing of octets ended: how many passed, why the session ended, if that was told, and why the client has

@@ -1,16 +1,18 @@
 //! The lines that events print, and the words in them.
 
 ghost use Rattle.std.specs.Prelude.{◌≡◌, ◌++◌, ◌∷◌, [], codes, decimal, IfOk, Some, string_bytes};
-ghost use Rattle.replay.specs.TextWords.{close_words, end_words, octets_text, why_words};
+ghost use Rattle.scripts.specs.Words.{octets_text};
+ghost use Rattle.replay.specs.TextWords.{end_words, why_words};
 ghost use Rattle.replay.specs.Text.{asked_words, end_lines, ended_lines, heard_words, yes_or_no};
 ghost use Rattle.replay.specs.KeptSeats.{closing_text};
 ghost use Rattle.replay.specs.KeptPassings.{way_text};
 
 use crate::settling::Way;
 use dsosession::session::{CloseReason, EndReason};
-use push_base::{NoMemory, hex_text};
+use push_base::NoMemory;
 use pushclient::client::Asked;
 use pushserver::given::{Heard, Why};
+use scripts::{close_words, octets_text};
 use std::alloc::Global;
 
 /// The line of an update, with its RCODE.
@@ -87,17 +89,6 @@ pub(crate) fn bytes_line(alloc: Global, word: &str, octets: &[u8]) -> Result<Str
 {
     let digits = octets_text(alloc, octets)?;
     bytes_text(alloc, word, digits.as_str())
-}
-
-/// Octets in hexadecimal, and `-` for none.
-pub(crate) fn octets_text(alloc: Global, octets: &[u8]) -> Result<String, NoMemory>
-    ensures { IfOk result (λ text. string_bytes text ≡ octets_text octets.now) }
-{
-    if octets.is_empty() {
-        format!(in alloc; "-")
-    } else {
-        hex_text(alloc, octets)
-    }
 }
 
 fn bytes_text(alloc: Global, word: &str, digits: &str) -> Result<String, NoMemory>
@@ -277,25 +268,4 @@ fn closed_text(alloc: Global, word: &str, words: &str) -> Result<String, NoMemor
     ensures { IfOk result (λ text. string_bytes text ≡ codes "closed " ++ (word.now ++ 32 ∷ (words.now ++ 10 ∷ []))) }
 {
     format!(in alloc; "closed {word} {words}\n")
-}
-
-// The words of the reason of a close.
-fn close_words(alloc: Global, reason: CloseReason) -> Result<String, NoMemory>
-    ensures { IfOk result (λ text. string_bytes text ≡ close_words reason) }
-{
-    match reason {
-        CloseReason::Short => format!(in alloc; "short"),
-        CloseReason::Opcode => format!(in alloc; "opcode"),
-        CloseReason::Counts => format!(in alloc; "counts"),
-        CloseReason::Tlvs => format!(in alloc; "tlvs"),
-        CloseReason::Early => format!(in alloc; "early"),
-        CloseReason::Idle => format!(in alloc; "idle"),
-        CloseReason::Stranger(id) => format!(in alloc; "stranger {id}"),
-        CloseReason::Misuse(kind) => format!(in alloc; "misuse {kind}"),
-        CloseReason::BadData(kind) => format!(in alloc; "data {kind}"),
-        CloseReason::Unknown(kind) => format!(in alloc; "type {kind}"),
-        CloseReason::Interval(interval) => format!(in alloc; "interval {interval}"),
-        CloseReason::Kept(rcode) => format!(in alloc; "kept {rcode}"),
-        CloseReason::Delay(delay, rcode) => format!(in alloc; "delay {delay} {rcode}"),
-    }
 }

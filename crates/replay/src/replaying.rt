@@ -1,21 +1,21 @@
 //! A script is read, run, and its text written.
 
 ghost use Rattle.std.specs.Prelude.{◌≡◌, ◌+◌, ◌≤◌, None, IfSome};
-ghost use Rattle.replay.specs.Scripts.{max_script};
+ghost use Rattle.scripts.specs.Scripts.{max_script};
 ghost use Rattle.push_base.specs.Causes.{Rose};
 ghost use Rattle.replay.specs.Reply.{Answers, Took};
-ghost use Rattle.replay.specs.Sources.{Gave, HasRead, LeftBehind, LostAtMost};
+ghost use Rattle.scripts.specs.Sources.{Gave, LeftBehind, LostAtMost, front_read};
+ghost use Rattle.replay.specs.Outcomes.{HasRead, status_of};
 ghost use Rattle.replay.specs.TextWords.{by_notices};
-ghost use Rattle.replay.specs.ScriptReplies.{front_read, reply_to_script};
+ghost use Rattle.replay.specs.ScriptReplies.{reply_to_script};
 ghost use Rattle.replay.specs.KeptEnds.{AreEnds, EndsWhenDone, ends_with};
-ghost use Rattle.replay.specs.Outcomes.{status_of};
 
 use crate::ends::Ends;
 use crate::outcome::Outcome;
-use crate::read::{ReadError, read_script};
 use crate::reply::{Reply, reply_to};
 use crate::write::tell;
 use push_base::{NoMemory, Sink, Source};
+use scripts::{ReadError, read_script};
 use std::alloc::Global;
 
 /// What is written where a read of the source failed.

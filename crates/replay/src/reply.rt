@@ -9,9 +9,9 @@ ghost use Rattle.replay.specs.Reply.{reply_of};
 
 use crate::ends::{Ends, ends_of};
 use crate::outcome::Outcome;
-use crate::script::{ReadScript, read_script_lines};
 use crate::script_text::{Played, script_text};
 use push_base::NoMemory;
+use scripts::{ReadScript, read_script_lines};
 use std::alloc::Global;
 
 /// How a replay ends if all goes well, the text that is then written, and what the script leaves.

@@ -5,14 +5,15 @@ ghost use Rattle.history.specs.Kept.{state_of};
 ghost use Rattle.history.specs.Plans.{IsStart};
 ghost use Rattle.replay.specs.TextWords.{by_notices};
 ghost use Rattle.replay.specs.Text.{ended_lines, printed_by, world_after};
-ghost use Rattle.replay.specs.Scripts.{client_word};
-ghost use Rattle.replay.specs.KeptScripts.{events_said, world_at_start};
-ghost use Rattle.replay.specs.KeptWorlds.{AreDistinct, IsWorld};
+ghost use Rattle.scripts.specs.Scripts.{client_word, AreDistinct};
+ghost use Rattle.scripts.specs.KeptScripts.{events_said};
+ghost use Rattle.replay.specs.KeptScripts.{world_at_start};
+ghost use Rattle.replay.specs.KeptWorlds.{IsWorld};
 
 use crate::event_lines::event_line;
-use crate::script::Script;
 use crate::world::World;
 use push_base::NoMemory;
+use scripts::Script;
 use std::alloc::Global;
 
 /// The text of a script, and the world behind its last line.

@@ -17,9 +17,7 @@ use dsosession::session::EndReason;
 use push_base::NoMemory;
 use pushclient::Client;
 use pushserver::Hub;
-
-/// A wire holds at most so many octets.
-pub const MAX_WIRE: usize = 1_048_576;
+use scripts::line_words::MAX_WIRE;
 
 /// Which way octets of a client pass, and at most how many of them.
 #[derive(Clone, Copy)]

@@ -2,19 +2,20 @@
 
 ghost use Rattle.std.specs.Prelude.{◌≡◌, ◌++◌, ◌∷◌, [], codes, decimal, IfOk, string_bytes};
 ghost use Rattle.inflight.specs.Ends.{told_end};
-ghost use Rattle.replay.specs.TextWords.{by_notices, spaced, with_records};
+ghost use Rattle.replay.specs.TextWords.{by_notices, with_records};
+ghost use Rattle.scripts.specs.Words.{spaced};
 ghost use Rattle.replay.specs.Text.{shows};
 ghost use Rattle.replay.specs.KeptWorlds.{Does, seat_kept};
 ghost use Rattle.replay.specs.KeptShows.{IsFilling, ShowsSeat, ShowsSet, record_lines, showing_text};
 
-use crate::line::Showing;
-use crate::printed::octets_text;
 use crate::seats::{Seat, place_of};
 use crate::world::World;
 use push_base::NoMemory;
 use pushclient::client::Held;
 use rrset::Table;
 use rrset::record::{Key, Question, Shown};
+use scripts::line::Showing;
+use scripts::octets_text;
 use std::alloc::Global;
 
 /// What a client knows of a question, and where it holds a set its records, each in a line.

@@ -86,8 +86,12 @@ pub(crate) fn hand_out(alloc: Global, client: &mut Client) -> Result<Vec<u8>, No
     hand_out_over(alloc, client, buffer.as_mut_slice())
 }
 
-// The same over a buffer that has room for an octet.
-fn hand_out_over(alloc: Global, client: &mut Client, buffer: &mut [u8]) -> Result<Vec<u8>, NoMemory>
+/// All that a client has to send is handed out, over a buffer that has room for an octet.
+pub fn hand_out_over(
+    alloc: Global,
+    client: &mut Client,
+    buffer: &mut [u8],
+) -> Result<Vec<u8>, NoMemory>
     requires { 1 ≤ length buffer.old }
     ensures { IfOk result (λ octets. HandsOut client.old octets.items client.new) }
 {

@@ -4,7 +4,8 @@ ghost use Rattle.std.specs.Prelude.{◌≡◌, [], IfOk};
 ghost use Rattle.history.specs.Kept.{state_of};
 ghost use Rattle.history.specs.Plans.{IsStart};
 ghost use Rattle.replay.specs.World.{World as Plain, world_of, cut_peer, number_in, without};
-ghost use Rattle.replay.specs.KeptWorlds.{IsWorld, named, words_of};
+ghost use Rattle.replay.specs.KeptWorlds.{IsWorld, named};
+ghost use Rattle.scripts.specs.KeptLines.{words_of};
 
 use crate::seats::Seat;
 use dsosession::session::Timers;

@@ -3,6 +3,7 @@ pub mod Emitting
 pub mod Lines
 pub mod Messages
 pub mod EachTurn
+pub mod InTurn
 pub mod GivesOn
 pub mod Exchanging
 pub mod Exchanges

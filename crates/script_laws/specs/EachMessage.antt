@@ -33,8 +33,8 @@ use Rattle.pushserver.specs.Giving.{has_home, reconfirm, give, reacted, after_re
 use Rattle.pushserver.specs.Calls.{HubCall, gives, after_calls}
 use Rattle.pushserver.specs.Laws.{IsAcceptable}
 use Rattle.pushtelling.specs.Runs.{handed_out, taken_in, reacted_to}
-use Rattle.replay.specs.Lines.{ScriptLine}
-use Rattle.replay.specs.Scripts.{script_of}
+use Rattle.scripts.specs.Lines.{ScriptLine}
+use Rattle.scripts.specs.Scripts.{script_of}
 use Rattle.replay.specs.World.{start_world}
 use Rattle.script_laws.specs.Reached.{FitCalls}
 use Rattle.script_laws.specs.LineCalls.{script_calls, AreFirst}

@@ -19,7 +19,7 @@ use Rattle.pushserver.specs.Hubs.{session_of}
 use Rattle.pushserver.specs.Calls.{HubCall, after_calls}
 use Rattle.pushclient.specs.Clients.{Connection}
 use Rattle.inflight.specs.Flight.{IsUnderWay}
-use Rattle.replay.specs.Lines.{Word}
+use Rattle.scripts.specs.Lines.{Word}
 use Rattle.replay.specs.World.{World, Seat}
 use Rattle.replay.specs.PassedOctets.{Passed, max_wire}
 use Rattle.replay.specs.Promises.{EndedByItself, ShownPoints, ShowsNoLater, point_taken, is_end_by_itself, IsUnconnected, NumbersFit}

@@ -11,5 +11,6 @@ pub mod Turns
 pub mod Replies
 pub mod LineCalls
 pub mod EachMessage
+pub mod InTurn
 pub mod Sending
 pub mod WorkedSends

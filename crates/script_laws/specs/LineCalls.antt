@@ -14,7 +14,7 @@ use Rattle.pushserver.specs.Giving.{give}
 use Rattle.pushserver.specs.Calls.{HubCall, updates, hears, moves, connects, takes, gives, stops, ends, after_calls}
 use Rattle.pushclient.specs.Clients.{closed_as, is_connected}
 use Rattle.pushclient.specs.Steps as steps
-use Rattle.replay.specs.Lines.{Word, ScriptLine, at_moment, update, hear, open_connection, cut, say, up, emit, down, settle, send, feed, stop}
+use Rattle.scripts.specs.Lines.{Word, ScriptLine, at_moment, update, hear, open_connection, cut, say, up, emit, down, settle, send, feed, stop}
 use Rattle.replay.specs.World.{World, Seat, start_world, seat_of, session_number, is_over}
 use Rattle.replay.specs.PassedOctets as passing
 use Rattle.replay.specs.PassedOctets.{Passed, enough, max_wire, round, settled, is_still, exchanged, fed_client}

@@ -12,8 +12,8 @@ use Rattle.dsotlv.specs.Laws.{AreOctets}
 use Rattle.dsotlv.specs.Messages.{max_frame}
 use Rattle.pushclient.specs.ServerMessages.{CanBeGranted}
 use Rattle.inflight.specs.Ends.{is_question}
-use Rattle.replay.specs.Lines.{Word, ScriptLine, is_word_octet, timers, zone, link, client, lone, at_moment, update, hear, ask, drop_question, reconfirm, send, feed, stop, show}
-use Rattle.replay.specs.Scripts.{Known, lone_of, client_word, is_among, is_peer, fits}
+use Rattle.scripts.specs.Lines.{Word, ScriptLine, is_word_octet, timers, zone, link, client, lone, at_moment, update, hear, ask, drop_question, reconfirm, send, feed, stop, show}
+use Rattle.scripts.specs.Scripts.{Known, lone_of, client_word, is_among, is_peer, fits}
 use Rattle.replay.specs.World.{World, seat_of}
 
 -- ---- lines by themselves

@@ -12,7 +12,7 @@ use Rattle.pushsession.specs.Sessions.{new_session}
 use Rattle.pushserver.specs.PlainHubs.{Hub}
 use Rattle.pushserver.specs.Hubs.{now, keeps_now, session_of, connect}
 use Rattle.pushserver.specs.Calls.{HubCall, connects, takes, gives, ends, after_calls}
-use Rattle.replay.specs.Lines.{Word}
+use Rattle.scripts.specs.Lines.{Word}
 use Rattle.replay.specs.World.{World, Seat, new_seat, seat_of, with_seat, session_number, cut_connection, cut_peer}
 use Rattle.replay.specs.Promises.{NumbersFit}
 use Rattle.script_laws.specs.Reached.{IsReached, AreFor, Avoids}

@@ -6,7 +6,7 @@
 --     Asks, AsksAnywhere, AsksAreAnswered      an acceptable SUBSCRIBE among the messages that a line brings up
 --     EachIsBroughtUp      each of these messages has its turn, and its effect
 --     FirstOnesAskAnywhere      a peer's first octets are a case of this
-use Rattle.std.specs.Prelude.{◌≡◌, ℕ, true, List, [], ◌∷◌, ◌++◌, flat_map, Option, Some, None, Ok}
+use Rattle.std.specs.Prelude.{◌≡◌, ℕ, true, List, [], ◌∷◌, ◌++◌, map, flat_map, Option, Some, None, Ok}
 use Rattle.std.specs.List.{AllByRecursion}
 use Rattle.rrset.specs.Header.{id_of}
 use Rattle.rrset.specs.Rcodes.{noerror}
@@ -20,11 +20,12 @@ use Rattle.pushsession.specs.declared.standing.Standing.{Standing}
 use Rattle.pushsession.specs.declared.standing.Standing.TheVariants.{Live, AskedToStop, Stopped, Ended}
 use Rattle.pushserver.specs.PlainHubs.{Hub, Session, Made, frame_of, first_answer}
 use Rattle.pushserver.specs.Hubs.{session_of}
+use Rattle.pushserver.specs.Giving.{give}
 use Rattle.pushserver.specs.Calls.{HubCall, after_calls}
 use Rattle.pushserver.specs.Laws.{IsAcceptable}
 use Rattle.pushtelling.specs.Runs.{handed_out, taken_in, reacted_to}
-use Rattle.replay.specs.Lines.{Word, ScriptLine, send}
-use Rattle.replay.specs.Scripts.{script_of}
+use Rattle.scripts.specs.Lines.{Word, ScriptLine, send}
+use Rattle.scripts.specs.Scripts.{script_of}
 use Rattle.replay.specs.World.{World, start_world}
 use Rattle.replay.specs.PassedOctets.{Exchanged, exchanged, enough}
 use Rattle.replay.specs.TextWords.{bytes_line, by_history, HeldRecords}
@@ -36,6 +37,7 @@ use Rattle.replay.specs.ScriptReplies.{reply_to_script}
 use Rattle.replay.specs.Serving.{Asked, world_then, connected_then, AsksFirst}
 use Rattle.script_laws.specs.LineCalls.{exchange_calls}
 use Rattle.script_laws.specs.EachMessage.{HasItsTurn, TurnHasEffect}
+use Rattle.script_laws.specs.InTurn.{made_in}
 
 -- ---- a session between two exchanges
 
@@ -55,6 +57,9 @@ abbrev pub ArePeersServed : World → Type 0
 ArePeersServed world = AllByRecursion (λ p. (session : Session) → session_of world.hub p.1 ≡ Some session → IsServed session) world.peers
 
 -- ---- an exchange
+
+abbrev pub made_messages : List Made → List (List ℕ)
+made_messages made = map (λ m. m.message) made
 
 -- of the octets all went in, or a front where the session has come to its end; while it is open, each message that is whole
 -- with them was reacted to, in its order; and what came back are the frames of the messages that were made
@@ -76,13 +81,15 @@ pub record ExchangeSo (number : ℕ) (octets : List ℕ) (hub : Hub) (x : Exchan
 
 -- ---- a peer's line
 
--- where the peer has a session, or gets one, this line is printed, and behind it its end, if it has come to it
+-- where the peer has a session, or gets one, this line is printed, and behind it its end, if it has come to it; it tells what was made in
+-- turn for the messages that are whole, and between them for names that wait and for a stop
 pub record SendIsAnswered (records : HeldRecords) (w : Word) (octets : List ℕ) (world : World) (number : ℕ) (there : World) : Type 0 where
   pub before : Session
   pub found : session_of there.hub number ≡ Some before
   pub silent : before.output ≡ []
   pub waits : is_open before.standing ≡ true → first_message before.input ≡ None
   pub so : ExchangeSo number octets there.hub (exchanged enough number octets there.hub []) before
+  pub in_turn : made_messages so.more ≡ made_in number (exchange_calls enough number octets there.hub) there.hub
   pub printed : (line_does records (send w octets) world).1 ≡ bytes_line w (flat_map frame_of so.more) ∷ end_lines w (exchanged enough number octets there.hub []).over
 
 abbrev pub SendsAreAnswered : Type 0
@@ -125,6 +132,10 @@ pub record AsksAnywhere (text : List ℕ) (asked : Asks) : Type 0 where
 abbrev pub octets_asked : (text : List ℕ) (asked : Asks) → AsksAnywhere text asked → List ℕ
 octets_asked text asked asks = first_answer_octets (answer_to (id_of asked.message) noerror) (first_answer (after_calls asks.turn.first asked.world.hub) asks.turn.session asked.question)
 
+-- the hub when it was answered
+abbrev pub hub_behind : (text : List ℕ) (asked : Asks) → AsksAnywhere text asked → Hub
+hub_behind text asked asks = (give (after_calls asks.turn.first asked.world.hub) asked.number asks.turn.room).hub
+
 -- the line tells the frames of what was made before it, then this, and then what was made behind it; its end, if the session has come to it
 abbrev pub lines_told : (text : List ℕ) (asked : Asks) → AsksAnywhere text asked → List Made → List Made → Option EndReason → List (List ℕ)
 lines_told text asked asks front back over =
@@ -138,11 +149,15 @@ asked_reply records text asked asks front back over = record {
       ++ (ended_lines (lines_told text asked asks front back over) ++ ended_lines (printed_by records asked.behind (line_does by_history (send asked.word asked.octets) (world_asked asked)).0));
 }
 
+-- what the line tells before it, and behind it, is what was made in turn by the calls before and behind; its end is that to which the session has come
 pub record AskIsAnswered (records : HeldRecords) (text : List ℕ) (asked : Asks) (asks : AsksAnywhere text asked) : Type 0 where
   pub front : List Made
   pub back : List Made
   pub over : Option EndReason
   pub made_before : (session : Session) → session_of asked.world.hub asked.number ≡ Some session → asks.turn.session.made ≡ session.made ++ front
+  pub front_in_turn : made_messages front ≡ made_in asked.number asks.turn.first asked.world.hub
+  pub back_in_turn : made_messages back ≡ made_in asked.number asks.turn.last (hub_behind text asked asks)
+  pub comes_to : over ≡ (exchanged enough asked.number asked.octets asked.world.hub []).over
   pub printed : (line_does records (send asked.word asked.octets) (world_asked asked)).1 ≡ lines_told text asked asks front back over
   pub replied : reply_to_script records text ≡ asked_reply records text asked asks front back over
 

@@ -12,8 +12,8 @@ use Rattle.pushserver.specs.PlainHubs.{Hub, Session, Made}
 use Rattle.pushserver.specs.Hubs.{session_of}
 use Rattle.pushclient.specs.Clients.{Connection, closed_as}
 use Rattle.dsosession.specs.declared.session.EndReason.{EndReason}
-use Rattle.replay.specs.Lines.{Word, ScriptLine, settle}
-use Rattle.replay.specs.Scripts.{script_of}
+use Rattle.scripts.specs.Lines.{Word, ScriptLine, settle}
+use Rattle.scripts.specs.Scripts.{script_of}
 use Rattle.replay.specs.Text.{world_after}
 use Rattle.replay.specs.World.{World, Seat, seat_of, start_world}
 use Rattle.replay.specs.PassedOctets.{is_still, Passed, enough, round, settled}

@@ -13,8 +13,8 @@ use Rattle.pushsession.specs.declared.standing.Standing.TheVariants.{AskedToStop
 use Rattle.pushserver.specs.PlainHubs.{Hub, Session}
 use Rattle.pushserver.specs.Hubs.{newest, session_of}
 use Rattle.pushclient.specs.Clients.{Client, Connection, output_of}
-use Rattle.replay.specs.Lines.{ScriptLine}
-use Rattle.replay.specs.Scripts.{max_script, script_of}
+use Rattle.scripts.specs.Lines.{ScriptLine}
+use Rattle.scripts.specs.Scripts.{max_script, script_of}
 use Rattle.replay.specs.World.{World, Seat, start_world}
 use Rattle.replay.specs.PassedOctets.{Passed}
 use Rattle.replay.specs.Text.{world_after}

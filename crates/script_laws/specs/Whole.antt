@@ -4,8 +4,8 @@
 --     OnlyLoneOnesAreFed      each client that a line feeds is a lone one
 use Rattle.std.specs.Prelude.{◌≡◌, ℕ, true, List, ◌++◌, Some, Ok}
 use Rattle.rrset.specs.declared.record.Question.{Question}
-use Rattle.replay.specs.Lines.{Word, ScriptLine}
-use Rattle.replay.specs.Scripts.{script_of}
+use Rattle.scripts.specs.Lines.{Word, ScriptLine}
+use Rattle.scripts.specs.Scripts.{script_of}
 use Rattle.replay.specs.World.{World, start_world, seat_of}
 use Rattle.replay.specs.Text.{world_after}
 use Rattle.replay.specs.FedLines.{Fed, lines_of, world_then}

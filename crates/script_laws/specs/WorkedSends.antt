@@ -4,7 +4,7 @@ use Rattle.push_base.specs.Hexadecimal.{hex}
 use Rattle.dnsname.specs.Text.{name}
 use Rattle.dsotlv.specs.Messages.{frame}
 use Rattle.pushserver.specs.Worked.{named, subscribe}
-use Rattle.replay.specs.Lines.{Word, ScriptLine, zone, update, send}
+use Rattle.scripts.specs.Lines.{Word, ScriptLine, zone, update, send}
 use Rattle.replay.specs.World.{World, start_world}
 use Rattle.replay.specs.TextWords.{by_history}
 use Rattle.replay.specs.Text.{line_does, world_after}

@@ -6,7 +6,7 @@
 use Rattle.std.specs.Prelude.{◌≡◌, ℕ, List, [], ◌∷◌, ◌++◌, Some, None}
 use Rattle.pushserver.specs.Hubs.{connect}
 use Rattle.pushserver.specs.Calls.{HubCall, after_calls}
-use Rattle.replay.specs.Lines.{Word}
+use Rattle.scripts.specs.Lines.{Word}
 use Rattle.replay.specs.World.{World, Seat, seat_of, with_seat, session_number, cut_seat, cut_connection, cut_peer, hub_without}
 use Rattle.script_laws.specs.Reached.{FitCalls}
 use Rattle.script_laws.specs.Numbers.{KeepNumbers, AreForNoOther}

@@ -4,6 +4,7 @@
 ghost use Rattle.std.specs.Prelude.{◌≡◌, [], ◌∷◌, codes};
 ghost use Rattle.replay.specs.Promises.{HoldsTheHistory, HoldsAfterEachLine, NoMessageEnds, EveryScriptKeepsPromises, EveryScriptTellsOneText, EverySettleEmptiesBothWays};
 ghost use Rattle.script_laws.specs.EachMessage.{ScriptCallsFit, MessagesAreReactedTo, EachHasItsTurn, SubscribesAreAnswered};
+ghost use Rattle.script_laws.specs.InTurn.{MadeInTurn};
 ghost use Rattle.script_laws.specs.LineCalls.{LinesAreCalls, ScriptsAreCalls};
 ghost use Rattle.script_laws.specs.Replies.{RepliesAreOne};
 ghost use Rattle.script_laws.specs.Sending.{SendsAreAnswered, AsksAreAnswered, EachIsBroughtUp, FirstOnesAskAnywhere};
@@ -77,10 +78,12 @@ pub fn lines_are_calls()
 /// In a script, of each session, a client's or a peer's, behind any of its calls: the messages that were reacted to are the
 /// first of the one list of whole messages in the octets that came, whatever pieces they came in; those that wait are the
 /// others. Each was reacted to in one call, in which what the server's table tells was done: the messages that were made, the
-/// session's end, its questions, and the history (RFC 8490, 5; RFC 8765, 6). What was made went out, or waits to.
+/// session's end, its questions, and the history (RFC 8490, 5; RFC 8765, 6). What was made went out, or waits to. Beside what the
+/// table tells for each message in its turn, only PUSHes of names that wait were made, and the Retry Delay of a stop.
 pub fn messages_are_reacted_to()
     ensures reacted { MessagesAreReactedTo }
     ensures each { EachHasItsTurn }
+    ensures turns { MadeInTurn }
 {}
 
 /// A SUBSCRIBE that none of the tests refuses when its turn comes is answered NOERROR, and then the first answer's PUSH

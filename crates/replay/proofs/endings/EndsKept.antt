@@ -5,7 +5,7 @@ use Rattle.std.proofs.Common.{◌≡◌, ◌⊎◌, inl, inr, ℕ, List, Option,
 use Rattle.replay.specs.declared.outcome.Outcome.{Outcome}
 use Rattle.replay.specs.declared.outcome.Outcome.TheVariants.{Done, ReadFault, NoMemory, WriteFault, Outside}
 use Rattle.replay.specs.declared.ends.Ends.{Ends}
-use Rattle.replay.specs.ScriptReplies.{front_read}
+use Rattle.scripts.specs.Sources.{front_read}
 use Rattle.replay.specs.KeptEnds.{AreEnds, EndsWhenDone, ends_with}
 
 -- a text was told, or its write failed

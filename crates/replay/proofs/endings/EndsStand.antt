@@ -14,18 +14,20 @@ use Rattle.pushclient.specs.Clients.{Client, Wish, RequestState, not_asked, unan
 use Rattle.pushclient.specs.Rule.{KeptClient, StandsFor}
 use Rattle.pushclient.specs.Kept.{kept_held, kept_held_as}
 use Rattle.pushclient.proofs.Dropping.{held_stands}
-use Rattle.replay.specs.Lines.{ScriptLine}
+use Rattle.scripts.specs.Lines.{ScriptLine}
 use Rattle.replay.specs.World.{World, Seat, start_world}
 use Rattle.replay.specs.TextWords.{ShowTold, with_records, by_notices, is_filling, told_of}
 use Rattle.replay.specs.Text.{world_after}
 use Rattle.replay.specs.Promises.{ClientStandsFor, EndsStandFor, shows_records}
 use Rattle.replay.specs.declared.world.World as program
-use Rattle.replay.specs.declared.script.Script.{Script}
+use Rattle.scripts.specs.declared.script.Script.{Script}
 use Rattle.replay.specs.declared.ends.Ends.{Ends}
 use Rattle.replay.specs.KeptWorlds.{KeptSeat, Seated, seated, StandsForSeat, StandForSeats, IsWorld}
-use Rattle.replay.specs.KeptScripts.{events_said, world_at_start, IsWhole}
+use Rattle.scripts.specs.KeptScripts.{events_said, IsWhole}
+use Rattle.replay.specs.KeptScripts.{world_at_start}
 use Rattle.replay.specs.KeptEnds.{AreEnds}
-use Rattle.replay.proofs.lines.SentOctets.{lines_or}
+use Rattle.scripts.proofs.lines.SentOctets.{lines_or}
+use Rattle.replay.proofs.worlds.Happening.{starts-so, leaves-so}
 
 -- ---- a client
 
@@ -104,6 +106,6 @@ pub ends-are : (octets : List ℕ) (script : Script) (kept : program.World) (end
 unfolding AreEnds
 ends-are octets script kept ends whole stands hub_is clients_are lines read =
     let same : whole.lines ≡ lines = ap (lines_or []) (sym whole.read ∙ read) in
-    let last : world_after whole.lines (start_world whole.lines) ≡ world_after (events_said script.events.items) (world_at_start script) = whole.last ∙ ap (world_after (events_said script.events.items)) (sym whole.head) in
+    let last : world_after whole.lines (start_world whole.lines) ≡ world_after (events_said script.events.items) (world_at_start script) = leaves-so octets script whole ∙ ap (world_after (events_said script.events.items)) (sym (starts-so octets script whole)) in
     subst (λ (ls : List ScriptLine). EndsStandFor by_notices ends.hub ends.clients.items (world_after ls (start_world ls))) same
     (subst (EndsStandFor by_notices ends.hub ends.clients.items) (sym last) (ends-stand kept ends.hub ends.clients.items (world_after (events_said script.events.items) (world_at_start script)) stands hub_is clients_are))

@@ -4,10 +4,11 @@ use Rattle.std.proofs.Common.{◌≡◌, ℕ, Bool, List, [], ◌∷◌, ◌++�
 use Rattle.dsosession.specs.declared.session.CloseReason.{CloseReason}
 use Rattle.pushclient.specs.Clients.{Client, cut, output_of, closed_as}
 use Rattle.pushclient.specs.Pieces.{with_input, input_of}
-use Rattle.replay.specs.Lines.{Word, ScriptLine, feed}
+use Rattle.scripts.specs.Lines.{Word, ScriptLine, feed}
 use Rattle.replay.specs.World.{Seat, World, seat_of, with_seat, with_client, cut_seat, new_seat, hub_without, is_over, world_cut_if}
 use Rattle.replay.specs.PassedOctets.{reached_by, fed_client, without_output}
-use Rattle.replay.specs.TextWords.{spaced, octets_text, HeldRecords}
+use Rattle.scripts.specs.Words.{spaced, octets_text}
+use Rattle.replay.specs.TextWords.{HeldRecords}
 use Rattle.replay.specs.Text.{Printed, close_lines, ended_lines, feeds, finished, printed_by, text_by}
 use Rattle.replay.specs.FedLines.{Fed, lines_of, world_start, world_then, world_behind, FeedsLone, messages_fed, reacted_to, fed_lines, fed_reply, left_fed, FeedsAsMessages}
 use Rattle.replay.proofs.worlds.BetweenLines.{printed-append, lines-append, reply-is}

@@ -20,8 +20,8 @@ use Rattle.pushserver.proofs.session_steps.Lists.{found-each}
 use Rattle.pushclient.specs.Clients.{Client, closed_as, connected, is_connected}
 use Rattle.pushclient.specs.Steps as steps
 use Rattle.pushclient.proofs.Reactions.{with_octets}
-use Rattle.replay.specs.Lines.{Word, ScriptLine, silent, timers, zone, link, client, lone, at_moment, update, hear, ask, drop_question, reconfirm, open_connection as opening, cut, say, up, emit, down, settle, send, feed, stop, point, show, octets_written}
-use Rattle.replay.specs.Scripts.{script_of}
+use Rattle.scripts.specs.Lines.{Word, ScriptLine, silent, timers, zone, link, client, lone, at_moment, update, hear, ask, drop_question, reconfirm, open_connection as opening, cut, say, up, emit, down, settle, send, feed, stop, point, show, octets_written}
+use Rattle.scripts.specs.Scripts.{script_of}
 use Rattle.replay.specs.World.{Seat, World, start_world, seat_of, session_number, with_seat, new_seat, cut_seat, cut_connection, cut_peer, is_over, world_cut_if}
 use Rattle.replay.specs.PassedOctets.{Exchanged, Passed, exchanged, enough, passed, without_output, fed_client}
 use Rattle.replay.specs.TextWords.{by_history}
@@ -29,7 +29,7 @@ use Rattle.replay.specs.Text.{Printed, timed, exchanges, feeds, asks, subscribin
 use Rattle.replay.specs.declared.settling.Way.{Way}
 use Rattle.replay.specs.declared.settling.Way.TheVariants as ways
 use Rattle.replay.specs.KeptPassings.{passes_way, way_does}
-use Rattle.replay.proofs.lines.SentOctets.{sent_by, sends-pass}
+use Rattle.scripts.proofs.lines.SentOctets.{sent_by, sends-pass}
 use Rattle.replay.proofs.turns.SendSizes.{are_few, le_is, written_few, named_few}
 use Rattle.replay.proofs.serving.NewPeer.{by_connected, by_number}
 use Rattle.replay.proofs.worlds.BetweenLines.{each-behind}

@@ -2,7 +2,7 @@
 use Rattle.std.proofs.Common.{◌≡◌, ℕ, true, List, [], ◌∷◌, ◌++◌, codes, Some, None, refl}
 use Rattle.dsosession.specs.declared.session.CloseReason.TheVariants as closes
 use Rattle.pushclient.specs.Clients.{Client, new_connection, closed_as}
-use Rattle.replay.specs.Lines.{ScriptLine, lone, open_connection, feed}
+use Rattle.scripts.specs.Lines.{ScriptLine, lone, open_connection, feed}
 use Rattle.replay.specs.World.{Seat, new_seat}
 use Rattle.replay.specs.FedLines.{Fed, FeedsLone, reacted_to, fed_lines}
 

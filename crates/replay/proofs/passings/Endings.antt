@@ -9,10 +9,10 @@ use Rattle.dsosession.specs.declared.session.CloseReason.{CloseReason}
 use Rattle.pushserver.specs.KeptHubs as hubs
 use Rattle.pushserver.specs.KeptHubs.{KeptHub}
 use Rattle.pushclient.specs.Clients.{closed_as}
-use Rattle.replay.specs.Lines.{Word}
+use Rattle.scripts.specs.Lines.{Word}
 use Rattle.replay.specs.World.{World, Seat, with_seat, cut_seat, is_over, cut_if, hub_cut_if, world_cut_if}
 use Rattle.replay.specs.PassedOctets.{Passed}
-use Rattle.replay.specs.TextWords.{spaced}
+use Rattle.scripts.specs.Words.{spaced}
 use Rattle.replay.specs.Text.{Printed, ended_lines, end_lines, close_lines}
 use Rattle.replay.specs.declared.seats.Seat as program
 use Rattle.replay.specs.declared.settling.Passage.{Passage}

@@ -19,7 +19,7 @@ use Rattle.pushserver.specs.Hubs as hubs
 use Rattle.pushserver.specs.Hubs.{now, connect, max_sessions}
 use Rattle.pushserver.specs.Calls.{updates, hears, moves}
 use Rattle.pushserver.proofs.Walks.{AnyMessage, IsKept, keeps-called, with_new}
-use Rattle.replay.specs.Lines.{Word, ScriptLine, silent, timers, zone, lone, at_moment, update, ask, drop_question, open_connection, cut, send, feed, stop, point, show, client, settle, link, hear, reconfirm, say, up, emit, down}
+use Rattle.scripts.specs.Lines.{Word, ScriptLine, silent, timers, zone, lone, at_moment, update, ask, drop_question, open_connection, cut, send, feed, stop, point, show, client, settle, link, hear, reconfirm, say, up, emit, down}
 use Rattle.replay.specs.World.{Seat, World, start_world, seat_of, number_in, session_number, hub_without, cut_connection, cut_peer, new_seat, with_seat, without, cut_seat, stopped_hub, is_over, world_cut_if}
 use Rattle.coalesce.proofs.ReadBack.{each-append}
 use Rattle.pushserver.proofs.hub_steps.Pairs.{all-weaken}

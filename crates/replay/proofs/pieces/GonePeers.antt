@@ -14,7 +14,7 @@ use Rattle.pushserver.specs.Hubs.{now, keeps_now, session_of, in_session, discon
 use Rattle.pushsession.specs.Sessions.{new_session, takes, asked_to_stop, without_first}
 use Rattle.pushserver.proofs.SessionLists.{same-number}
 use Rattle.pushserver.proofs.Walks.{AnyMessage, IsKept}
-use Rattle.replay.specs.Lines.{Word, ScriptLine}
+use Rattle.scripts.specs.Lines.{Word, ScriptLine}
 use Rattle.replay.specs.World.{World, number_in, session_number, hub_without, cut_peer, without}
 use Rattle.replay.specs.Text.{world_after}
 use Rattle.replay.proofs.worlds.KeptByLines.{AnyClient, any-clients, any-ready, keeps-lines}

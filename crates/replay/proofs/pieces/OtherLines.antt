@@ -21,7 +21,7 @@ use Rattle.pushserver.proofs.OtherSessions.{stays, in_session-stays, give_change
 use Rattle.pushserver.proofs.SessionLists.{other-number, found-left}
 use Rattle.pushserver.proofs.hub_steps.Cases.{enters_moment, moment_as}
 use Rattle.pushserver.proofs.Walks.{AnyMessage, holds-update, holds-hear, with_new}
-use Rattle.replay.specs.Lines.{Word, ScriptLine, silent, timers, zone, lone, at_moment, update, ask, drop_question, open_connection, cut, send, feed, stop, point, show, client, settle, link, hear, reconfirm, say, up, emit, down}
+use Rattle.scripts.specs.Lines.{Word, ScriptLine, silent, timers, zone, lone, at_moment, update, ask, drop_question, open_connection, cut, send, feed, stop, point, show, client, settle, link, hear, reconfirm, say, up, emit, down}
 use Rattle.replay.specs.World.{Seat, World, seat_of, number_in, session_number, hub_without, cut_connection, cut_peer, with_seat, is_over, world_cut_if}
 use Rattle.pushserver.proofs.hub_steps.Pairs.{all-weaken}
 use Rattle.pushclient.specs.Clients.{closed_as}

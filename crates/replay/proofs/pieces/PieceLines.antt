@@ -15,7 +15,7 @@ use Rattle.history.specs.declared.entry.Entry.{Entry}
 use Rattle.pushserver.specs.Hubs.{state_now}
 use Rattle.pushserver.specs.PlainHubs.{Session, Hub}
 use Rattle.pushserver.proofs.Walks.{AnyMessage}
-use Rattle.replay.specs.Lines.{Word, ScriptLine, send}
+use Rattle.scripts.specs.Lines.{Word, ScriptLine, send}
 use Rattle.replay.specs.World.{World, session_number, hub_without, cut_peer}
 use Rattle.replay.specs.PassedOctets.{Exchanged, exchanged, enough}
 use Rattle.replay.specs.TextWords.{bytes_line, HeldRecords, by_history}

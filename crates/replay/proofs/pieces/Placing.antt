@@ -9,7 +9,7 @@ use Rattle.std.proofs.lemmas.Slice.Eq.{bytes_eq-Decides}
 use Rattle.dsotlv.proofs.Results.{same_found}
 use Rattle.pushserver.specs.PlainHubs.{Hub}
 use Rattle.pushserver.specs.Hubs.{connect}
-use Rattle.replay.specs.Lines.{Word}
+use Rattle.scripts.specs.Lines.{Word}
 use Rattle.replay.specs.World.{World, session_number}
 use Rattle.replay.specs.Text.{placed, sends, exchanges}
 use Rattle.replay.proofs.serving.NewPeer.{by_connected, by_number}

@@ -15,7 +15,7 @@ use Rattle.pushsession.specs.declared.standing.Standing.{Standing}
 use Rattle.pushsession.specs.Sessions.{without_first}
 use Rattle.pushserver.specs.PlainHubs.{Session, Hub}
 use Rattle.pushserver.specs.Hubs.{state_now}
-use Rattle.replay.specs.Lines.{Word, ScriptLine}
+use Rattle.scripts.specs.Lines.{Word, ScriptLine}
 use Rattle.replay.specs.World.{World}
 use Rattle.replay.specs.TextWords.{bytes_line, HeldRecords}
 use Rattle.replay.specs.SessionPieces.{answers_to, standing_of}

@@ -10,14 +10,14 @@ use Rattle.dsosession.specs.declared.session.EndReason.TheVariants as ends
 use Rattle.pushsession.specs.Sessions.{new_session}
 use Rattle.pushserver.specs.PlainHubs.{plain_keeps}
 use Rattle.pushserver.specs.Hubs.{connect}
-use Rattle.replay.specs.Lines.{ScriptLine, silent, zone, send, point}
-use Rattle.replay.specs.Scripts.{nothing_known, lines_from, client_words, lines_read}
+use Rattle.scripts.specs.Lines.{ScriptLine, silent, zone, send, point}
+use Rattle.scripts.specs.Scripts.{nothing_known, lines_from, client_words, lines_read}
 use Rattle.replay.specs.World.{World, start_world}
 use Rattle.replay.specs.TextWords.{by_notices}
 use Rattle.replay.specs.Text.{world_after}
 use Rattle.replay.specs.ScriptPieces.{Turn, SentInPieces, lines_of, answered_to_first, SendsPieces, printed_turns}
 use Rattle.replay.proofs.worlds.ClientOutputs.{all_octets}
-use Rattle.replay.proofs.lines.LineWords.{word_utf8}
+use Rattle.scripts.proofs.lines.LineWords.{word_utf8}
 use Rattle.replay.proofs.serving.WorkedServing.{frame_sent}
 
 abbrev script : List ℕ

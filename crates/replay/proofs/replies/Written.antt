@@ -4,7 +4,7 @@ use Rattle.replay.specs.declared.outcome.Outcome.{Outcome}
 use Rattle.replay.specs.declared.outcome.Outcome.TheVariants.{WriteFault}
 use Rattle.replay.specs.Outcomes.{status_of}
 use Rattle.replay.specs.Reply.{Reply, IsFrontOf, line, Tells, In_full, Unread, Starved, Answers, Took}
-use Rattle.replay.specs.ScriptReplies.{front_read}
+use Rattle.scripts.specs.Sources.{front_read}
 
 -- what `tell` ensures
 abbrev pub Said : Option (List ℕ) → Option (List ℕ) → Outcome → List ℕ → Outcome → Type 0

@@ -21,7 +21,7 @@ use Rattle.pushserver.specs.Giving.{has_home, reacted}
 use Rattle.pushserver.specs.Laws.{IsAcceptable}
 use Rattle.pushserver.proofs.Subscribing.{reaction}
 use Rattle.pushserver.proofs.Walks.{with_new}
-use Rattle.replay.specs.Lines.{Word}
+use Rattle.scripts.specs.Lines.{Word}
 use Rattle.replay.specs.World.{World, session_number}
 use Rattle.replay.specs.PassedOctets.{exchanged, enough}
 use Rattle.replay.specs.TextWords.{bytes_line}

@@ -1,7 +1,7 @@
 -- A SUBSCRIBE that a new session accepts is answered, in every script.
 --     served_is      the reply of the script
 use Rattle.std.proofs.Common.{◌≡◌, ℕ, List, [], ◌∷◌, ◌++◌, ◌∙◌, ap}
-use Rattle.replay.specs.Lines.{ScriptLine, send}
+use Rattle.scripts.specs.Lines.{ScriptLine, send}
 use Rattle.replay.specs.TextWords.{HeldRecords}
 use Rattle.replay.specs.Text.{ended_lines, printed_by, sends, text_by}
 use Rattle.replay.specs.ScriptReplies.{reply_to_script}

@@ -2,7 +2,7 @@
 use Rattle.std.proofs.Common.{ℕ, true, List, [], ◌∷◌, ◌++◌, drop, codes, refl}
 use Rattle.push_base.specs.Hexadecimal.{hex}
 use Rattle.dnsname.specs.Text.{name}
-use Rattle.replay.specs.Lines.{zone}
+use Rattle.scripts.specs.Lines.{zone}
 use Rattle.replay.specs.Serving.{Asked, AsksFirst}
 
 abbrev pub frame_sent : List ℕ

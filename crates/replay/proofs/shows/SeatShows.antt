@@ -17,11 +17,11 @@ use Rattle.pushclient.specs.Clients.{Client, Wish, RequestState, not_asked, unan
 use Rattle.pushclient.specs.Rule.{StandsFor}
 use Rattle.pushclient.specs.Kept.{IsHeld}
 use Rattle.inflight.specs.Ends.{told_end}
-use Rattle.replay.specs.Lines.{Word}
+use Rattle.scripts.specs.Lines.{Word}
 use Rattle.replay.specs.World.{Seat, filled_of}
 use Rattle.replay.specs.TextWords.{ShowTold, with_records, by_notices, is_filling, told_of}
 use Rattle.replay.specs.Text.{shows}
-use Rattle.replay.specs.declared.line.Showing.{Showing}
+use Rattle.scripts.specs.declared.line.Showing.{Showing}
 use Rattle.replay.specs.KeptWorlds.{KeptSeat, Parties, StandsForSeat, HasPrinted, Acts}
 use Rattle.replay.specs.KeptSeats.{has_word}
 use Rattle.replay.specs.KeptShows.{showing_text, ShowsSeat, ShowsSet, IsFilling}

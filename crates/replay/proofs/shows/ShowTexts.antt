@@ -8,9 +8,10 @@ use Rattle.dnsname.specs.Text.{name_text}
 use Rattle.rrset.specs.RecordSet.{RecordSet}
 use Rattle.rrset.specs.declared.record.Key.{Key}
 use Rattle.rrset.specs.declared.record.Shown.{Shown}
-use Rattle.replay.specs.TextWords.{octets_text, record_line, with_records}
+use Rattle.scripts.specs.Words.{octets_text}
+use Rattle.replay.specs.TextWords.{record_line, with_records}
 use Rattle.replay.specs.KeptShows.{record_lines, showing_text}
-use Rattle.replay.specs.declared.line.Showing.{Showing}
+use Rattle.scripts.specs.declared.line.Showing.{Showing}
 use Rattle.replay.proofs.worlds.Doing.{one_line}
 
 -- words with a space between each two, and the end of the line

@@ -6,11 +6,11 @@ use Rattle.push_base.proofs.HexLaws.{read_is_spelled}
 use Rattle.dnsname.specs.Names.{Labels, octets, is_name}
 use Rattle.std.specs.List.{list_all}
 use Rattle.dnsname.proofs.Decisions.{is_name-Decides, and_true}
-use Rattle.replay.specs.Lines.{Word, ScriptLine, send, octets_written}
-use Rattle.replay.specs.Scripts.{script_of}
+use Rattle.scripts.specs.Lines.{Word, ScriptLine, send, octets_written}
+use Rattle.scripts.specs.Scripts.{script_of}
 use Rattle.replay.proofs.worlds.BetweenLines.{each-behind}
-use Rattle.replay.proofs.lines.LineWords.{digits_size}
-use Rattle.replay.proofs.lines.SentOctets.{sent_by, written-by, sends-pass}
+use Rattle.scripts.proofs.lines.LineWords.{digits_size}
+use Rattle.scripts.proofs.lines.SentOctets.{sent_by, written-by, sends-pass}
 
 abbrev pub are_few : List ℕ → Bool
 are_few octets = nat_le (length octets) 65537

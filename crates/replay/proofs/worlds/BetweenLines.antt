@@ -11,8 +11,8 @@ use Rattle.push_base.specs.Limits.{max_number}
 use Rattle.pushserver.specs.PlainHubs.{Hub}
 use Rattle.pushserver.specs.Hubs.{state_now, connect, max_sessions}
 use Rattle.pushserver.proofs.Walks.{with_new}
-use Rattle.replay.specs.Lines.{ScriptLine}
-use Rattle.replay.specs.Scripts.{script_of}
+use Rattle.scripts.specs.Lines.{ScriptLine}
+use Rattle.scripts.specs.Scripts.{script_of}
 use Rattle.replay.specs.World.{World, start_world}
 use Rattle.replay.specs.TextWords.{HeldRecords, by_history}
 use Rattle.replay.specs.Text.{ended_lines, line_does, printed_by, text_by, world_after}

@@ -12,10 +12,11 @@ use Rattle.history.specs.Homes.{NamedHome, home_fault}
 use Rattle.history.specs.States.{LinkState}
 use Rattle.history.specs.declared.entry.HomeFault.{HomeFault}
 use Rattle.history.specs.declared.entry.HomeFault.TheVariants.{Many, Long}
-use Rattle.replay.specs.Lines.{Word, ScriptLine, silent, timers, zone, link, lone, at_moment, update, hear, ask, drop_question, reconfirm, open_connection, cut, send, feed, stop, point, show, client, settle, say, up, emit, down}
-use Rattle.replay.specs.Scripts.{Known, nothing_known, is_among, known_behind, fits, allowed, with_line, lines_from, lines_read, client_words, script_of}
-use Rattle.replay.specs.World.{Head, empty_head, with_head_line, start_world}
-use Rattle.replay.proofs.lines.SentOctets.{done, lines_or}
+use Rattle.scripts.specs.Lines.{Word, ScriptLine, silent, timers, zone, link, lone, at_moment, update, hear, ask, drop_question, reconfirm, open_connection, cut, send, feed, stop, point, show, client, settle, say, up, emit, down}
+use Rattle.scripts.specs.Scripts.{Known, nothing_known, is_among, known_behind, fits, allowed, with_line, lines_from, lines_read, client_words, script_of}
+use Rattle.scripts.specs.Heads.{Head, empty_head, with_head_line}
+use Rattle.replay.specs.World.{start_world}
+use Rattle.scripts.proofs.lines.SentOctets.{done, lines_or}
 use Rattle.replay.proofs.turns.StartSizes.{new_zone-small}
 use Rattle.replay.proofs.turns.ZoneSizes.{IsSmall, IsSmallLink, small-silent, IsBounded}
 

@@ -11,10 +11,11 @@ use Rattle.pushserver.specs.PlainHubs.{Hub}
 use Rattle.pushserver.specs.Hubs.{newest, now}
 use Rattle.pushserver.specs.KeptHubs.{KeptHub, StandsFor}
 use Rattle.pushserver.proofs.Walks.{with_new}
-use Rattle.replay.specs.Lines.{Word}
+use Rattle.scripts.specs.Lines.{Word}
 use Rattle.replay.specs.World.{World, Seat, cut_peer, cut_connection, number_in, session_number, stopped_hub}
 use Rattle.replay.specs.PassedOctets.{exchanged, enough}
-use Rattle.replay.specs.TextWords.{spaced, end_words, octets_text}
+use Rattle.scripts.specs.Words.{spaced, octets_text}
+use Rattle.replay.specs.TextWords.{end_words}
 use Rattle.replay.specs.Text.{Printed, ended_lines, printing, updates, moments, timed, asked_to_stop, session_of_word, stops, cuts, exchanges, sends, end_lines}
 use Rattle.replay.specs.KeptExchanges.{Exchanges}
 use Rattle.replay.specs.KeptWorlds.{KeptSeat, Parties, StandsForWorld, HasPrinted, Acts}

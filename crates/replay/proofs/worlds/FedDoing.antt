@@ -9,9 +9,9 @@ use Rattle.pushserver.specs.KeptHubs as hubs
 use Rattle.pushserver.specs.KeptHubs.{KeptHub}
 use Rattle.pushclient.specs.Clients.{Client, output_of}
 use Rattle.pushclient.specs.Rule.{KeptClient, StandsFor}
-use Rattle.replay.specs.Lines.{Word}
+use Rattle.scripts.specs.Lines.{Word}
 use Rattle.replay.specs.World.{Seat, World, with_seat, cut_seat, with_client, is_over, cut_if, hub_cut_if, world_cut_if}
-use Rattle.replay.specs.TextWords.{spaced, octets_text}
+use Rattle.scripts.specs.Words.{spaced, octets_text}
 use Rattle.replay.specs.Text.{Printed, close_lines, feeds}
 use Rattle.replay.specs.KeptSteps.{Delivers, HandsOut}
 use Rattle.replay.specs.KeptWorlds.{KeptSeat, Seated, Parties, StandsForSeat, StandForSeats, HasPrinted, Acts}

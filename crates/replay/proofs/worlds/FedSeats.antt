@@ -4,10 +4,10 @@
 --     feeds_as, feeds_by      the line
 use Rattle.std.proofs.Common.{ℕ, Bool, cond, List, [], ◌∷◌, Option, Some, None, codes}
 use Rattle.pushclient.specs.Clients.{closed_as, output_of, is_connected}
-use Rattle.replay.specs.Lines.{Word}
+use Rattle.scripts.specs.Lines.{Word}
 use Rattle.replay.specs.World.{Seat, World, with_client, is_over}
 use Rattle.replay.specs.PassedOctets.{Passed, passed, reached_by, fed_client}
-use Rattle.replay.specs.TextWords.{octets_text}
+use Rattle.scripts.specs.Words.{octets_text}
 use Rattle.replay.specs.Text.{Printed, quietly, printing, finished}
 
 abbrev pub fed : List ℕ → World → Seat → Passed

@@ -11,11 +11,12 @@ use Rattle.pushserver.specs.Hubs as hubs
 use Rattle.pushserver.specs.PlainHubs.{Hub}
 use Rattle.pushserver.specs.KeptHubs.{KeptHub, StandsFor}
 use Rattle.pushserver.specs.declared.given.Heard.{Heard}
-use Rattle.replay.specs.Lines.{Word}
+use Rattle.scripts.specs.Lines.{Word}
 use Rattle.replay.specs.World.{World}
 use Rattle.replay.specs.Text.{Printed, printing, ended_lines, heard_words, hears, number_or_zero}
-use Rattle.replay.specs.Drafts.{is_word}
-use Rattle.replay.specs.KeptWorlds.{Parties, HasPrinted, Acts, words_of}
+use Rattle.scripts.specs.Drafts.{is_word}
+use Rattle.replay.specs.KeptWorlds.{Parties, HasPrinted, Acts}
+use Rattle.scripts.specs.KeptLines.{words_of}
 use Rattle.replay.proofs.worlds.Doing.{one_line, with_hub}
 
 -- the link of a word, by the words as they are kept

@@ -27,8 +27,8 @@ use Rattle.pushserver.proofs.Walks.{Step, IsKept, keeps-called}
 use Rattle.pushserver.proofs.hub_steps.Pairs.{all-weaken}
 use Rattle.pushserver.proofs.session_steps.Octets.{first_octets, rest_octets}
 use Rattle.pushserver.proofs.session_steps.Lists.{found-each}
-use Rattle.replay.specs.Lines.{ScriptLine, octets_written}
-use Rattle.replay.specs.Scripts.{script_of}
+use Rattle.scripts.specs.Lines.{ScriptLine, octets_written}
+use Rattle.scripts.specs.Scripts.{script_of}
 use Rattle.replay.specs.World.{start_world}
 use Rattle.replay.specs.Text.{world_after}
 use Rattle.replay.specs.PassedOctets.{enough}
@@ -36,7 +36,7 @@ use Rattle.replay.proofs.worlds.KeptByLines.{KeepsClients, keeps-lines}
 use Rattle.replay.proofs.worlds.ClientOutputs.{SaysOctets, all_octets, says-new, so-subscribe, so-unsubscribe, so-reconfirm, so-connected, so-cut, so-moment, so-gives, so-delivered, output-octets}
 use Rattle.replay.proofs.worlds.StepInputs.{step-input}
 use Rattle.replay.proofs.worlds.Keeping.{InParts}
-use Rattle.replay.proofs.lines.SentOctets.{sent_by, some_octets, written-by, sends-pass}
+use Rattle.scripts.proofs.lines.SentOctets.{sent_by, some_octets, written-by, sends-pass}
 
 abbrev IsOctet : ℕ → Type 0
 IsOctet o = o < 256

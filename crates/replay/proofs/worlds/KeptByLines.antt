@@ -19,7 +19,7 @@ use Rattle.pushserver.proofs.session_steps.Lists.{found-each}
 use Rattle.pushserver.proofs.Walks.{AnyMessage, IsKept, keeps-called}
 use Rattle.pushclient.specs.Clients.{Client, new_client, subscribe, unsubscribe, reconfirm as doubt, closed_as, connected, cut as cut_client, give_octets, output_of, is_connected}
 use Rattle.pushclient.specs.Steps as steps
-use Rattle.replay.specs.Lines.{Word, ScriptLine, silent, timers, zone, link, lone, at_moment, update, hear, ask, drop_question, reconfirm, open_connection, cut, send, feed, stop, point, show, client as joins, settle, say, up, emit, down}
+use Rattle.scripts.specs.Lines.{Word, ScriptLine, silent, timers, zone, link, lone, at_moment, update, hear, ask, drop_question, reconfirm, open_connection, cut, send, feed, stop, point, show, client as joins, settle, say, up, emit, down}
 use Rattle.replay.specs.World.{Seat, World, seat_of, with_seat, session_number, hub_without, cut_connection, cut_peer, new_seat, cut_seat, is_over, world_cut_if}
 use Rattle.replay.specs.PassedOctets.{Exchanged, exchanged, enough, max_wire, to_client, reached_by}
 use Rattle.replay.specs.TextWords.{by_history}
@@ -32,7 +32,7 @@ use Rattle.replay.specs.declared.settling.Way.TheVariants as ways
 use Rattle.replay.specs.KeptPassings.{passes_way, way_does}
 use Rattle.replay.proofs.worlds.PassedWorlds.{PassingsKeep, passing-keeps, passed-world, pass-does}
 use Rattle.replay.proofs.worlds.Seats.{put_seat}
-use Rattle.replay.proofs.lines.SentOctets.{sent_by}
+use Rattle.scripts.proofs.lines.SentOctets.{sent_by}
 
 -- What is kept of a client, whatever it is called and told, if the names that it asks for, and the records that it doubts, are good; and what it has to send is good.
 pub record KeepsClients (Good : List ℕ → Type 0) (C : Client → Type 0) : Type 0 where

@@ -5,7 +5,7 @@ use Rattle.std.proofs.Common.{◌<◌, List, [], ◌∷◌, ◌++◌, length, ar
 use Rattle.history.specs.declared.entry.Entry.{Entry}
 use Rattle.pushserver.specs.PlainHubs.{Hub}
 use Rattle.pushserver.proofs.Walks.{AnyMessage, IsKept, walks_alone, walks-reacted, walks-after_reaction}
-use Rattle.replay.specs.Lines.{ScriptLine}
+use Rattle.scripts.specs.Lines.{ScriptLine}
 use Rattle.replay.specs.World.{World}
 use Rattle.replay.specs.Text.{world_after}
 use Rattle.replay.proofs.rest.AtRest.{Longer, StaysLonger}

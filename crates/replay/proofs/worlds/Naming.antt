@@ -5,7 +5,7 @@ use Rattle.std.proofs.Common.{◌≡◌, ℕ, ◌+◌, ◌<◌, Bool, true, fals
 use Rattle.std.specs.Prelude.{find}
 use Rattle.std.specs.Str.{bytes_eq}
 use Rattle.std.proofs.lemmas.List.{at_drop_more, map-append}
-use Rattle.replay.specs.Lines.{Word}
+use Rattle.scripts.specs.Lines.{Word}
 use Rattle.replay.specs.declared.world.Peer.{Peer}
 use Rattle.replay.specs.World.{number_in, without}
 use Rattle.replay.specs.KeptWorlds.{Named, named}

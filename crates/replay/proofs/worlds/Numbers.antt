@@ -12,13 +12,13 @@ use Rattle.pushserver.specs.PlainHubs.{Session, Hub}
 use Rattle.pushserver.specs.Hubs.{now, keeps_now, in_session, disconnect}
 use Rattle.pushsession.specs.Sessions.{new_session, takes, asked_to_stop, without_first}
 use Rattle.pushserver.proofs.Walks.{AnyMessage, IsKept}
-use Rattle.replay.specs.Lines.{ScriptLine}
+use Rattle.scripts.specs.Lines.{ScriptLine}
 use Rattle.replay.specs.World.{World}
 use Rattle.replay.specs.Text.{world_after}
 use Rattle.replay.proofs.worlds.KeptByLines.{AnyClient, any-clients, any-ready, keeps-lines}
 use Rattle.replay.proofs.worlds.Keeping.{any-parts}
 use Rattle.replay.proofs.serving.LastSession.{AreBelow, IsBehind, below-more}
-use Rattle.replay.proofs.lines.SentOctets.{sent_by}
+use Rattle.scripts.proofs.lines.SentOctets.{sent_by}
 
 pub record IsFrom (start : State) (hub : Hub) : Type 0 where
   pub begins : hub.start ≡ start

@@ -1,9 +1,10 @@
 -- The world behind a line doesn't depend on which records a held question shows.
 use Rattle.std.proofs.Common.{◌≡◌, ℕ, List, [], ◌∷◌, map, Option, Some, None, codes, decimal, refl, sym, ◌∙◌}
 use Rattle.rrset.specs.declared.record.Question.{Question}
-use Rattle.replay.specs.Lines.{Word, ScriptLine, show}
+use Rattle.scripts.specs.Lines.{Word, ScriptLine, show}
 use Rattle.replay.specs.World.{Seat, World, seat_of}
-use Rattle.replay.specs.TextWords.{spaced, record_line, ShowTold, HeldRecords, by_history, show_at}
+use Rattle.scripts.specs.Words.{spaced}
+use Rattle.replay.specs.TextWords.{record_line, ShowTold, HeldRecords, by_history, show_at}
 use Rattle.replay.specs.Text.{Printed, line_does, quietly, shows}
 
 -- what is shown of a question, by the client that has the word

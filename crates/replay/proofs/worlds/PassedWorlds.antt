@@ -9,7 +9,7 @@ use Rattle.dsosession.specs.declared.session.EndReason.{EndReason}
 use Rattle.pushserver.specs.PlainHubs.{Hub}
 use Rattle.pushserver.specs.Hubs.{take_octets, taken_by}
 use Rattle.pushserver.specs.Giving.{give}
-use Rattle.replay.specs.Lines.{Word}
+use Rattle.scripts.specs.Lines.{Word}
 use Rattle.replay.specs.World.{World, Seat, seat_of}
 use Rattle.replay.specs.PassedOctets.{Passed, passed, enough, max_wire, nothing_emitted, say, up, emit, down, round, settled}
 use Rattle.replay.specs.Text.{Printed, quietly, finished}

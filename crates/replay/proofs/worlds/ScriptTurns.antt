@@ -8,16 +8,16 @@ use Rattle.std.proofs.lemmas.List.{at_drop_more, drop_all}
 use Rattle.replay.specs.World.{World}
 use Rattle.replay.specs.TextWords.{by_notices}
 use Rattle.replay.specs.Text.{ended_lines, printed_by, line_does, world_after}
-use Rattle.replay.specs.declared.line.Event.{Event}
+use Rattle.scripts.specs.declared.line.Event.{Event}
 use Rattle.replay.specs.declared.world.World as program
-use Rattle.replay.specs.Lines.{Word, ScriptLine}
-use Rattle.replay.specs.Scripts.{client_word}
-use Rattle.replay.specs.KeptLines.{event_said}
-use Rattle.replay.specs.KeptScripts.{events_said}
-use Rattle.replay.specs.KeptWorlds.{IsWorld, AreDistinct, words_in, Acts, Does}
+use Rattle.scripts.specs.Lines.{Word, ScriptLine}
+use Rattle.scripts.specs.Scripts.{client_word, AreDistinct}
+use Rattle.scripts.specs.KeptLines.{event_said}
+use Rattle.scripts.specs.KeptScripts.{events_said}
+use Rattle.replay.specs.KeptWorlds.{IsWorld, words_in, Acts, Does}
 use Rattle.replay.proofs.worlds.OneWorld.{one-world}
 use Rattle.replay.proofs.worlds.SeatWords.{distinct-front, words-line}
-use Rattle.replay.proofs.lines.MoreLines.{onto_words}
+use Rattle.scripts.proofs.lines.MoreLines.{onto_words}
 
 -- the text from a world on
 abbrev pub text_from : World → List Event → List ℕ

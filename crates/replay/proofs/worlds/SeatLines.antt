@@ -4,7 +4,7 @@
 use Rattle.std.proofs.Common.{◌≡◌, ℕ, Bool, true, false, cond, List, [], ◌∷◌, Option, Some, None, refl, codes}
 use Rattle.pushserver.specs.Hubs.{now, connect}
 use Rattle.pushclient.specs.Clients.{Client, connected, is_connected}
-use Rattle.replay.specs.Lines.{Word}
+use Rattle.scripts.specs.Lines.{Word}
 use Rattle.replay.specs.World.{Seat, World, seat_of, with_seat}
 use Rattle.replay.specs.Text.{Printed, quietly, printing, asks, opens_lone, opens_hub, opens}
 

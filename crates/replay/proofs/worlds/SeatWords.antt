@@ -11,13 +11,13 @@ use Rattle.pushserver.specs.Hubs as hubs
 use Rattle.pushserver.specs.Hubs.{now, connect}
 use Rattle.pushclient.specs.Clients.{Client, closed_as, connected, is_connected}
 use Rattle.pushclient.specs.Steps as steps
-use Rattle.replay.specs.Lines.{Word, ScriptLine, silent, timers, zone, lone, at_moment, update, ask, drop_question, open_connection, cut, send, feed, stop, point, show, client, settle, link, hear, reconfirm, say, up, emit, down}
-use Rattle.replay.specs.Scripts.{client_word}
+use Rattle.scripts.specs.Lines.{Word, ScriptLine, silent, timers, zone, lone, at_moment, update, ask, drop_question, open_connection, cut, send, feed, stop, point, show, client, settle, link, hear, reconfirm, say, up, emit, down}
+use Rattle.scripts.specs.Scripts.{client_word, AreDistinct}
 use Rattle.replay.specs.World.{Seat, World, new_seat, seat_of, with_seat, session_number, cut_seat, cut_connection, cut_peer, is_over, world_cut_if}
 use Rattle.replay.specs.PassedOctets.{Exchanged, exchanged, enough}
 use Rattle.replay.specs.TextWords.{by_history}
 use Rattle.replay.specs.Text.{Printed, quietly, printing, feeds, timed, asks, subscribing, unsubscribing, opens_lone, opens_hub, opens, exchanges, session_of_word, line_does, asked_to_stop, reconfirming}
-use Rattle.replay.specs.KeptWorlds.{AreDistinct, words_in}
+use Rattle.replay.specs.KeptWorlds.{words_in}
 use Rattle.replay.proofs.worlds.OneWorld.{shows-leave}
 use Rattle.replay.proofs.worlds.FedSeats.{fed, fed_over, feeds_as, feeds_by}
 use Rattle.replay.specs.declared.settling.Way.{Way}

@@ -10,7 +10,6 @@ use Rattle.std.specs.Prelude.{position}
 use Rattle.std.specs.List.{IsDistinct, AllByRecursion}
 use Rattle.std.specs.Str.{bytes_eq}
 use Rattle.std.proofs.lemmas.List.{get_or-map, map-set}
-use Rattle.std.proofs.lemmas.Slice.Eq.{bytes_eq-Decides}
 use Rattle.history.proofs.Positions.{position-cons}
 use Rattle.history.proofs.Positions.{position-map}
 use Rattle.dsosession.specs.declared.session.CloseReason.{CloseReason}
@@ -20,26 +19,15 @@ use Rattle.pushserver.specs.KeptHubs.{KeptHub}
 use Rattle.pushclient.specs.Clients.{Client, is_connected, connected, cut}
 use Rattle.pushclient.specs.Steps.{moment}
 use Rattle.pushclient.specs.Rule.{KeptClient, StandsFor}
-use Rattle.replay.specs.Lines.{Word}
+use Rattle.scripts.specs.Lines.{Word}
 use Rattle.replay.specs.World.{Seat, World, seat_of, with_seat, cut_seat, hub_without, with_client, joined, is_over, cut_if}
 use Rattle.replay.specs.declared.seats.Seat as program
-use Rattle.replay.specs.KeptWorlds.{KeptSeat, Seated, seat_kept, seated, StandsForSeat, StandForSeats, AreDistinct, words_in}
+use Rattle.replay.specs.KeptWorlds.{KeptSeat, Seated, seat_kept, seated, StandsForSeat, StandForSeats, words_in}
+use Rattle.scripts.specs.Scripts.{AreDistinct}
+use Rattle.scripts.proofs.lines.SameWords.{same_word, word_itself, other_way}
 use Rattle.replay.specs.KeptSeats.{has_word, timed_seat, Makes, Calls, Answers, HasCut, HasFinished, HasTimed, TellsConnected}
 
 -- ---- words
-
-pub same_word : (v w : Word) → bytes_eq v w ≡ true → v ≡ w
-same_word v w h = (bytes_eq-Decides v w).0 h
-
-pub word_itself : (w : Word) → bytes_eq w w ≡ true
-word_itself w = (bytes_eq-Decides w w).1 refl
-
-pub other_way : (v w : Word) → bytes_eq v w ≡ false → bytes_eq w v ≡ false
-other_way v w h = by (bytes_eq w v) refl
-  where
-    by : (b : Bool) → bytes_eq w v ≡ b → b ≡ false
-    by true e = (let wrong : true ≡ false = sym (word_itself v) ∙ ap (bytes_eq v) (sym (same_word w v e)) ∙ h in absurd cc)
-    by false e = refl
 
 abbrev pub words_of : List Seat → List Word
 words_of seats = map (λ (s : Seat). s.word) seats

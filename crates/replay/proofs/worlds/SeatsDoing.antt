@@ -13,9 +13,9 @@ use Rattle.pushserver.specs.PlainHubs.{Hub}
 use Rattle.pushserver.specs.KeptHubs as hubs
 use Rattle.pushserver.specs.KeptHubs.{KeptHub}
 use Rattle.pushclient.specs.Clients.{Client, connected}
-use Rattle.replay.specs.Lines.{Word}
+use Rattle.scripts.specs.Lines.{Word}
 use Rattle.replay.specs.World.{Seat, World, new_seat, with_seat, cut_seat, cut_connection, cut_peer, with_client, joined}
-use Rattle.replay.specs.TextWords.{spaced}
+use Rattle.scripts.specs.Words.{spaced}
 use Rattle.replay.specs.Text.{Printed, quietly, ended_lines, printing, asks, opens, opens_lone, opens_hub, cuts, seated, by_seat}
 use Rattle.replay.specs.declared.seats.Seat as program
 use Rattle.replay.specs.KeptWorlds.{KeptSeat, Seated, seat_kept, seated as seats_kept, Parties, StandsForSeat, StandForSeats, HasPrinted, Acts}

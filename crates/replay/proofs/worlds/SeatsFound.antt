@@ -6,10 +6,11 @@ use Rattle.std.proofs.Common.{◌≡◌, Bool, true, false, cond, List, [], ◌�
 use Rattle.std.specs.List.{AllByRecursion, IsDistinct}
 use Rattle.std.specs.Str.{bytes_eq}
 use Rattle.pushserver.proofs.session_steps.Lists.{found-each}
-use Rattle.replay.specs.Lines.{Word}
+use Rattle.scripts.specs.Lines.{Word}
 use Rattle.replay.specs.World.{World, Seat, seat_of, with_seat}
-use Rattle.replay.specs.KeptWorlds.{AreDistinct}
-use Rattle.replay.proofs.worlds.Seats.{same_word, word_itself, words_of, is_of_word, put_seat}
+use Rattle.scripts.specs.Scripts.{AreDistinct}
+use Rattle.scripts.proofs.lines.SameWords.{same_word, word_itself}
+use Rattle.replay.proofs.worlds.Seats.{words_of, is_of_word, put_seat}
 
 abbrev seat_found : Word → List Seat → Option Seat
 seat_found w seats = find (is_of_word w) seats

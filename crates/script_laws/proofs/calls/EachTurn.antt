@@ -499,7 +499,7 @@ module _ (number : ℕ) where
       by true = record { after = s; there = there; made = refl; octets = refl; standing = refl; input = refl; queue = refl; established = refl; subscriptions = refl }
       by false = record { after = copied room s; there = in-found h (copied room) s there; made = refl; octets = take-append-drop room s.output; standing = refl; input = refl; queue = refl; established = refl; subscriptions = refl }
 
-  hands-after : (room : ℕ) (h : Hub) (s : Session) → session_of h number ≡ Some s → Hands s (after_reaction number room h)
+  pub hands-after : (room : ℕ) (h : Hub) (s : Session) → session_of h number ≡ Some s → Hands s (after_reaction number room h)
   hands-after room h s there = subst (Hands s) (sym (ap (found_as h number room Worked given_after) there)) (hands-on room (given_after s.standing) h s there)
 
   -- the history stays
@@ -515,7 +515,7 @@ module _ (number : ℕ) where
 
 -- ---- the laws
 
-turn-effect : (number : ℕ) (calls : List HubCall) (hub : Hub) (front : List (List ℕ)) (message : List ℕ) (turn : HasItsTurn number calls hub front message) → TurnHasEffect number calls hub front message turn
+pub turn-effect : (number : ℕ) (calls : List HubCall) (hub : Hub) (front : List (List ℕ)) (message : List ℕ) (turn : HasItsTurn number calls hub front message) → TurnHasEffect number calls hub front message turn
 turn-effect number calls hub front message turn =
     let behind_first : Hub = after_calls turn.first hub in
     let f : Session → Session = without_first turn.rest in

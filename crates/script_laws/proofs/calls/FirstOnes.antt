@@ -10,7 +10,7 @@ use Rattle.pushserver.specs.Calls.{HubCall, takes as taking, after_calls}
 use Rattle.pushserver.proofs.SessionLists.{found-in}
 use Rattle.pushtelling.specs.Runs.{first_of, message_up}
 use Rattle.pushtelling.proofs.Running.{give_reacts}
-use Rattle.replay.specs.Lines.{send}
+use Rattle.scripts.specs.Lines.{send}
 use Rattle.replay.specs.World.{World, session_number}
 use Rattle.replay.specs.PassedOctets.{enough}
 use Rattle.replay.specs.Serving.{Asked, lines_of, world_then, connected_then}

@@ -19,14 +19,14 @@ use Rattle.pushserver.proofs.hub_steps.Pairs.{all-weaken}
 use Rattle.pushserver.proofs.session_steps.Lists.{found-each}
 use Rattle.pushclient.specs.Clients.{closed_as, is_connected, output_of}
 use Rattle.pushclient.specs.Steps as steps
-use Rattle.replay.specs.Lines.{Word, ScriptLine, silent, timers, zone, link, client, lone, at_moment, update, hear, ask, drop_question, reconfirm, open_connection, cut, say, up, emit, down, settle, send, feed, stop, point, show}
-use Rattle.replay.specs.Scripts.{script_of, client_words, lines_read}
+use Rattle.scripts.specs.Lines.{Word, ScriptLine, silent, timers, zone, link, client, lone, at_moment, update, hear, ask, drop_question, reconfirm, open_connection, cut, say, up, emit, down, settle, send, feed, stop, point, show}
+use Rattle.scripts.specs.Scripts.{script_of, client_words, lines_read}
 use Rattle.replay.specs.World.{World, Seat, start_world, seat_of, session_number, is_over}
 use Rattle.replay.specs.PassedOctets as passing
 use Rattle.replay.specs.PassedOctets.{Passed, enough, max_wire, round, settled, exchanged, fed_client}
 use Rattle.replay.specs.TextWords.{by_history}
 use Rattle.replay.specs.Text.{placed, session_of_word, line_does}
-use Rattle.replay.proofs.lines.SentOctets.{sent_by}
+use Rattle.scripts.proofs.lines.SentOctets.{sent_by}
 use Rattle.replay.proofs.worlds.ClientOutputs.{SaysOctets}
 use Rattle.replay.proofs.worlds.InputOctets.{HoldsOctets, octets-kept, octets-parts, octets-clients}
 use Rattle.replay.proofs.worlds.KeptByLines.{IsReady, Has, keeps-line}

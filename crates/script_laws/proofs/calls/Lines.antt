@@ -10,7 +10,7 @@ use Rattle.pushserver.specs.Hubs.{now, connect}
 use Rattle.pushserver.specs.Calls.{HubCall, connects, after_calls}
 use Rattle.pushclient.specs.Clients.{Client, closed_as, is_connected, connected}
 use Rattle.pushclient.specs.Steps as steps
-use Rattle.replay.specs.Lines.{Word, ScriptLine, silent, timers, zone, link, client, lone, at_moment, update, hear, ask, drop_question, reconfirm, open_connection, cut, say, up, emit, down, settle, send, feed, stop, point, show}
+use Rattle.scripts.specs.Lines.{Word, ScriptLine, silent, timers, zone, link, client, lone, at_moment, update, hear, ask, drop_question, reconfirm, open_connection, cut, say, up, emit, down, settle, send, feed, stop, point, show}
 use Rattle.replay.specs.World.{World, Seat, seat_of, session_number, hub_without, world_cut_if, with_seat, with_client, is_over, cut_peer, cut_connection, stopped_hub}
 use Rattle.replay.specs.PassedOctets as passing
 use Rattle.replay.specs.PassedOctets.{Passed, passed, Exchanged, enough, max_wire, round, settled, exchanged, fed_client, nothing_emitted}

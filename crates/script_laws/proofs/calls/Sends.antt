@@ -8,6 +8,7 @@ use Rattle.std.specs.Prelude.{◌==◌, flat_map, filter_map}
 use Rattle.std.specs.List.{AllByRecursion}
 use Rattle.std.specs.Str.{bytes_eq}
 use Rattle.std.proofs.lemmas.Grind.{flat_map-append}
+use Rattle.std.proofs.lemmas.List.{map-append}
 use Rattle.coalesce.proofs.Packing.{each-front}
 use Rattle.coalesce.proofs.ReadBack.{each-append}
 use Rattle.rrset.proofs.Places.{all_filter}
@@ -25,8 +26,8 @@ use Rattle.pushclient.specs.SoundClients.{count_of}
 use Rattle.flight_laws.proofs.Counting.{count-append}
 use Rattle.pushtelling.specs.Runs.{handed_out, WentOut}
 use Rattle.pushtelling.proofs.Running.{made_goes_out}
-use Rattle.replay.specs.Lines.{Word, ScriptLine, silent, timers, zone, link, client, lone, at_moment, update, hear, ask, drop_question, reconfirm, open_connection, cut, say, up, emit, down, settle, send, feed, stop, point, show}
-use Rattle.replay.specs.Scripts.{script_of}
+use Rattle.scripts.specs.Lines.{Word, ScriptLine, silent, timers, zone, link, client, lone, at_moment, update, hear, ask, drop_question, reconfirm, open_connection, cut, say, up, emit, down, settle, send, feed, stop, point, show}
+use Rattle.scripts.specs.Scripts.{script_of}
 use Rattle.replay.specs.World.{World, start_world, number_in, session_number, hub_without, cut_peer}
 use Rattle.replay.specs.PassedOctets.{Exchanged, exchanged, enough}
 use Rattle.replay.specs.Promises.{NumbersFit}
@@ -38,14 +39,16 @@ use Rattle.script_laws.specs.Reached.{FitsCall, FitCalls, IsReached}
 use Rattle.script_laws.specs.Lines.{AreWithin}
 use Rattle.script_laws.specs.Whole.{StandsAfterEachLine}
 use Rattle.script_laws.specs.LineCalls.{exchange_calls}
-use Rattle.script_laws.specs.EachMessage.{HasItsTurn, IsAnswered}
-use Rattle.script_laws.specs.Sending.{IsServed, ArePeersServed, ExchangeSo, SendIsAnswered, SendsAreAnswered, Asks, lines_asked, world_asked, calls_asked, AsksAnywhere, octets_asked, lines_told, AskIsAnswered, AsksAreAnswered, EachIsBroughtUp}
+use Rattle.script_laws.specs.EachMessage.{HasItsTurn, IsAnswered, messages_of}
+use Rattle.script_laws.specs.InTurn.{made_in}
+use Rattle.script_laws.specs.Sending.{IsServed, ArePeersServed, made_messages, ExchangeSo, SendIsAnswered, SendsAreAnswered, Asks, lines_asked, world_asked, calls_asked, AsksAnywhere, octets_asked, lines_told, AskIsAnswered, AsksAreAnswered, EachIsBroughtUp}
 use Rattle.script_laws.proofs.hubs.Counting.{one_where, counted-cons, one-itself}
 use Rattle.script_laws.proofs.hubs.HubNumbers.{new-ones-are-found}
 use Rattle.script_laws.proofs.hubs.Reaching.{reached-go-on, calls-append}
 use Rattle.script_laws.proofs.hubs.Sessions.{reached-below}
 use Rattle.script_laws.proofs.calls.Emitting.{all-exchanged}
 use Rattle.script_laws.proofs.calls.EachTurn.{each-has-its-turn, subscribes-are-answered}
+use Rattle.script_laws.proofs.calls.InTurn.{made-in-turn}
 use Rattle.script_laws.proofs.calls.Exchanging.{done-served}
 use Rattle.script_laws.proofs.calls.Exchanges.{exchange-so}
 use Rattle.script_laws.proofs.calls.Fits.{lines-within}
@@ -259,6 +262,22 @@ module _ (stands : StandsAfterEachLine) (text : List ℕ) (script : List ScriptL
   peers-served before behind split =
       lines-served before [] behind split (each-front AreWithin before behind (subst (AllByRecursion AreWithin) split (lines-within text script read))) tt
 
+-- ---- what is made in turn
+
+-- what more messages there are
+cancel_messages : (front more other : List (List ℕ)) → front ++ more ≡ front ++ other → more ≡ other
+cancel_messages [] more other is = is
+cancel_messages (m ∷ ms) more other is = (let tail : ms ++ more ≡ ms ++ other = cc in cancel_messages ms more other tail)
+
+-- what a session has made behind some calls is what these make for it
+more-in-turn : (hub : Hub) (calls : List HubCall) (number : ℕ) (before after : Session) (more : List Made) → IsReached hub → session_of hub number ≡ Some before → session_of (after_calls calls hub) number ≡ Some after
+    → after.made ≡ before.made ++ more → made_messages more ≡ made_in number calls hub
+more-in-turn hub calls number before after more reached was there made =
+    cancel_messages (messages_of before) (made_messages more) (made_in number calls hub) (
+    sym (map-append (λ (m : Made). m.message) before.made more) ∙ sym (ap made_messages made)
+    ∙ (made-in-turn hub calls number after there).0 before (reached-below hub number before reached was) was
+    )
+
 -- ---- a peer's line
 
 module _ (stands : StandsAfterEachLine) (text : List ℕ) (before behind : List ScriptLine) (w : Word) (octets : List ℕ) (read : script_of text ≡ Ok (before ++ send w octets ∷ behind)) where
@@ -284,6 +303,7 @@ module _ (stands : StandsAfterEachLine) (text : List ℕ) (before behind : List 
         silent = p.served.silent;
         waits = p.served.waits;
         so = so;
+        in_turn = more-in-turn there.hub (exchange_calls enough number octets there.hub) number p.session so.after so.more p.reached p.found (ap (λ (h : Hub). session_of h number) (sym so.calls) ∙ so.there) so.made;
         printed = ap (λ (o : Option (ℕ × World)). (elim o as (λ _. Printed) [
           | None ↦ printing (noseat_words w) world
           | Some place ↦ exchanges w place.0 octets place.1
@@ -395,6 +415,9 @@ module _ (stands : StandsAfterEachLine) (records : HeldRecords) (text : List ℕ
     front = first_made.more;
     back = last_made.more;
     over = over;
+    front_in_turn = more-in-turn hub turn.first asked.number sent.before turn.session first_made.more reached sent.found turn.there first_made.made;
+    back_in_turn = more-in-turn given.hub turn.last asked.number one.after sent.so.after last_made.more reached_given one.there last_there last_made.made;
+    comes_to = refl;
     made_before = λ session found. first_made.made ∙ ap (λ (s : Session). s.made ++ first_made.more) (same_found sent.before session (sym sent.found ∙ found));
     printed = printed_so;
     replied = reply-is records text (lines_asked asked) (ended_lines printed_then ++ (ended_lines line_told ++ ended_lines printed_behind)) asks.read text_so;

@@ -15,7 +15,7 @@ use Rattle.pushserver.proofs.hub_steps.Pairs.{all-weaken}
 use Rattle.pushserver.proofs.session_steps.Lists.{found-each, each-both}
 use Rattle.pushclient.specs.Clients.{closed_as, is_connected}
 use Rattle.pushclient.specs.Steps as steps
-use Rattle.replay.specs.Lines.{Word, ScriptLine, silent, timers, zone, link, client, lone, at_moment, update, hear, ask, drop_question, reconfirm, open_connection, cut, say, up, emit, down, settle, send, feed, stop, point, show}
+use Rattle.scripts.specs.Lines.{Word, ScriptLine, silent, timers, zone, link, client, lone, at_moment, update, hear, ask, drop_question, reconfirm, open_connection, cut, say, up, emit, down, settle, send, feed, stop, point, show}
 use Rattle.replay.specs.World.{World, Seat, seat_of, session_number, with_seat, cut_peer, cut_connection, is_over}
 use Rattle.replay.specs.PassedOctets as passing
 use Rattle.replay.specs.PassedOctets.{Passed, enough, max_wire, round, settled, fed_client}

@@ -2,8 +2,8 @@
 --     stands-before      the world stands, what is known of it fits, and the line may stand where it stands
 use Rattle.std.proofs.Common.{◌≡◌, ℕ, List, [], ◌∷◌, ◌++◌, Ok, Some, refl, subst}
 use Rattle.std.specs.List.{AllByRecursion}
-use Rattle.replay.specs.Lines.{Word, ScriptLine}
-use Rattle.replay.specs.Scripts.{Known, nothing_known, client_words, lines_read, fits, script_of}
+use Rattle.scripts.specs.Lines.{Word, ScriptLine}
+use Rattle.scripts.specs.Scripts.{Known, nothing_known, client_words, lines_read, fits, script_of}
 use Rattle.replay.specs.World.{World, start_world}
 use Rattle.replay.specs.TextWords.{by_history}
 use Rattle.replay.specs.Text.{line_does, world_after}

@@ -1,8 +1,8 @@
 -- Each client that a line of a script feeds is a lone one.
 --     only-lone      the law
 use Rattle.std.proofs.Common.{◌∷◌, ◌++◌, refl}
-use Rattle.replay.specs.Lines.{feed}
-use Rattle.replay.specs.Scripts.{client_words, lines_read}
+use Rattle.scripts.specs.Lines.{feed}
+use Rattle.scripts.specs.Scripts.{client_words, lines_read}
 use Rattle.replay.specs.FedLines.{lines_of, world_then}
 use Rattle.script_laws.specs.Whole.{OnlyLoneOnesAreFed}
 use Rattle.script_laws.proofs.lines.Premises.{LineLaws}

@@ -17,14 +17,15 @@ use Rattle.pushserver.specs.Hubs as hubs
 use Rattle.pushserver.specs.Hubs.{now, connect}
 use Rattle.pushclient.specs.Clients.{Connection, is_connected, output_of, give_octets, closed_as}
 use Rattle.pushclient.specs.Steps as steps
-use Rattle.replay.specs.Lines.{Word}
-use Rattle.replay.specs.Scripts.{Known, is_among, is_peer}
+use Rattle.scripts.specs.Lines.{Word}
+use Rattle.scripts.specs.Scripts.{Known, is_among, is_peer}
 use Rattle.replay.specs.World.{World, Seat, seat_of, session_number}
 use Rattle.replay.specs.PassedOctets.{Passed, passed, enough, Exchanged, exchanged, settled, to_client}
-use Rattle.replay.specs.TextWords.{spaced, octets_text}
+use Rattle.scripts.specs.Words.{spaced, octets_text}
 use Rattle.replay.specs.Text.{Printed, quietly, printing, end_lines, close_lines, finished, passes, settles, timed, moments, exchanges, sends, feeds_connected, feeds}
 use Rattle.replay.specs.Promises.{is_end_by_itself, is_close_by_itself}
-use Rattle.replay.proofs.worlds.Seats.{same_word, words_of}
+use Rattle.scripts.proofs.lines.SameWords.{same_word}
+use Rattle.replay.proofs.worlds.Seats.{words_of}
 use Rattle.replay.proofs.worlds.SeatWords.{distinct-front}
 use Rattle.script_laws.specs.Joined.{ClosedByDelay, SeatStands, ShownToEach, WorldStands}
 use Rattle.script_laws.specs.Walk.{Keeps}

@@ -10,11 +10,12 @@ use Rattle.pushserver.specs.declared.given.Heard.TheVariants.{Entered, Ignored}
 use Rattle.pushserver.specs.Hubs as hubs
 use Rattle.pushserver.specs.Hubs.{now, connect}
 use Rattle.pushclient.specs.Clients.{Client, is_connected, connected}
-use Rattle.replay.specs.Lines.{Word, ScriptLine, silent, timers, zone, link, client, lone, at_moment, update, hear, ask, drop_question, reconfirm, open_connection, cut, say, up, emit, down, settle, send, feed, stop, point, show}
-use Rattle.replay.specs.Scripts.{Known, lone_of, is_peer, is_lone_client, in_events, client_words, lines_read, fits}
+use Rattle.scripts.specs.Lines.{Word, ScriptLine, silent, timers, zone, link, client, lone, at_moment, update, hear, ask, drop_question, reconfirm, open_connection, cut, say, up, emit, down, settle, send, feed, stop, point, show}
+use Rattle.scripts.specs.Scripts.{Known, lone_of, is_peer, is_lone_client, in_events, client_words, lines_read, fits}
 use Rattle.replay.specs.World.{World, Seat, seat_of, with_seat, start_world}
 use Rattle.replay.specs.PassedOctets as running
-use Rattle.replay.specs.TextWords.{spaced, record_line, by_history, show_at}
+use Rattle.scripts.specs.Words.{spaced}
+use Rattle.replay.specs.TextWords.{record_line, by_history, show_at}
 use Rattle.replay.specs.Text.{Printed, quietly, printing, asks, subscribing, unsubscribing, reconfirming, heard_words, opens_lone, opens_hub, opens, shows, line_does, world_after}
 use Rattle.replay.specs.Promises.{NoMessageEnds}
 use Rattle.script_laws.specs.Joined.{ShownToEach}

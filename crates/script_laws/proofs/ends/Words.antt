@@ -13,12 +13,13 @@ use Rattle.dsosession.specs.declared.session.EndReason.TheVariants as ends
 use Rattle.dsosession.specs.declared.session.CloseReason.{CloseReason}
 use Rattle.dsosession.specs.declared.session.CloseReason.TheVariants as closes
 use Rattle.pushserver.proofs.hub_steps.Pairs.{all-weaken}
-use Rattle.replay.specs.Lines.{Word, is_word_octet}
-use Rattle.replay.specs.Scripts.{is_among}
-use Rattle.replay.specs.TextWords.{spaced, end_words, close_words}
+use Rattle.scripts.specs.Lines.{Word, is_word_octet}
+use Rattle.scripts.specs.Scripts.{is_among}
+use Rattle.scripts.specs.Words.{spaced, close_words}
+use Rattle.replay.specs.TextWords.{end_words}
 use Rattle.replay.specs.Text.{end_lines, close_lines}
 use Rattle.replay.specs.Promises.{is_end_by_itself, is_close_by_itself}
-use Rattle.replay.proofs.worlds.Seats.{same_word}
+use Rattle.scripts.proofs.lines.SameWords.{same_word}
 use Rattle.script_laws.specs.Lines.{IsWord}
 
 abbrev pub end_line : Word → EndReason → List ℕ

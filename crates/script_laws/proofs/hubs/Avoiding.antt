@@ -7,9 +7,10 @@ use Rattle.coalesce.proofs.ReadBack.{each-append}
 use Rattle.pushclient.specs.SoundClients.{count_of}
 use Rattle.pushserver.specs.Calls.{HubCall, updates, hears, moves, connects, takes, gives, stops, ends}
 use Rattle.pushserver.proofs.hub_steps.Pairs.{all-weaken}
-use Rattle.replay.specs.Lines.{Word}
+use Rattle.scripts.specs.Lines.{Word}
 use Rattle.replay.specs.World.{Seat, session_number}
-use Rattle.replay.proofs.worlds.Seats.{word_itself, words_of}
+use Rattle.scripts.proofs.lines.SameWords.{word_itself}
+use Rattle.replay.proofs.worlds.Seats.{words_of}
 use Rattle.flight_laws.specs.OtherCalls.{IsOfOthers}
 use Rattle.script_laws.specs.Reached.{IsFor, Avoids}
 use Rattle.script_laws.specs.Numbers.{KeepsNumbers, IsForNoOther, AreForNoOther, OwnCallsAreForNoOther, AllAvoid, OtherSeatsAvoid, SeatsAvoidPeers}

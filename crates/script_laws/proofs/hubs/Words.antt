@@ -7,10 +7,11 @@ use Rattle.std.proofs.Common.{◌≡◌, ℕ, Bool, true, false, cond, not, List
 use Rattle.std.specs.Prelude.{option_map}
 use Rattle.std.specs.List.{AllByRecursion, IsDistinct}
 use Rattle.std.specs.Str.{bytes_eq}
-use Rattle.replay.specs.Lines.{Word}
-use Rattle.replay.specs.KeptWorlds.{AreDistinct}
+use Rattle.scripts.specs.Lines.{Word}
+use Rattle.scripts.specs.Scripts.{AreDistinct}
 use Rattle.replay.specs.World.{Seat, number_in, without}
-use Rattle.replay.proofs.worlds.Seats.{same_word, other_way, words_of, is_of_word, put_seat, put-at}
+use Rattle.scripts.proofs.lines.SameWords.{same_word, other_way}
+use Rattle.replay.proofs.worlds.Seats.{words_of, is_of_word, put_seat, put-at}
 
 -- ---- distinct words
 

@@ -16,11 +16,12 @@ use Rattle.pushserver.specs.PlainHubs.{Hub}
 use Rattle.pushserver.proofs.SessionLists.{same-number}
 use Rattle.pushserver.proofs.hub_steps.Pairs.{all-weaken}
 use Rattle.flight_laws.proofs.Counting.{count-append}
-use Rattle.replay.specs.Lines.{Word}
-use Rattle.replay.specs.KeptWorlds.{AreDistinct}
+use Rattle.scripts.specs.Lines.{Word}
+use Rattle.scripts.specs.Scripts.{AreDistinct}
 use Rattle.replay.specs.World.{World, Seat, new_seat, seat_of, with_seat, session_number, without, cut_seat, hub_without}
 use Rattle.replay.specs.Promises.{NumbersFit, numbers_of}
-use Rattle.replay.proofs.worlds.Seats.{other_way, words_of, words-put}
+use Rattle.scripts.proofs.lines.SameWords.{other_way}
+use Rattle.replay.proofs.worlds.Seats.{words_of, words-put}
 use Rattle.replay.proofs.worlds.SeatWords.{distinct-front}
 use Rattle.script_laws.specs.Numbers.{numbers_in, CallsFit, SeatsChangeFit, SeatsComeFit, SeatsOpenFit, PeersOpenFit, SeatsAreCutFit, PeersAreCutFit}
 use Rattle.script_laws.proofs.hubs.Counting.{one_where, one_of, counted-cons, counted-option, one-other, none-above, below-counted, counted-left}

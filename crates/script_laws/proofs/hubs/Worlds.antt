@@ -7,10 +7,11 @@ use Rattle.std.specs.Str.{bytes_eq}
 use Rattle.coalesce.proofs.ReadBack.{each-append}
 use Rattle.pushserver.specs.Calls.{HubCall, connects, ends, after_calls}
 use Rattle.pushserver.specs.PlainHubs.{Hub}
-use Rattle.replay.specs.Lines.{Word}
+use Rattle.scripts.specs.Lines.{Word}
 use Rattle.replay.specs.World.{World, Seat, seat_of, with_seat, session_number, cut_seat, cut_connection, hub_without, without}
 use Rattle.replay.specs.Promises.{NumbersFit}
-use Rattle.replay.proofs.worlds.Seats.{same_word, word_itself, is_of_word, put_seat}
+use Rattle.scripts.proofs.lines.SameWords.{same_word, word_itself}
+use Rattle.replay.proofs.worlds.Seats.{is_of_word, put_seat}
 use Rattle.script_laws.specs.Reached.{FitsCall, FitCalls, IsReached, Avoids}
 use Rattle.script_laws.specs.Numbers.{IsForNoOther, AreForNoOther, ChangedSeatsAreFound}
 use Rattle.script_laws.specs.Joined.{SeatStands, ShownToEach, WorldStands}

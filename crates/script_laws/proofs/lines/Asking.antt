@@ -12,7 +12,7 @@ use Rattle.inflight.specs.Ends.{is_question}
 use Rattle.inflight.specs.Flight.{AreSoundWishes}
 use Rattle.pushserver.specs.PlainHubs.{Hub}
 use Rattle.pushclient.specs.Clients.{Client, Connection, reconfirm, closed_as}
-use Rattle.replay.specs.Lines.{Word}
+use Rattle.scripts.specs.Lines.{Word}
 use Rattle.replay.specs.World.{World, Seat, seat_of, with_seat}
 use Rattle.replay.specs.Text.{Printed, quietly, printing, asks, subscribing, unsubscribing, reconfirming}
 use Rattle.replay.specs.Promises.{ShownPoints, IsUnconnected}

@@ -12,8 +12,8 @@ use Rattle.pushserver.specs.SoundHubs.{IsSoundHub, IsSoundSession}
 use Rattle.pushserver.proofs.session_steps.Lists.{found-each}
 use Rattle.pushserver.proofs.hub_steps.Pairs.{all-weaken}
 use Rattle.pushclient.specs.Clients.{held}
-use Rattle.replay.specs.Lines.{Word, ScriptLine}
-use Rattle.replay.specs.Scripts.{Known, nothing_known, client_words, lines_read}
+use Rattle.scripts.specs.Lines.{Word, ScriptLine}
+use Rattle.scripts.specs.Scripts.{Known, nothing_known, client_words, lines_read}
 use Rattle.replay.specs.World.{World, Seat, start_world}
 use Rattle.replay.specs.TextWords.{by_history}
 use Rattle.replay.specs.Text.{line_does, world_after}

@@ -8,10 +8,10 @@ use Rattle.std.specs.Str.{bytes_eq}
 use Rattle.dsotlv.proofs.Results.{same_found}
 use Rattle.pushserver.proofs.hub_steps.Pairs.{all-weaken}
 use Rattle.pushserver.proofs.session_steps.Lists.{each-both}
-use Rattle.replay.specs.Lines.{Word, ScriptLine, client, lone, line_of}
-use Rattle.replay.specs.Scripts.{Known, nothing_known, client_word, client_words, is_among, fits, with_line, lines_from, lines_in, lines_read, last_is_outside, max_script, script_of}
-use Rattle.replay.proofs.lines.SentOctets.{done, lines_or}
-use Rattle.replay.proofs.worlds.Seats.{word_itself}
+use Rattle.scripts.specs.Lines.{Word, ScriptLine, client, lone, line_of}
+use Rattle.scripts.specs.Scripts.{Known, nothing_known, client_word, client_words, is_among, fits, with_line, lines_from, lines_in, lines_read, last_is_outside, max_script, script_of}
+use Rattle.scripts.proofs.lines.SentOctets.{done, lines_or}
+use Rattle.scripts.proofs.lines.SameWords.{word_itself}
 use Rattle.script_laws.specs.Lines.{IsWord, AreWithin, IsNamed, IsRead, Follow}
 use Rattle.script_laws.proofs.lines.ReadLines.{line_within}
 

@@ -10,7 +10,7 @@ use Rattle.pushserver.specs.PlainHubs.{Hub}
 use Rattle.pushserver.specs.Hubs.{newest}
 use Rattle.pushserver.proofs.session_steps.Lists.{each-both}
 use Rattle.pushclient.specs.Clients.{Client, Connection, Wish, Held, off, asked_only, refused_with, set_held, held, held_as, wish_for, is_connected}
-use Rattle.replay.specs.Lines.{ScriptLine}
+use Rattle.scripts.specs.Lines.{ScriptLine}
 use Rattle.replay.specs.World.{World, Seat, seat_of}
 use Rattle.replay.specs.TextWords.{is_filling, note_in}
 use Rattle.replay.specs.HeldPoints.{point_of_note, point_of_held, point_at, is_show_of}

@@ -6,10 +6,10 @@ use Rattle.std.proofs.Common.{◌≡◌, ℕ, Bool, true, false, List, Option, S
 use Rattle.std.specs.Prelude.{IsTrue}
 use Rattle.std.specs.List.{AllByRecursion}
 use Rattle.std.specs.Str.{bytes_eq}
-use Rattle.replay.specs.Lines.{Word}
-use Rattle.replay.specs.Scripts.{is_peer}
+use Rattle.scripts.specs.Lines.{Word}
+use Rattle.scripts.specs.Scripts.{is_peer}
 use Rattle.replay.specs.World.{World, Seat, seat_of, with_seat}
-use Rattle.replay.proofs.worlds.Seats.{same_word}
+use Rattle.scripts.proofs.lines.SameWords.{same_word}
 use Rattle.replay.proofs.worlds.SeatsFound.{found-word, put-found, put-other}
 use Rattle.script_laws.specs.Joined.{ShownToEach, WorldStands}
 

@@ -17,11 +17,11 @@ use Rattle.pushclient.specs.Clients.{Client, Connection, open_connection, closed
 use Rattle.pushclient.specs.Steps as steps
 use Rattle.pushclient.specs.Steps.{does, at_later, is_active}
 use Rattle.dsotlv.specs.Messages.{first_message}
-use Rattle.replay.specs.Lines.{Word}
+use Rattle.scripts.specs.Lines.{Word}
 use Rattle.replay.specs.World.{World, Seat, seat_of, with_seat, cut_seat, hub_without, is_over, world_cut_if}
 use Rattle.replay.specs.Text.{Printed, timed, moments}
 use Rattle.replay.specs.Promises.{IsUnconnected}
-use Rattle.replay.specs.KeptWorlds.{AreDistinct}
+use Rattle.scripts.specs.Scripts.{AreDistinct}
 use Rattle.replay.proofs.worlds.Seats.{words_of}
 use Rattle.replay.proofs.worlds.SeatWords.{distinct-front}
 use Rattle.script_laws.specs.Joined.{SeatStands, StandsWith, ShownToEach, WorldStands}

@@ -9,8 +9,8 @@ use Rattle.dsotlv.proofs.Results.{same_found}
 use Rattle.pushserver.specs.PlainHubs.{Hub}
 use Rattle.pushserver.specs.Hubs.{now, connect}
 use Rattle.pushclient.specs.Clients.{Client, Connection, is_connected, connected, output_of, give_octets}
-use Rattle.replay.specs.Lines.{Word}
-use Rattle.replay.specs.Scripts.{is_peer}
+use Rattle.scripts.specs.Lines.{Word}
+use Rattle.scripts.specs.Scripts.{is_peer}
 use Rattle.replay.specs.World.{World, Seat, seat_of, with_seat, cut_seat, cut_connection, cut_peer, without, hub_without}
 use Rattle.replay.specs.PassedOctets.{to_client}
 use Rattle.replay.specs.Text.{Printed, quietly, printing, opens_lone, opens_hub, opens, cuts, feeds_connected, feeds}

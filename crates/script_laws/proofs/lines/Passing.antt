@@ -9,7 +9,7 @@ use Rattle.dsosession.specs.declared.session.CloseReason.{CloseReason}
 use Rattle.pushserver.specs.PlainHubs.{Hub}
 use Rattle.pushserver.specs.Calls.{after_calls}
 use Rattle.pushclient.specs.Clients.{Connection, closed_as}
-use Rattle.replay.specs.Lines.{Word}
+use Rattle.scripts.specs.Lines.{Word}
 use Rattle.replay.specs.World.{World, Seat, seat_of, with_seat, cut_seat, cut_connection, hub_without, is_over, world_cut_if}
 use Rattle.replay.specs.PassedOctets.{Passed, passed, enough, settled}
 use Rattle.replay.specs.Text.{Printed, quietly, end_lines, close_lines, finished, passes, settles}

@@ -14,8 +14,8 @@ use Rattle.dsotlv.proofs.Results.{same_found}
 use Rattle.rrset.specs.declared.record.Question.{Question}
 use Rattle.dsosession.specs.Timing.{least_keepalive}
 use Rattle.inflight.specs.Ends.{is_question}
-use Rattle.replay.specs.Lines.{words_in, Word, ScriptLine, is_word_octet, silent, timers, zone, link, client, lone, at_moment, update, hear, ask, drop_question, reconfirm, open_connection, cut, say, up, emit, down, settle, send, feed, stop, point, show, max_octets_passed, has_form, number, number16, number32, max_u32, word, octets_written, question, alone, of_word, of_octets, of_word_and_octets, of_word_and_number, of_word_and_question, timers_line, writable_of, zone_line, link_line, at_line, reconfirm_line, stop_line, show_line, of_words, line_of}
-use Rattle.replay.proofs.lines.LineKinds.{OnEach, on-words}
+use Rattle.scripts.specs.Lines.{words_in, Word, ScriptLine, is_word_octet, silent, timers, zone, link, client, lone, at_moment, update, hear, ask, drop_question, reconfirm, open_connection, cut, say, up, emit, down, settle, send, feed, stop, point, show, max_octets_passed, has_form, number, number16, number32, max_u32, word, octets_written, question, alone, of_word, of_octets, of_word_and_octets, of_word_and_number, of_word_and_question, timers_line, writable_of, zone_line, link_line, at_line, reconfirm_line, stop_line, show_line, of_words, line_of}
+use Rattle.scripts.proofs.lines.LineKinds.{OnEach, on-words}
 use Rattle.replay.proofs.worlds.ClientOutputs.{all_octets}
 use Rattle.replay.proofs.worlds.InputOctets.{written_octets}
 use Rattle.replay.proofs.turns.SendSizes.{le_is, written_few}

@@ -10,12 +10,12 @@ use Rattle.dsosession.specs.declared.session.EndReason.{EndReason}
 use Rattle.pushserver.specs.PlainHubs.{Hub}
 use Rattle.pushserver.specs.Hubs.{connect}
 use Rattle.pushserver.specs.Calls.{updates as updating, hears as hearing, stops as stopping}
-use Rattle.replay.specs.Lines.{Word}
-use Rattle.replay.specs.Scripts.{is_peer}
+use Rattle.scripts.specs.Lines.{Word}
+use Rattle.scripts.specs.Scripts.{is_peer}
 use Rattle.replay.specs.World.{World, seat_of, number_in, session_number, cut_peer}
 use Rattle.replay.specs.PassedOctets.{Exchanged, exchanged, enough}
 use Rattle.replay.specs.Text.{Printed, printing, number_or_zero, hears, updates, exchanges, sends, asked_to_stop, session_of_word, stops}
-use Rattle.replay.proofs.worlds.Seats.{word_itself}
+use Rattle.scripts.proofs.lines.SameWords.{word_itself}
 use Rattle.script_laws.specs.Numbers.{AreForNoOther}
 use Rattle.script_laws.specs.Joined.{ShownToEach, WorldStands}
 use Rattle.script_laws.specs.Walk.{IsExchangeOf}

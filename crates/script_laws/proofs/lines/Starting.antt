@@ -20,9 +20,10 @@ use Rattle.history.specs.declared.entry.HomeFault.{HomeFault}
 use Rattle.history.proofs.Together.{together-more, names-apart}
 use Rattle.pushclient.specs.ServerMessages.{CanBeGranted}
 use Rattle.pushtelling.specs.Laws.{IsStartOfHomes}
-use Rattle.replay.specs.Lines.{Word, ScriptLine, silent, timers, zone, link, client, lone, at_moment, update, hear, ask, drop_question, reconfirm, open_connection, cut, say, up, emit, down, settle, send, feed, stop, point, show}
-use Rattle.replay.specs.Scripts.{Known, nothing_known, is_among, fits, allowed, with_home, with_client}
-use Rattle.replay.specs.World.{Head, empty_head, with_head_line, start_world}
+use Rattle.scripts.specs.Lines.{Word, ScriptLine, silent, timers, zone, link, client, lone, at_moment, update, hear, ask, drop_question, reconfirm, open_connection, cut, say, up, emit, down, settle, send, feed, stop, point, show}
+use Rattle.scripts.specs.Scripts.{Known, nothing_known, is_among, fits, allowed, with_home, with_client}
+use Rattle.scripts.specs.Heads.{Head, empty_head, with_head_line}
+use Rattle.replay.specs.World.{start_world}
 use Rattle.replay.specs.Promises.{NumbersFit}
 use Rattle.script_laws.specs.Joined.{WorldStands}
 use Rattle.script_laws.specs.Lines.{IsRead, Follow, KnownFits}

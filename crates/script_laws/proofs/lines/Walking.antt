@@ -12,14 +12,16 @@ use Rattle.coalesce.proofs.ReadBack.{each-append}
 use Rattle.rrset.specs.declared.record.Question.{Question}
 use Rattle.pushserver.specs.PlainHubs.{Hub}
 use Rattle.pushserver.specs.Hubs.{newest}
-use Rattle.replay.specs.Lines.{Word, ScriptLine, silent, timers, zone, link, client, lone, at_moment, update, hear, ask, drop_question, reconfirm, open_connection, cut, say, up, emit, down, settle, send, feed, stop, point, show}
-use Rattle.replay.specs.Scripts.{Known, lone_of, is_among, is_peer, is_client, is_lone_client, allowed, in_events, with_home, with_client, fits}
+use Rattle.scripts.specs.Lines.{Word, ScriptLine, silent, timers, zone, link, client, lone, at_moment, update, hear, ask, drop_question, reconfirm, open_connection, cut, say, up, emit, down, settle, send, feed, stop, point, show}
+use Rattle.scripts.specs.Scripts.{Known, lone_of, is_among, is_peer, is_client, is_lone_client, allowed, in_events, with_home, with_client, fits}
 use Rattle.replay.specs.World.{World, Seat, new_seat, seat_of, number_in}
 use Rattle.replay.specs.PassedOctets as running
-use Rattle.replay.specs.TextWords.{by_history, show_at, spaced, record_line}
+use Rattle.replay.specs.TextWords.{by_history, show_at, record_line}
+use Rattle.scripts.specs.Words.{spaced}
 use Rattle.replay.specs.Text.{Printed, quietly, seated, line_does}
 use Rattle.replay.specs.Promises.{ShownPoints, IsUnconnected}
-use Rattle.replay.proofs.worlds.Seats.{same_word, word_itself, other_way, is_of_word}
+use Rattle.scripts.proofs.lines.SameWords.{same_word, word_itself, other_way}
+use Rattle.replay.proofs.worlds.Seats.{is_of_word}
 use Rattle.script_laws.specs.Joined.{SeatStands, ShownToEach, WorldStands}
 use Rattle.script_laws.specs.Lines.{IsRead, KnownFits}
 use Rattle.script_laws.proofs.lines.Premises.{LineLaws}

@@ -9,14 +9,14 @@ use Rattle.rrset.proofs.Sets.{both_true}
 use Rattle.rrset.specs.RecordSet.{matching}
 use Rattle.rrset.specs.declared.record.Question.{Question}
 use Rattle.pushserver.specs.Hubs.{records_now}
-use Rattle.replay.specs.Lines.{Word, ScriptLine, silent, settle, point, show}
+use Rattle.scripts.specs.Lines.{Word, ScriptLine, silent, settle, point, show}
 use Rattle.replay.specs.World.{World, Seat, seat_of, start_world}
 use Rattle.replay.specs.TextWords.{by_history}
 use Rattle.replay.specs.Text.{line_does, world_after}
 use Rattle.replay.specs.HeldPoints.{held_points_from, settles_alone, leaves_settled, settled_from}
 use Rattle.replay.specs.Promises.{ShowsNewest, held_lines, SeatIsQuiet, EverySettleEmptiesBothWays, EveryScriptKeepsPromises}
 use Rattle.replay.proofs.worlds.BetweenLines.{after-append}
-use Rattle.replay.proofs.worlds.Seats.{same_word}
+use Rattle.scripts.proofs.lines.SameWords.{same_word}
 use Rattle.script_laws.specs.Reached.{ReachedSessions, ReachedOnesAreSound}
 use Rattle.script_laws.specs.Joined.{StandsWith, ShownToEach, WorldStands}
 use Rattle.script_laws.specs.Walk.{SettlesPass}

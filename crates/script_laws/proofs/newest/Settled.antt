@@ -10,10 +10,11 @@ use Rattle.pushserver.specs.Calls.{after_calls}
 use Rattle.pushserver.specs.PlainHubs.{Hub}
 use Rattle.pushclient.specs.Clients.{Connection, closed_as, is_connected}
 use Rattle.pushclient.proofs.SoundWishes.{some_is}
-use Rattle.replay.specs.Lines.{Word, settle}
+use Rattle.scripts.specs.Lines.{Word, settle}
 use Rattle.replay.specs.World.{World, Seat, seat_of, with_seat, is_over, world_cut_if}
 use Rattle.replay.specs.PassedOctets.{Passed, passed, enough, settled}
-use Rattle.replay.specs.TextWords.{by_history, spaced}
+use Rattle.replay.specs.TextWords.{by_history}
+use Rattle.scripts.specs.Words.{spaced}
 use Rattle.replay.specs.Text.{Printed, quietly, line_does, end_lines, close_lines, finished}
 use Rattle.replay.specs.HeldPoints.{settles_alone}
 use Rattle.script_laws.specs.Joined.{ShownToEach, WorldStands, PassesSo}

@@ -13,7 +13,7 @@ use Rattle.pushserver.specs.PlainHubs.{Session}
 use Rattle.pushserver.specs.Hubs.{session_of}
 use Rattle.pushclient.specs.Clients.{Connection, closed_as, is_connected}
 use Rattle.replay.specs.HeldPoints.{settles_alone}
-use Rattle.replay.specs.Lines.{Word, settle}
+use Rattle.scripts.specs.Lines.{Word, settle}
 use Rattle.replay.specs.Text.{Printed, quietly, end_lines, close_lines, finished, line_does, world_after}
 use Rattle.replay.specs.TextWords.{by_history}
 use Rattle.replay.specs.World.{World, Seat, seat_of, with_seat, start_world, is_over, world_cut_if}

@@ -15,8 +15,8 @@ use Rattle.pushserver.specs.SoundHubs.{IsSoundHub, IsSoundSession}
 use Rattle.pushserver.proofs.session_steps.Lists.{found-each}
 use Rattle.pushsession.specs.declared.standing.Standing.{Standing}
 use Rattle.pushsession.specs.declared.standing.Standing.TheVariants.{Live, AskedToStop, Stopped, Ended}
-use Rattle.replay.specs.Lines.{Word, ScriptLine, settle, feed}
-use Rattle.replay.specs.Scripts.{Known, nothing_known, lone_of, is_lone_client, in_events, fits, client_words, lines_read}
+use Rattle.scripts.specs.Lines.{Word, ScriptLine, settle, feed}
+use Rattle.scripts.specs.Scripts.{Known, nothing_known, lone_of, is_lone_client, in_events, fits, client_words, lines_read}
 use Rattle.replay.specs.PassedOctets.{max_wire}
 use Rattle.replay.specs.TextWords.{by_history}
 use Rattle.replay.specs.Text.{line_does, world_after}

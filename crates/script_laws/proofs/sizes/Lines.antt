@@ -15,11 +15,12 @@ use Rattle.pushclient.specs.Clients.{Client, Connection, output_of, give_octets,
 use Rattle.pushclient.specs.Steps as steps
 use Rattle.pushclient.proofs.SoundWishes.{all_found}
 use Rattle.inflight.specs.Flight.{AreSoundWishes}
-use Rattle.replay.specs.Lines.{Word, ScriptLine, silent, timers, zone, link, client, lone, at_moment, update, hear, ask, drop_question, reconfirm, open_connection, cut, say, up, emit, down, settle, send, feed, stop, point, show}
+use Rattle.scripts.specs.Lines.{Word, ScriptLine, silent, timers, zone, link, client, lone, at_moment, update, hear, ask, drop_question, reconfirm, open_connection, cut, say, up, emit, down, settle, send, feed, stop, point, show}
 use Rattle.replay.specs.World.{World, Seat, new_seat, seat_of, with_seat, session_number, cut_seat, cut_connection, cut_peer, is_over, world_cut_if}
 use Rattle.replay.specs.PassedOctets as running
 use Rattle.replay.specs.PassedOctets.{Passed, passed, Delivered, to_client, Exchanged, exchanged, settled, enough}
-use Rattle.replay.specs.TextWords.{by_history, show_at, spaced, record_line, octets_text}
+use Rattle.replay.specs.TextWords.{by_history, show_at, record_line}
+use Rattle.scripts.specs.Words.{spaced, octets_text}
 use Rattle.replay.specs.Text.{Printed, quietly, printing, end_lines, close_lines, finished, passes, timed, moments, asks, subscribing, unsubscribing, reconfirming, opens_lone, opens_hub, opens, cuts, exchanges, sends, feeds, stops, asked_to_stop, session_of_word, seated, line_does}
 use Rattle.script_laws.specs.Joined.{SeatStands, StandsWith, ShownToEach, WorldStands, PassesSo}
 use Rattle.script_laws.specs.Lines.{IsRead}

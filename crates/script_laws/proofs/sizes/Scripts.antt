@@ -4,9 +4,9 @@ use Rattle.std.proofs.Common.{◌≡◌, ℕ, suc, ◌+◌, ◌≤◌, ◌==◌,
 use Rattle.std.specs.List.{onto_first}
 use Rattle.std.proofs.lemmas.Bool.{ltb-false}
 use Rattle.std.proofs.lemmas.List.{length-map}
-use Rattle.replay.specs.Lines.{Word, ScriptLine, line_of}
-use Rattle.replay.specs.Scripts.{Known, nothing_known, client_words, fits, with_line, lines_from, lines_in, onto_line, lines_read, last_is_outside, max_script}
-use Rattle.replay.proofs.lines.SentOctets.{done, lines_or}
+use Rattle.scripts.specs.Lines.{Word, ScriptLine, line_of}
+use Rattle.scripts.specs.Scripts.{Known, nothing_known, client_words, fits, with_line, lines_from, lines_in, onto_line, lines_read, last_is_outside, max_script}
+use Rattle.scripts.proofs.lines.SentOctets.{done, lines_or}
 use Rattle.script_laws.specs.Turns.{ScriptsAreShort}
 
 -- ---- the lines of a text

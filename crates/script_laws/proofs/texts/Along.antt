@@ -6,9 +6,10 @@ use Rattle.std.specs.Prelude.{map, codes, decimal}
 use Rattle.std.specs.Str.{bytes_eq}
 use Rattle.rrset.specs.declared.record.Question.{Question}
 use Rattle.pushclient.proofs.SoundWishes.{all_found}
-use Rattle.replay.specs.Lines.{Word, ScriptLine, silent, timers, zone, link, client, lone, at_moment, update, hear, ask, drop_question, reconfirm, open_connection, cut, say, up, emit, down, settle, send, feed, stop, point, show}
+use Rattle.scripts.specs.Lines.{Word, ScriptLine, silent, timers, zone, link, client, lone, at_moment, update, hear, ask, drop_question, reconfirm, open_connection, cut, say, up, emit, down, settle, send, feed, stop, point, show}
 use Rattle.replay.specs.World.{World, Seat, seat_of, start_world}
-use Rattle.replay.specs.TextWords.{ShowTold, HeldRecords, by_history, by_notices, spaced, record_line, show_at}
+use Rattle.replay.specs.TextWords.{ShowTold, HeldRecords, by_history, by_notices, record_line, show_at}
+use Rattle.scripts.specs.Words.{spaced}
 use Rattle.replay.specs.Text.{Printed, quietly, line_does, world_after, printed_by, ended_lines}
 use Rattle.replay.specs.HeldPoints.{held_points_from}
 use Rattle.replay.proofs.worlds.BetweenLines.{after-append}

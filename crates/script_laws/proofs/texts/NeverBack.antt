@@ -11,13 +11,13 @@ use Rattle.rrset.specs.declared.record.Question.{Question}
 use Rattle.pushserver.specs.PlainHubs.{Hub, Note}
 use Rattle.pushclient.specs.Clients.{Held, off, asked_only, refused_with, set_held, held}
 use Rattle.pushclient.proofs.SoundWishes.{find_holds}
-use Rattle.replay.specs.Lines.{Word, ScriptLine}
+use Rattle.scripts.specs.Lines.{Word, ScriptLine}
 use Rattle.replay.specs.World.{World, Seat, seat_of, start_world}
 use Rattle.replay.specs.TextWords.{by_history, note_in, is_filling}
 use Rattle.replay.specs.Text.{line_does, world_after}
 use Rattle.replay.specs.HeldPoints.{is_show_of, point_of_note, point_of_held, point_at, held_points_from}
 use Rattle.replay.specs.Promises.{point_taken}
-use Rattle.replay.proofs.worlds.Seats.{same_word}
+use Rattle.scripts.proofs.lines.SameWords.{same_word}
 use Rattle.script_laws.specs.Reached.{ReachedSessions}
 use Rattle.script_laws.specs.Whole.{shown_by, StandsAfter, StandsAfterEachLine, ScriptsNeverGoBack}
 use Rattle.script_laws.proofs.texts.Shows.{shown-taken, stands_as}

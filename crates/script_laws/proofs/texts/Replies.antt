@@ -1,8 +1,8 @@
 -- The replies to scripts.
 --     one-reply      each is the same, told from the history or from the notices taken
 use Rattle.std.proofs.Common.{◌≡◌, ℕ, List, Result, Ok, Err, refl, ap, sym}
-use Rattle.replay.specs.Lines.{ScriptLine}
-use Rattle.replay.specs.Scripts.{script_of}
+use Rattle.scripts.specs.Lines.{ScriptLine}
+use Rattle.scripts.specs.Scripts.{script_of}
 use Rattle.replay.specs.TextWords.{HeldRecords, by_history, by_notices}
 use Rattle.replay.specs.Text.{text_by, text_with, outside_text}
 use Rattle.replay.specs.ScriptReplies.{reply_to_script}

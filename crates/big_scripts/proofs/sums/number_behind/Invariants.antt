@@ -1,5 +1,5 @@
 use Rattle.std.proofs.Common.{◌≡◌, length}
-use Rattle.replay.specs.Lines.{words_in}
+use Rattle.scripts.specs.Lines.{words_in}
 use Rattle.big_scripts.specs.Sums.{number_behind as number_in}
 use Rattle.big_scripts.proofs.sums.number_behind.Given as goal
 

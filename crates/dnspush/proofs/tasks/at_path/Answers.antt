@@ -1,7 +1,8 @@
-use Rattle.std.proofs.Common.{subst, sym}
-use Rattle.dnspush.specs.Outside.{MayHaveGiven}
+use Rattle.std.proofs.Common.{subst, sym, ap}
+use Rattle.push_outside.specs.Outside.{Telling}
+use Rattle.dnspush.specs.Runs.{MayHaveGiven}
 use Rattle.replay.specs.TextWords.{by_notices}
-use Rattle.replay.specs.ScriptReplies.{front_read}
+use Rattle.scripts.specs.Sources.{front_read}
 use Rattle.replay.proofs.replies.Written.{answered, unread_is, starved_is}
 use Rattle.dnspush.specs.Tasks.{task_reply}
 use Rattle.dnspush.proofs.Running.{replied_back, brought, failed_open}
@@ -10,7 +11,7 @@ use Rattle.dnspush.proofs.tasks.at_path.Goals as goal
 pub returns-in-Ok-clause-replied : goal.returns-in-Ok-clause-replied
 returns-in-Ok-clause-replied g c = λ octets may.
     replied_back c.args.task _ _ _ _ _ _ _ _ _ _ _ (brought _ _ _ _ _ c.in-Ok.ensures.faults c.in-Ok.ensures.reads c.back_in.ensures.reads) c.in-Ok.ensures.fresh c.on_source-outcome.ensures.gave c.on_source-outcome.ensures.replied c.back_in.ensures.used octets
-    (subst (λ before. MayHaveGiven before (g.O.Outside.used c.back_in.new.self) octets) (sym c.in-Ok.ensures.used) may)
+    (subst (λ before. MayHaveGiven before (g.O.Outside.told c.back_in.new.self).used octets) (sym (ap (λ (t : Telling). t.used) c.in-Ok.ensures.told)) may)
 
 pub returns-in-Err-Failed-clause-replied : goal.returns-in-Err-Failed-clause-replied
 returns-in-Err-Failed-clause-replied g c = λ octets may.

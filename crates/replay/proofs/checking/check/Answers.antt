@@ -1,6 +1,6 @@
 use Rattle.std.proofs.Common.{Err, ◌∙◌, ap, refl}
 use Rattle.replay.specs.Checks.{checked}
-use Rattle.replay.specs.ScriptReplies.{front_read}
+use Rattle.scripts.specs.Sources.{front_read}
 use Rattle.replay.specs.Outcomes.{status_of}
 use Rattle.replay.proofs.replies.Written.{answered, always, unread_is, starved_is, replied}
 use Rattle.replay.proofs.checking.check.Goals as goal

@@ -1,5 +1,5 @@
 use Rattle.std.proofs.Common.{subst}
-use Rattle.replay.specs.KeptScripts.{ReadsAs}
+use Rattle.scripts.specs.KeptScripts.{ReadsAs}
 use Rattle.replay.proofs.replies.ScriptReplies.{whole_checked, outside_checked}
 use Rattle.replay.proofs.checking.check_reply.Goals as goal
 

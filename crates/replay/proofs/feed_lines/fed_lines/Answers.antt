@@ -1,5 +1,5 @@
 use Rattle.std.proofs.Common.{◌++◌, ◌∙◌, ap, codes, string_bytes}
-use Rattle.replay.specs.TextWords.{octets_text}
+use Rattle.scripts.specs.Words.{octets_text}
 use Rattle.replay.specs.KeptSeats.{closing_text}
 use Rattle.replay.proofs.worlds.Doing.{two_parts}
 use Rattle.replay.proofs.worlds.FedDoing.{fed-line}

@@ -1,6 +1,6 @@
 use Rattle.std.proofs.Common.{◌<◌, ◌++◌, [], List, length, get_or, sym, ap, ◌∙◌, arith, codes, string_bytes}
 use Rattle.std.proofs.lemmas.List.{length-map, with_items_is}
-use Rattle.replay.specs.TextWords.{octets_text}
+use Rattle.scripts.specs.Words.{octets_text}
 use Rattle.replay.specs.Text.{feeds}
 use Rattle.replay.specs.declared.seats.Seat.{Seat}
 use Rattle.replay.specs.KeptWorlds.{seat_kept, seated, parties_of}

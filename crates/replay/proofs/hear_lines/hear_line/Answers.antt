@@ -1,7 +1,7 @@
 use Rattle.std.proofs.Common.{◌++◌, ◌∷◌, [], Some, None, ap, ◌∙◌}
 use Rattle.std.specs.Prelude.{position}
 use Rattle.replay.specs.Text.{heard_words, hears, number_or_zero}
-use Rattle.replay.specs.Drafts.{is_word}
+use Rattle.scripts.specs.Drafts.{is_word}
 use Rattle.replay.specs.KeptWorlds.{parties_of}
 use Rattle.replay.proofs.worlds.Doing.{is_err, if_acts}
 use Rattle.replay.proofs.worlds.HearDoing.{hears-act, link-known}

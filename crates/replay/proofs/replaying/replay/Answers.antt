@@ -1,6 +1,7 @@
 use Rattle.std.proofs.Common.{◌≡◌, List, ℕ, Err, IfSome, ◌∙◌, ap, refl, subst}
 use Rattle.replay.specs.TextWords.{by_notices}
-use Rattle.replay.specs.ScriptReplies.{front_read, reply_to_script}
+use Rattle.scripts.specs.Sources.{front_read}
+use Rattle.replay.specs.ScriptReplies.{reply_to_script}
 use Rattle.replay.specs.KeptEnds.{AreEnds, ends_with}
 use Rattle.replay.specs.Outcomes.{status_of}
 use Rattle.replay.proofs.replies.Written.{answered, always, unread_is, starved_is, replied, replied_as}

@@ -1,5 +1,5 @@
 use Rattle.std.proofs.Common.{subst}
-use Rattle.replay.specs.KeptScripts.{ReadsAs}
+use Rattle.scripts.specs.KeptScripts.{ReadsAs}
 use Rattle.replay.proofs.replies.ScriptReplies.{whole_reply, outside_reply}
 use Rattle.replay.proofs.endings.EndsStand.{ends-are}
 use Rattle.replay.proofs.reply.reply_to.Goals as goal

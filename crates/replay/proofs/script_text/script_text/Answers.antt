@@ -1,7 +1,8 @@
 use Rattle.std.proofs.Common.{◌≡◌, ◌<◌, ◌≤◌, ◌++◌, ℕ, List, length, get_or, ap, subst, refl, ◌∙◌, arith, string_bytes}
 use Rattle.replay.specs.Text.{world_after}
-use Rattle.replay.specs.declared.line.Event.{Event}
-use Rattle.replay.specs.KeptScripts.{events_said, world_at_start}
+use Rattle.scripts.specs.declared.line.Event.{Event}
+use Rattle.scripts.specs.KeptScripts.{events_said}
+use Rattle.replay.specs.KeptScripts.{world_at_start}
 use Rattle.replay.proofs.worlds.ScriptTurns.{text_from, turn, written}
 use Rattle.replay.proofs.script_text.script_text.Goals as goal
 

@@ -1,6 +1,7 @@
 use Rattle.std.proofs.Common.{drop, string_bytes}
 use Rattle.replay.specs.Text.{world_after}
-use Rattle.replay.specs.KeptScripts.{events_said, world_at_start}
+use Rattle.scripts.specs.KeptScripts.{events_said}
+use Rattle.replay.specs.KeptScripts.{world_at_start}
 use Rattle.replay.proofs.worlds.ScriptTurns.{IsWritten, text_from}
 use Rattle.replay.proofs.script_text.script_text.Given as goal
 

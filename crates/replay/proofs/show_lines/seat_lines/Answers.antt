@@ -1,6 +1,7 @@
 use Rattle.std.proofs.Common.{◌≡◌, [], ◌∷◌, refl, codes, decimal}
 use Rattle.pushclient.specs.Clients.{off, asked_only, refused_with}
-use Rattle.replay.specs.TextWords.{spaced, ShowTold}
+use Rattle.scripts.specs.Words.{spaced}
+use Rattle.replay.specs.TextWords.{ShowTold}
 use Rattle.replay.specs.KeptWorlds.{seat_kept}
 use Rattle.replay.specs.KeptShows.{ShowsSeat, ShowsSet, showing_text}
 use Rattle.replay.proofs.worlds.Doing.{if_each}

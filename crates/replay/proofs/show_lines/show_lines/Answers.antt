@@ -1,7 +1,7 @@
 use Rattle.std.proofs.Common.{◌<◌, length, ap, sym, subst, ◌∙◌, arith, string_bytes}
 use Rattle.std.proofs.lemmas.List.{length-map}
 use Rattle.std.specs.Prelude.{position}
-use Rattle.replay.specs.Lines.{Word}
+use Rattle.scripts.specs.Lines.{Word}
 use Rattle.replay.specs.TextWords.{by_notices}
 use Rattle.replay.specs.Text.{shows}
 use Rattle.replay.specs.KeptWorlds.{KeptSeat, seat_kept, seated, parties_of, Acts}

@@ -1,6 +1,6 @@
 use Rattle.std.proofs.Common.{◌∙◌, ◌+◌, ◌-◌, length, take, drop, arith, length-take, length-drop, take-append-drop}
 use Rattle.std.proofs.lemmas.Result.{err_from_is_err_and}
-use Rattle.replay.proofs.replies.ReadAndWritten.{took_more}
+use Rattle.scripts.proofs.ReadAndWritten.{took_more}
 use Rattle.replay.proofs.write.write_all.Goals as goal
 
 pub returns-in_err-count-clause-front : goal.returns-in_err-count-clause-front

@@ -1,6 +1,0 @@
-use Rattle.std.proofs.Common.{◌≡◌}
-use Rattle.big_scripts.proofs.Making.{front_of}
-use Rattle.big_scripts.proofs.scripts.script_of.Given as goal
-
-abbrev pub invariant-rounds : goal.invariant-rounds
-invariant-rounds l = l.script.items ≡ front_of l.before

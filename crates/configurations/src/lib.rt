@@ -1,0 +1,53 @@
+//! Configurations of a server and of a subscriber, read line by line.
+#![tactic(auto)]
+
+pub mod limits;
+mod serving;
+mod subscribing;
+mod words;
+
+ghost use Rattle.std.specs.Prelude.{◌≡◌, [], ◌∷◌, Err, Ok, codes, false, replicate, true};
+ghost use Rattle.configurations.specs.Configurations.{may_ask, no_subscribing, serving_of, subscribing_of};
+ghost use Rattle.configurations.specs.Worked.{all_records, asking, served, serving, soa, subscribing, text};
+
+pub use serving::{FedLink, ReadServe, ServeConfiguration, read_serve};
+pub use subscribing::{ReadSubscribe, SubscribeConfiguration, read_subscribe};
+
+/// Examples of configurations of a server: all kinds of lines, what is missing, and lines that may not stand there.
+pub fn worked_servers()
+    ensures all_lines { serving_of served ≡ Ok serving }
+    ensures no_line { serving_of [] ≡ Err 1 }
+    ensures empty_lines { serving_of (text ([] ∷ [] ∷ [])) ≡ Err 3 }
+    ensures without_listen { serving_of (text (codes "sessions 1" ∷ [])) ≡ Err 2 }
+    ensures without_sessions { serving_of (text (codes "listen here" ∷ [])) ≡ Err 2 }
+    ensures listens_twice { serving_of (text (codes "listen here" ∷ codes "listen here" ∷ codes "sessions 1" ∷ [])) ≡ Err 2 }
+    ensures no_session { serving_of (text (codes "sessions 0" ∷ [])) ≡ Err 1 }
+    ensures leading_zero { serving_of (text (codes "sessions 01" ∷ [])) ≡ Err 1 }
+    ensures many_sessions { serving_of (text (codes "sessions 1000001" ∷ [])) ≡ Err 1 }
+    ensures sessions_twice { serving_of (text (codes "sessions 1" ∷ codes "sessions 1" ∷ [])) ≡ Err 2 }
+    ensures feed_first { serving_of (text (codes "feed lan here" ∷ codes "link lan lan.example.com." ∷ [])) ≡ Err 1 }
+    ensures feeds_twice { serving_of (text (codes "link lan lan.example.com." ∷ codes "feed lan here" ∷ codes "feed lan here" ∷ [])) ≡ Err 3 }
+    ensures two_words { serving_of (text (codes "listen here there" ∷ [])) ≡ Err 1 }
+    ensures no_word { serving_of (text (codes "listen " ∷ [])) ≡ Err 1 }
+    ensures many_turns { serving_of (text (codes "turns 1099511627777" ∷ [])) ≡ Err 1 }
+    ensures turns_twice { serving_of (text (codes "turns 0" ∷ codes "turns 1099511627776" ∷ [])) ≡ Err 2 }
+    ensures event { serving_of (text (codes "zone example.com. 1 open" ∷ codes "point" ∷ [])) ≡ Err 2 }
+    ensures client { serving_of (text (codes "client c" ∷ [])) ≡ Err 1 }
+    ensures short_keepalive { serving_of (text (codes "timers 0 9999" ∷ [])) ≡ Err 1 }
+    ensures same_home { serving_of (text (codes "zone example.com. 1 open" ∷ codes "zone EXAMPLE.com. 2 shut" ∷ [])) ≡ Err 2 }
+{}
+
+/// Examples of configurations of a subscriber.
+pub fn worked_subscribers()
+    ensures all_lines { subscribing_of asking ≡ Ok subscribing }
+    ensures no_line { subscribing_of [] ≡ Err 1 }
+    ensures without_server { subscribing_of (text (codes "question example.com. 6 1" ∷ [])) ≡ Err 2 }
+    ensures without_question { subscribing_of (text (codes "server here" ∷ [])) ≡ Err 2 }
+    ensures same_question { subscribing_of (text (codes "question example.com. 6 1" ∷ codes "question EXAMPLE.com. 6 1" ∷ [])) ≡ Err 2 }
+    ensures messages_twice { subscribing_of (text (codes "messages 1" ∷ codes "messages 1" ∷ [])) ≡ Err 2 }
+    ensures many_messages { subscribing_of (text (codes "messages 18446744073709551616" ∷ [])) ≡ Err 1 }
+    ensures other_kind { subscribing_of (text (codes "question example.com. 65536 1" ∷ [])) ≡ Err 1 }
+    ensures head { subscribing_of (text (codes "zone example.com. 1 open" ∷ [])) ≡ Err 1 }
+    ensures last_question { may_ask (record no_subscribing { questions = replicate 1023 soa }) all_records ≡ true }
+    ensures many_questions { may_ask (record no_subscribing { questions = replicate 1024 soa }) all_records ≡ false }
+{}

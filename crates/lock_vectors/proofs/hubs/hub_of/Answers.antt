@@ -1,0 +1,33 @@
+-- One new zone, and a link that has heard nothing, are a start.
+use Rattle.std.proofs.Common.{◌≡◌, ℕ, zero, suc, false, [], ◌∷◌, ◌++◌, refl, sym, ap, subst, ◌∙◌, arith}
+use Rattle.std.specs.Prelude.{All}
+use Rattle.dnsname.specs.Names.{Labels}
+use Rattle.zoneupdate.specs.Keeping.{ZoneKept}
+use Rattle.zoneupdate.specs.Zones.{ZoneState, new_zone}
+use Rattle.history.specs.Kept.{HomesKept, state_of}
+use Rattle.history.specs.Plans.{IsStart}
+use Rattle.history.specs.States.{State, LinkState}
+use Rattle.lock_vectors.proofs.hubs.hub_of.Goals as goal
+
+all_one : {X : Type 0} (P : X → Type 0) (x : X) → P x → All P (x ∷ [])
+all_one P x p zero d h = p
+all_one P x p (suc k) d h = absurd (omega (arith, h))
+
+zone_and_link : (empty homes : HomesKept) (later : State) (zone : ZoneKept) (domain : Labels) → empty ≡ record { zones = []; links = []; names = [] }
+    → homes ≡ record empty { zones = empty.zones ++ zone ∷ []; names = empty.names ++ (zone.state.apex, false) ∷ [] }
+    → later ≡ record (state_of homes) { links = (state_of homes).links ++ (record { domain = domain; rows = [] }) ∷ [] } → (serial : ℕ) × (zone.state ≡ new_zone zone.state.apex serial zone.state.writable) → IsStart later
+zone_and_link empty homes later zone domain none one two new =
+    subst IsStart (sym same) (record {
+      zones = all_one (λ (z : ZoneState). (serial : ℕ) × (z ≡ new_zone z.apex serial z.writable)) zone.state new;
+      links = all_one (λ (l : LinkState). l.rows ≡ []) (record { domain = domain; rows = [] }) refl;
+      now = refl;
+    })
+  where
+    same : later ≡ record { zones = zone.state ∷ []; links = (record { domain = domain; rows = [] }) ∷ []; now = 0 }
+    same =
+        two
+        ∙ ap (λ (h : HomesKept). record (state_of h) { links = (state_of h).links ++ (record { domain = domain; rows = [] }) ∷ [] })
+        (one ∙ ap (λ (e : HomesKept). record e { zones = e.zones ++ zone ∷ []; names = e.names ++ (zone.state.apex, false) ∷ [] }) none)
+
+pub new-requires : goal.new-requires
+new-requires c = zone_and_link c.new-homes.result c.add_zone.new.self (state_of c.add_link.new.self) c.args.zone _ c.new-homes.ensures c.in_ok-add_zone.ensures.ok c.in_ok-add_link.ensures.ok c.requires

@@ -1,0 +1,62 @@
+//! A hub of one zone and one link, and what is sent to it.
+
+ghost use Rattle.std.specs.Prelude.{◌≡◌, ℕ, [], IfOk};
+ghost use Rattle.zoneupdate.specs.Zones.{new_zone};
+ghost use Rattle.pushserver.specs.PlainHubs.{Hub as Plain};
+ghost use Rattle.pushserver.specs.KeptHubs.{StandsFor};
+
+use dnsname::Name;
+use dsosession::session::Timers;
+use history::Homes;
+use pushserver::Hub;
+use std::alloc::Global;
+use std::test::Fail;
+use zoneupdate::Zone;
+
+/// A SUBSCRIBE with the ID 1, for the SOA of `example.com.` (RFC 8765, 6.2).
+pub(crate) const SUBSCRIBE: &str =
+    "002100013000000000000000000000400011076578616d706c6503636f6d0000060001";
+
+/// Its answer, and the SOA.
+pub(crate) const SUBSCRIBED: &str =
+    "000c0001b0000000000000000000006300003000000000000000000000410053076578616d706c6503636f6d000006000100000e10003c026e73076578616d706c6503636f6d000a686f73746d6173746572076578616d706c6503636f6d000000000100000e1000000258000151800000003c";
+
+/// A datagram of a link: `h.local.` has the address 192.0.2.1 for 120 s.
+pub(crate) const HOST: &str =
+    "0000840000000001000000000168056c6f63616c0000010001000000780004c0000201";
+
+/// What a Keepalive is granted: 15 s each (RFC 8490, 6.2).
+const TIMERS: Timers = Timers {
+    inactivity: 15_000,
+    keepalive: 15_000,
+};
+
+/// A hub of one zone, and the link `lan.example.com.`.
+fn hub_of(zone: Zone, alloc: Global) -> Result<Hub, Fail>
+    requires { (serial : ℕ) × (zone.state ≡ new_zone zone.state.apex serial zone.state.writable) }
+    ensures fresh { IfOk result (λ hub. (hub.history ≡ []) × (hub.numbers_given ≡ 0)) }
+    ensures stands { IfOk result (λ hub. (plain : Plain) × StandsFor hub plain) }
+{
+    let mut homes = Homes::new(alloc);
+    homes.add_zone(zone)?;
+    homes.add_link(Name::from_text(alloc, "lan.example.com.")?)?;
+    let hub = Hub::new(homes, TIMERS)?;
+    Ok(hub)
+}
+
+/// A hub of `example.com.`, which may be written, and of the link.
+pub(crate) fn example_hub(alloc: Global) -> Result<Hub, Fail>
+    ensures fresh { IfOk result (λ hub. (hub.history ≡ []) × (hub.numbers_given ≡ 0)) }
+    ensures stands { IfOk result (λ hub. (plain : Plain) × StandsFor hub plain) }
+{
+    let apex = Name::from_text(alloc, "example.com.")?;
+    let zone = Zone::new(alloc, apex, 1, true)?;
+    hub_of(zone, alloc)
+}
+
+/// The same with one session.
+pub(crate) fn connected_hub(alloc: Global) -> Result<Hub, Fail> {
+    let mut hub = example_hub(alloc)?;
+    hub.connect()?;
+    Ok(hub)
+}

@@ -1,0 +1,179 @@
+//! The loops over a hub of one thread.
+
+ghost use Rattle.std.specs.Prelude.{None};
+
+use crate::hubs::{HOST, SUBSCRIBE, SUBSCRIBED, connected_hub};
+use crate::rows::are_octets;
+use history::entry::Totals;
+use hublock::{Alone, LoopEnd, clock_loop, link_loop, read_loop, write_loop};
+use push_base::{Failed, Got, Line, MemClock, MemDatagrams, MemItem, MemSink, hex_octets};
+use std::alloc::Global;
+use std::test::Fail;
+
+/// A line that gives its octets one by one, and then ends. It tells nothing.
+#[derive(Drop)]
+pub(crate) struct Drip {
+    octets: Vec<u8>,
+    next: usize,
+}
+
+impl Line for Drip {
+    ghost given = { λ _. None };
+
+    ghost left = { λ _. None };
+
+    ghost reads = { λ _. None };
+
+    ghost calls = { λ _. None };
+
+    ghost faults = { λ _. 0 };
+
+    fn recv(&mut self, buf: &mut [u8]) -> Result<Got, Failed> {
+        match self.octets.get(self.next) {
+            Some(octet) => buf[0] = *octet,
+            None => return Ok(Got::End),
+        }
+        self.next = self.next.saturating_add(1);
+        Ok(Got::Bytes(1))
+    }
+}
+
+/// The line of a client that sends `SUBSCRIBE`.
+pub(crate) fn request_of_a_client(alloc: Global) -> Result<Drip, Fail> {
+    let mut octets = Vec::new(alloc);
+    octets.extend_from_slice(hex_octets(alloc, SUBSCRIBE)?.as_slice())?;
+    Ok(Drip { octets, next: 0 })
+}
+
+/// Datagrams with `HOST` alone.
+pub(crate) fn host(alloc: Global) -> Result<MemDatagrams, Fail> {
+    let items = vec![in alloc; MemItem::Bytes(hex_octets(alloc, HOST)?)]?;
+    Ok(MemDatagrams::new(items, Vec::new(alloc)))
+}
+
+/// Fails where a loop ended otherwise.
+pub(crate) fn is_end(end: LoopEnd, wanted: LoopEnd) -> Result<(), Fail> {
+    if end == wanted {
+        return Ok(());
+    }
+    Err(Fail::new(format_args!("{end:?} in place of {wanted:?}")))
+}
+
+/// Fails where other entries were made.
+pub(crate) fn are_counts(counts: Totals, wanted: Totals) -> Result<(), Fail> {
+    if counts == wanted {
+        return Ok(());
+    }
+    Err(Fail::new(format_args!("{counts:?}")))
+}
+
+/// How the loops end, one behind the other, the wire with 4 turns, the clock with 4; what the session was told, and what
+/// the hub is then.
+struct Ends {
+    read: LoopEnd,
+    written: LoopEnd,
+    octets: &'static str,
+    heard: LoopEnd,
+    ticked: LoopEnd,
+    calls: u64,
+    now: u64,
+    counts: Totals,
+}
+
+/// Where nothing says that all is to stop: the session's wire, which has no end, uses its turns, as the clock does.
+const GOING: Ends = Ends {
+    read: LoopEnd::Finished,
+    written: LoopEnd::Turns,
+    octets: SUBSCRIBED,
+    heard: LoopEnd::Finished,
+    ticked: LoopEnd::Turns,
+    calls: 41,
+    now: 2,
+    counts: Totals {
+        changes: 0,
+        heard: 1,
+        moments: 2,
+    },
+};
+
+/// Where all is to stop: the hub is asked once what it has to say, which is nothing.
+const STOPPED: Ends = Ends {
+    read: LoopEnd::Finished,
+    written: LoopEnd::Finished,
+    octets: "",
+    heard: LoopEnd::Finished,
+    ticked: LoopEnd::Finished,
+    calls: 1,
+    now: 0,
+    counts: Totals {
+        changes: 0,
+        heard: 0,
+        moments: 0,
+    },
+};
+
+/// Fails where the loop of a line ends otherwise.
+fn is_read_so(alloc: Global, alone: &mut Alone, wanted: &Ends) -> Result<(), Fail> {
+    let mut line = request_of_a_client(alloc)?;
+    is_end(read_loop(alloc, alone, 0, &mut line, 100), wanted.read)
+}
+
+/// Fails where the loop of a wire ends otherwise, or the wire gets other octets.
+fn is_written_so(alloc: Global, alone: &mut Alone, wanted: &Ends) -> Result<(), Fail> {
+    let mut sink = MemSink::new(alloc, Vec::new(alloc), Vec::new(alloc), 200)?;
+    is_end(write_loop(alloc, alone, 0, &mut sink, 4), wanted.written)?;
+    are_octets(alloc, 1, sink.taken(), wanted.octets)
+}
+
+/// Fails where the loop of a link ends otherwise.
+fn is_heard_so(alloc: Global, alone: &mut Alone, wanted: &Ends) -> Result<(), Fail> {
+    let mut datagrams = host(alloc)?;
+    is_end(
+        link_loop(alloc, alone, 0, &mut datagrams, 100),
+        wanted.heard,
+    )
+}
+
+/// Fails where the loop of a clock ends otherwise.
+fn is_ticked_so(alloc: Global, alone: &mut Alone, wanted: &Ends) -> Result<(), Fail> {
+    let mut clock = MemClock::new(vec![in alloc; 1, 2]?);
+    is_end(clock_loop(alone, &mut clock, 4), wanted.ticked)
+}
+
+/// Fails where a loop ends otherwise.
+fn loops_end_so(alloc: Global, alone: &mut Alone, wanted: &Ends) -> Result<(), Fail> {
+    is_read_so(alloc, alone, wanted)?;
+    is_written_so(alloc, alone, wanted)?;
+    is_heard_so(alloc, alone, wanted)?;
+    is_ticked_so(alloc, alone, wanted)
+}
+
+/// How many calls were made of a hub, its moment, and its entries.
+fn left_by(alone: Alone) -> (u64, u64, Totals) {
+    let calls = alone.calls();
+    let hub = alone.into_hub();
+    (calls, hub.now(), hub.counts())
+}
+
+/// Fails where the hub is another then.
+fn is_left_so((calls, now, counts): (u64, u64, Totals), wanted: &Ends) -> Result<(), Fail> {
+    if calls == wanted.calls && now == wanted.now {
+        return are_counts(counts, wanted.counts);
+    }
+    Err(Fail::new(format_args!("{calls} calls, moment {now}")))
+}
+
+/// Fails where the loops end otherwise, or leave another hub.
+fn is_so(alloc: Global, quit: bool, wanted: &Ends) -> Result<(), Fail> {
+    let mut alone = Alone::new(connected_hub(alloc)?, quit);
+    let ended = loops_end_so(alloc, &mut alone, wanted);
+    let left = left_by(alone);
+    ended?;
+    is_left_so(left, wanted)
+}
+
+#[test]
+fn loops_end(rt: HostRuntime) -> Result<(), Fail> {
+    is_so(rt.alloc(), false, &GOING)?;
+    is_so(rt.alloc(), true, &STOPPED)
+}

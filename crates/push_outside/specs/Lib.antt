@@ -1,0 +1,9 @@
+pub mod Outside
+pub mod Opening
+pub mod Shelves
+pub mod ShelfInside
+pub mod StockInside
+pub mod MemOutside
+pub mod MemOutsideInside
+pub mod Origins
+pub mod System

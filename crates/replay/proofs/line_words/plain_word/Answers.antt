@@ -1,6 +1,0 @@
-use Rattle.std.proofs.Common.{sym, ◌∙◌}
-use Rattle.replay.proofs.lines.LineWords.{word_utf8}
-use Rattle.replay.proofs.line_words.plain_word.Goals as goal
-
-pub returns-in_default : goal.returns-in_default
-returns-in_default c = absurd (c.in_default.ensures.cases.0 (word_utf8 c.args.text.now (sym c.are_letters_and_digits.ensures ∙ c.if-not-are_letters_and_digits.false)))

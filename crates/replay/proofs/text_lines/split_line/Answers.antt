@@ -1,8 +1,0 @@
-use Rattle.replay.proofs.lines.Lines.{line_at, line_alone}
-use Rattle.replay.proofs.text_lines.split_line.Goals as goal
-
-pub returns-in-Some-clause-lines : goal.returns-in-Some-clause-lines
-returns-in-Some-clause-lines c = line_at c.args.text.now c.in-Some.end c.in-Some.ensures.place
-
-pub returns-in-None-clause-lines : goal.returns-in-None-clause-lines
-returns-in-None-clause-lines c = line_alone c.args.text.now c.requires c.in-None.ensures.place

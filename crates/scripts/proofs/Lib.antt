@@ -1,0 +1,2 @@
+pub mod ReadAndWritten
+pub mod lines

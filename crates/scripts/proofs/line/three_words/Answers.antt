@@ -1,0 +1,16 @@
+use Rattle.std.proofs.Common.{◌∷◌, ap, ◌∙◌}
+use Rattle.scripts.proofs.lines.Splits.{word_alone, three_of_more}
+use Rattle.scripts.proofs.line.three_words.Goals as goal
+
+pub returns-in-Some-clause-none : goal.returns-in-Some-clause-none
+returns-in-Some-clause-none c =
+    let first = c.in_ok-first.first.now in
+    three_of_more first c.in_ok-second.second.now c.in_ok-second.third.now _ c.in-Some.field-0 (c.in_ok-first.ensures.found ∙ ap (λ ws. first ∷ ws) c.in_ok-second.ensures.found) c.in-Some.ensures.place
+
+pub returns-in-None-clause-found : goal.returns-in-None-clause-found
+returns-in-None-clause-found c =
+    let first = c.in_ok-first.first.now in
+    let second = c.in_ok-second.second.now in
+    c.in_ok-first.ensures.found
+    ∙ ap (λ ws. first ∷ ws) c.in_ok-second.ensures.found
+    ∙ ap (λ ws. first ∷ second ∷ ws) (word_alone c.in_ok-second.third.now c.in-None.ensures.place)

@@ -1,0 +1,11 @@
+-- Reading lines and scripts.
+pub mod SameWords
+pub mod ClientLines
+pub mod Joined
+pub mod Lines
+pub mod LineKinds
+pub mod LineWords
+pub mod Splits
+pub mod MoreLines
+pub mod SoFar
+pub mod SentOctets

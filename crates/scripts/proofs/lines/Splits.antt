@@ -1,0 +1,114 @@
+-- The words of a line, from its front.
+use Rattle.std.proofs.Common.{◌≡◌, ℕ, suc, ◌+◌, ◌-◌, ◌<◌, ◌==◌, ◌⊎◌, Bool, cond, Option, Some, None, List, [], ◌∷◌, length, take, drop, refl, sym, subst, ◌∙◌, ap, arith, inl, inr}
+use Rattle.std.specs.List.{position, position_from, onto_first}
+use Rattle.std.proofs.lemmas.Bool.{cases_Bool}
+use Rattle.std.proofs.lemmas.List.{take_rest}
+use Rattle.std.proofs.lemmas.Iterator.Adapters.{position_from-zero}
+use Rattle.scripts.specs.Lines.{words_in, Word, point, alone as no_words, line_behind}
+use Rattle.scripts.specs.declared.line.Kind.{Kind}
+use Rattle.scripts.specs.declared.line.Kind.TheVariants as kinds
+use Rattle.scripts.specs.KeptLines.{one_in, two_in, three_in, four_in, five_in}
+
+abbrev is_space : ℕ → Bool
+is_space octet = octet == 32
+
+-- the first space stands n octets from here
+record EndsAt (i : ℕ) (octets : List ℕ) (place : ℕ) : Type 0 where
+  n : ℕ
+  is : place ≡ i + n
+  words : words_in octets ≡ take n octets ∷ words_in (drop (n + 1) octets)
+
+ends_at : (i : ℕ) (octets : List ℕ) (place : ℕ) → position_from is_space i octets ≡ Some place → EndsAt i octets place
+ends_at i [] place h = cc h
+ends_at i (x ∷ xs) place h = elim (cases_Bool (is_space x)) [
+  | inl end ↦
+      let found : Some i ≡ Some place = sym (ap (λ b. cond b (Some i) (position_from is_space (i + 1) xs)) end) ∙ h in
+      let here : i ≡ place = cc found in
+      record { n = 0; is = omega arith; words = ap (λ b. cond b ([] ∷ words_in xs) (onto_first x (words_in xs))) end }
+  | inr on ↦
+      let further = ends_at (i + 1) xs place (sym (ap (λ b. cond b (Some i) (position_from is_space (i + 1) xs)) on) ∙ h) in
+      let next : suc (further.n + 1) ≡ suc further.n + 1 = omega arith in
+      record {
+        n = suc further.n;
+        is = omega (arith, further.is);
+        words =
+            ap (λ b. cond b ([] ∷ words_in xs) (onto_first x (words_in xs))) on
+            ∙ ap (onto_first x) further.words
+            ∙ ap (λ k. (x ∷ take further.n xs) ∷ words_in (drop k (x ∷ xs))) next;
+      }
+]
+
+-- the first word ends at the first space
+pub word_at : (octets : List ℕ) (n : ℕ) → Some n ≡ position is_space octets → words_in octets ≡ take n octets ∷ words_in (take (length octets - (n + 1)) (drop (n + 1) octets))
+word_at octets n h =
+    let there = ends_at 0 octets n (sym (h ∙ position_from-zero is_space octets)) in
+    let same : there.n ≡ n = omega (arith, there.is) in
+    there.words
+    ∙ ap (λ k. take k octets ∷ words_in (drop (k + 1) octets)) same
+    ∙ ap (λ l. take n octets ∷ words_in l) (sym (take_rest octets (n + 1)))
+
+alone : (i : ℕ) (octets : List ℕ) → position_from is_space i octets ≡ None → words_in octets ≡ octets ∷ []
+alone i [] h = refl
+alone i (x ∷ xs) h = elim (cases_Bool (is_space x)) [
+  | inl end ↦ let found : Some i ≡ None = sym (ap (λ b. cond b (Some i) (position_from is_space (i + 1) xs)) end) ∙ h in cc found
+  | inr on ↦
+      let rest = alone (i + 1) xs (sym (ap (λ b. cond b (Some i) (position_from is_space (i + 1) xs)) on) ∙ h) in
+      ap (λ b. cond b ([] ∷ words_in xs) (onto_first x (words_in xs))) on ∙ ap (onto_first x) rest
+]
+
+-- without a space there is one word
+pub word_alone : (octets : List ℕ) → None ≡ position is_space octets → words_in octets ≡ octets ∷ []
+word_alone octets h = alone 0 octets (sym (h ∙ position_from-zero is_space octets))
+
+-- ---- lines with too many words, or too few
+
+onto_some : (x : ℕ) (ws : List Word) → 0 < length (onto_first x ws)
+onto_some x [] = omega arith
+onto_some x (w ∷ ws) = omega arith
+
+-- there is a word
+some_words : (octets : List ℕ) → 0 < length (words_in octets)
+some_words [] = omega arith
+some_words (x ∷ xs) = elim (cases_Bool (is_space x)) [
+  | inl end ↦ subst (λ (b : Bool). 0 < length (cond b ([] ∷ words_in xs) (onto_first x (words_in xs)))) (sym end) (omega arith)
+  | inr on ↦ subst (λ (b : Bool). 0 < length (cond b ([] ∷ words_in xs) (onto_first x (words_in xs)))) (sym on) (onto_some x (words_in xs))
+]
+
+-- where two words or more are too many
+at_more : {X : Type 0} (f : List Word → Option X) → ((v w : Word) (ws : List Word) → f (v ∷ w ∷ ws) ≡ None) → (v : Word) (ws : List Word) → 0 < length ws → f (v ∷ ws) ≡ None
+at_more f none v [] some = absurd (omega arith)
+at_more f none v (w ∷ ws) some = none v w ws
+
+pub two_parts : {X : Type 0} (f : List Word → Option X) → ((v w : Word) (ws : List Word) → f (v ∷ w ∷ ws) ≡ None) → (octets : List ℕ) (n : ℕ) → Some n ≡ position is_space octets → f (words_in octets) ≡ None
+two_parts f none octets n h =
+    let rest = take (length octets - (n + 1)) (drop (n + 1) octets) in
+    ap f (word_at octets n h) ∙ at_more f none (take n octets) (words_in rest) (some_words rest)
+
+-- more words than five, four, three, two or one
+pub five_of_more : (a b c d text : List ℕ) (ws : List Word) (n : ℕ) → ws ≡ a ∷ b ∷ c ∷ d ∷ words_in text → Some n ≡ position is_space text → five_in ws ≡ None
+five_of_more a b c d text ws n e h = ap five_in e ∙ two_parts (λ rest. five_in (a ∷ b ∷ c ∷ d ∷ rest)) (λ v w rest. refl) text n h
+
+pub four_of_more : (a b c text : List ℕ) (ws : List Word) (n : ℕ) → ws ≡ a ∷ b ∷ c ∷ words_in text → Some n ≡ position is_space text → four_in ws ≡ None
+four_of_more a b c text ws n e h = ap four_in e ∙ two_parts (λ rest. four_in (a ∷ b ∷ c ∷ rest)) (λ v w rest. refl) text n h
+
+pub three_of_more : (a b text : List ℕ) (ws : List Word) (n : ℕ) → ws ≡ a ∷ b ∷ words_in text → Some n ≡ position is_space text → three_in ws ≡ None
+three_of_more a b text ws n e h = ap three_in e ∙ two_parts (λ rest. three_in (a ∷ b ∷ rest)) (λ v w rest. refl) text n h
+
+pub two_of_more : (a text : List ℕ) (ws : List Word) (n : ℕ) → ws ≡ a ∷ words_in text → Some n ≡ position is_space text → two_in ws ≡ None
+two_of_more a text ws n e h = ap two_in e ∙ two_parts (λ rest. two_in (a ∷ rest)) (λ v w rest. refl) text n h
+
+pub one_of_more : (text : List ℕ) (n : ℕ) → Some n ≡ position is_space text → one_in (words_in text) ≡ None
+one_of_more text n h = two_parts one_in (λ v w ws. refl) text n h
+
+-- a point line has none
+no_point : (ws : List Word) → 0 < length ws → no_words point ws ≡ None
+no_point [] some = absurd (omega arith)
+no_point (w ∷ ws) some = refl
+
+point_of_more : (text : List ℕ) → no_words point (words_in text) ≡ None
+point_of_more text = no_point (words_in text) (some_words text)
+
+-- a point line says nothing with words behind its first, nor does a line outside the grammar
+pub nothing_behind : (kind : Kind) (text : List ℕ) → (kind ≡ kinds.Point) ⊎ (kind ≡ kinds.Other) → None ≡ line_behind kind (words_in text)
+nothing_behind kind text (inl is_point) = sym (ap (λ (k : Kind). line_behind k (words_in text)) is_point ∙ point_of_more text)
+nothing_behind kind text (inr other) = sym (ap (λ (k : Kind). line_behind k (words_in text)) other)

@@ -1,0 +1,127 @@
+-- A further line behind those of a script.
+--     Taken, taken_of draft      the head, the events and the clients so far
+--     nothing_taken      no head, no events and no clients
+--     known_clients clients      their words, and whether each is a lone one
+--     known_by links clients      what lines that made these alone have made
+--     client_added line      the client that a line adds
+--     head_taken taken, known_of taken      the head that the lines so far have made, and what is known behind them
+--     may_stand all known line      whether a line may stand there
+--     GrowsBy taken line later      the head and the events with a further line
+--     TakesLine all draft line later taken      the line is taken where it may stand there
+--     client_in line, is_any_word w words      the client that a line names, and whether a word is among others
+use Rattle.std.specs.Prelude.{◌≡◌, ℕ, Bool, true, false, ◌==◌, List, [], ◌∷◌, ◌++◌, map, length, Option, Some, None, is_some, unwrap_or, string_bytes}
+use Rattle.std.specs.List.{list_any}
+use Rattle.std.specs.Str.{bytes_eq}
+use Rattle.std.specs.declared.alloc.Global.{Global}
+use Rattle.std.specs.declared.string.String.{String}
+use Rattle.push_base.specs.Optional.{◌>>=◌}
+use Rattle.dsosession.specs.declared.session.Timers.{Timers}
+use Rattle.dsosession.specs.Timing.{default_timers}
+use Rattle.zoneupdate.specs.Zones.{ZoneState, new_zone}
+use Rattle.history.specs.States.{State, LinkState}
+use Rattle.history.specs.Kept.{HomesKept, state_of}
+use Rattle.scripts.specs.Lines.{Word, ScriptLine, client, lone, line_of}
+use Rattle.scripts.specs.Scripts.{Known, nothing_known, fits, client_word}
+use Rattle.scripts.specs.Heads.{Head}
+use Rattle.scripts.specs.declared.line.ZoneLine.{ZoneLine}
+use Rattle.scripts.specs.declared.line.LinkLine.{LinkLine}
+use Rattle.scripts.specs.declared.line.Event.{Event}
+use Rattle.scripts.specs.declared.line.Line.{Line}
+use Rattle.scripts.specs.declared.line.Line.TheVariants as lines
+use Rattle.scripts.specs.declared.script.Draft.{Draft}
+use Rattle.scripts.specs.declared.clients.KnownClient.{KnownClient}
+use Rattle.scripts.specs.KeptLines.{event_said, said, words_of}
+
+-- ---- clients
+
+-- their words, and whether each is a lone one
+abbrev pub known_clients : List KnownClient → List (Word × Bool)
+known_clients clients = map (λ (c : KnownClient). (string_bytes c.word, c.is_lone)) clients
+
+-- what lines that made these links and clients alone have made
+abbrev pub known_by : List Word → List (Word × Bool) → Known
+known_by links clients = record nothing_known { links = links; clients = clients }
+
+-- the client that a line adds
+abbrev pub client_added : ScriptLine → List (Word × Bool)
+client_added (client w) = (w, false) ∷ []
+client_added (lone w) = (w, true) ∷ []
+client_added _ = []
+
+-- ---- a line that is taken
+
+-- the head, with the words of its links, the events and the clients so far; no timers where no line has named them
+pub record Taken : Type 0 where
+  pub timers : Option Timers
+  pub homes : HomesKept
+  pub links : List Word
+  pub events : List Event
+  pub clients : List (Word × Bool)
+
+abbrev pub no_homes : HomesKept
+no_homes = record { zones = []; links = []; names = [] }
+
+abbrev pub nothing_taken : Taken
+nothing_taken = record { timers = None; homes = no_homes; links = []; events = []; clients = [] }
+
+abbrev pub taken_of : Draft → Taken
+taken_of draft = record { timers = draft.timers; homes = draft.homes; links = words_of draft.links.items; events = draft.events.items; clients = known_clients draft.clients.items }
+
+-- the head that the lines so far have made
+abbrev pub head_of : Option Timers → State → List Word → Head
+head_of timers start links = record { timers = unwrap_or timers default_timers; start = start; links = links }
+
+abbrev pub head_taken : Taken → Head
+head_taken taken = head_of taken.timers (state_of taken.homes) taken.links
+
+-- what the lines so far have made
+abbrev pub known_of : Taken → Known
+known_of taken = record { in_head = length taken.events == 0; has_timers = is_some taken.timers; homes = taken.homes.names; links = taken.links; clients = taken.clients }
+
+-- the line may stand there
+abbrev pub may_stand : List Word → Known → ScriptLine → Bool
+may_stand all known line = is_some (fits all known line)
+
+-- ---- the draft behind it
+
+abbrev pub with_zone : State → ZoneState → State
+with_zone state zone = record state { zones = state.zones ++ zone ∷ [] }
+
+-- a further zone
+pub record HasZone (homes : HomesKept) (line : ZoneLine) (homes_then : HomesKept) : Type 0 where
+  pub state : state_of homes_then ≡ with_zone (state_of homes) (new_zone line.apex line.serial line.writable)
+  pub named : homes_then.names ≡ homes.names ++ (line.apex, false) ∷ []
+
+abbrev pub with_link : State → LinkState → State
+with_link state link = record state { links = state.links ++ link ∷ [] }
+
+-- a further link, which has heard nothing
+pub record HasLink (homes : HomesKept) (line : LinkLine) (homes_then : HomesKept) : Type 0 where
+  pub state : state_of homes_then ≡ with_link (state_of homes) (record { domain = line.domain; rows = [] })
+  pub named : homes_then.names ≡ homes.names ++ (line.domain, true) ∷ []
+
+-- the head and the events with a further line
+abbrev pub GrowsBy : Taken → Line → Taken → Type 0
+GrowsBy taken lines.Silent later = later ≡ taken
+GrowsBy taken (lines.Timers t) later = later ≡ record taken { timers = Some t }
+GrowsBy taken (lines.Zone z) later = HasZone taken.homes z later.homes × (later ≡ record taken { homes = later.homes })
+GrowsBy taken (lines.Link l) later = HasLink taken.homes l later.homes × (later ≡ record taken { homes = later.homes; links = taken.links ++ string_bytes l.word ∷ [] })
+GrowsBy taken (lines.Event e) later = later ≡ record taken { events = taken.events ++ e ∷ []; clients = taken.clients ++ client_added (event_said e) }
+
+-- the line was taken, which may stand there, or wasn't, which may not
+abbrev pub TakesLine : List Word → Draft → Line → Draft → Bool → Type 0
+TakesLine all draft line later true = (may_stand all (known_of (taken_of draft)) (said line) ≡ true) × GrowsBy (taken_of draft) line (taken_of later)
+TakesLine all draft line later false = may_stand all (known_of (taken_of draft)) (said line) ≡ false
+
+-- ---- words
+
+-- the word of the client, or of the lone one, that a line names
+abbrev pub client_in : List ℕ → Option Word
+client_in line = line_of line >>= client_word
+
+-- whether a word is another one, and whether it is among others
+abbrev pub is_word : Word → String Global → Bool
+is_word w other = bytes_eq w (string_bytes other)
+
+abbrev pub is_any_word : Word → List (String Global) → Bool
+is_any_word w words = list_any (is_word w) words

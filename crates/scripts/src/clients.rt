@@ -1,0 +1,221 @@
+//! The words of a script's clients, which its peers do not have, and of its links.
+
+ghost use Rattle.std.specs.Prelude.{◌≡◌, ◌++◌, ◌∷◌, [], ◌||◌, Some, false, is_some, map, option_map, option_to_list, position, IfOk, OnOk, string_bytes};
+ghost use Rattle.std.specs.Str.{bytes_eq};
+ghost use Rattle.scripts.specs.Scripts.{client_words, lines_read, is_among, is_peer, lone_in, is_hub_client_in, is_lone_client_in, may_follow};
+ghost use Rattle.scripts.specs.KeptLines.{event_said, words_of};
+ghost use Rattle.scripts.specs.Drafts.{client_in, client_added, known_clients, known_by, is_any_word, is_word};
+
+use crate::line::Event;
+use crate::line_words::plain_word;
+use crate::text_lines::{is_outside, is_too_long, split_line};
+use push_base::NoMemory;
+use std::alloc::Global;
+
+/// A client that there is: its word, and whether it is a lone one.
+#[derive(Debug, Drop)]
+pub(crate) struct KnownClient {
+    /// Its word.
+    pub word: String,
+    /// Whether its connections lead to no hub.
+    pub is_lone: bool,
+}
+
+/// The words of all clients that a script has, in the order of their lines.
+pub(crate) fn client_words(alloc: Global, octets: &[u8]) -> Result<Vec<String>, NoMemory>
+    ensures { IfOk result (λ words. map (λ w. string_bytes w) words.items ≡ client_words (lines_read octets.now)) }
+{
+    let too_long = is_too_long(octets);
+    let mut words = Vec::new(alloc);
+    let mut rest = octets;
+    'lines: while !rest.is_empty() {
+        let (line, after) = split_line(rest);
+        if is_outside(after, too_long) {
+            return Ok(words);
+        }
+        add_client(alloc, line, &mut words)?;
+        rest = after;
+    }
+    Ok(words)
+}
+
+// Adds the word of the client that a line names, if it names one.
+fn add_client(alloc: Global, line: &[u8], words: &mut Vec<String>) -> Result<(), NoMemory>
+    ensures { OnOk result (map (λ w. string_bytes w) words.new.items ≡ map (λ w. string_bytes w) words.old.items ++ option_to_list (client_in line.now)) }
+{
+    match client_in(alloc, line)? {
+        Some(word) => {
+            words.push(word)?;
+            Ok(())
+        }
+        None => Ok(()),
+    }
+}
+
+// The word of the client, or of the lone one, that a line names. It goes by the line's front, so that no line's octets
+// are read here and once more with the line.
+fn client_in(alloc: Global, line: &[u8]) -> Result<Option<String>, NoMemory>
+    ensures { IfOk result (λ found. option_map (λ w. string_bytes w) found ≡ client_in line.now) }
+{
+    match line.strip_prefix(b"client ".as_slice()) {
+        Some(word) => plain_word(alloc, word),
+        None => match line.strip_prefix(b"lone ".as_slice()) {
+            Some(word) => plain_word(alloc, word),
+            None => Ok(None),
+        },
+    }
+}
+
+/// Whether the word of an event, if it has one, may stand there: a peer has a word that no client has anywhere, one more
+/// client a word that none has yet, and a client or a link that is spoken of one that there is.
+pub(crate) fn may_happen(
+    all: &[String],
+    links: &[String],
+    clients: &[KnownClient],
+    event: &Event,
+) -> bool
+    ensures { result ≡ may_follow (map (λ w. string_bytes w) all.now) (known_by (map (λ w. string_bytes w) links.now) (known_clients clients.now)) (event_said event.now) }
+{
+    match event {
+        Event::Update(_) | Event::Point | Event::At(_) => true,
+        Event::Send(sent) => !is_among(all, sent.word.as_bytes()),
+        Event::Stop(stopping) => may_be_stopped(all, clients, stopping.word.as_bytes()),
+        Event::Cut(cutting) => may_be_cut(all, clients, cutting.word.as_bytes()),
+        Event::Client(joining) => !is_known(clients, joining.word.as_bytes()),
+        Event::Lone(lone) => !is_known(clients, lone.word.as_bytes()),
+        Event::Ask(asking) => is_known(clients, asking.word.as_bytes()),
+        Event::Drop(asking) => is_known(clients, asking.word.as_bytes()),
+        Event::Open(opening) => is_known(clients, opening.word.as_bytes()),
+        Event::Say(passing) => is_known(clients, passing.word.as_bytes()),
+        Event::Up(passing) => is_known(clients, passing.word.as_bytes()),
+        Event::Emit(passing) => is_known(clients, passing.word.as_bytes()),
+        Event::Down(passing) => is_known(clients, passing.word.as_bytes()),
+        Event::Settle(settling) => is_known(clients, settling.word.as_bytes()),
+        Event::Feed(sent) => is_lone_client(clients, sent.word.as_bytes()),
+        Event::Show(showing) => is_known(clients, showing.word.as_bytes()),
+        Event::Hear(sent) => is_among(links, sent.word.as_bytes()),
+        Event::Reconfirm(doubt) => is_known(clients, doubt.word.as_bytes()),
+    }
+}
+
+// Whether a word is that of a client that there is, or of a peer.
+fn may_be_cut(all: &[String], clients: &[KnownClient], word: &[u8]) -> bool
+    ensures { result ≡ (is_some (lone_in (known_clients clients.now) word.now) || is_peer (map (λ w. string_bytes w) all.now) word.now) }
+{
+    is_known(clients, word) || !is_among(all, word)
+}
+
+// Whether a word is that of a client of the hub, or of a peer.
+fn may_be_stopped(all: &[String], clients: &[KnownClient], word: &[u8]) -> bool
+    ensures { result ≡ (is_hub_client_in (known_clients clients.now) word.now || is_peer (map (λ w. string_bytes w) all.now) word.now) }
+{
+    is_hub_client(clients, word) || !is_among(all, word)
+}
+
+// Whether a word is that of a client that there is.
+fn is_known(clients: &[KnownClient], word: &[u8]) -> bool
+    ensures { result ≡ is_some (lone_in (known_clients clients.now) word.now) }
+{
+    lone_of(clients, word).is_some()
+}
+
+// Whether a word is that of a client of the hub.
+fn is_hub_client(clients: &[KnownClient], word: &[u8]) -> bool
+    ensures { result ≡ is_hub_client_in (known_clients clients.now) word.now }
+{
+    match lone_of(clients, word) {
+        None => false,
+        Some(is_lone) => !is_lone,
+    }
+}
+
+// Whether a word is that of a lone client.
+fn is_lone_client(clients: &[KnownClient], word: &[u8]) -> bool
+    ensures { result ≡ is_lone_client_in (known_clients clients.now) word.now }
+{
+    match lone_of(clients, word) {
+        None => false,
+        Some(is_lone) => is_lone,
+    }
+}
+
+// Whether the client of a word is a lone one, if there is one.
+fn lone_of(clients: &[KnownClient], word: &[u8]) -> Option<bool>
+    ensures { result ≡ lone_in (known_clients clients.now) word.now }
+{
+    'clients: for client in clients {
+        if is_word(&client.word, word) {
+            return Some(client.is_lone);
+        }
+    }
+    None
+}
+
+/// The word of the client that an event adds, if it adds one, goes to those that there are.
+pub(crate) fn add_seat(
+    alloc: Global,
+    event: &Event,
+    clients: &mut Vec<KnownClient>,
+) -> Result<(), NoMemory>
+    ensures { OnOk result (known_clients clients.new.items ≡ known_clients clients.old.items ++ client_added (event_said event.now)) }
+{
+    match event {
+        Event::Client(joining) => push_client(alloc, joining.word.as_str(), false, clients),
+        Event::Lone(lone) => push_client(alloc, lone.word.as_str(), true, clients),
+        Event::Update(_) | Event::Point | Event::At(_) => Ok(()),
+        Event::Send(_) | Event::Stop(_) | Event::Cut(_) => Ok(()),
+        Event::Ask(_) | Event::Drop(_) | Event::Open(_) | Event::Settle(_) => Ok(()),
+        Event::Say(_) | Event::Up(_) | Event::Emit(_) | Event::Down(_) => Ok(()),
+        Event::Feed(_) | Event::Show(_) => Ok(()),
+        Event::Hear(_) | Event::Reconfirm(_) => Ok(()),
+    }
+}
+
+// One client more.
+fn push_client(
+    alloc: Global,
+    word: &str,
+    is_lone: bool,
+    clients: &mut Vec<KnownClient>,
+) -> Result<(), NoMemory>
+    ensures { OnOk result (known_clients clients.new.items ≡ known_clients clients.old.items ++ (word.now, is_lone) ∷ []) }
+{
+    let word = String::from_str(alloc, word)?;
+    clients.push(KnownClient { word, is_lone })?;
+    Ok(())
+}
+
+/// Whether a word is among others.
+#[tactic(auto, using(crate::proofs::lines::ClientLines::any_word))]
+pub(crate) fn is_among(words: &[String], word: &[u8]) -> bool
+    ensures { result ≡ is_among (map (λ w. string_bytes w) words.now) word.now }
+{
+    is_any_word(words, word)
+}
+
+fn is_any_word(words: &[String], word: &[u8]) -> bool
+    ensures { result ≡ is_any_word word.now words.now }
+{
+    words.iter().any(|other| is_word(other, word))
+}
+
+/// The place of a word among others, counted from 0.
+#[tactic(auto, using(crate::proofs::lines::ClientLines::place_of))]
+pub(crate) fn place_among(words: &[String], word: &[u8]) -> Option<usize>
+    ensures { result ≡ position (bytes_eq word.now) (words_of words.now) }
+{
+    first_place(words, word)
+}
+
+fn first_place(words: &[String], word: &[u8]) -> Option<usize>
+    ensures { result ≡ position (is_word word.now) words.now }
+{
+    words.iter().position(|other| is_word(other, word))
+}
+
+// Whether a word is another one.
+fn is_word(other: &String, word: &[u8]) -> bool
+    ensures { result ≡ is_word word.now other.now }
+{
+    word == other.as_bytes()
+}

@@ -1,0 +1,602 @@
+//! The lines of a script.
+
+ghost use Rattle.std.specs.Prelude.{◌≡◌, false, ◌∷◌, [], IfOk, IfSome, IfNone, None, position, ◌==◌, ◌<◌, option_map, length, string_bytes, List, ℕ};
+ghost use Rattle.push_base.specs.Cases.{chosen};
+ghost use Rattle.scripts.specs.Lines.{words_in, Word, ScriptLine, cut, hear, send, update, timers_line, zone_line, link_line, at_line, stop_line, of_word, of_octets, of_word_and_octets, line_of, kind_of, client_kinds, line_behind};
+ghost use Rattle.scripts.specs.KeptLines.{said, one_in, two_in, three_in, four_in, five_in, begins_silent};
+
+use crate::client_readers::{
+    ask_line, client_line, down_line, drop_line, emit_line, feed_line, lone_line, open_line,
+    reconfirm_line, say_line, settle_line, show_line, up_line,
+};
+use crate::line_words::{
+    Moment, moment_of_word, name_of_word, number_of_word, octets_of_word, plain_word,
+    rcode_of_word, writable_of_word,
+};
+use dnsname::name::{Name, Octets};
+use dsosession::session::Timers;
+use dsosession::times::LEAST_KEEPALIVE;
+use push_base::NoMemory;
+use rrset::record::{Question, Rr};
+use std::alloc::Global;
+
+/// A zone line: the apex, the serial, and whether the zone may be written.
+#[derive(Debug, Drop)]
+pub struct ZoneLine {
+    /// The zone's own name.
+    pub apex: Name,
+    /// The SOA's serial (RFC 1035, 3.3.13).
+    pub serial: u32,
+    /// Whether updates may change it.
+    pub writable: bool,
+}
+
+/// A link line: the link's word, and the domain under which it is shown.
+#[derive(Debug, Drop)]
+pub struct LinkLine {
+    /// The link's word.
+    pub word: String,
+    /// The domain (RFC 8766, 5.5).
+    pub domain: Name,
+}
+
+/// Octets, and the word of the peer that sends them, of the lone client that gets them, or of the link on which they come.
+#[derive(Debug, Drop)]
+pub struct Sent {
+    /// The peer's word, the client's, or the link's.
+    pub word: String,
+    /// What is sent: messages behind their lengths, or any part of that (RFC 7766, 8); or a datagram (RFC 6762, 18).
+    pub octets: Octets,
+}
+
+/// The word of a peer, or of a client of the hub, whose session is asked to stop, the RCODE that it is told, and for how
+/// long it is to stay away, in milliseconds (RFC 8490, 6.6.1).
+#[derive(Debug, Drop)]
+pub struct Stopping {
+    /// The peer's word, or the client's.
+    pub word: String,
+    /// The RCODE that it is told, at most 15.
+    pub rcode: u8,
+    /// The Retry Delay, in milliseconds.
+    pub delay: u32,
+}
+
+/// The word of a peer, or of a client, whose connection is cut.
+#[derive(Debug, Drop)]
+pub struct Cutting {
+    /// The peer's word, or the client's.
+    pub word: String,
+}
+
+/// The word of a client that there is from now on, whose connections lead to the hub.
+#[derive(Debug, Drop)]
+pub struct Joining {
+    /// The client's word.
+    pub word: String,
+}
+
+/// The word of a lone client that there is from now on.
+#[derive(Debug, Drop)]
+pub struct Alone {
+    /// The client's word.
+    pub word: String,
+}
+
+/// The word of a client, and a question that it asks or drops.
+#[derive(Debug, Drop)]
+pub struct Asking {
+    /// The client's word.
+    pub word: String,
+    /// The question.
+    pub question: Question,
+}
+
+/// The word of a client, and a question of which it is shown what the client knows.
+#[derive(Debug, Drop)]
+pub struct Showing {
+    /// The client's word.
+    pub word: String,
+    /// The question.
+    pub question: Question,
+    /// The question's name as it is written.
+    pub written: String,
+}
+
+/// The word of a client that opens a connection.
+#[derive(Debug, Drop)]
+pub struct Opening {
+    /// The client's word.
+    pub word: String,
+}
+
+/// The word of a client whose octets go to its session and back until nothing moves.
+#[derive(Debug, Drop)]
+pub struct Settling {
+    /// The client's word.
+    pub word: String,
+}
+
+/// The word of a client, and a record that may be out of date.
+#[derive(Debug, Drop)]
+pub struct Reconfirming {
+    /// The client's word.
+    pub word: String,
+    /// The record, with a TTL of 0.
+    pub rr: Rr,
+}
+
+/// The word of a client, and how many of its octets pass one way, at most.
+#[derive(Debug, Drop)]
+pub struct Passing {
+    /// The client's word.
+    pub word: String,
+    /// How many octets, at most.
+    pub most: usize,
+}
+
+/// What happens.
+#[derive(Debug, Drop)]
+pub enum Event {
+    /// An update message comes (RFC 2136, 2).
+    Update(Octets),
+    /// A peer sends octets.
+    Send(Sent),
+    /// The newest point and the moment are asked for.
+    Point,
+    /// It is a moment, in milliseconds since the start.
+    At(Moment),
+    /// The session of a peer, or of a client of the hub, is asked to stop (RFC 8490, 6.6.1).
+    Stop(Stopping),
+    /// A peer's connection is cut, or a client's.
+    Cut(Cutting),
+    /// There is one client more, whose connections lead to the hub.
+    Client(Joining),
+    /// There is one client more, whose connections lead to no hub.
+    Lone(Alone),
+    /// A client asks a question (RFC 8765, 6.2).
+    Ask(Asking),
+    /// A client drops a question (RFC 8765, 6.4).
+    Drop(Asking),
+    /// A client opens a connection.
+    Open(Opening),
+    /// A lone client gets octets.
+    Feed(Sent),
+    /// What a client knows of a question is shown.
+    Show(Showing),
+    /// Octets go from a client onto the wire to its session.
+    Say(Passing),
+    /// Octets go from that wire into the session.
+    Up(Passing),
+    /// Octets go from a client's session onto the wire to the client.
+    Emit(Passing),
+    /// Octets go from that wire to the client.
+    Down(Passing),
+    /// A client's octets go to its session and back until nothing moves.
+    Settle(Settling),
+    /// A datagram comes on a link (RFC 6762, 18).
+    Hear(Sent),
+    /// A client says that a record may be out of date (RFC 8765, 6.5).
+    Reconfirm(Reconfirming),
+}
+
+/// A line of a script.
+#[derive(Debug, Drop)]
+pub enum Line {
+    /// It says nothing.
+    Silent,
+    /// What the server grants to a Keepalive (RFC 8490, 7.1).
+    Timers(Timers),
+    /// A zone.
+    Zone(ZoneLine),
+    /// A link.
+    Link(LinkLine),
+    /// Something happens.
+    Event(Event),
+}
+
+// The kinds of lines that say something; what begins with no word of the grammar is `Other`.
+#[derive(Clone, Copy)]
+enum Kind {
+    Timers,
+    Zone,
+    Link,
+    At,
+    Update,
+    Hear,
+    Send,
+    Stop,
+    Cut,
+    Point,
+    Client,
+    Lone,
+    Open,
+    Ask,
+    Drop,
+    Reconfirm,
+    Say,
+    Up,
+    Emit,
+    Down,
+    Settle,
+    Feed,
+    Show,
+    Other,
+}
+
+/// What a line says, if it is in the grammar.
+pub fn read_line(alloc: Global, line: &[u8]) -> Result<Option<Line>, NoMemory>
+    ensures exact { IfOk result (λ found. option_map (λ l. said l) found ≡ line_of line.now) }
+{
+    match line {
+        [] => Ok(Some(Line::Silent)),
+        [b'#', comment @ ..] => Ok(comment_line(comment)),
+        _ => speaking_line(alloc, line),
+    }
+}
+
+// A line that begins with `#`, by what follows: it says nothing, and is UTF-8.
+fn comment_line(comment: &[u8]) -> Option<Line>
+    ensures exact { option_map (λ l. said l) result ≡ line_of (35 ∷ comment.now) }
+{
+    match str::from_utf8(comment) {
+        Ok(_) => Some(Line::Silent),
+        Err(_) => None,
+    }
+}
+
+// What a line says that neither is empty nor begins with `#`.
+fn speaking_line(alloc: Global, line: &[u8]) -> Result<Option<Line>, NoMemory>
+    requires { begins_silent line.now ≡ false }
+    ensures exact { IfOk result (λ found. option_map (λ l. said l) found ≡ line_of line.now) }
+{
+    match split_word(line) {
+        Some((word, rest)) => longer_line(alloc, kind_of(word), rest),
+        None => Ok(single_word(kind_of(line))),
+    }
+}
+
+// The kind of a line by its first word.
+fn kind_of(word: &[u8]) -> Kind
+    ensures { result ≡ kind_of word.now }
+{
+    if word == b"timers".as_slice() {
+        Kind::Timers
+    } else if word == b"zone".as_slice() {
+        Kind::Zone
+    } else if word == b"link".as_slice() {
+        Kind::Link
+    } else if word == b"at".as_slice() {
+        Kind::At
+    } else if word == b"update".as_slice() {
+        Kind::Update
+    } else if word == b"hear".as_slice() {
+        Kind::Hear
+    } else if word == b"send".as_slice() {
+        Kind::Send
+    } else if word == b"stop".as_slice() {
+        Kind::Stop
+    } else if word == b"cut".as_slice() {
+        Kind::Cut
+    } else if word == b"point".as_slice() {
+        Kind::Point
+    } else {
+        client_kind(word)
+    }
+}
+
+// The kind of a line whose first word is none on what the server serves or on its peers.
+fn client_kind(word: &[u8]) -> Kind
+    ensures { result ≡ chosen (client_kinds word.now) Kind.Other }
+{
+    if word == b"client".as_slice() {
+        Kind::Client
+    } else if word == b"lone".as_slice() {
+        Kind::Lone
+    } else if word == b"open".as_slice() {
+        Kind::Open
+    } else if word == b"ask".as_slice() {
+        Kind::Ask
+    } else if word == b"drop".as_slice() {
+        Kind::Drop
+    } else if word == b"reconfirm".as_slice() {
+        Kind::Reconfirm
+    } else if word == b"say".as_slice() {
+        Kind::Say
+    } else if word == b"up".as_slice() {
+        Kind::Up
+    } else if word == b"emit".as_slice() {
+        Kind::Emit
+    } else if word == b"down".as_slice() {
+        Kind::Down
+    } else if word == b"settle".as_slice() {
+        Kind::Settle
+    } else if word == b"feed".as_slice() {
+        Kind::Feed
+    } else if word == b"show".as_slice() {
+        Kind::Show
+    } else {
+        Kind::Other
+    }
+}
+
+// What a line of this kind says with nothing behind its first word, if that is in the grammar.
+fn single_word(kind: Kind) -> Option<Line>
+    ensures exact { option_map (λ l. said l) result ≡ line_behind kind [] }
+{
+    match kind {
+        Kind::Point => Some(Line::Event(Event::Point)),
+        Kind::Timers | Kind::Zone | Kind::Link | Kind::At | Kind::Update | Kind::Hear => None,
+        Kind::Send | Kind::Stop | Kind::Cut => None,
+        Kind::Client | Kind::Lone | Kind::Open | Kind::Ask | Kind::Drop | Kind::Reconfirm => None,
+        Kind::Say | Kind::Up | Kind::Emit | Kind::Down | Kind::Settle => None,
+        Kind::Feed | Kind::Show | Kind::Other => None,
+    }
+}
+
+// What a line of this kind says with that text behind its first word, if that is in the grammar.
+fn longer_line(alloc: Global, kind: Kind, text: &[u8]) -> Result<Option<Line>, NoMemory>
+    ensures exact { IfOk result (λ found. option_map (λ l. said l) found ≡ line_behind kind (words_in text.now)) }
+{
+    match kind {
+        Kind::Timers => Ok(timers_line(text)),
+        Kind::Zone => zone_line(alloc, text),
+        Kind::Link => link_line(alloc, text),
+        Kind::At => Ok(at_line(text)),
+        Kind::Update => update_line(alloc, text),
+        Kind::Hear => hear_line(alloc, text),
+        Kind::Send => send_line(alloc, text),
+        Kind::Stop => stop_line(alloc, text),
+        Kind::Cut => cut_line(alloc, text),
+        Kind::Client => client_line(alloc, text),
+        Kind::Lone => lone_line(alloc, text),
+        Kind::Open => open_line(alloc, text),
+        Kind::Ask => ask_line(alloc, text),
+        Kind::Drop => drop_line(alloc, text),
+        Kind::Reconfirm => reconfirm_line(alloc, text),
+        Kind::Say => say_line(alloc, text),
+        Kind::Up => up_line(alloc, text),
+        Kind::Emit => emit_line(alloc, text),
+        Kind::Down => down_line(alloc, text),
+        Kind::Settle => settle_line(alloc, text),
+        Kind::Feed => feed_line(alloc, text),
+        Kind::Show => show_line(alloc, text),
+        Kind::Point | Kind::Other => Ok(None),
+    }
+}
+
+// What follows the first word of a line of timers: the time without activity after which a session ends, and the
+// interval of Keepalives, in milliseconds (RFC 8490, 6.2), which is 10 seconds or more.
+fn timers_line(text: &[u8]) -> Option<Line>
+    ensures exact { option_map (λ l. said l) result ≡ timers_line (words_in text.now) }
+{
+    let (inactivity, keepalive) = two_words(text)?;
+    let inactivity = number_of_word(inactivity)?;
+    let keepalive = number_of_word(keepalive)?;
+    if keepalive < LEAST_KEEPALIVE {
+        return None;
+    }
+    Some(Line::Timers(Timers {
+        inactivity,
+        keepalive,
+    }))
+}
+
+// What follows the first word of a zone line: the apex, the serial, and `open` or `shut`.
+fn zone_line(alloc: Global, text: &[u8]) -> Result<Option<Line>, NoMemory>
+    ensures exact { IfOk result (λ found. option_map (λ l. said l) found ≡ zone_line (words_in text.now)) }
+{
+    let Some((apex, serial, mode)) = three_words(text) else {
+        return Ok(None);
+    };
+    let Some(apex) = name_of_word(alloc, apex)? else {
+        return Ok(None);
+    };
+    let Some(serial) = number_of_word(serial) else {
+        return Ok(None);
+    };
+    let Some(writable) = writable_of_word(mode) else {
+        return Ok(None);
+    };
+    Ok(Some(Line::Zone(ZoneLine {
+        apex,
+        serial,
+        writable,
+    })))
+}
+
+// What follows the first word of a link line: its word, and its domain.
+fn link_line(alloc: Global, text: &[u8]) -> Result<Option<Line>, NoMemory>
+    ensures exact { IfOk result (λ found. option_map (λ l. said l) found ≡ link_line (words_in text.now)) }
+{
+    let Some((word, domain)) = two_words(text) else {
+        return Ok(None);
+    };
+    let Some(word) = plain_word(alloc, word)? else {
+        return Ok(None);
+    };
+    let Some(domain) = name_of_word(alloc, domain)? else {
+        return Ok(None);
+    };
+    Ok(Some(Line::Link(LinkLine { word, domain })))
+}
+
+// What follows the first word of a line with a moment: the moment, in milliseconds.
+fn at_line(text: &[u8]) -> Option<Line>
+    ensures exact { option_map (λ l. said l) result ≡ at_line (words_in text.now) }
+{
+    let moment = moment_of_word(one_word(text)?)?;
+    Some(Line::Event(Event::At(moment)))
+}
+
+// What follows the first word of an update line: the octets of the message.
+fn update_line(alloc: Global, text: &[u8]) -> Result<Option<Line>, NoMemory>
+    ensures exact { IfOk result (λ found. option_map (λ l. said l) found ≡ of_octets update (words_in text.now)) }
+{
+    let Some(octets) = one_word(text) else {
+        return Ok(None);
+    };
+    let Some(octets) = octets_of_word(alloc, octets)? else {
+        return Ok(None);
+    };
+    Ok(Some(Line::Event(Event::Update(octets))))
+}
+
+/// What follows the first word of a line that names one more word alone.
+pub(crate) fn word_alone(alloc: Global, text: &[u8]) -> Result<Option<String>, NoMemory>
+    ensures { IfOk result (λ found. (line : Word → ScriptLine) → option_map (λ w. line (string_bytes w)) found ≡ of_word line (words_in text.now)) }
+{
+    let Some(word) = one_word(text) else {
+        return Ok(None);
+    };
+    plain_word(alloc, word)
+}
+
+/// What follows the first word of a line that names a word, and then octets.
+pub(crate) fn word_and_octets(alloc: Global, text: &[u8]) -> Result<Option<Sent>, NoMemory>
+    ensures exact { IfOk result (λ found. (line : Word → List ℕ → ScriptLine) → option_map (λ s. line (string_bytes s.word) s.octets) found ≡ of_word_and_octets line (words_in text.now)) }
+{
+    let Some((word, octets)) = two_words(text) else {
+        return Ok(None);
+    };
+    let Some(word) = plain_word(alloc, word)? else {
+        return Ok(None);
+    };
+    let Some(octets) = octets_of_word(alloc, octets)? else {
+        return Ok(None);
+    };
+    Ok(Some(Sent { word, octets }))
+}
+
+// What follows the first word of a line that cuts a connection: the word of the peer or of the client.
+fn cut_line(alloc: Global, text: &[u8]) -> Result<Option<Line>, NoMemory>
+    ensures exact { IfOk result (λ found. option_map (λ l. said l) found ≡ of_word cut (words_in text.now)) }
+{
+    let Some(word) = word_alone(alloc, text)? else {
+        return Ok(None);
+    };
+    Ok(Some(Line::Event(Event::Cut(Cutting { word }))))
+}
+
+// What follows the first word of a send line: the peer's word, and the octets.
+fn send_line(alloc: Global, text: &[u8]) -> Result<Option<Line>, NoMemory>
+    ensures exact { IfOk result (λ found. option_map (λ l. said l) found ≡ of_word_and_octets send (words_in text.now)) }
+{
+    let Some(sent) = word_and_octets(alloc, text)? else {
+        return Ok(None);
+    };
+    Ok(Some(Line::Event(Event::Send(sent))))
+}
+
+// What follows the first word of a line that stops a session: the word of the peer or of the client, the RCODE, and the
+// delay.
+fn stop_line(alloc: Global, text: &[u8]) -> Result<Option<Line>, NoMemory>
+    ensures exact { IfOk result (λ found. option_map (λ l. said l) found ≡ stop_line (words_in text.now)) }
+{
+    let Some((word, rcode, delay)) = three_words(text) else {
+        return Ok(None);
+    };
+    let Some(word) = plain_word(alloc, word)? else {
+        return Ok(None);
+    };
+    let Some(rcode) = rcode_of_word(rcode) else {
+        return Ok(None);
+    };
+    let Some(delay) = number_of_word(delay) else {
+        return Ok(None);
+    };
+    Ok(Some(Line::Event(Event::Stop(Stopping { word, rcode, delay }))))
+}
+
+// What follows the first word of a line with a datagram: the link's word, and the octets.
+fn hear_line(alloc: Global, text: &[u8]) -> Result<Option<Line>, NoMemory>
+    ensures exact { IfOk result (λ found. option_map (λ l. said l) found ≡ of_word_and_octets hear (words_in text.now)) }
+{
+    let Some(sent) = word_and_octets(alloc, text)? else {
+        return Ok(None);
+    };
+    Ok(Some(Line::Event(Event::Hear(sent))))
+}
+
+/// The words of a text that has five.
+pub(crate) fn five_words(text: &[u8]) -> Option<(&[u8], &[u8], &[u8], &[u8], &[u8])>
+    ensures found { IfSome result (λ words. words_in text.now ≡ words.0.now ∷ words.1.now ∷ words.2.now ∷ words.3.now ∷ words.4.now ∷ []) }
+    ensures none { IfNone result (five_in (words_in text.now) ≡ None) }
+{
+    let (first, rest) = split_word(text)?;
+    let (second, rest) = split_word(rest)?;
+    let (third, rest) = split_word(rest)?;
+    let (fourth, fifth) = split_word(rest)?;
+    match space_in(fifth) {
+        Some(_) => None,
+        None => Some((first, second, third, fourth, fifth)),
+    }
+}
+
+/// The words of a text that has four.
+pub(crate) fn four_words(text: &[u8]) -> Option<(&[u8], &[u8], &[u8], &[u8])>
+    ensures found { IfSome result (λ words. words_in text.now ≡ words.0.now ∷ words.1.now ∷ words.2.now ∷ words.3.now ∷ []) }
+    ensures none { IfNone result (four_in (words_in text.now) ≡ None) }
+{
+    let (first, rest) = split_word(text)?;
+    let (second, rest) = split_word(rest)?;
+    let (third, fourth) = split_word(rest)?;
+    match space_in(fourth) {
+        Some(_) => None,
+        None => Some((first, second, third, fourth)),
+    }
+}
+
+/// The words of a text that has three.
+pub fn three_words(text: &[u8]) -> Option<(&[u8], &[u8], &[u8])>
+    ensures found { IfSome result (λ words. words_in text.now ≡ words.0.now ∷ words.1.now ∷ words.2.now ∷ []) }
+    ensures none { IfNone result (three_in (words_in text.now) ≡ None) }
+{
+    let (first, rest) = split_word(text)?;
+    let (second, third) = split_word(rest)?;
+    match space_in(third) {
+        Some(_) => None,
+        None => Some((first, second, third)),
+    }
+}
+
+/// The words of a text that has two.
+pub fn two_words(text: &[u8]) -> Option<(&[u8], &[u8])>
+    ensures found { IfSome result (λ words. words_in text.now ≡ words.0.now ∷ words.1.now ∷ []) }
+    ensures none { IfNone result (two_in (words_in text.now) ≡ None) }
+{
+    let (first, second) = split_word(text)?;
+    match space_in(second) {
+        Some(_) => None,
+        None => Some((first, second)),
+    }
+}
+
+/// The word of a text that has one.
+pub fn one_word(text: &[u8]) -> Option<&[u8]>
+    ensures found { IfSome result (λ word. words_in text.now ≡ word.now ∷ []) }
+    ensures none { IfNone result (one_in (words_in text.now) ≡ None) }
+{
+    match space_in(text) {
+        Some(_) => None,
+        None => Some(text),
+    }
+}
+
+/// The first word of a text, and what follows its space, where there is one.
+pub fn split_word(text: &[u8]) -> Option<(&[u8], &[u8])>
+    ensures found { IfSome result (λ parts. words_in text.now ≡ parts.0.now ∷ words_in parts.1.now) }
+    ensures none { IfNone result (words_in text.now ≡ text.now ∷ []) }
+{
+    match space_in(text) {
+        Some(end) => Some((&text[..end], &text[end + 1..])),
+        None => None,
+    }
+}
+
+// The place of the first space.
+fn space_in(text: &[u8]) -> Option<usize>
+    ensures place { result ≡ position (λ octet. octet == 32) text.now }
+    ensures within { IfSome result (λ end. end < length text.now) }
+{
+    text.iter().position(|octet| *octet == b' ')
+}

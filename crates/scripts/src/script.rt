@@ -1,0 +1,243 @@
+//! Scripts, read line by line.
+
+ghost use Rattle.std.specs.Prelude.{◌≡◌, ◌==◌, List, length, ◌++◌, ◌∷◌, [], IfOk, OnOk, map, position, string_bytes, unwrap_or};
+ghost use Rattle.std.specs.Str.{bytes_eq};
+ghost use Rattle.dsosession.specs.Timing.{default_timers};
+ghost use Rattle.scripts.specs.Lines.{Word};
+ghost use Rattle.scripts.specs.declared.line.Line.TheVariants as lines;
+ghost use Rattle.scripts.specs.KeptScripts.{ReadsAs};
+ghost use Rattle.scripts.specs.KeptLines.{words_of};
+ghost use Rattle.scripts.specs.Drafts.{TakesLine, taken_of, nothing_taken};
+
+use crate::clients::{KnownClient, add_seat, client_words, is_among, may_happen, place_among};
+use crate::line::{Event, Line, LinkLine, ZoneLine, read_line};
+use crate::text_lines::{is_outside, is_too_long, split_line};
+use dsosession::session::Timers;
+use dsosession::times::DEFAULT_TIMER;
+use history::Homes;
+use history::entry::HomeFault;
+use push_base::NoMemory;
+use std::alloc::Global;
+use zoneupdate::{Zone, ZoneFault};
+
+/// A script: the timers of the server, its zones and links, and then what happens.
+#[derive(Debug, Drop)]
+pub struct Script {
+    /// How many lines it has, those that say nothing too.
+    pub lines: usize,
+    /// What the server grants to a Keepalive (RFC 8490, 7.1).
+    pub timers: Timers,
+    /// The zones and the links.
+    pub homes: Homes,
+    /// The words of the links, in their order.
+    pub links: Vec<String>,
+    /// What happens, in order.
+    pub events: Vec<Event>,
+}
+
+/// What was read of a script: all of it, or the number of the first line outside.
+#[derive(Debug, Drop)]
+pub enum ReadScript {
+    /// Each line is in the grammar, and stands where it may.
+    Whole(Script),
+    /// The first line that is outside the grammar, or may not stand where it does, counted from 1.
+    Outside(usize),
+}
+
+/// What was read of a script so far, with the clients that there are; no timers where no line has said them.
+#[derive(Drop)]
+pub struct Draft {
+    timers: Option<Timers>,
+    homes: Homes,
+    links: Vec<String>,
+    events: Vec<Event>,
+    clients: Vec<KnownClient>,
+}
+
+/// Reads a script: all of it, or the number of the first line that is outside the grammar, or may not stand where it
+/// does, counted from 1. The zones and links may then stand side by side, no peer has the word of a
+/// client, and no two clients have one word.
+pub fn read_script_lines(alloc: Global, octets: &[u8]) -> Result<ReadScript, NoMemory>
+    ensures { IfOk result (λ read. ReadsAs octets.now read) }
+{
+    let clients = client_words(alloc, octets)?;
+    let too_long = is_too_long(octets);
+    let mut draft = Draft::new(alloc);
+    let mut number = 0;
+    let mut rest = octets;
+    'lines: while !rest.is_empty() {
+        let (text, after) = split_line(rest);
+        number += 1;
+        if is_outside(after, too_long) {
+            return Ok(ReadScript::Outside(number));
+        }
+        let Some(line) = read_line(alloc, text)? else {
+            return Ok(ReadScript::Outside(number));
+        };
+        if !draft.take(alloc, line, &clients)? {
+            return Ok(ReadScript::Outside(number));
+        }
+        rest = after;
+    }
+    Ok(ReadScript::Whole(draft.finish(number)))
+}
+
+impl Draft {
+    /// No line so far.
+    pub fn new(alloc: Global) -> Self
+        ensures { taken_of result ≡ nothing_taken }
+    {
+        Draft {
+            timers: None,
+            homes: Homes::new(alloc),
+            links: Vec::new(alloc),
+            events: Vec::new(alloc),
+            clients: Vec::new(alloc),
+        }
+    }
+
+    /// Takes a further line, where it may stand behind those before it, in a script that has clients of these words.
+    pub fn take(&mut self, alloc: Global, line: Line, clients: &[String]) -> Result<bool, NoMemory>
+        ensures { IfOk result (λ taken. TakesLine (map (λ w. string_bytes w) clients.now) self.old line self.new taken) }
+    {
+        match line {
+            Line::Silent => Ok(true),
+            Line::Timers(timers) => Ok(self.take_timers(timers)),
+            Line::Zone(zone) => self.take_zone(alloc, zone),
+            Line::Link(link) => self.take_link(link),
+            Line::Event(event) => self.take_event(alloc, event, clients),
+        }
+    }
+
+    // Takes the timers: before all events, and once.
+    fn take_timers(&mut self, timers: Timers) -> bool
+        ensures { (all : List Word) → TakesLine all self.old (lines.Timers timers) self.new result }
+    {
+        if !self.is_in_head() {
+            return false;
+        }
+        if self.timers.is_some() {
+            return false;
+        }
+        self.timers = Some(timers);
+        true
+    }
+
+    // Takes a further zone: before all events, and where it may stand beside the homes before it.
+    fn take_zone(&mut self, alloc: Global, line: ZoneLine) -> Result<bool, NoMemory>
+        ensures { (all : List Word) → IfOk result (λ taken. TakesLine all self.old (lines.Zone line) self.new taken) }
+    {
+        if !self.is_in_head() {
+            return Ok(false);
+        }
+        let zone = match Zone::new(alloc, line.apex, line.serial, line.writable) {
+            Ok(zone) => zone,
+            Err(ZoneFault::TooLong) => return Ok(false),
+            Err(ZoneFault::NoMemory) => return Err(NoMemory),
+        };
+        match self.homes.add_zone(zone) {
+            Ok(()) => Ok(true),
+            Err(HomeFault::NoMemory) => Err(NoMemory),
+            Err(HomeFault::Clash(_)) => Ok(false),
+            Err(HomeFault::Many | HomeFault::Long | HomeFault::Local) => Ok(false),
+        }
+    }
+
+    // Takes a further link: before all events, with a word that no link has, and where it may stand beside the homes before
+    // it.
+    fn take_link(&mut self, line: LinkLine) -> Result<bool, NoMemory>
+        ensures { (all : List Word) → IfOk result (λ taken. TakesLine all self.old (lines.Link line) self.new taken) }
+    {
+        if !self.is_in_head() {
+            return Ok(false);
+        }
+        let LinkLine { word, domain } = line;
+        if is_among(&self.links, word.as_bytes()) {
+            return Ok(false);
+        }
+        match self.homes.add_link(domain) {
+            Ok(()) => {
+                push_word(&mut self.links, word)?;
+                Ok(true)
+            }
+            Err(HomeFault::NoMemory) => Err(NoMemory),
+            Err(HomeFault::Clash(_)) => Ok(false),
+            Err(HomeFault::Many | HomeFault::Long | HomeFault::Local) => Ok(false),
+        }
+    }
+
+    // Whether no event came before.
+    fn is_in_head(&self) -> bool
+        ensures { result ≡ (length self.now.events.items == 0) }
+    {
+        self.events.is_empty()
+    }
+
+    // Takes a further event, if its word, where it has one, may stand there.
+    fn take_event(
+        &mut self,
+        alloc: Global,
+        event: Event,
+        clients: &[String],
+    ) -> Result<bool, NoMemory>
+        ensures { IfOk result (λ taken. TakesLine (map (λ w. string_bytes w) clients.now) self.old (lines.Event event) self.new taken) }
+    {
+        if !may_happen(clients, &self.links, &self.clients, &event) {
+            return Ok(false);
+        }
+        add_seat(alloc, &event, &mut self.clients)?;
+        self.events.push(event)?;
+        Ok(true)
+    }
+
+    /// The number of the link of a word, counted from 0.
+    pub fn link_of(&self, word: &[u8]) -> Option<usize>
+        ensures { result ≡ position (bytes_eq word.now) (taken_of self.now).links }
+    {
+        place_among(&self.links, word)
+    }
+
+    /// The script whose lines, so many, were all taken.
+    pub fn finish(self, lines: usize) -> Script
+        ensures lines { result.lines ≡ lines }
+        ensures timers { result.timers ≡ unwrap_or self.timers default_timers }
+        ensures homes { result.homes ≡ self.homes }
+        ensures links { result.links.items ≡ self.links.items }
+        ensures events { result.events.items ≡ self.events.items }
+    {
+        let Draft {
+            timers,
+            homes,
+            links,
+            events,
+            clients: _,
+        } = self;
+        Script {
+            lines,
+            timers: timers_or_default(timers),
+            homes,
+            links,
+            events,
+        }
+    }
+}
+
+// One word more.
+fn push_word(words: &mut Vec<String>, word: String) -> Result<(), NoMemory>
+    ensures { OnOk result (words_of words.new.items ≡ words_of words.old.items ++ string_bytes word ∷ []) }
+{
+    words.push(word)?;
+    Ok(())
+}
+
+fn timers_or_default(timers: Option<Timers>) -> Timers
+    ensures { result ≡ unwrap_or timers default_timers }
+{
+    match timers {
+        Some(timers) => timers,
+        None => Timers {
+            inactivity: DEFAULT_TIMER,
+            keepalive: DEFAULT_TIMER,
+        },
+    }
+}

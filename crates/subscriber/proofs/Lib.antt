@@ -1,0 +1,15 @@
+pub mod Steps
+pub mod MessageTurns
+pub mod ReadOctets
+pub mod Moments
+pub mod Asking
+pub mod NoticeTexts
+pub mod Growing
+pub mod OneTurn
+pub mod AllReads
+pub mod Conversing
+pub mod Fresh
+pub mod Cores
+pub mod Cuts
+pub mod CutTexts
+pub mod WorkedTexts

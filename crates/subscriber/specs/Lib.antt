@@ -1,0 +1,6 @@
+pub mod Said
+pub mod Standing
+pub mod Turning
+pub mod Subscribed
+pub mod EveryCut
+pub mod Worked
