@@ -37,7 +37,7 @@ pub replied_to : (task known : Task) (cause : Type 0) (left taken taken_now : Op
 replied_to task known cause left taken taken_now result is h = subst (λ (t : Task). Replied (task_reply by_notices t) cause left taken taken_now result) (sym is) h
 
 -- where one more was added at its end, a list isn't what it was, and the added one is known
-one_added : (before now : List Used) (u : Used) (octets : List ℕ) → now ≡ before ++ u ∷ [] → MayHaveGiven (Some before) (Some now) octets → u.gave ++ u.left ≡ octets
+pub one_added : (before now : List Used) (u : Used) (octets : List ℕ) → now ≡ before ++ u ∷ [] → MayHaveGiven (Some before) (Some now) octets → u.gave ++ u.left ≡ octets
 one_added before now u octets is (inl same) = absurd (omega (arith, ap length (sym same ∙ is), length-append before (u ∷ [])))
 one_added before now u octets is (inr other) =
     let one : u ∷ [] ≡ other.0 ∷ [] = append_cancel_left before _ _ (sym is ∙ other.1) in

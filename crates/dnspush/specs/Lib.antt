@@ -3,3 +3,4 @@ pub mod Tasks
 pub mod Runs
 pub mod Status
 pub mod Command
+pub mod Subscribing

@@ -3,7 +3,7 @@
 --     AsksReplay request      a script is to be run
 --     AsksServed request script asked, AsksAccepted request script asked, AsksInPieces request script sent, AsksFed request script fed, AsksFor request octets script      the script that is to be run is one of which a promise speaks
 --     IsAnswered request .. octets reply      where these may be the octets of the source, this reply was written, or what a fault leaves of it
---     LeavesRest, OpensPath, InputStays      what becomes of the source, the path, and the input
+--     LeavesRest, OpensPath, Reaches, InputStays      what becomes of the source, the path, all else that the outside tells, and the input
 use Rattle.std.specs.Prelude.{◌≡◌, ◌⊎◌, ⊤, ℕ, Some, None, Ok, List, [], ◌∷◌, ◌++◌}
 use Rattle.std.specs.declared.option.Option.{Option}
 use Rattle.push_base.specs.Causes.{Rose}
@@ -18,17 +18,18 @@ use Rattle.replay.specs.ScriptPieces.{SentInPieces, SendsPieces}
 use Rattle.replay.specs.FedLines.{Fed, FeedsLone}
 use Rattle.script_laws.specs.Sending.{Asks, AsksAnywhere}
 use Rattle.big_scripts.specs.Replies.{reply_to_number}
-use Rattle.push_outside.specs.Outside.{Used, Adds}
+use Rattle.push_outside.specs.Outside.{Telling, Used, Adds}
 use Rattle.dnspush.specs.Tasks.{task_reply}
-use Rattle.dnspush.specs.Words.{Request, On_input, At_path, Big, usage}
+use Rattle.dnspush.specs.Words.{Request, On_input, At_path, Big, Subscribe, usage}
 use Rattle.dnspush.specs.declared.tasks.Task.TheVariants.{Replay}
 
--- what is answered, given the octets of the source that the request names
+-- what is answered, given the octets of the source that the request names; a subscriber isn't answered by them alone (`Subscribing`)
 abbrev pub reply_to : Option Request → List ℕ → Reply
 reply_to None octets = record { status = 1; text = usage }
 reply_to (Some (On_input task)) octets = task_reply by_history task (front_read octets)
 reply_to (Some (At_path task path)) octets = task_reply by_history task (front_read octets)
 reply_to (Some (Big number)) octets = reply_to_number by_history number
+reply_to (Some (Subscribe path)) octets = record { status = 0; text = [] }
 
 -- a script is to be run
 abbrev pub AsksReplay : Option Request → Type 0
@@ -62,12 +63,13 @@ MayHaveGiven (Some before) (Some now) octets =
     (now ≡ before) ⊎ ((u : Used) × (now ≡ before ++ u ∷ []) × (u.gave ++ u.left ≡ octets))
 MayHaveGiven before now octets = ⊥
 
--- by what is told, these may be the octets of the source that the request names; any, where it names none
+-- by what is told, these may be the octets of the source that the request names; any, where it names none; and none of a subscriber's
 abbrev pub MayBeOctets : Option Request → Option (List ℕ) → Option (List Used) → Option (List Used) → List ℕ → Type 0
 MayBeOctets None input before now octets = ⊤
 MayBeOctets (Some (On_input task)) input before now octets = input ≡ Some octets
 MayBeOctets (Some (At_path task path)) input before now octets = MayHaveGiven before now octets
 MayBeOctets (Some (Big number)) input before now octets = ⊤
+MayBeOctets (Some (Subscribe path)) input before now octets = ⊥
 
 -- the count that must have risen for a read fault: the input's, or the outside's
 abbrev pub SourceRose : Option Request → Type 0 → Type 0 → Type 0
@@ -75,6 +77,20 @@ SourceRose None input outside = ⊥
 SourceRose (Some (On_input task)) input outside = input
 SourceRose (Some (At_path task path)) input outside = outside
 SourceRose (Some (Big number)) input outside = ⊥
+SourceRose (Some (Subscribe path)) input outside = outside
+
+-- the count that must have risen for a write fault: the output's, or, of a subscriber, the outside's
+abbrev pub SinkRose : Option Request → Type 0 → Type 0 → Type 0
+SinkRose None out outside = out
+SinkRose (Some (On_input task)) out outside = out
+SinkRose (Some (At_path task path)) out outside = out
+SinkRose (Some (Big number)) out outside = out
+SinkRose (Some (Subscribe path)) out outside = out ⊎ outside
+
+-- the outside's count must have risen where a server wasn't reached, and only a subscriber's isn't
+abbrev pub ReachRose : Option Request → Type 0 → Type 0
+ReachRose (Some (Subscribe path)) outside = outside
+ReachRose request outside = ⊥
 
 -- Where these may be the octets of the source, this reply was written with the status, or what a fault leaves of it. Told are what the
 -- input had left, and before the run and behind it the sources that were taken back, what the sink took, and the counts of the faults of the input and of the outside.
@@ -94,13 +110,24 @@ LeavesRest None status left now before after = ⊤
 LeavesRest (Some (On_input task)) status left now before after = HasRead status → LeftBehind left now
 LeavesRest (Some (At_path task path)) status left now before after = HasRead status → UsesWhole before after
 LeavesRest (Some (Big number)) status left now before after = ⊤
+LeavesRest (Some (Subscribe path)) status left now before after = HasRead status ⊎ (status ≡ 6) → UsesWhole before after
 
 -- the path alone is handed to `open`, once; with 4 and 5 perhaps not
 abbrev pub OpensPath : Option Request → Option (List (List ℕ)) → Option (List (List ℕ)) → ℕ → Type 0
 OpensPath (Some (At_path task path)) before now status = Adds before now path ⊎ ((now ≡ before) × ((status ≡ 4) ⊎ (status ≡ 5)))
+OpensPath (Some (Subscribe path)) before now status = Adds before now path ⊎ ((now ≡ before) × ((status ≡ 4) ⊎ (status ≡ 5)))
 OpensPath None before now status = now ≡ before
 OpensPath (Some (On_input task)) before now status = now ≡ before
 OpensPath (Some (Big number)) before now status = now ≡ before
+
+-- what else the outside tells stays as it was
+abbrev pub Reaches : Option Request → Telling → Telling → Type 0
+Reaches None before now = now ≡ before
+Reaches (Some (On_input task)) before now = now ≡ before
+Reaches (Some (At_path task path)) before now = now ≡ record before { opened = now.opened; used = now.used }
+Reaches (Some (Big number)) before now = now ≡ before
+Reaches (Some (Subscribe path)) before now =
+    now ≡ record before { opened = now.opened; used = now.used; dialled = now.dialled; lines = now.lines; wires = now.wires; moments = now.moments }
 
 -- the input stays as it is, but where it is asked for
 abbrev pub InputStays : {A : Type 0} → Option Request → A → A → Type 0
@@ -108,3 +135,4 @@ InputStays (Some (On_input task)) before now = ⊤
 InputStays None before now = now ≡ before
 InputStays (Some (At_path task path)) before now = now ≡ before
 InputStays (Some (Big number)) before now = now ≡ before
+InputStays (Some (Subscribe path)) before now = now ≡ before

@@ -13,11 +13,13 @@ use Rattle.dnspush.specs.declared.tasks.Task.{Task}
 use Rattle.dnspush.specs.declared.tasks.Task.TheVariants.{Replay, Check}
 use Rattle.dnspush.specs.declared.words.TheConstants as words
 
--- the commands that are built: a task on the script that the input gives, and on the one at a path; the scripts of a number
+-- the commands that are built: a task on the script that the input gives, and on the one at a path; the scripts of a number; a subscriber by
+-- the configuration at a path
 pub data Request : Type 0 where
   On_input : (task : Task) → Request
   At_path : (task : Task) → (path : List ℕ) → Request
   Big : (number : ℕ) → Request
+  Subscribe : (path : List ℕ) → Request
 
 -- the word isn't empty and doesn't begin with `-`
 abbrev pub is_path : List ℕ → Bool
@@ -36,12 +38,17 @@ greatest_number = words.GREATEST_NUMBER
 abbrev pub on_number : List ℕ → Option Request
 on_number text = number32 text >>= λ n. if nat_le 1 n && nat_le n greatest_number then Some (Big n) else None
 
+-- a subscriber by the configuration at a path
+abbrev pub on_configuration : List ℕ → Option Request
+on_configuration place = if is_path place then Some (Subscribe place) else None
+
 -- what the words ask for, where they are as they should be
 abbrev pub request_of : List (List ℕ) → Option Request
 request_of (command ∷ place ∷ []) =
     if bytes_eq command (codes "replay") then on_script Replay place
     else if bytes_eq command (codes "check") then on_script Check place
     else if bytes_eq command (codes "big") then on_number place
+    else if bytes_eq command (codes "subscribe") then on_configuration place
     else None
 request_of words = None
 

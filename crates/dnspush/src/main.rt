@@ -1,8 +1,9 @@
-//! Replays scripts of DNS Push sessions, and checks them.
+//! Replays scripts of DNS Push sessions and checks them, and follows a server as a subscriber.
 #![tactic(auto)]
 
 mod program;
 mod status;
+mod subscribing;
 mod tasks;
 #[cfg(test)]
 mod tests;

@@ -12,19 +12,19 @@ ghost use Rattle.replay.specs.Reply.{IsFrontOf, Took};
 ghost use Rattle.replay.specs.Serving.{Asked, served_reply};
 ghost use Rattle.script_laws.specs.Sending.{Asks, AskIsAnswered, asked_reply};
 ghost use Rattle.replay.specs.TextWords.{by_history};
-ghost use Rattle.dnspush.specs.Runs.{AsksAccepted, AsksFed, AsksFor, AsksInPieces, AsksServed, InputStays, IsAnswered, LeavesRest, OpensPath, SourceRose, reply_to};
+ghost use Rattle.dnspush.specs.Runs.{AsksAccepted, AsksFed, AsksFor, AsksInPieces, AsksServed, InputStays, IsAnswered, LeavesRest, OpensPath, ReachRose, Reaches, SinkRose, SourceRose, reply_to};
 ghost use Rattle.dnspush.specs.Status.{code_of};
+ghost use Rattle.dnspush.specs.Subscribing.{IsFollowed};
 ghost use Rattle.dnspush.specs.Words.{request_in, usage};
 ghost use Rattle.dnspush.specs.declared.status.Status.{Status};
 
-use crate::status::Status;
+use crate::status::{Status, tell_status};
+use crate::subscribing::subscribe_at;
 use crate::tasks::{at_path, on_source};
 use crate::words::{Command, read_words};
 use big_scripts::tell_sums;
-use push_base::{Failed, Sink};
 use push_outside::Outside;
 use replay::laws::lone_clients_react_to_each_message;
-use replay::{Outcome, write_all};
 use script_laws::{replies_are_one, scripts_keep_promises, sends_are_answered};
 use std::alloc::Global;
 
@@ -74,6 +74,10 @@ pub fn run<O: Outside>(
     // question that a client wants, and that is served, is held with the newest records.
     ensures promises { (octets : List ℕ) (script : List ScriptLine) → AsksFor (request_in words.now) (front_read octets) script → KeepsPromises script }
 
+    // A subscriber dials the server of its configuration, says what it reads, and sends what is to be sent for that.
+    ensures followed { (octets : List ℕ) → IsFollowed (request_in words.now) (record { told = O.told outside.old; printed = O.Out.taken out.old; reads = O.reads outside.old; others = O.others outside.old })
+        (record { told = O.told outside.new; printed = O.Out.taken out.new; reads = O.reads outside.new; others = O.others outside.new }) result octets }
+
     // When each status comes.
     ensures statuses { (status : Status) × (result ≡ code_of status) }
     ensures usage { result ≡ 1 → IsNone (request_in words.now) }
@@ -81,14 +85,17 @@ pub fn run<O: Outside>(
     ensures usage_told { IsNone (request_in words.now) → (result ≡ 1) ⊎ (result ≡ 5) }
     ensures read_fault { result ≡ 3 → SourceRose (request_in words.now)
         (Rose (O.In.faults input.old) (O.In.faults input.new)) (Rose (O.reads outside.old) (O.reads outside.new)) }
-    ensures write_fault { result ≡ 5 → Rose (O.Out.faults out.old) (O.Out.faults out.new) }
+    ensures write_fault { result ≡ 5 → SinkRose (request_in words.now)
+        (Rose (O.Out.faults out.old) (O.Out.faults out.new)) (Rose (O.writes outside.old) (O.writes outside.new)) }
+    ensures outside_fault { result ≡ 6 → ReachRose (request_in words.now) (Rose (O.others outside.old) (O.others outside.new)) }
 
     // A script is read to its end, or to the octet with which it is too long.
     ensures rest { LeavesRest (request_in words.now) result (O.In.left input.old) (O.In.left input.new) (O.told outside.old).used (O.told outside.new).used }
     ensures most { LostAtMost (max_script + 1) (O.In.left input.old) (O.In.left input.new) }
 
-    // What is handed to the outside, and that the input isn't read unasked.
+    // What is handed to the outside and taken from it, and that the input isn't read unasked.
     ensures opened { OpensPath (request_in words.now) (O.told outside.old).opened (O.told outside.new).opened result }
+    ensures reached { Reaches (request_in words.now) (O.told outside.old) (O.told outside.new) }
     ensures input { InputStays (request_in words.now) input.old input.new }
 {
     replies_are_one();
@@ -96,24 +103,13 @@ pub fn run<O: Outside>(
     lone_clients_react_to_each_message();
     scripts_keep_promises();
     match read_words(words) {
-        None => tell_usage(out).code(),
+        None => tell_status(out, Status::Usage, USAGE).code(),
         Some(Command::OnInput(task)) => Status::Ended(on_source(alloc, task, input, out)).code(),
         Some(Command::AtPath(task, path)) => {
             let outcome = at_path(alloc, task, path, out, outside);
             Status::Ended(outcome).code()
         }
         Some(Command::Big(number)) => Status::Ended(tell_sums(alloc, number, out)).code(),
-    }
-}
-
-// Writes how the program is called.
-fn tell_usage<K: Sink>(out: &mut K) -> Status
-    ensures told { Took (K.taken out.old) (K.taken out.new)
-        (λ wrote. ((result ≡ Status.Usage) × (wrote ≡ usage)) ⊎ ((result ≡ Status.Ended Outcome.WriteFault) × IsFrontOf wrote usage)) }
-    ensures cause { (result ≡ Status.Usage) ⊎ ((result ≡ Status.Ended Outcome.WriteFault) × Rose (K.faults out.old) (K.faults out.new)) }
-{
-    match write_all(out, USAGE) {
-        Ok(()) => Status::Usage,
-        Err(Failed) => Status::Ended(Outcome::WriteFault),
+        Some(Command::Subscribe(path)) => subscribe_at(alloc, path, out, outside).code(),
     }
 }

@@ -63,6 +63,7 @@ pub fn at_path<O: Outside>(
     ensures rest { HasRead (status_of result) → UsesWhole (O.told outside.old).used (O.told outside.new).used }
     ensures opened { Adds (O.told outside.old).opened (O.told outside.new).opened path.now
         ⊎ (((O.told outside.new).opened ≡ (O.told outside.old).opened) × ((result ≡ Outcome.NoMemory) ⊎ (result ≡ Outcome.WriteFault))) }
+    ensures told { O.told outside.new ≡ record (O.told outside.old) { opened = (O.told outside.new).opened; used = (O.told outside.new).used } }
 {
     match outside.open(path) {
         Ok(mut source) => {

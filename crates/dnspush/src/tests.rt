@@ -1,9 +1,11 @@
 //! Runs of the program in memory.
 
 ghost use Rattle.std.specs.Prelude.{◌<◌, length, All, IfOk};
+ghost use Rattle.push_base.specs.Items.{HasOctets};
+ghost use Rattle.push_outside.specs.MemOutside.{IsNewPair, IsNewSource};
 
 use crate::program::run;
-use push_base::{MemSink, MemSource, Octets};
+use push_base::{MemItem, MemLine, MemSink, MemSource, Octets};
 use push_outside::{MemObjects, MemOutside};
 use std::alloc::{AllocError, Global};
 use std::test::Fail;
@@ -100,6 +102,49 @@ const PATHS: &[Case] = &[
         text: b"read fault\n",
     },
 ];
+
+// A configuration whose server answers and then closes, one without a question, one whose server isn't there, and a path where there is none.
+const SUBSCRIBED: &[Case] = &[
+    Case {
+        words: &["subscribe", "a/path"],
+        pieces: &[],
+        fails: &[],
+        limits: &[],
+        status: 0,
+        text: b"answer 1 0\nclosed eof\n",
+    },
+    Case {
+        words: &["subscribe", "a/path"],
+        pieces: &[],
+        fails: &[],
+        limits: &[],
+        status: 2,
+        text: b"line 2\n",
+    },
+    Case {
+        words: &["subscribe", "a/path"],
+        pieces: &[],
+        fails: &[],
+        limits: &[],
+        status: 6,
+        text: b"outside fault\n",
+    },
+    Case {
+        words: &["subscribe", "a/path"],
+        pieces: &[],
+        fails: &[],
+        limits: &[],
+        status: 3,
+        text: b"read fault\n",
+    },
+];
+
+const ASKING: &[u8] = b"server here\nquestion example.com. 6 1\n";
+
+const LACKING: &[u8] = b"server here\n";
+
+// The answer NOERROR (RFC 8765, 6.2.2).
+const ANSWER: &[u8] = b"\x00\x0c\x00\x01\xb0\x00\x00\x00\x00\x00\x00\x00\x00\x00";
 
 // The pieces that aren't empty, as items of a source.
 fn items(alloc: Global, pieces: &[&[u8]]) -> Result<Vec<Octets>, AllocError>
@@ -201,4 +246,68 @@ fn reads_paths(alloc: Global, outside: &mut MemOutside) -> Result<(), Fail> {
 fn a_script_at_a_path(rt: HostRuntime) -> Result<(), Fail> {
     let mut outside = with_a_file(rt.alloc())?;
     reads_paths(rt.alloc(), &mut outside)
+}
+
+fn file(alloc: Global, octets: &[u8]) -> Result<MemSource, AllocError>
+    ensures { IfOk result (λ source. IsNewSource source) }
+{
+    Ok(MemSource::new(items(alloc, &[octets])?, Vec::new(alloc)))
+}
+
+fn files(alloc: Global) -> Result<Vec<MemSource>, AllocError>
+    ensures { IfOk result (λ files. All IsNewSource files.items) }
+{
+    let whole = file(alloc, ASKING)?;
+    let outside = file(alloc, LACKING)?;
+    let alone = file(alloc, ASKING)?;
+    Ok(vec![in alloc; whole, outside, alone]?)
+}
+
+fn answers(alloc: Global) -> Result<Vec<MemItem>, AllocError>
+    ensures { IfOk result (λ items. All HasOctets items.items) }
+{
+    let answer = MemItem::Bytes(Octets::from_slice(alloc, ANSWER)?);
+    Ok(vec![in alloc; answer]?)
+}
+
+fn connections(alloc: Global) -> Result<Vec<(MemLine, MemSink)>, AllocError>
+    ensures { IfOk result (λ connections. All IsNewPair connections.items) }
+{
+    let line = MemLine::new(answers(alloc)?, Vec::new(alloc));
+    let wire = MemSink::new(alloc, Vec::new(alloc), Vec::new(alloc), 1024)?;
+    Ok(vec![in alloc; (line, wire)]?)
+}
+
+// An outside with three files and one connection.
+fn with_a_server(alloc: Global) -> Result<MemOutside, AllocError> {
+    let mut objects = MemObjects::none(alloc);
+    objects.files = files(alloc)?;
+    objects.connections = connections(alloc)?;
+    Ok(MemOutside::new(alloc, objects))
+}
+
+// What an outside tells of four subscribers, of which one was connected.
+fn tells_one_connection(outside: &MemOutside) -> Result<(), Fail> {
+    let dialled = outside.dialled().len();
+    let lines = outside.used_lines().len();
+    let wires = outside.used_wires().len();
+    let clocks = outside.used_clocks().len();
+    if dialled == 2 && lines == 1 && wires == 1 && clocks == 1 {
+        return Ok(());
+    }
+    Err(Fail::new(format_args!("{dialled} {lines} {wires} {clocks}")))
+}
+
+fn subscribes(alloc: Global, outside: &mut MemOutside) -> Result<(), Fail> {
+    'cases: for case in SUBSCRIBED {
+        runs_so(alloc, case, outside)?;
+    }
+    tells_one_connection(outside)
+}
+
+// A configuration at a path, and the server that it names.
+#[test]
+fn a_subscriber_at_a_path(rt: HostRuntime) -> Result<(), Fail> {
+    let mut outside = with_a_server(rt.alloc())?;
+    subscribes(rt.alloc(), &mut outside)
 }

@@ -1,11 +1,13 @@
-use Rattle.std.proofs.Common.{Some, sym, ◌∙◌, ap}
+use Rattle.std.proofs.Common.{Some, None, sym, ◌∙◌, ap}
 use Rattle.dnspush.specs.Command.{asked}
 use Rattle.dnspush.proofs.Running.{usage_answered, input_answered, path_answered, number_answered}
-use Rattle.dnspush.proofs.Promises.{none_asked, number_asks_none, served_answered, asked_answered, pieces_answered, fed_answered, promises_kept}
+use Rattle.dnspush.proofs.Promises.{none_asked, number_asks_none, subscriber_asks_none, served_answered, asked_answered, pieces_answered, fed_answered, promises_kept}
+use Rattle.dnspush.proofs.Following.{followed, not-followed, none-known}
+use Rattle.dnspush.specs.Words.{On_input, At_path, Big, Subscribe}
 use Rattle.dnspush.proofs.program.run.Goals as goal
 
 pub returns-in-None-clause-replied : goal.returns-in-None-clause-replied
-returns-in-None-clause-replied g c = λ octets may. usage_answered _ _ _ octets _ _ _ _ c.in-None.ensures c.code.ensures c.tell_usage.ensures.told
+returns-in-None-clause-replied g c = λ octets may. usage_answered _ _ _ octets _ _ _ _ c.in-None.ensures c.code.ensures c.tell_status.ensures.told
 
 pub returns-in-Some-OnInput-clause-replied : goal.returns-in-Some-OnInput-clause-replied
 returns-in-Some-OnInput-clause-replied g c = λ octets may.
@@ -113,3 +115,54 @@ pub returns-in-Some-Big-clause-fed : goal.returns-in-Some-Big-clause-fed
 returns-in-Some-Big-clause-fed g c = λ octets fed h may.
     let is = ap (λ x. Some (asked x)) (sym c.in-Some-Big.field-0-is) ∙ c.in-Some-Big.ensures in
     absurd (number_asks_none _ c.in-Some-Big.number is h.0)
+
+pub returns-in-Some-Subscribe-clause-replied : goal.returns-in-Some-Subscribe-clause-replied
+returns-in-Some-Subscribe-clause-replied g c = λ octets may.
+    let is = ap (λ x. Some (asked x)) (sym c.in-Some-Subscribe.field-0-is) ∙ c.in-Some-Subscribe.ensures in
+    absurd (none-known _ c.in-Some-Subscribe.path.now _ _ _ octets is may)
+
+pub returns-in-Some-Subscribe-clause-served : goal.returns-in-Some-Subscribe-clause-served
+returns-in-Some-Subscribe-clause-served g c = λ octets asks h may.
+    let is = ap (λ x. Some (asked x)) (sym c.in-Some-Subscribe.field-0-is) ∙ c.in-Some-Subscribe.ensures in
+    absurd (subscriber_asks_none _ c.in-Some-Subscribe.path.now is h.0)
+
+pub returns-in-Some-Subscribe-clause-asked : goal.returns-in-Some-Subscribe-clause-asked
+returns-in-Some-Subscribe-clause-asked g c = λ octets asked_line asks.
+    let is = ap (λ x. Some (asked x)) (sym c.in-Some-Subscribe.field-0-is) ∙ c.in-Some-Subscribe.ensures in
+    absurd (subscriber_asks_none _ c.in-Some-Subscribe.path.now is asks.0)
+
+pub returns-in-Some-Subscribe-clause-pieces : goal.returns-in-Some-Subscribe-clause-pieces
+returns-in-Some-Subscribe-clause-pieces g c = λ octets sent h.
+    let is = ap (λ x. Some (asked x)) (sym c.in-Some-Subscribe.field-0-is) ∙ c.in-Some-Subscribe.ensures in
+    absurd (subscriber_asks_none _ c.in-Some-Subscribe.path.now is h.0)
+
+pub returns-in-Some-Subscribe-clause-fed : goal.returns-in-Some-Subscribe-clause-fed
+returns-in-Some-Subscribe-clause-fed g c = λ octets fed h may.
+    let is = ap (λ x. Some (asked x)) (sym c.in-Some-Subscribe.field-0-is) ∙ c.in-Some-Subscribe.ensures in
+    absurd (subscriber_asks_none _ c.in-Some-Subscribe.path.now is h.0)
+
+pub returns-in-Some-Subscribe-clause-promises : goal.returns-in-Some-Subscribe-clause-promises
+returns-in-Some-Subscribe-clause-promises g c = λ octets script asks. promises_kept c.scripts_keep_promises.ensures.promises _ octets script asks
+
+pub returns-in-Some-Subscribe-clause-followed : goal.returns-in-Some-Subscribe-clause-followed
+returns-in-Some-Subscribe-clause-followed g c = λ octets.
+    let is = ap (λ x. Some (asked x)) (sym c.in-Some-Subscribe.field-0-is) ∙ c.in-Some-Subscribe.ensures in
+    followed _ c.in-Some-Subscribe.path.now _ _ _ _ octets is c.code-in-Some-Subscribe.ensures (c.subscribe_at.ensures.followed octets)
+
+pub returns-in-None-clause-followed : goal.returns-in-None-clause-followed
+returns-in-None-clause-followed g c = λ octets. not-followed _ None _ _ _ octets c.in-None.ensures tt
+
+pub returns-in-Some-OnInput-clause-followed : goal.returns-in-Some-OnInput-clause-followed
+returns-in-Some-OnInput-clause-followed g c = λ octets.
+    let is = ap (λ x. Some (asked x)) (sym c.in-Some-OnInput.field-0-is) ∙ c.in-Some-OnInput.ensures in
+    not-followed _ (Some (On_input c.in-Some-OnInput.task)) _ _ _ octets is tt
+
+pub returns-in-Some-AtPath-clause-followed : goal.returns-in-Some-AtPath-clause-followed
+returns-in-Some-AtPath-clause-followed g c = λ octets.
+    let is = ap (λ x. Some (asked x)) (sym c.in-Some-AtPath.field-0-is) ∙ c.in-Some-AtPath.ensures in
+    not-followed _ (Some (At_path c.in-Some-AtPath.task c.in-Some-AtPath.path.now)) _ _ _ octets is tt
+
+pub returns-in-Some-Big-clause-followed : goal.returns-in-Some-Big-clause-followed
+returns-in-Some-Big-clause-followed g c = λ octets.
+    let is = ap (λ x. Some (asked x)) (sym c.in-Some-Big.field-0-is) ∙ c.in-Some-Big.ensures in
+    not-followed _ (Some (Big c.in-Some-Big.number)) _ _ _ octets is tt
