@@ -17,13 +17,13 @@ use Rattle.subscriber.specs.Subscribed.{Subscribed, TellsSaying, Whole, Unread, 
 use Rattle.replay.specs.declared.outcome.Outcome.TheVariants as outcomes
 use Rattle.replay.specs.Outcomes.{status_of}
 use Rattle.replay.specs.Reply.{IsFrontOf, Took, line}
-use Rattle.replay.specs.Text.{outside_text}
 use Rattle.std.specs.Prelude.{codes}
 use Rattle.push_outside.specs.declared.outside.OpenFault.{OpenFault}
 use Rattle.push_outside.specs.declared.outside.OpenFault.TheVariants.{Failed, NoMemory}
 use Rattle.dnspush.specs.Runs.{MayBeOctets, MayHaveGiven}
 use Rattle.dnspush.specs.Words.{Request, Subscribe}
-use Rattle.dnspush.specs.Subscribing.{IsFollowed, Observed, Conversation, TellsUnconnected, Unread as Not_read, Starved as Not_enough, Outside, Unreached, IsUnconnected, AnswersUnconnected, Converses, Follows, TellsNumber}
+use Rattle.dnspush.specs.Subscribing.{IsFollowed, Conversation, TellsUnconnected, Unread as Not_read, Starved as Not_enough, Outside, Unreached, IsUnconnected, Follows}
+use Rattle.dnspush.specs.Observed.{Observed, TellsNumber}
 use Rattle.push_outside.specs.Opening.{CountsFailure, TellsWords}
 use Rattle.scripts.specs.Sources.{front_read}
 use Rattle.dnspush.specs.Status.{code_of}
@@ -32,7 +32,7 @@ use Rattle.dnspush.specs.declared.status.Status.TheVariants as statuses
 use Rattle.dnspush.proofs.Running.{brought, failed_open}
 
 -- what a new line or clock told is what is told of it once it was taken back
-told-read : (A : Type 0) (start now : Option (List A)) (before after : Option (List (List A))) (more : List A)
+pub told-read : (A : Type 0) (start now : Option (List A)) (before after : Option (List (List A))) (more : List A)
     → IsFresh start → TellsMore start now more → AddsTold before after now → AddsTold before after (Some more)
 told-read A start now None after more fresh tells adds = adds
 told-read A start now (Some b) None more fresh tells adds = tt
@@ -52,7 +52,7 @@ told-taken (Some s) (Some x) (Some b) (Some a) wrote fresh took adds =
     adds ∙ ap (λ (l : List ℕ). b ++ l ∷ []) (is ∙ ap (λ (l : List ℕ). l ++ wrote) fresh)
 
 -- a count that rose behind another one rose behind one before it
-rose-before : (r0 r1 r : ℕ) → r0 ≤ r1 → Rose r1 r → Rose r0 r
+pub rose-before : (r0 r1 r : ℕ) → r0 ≤ r1 → Rose r1 r → Rose r0 r
 rose-before r0 r1 r later rose = omega (arith, later, rose)
 
 same-later : (r0 r1 : ℕ) → r1 ≡ r0 → r0 ≤ r1
@@ -154,10 +154,10 @@ not-read result before now read dialled lines wires moments rose said =
 -- the server wasn't reached
 pub unreached : (A : Type 0) (fault : OpenFault) (t0 t1 : Telling) (printed printed_now : Option (List ℕ)) (r0 r1 o0 o1 : ℕ) (configuration : Subscribing) (word : List ℕ) (result : Status)
     → fault ≡ Failed → t1 ≡ record t0 { dialled = t1.dialled } → CountsFailure {A = A} o0 o1 (Err fault) → TellsWords {A = A} t0.dialled t1.dialled (Err fault) word → word ≡ configuration.server
-    → SaidText printed printed_now statuses.Unreached (statuses.Ended outcomes.WriteFault) result (line (codes "outside fault"))
+    → SaidText printed printed_now statuses.OutsideFault (statuses.Ended outcomes.WriteFault) result (line (codes "outside fault"))
     → Follows (record { told = t0; printed = printed; reads = r0; others = o0 }) (record { told = t1; printed = printed_now; reads = r1; others = o1 }) (Ok configuration) (code_of result)
 unreached A fault t0 t1 printed printed_now r0 r1 o0 o1 configuration word result is same counts tells word_is said =
-    unconnected Status code_of statuses.Unreached (statuses.Ended outcomes.WriteFault) result _ _ (Ok configuration) (line (codes "outside fault")) refl
+    unconnected Status code_of statuses.OutsideFault (statuses.Ended outcomes.WriteFault) result _ _ (Ok configuration) (line (codes "outside fault")) refl
     (record { lines = ap (λ (t : Telling). t.lines) same; wires = ap (λ (t : Telling). t.wires) same; moments = ap (λ (t : Telling). t.moments) same })
     (Unreached configuration refl
     (subst (λ w. Adds t0.dialled t1.dialled w) word_is (subst (λ (f : OpenFault). TellsWords {A = A} t0.dialled t1.dialled (Err f) word) is tells))

@@ -1,3 +1,4 @@
 pub mod Running
 pub mod Promises
 pub mod Following
+pub mod Serving

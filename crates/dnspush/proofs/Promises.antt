@@ -1,7 +1,7 @@
 -- What a run answers where a script is asked for of which a promise speaks.
 --     served_answered, asked_answered, pieces_answered, fed_answered      what was written is the reply that the promise names
 --     promises_kept      the script keeps its promises
---     none_asked, number_asks_none, subscriber_asks_none      where the words ask for nothing, for the scripts of a number, and for a subscriber, no script is to be run
+--     none_asked, number_asks_none, server_asks_none, subscriber_asks_none      where the words ask for nothing, for the scripts of a number, for a server, and for a subscriber, no script is to be run
 use Rattle.std.proofs.Common.{◌≡◌, ℕ, List, Option, Some, None, refl, sym, ◌∙◌, subst}
 use Rattle.replay.specs.TextWords.{by_history}
 use Rattle.scripts.specs.Sources.{front_read}
@@ -16,7 +16,7 @@ use Rattle.replay.proofs.pieces.SentPieces.{pieces-told}
 use Rattle.script_laws.specs.Sending.{Asks, AskIsAnswered, AsksAreAnswered, asked_reply}
 use Rattle.replay.proofs.serving.Serving.{served_is}
 use Rattle.dnspush.specs.Runs.{AsksReplay, AsksServed, AsksAccepted, AsksInPieces, AsksFed, AsksFor, reply_to}
-use Rattle.dnspush.specs.Words.{Request, On_input, At_path, Big, Subscribe}
+use Rattle.dnspush.specs.Words.{Request, On_input, At_path, Big, Serve, Subscribe}
 use Rattle.dnspush.specs.declared.tasks.Task.TheVariants.{Replay, Check}
 
 -- where the words ask for nothing, no script is to be run
@@ -26,6 +26,10 @@ none_asked request is asks = subst AsksReplay (sym is) asks
 -- nor where they ask for the scripts of a number
 pub number_asks_none : (request : Option Request) (number : ℕ) → Some (Big number) ≡ request → AsksReplay request → ⊥
 number_asks_none request number is asks = subst AsksReplay (sym is) asks
+
+-- nor where they ask for a server
+pub server_asks_none : (request : Option Request) (path : List ℕ) → Some (Serve path) ≡ request → AsksReplay request → ⊥
+server_asks_none request path is asks = subst AsksReplay (sym is) asks
 
 -- nor where they ask for a subscriber
 pub subscriber_asks_none : (request : Option Request) (path : List ℕ) → Some (Subscribe path) ≡ request → AsksReplay request → ⊥
@@ -39,6 +43,7 @@ replay_reply-is (Some (On_input Check)) octets asks = absurd asks
 replay_reply-is (Some (At_path Replay path)) octets asks = refl
 replay_reply-is (Some (At_path Check path)) octets asks = absurd asks
 replay_reply-is (Some (Big number)) octets asks = absurd asks
+replay_reply-is (Some (Serve path)) octets asks = absurd asks
 replay_reply-is (Some (Subscribe path)) octets asks = absurd asks
 
 served_reply-is : (request : Option Request) (octets : List ℕ) (asked : Asked) → AsksServed request (front_read octets) asked → reply_to request octets ≡ served_reply by_history asked

@@ -4,3 +4,5 @@ pub mod Runs
 pub mod Status
 pub mod Command
 pub mod Subscribing
+pub mod Observed
+pub mod Serving

@@ -1,6 +1,6 @@
 -- What a run does for what its words ask.
 --     reply_to request octets      what is answered, given the octets of the source that the request names
---     AsksReplay request      a script is to be run
+--     AsksReplay request, AsksServer request      a script is to be run; a server is asked for
 --     AsksServed request script asked, AsksAccepted request script asked, AsksInPieces request script sent, AsksFed request script fed, AsksFor request octets script      the script that is to be run is one of which a promise speaks
 --     IsAnswered request .. octets reply      where these may be the octets of the source, this reply was written, or what a fault leaves of it
 --     LeavesRest, OpensPath, Reaches, InputStays      what becomes of the source, the path, all else that the outside tells, and the input
@@ -20,15 +20,16 @@ use Rattle.script_laws.specs.Sending.{Asks, AsksAnywhere}
 use Rattle.big_scripts.specs.Replies.{reply_to_number}
 use Rattle.push_outside.specs.Outside.{Telling, Used, Adds}
 use Rattle.dnspush.specs.Tasks.{task_reply}
-use Rattle.dnspush.specs.Words.{Request, On_input, At_path, Big, Subscribe, usage}
+use Rattle.dnspush.specs.Words.{Request, On_input, At_path, Big, Serve, Subscribe, usage}
 use Rattle.dnspush.specs.declared.tasks.Task.TheVariants.{Replay}
 
--- what is answered, given the octets of the source that the request names; a subscriber isn't answered by them alone (`Subscribing`)
+-- what is answered, given the octets of the source that the request names; a server and a subscriber aren't answered by them alone (`Serving`, `Subscribing`)
 abbrev pub reply_to : Option Request → List ℕ → Reply
 reply_to None octets = record { status = 1; text = usage }
 reply_to (Some (On_input task)) octets = task_reply by_history task (front_read octets)
 reply_to (Some (At_path task path)) octets = task_reply by_history task (front_read octets)
 reply_to (Some (Big number)) octets = reply_to_number by_history number
+reply_to (Some (Serve path)) octets = record { status = 0; text = [] }
 reply_to (Some (Subscribe path)) octets = record { status = 0; text = [] }
 
 -- a script is to be run
@@ -63,12 +64,13 @@ MayHaveGiven (Some before) (Some now) octets =
     (now ≡ before) ⊎ ((u : Used) × (now ≡ before ++ u ∷ []) × (u.gave ++ u.left ≡ octets))
 MayHaveGiven before now octets = ⊥
 
--- by what is told, these may be the octets of the source that the request names; any, where it names none; and none of a subscriber's
+-- by what is told, these may be the octets of the source that the request names; any, where it names none; and none of a server's or a subscriber's
 abbrev pub MayBeOctets : Option Request → Option (List ℕ) → Option (List Used) → Option (List Used) → List ℕ → Type 0
 MayBeOctets None input before now octets = ⊤
 MayBeOctets (Some (On_input task)) input before now octets = input ≡ Some octets
 MayBeOctets (Some (At_path task path)) input before now octets = MayHaveGiven before now octets
 MayBeOctets (Some (Big number)) input before now octets = ⊤
+MayBeOctets (Some (Serve path)) input before now octets = ⊥
 MayBeOctets (Some (Subscribe path)) input before now octets = ⊥
 
 -- the count that must have risen for a read fault: the input's, or the outside's
@@ -77,6 +79,7 @@ SourceRose None input outside = ⊥
 SourceRose (Some (On_input task)) input outside = input
 SourceRose (Some (At_path task path)) input outside = outside
 SourceRose (Some (Big number)) input outside = ⊥
+SourceRose (Some (Serve path)) input outside = outside
 SourceRose (Some (Subscribe path)) input outside = outside
 
 -- the count that must have risen for a write fault: the output's, or, of a subscriber, the outside's
@@ -85,12 +88,19 @@ SinkRose None out outside = out
 SinkRose (Some (On_input task)) out outside = out
 SinkRose (Some (At_path task path)) out outside = out
 SinkRose (Some (Big number)) out outside = out
+SinkRose (Some (Serve path)) out outside = out
 SinkRose (Some (Subscribe path)) out outside = out ⊎ outside
 
--- the outside's count must have risen where a server wasn't reached, and only a subscriber's isn't
+-- the outside's count must have risen where something of it failed, which only a server and a subscriber reach
 abbrev pub ReachRose : Option Request → Type 0 → Type 0
+ReachRose (Some (Serve path)) outside = outside
 ReachRose (Some (Subscribe path)) outside = outside
 ReachRose request outside = ⊥
+
+-- a server is asked for
+abbrev pub AsksServer : Option Request → Type 0
+AsksServer (Some (Serve path)) = ⊤
+AsksServer request = ⊥
 
 -- Where these may be the octets of the source, this reply was written with the status, or what a fault leaves of it. Told are what the
 -- input had left, and before the run and behind it the sources that were taken back, what the sink took, and the counts of the faults of the input and of the outside.
@@ -110,11 +120,13 @@ LeavesRest None status left now before after = ⊤
 LeavesRest (Some (On_input task)) status left now before after = HasRead status → LeftBehind left now
 LeavesRest (Some (At_path task path)) status left now before after = HasRead status → UsesWhole before after
 LeavesRest (Some (Big number)) status left now before after = ⊤
+LeavesRest (Some (Serve path)) status left now before after = HasRead status ⊎ ((status ≡ 6) ⊎ (status ≡ 7)) → UsesWhole before after
 LeavesRest (Some (Subscribe path)) status left now before after = HasRead status ⊎ (status ≡ 6) → UsesWhole before after
 
 -- the path alone is handed to `open`, once; with 4 and 5 perhaps not
 abbrev pub OpensPath : Option Request → Option (List (List ℕ)) → Option (List (List ℕ)) → ℕ → Type 0
 OpensPath (Some (At_path task path)) before now status = Adds before now path ⊎ ((now ≡ before) × ((status ≡ 4) ⊎ (status ≡ 5)))
+OpensPath (Some (Serve path)) before now status = Adds before now path ⊎ ((now ≡ before) × ((status ≡ 4) ⊎ (status ≡ 5)))
 OpensPath (Some (Subscribe path)) before now status = Adds before now path ⊎ ((now ≡ before) × ((status ≡ 4) ⊎ (status ≡ 5)))
 OpensPath None before now status = now ≡ before
 OpensPath (Some (On_input task)) before now status = now ≡ before
@@ -126,6 +138,8 @@ Reaches None before now = now ≡ before
 Reaches (Some (On_input task)) before now = now ≡ before
 Reaches (Some (At_path task path)) before now = now ≡ record before { opened = now.opened; used = now.used }
 Reaches (Some (Big number)) before now = now ≡ before
+Reaches (Some (Serve path)) before now =
+    now ≡ record before { opened = now.opened; used = now.used; listened = now.listened; heard = now.heard; accepted = now.accepted; started = now.started }
 Reaches (Some (Subscribe path)) before now =
     now ≡ record before { opened = now.opened; used = now.used; dialled = now.dialled; lines = now.lines; wires = now.wires; moments = now.moments }
 
@@ -135,4 +149,5 @@ InputStays (Some (On_input task)) before now = ⊤
 InputStays None before now = now ≡ before
 InputStays (Some (At_path task path)) before now = now ≡ before
 InputStays (Some (Big number)) before now = now ≡ before
+InputStays (Some (Serve path)) before now = now ≡ before
 InputStays (Some (Subscribe path)) before now = now ≡ before

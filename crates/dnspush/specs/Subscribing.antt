@@ -1,9 +1,8 @@
 -- What a run does for `subscribe`: it reads a configuration, dials the server, and says what it hears.
---     Observed      what is told of a run, before it and behind it
 --     Follows before now read status      what is done for a configuration that was read so
 --     TellsUnconnected, Converses      without a connection, and with one
 --     IsFollowed request before now status octets      so it is where these may be the octets of the configuration
-use Rattle.std.specs.Prelude.{◌≡◌, ◌⊎◌, ⊤, ℕ, Some, None, Ok, Err, List, codes}
+use Rattle.std.specs.Prelude.{◌≡◌, ◌⊎◌, ⊤, ℕ, Some, Ok, Err, List, codes}
 use Rattle.std.specs.declared.option.Option.{Option}
 use Rattle.std.specs.declared.result.Result.{Result}
 use Rattle.push_base.specs.Causes.{Rose}
@@ -13,22 +12,16 @@ use Rattle.scripts.specs.Sources.{front_read}
 use Rattle.replay.specs.declared.outcome.Outcome.{Outcome}
 use Rattle.replay.specs.declared.outcome.Outcome.TheVariants as outcomes
 use Rattle.replay.specs.Outcomes.{status_of}
-use Rattle.replay.specs.Reply.{IsFrontOf, Took, line}
+use Rattle.replay.specs.Reply.{Took, line}
 use Rattle.replay.specs.Text.{outside_text}
 use Rattle.configurations.specs.Configurations.{Subscribing, subscribing_of}
 use Rattle.subscriber.specs.Said.{saying}
 use Rattle.subscriber.specs.Subscribed.{AnswersSaying, IsOpenUntil, IsSent}
+use Rattle.dnspush.specs.Observed.{Observed, IsTold}
 use Rattle.dnspush.specs.Runs.{MayHaveGiven}
 use Rattle.dnspush.specs.Status.{code_of}
 use Rattle.dnspush.specs.Words.{Request, Subscribe}
 use Rattle.dnspush.specs.declared.status.Status.TheVariants as statuses
-
--- what the outside tells, what the output took, and two of the outside's counts of faults
-pub record Observed : Type 0 where
-  pub told : Telling
-  pub printed : Option (List ℕ)
-  pub reads : ℕ
-  pub others : ℕ
 
 -- The whole texts that are written where no connection is made, each with its status: the configuration wasn't read, which has a cause;
 -- memory ran out; that line is the first outside; or the server wasn't reached, which has a cause.
@@ -37,7 +30,7 @@ pub data TellsUnconnected (before now : Observed) (read : Result Subscribing ℕ
   Starved : now.told.dialled ≡ before.told.dialled → status ≡ status_of outcomes.NoMemory → text ≡ line (codes "no memory") → TellsUnconnected before now read status text
   Outside : (number : ℕ) → read ≡ Err number → now.told.dialled ≡ before.told.dialled → status ≡ status_of outcomes.Outside → text ≡ outside_text number → TellsUnconnected before now read status text
   Unreached : (configuration : Subscribing) → read ≡ Ok configuration → Adds before.told.dialled now.told.dialled configuration.server → Rose before.others now.others
-      → status ≡ code_of statuses.Unreached → text ≡ line (codes "outside fault") → TellsUnconnected before now read status text
+      → status ≡ code_of statuses.OutsideFault → text ≡ line (codes "outside fault") → TellsUnconnected before now read status text
 
 -- nothing is told of a further line, wire or clock
 pub record IsUnconnected (before now : Telling) : Type 0 where
@@ -47,9 +40,7 @@ pub record IsUnconnected (before now : Telling) : Type 0 where
 
 -- such a text was written with its status, or the output failed in the midst of one
 abbrev pub AnswersUnconnected : Observed → Observed → Result Subscribing ℕ → ℕ → List ℕ → Type 0
-AnswersUnconnected before now read status wrote =
-    TellsUnconnected before now read status wrote
-    ⊎ ((status ≡ status_of outcomes.WriteFault) × (told : ℕ) × (text : List ℕ) × TellsUnconnected before now read told text × IsFrontOf wrote text)
+AnswersUnconnected before now read = IsTold (TellsUnconnected before now read)
 
 -- The line that was taken back gave these reads, the clock these moments, and the wire took these octets, as far as they are told; and the
 -- output took what is said of them.
@@ -76,12 +67,6 @@ unfoldable pub Follows : Observed → Observed → Result Subscribing ℕ → �
 Follows before now read status =
     (IsUnconnected before.told now.told × Took before.printed now.printed (AnswersUnconnected before now read status))
     ⊎ ((configuration : Subscribing) × (read ≡ Ok configuration) × Converses before now configuration status)
-
--- that this line is the first outside was told, or that memory ran out
-abbrev pub TellsNumber : Option (List ℕ) → Option (List ℕ) → ℕ → Outcome → Type 0
-TellsNumber before now number result = (told : Outcome) × (text : List ℕ)
-    × (((told ≡ outcomes.Outside) × (text ≡ outside_text number)) ⊎ ((told ≡ outcomes.NoMemory) × (text ≡ line (codes "no memory"))))
-    × Took before now (λ wrote. ((result ≡ told) × (wrote ≡ text)) ⊎ ((result ≡ outcomes.WriteFault) × IsFrontOf wrote text))
 
 -- where a subscriber is asked for, and these may be the octets of its configuration
 abbrev pub IsFollowed : Option Request → Observed → Observed → ℕ → List ℕ → Type 0

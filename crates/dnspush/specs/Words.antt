@@ -1,5 +1,5 @@
 -- The words of the command line.
---     request_of words      what they ask for, where they name a command that is built
+--     request_of words      what they ask for, where they are as they should be
 --     usage      the line that is told of words that ask for nothing
 use Rattle.std.specs.Prelude.{ℕ, ◌==◌, not, ◌&&◌, nat_le, Bool, false, Some, None, List, [], ◌∷◌, map, codes, string_bytes, if◌then◌else◌}
 use Rattle.std.specs.declared.option.Option.{Option}
@@ -13,12 +13,13 @@ use Rattle.dnspush.specs.declared.tasks.Task.{Task}
 use Rattle.dnspush.specs.declared.tasks.Task.TheVariants.{Replay, Check}
 use Rattle.dnspush.specs.declared.words.TheConstants as words
 
--- the commands that are built: a task on the script that the input gives, and on the one at a path; the scripts of a number; a subscriber by
--- the configuration at a path
+-- the commands: a task on the script that the input gives, and on the one at a path; the scripts of a number; a server and a subscriber by the
+-- configuration at a path
 pub data Request : Type 0 where
   On_input : (task : Task) → Request
   At_path : (task : Task) → (path : List ℕ) → Request
   Big : (number : ℕ) → Request
+  Serve : (path : List ℕ) → Request
   Subscribe : (path : List ℕ) → Request
 
 -- the word isn't empty and doesn't begin with `-`
@@ -38,9 +39,9 @@ greatest_number = words.GREATEST_NUMBER
 abbrev pub on_number : List ℕ → Option Request
 on_number text = number32 text >>= λ n. if nat_le 1 n && nat_le n greatest_number then Some (Big n) else None
 
--- a subscriber by the configuration at a path
-abbrev pub on_configuration : List ℕ → Option Request
-on_configuration place = if is_path place then Some (Subscribe place) else None
+-- what is done by the configuration at a path
+abbrev pub on_configuration : (List ℕ → Request) → List ℕ → Option Request
+on_configuration request place = if is_path place then Some (request place) else None
 
 -- what the words ask for, where they are as they should be
 abbrev pub request_of : List (List ℕ) → Option Request
@@ -48,7 +49,8 @@ request_of (command ∷ place ∷ []) =
     if bytes_eq command (codes "replay") then on_script Replay place
     else if bytes_eq command (codes "check") then on_script Check place
     else if bytes_eq command (codes "big") then on_number place
-    else if bytes_eq command (codes "subscribe") then on_configuration place
+    else if bytes_eq command (codes "serve") then on_configuration Serve place
+    else if bytes_eq command (codes "subscribe") then on_configuration Subscribe place
     else None
 request_of words = None
 

@@ -1,7 +1,11 @@
-//! Replays scripts of DNS Push sessions and checks them, and follows a server as a subscriber.
+//! Serves DNS Push, follows a server as a subscriber, and replays scripts of DNS Push sessions and checks them.
 #![tactic(auto)]
 
+mod configured;
+mod listening;
 mod program;
+#[cfg(test)]
+mod serve_tests;
 mod status;
 mod subscribing;
 mod tasks;
@@ -19,7 +23,7 @@ fn main(rt: HostRuntime) -> ExitCode {
     let mut input = Reading::new(Origin::Input(rt.stdin()));
     let mut out = Writing::new(rt.stdout());
     let mut system = System::new(rt);
-    ExitCode::from(program::run(alloc, &words, &mut input, &mut out, &mut system))
+    ExitCode::from(program::run(rt, alloc, &words, &mut input, &mut out, &mut system))
 }
 
 // The words after the program's name, or none where they can't be read.

@@ -12,12 +12,14 @@ ghost use Rattle.replay.specs.Reply.{IsFrontOf, Took};
 ghost use Rattle.replay.specs.Serving.{Asked, served_reply};
 ghost use Rattle.script_laws.specs.Sending.{Asks, AskIsAnswered, asked_reply};
 ghost use Rattle.replay.specs.TextWords.{by_history};
-ghost use Rattle.dnspush.specs.Runs.{AsksAccepted, AsksFed, AsksFor, AsksInPieces, AsksServed, InputStays, IsAnswered, LeavesRest, OpensPath, ReachRose, Reaches, SinkRose, SourceRose, reply_to};
+ghost use Rattle.dnspush.specs.Runs.{AsksAccepted, AsksFed, AsksFor, AsksInPieces, AsksServed, AsksServer, InputStays, IsAnswered, LeavesRest, OpensPath, ReachRose, Reaches, SinkRose, SourceRose, reply_to};
+ghost use Rattle.dnspush.specs.Serving.{IsServed};
 ghost use Rattle.dnspush.specs.Status.{code_of};
 ghost use Rattle.dnspush.specs.Subscribing.{IsFollowed};
 ghost use Rattle.dnspush.specs.Words.{request_in, usage};
 ghost use Rattle.dnspush.specs.declared.status.Status.{Status};
 
+use crate::listening::serve_at;
 use crate::status::{Status, tell_status};
 use crate::subscribing::subscribe_at;
 use crate::tasks::{at_path, on_source};
@@ -27,14 +29,17 @@ use push_outside::Outside;
 use replay::laws::lone_clients_react_to_each_message;
 use script_laws::{replies_are_one, scripts_keep_promises, sends_are_answered};
 use std::alloc::Global;
+use std::sync::Wait;
+use std::thread::Threads;
 
-/// What is written where the words aren't as they should be: a line that names all commands, also those that aren't
-/// built yet.
+/// What is written where the words aren't as they should be: a line that names all commands.
 pub const USAGE: &[u8] =
     b"usage: dnspush replay PATH | serve CONFIG | subscribe CONFIG | check PATH | big N\n";
 
-/// All that the program does: reads the words of the command line, does what they ask, and answers the status.
-pub fn run<O: Outside>(
+/// All that the program does: reads the words of the command line, does what they ask, and answers the status. A server
+/// may wait without an end; each other command is a call of its own that returns.
+pub fn run<R: Threads + Wait + Copy + Send + 'static, O: Outside>(
+    rt: R,
     alloc: Global,
     words: &[String],
     input: &mut O::In,
@@ -78,6 +83,11 @@ pub fn run<O: Outside>(
     ensures followed { (octets : List ℕ) → IsFollowed (request_in words.now) (record { told = O.told outside.old; printed = O.Out.taken out.old; reads = O.reads outside.old; others = O.others outside.old })
         (record { told = O.told outside.new; printed = O.Out.taken out.new; reads = O.reads outside.new; others = O.others outside.new }) result octets }
 
+    // A server listens and hears where its configuration says, accepts so many sessions, hands the jobs for these to the starter, and tells what
+    // was accepted; or why it ended otherwise.
+    ensures serves { (octets : List ℕ) → IsServed (request_in words.now) (record { told = O.told outside.old; printed = O.Out.taken out.old; reads = O.reads outside.old; others = O.others outside.old })
+        (record { told = O.told outside.new; printed = O.Out.taken out.new; reads = O.reads outside.new; others = O.others outside.new }) result octets }
+
     // When each status comes.
     ensures statuses { (status : Status) × (result ≡ code_of status) }
     ensures usage { result ≡ 1 → IsNone (request_in words.now) }
@@ -88,6 +98,7 @@ pub fn run<O: Outside>(
     ensures write_fault { result ≡ 5 → SinkRose (request_in words.now)
         (Rose (O.Out.faults out.old) (O.Out.faults out.new)) (Rose (O.writes outside.old) (O.writes outside.new)) }
     ensures outside_fault { result ≡ 6 → ReachRose (request_in words.now) (Rose (O.others outside.old) (O.others outside.new)) }
+    ensures full { result ≡ 7 → AsksServer (request_in words.now) }
 
     // A script is read to its end, or to the octet with which it is too long.
     ensures rest { LeavesRest (request_in words.now) result (O.In.left input.old) (O.In.left input.new) (O.told outside.old).used (O.told outside.new).used }
@@ -110,6 +121,7 @@ pub fn run<O: Outside>(
             Status::Ended(outcome).code()
         }
         Some(Command::Big(number)) => Status::Ended(tell_sums(alloc, number, out)).code(),
+        Some(Command::Serve(path)) => serve_at(rt, alloc, path, out, outside).code(),
         Some(Command::Subscribe(path)) => subscribe_at(alloc, path, out, outside).code(),
     }
 }

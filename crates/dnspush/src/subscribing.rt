@@ -10,20 +10,18 @@ ghost use Rattle.replay.specs.Outcomes.{HasRead};
 ghost use Rattle.replay.specs.Text.{outside_text};
 ghost use Rattle.dnspush.specs.Runs.{MayHaveGiven, UsesWhole};
 ghost use Rattle.dnspush.specs.Status.{code_of};
-ghost use Rattle.dnspush.specs.Subscribing.{Conversation, Follows, TellsNumber};
+ghost use Rattle.dnspush.specs.Subscribing.{Conversation, Follows};
 ghost use Rattle.dnspush.specs.declared.status.Status.TheVariants as statuses;
 
-use crate::status::{Status, tell_status};
+use crate::configured::{read_path, tell_line};
+use crate::status::{OUTSIDE_FAULT, Status, tell_status};
 use configurations::{ReadSubscribe, SubscribeConfiguration, read_subscribe};
-use push_base::{NoMemory, Sink};
+use push_base::NoMemory;
 use push_outside::{OpenFault, Outside};
 use replay::{NO_MEMORY, Outcome, READ_FAULT, tell};
-use scripts::{ReadError, read_script};
+use scripts::ReadError;
 use std::alloc::Global;
 use subscriber::subscribe;
-
-/// What is written where the server wasn't reached.
-const OUTSIDE_FAULT: &[u8] = b"outside fault\n";
 
 /// Reads the configuration at a path, hands its source back, and follows what it says.
 pub fn subscribe_at<O: Outside>(
@@ -38,10 +36,11 @@ pub fn subscribe_at<O: Outside>(
         (record { told = O.told outside.new; printed = O.Out.taken out.new; reads = O.reads outside.new; others = O.others outside.new })
         (subscribing_of (front_read octets)) (code_of result) }
     ensures usage { result ≡ statuses.Usage → ⊥ }
+    ensures full { result ≡ statuses.Full → ⊥ }
     ensures read_fault { result ≡ statuses.Ended Outcome.ReadFault → Rose (O.reads outside.old) (O.reads outside.new) }
     ensures write_fault { result ≡ statuses.Ended Outcome.WriteFault
         → Rose (O.Out.faults out.old) (O.Out.faults out.new) ⊎ Rose (O.writes outside.old) (O.writes outside.new) }
-    ensures outside_fault { result ≡ statuses.Unreached → Rose (O.others outside.old) (O.others outside.new) }
+    ensures outside_fault { result ≡ statuses.OutsideFault → Rose (O.others outside.old) (O.others outside.new) }
     ensures rest { HasRead (code_of result) ⊎ (code_of result ≡ 6) → UsesWhole (O.told outside.old).used (O.told outside.new).used }
     ensures opened { Adds (O.told outside.old).opened (O.told outside.new).opened path.now
         ⊎ (((O.told outside.new).opened ≡ (O.told outside.old).opened) × ((code_of result ≡ 4) ⊎ (code_of result ≡ 5))) }
@@ -61,30 +60,6 @@ pub fn subscribe_at<O: Outside>(
     }
 }
 
-// The octets at a path, whose source is handed back.
-fn read_path<O: Outside>(alloc: Global, path: &str, outside: &mut O) -> Result<Vec<u8>, ReadError>
-    ensures octets { (octets : List ℕ) → MayHaveGiven (O.told outside.old).used (O.told outside.new).used octets →
-        IfOk result (λ read. read.items ≡ front_read octets) }
-    ensures failed { IsErrOf result ReadError.Failed → Rose (O.reads outside.old) (O.reads outside.new) }
-    ensures later { O.reads outside.old ≤ O.reads outside.new }
-    ensures writes { O.writes outside.new ≡ O.writes outside.old }
-    ensures others { O.others outside.new ≡ O.others outside.old }
-    ensures rest { OnOk result (UsesWhole (O.told outside.old).used (O.told outside.new).used) }
-    ensures opened { Adds (O.told outside.old).opened (O.told outside.new).opened path.now
-        ⊎ (((O.told outside.new).opened ≡ (O.told outside.old).opened) × IsErrOf result ReadError.NoMemory) }
-    ensures told { O.told outside.new ≡ record (O.told outside.old) { opened = (O.told outside.new).opened; used = (O.told outside.new).used } }
-{
-    match outside.open(path) {
-        Ok(mut source) => {
-            let read = read_script(alloc, &mut source);
-            outside.back_in(source);
-            read
-        }
-        Err(OpenFault::Failed) => Err(ReadError::Failed),
-        Err(OpenFault::NoMemory) => Err(ReadError::NoMemory),
-    }
-}
-
 // Follows a configuration, or tells its first line outside.
 fn follow<O: Outside>(alloc: Global, octets: &[u8], out: &mut O::Out, outside: &mut O) -> Status
     ensures followed { Follows
@@ -92,10 +67,11 @@ fn follow<O: Outside>(alloc: Global, octets: &[u8], out: &mut O::Out, outside: &
         (record { told = O.told outside.new; printed = O.Out.taken out.new; reads = O.reads outside.new; others = O.others outside.new })
         (subscribing_of octets.now) (code_of result) }
     ensures usage { result ≡ statuses.Usage → ⊥ }
+    ensures full { result ≡ statuses.Full → ⊥ }
     ensures read_fault { result ≡ statuses.Ended Outcome.ReadFault → Rose (O.reads outside.old) (O.reads outside.new) }
     ensures write_fault { result ≡ statuses.Ended Outcome.WriteFault
         → Rose (O.Out.faults out.old) (O.Out.faults out.new) ⊎ Rose (O.writes outside.old) (O.writes outside.new) }
-    ensures outside_fault { result ≡ statuses.Unreached → Rose (O.others outside.old) (O.others outside.new) }
+    ensures outside_fault { result ≡ statuses.OutsideFault → Rose (O.others outside.old) (O.others outside.new) }
     ensures told { O.told outside.new ≡ record (O.told outside.old) {
       dialled = (O.told outside.new).dialled;
       lines = (O.told outside.new).lines;
@@ -110,24 +86,6 @@ fn follow<O: Outside>(alloc: Global, octets: &[u8], out: &mut O::Out, outside: &
     }
 }
 
-// Tells the first line outside.
-fn tell_line<K: Sink>(alloc: Global, number: usize, out: &mut K) -> Outcome
-    ensures told { TellsNumber (K.taken out.old) (K.taken out.new) number result }
-    ensures write_fault { result ≡ Outcome.WriteFault → Rose (K.faults out.old) (K.faults out.new) }
-{
-    match line_text(alloc, number) {
-        Ok(text) => tell(out, Outcome::Outside, text.as_bytes()),
-        Err(NoMemory) => tell(out, Outcome::NoMemory, NO_MEMORY),
-    }
-}
-
-// What is written where that line is the first outside.
-fn line_text(alloc: Global, number: usize) -> Result<String, NoMemory>
-    ensures { IfOk result (λ text. string_bytes text ≡ outside_text number) }
-{
-    format!(in alloc; "line {number}\n")
-}
-
 // Dials the server, and follows what it says.
 fn dial_server<O: Outside>(
     alloc: Global,
@@ -140,10 +98,11 @@ fn dial_server<O: Outside>(
         (record { told = O.told outside.new; printed = O.Out.taken out.new; reads = O.reads outside.new; others = O.others outside.new })
         (Ok (subscribing_kept configuration.now)) (code_of result) }
     ensures usage { result ≡ statuses.Usage → ⊥ }
+    ensures full { result ≡ statuses.Full → ⊥ }
     ensures read_fault { result ≡ statuses.Ended Outcome.ReadFault → Rose (O.reads outside.old) (O.reads outside.new) }
     ensures write_fault { result ≡ statuses.Ended Outcome.WriteFault
         → Rose (O.Out.faults out.old) (O.Out.faults out.new) ⊎ Rose (O.writes outside.old) (O.writes outside.new) }
-    ensures outside_fault { result ≡ statuses.Unreached → Rose (O.others outside.old) (O.others outside.new) }
+    ensures outside_fault { result ≡ statuses.OutsideFault → Rose (O.others outside.old) (O.others outside.new) }
     ensures told { O.told outside.new ≡ record (O.told outside.old) {
       dialled = (O.told outside.new).dialled;
       lines = (O.told outside.new).lines;
@@ -155,7 +114,7 @@ fn dial_server<O: Outside>(
         Ok((line, wire)) => {
             Status::Ended(converse(alloc, configuration, line, wire, out, outside))
         }
-        Err(OpenFault::Failed) => tell_status(out, Status::Unreached, OUTSIDE_FAULT),
+        Err(OpenFault::Failed) => tell_status(out, Status::OutsideFault, OUTSIDE_FAULT),
         Err(OpenFault::NoMemory) => Status::Ended(tell(out, Outcome::NoMemory, NO_MEMORY)),
     }
 }

@@ -8,7 +8,9 @@ use crate::program::run;
 use push_base::{MemItem, MemLine, MemSink, MemSource, Octets};
 use push_outside::{MemObjects, MemOutside};
 use std::alloc::{AllocError, Global};
+use std::sync::Wait;
 use std::test::Fail;
+use std::thread::Threads;
 
 const TOLD: &[u8] =
     b"open c\nasked c new\nsettle c\nshow c printer.example.com. 1 1 held 0\nupdate 0\nsettle c\nshow c printer.example.com. 1 1 held 1\nrr printer.example.com. 120 1 1 c0000201\n";
@@ -168,13 +170,13 @@ fn words_of(alloc: Global, texts: &[&str]) -> Result<Vec<String>, AllocError> {
 }
 
 // A run: its words, the pieces in which its input comes, the reads of it that fail, and how much each write takes.
-struct Case {
-    words: &'static [&'static str],
-    pieces: &'static [&'static [u8]],
-    fails: &'static [u64],
-    limits: &'static [usize],
-    status: u8,
-    text: &'static [u8],
+pub(crate) struct Case {
+    pub(crate) words: &'static [&'static str],
+    pub(crate) pieces: &'static [&'static [u8]],
+    pub(crate) fails: &'static [u64],
+    pub(crate) limits: &'static [usize],
+    pub(crate) status: u8,
+    pub(crate) text: &'static [u8],
 }
 
 fn input_of(alloc: Global, case: &Case) -> Result<MemSource, AllocError> {
@@ -196,24 +198,33 @@ fn shows(case: &Case, status: u8, wrote: &[u8]) -> Result<(), Fail> {
 }
 
 // Whether a run over this outside is so.
-fn runs_so(alloc: Global, case: &Case, outside: &mut MemOutside) -> Result<(), Fail> {
+pub(crate) fn runs_so<R: Threads + Wait + Copy + Send + 'static>(
+    rt: R,
+    alloc: Global,
+    case: &Case,
+    outside: &mut MemOutside,
+) -> Result<(), Fail> {
     let words = words_of(alloc, case.words)?;
     let mut input = input_of(alloc, case)?;
     let mut out = output_of(alloc, case)?;
-    let status = run(alloc, &words, &mut input, &mut out, outside);
+    let status = run(rt, alloc, &words, &mut input, &mut out, outside);
     shows(case, status, out.taken())
 }
 
 // Whether a run that reaches nothing else is so.
-fn is_so(alloc: Global, case: &Case) -> Result<(), Fail> {
+fn is_so<R: Threads + Wait + Copy + Send + 'static>(
+    rt: R,
+    alloc: Global,
+    case: &Case,
+) -> Result<(), Fail> {
     let mut outside = MemOutside::new(alloc, MemObjects::none(alloc));
-    runs_so(alloc, case, &mut outside)
+    runs_so(rt, alloc, case, &mut outside)
 }
 
 #[test]
 fn runs_in_memory(rt: HostRuntime) -> Result<(), Fail> {
     'cases: for case in CASES {
-        is_so(rt.alloc(), case)?;
+        is_so(rt, rt.alloc(), case)?;
     }
     Ok(())
 }
@@ -234,9 +245,13 @@ fn tells_two_paths(outside: &MemOutside) -> Result<(), Fail> {
     Err(Fail::new(format_args!("{} reads", outside.reads())))
 }
 
-fn reads_paths(alloc: Global, outside: &mut MemOutside) -> Result<(), Fail> {
+fn reads_paths<R: Threads + Wait + Copy + Send + 'static>(
+    rt: R,
+    alloc: Global,
+    outside: &mut MemOutside,
+) -> Result<(), Fail> {
     'paths: for case in PATHS {
-        runs_so(alloc, case, outside)?;
+        runs_so(rt, alloc, case, outside)?;
     }
     tells_two_paths(outside)
 }
@@ -245,10 +260,10 @@ fn reads_paths(alloc: Global, outside: &mut MemOutside) -> Result<(), Fail> {
 #[test]
 fn a_script_at_a_path(rt: HostRuntime) -> Result<(), Fail> {
     let mut outside = with_a_file(rt.alloc())?;
-    reads_paths(rt.alloc(), &mut outside)
+    reads_paths(rt, rt.alloc(), &mut outside)
 }
 
-fn file(alloc: Global, octets: &[u8]) -> Result<MemSource, AllocError>
+pub(crate) fn file(alloc: Global, octets: &[u8]) -> Result<MemSource, AllocError>
     ensures { IfOk result (λ source. IsNewSource source) }
 {
     Ok(MemSource::new(items(alloc, &[octets])?, Vec::new(alloc)))
@@ -298,9 +313,13 @@ fn tells_one_connection(outside: &MemOutside) -> Result<(), Fail> {
     Err(Fail::new(format_args!("{dialled} {lines} {wires} {clocks}")))
 }
 
-fn subscribes(alloc: Global, outside: &mut MemOutside) -> Result<(), Fail> {
+fn subscribes<R: Threads + Wait + Copy + Send + 'static>(
+    rt: R,
+    alloc: Global,
+    outside: &mut MemOutside,
+) -> Result<(), Fail> {
     'cases: for case in SUBSCRIBED {
-        runs_so(alloc, case, outside)?;
+        runs_so(rt, alloc, case, outside)?;
     }
     tells_one_connection(outside)
 }
@@ -309,5 +328,5 @@ fn subscribes(alloc: Global, outside: &mut MemOutside) -> Result<(), Fail> {
 #[test]
 fn a_subscriber_at_a_path(rt: HostRuntime) -> Result<(), Fail> {
     let mut outside = with_a_server(rt.alloc())?;
-    subscribes(rt.alloc(), &mut outside)
+    subscribes(rt, rt.alloc(), &mut outside)
 }

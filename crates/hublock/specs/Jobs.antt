@@ -1,5 +1,8 @@
 -- The jobs of the loops.
 --     role_in work      the role of a job that does this
+--     GivesBack      the datagrams of a link's job are given back
+use Rattle.std.specs.Prelude.{◌≡◌, None, IsSome}
+use Rattle.std.specs.declared.option.Option.{Option}
 use Rattle.push_base.specs.declared.role.Role.{Role}
 use Rattle.push_base.specs.declared.role.Role.TheVariants as roles
 use Rattle.hublock.specs.declared.jobs.Work.{Work}
@@ -10,3 +13,8 @@ role_in (works.Read session line) = roles.Reader session
 role_in (works.Write session wire) = roles.Writer session
 role_in (works.Hear link datagrams) = roles.Link link
 role_in (works.Tick clock) = roles.Clock
+
+-- the datagrams of a link's job are given back, and other jobs have none
+abbrev pub GivesBack : {D : Type 0} → Role → Option D → Type 0
+GivesBack (roles.Link link) links = IsSome links
+GivesBack _ links = links ≡ None

@@ -1,10 +1,10 @@
 //! The jobs of the loops.
 
-ghost use Rattle.std.specs.Prelude.{◌≡◌, ◌<◌, IsSomeAnd};
+ghost use Rattle.std.specs.Prelude.{◌≡◌, ◌<◌, IsSome, IsSomeAnd, None};
 ghost use Rattle.push_base.specs.declared.role.Role.TheVariants as roles;
 ghost use Rattle.hublock.specs.declared.ends.LoopEnd.TheVariants.{LinkFault};
 ghost use Rattle.hublock.specs.Feeds.{each};
-ghost use Rattle.hublock.specs.Jobs.{role_in};
+ghost use Rattle.hublock.specs.Jobs.{GivesBack, role_in};
 
 use crate::{Feed, Gate, LoopEnd, Shared, clock_loop, link_loop, read_loop, write_loop};
 use push_base::{Clock, Datagrams, Line, Role, Sink, Task};
@@ -145,6 +145,7 @@ fn without_links<D: Datagrams + Drop, C: Ledger, H: Ledger, M: Ledger>(
 ) -> JobEnd<D, C, H, M>
     requires feed { feed.parts ≡ each 1 }
     requires end { end ≡ LinkFault → ⊥ }
+    ensures { result.links ≡ None }
 {
     JobEnd {
         end,
@@ -168,7 +169,9 @@ fn read<
     session: u64,
     mut line: L,
     turns: u64,
-) -> JobEnd<D, C, H, M> {
+) -> JobEnd<D, C, H, M>
+    ensures { result.links ≡ None }
+{
     let end = read_loop(alloc, &mut shared, session, &mut line, turns);
     shared.line_over(session);
     without_links(end, shared.into_feed())
@@ -189,7 +192,9 @@ fn write<
     session: u64,
     mut wire: K,
     turns: u64,
-) -> JobEnd<D, C, H, M> {
+) -> JobEnd<D, C, H, M>
+    ensures { result.links ≡ None }
+{
     let end = write_loop(alloc, &mut shared, session, &mut wire, turns);
     shared.end(session);
     shared.session_over();
@@ -205,7 +210,9 @@ fn hear<R: Wait + Copy, D: Datagrams + Drop, C: Ledger, H: Ledger, M: Ledger, S:
     link: usize,
     mut datagrams: D,
     turns: u64,
-) -> JobEnd<D, C, H, M> {
+) -> JobEnd<D, C, H, M>
+    ensures { IsSome result.links }
+{
     let end = link_loop(alloc, &mut shared, link, &mut datagrams, turns);
     JobEnd {
         end,
@@ -223,7 +230,9 @@ fn tick<
     H: Ledger,
     M: Ledger,
     S: Ledger,
->(mut shared: Shared<R, C, H, M, S>, mut clock: T, turns: u64) -> JobEnd<D, C, H, M> {
+>(mut shared: Shared<R, C, H, M, S>, mut clock: T, turns: u64) -> JobEnd<D, C, H, M>
+    ensures { result.links ≡ None }
+{
     let end = clock_loop(&mut shared, &mut clock, turns);
     without_links(end, shared.into_feed())
 }
@@ -258,7 +267,9 @@ impl<
         self.turns
     }
 
-    fn run(self) -> JobEnd<D, C, H, M> {
+    fn run(self) -> JobEnd<D, C, H, M>
+        ensures links { GivesBack (role_in self.work) result.links }
+    {
         let Job {
             alloc,
             shared,

@@ -1,4 +1,5 @@
-//! What a hub alone and one behind its lock answer, what the loops do, and jobs in threads, as tests of public calls.
+//! What a hub alone and one behind its lock answer, what the loops do, jobs in threads, and whole servers, as tests of
+//! public calls.
 #![tactic(auto)]
 
 #[cfg(test)]
@@ -10,4 +11,8 @@ mod loops;
 #[cfg(test)]
 mod rows;
 #[cfg(test)]
+mod serves;
+#[cfg(test)]
 mod threads;
+#[cfg(test)]
+mod watched;

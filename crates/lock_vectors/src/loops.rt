@@ -1,6 +1,6 @@
 //! The loops over a hub of one thread.
 
-ghost use Rattle.std.specs.Prelude.{None};
+ghost use Rattle.std.specs.Prelude.{◌≤◌, None, length};
 
 use crate::hubs::{HOST, SUBSCRIBE, SUBSCRIBED, connected_hub};
 use crate::rows::are_octets;
@@ -10,11 +10,35 @@ use push_base::{Failed, Got, Line, MemClock, MemDatagrams, MemItem, MemSink, hex
 use std::alloc::Global;
 use std::test::Fail;
 
-/// A line that gives its octets one by one, and then ends. It tells nothing.
+/// A line that gives its octets in pieces of one size, the last of which may be shorter, and then ends. It tells nothing.
 #[derive(Drop)]
 pub(crate) struct Drip {
     octets: Vec<u8>,
     next: usize,
+    size: usize,
+}
+
+impl Drip {
+    /// It has given no piece.
+    pub(crate) fn new(octets: Vec<u8>, size: usize) -> Drip {
+        Drip {
+            octets,
+            next: 0,
+            size,
+        }
+    }
+}
+
+/// Puts the octets from a place on at the front of the buffer, but no more than so many. Gives their number.
+fn put_piece(octets: &[u8], place: usize, size: usize, buf: &mut [u8]) -> usize
+    ensures { result ≤ length buf.new }
+{
+    let Some((_, rest)) = octets.split_at_checked(place) else {
+        return 0;
+    };
+    let count = rest.len().min(size).min(buf.len());
+    buf[..count].copy_from_slice(&rest[..count]);
+    count
 }
 
 impl Line for Drip {
@@ -29,20 +53,20 @@ impl Line for Drip {
     ghost faults = { λ _. 0 };
 
     fn recv(&mut self, buf: &mut [u8]) -> Result<Got, Failed> {
-        match self.octets.get(self.next) {
-            Some(octet) => buf[0] = *octet,
-            None => return Ok(Got::End),
+        let count = put_piece(&self.octets, self.next, self.size, buf);
+        if count == 0 {
+            return Ok(Got::End);
         }
-        self.next = self.next.saturating_add(1);
-        Ok(Got::Bytes(1))
+        self.next = self.next.saturating_add(count);
+        Ok(Got::Bytes(count))
     }
 }
 
-/// The line of a client that sends `SUBSCRIBE`.
+/// The line of a client that sends `SUBSCRIBE`, one octet at a time.
 pub(crate) fn request_of_a_client(alloc: Global) -> Result<Drip, Fail> {
     let mut octets = Vec::new(alloc);
     octets.extend_from_slice(hex_octets(alloc, SUBSCRIBE)?.as_slice())?;
-    Ok(Drip { octets, next: 0 })
+    Ok(Drip::new(octets, 1))
 }
 
 /// Datagrams with `HOST` alone.

@@ -23,8 +23,8 @@ use std::thread::Threads;
 
 /// Each job gets a thread of its own.
 #[derive(Drop)]
-struct Apart {
-    faults: u64,
+pub(crate) struct Apart {
+    pub(crate) faults: u64,
 }
 
 impl Starter for Apart {
@@ -48,14 +48,24 @@ impl Starter for Apart {
 }
 
 /// Octets that the test keeps.
-type List = Arc<Mutex<Vec<u8>>>;
+pub(crate) type List = Arc<Mutex<Vec<u8>>>;
 
 /// A wire whose octets go to a list.
 #[derive(Drop)]
-struct Listed<R: Wait + Copy> {
+pub(crate) struct Listed<R: Wait + Copy> {
     rt: R,
     list: List,
-    faults: u64,
+    pub(crate) faults: u64,
+}
+
+impl<R: Wait + Copy> Listed<R> {
+    pub(crate) fn new(rt: R, list: List) -> Listed<R> {
+        Listed {
+            rt,
+            list,
+            faults: 0,
+        }
+    }
 }
 
 impl<R: Wait + Copy> Sink for Listed<R> {
@@ -164,11 +174,7 @@ fn add_writer_job<R: Wait + Copy, C: Ledger, H: Ledger, M: Ledger, S: Ledger>(
 {
     let list = Arc::try_clone(list)?;
     let shared = Shared::new(rt, lock, feed, Role::Writer(0))?;
-    let wire = Listed {
-        rt,
-        list,
-        faults: 0,
-    };
+    let wire = Listed::new(rt, list);
     add(jobs, Job::writer(alloc, shared, 0, wire, 100_000))
 }
 

@@ -20,7 +20,7 @@ use Rattle.nametable.specs.Nodes.{Nodes, name_cmp, table_at, all_rows, IsNode, A
 use Rattle.rrset.specs.declared.record.Key.{Key}
 use Rattle.rrset.proofs.KeyOrder.{key_cmp_total, same_bytes}
 use Rattle.nametable.proofs.RisingRows.{Rising, is_T, is_true, rising-put, rising-without, same_maps, row_at-without}
-use Rattle.rrset.proofs.Places.{and_left, and_right, and_both, all_put}
+use Rattle.rrset.proofs.Places.{and_left, and_right, and_both}
 
 pub name_cmp_total : IsTotalOrder name_cmp
 name_cmp_total = on_total octets nat_list_cmp_total

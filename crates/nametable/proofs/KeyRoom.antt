@@ -1,5 +1,6 @@
 -- Room for keys: that of the first, and what is left of it for the others.
-use Rattle.std.proofs.Common.{◌≡◌, ℕ, ◌+◌, ◌≤◌, Bool, true, false, cond, List, [], ◌∷◌, ◌++◌, ◌⊎◌, inl, inr, Option, Some, None, is_some, length, map, refl, sym, ap, subst, ◌∙◌, arith, Ordering, Less, Equal, Greater}
+use Rattle.std.proofs.Common.{◌≡◌, ℕ, ◌+◌, ◌≤◌, ◌<◌, take, get_or, Bool, true, false, cond, List, [], ◌∷◌, ◌++◌, ◌⊎◌, inl, inr, Option, Some, None, is_some, length, map, refl, sym, ap, subst, ◌∙◌, arith, Ordering, Less, Equal, Greater}
+use Rattle.std.proofs.lemmas.List.{take_more}
 use Rattle.std.specs.Ordering.{is_eq}
 use Rattle.std.specs.Cmp.{eq_by_cmp_equiv}
 use Rattle.std.specs.List.{AllByRecursion, filter}
@@ -72,25 +73,44 @@ module _ {X : Type 0} where
 
   -- ---- room made name by name
 
-  -- there is room for all keys at the owners of some changes
+  -- there is room for all keys at the owners of those changes that put something
   abbrev pub HasRoomAtOwners : List Key → List Changed → Nodes X → Type 0
-  HasRoomAtOwners keys some ns = AllByRecursion (λ c. count_at c.key.owner keys ≤ room_at ns c.key.owner) some
+  HasRoomAtOwners keys some ns = AllByRecursion (λ c. is_some c.after ≡ true → count_at c.key.owner keys ≤ room_at ns c.key.owner) some
+
+  owners-kept : (keys : List Key) (some : List Changed) (old new : Nodes X) → ((name : Labels) → room_at old name ≤ room_at new name) → HasRoomAtOwners keys some old → HasRoomAtOwners keys some new
+  owners-kept keys [] old new kept h = tt
+  owners-kept keys (c ∷ cs) old new kept h = (λ puts. let was = h.0 puts in let more = kept c.key.owner in omega (arith, was, more), owners-kept keys cs old new kept h.1)
+
+  owners-push : (keys : List Key) (some : List Changed) (c : Changed) (ns : Nodes X) → HasRoomAtOwners keys some ns → (is_some c.after ≡ true → count_at c.key.owner keys ≤ room_at ns c.key.owner)
+      → HasRoomAtOwners keys (some ++ c ∷ []) ns
+  owners-push keys [] c ns h room = (room, tt)
+  owners-push keys (d ∷ ds) c ns h room = (h.0, owners-push keys ds c ns h.1 room)
+
+  -- room made for one more change
+  pub owners-next : (keys : List Key) (all : List Changed) (index : ℕ) (c : Changed) (old new : Nodes X) → index < length all → c ≡ get_or all index c → ((name : Labels) → room_at old name ≤ room_at new name)
+      → HasRoomAtOwners keys (take index all) old → (is_some c.after ≡ true → count_at c.key.owner keys ≤ room_at new c.key.owner) → HasRoomAtOwners keys (take (index + 1) all) new
+  owners-next keys all index c old new within is kept h room =
+      subst (λ (l : List Changed). HasRoomAtOwners keys l new) (ap (λ (d : Changed). take index all ++ d ∷ []) is ∙ sym (take_more all index c within))
+      (owners-push keys (take index all) c new (owners-kept keys (take index all) old new kept h) room)
 
   none-or-there : (name : Labels) (keys : List Key) (some : List Changed) (ns : Nodes X) → HasRoomAtOwners keys some ns → (count_at name (keys_put some) ≡ 0) ⊎ (count_at name keys ≤ room_at ns name)
   none-or-there name keys [] ns h = inl refl
-  none-or-there name keys (c ∷ cs) ns h = by (name_cmp name c.key.owner) refl (none-or-there name keys cs ns h.1)
+  none-or-there name keys (c ∷ cs) ns h = by c.after refl (none-or-there name keys cs ns h.1)
     where
-      skip : (o : Option Shown) → c.after ≡ o → is_eq (name_cmp name c.key.owner) ≡ false → count_at name (keys_put cs) ≡ 0 → count_at name (keys_put (c ∷ cs)) ≡ 0
-      skip None is e none = ap (count_at name) (keys_put-none c cs is) ∙ none
-      skip (Some s) is e none = ap (count_at name) (keys_put-some c cs s is) ∙ (let first = count_at-cons name c.key (keys_put cs) false e in omega (arith, first, none))
+      passes : (s : Shown) → c.after ≡ Some s → is_eq (name_cmp name c.key.owner) ≡ false → (count_at name (keys_put cs) ≡ 0) ⊎ (count_at name keys ≤ room_at ns name) → (count_at name (keys_put (c ∷ cs)) ≡ 0) ⊎ (count_at name keys ≤ room_at ns name)
+      passes s is e rest = elim rest [
+        | inl none ↦ inl (ap (count_at name) (keys_put-some c cs s is) ∙ (let first = count_at-cons name c.key (keys_put cs) false e in omega (arith, first, none)))
+        | inr there ↦ inr there
+      ]
 
-      passes : is_eq (name_cmp name c.key.owner) ≡ false → (count_at name (keys_put cs) ≡ 0) ⊎ (count_at name keys ≤ room_at ns name) → (count_at name (keys_put (c ∷ cs)) ≡ 0) ⊎ (count_at name keys ≤ room_at ns name)
-      passes e rest = elim rest [ inl none ↦ inl (skip c.after refl e none) | inr there ↦ inr there ]
+      put : (s : Shown) → c.after ≡ Some s → (r : Ordering) → name_cmp name c.key.owner ≡ r → (count_at name (keys_put cs) ≡ 0) ⊎ (count_at name keys ≤ room_at ns name) → (count_at name (keys_put (c ∷ cs)) ≡ 0) ⊎ (count_at name keys ≤ room_at ns name)
+      put s is Less e rest = passes s is (ap is_eq e) rest
+      put s is Greater e rest = passes s is (ap is_eq e) rest
+      put s is Equal e rest = inr (subst (λ (l : Labels). count_at l keys ≤ room_at ns l) (sym (same_names name c.key.owner e)) (h.0 (ap (λ (o : Option Shown). is_some o) is)))
 
-      by : (r : Ordering) → name_cmp name c.key.owner ≡ r → (count_at name (keys_put cs) ≡ 0) ⊎ (count_at name keys ≤ room_at ns name) → (count_at name (keys_put (c ∷ cs)) ≡ 0) ⊎ (count_at name keys ≤ room_at ns name)
-      by Less e rest = passes (ap is_eq e) rest
-      by Greater e rest = passes (ap is_eq e) rest
-      by Equal e rest = inr (subst (λ (l : Labels). count_at l keys ≤ room_at ns l) (sym (same_names name c.key.owner e)) h.0)
+      by : (o : Option Shown) → c.after ≡ o → (count_at name (keys_put cs) ≡ 0) ⊎ (count_at name keys ≤ room_at ns name) → (count_at name (keys_put (c ∷ cs)) ≡ 0) ⊎ (count_at name keys ≤ room_at ns name)
+      by None is rest = elim rest [ inl none ↦ inl (ap (count_at name) (keys_put-none c cs is) ∙ none) | inr there ↦ inr there ]
+      by (Some s) is rest = put s is (name_cmp name c.key.owner) refl rest
 
   pub room-all : (changed : List Changed) (ns : Nodes X) → HasRoomAtOwners (keys_put changed) changed ns → HasRoomFor (keys_put changed) ns
   room-all changed ns h name = elim (none-or-there name (keys_put changed) changed ns h) [ inl none ↦ omega (arith, none) | inr there ↦ there ]

@@ -1,5 +1,7 @@
 pub mod RisingRows
 pub mod AllRows
+pub mod NumberOrder
+pub mod NameCounts
 pub mod NodePlaces
 pub mod NodeChanges
 pub mod NodeSets

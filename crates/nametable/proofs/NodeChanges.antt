@@ -1,5 +1,5 @@
 -- Tables by name: what each change of one node makes of all rows and of the room.
-use Rattle.std.proofs.Common.{◌≡◌, ℕ, zero, suc, ◌++◌, drop, ◌+◌, ◌≤◌, ◌<◌, length, ◌∷◌, cond, Ordering, Less, Equal, Greater, Bool, true, false, not, [], get_or, set, Option, None, is_some, Result, Ok, Err, inl, inr, ◌⊎◌, refl, sym, ap, subst, ◌∙◌, arith}
+use Rattle.std.proofs.Common.{◌≡◌, ℕ, zero, suc, ◌+◌, ◌≤◌, ◌<◌, length, ◌∷◌, cond, Ordering, Less, Equal, Greater, Bool, true, false, not, [], get_or, set, Option, None, is_some, Result, Ok, Err, inl, inr, ◌⊎◌, refl, sym, ap, subst, ◌∙◌, arith}
 use Rattle.std.specs.Result.{IfOk, OnOk, OnErr, IsOk}
 use Rattle.std.specs.Prelude.{IsTrue}
 use Rattle.std.specs.Ordering.{is_eq}

@@ -1,5 +1,5 @@
 -- Tables by name: what a search finds, and the nodes after a change of one of them.
-use Rattle.std.proofs.Common.{◌≡◌, ℕ, zero, suc, ◌≤◌, ◌<◌, Bool, true, false, cond, T, List, [], ◌∷◌, length, get_or, set, Some, Result, Ok, Err, Bor, refl, sym, ap, subst, ◌∙◌, arith}
+use Rattle.std.proofs.Common.{◌≡◌, ℕ, zero, suc, ◌≤◌, ◌<◌, Bool, false, cond, List, [], ◌∷◌, length, get_or, set, Some, Result, Ok, Err, Bor, refl, sym, ap, subst, ◌∙◌, arith}
 use Rattle.std.specs.Result.{IfOk, IfErr}
 use Rattle.std.specs.Fn.{ComputesKey}
 use denote.Param.Members.{Mut, Called}

@@ -1,5 +1,5 @@
 -- Tables by name: nodes without rows left out, nodes that are copied, and how many rows there are.
-use Rattle.std.proofs.Common.{◌≡◌, ℕ, ◌+◌, ◌-◌, ◌%◌, ◌^◌, ◌<◌, ◌≤◌, Bool, true, false, cond, not, ◌&&◌, T, List, [], ◌∷◌, ◌++◌, map, length, take, get_or, Option, Some, None, is_some, refl, sym, ap, subst, ◌∙◌, arith, nat_lt}
+use Rattle.std.proofs.Common.{◌≡◌, ℕ, ◌+◌, ◌-◌, ◌%◌, ◌^◌, ◌<◌, Bool, true, false, cond, T, [], ◌∷◌, ◌++◌, length, take, get_or, Option, Some, None, is_some, refl, sym, ap, subst, ◌∙◌, arith, nat_lt}
 use Rattle.std.proofs.lemmas.List.{take_more}
 use Rattle.std.proofs.lemmas.Bool.{lt-ltb}
 use Rattle.std.specs.Ordering.{is_lt}
@@ -8,12 +8,12 @@ use Rattle.std.specs.FinMap.Entries.{below_all, is_sorted, length-put, length_wi
 use Rattle.dnsname.specs.Names.{Labels, lower}
 use Rattle.rrset.specs.Records.{key_cmp, same_key}
 use Rattle.rrset.specs.KeyedRows.{Rows, is_rising, row_at, put_row, without_rows}
-use Rattle.rrset.specs.Tables.{TableState}
-use Rattle.nametable.specs.Nodes.{Node, Nodes, name_cmp, all_rows, IsNode, AreNodes, AreAlike, has_rows}
+use Rattle.nametable.specs.Nodes.{Node, Nodes, name_cmp, all_rows, IsNode, AreNodes, AreAlike, has_rows, names_in}
 use Rattle.rrset.specs.declared.record.Key.{Key}
 use Rattle.rrset.proofs.KeyOrder.{key_cmp_total}
 use Rattle.rrset.proofs.Places.{and_left, and_right, and_both, all_filter}
-use Rattle.nametable.proofs.RisingRows.{is_T, is_true, Rising, rising-without, same_maps, row_at-without}
+use Rattle.nametable.proofs.NameCounts.{names-same}
+use Rattle.nametable.proofs.RisingRows.{is_T, is_true, Rising}
 
 module _ {X : Type 0} where
   -- ---- nodes without rows left out
@@ -126,13 +126,20 @@ module _ {X : Type 0} where
       (subst (λ (l : Nodes X). AreAlike (copies ++ copy ∷ []) l) (ap (λ (n : Node X). take index all ++ n ∷ []) is ∙ sym (take_more all index node within))
       (alike-push copies (take index all) copy node so_far name rows))
 
-  -- what holds of nodes and their count holds without the empty ones, and of a copy
-  abbrev pub AreCounted : ℕ → Nodes X → Type 0
-  AreCounted count ns = AreNodes ns × (count ≡ length (all_rows ns) % 2 ^ 64)
+  -- what holds of nodes and their counts holds without the empty ones, and of a copy
+  abbrev pub AreCounted : ℕ → ℕ → Nodes X → Type 0
+  AreCounted count names ns = AreNodes ns × (count ≡ length (all_rows ns) % 2 ^ 64) × (names ≡ names_in ns % 2 ^ 64)
 
-  pub counted-dropped : (count : ℕ) (ns new : Nodes X) → AreCounted count ns → new ≡ filter has_rows ns → AreCounted count new
-  counted-dropped count ns new are is =
-      subst (AreCounted count) (sym is) (nodes-filter has_rows ns are.0, are.1 ∙ ap (λ (l : Rows X). length l % 2 ^ 64) (sym (all_rows-filter ns)))
+  pub counted-same : (count names : ℕ) (ns new : Nodes X) → AreCounted count names ns → AreNodes new → all_rows new ≡ all_rows ns → AreCounted count names new
+  counted-same count names ns new are will rows = (
+    will,
+    are.1 ∙ ap (λ (l : Rows X). length l % 2 ^ 64) (sym rows),
+    are.2 ∙ ap (λ (n : ℕ). n % 2 ^ 64) (names-same ns new are.0 will (sym rows)),
+  )
 
-  pub counted-copied : (count : ℕ) (ns new : Nodes X) → AreCounted count ns → AreAlike new ns → AreCounted count new
-  counted-copied count ns new are alike = (nodes-alike new ns alike are.0, are.1 ∙ ap (λ (l : Rows X). length l % 2 ^ 64) (sym (alike-all_rows new ns alike)))
+  pub counted-dropped : (count names : ℕ) (ns new : Nodes X) → AreCounted count names ns → new ≡ filter has_rows ns → AreCounted count names new
+  counted-dropped count names ns new are is =
+      subst (AreCounted count names) (sym is) (counted-same count names ns (filter has_rows ns) are (nodes-filter has_rows ns are.0) (all_rows-filter ns))
+
+  pub counted-copied : (count names : ℕ) (ns new : Nodes X) → AreCounted count names ns → AreAlike new ns → AreCounted count names new
+  counted-copied count names ns new are alike = counted-same count names ns new are (nodes-alike new ns alike are.0) (alike-all_rows new ns alike)

@@ -1,15 +1,14 @@
 -- Rows in key order, whatever they hold: what keeps them so, and that two are one where they have the same at each key.
-use Rattle.std.proofs.Common.{◌≡◌, Bool, true, false, cond, not, T, List, [], ◌∷◌, map, Option, Some, None, refl, sym, ap, subst, ◌∙◌}
-use Rattle.std.specs.Ordering.{is_lt, is_eq}
-use Rattle.std.specs.FinMap.Entries.{below_all, same_entries, is_sorted-where_key, is_sorted-put, find-where_key}
+use Rattle.std.proofs.Common.{◌≡◌, Bool, true, false, cond, not, T, None, refl, sym, ap, subst}
+use Rattle.std.specs.Ordering.{is_eq}
+use Rattle.std.specs.FinMap.Entries.{same_entries, is_sorted-where_key, is_sorted-put, find-where_key}
 use Rattle.std.specs.declared.cmp.Ordering.{Ordering}
-use Rattle.std.specs.declared.cmp.Ordering.TheVariants.{Less, Equal, Greater}
+use Rattle.std.specs.declared.cmp.Ordering.TheVariants.{Equal}
 use Rattle.std.proofs.lemmas.Cmp.{alike_right}
 use Rattle.rrset.specs.Records.{key_cmp, same_key}
 use Rattle.rrset.specs.KeyedRows.{Rows, is_rising, row_at, put_row, without_rows}
 use Rattle.rrset.specs.declared.record.Key.{Key}
 use Rattle.rrset.proofs.KeyOrder.{key_cmp_total, key_cmp-IsAntisymmetric}
-use Rattle.rrset.proofs.Places.{and_left, and_right, and_both}
 
 pub is_T : (b : Bool) → b ≡ true → T b
 is_T b e = subst T (sym e) tt

@@ -4,6 +4,7 @@
 --     all_rows      the rows of all nodes, in key order
 --     AreNodes      what such nodes are
 --     AreAlike, has_rows      nodes that are one but for their room; a node that isn't empty
+--     names_in      how many names have rows
 --     room_at, HasRoomFor keys nodes      the further keys of a name that take no memory; these keys take none
 --     keys_put, HaveRisingKeys      the keys at which changes put something; the keys of changes rise strictly
 --     keys_of      the keys of rows
@@ -85,6 +86,10 @@ module _ {X : Type 0} where
   -- a node that has rows
   abbrev pub has_rows : Node X → Bool
   has_rows node = nat_lt 0 (length node.1.rows)
+
+  -- how many names have rows
+  abbrev pub names_in : Nodes X → ℕ
+  names_in nodes = length (filter has_rows nodes)
 
   abbrev pub spare_of : Option (TableState X) → ℕ
   spare_of None = 0

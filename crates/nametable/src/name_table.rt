@@ -20,24 +20,24 @@ use std::marker::Model;
 const NAMES_PER_EMPTY: usize = 8;
 
 /// Rows, each a key and its value, in tables by name: a finite map in key order, in which a change moves nothing of
-/// other names but pointers. A name that lost its rows keeps its room until `give_back`, which counts how many names may
-/// have none.
+/// other names but pointers. A name that lost its rows keeps its room until `give_back`, which knows how many have none
+/// by a count of the names with rows.
 #[derive(Debug, Drop)]
 pub struct NameTable<V = Shown> {
     nodes: Vec<Node<V>>,
     count: usize,
-    perhaps_empty: usize,
+    names: usize,
 }
 
 impl<V> Model for NameTable<V> {
     ghost use Rattle.std.specs.Prelude.{◌≡◌, ◌%◌, ◌^◌, length};
-    ghost use Rattle.nametable.specs.Nodes.{NodesState, AreNodes, all_rows};
+    ghost use Rattle.nametable.specs.Nodes.{NodesState, AreNodes, all_rows, names_in};
 
     ghost Value = { NodesState V };
 
     ghost view = { λ t. record { rows = all_rows t.nodes.items; nodes = t.nodes.items } };
 
-    ghost invariant = { λ t. AreNodes t.nodes.items × (t.count ≡ length (all_rows t.nodes.items) % 2 ^ 64) };
+    ghost invariant = { λ t. AreNodes t.nodes.items × (t.count ≡ length (all_rows t.nodes.items) % 2 ^ 64) × (t.names ≡ names_in t.nodes.items % 2 ^ 64) };
 }
 
 /// A count of rows after a put that gave back this, modulo 2^64.
@@ -68,7 +68,7 @@ impl<V: Drop> NameTable<V> {
         NameTable {
             nodes: Vec::new(alloc),
             count: 0,
-            perhaps_empty: 0,
+            names: 0,
         }
     }
 
@@ -113,10 +113,9 @@ impl<V: Drop> NameTable<V> {
         ensures rows { self.new.rows ≡ without_rows (same_key key.now) self.old.rows }
         ensures room { (name : Labels) → room_at self.old.nodes name ≤ room_at self.new.nodes name }
     {
-        let removed = remove_in(&mut self.nodes, key);
+        let removed = remove_in(&mut self.nodes, key, &mut self.names);
         let count = count_without(self.count, &removed);
         self.count = count;
-        self.perhaps_empty = self.perhaps_empty.saturating_add(1);
         removed
     }
 
@@ -128,11 +127,7 @@ impl<V: Drop> NameTable<V> {
         ensures room { OnOk result (HasRoomFor (keys_put changed.now) self.new.nodes) }
         ensures kept { (name : Labels) → room_at self.old.nodes name ≤ room_at self.new.nodes name }
     {
-        let names = self.nodes.len();
-        let made = reserve_all(&mut self.nodes, changed);
-        let more = self.nodes.len().saturating_sub(names);
-        self.perhaps_empty = self.perhaps_empty.saturating_add(more);
-        made
+        reserve_all(&mut self.nodes, changed)
     }
 
     /// Makes room for the keys of a table, in time linear in its rows but for searches.
@@ -141,11 +136,7 @@ impl<V: Drop> NameTable<V> {
         ensures room { OnOk result (HasRoomFor (keys_of rows.now.rows) self.new.nodes) }
         ensures kept { (name : Labels) → room_at self.old.nodes name ≤ room_at self.new.nodes name }
     {
-        let names = self.nodes.len();
-        let made = reserve_rows(&mut self.nodes, rows);
-        let more = self.nodes.len().saturating_sub(names);
-        self.perhaps_empty = self.perhaps_empty.saturating_add(more);
-        made
+        reserve_rows(&mut self.nodes, rows)
     }
 
     /// Gives a key this value, and gives back the one that it had. It takes no memory where the key is there, or there
@@ -159,22 +150,22 @@ impl<V: Drop> NameTable<V> {
         ensures here { room_at self.old.nodes key.owner ≤ room_at self.new.nodes key.owner + 1 }
         ensures others { (name : Labels) → is_eq (name_cmp name key.owner) ≡ false → room_at self.old.nodes name ≤ room_at self.new.nodes name }
     {
-        let before = put_in(&mut self.nodes, key, value)?;
+        let before = put_in(&mut self.nodes, key, value, &mut self.names)?;
         let count = count_with(self.count, &before);
         self.count = count;
         Ok(before)
     }
 
-    /// Gives back the names without rows, and the room in them, where these may be more than one of eight. To be called
+    /// Gives back the names without rows, and the room in them, where these are more than one of eight. To be called
     /// where no plan is pending, since room that was made may be lost. It takes no memory.
     pub fn give_back(&mut self)
         ensures { self.new.rows ≡ self.old.rows }
     {
-        if self.perhaps_empty <= self.nodes.len() / NAMES_PER_EMPTY {
+        let empty = self.nodes.len().saturating_sub(self.names);
+        if empty <= self.nodes.len() / NAMES_PER_EMPTY {
             return;
         }
         drop_empty(&mut self.nodes);
-        self.perhaps_empty = 0;
     }
 }
 
@@ -187,7 +178,7 @@ impl<V: Copied + Drop> NameTable<V> {
         Ok(NameTable {
             nodes,
             count: self.count,
-            perhaps_empty: self.perhaps_empty,
+            names: self.names,
         })
     }
 }

@@ -1,23 +1,26 @@
 //! A name with its rows (RFC 1034, 3.1), and lists of them in the order of names.
 
-ghost use Rattle.std.specs.Prelude.{◌≡◌, ◌≤◌, ◌+◌, ◌⊎◌, [], false, IfOk, IfErr, IsOk, OnOk, OnErr, IsTrue, is_some, Some, None, MatchOption};
+ghost use Rattle.std.specs.Prelude.{◌≡◌, ◌≤◌, ◌+◌, ◌-◌, ◌%◌, ◌^◌, ◌⊎◌, [], false, cond, IfOk, IfErr, IsOk, OnOk, OnErr, IsTrue, is_some, Some, None, MatchOption};
 ghost use Rattle.std.specs.Ordering.{is_eq};
 ghost use Rattle.std.specs.List.{filter};
 ghost use Rattle.dnsname.specs.Names.{Labels, lower};
 ghost use Rattle.rrset.specs.Records.{same_key};
 ghost use Rattle.rrset.specs.KeyedRows.{put_row, without_rows, row_at};
 ghost use Rattle.rrset.specs.Tables.{HasLowerOwner};
-ghost use Rattle.nametable.specs.Nodes.{AreNodes, IsNameAt, IsNameGap, all_rows, has_rows, name_cmp, room_at, table_at};
+ghost use Rattle.nametable.specs.FirstOctets.{HasFirst};
+ghost use Rattle.nametable.specs.Nodes.{AreNodes, IsNameAt, IsNameGap, all_rows, has_rows, name_cmp, names_in, room_at, table_at};
 
-use crate::order::{compare_names, compare_with_lower_name};
+use crate::order::{compare_names, compare_with_lower_name, first_of, first_of_lower};
 use dnsname::Name;
 use rrset::{Copied, Key, NoMemory, Table};
 use std::alloc::Global;
+use std::cmp::Ordering;
 use std::marker::Model;
 
-/// A name in lower case, and its rows.
+/// A name in lower case with the number of its first octets, and its rows.
 #[derive(Debug, Drop)]
 struct Named<V> {
+    first: u64,
     owner: Name,
     table: Table<V>,
 }
@@ -29,24 +32,41 @@ pub struct Node<V> {
 }
 
 impl<V> Model for Node<V> {
+    ghost use Rattle.nametable.specs.FirstOctets.{HasFirst};
     ghost use Rattle.nametable.specs.Nodes.{Node};
 
     ghost Value = { Node V };
 
     ghost view = { λ n. (n.named.value.owner, n.named.value.table) };
+
+    ghost invariant = { λ n. HasFirst n.named.value.first n.named.value.owner };
 }
 
 impl<V: Drop> Node<V> {
+    /// A name with these rows.
+    fn with_rows(alloc: Global, owner: Name, table: Table<V>) -> Result<Node<V>, NoMemory>
+        ensures name { IfOk result (λ node. node.0 ≡ owner) }
+        ensures rows { IfOk result (λ node. node.1 ≡ table) }
+    {
+        let first = first_of(&owner);
+        let named = Named {
+            first,
+            owner,
+            table,
+        };
+        let named = Box::new(alloc, named)?;
+        Ok(Node { named })
+    }
+
     /// A name without rows, with room for so many keys.
     fn new(alloc: Global, owner: Name, keys: usize) -> Result<Node<V>, NoMemory>
         ensures name { IfOk result (λ node. node.0 ≡ owner) }
         ensures rows { IfOk result (λ node. node.1.rows ≡ []) }
         ensures room { IfOk result (λ node. keys ≤ node.1.spare) }
     {
-        let mut table = Table::new(alloc);
-        table.reserve(keys)?;
-        let named = Box::new(alloc, Named { owner, table })?;
-        Ok(Node { named })
+        let mut node = Node::with_rows(alloc, owner, Table::new(alloc))?;
+        node.reserve(keys)?;
+        Ok(node)
     }
 
     /// The name.
@@ -54,6 +74,28 @@ impl<V: Drop> Node<V> {
         ensures { result.now ≡ self.now.0 }
     {
         &self.named.owner
+    }
+
+    /// The order of its name and of one whose first octets have this number.
+    fn compare(&self, first: u64, name: &Name) -> Ordering
+        ensures { HasFirst first name.now → result ≡ name_cmp self.now.0 name.now }
+    {
+        match self.named.first.cmp(&first) {
+            Ordering::Less => Ordering::Less,
+            Ordering::Equal => compare_names(&self.named.owner, name),
+            Ordering::Greater => Ordering::Greater,
+        }
+    }
+
+    /// The order of its name and of one in lower case, whose first octets have this number there.
+    fn compare_with_lower(&self, first: u64, name: &Name) -> Ordering
+        ensures { HasFirst first (lower name.now) → result ≡ name_cmp self.now.0 (lower name.now) }
+    {
+        match self.named.first.cmp(&first) {
+            Ordering::Less => Ordering::Less,
+            Ordering::Equal => compare_with_lower_name(&self.named.owner, name),
+            Ordering::Greater => Ordering::Greater,
+        }
     }
 
     /// Its rows.
@@ -112,8 +154,7 @@ impl<V: Copied + Drop> Node<V> {
     {
         let owner = self.owner().copy()?;
         let table = self.table().copy()?;
-        let named = Box::new(alloc, Named { owner, table })?;
-        Ok(Node { named })
+        Node::with_rows(alloc, owner, table)
     }
 }
 
@@ -123,7 +164,8 @@ fn search<V: Drop>(nodes: &[Node<V>], name: &Name) -> Result<usize, usize>
     ensures found { IfOk result (IsNameAt name.now nodes.now) }
     ensures absent { IfErr result (IsNameGap name.now nodes.now) }
 {
-    nodes.binary_search_by(|node| compare_names(node.owner(), name))
+    let first = first_of(name);
+    nodes.binary_search_by(|node| node.compare(first, name))
 }
 
 /// Where a name in lower case is among nodes, or where it would go.
@@ -132,7 +174,8 @@ fn search_lower<V: Drop>(nodes: &[Node<V>], name: &Name) -> Result<usize, usize>
     ensures found { IfOk result (IsNameAt (lower name.now) nodes.now) }
     ensures absent { IfErr result (IsNameGap (lower name.now) nodes.now) }
 {
-    nodes.binary_search_by(|node| compare_with_lower_name(node.owner(), name))
+    let first = first_of_lower(name);
+    nodes.binary_search_by(|node| node.compare_with_lower(first, name))
 }
 
 /// The table of a key's owner.
@@ -157,17 +200,31 @@ pub(crate) fn table_of<'a, V: Drop>(nodes: &'a [Node<V>], name: &Name) -> Option
     }
 }
 
-/// Gives a key whose name has a node this value.
+/// How many names have rows, modulo 2^64, where so many had, and one may have got its first or lost its last.
+fn names_now(names: usize, had: bool, has: bool) -> usize
+    ensures { result ≡ cond had (cond has names ((names + (2 ^ 64 - 1)) % 2 ^ 64)) (cond has ((names + 1) % 2 ^ 64) names) }
+{
+    match (had, has) {
+        (false, true) => names.wrapping_add(1),
+        (true, false) => names.wrapping_sub(1),
+        _ => names,
+    }
+}
+
+/// Gives a key whose name has a node this value, and counts the name where it had no rows.
 fn put_at<V: Drop>(
     nodes: &mut [Node<V>],
     index: usize,
     key: Key,
     value: V,
+    names: &mut usize,
 ) -> Result<Option<V>, NoMemory>
     requires nodes { AreNodes nodes.old }
     requires lower { HasLowerOwner key }
     requires place { IsNameAt key.owner nodes.old index }
+    requires names { names.old ≡ names_in nodes.old % 2 ^ 64 }
     ensures nodes { AreNodes nodes.new }
+    ensures names { names.new ≡ names_in nodes.new % 2 ^ 64 }
     ensures value { IfOk result (λ before. before ≡ row_at key (all_rows nodes.old)) }
     ensures rows { OnOk result (all_rows nodes.new ≡ put_row key value (all_rows nodes.old)) }
     ensures none { OnErr result (all_rows nodes.new ≡ all_rows nodes.old) }
@@ -175,7 +232,11 @@ fn put_at<V: Drop>(
     ensures here { room_at nodes.old key.owner ≤ room_at nodes.new key.owner + 1 }
     ensures others { (name : Labels) → is_eq (name_cmp name key.owner) ≡ false → room_at nodes.old name ≤ room_at nodes.new name }
 {
-    nodes[index].put(key, value)
+    let had = nodes[index].has_rows();
+    let before = nodes[index].put(key, value);
+    let has = nodes[index].has_rows();
+    *names = names_now(*names, had, has);
+    before
 }
 
 /// Gives a name that has no node one without rows, with room for so many keys.
@@ -216,28 +277,45 @@ fn reserve_at<V: Drop>(
     nodes[index].reserve(keys)
 }
 
-/// Takes out a key whose name has a node.
-fn remove_at<V: Drop>(nodes: &mut [Node<V>], index: usize, key: &Key) -> Option<V>
+/// Takes out a key whose name has a node, and counts the name no longer where it has no rows then.
+fn remove_at<V: Drop>(
+    nodes: &mut [Node<V>],
+    index: usize,
+    key: &Key,
+    names: &mut usize,
+) -> Option<V>
     requires nodes { AreNodes nodes.old }
     requires place { IsNameAt key.now.owner nodes.old index }
+    requires names { names.old ≡ names_in nodes.old % 2 ^ 64 }
     ensures nodes { AreNodes nodes.new }
+    ensures names { names.new ≡ names_in nodes.new % 2 ^ 64 }
     ensures value { result ≡ row_at key.now (all_rows nodes.old) }
     ensures rows { all_rows nodes.new ≡ without_rows (same_key key.now) (all_rows nodes.old) }
     ensures room { (name : Labels) → room_at nodes.old name ≤ room_at nodes.new name }
 {
-    nodes[index].remove(key)
+    let had = nodes[index].has_rows();
+    let removed = nodes[index].remove(key);
+    let has = nodes[index].has_rows();
+    *names = names_now(*names, had, has);
+    removed
 }
 
-/// Takes a key out.
-pub(crate) fn remove_in<V: Drop>(nodes: &mut Vec<Node<V>>, key: &Key) -> Option<V>
-    requires { AreNodes nodes.old.items }
+/// Takes a key out, and counts its name no longer where it has no rows then.
+pub(crate) fn remove_in<V: Drop>(
+    nodes: &mut Vec<Node<V>>,
+    key: &Key,
+    names: &mut usize,
+) -> Option<V>
+    requires nodes { AreNodes nodes.old.items }
+    requires names { names.old ≡ names_in nodes.old.items % 2 ^ 64 }
     ensures nodes { AreNodes nodes.new.items }
+    ensures names { names.new ≡ names_in nodes.new.items % 2 ^ 64 }
     ensures value { result ≡ row_at key.now (all_rows nodes.old.items) }
     ensures rows { all_rows nodes.new.items ≡ without_rows (same_key key.now) (all_rows nodes.old.items) }
     ensures room { (name : Labels) → room_at nodes.old.items name ≤ room_at nodes.new.items name }
 {
     match search(nodes, &key.owner) {
-        Ok(index) => remove_at(nodes, index, key),
+        Ok(index) => remove_at(nodes, index, key, names),
         Err(_) => None,
     }
 }
@@ -261,15 +339,18 @@ pub(crate) fn reserve_in<V: Drop>(
     }
 }
 
-/// Gives a key this value.
+/// Gives a key this value, and counts its name where it had no rows.
 pub(crate) fn put_in<V: Drop>(
     nodes: &mut Vec<Node<V>>,
     key: Key,
     value: V,
+    names: &mut usize,
 ) -> Result<Option<V>, NoMemory>
     requires nodes { AreNodes nodes.old.items }
     requires lower { HasLowerOwner key }
+    requires names { names.old ≡ names_in nodes.old.items % 2 ^ 64 }
     ensures nodes { AreNodes nodes.new.items }
+    ensures names { names.new ≡ names_in nodes.new.items % 2 ^ 64 }
     ensures value { IfOk result (λ before. before ≡ row_at key (all_rows nodes.old.items)) }
     ensures rows { OnOk result (all_rows nodes.new.items ≡ put_row key value (all_rows nodes.old.items)) }
     ensures none { OnErr result (all_rows nodes.new.items ≡ all_rows nodes.old.items) }
@@ -278,10 +359,10 @@ pub(crate) fn put_in<V: Drop>(
     ensures others { (name : Labels) → is_eq (name_cmp name key.owner) ≡ false → room_at nodes.old.items name ≤ room_at nodes.new.items name }
 {
     match search(nodes, &key.owner) {
-        Ok(index) => put_at(nodes, index, key, value),
+        Ok(index) => put_at(nodes, index, key, value, names),
         Err(index) => {
             add_name(nodes, index, key.owner.copy()?, 1)?;
-            put_at(nodes, index, key, value)
+            put_at(nodes, index, key, value, names)
         }
     }
 }

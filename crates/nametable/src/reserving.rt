@@ -45,6 +45,28 @@ fn keys_of(changed: &[Changed], owner: &Name) -> usize
     puts_among(changes_of(changed, owner))
 }
 
+/// Makes room for the keys that changes put at the owner of one of them, where this one puts something.
+fn reserve_for_one<V: Drop>(
+    nodes: &mut Vec<Node<V>>,
+    changed: &[Changed],
+    change: &Changed,
+) -> Result<(), NoMemory>
+    requires nodes { AreNodes nodes.old.items }
+    requires lower { HasLowerOwner change.now.key }
+    requires order { HaveRisingKeys changed.now }
+    ensures nodes { AreNodes nodes.new.items }
+    ensures rows { all_rows nodes.new.items ≡ all_rows nodes.old.items }
+    ensures room { OnOk result (IsTrue (is_some change.now.after) → count_at change.now.key.owner (keys_put changed.now) ≤ room_at nodes.new.items change.now.key.owner) }
+    ensures kept { (name : Labels) → room_at nodes.old.items name ≤ room_at nodes.new.items name }
+{
+    if change.after.is_none() {
+        return Ok(());
+    }
+    let owner = &change.key.owner;
+    let keys = keys_of(changed, owner);
+    reserve_in(nodes, owner, keys)
+}
+
 /// Makes room for the keys that changes put.
 pub(crate) fn reserve_all<V: Drop>(
     nodes: &mut Vec<Node<V>>,
@@ -59,9 +81,7 @@ pub(crate) fn reserve_all<V: Drop>(
     ensures kept { (name : Labels) → room_at nodes.old.items name ≤ room_at nodes.new.items name }
 {
     'changes: for change in changed {
-        let owner = &change.key.owner;
-        let keys = keys_of(changed, owner);
-        reserve_in(nodes, owner, keys)?;
+        reserve_for_one(nodes, changed, change)?;
     }
     Ok(())
 }

@@ -58,10 +58,12 @@ abbrev pub IsFresh : {A : Type 0} → Option (List A) → Type 0
 IsFresh None = ⊤
 IsFresh (Some told) = told ≡ []
 
--- one that was just made has counted nothing
-abbrev pub IsUnused : Option ℕ → Type 0
-IsUnused None = ⊤
-IsUnused (Some count) = count ≡ 0
+-- Doors that were just made have accepted none; and where the outside tells how many the doors accepted that it took back, these
+-- tell it.
+abbrev pub IsUnused : Option (List ℕ) → Option ℕ → Type 0
+IsUnused (Some known) count = count ≡ Some 0
+IsUnused None (Some count) = count ≡ 0
+IsUnused None None = ⊤
 
 -- a count rises exactly with a fault of the object that was taken back
 pub record RaisedBy (faults before now : ℕ) : Type 0 where

@@ -6,8 +6,8 @@ use push_base::Clock;
 use std::time::{Duration, Instant};
 use std::{thread, time};
 
-/// The time between two ticks, in milliseconds.
-const TICK: u64 = 100;
+/// The time between two ticks, in milliseconds. Each makes an entry of the journal.
+const TICK: u64 = 1_000;
 
 /// The milliseconds since a start, by a clock that is never set. It doesn't tell its moments. Where the system can't
 /// read the clock, the last moment is answered again.

@@ -250,7 +250,7 @@ impl Outside for MemOutside {
 
     fn doors(&mut self, address: &str) -> Result<MemDoors<MemLine, MemSink>, OpenFault>
         ensures faults { IfOk result (λ doors. doors.calls.faults ≡ 0) }
-        ensures fresh { IfOk result (λ doors. IsUnused (Some doors.accepted)) }
+        ensures fresh { IfOk result (λ doors. IsUnused (telling_of self.old).accepted (Some doors.accepted)) }
         ensures reads { self.new.reads ≡ self.old.reads }
         ensures writes { self.new.writes ≡ self.old.writes }
         ensures others { CountsFailure self.old.others self.new.others result }

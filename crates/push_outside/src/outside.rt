@@ -72,7 +72,7 @@ pub trait Outside {
     /// Doors at an address.
     fn doors(&mut self, address: &str) -> Result<Self::Doors, OpenFault>
         ensures faults { IfOk result (λ doors. Self.Doors.faults doors ≡ 0) }
-        ensures fresh { IfOk result (λ doors. IsUnused (Self.Doors.accepted doors)) }
+        ensures fresh { IfOk result (λ doors. IsUnused (told self.old).accepted (Self.Doors.accepted doors)) }
         ensures reads { reads self.new ≡ reads self.old }
         ensures writes { writes self.new ≡ writes self.old }
         ensures others { CountsFailure (others self.old) (others self.new) result }

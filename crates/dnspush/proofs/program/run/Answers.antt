@@ -1,9 +1,11 @@
 use Rattle.std.proofs.Common.{Some, None, sym, ◌∙◌, ap}
+use Rattle.scripts.proofs.ReadAndWritten.{lost_none}
 use Rattle.dnspush.specs.Command.{asked}
 use Rattle.dnspush.proofs.Running.{usage_answered, input_answered, path_answered, number_answered}
-use Rattle.dnspush.proofs.Promises.{none_asked, number_asks_none, subscriber_asks_none, served_answered, asked_answered, pieces_answered, fed_answered, promises_kept}
+use Rattle.dnspush.proofs.Promises.{none_asked, number_asks_none, server_asks_none, subscriber_asks_none, served_answered, asked_answered, pieces_answered, fed_answered, promises_kept}
 use Rattle.dnspush.proofs.Following.{followed, not-followed, none-known}
-use Rattle.dnspush.specs.Words.{On_input, At_path, Big, Subscribe}
+use Rattle.dnspush.proofs.Serving.{serves_so, not-served, none-known as none-known-served}
+use Rattle.dnspush.specs.Words.{On_input, At_path, Big, Serve, Subscribe}
 use Rattle.dnspush.proofs.program.run.Goals as goal
 
 pub returns-in-None-clause-replied : goal.returns-in-None-clause-replied
@@ -166,3 +168,67 @@ pub returns-in-Some-Big-clause-followed : goal.returns-in-Some-Big-clause-follow
 returns-in-Some-Big-clause-followed g c = λ octets.
     let is = ap (λ x. Some (asked x)) (sym c.in-Some-Big.field-0-is) ∙ c.in-Some-Big.ensures in
     not-followed _ (Some (Big c.in-Some-Big.number)) _ _ _ octets is tt
+
+pub returns-in-Some-Serve-clause-replied : goal.returns-in-Some-Serve-clause-replied
+returns-in-Some-Serve-clause-replied g c = λ octets may.
+    let is = ap (λ x. Some (asked x)) (sym c.in-Some-Serve.field-0-is) ∙ c.in-Some-Serve.ensures in
+    absurd (none-known-served _ c.in-Some-Serve.path.now _ _ _ octets is may)
+
+pub returns-in-Some-Serve-clause-served : goal.returns-in-Some-Serve-clause-served
+returns-in-Some-Serve-clause-served g c = λ octets asks h may.
+    let is = ap (λ x. Some (asked x)) (sym c.in-Some-Serve.field-0-is) ∙ c.in-Some-Serve.ensures in
+    absurd (server_asks_none _ c.in-Some-Serve.path.now is h.0)
+
+pub returns-in-Some-Serve-clause-asked : goal.returns-in-Some-Serve-clause-asked
+returns-in-Some-Serve-clause-asked g c = λ octets asked_line asks.
+    let is = ap (λ x. Some (asked x)) (sym c.in-Some-Serve.field-0-is) ∙ c.in-Some-Serve.ensures in
+    absurd (server_asks_none _ c.in-Some-Serve.path.now is asks.0)
+
+pub returns-in-Some-Serve-clause-pieces : goal.returns-in-Some-Serve-clause-pieces
+returns-in-Some-Serve-clause-pieces g c = λ octets sent h.
+    let is = ap (λ x. Some (asked x)) (sym c.in-Some-Serve.field-0-is) ∙ c.in-Some-Serve.ensures in
+    absurd (server_asks_none _ c.in-Some-Serve.path.now is h.0)
+
+pub returns-in-Some-Serve-clause-fed : goal.returns-in-Some-Serve-clause-fed
+returns-in-Some-Serve-clause-fed g c = λ octets fed h may.
+    let is = ap (λ x. Some (asked x)) (sym c.in-Some-Serve.field-0-is) ∙ c.in-Some-Serve.ensures in
+    absurd (server_asks_none _ c.in-Some-Serve.path.now is h.0)
+
+pub returns-in-Some-Serve-clause-promises : goal.returns-in-Some-Serve-clause-promises
+returns-in-Some-Serve-clause-promises g c = λ octets script asks. promises_kept c.scripts_keep_promises.ensures.promises _ octets script asks
+
+pub returns-in-Some-Serve-clause-followed : goal.returns-in-Some-Serve-clause-followed
+returns-in-Some-Serve-clause-followed g c = λ octets.
+    let is = ap (λ x. Some (asked x)) (sym c.in-Some-Serve.field-0-is) ∙ c.in-Some-Serve.ensures in
+    not-followed _ (Some (Serve c.in-Some-Serve.path.now)) _ _ _ octets is tt
+
+pub returns-in-Some-Serve-clause-serves : goal.returns-in-Some-Serve-clause-serves
+returns-in-Some-Serve-clause-serves g c = λ octets.
+    let is = ap (λ x. Some (asked x)) (sym c.in-Some-Serve.field-0-is) ∙ c.in-Some-Serve.ensures in
+    serves_so _ c.in-Some-Serve.path.now _ _ _ _ octets is c.code-in-Some-Serve.ensures (c.serve_at.ensures.served octets)
+
+pub returns-in-None-clause-serves : goal.returns-in-None-clause-serves
+returns-in-None-clause-serves g c = λ octets. not-served _ None _ _ _ octets c.in-None.ensures tt
+
+pub returns-in-Some-OnInput-clause-serves : goal.returns-in-Some-OnInput-clause-serves
+returns-in-Some-OnInput-clause-serves g c = λ octets.
+    let is = ap (λ x. Some (asked x)) (sym c.in-Some-OnInput.field-0-is) ∙ c.in-Some-OnInput.ensures in
+    not-served _ (Some (On_input c.in-Some-OnInput.task)) _ _ _ octets is tt
+
+pub returns-in-Some-AtPath-clause-serves : goal.returns-in-Some-AtPath-clause-serves
+returns-in-Some-AtPath-clause-serves g c = λ octets.
+    let is = ap (λ x. Some (asked x)) (sym c.in-Some-AtPath.field-0-is) ∙ c.in-Some-AtPath.ensures in
+    not-served _ (Some (At_path c.in-Some-AtPath.task c.in-Some-AtPath.path.now)) _ _ _ octets is tt
+
+pub returns-in-Some-Big-clause-serves : goal.returns-in-Some-Big-clause-serves
+returns-in-Some-Big-clause-serves g c = λ octets.
+    let is = ap (λ x. Some (asked x)) (sym c.in-Some-Big.field-0-is) ∙ c.in-Some-Big.ensures in
+    not-served _ (Some (Big c.in-Some-Big.number)) _ _ _ octets is tt
+
+pub returns-in-Some-Subscribe-clause-serves : goal.returns-in-Some-Subscribe-clause-serves
+returns-in-Some-Subscribe-clause-serves g c = λ octets.
+    let is = ap (λ x. Some (asked x)) (sym c.in-Some-Subscribe.field-0-is) ∙ c.in-Some-Subscribe.ensures in
+    not-served _ (Some (Subscribe c.in-Some-Subscribe.path.now)) _ _ _ octets is tt
+
+pub returns-in-Some-Big-clause-most : goal.returns-in-Some-Big-clause-most
+returns-in-Some-Big-clause-most g c = lost_none _ _

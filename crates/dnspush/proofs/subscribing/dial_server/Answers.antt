@@ -1,16 +1,6 @@
-use Rattle.std.proofs.Common.{◌≡◌, Ok, Err, refl, sym, ◌∙◌, ap, subst}
-use Rattle.push_outside.specs.declared.outside.OpenFault.{OpenFault}
-use Rattle.push_outside.specs.Opening.{CountsFailure, TellsWords}
+use Rattle.std.proofs.Common.{ap}
 use Rattle.push_outside.specs.Outside.{Telling}
-use Rattle.replay.specs.declared.outcome.Outcome.{Outcome}
-use Rattle.replay.specs.declared.outcome.Outcome.TheVariants as outcomes
-use Rattle.replay.specs.Outcomes.{status_of}
-use Rattle.dnspush.specs.Status.{code_of}
-use Rattle.dnspush.specs.Subscribing.{Unreached, Starved}
-use Rattle.dnspush.specs.declared.status.Status.{Status}
-use Rattle.dnspush.specs.declared.status.Status.TheVariants as statuses
-use Rattle.dnspush.proofs.Running.{failed_open}
-use Rattle.dnspush.proofs.Following.{connected, unconnected, unreached, undialled}
+use Rattle.dnspush.proofs.Following.{connected, unreached, undialled}
 use Rattle.dnspush.proofs.subscribing.dial_server.Goals as goal
 
 pub returns-in-Ok-clause-followed : goal.returns-in-Ok-clause-followed

@@ -1,10 +1,7 @@
-use Rattle.std.proofs.Common.{Err, refl, sym, ◌∙◌, ap, subst, List, ℕ}
-use Rattle.configurations.specs.Configurations.{subscribing_of}
-use Rattle.push_outside.specs.Outside.{Telling, Used}
+use Rattle.std.proofs.Common.{Err, ◌∙◌, ap, subst}
+use Rattle.push_outside.specs.Outside.{Telling}
 use Rattle.scripts.specs.declared.read.ReadError.{ReadError}
 use Rattle.dnspush.specs.Runs.{MayHaveGiven}
-use Rattle.dnspush.specs.Status.{code_of}
-use Rattle.dnspush.specs.Subscribing.{Follows}
 use Rattle.dnspush.proofs.Following.{follows-read, starved, not-read}
 use Rattle.dnspush.proofs.subscribing.subscribe_at.Goals as goal
 

@@ -1,14 +1,15 @@
 use Rattle.std.proofs.Common.{get_or, set}
+use Rattle.nametable.proofs.NameCounts.{count-set}
 use Rattle.nametable.proofs.NodePlaces.{found_at}
 use Rattle.nametable.proofs.NodeChanges.{TakesKey, takes_key}
 use Rattle.nametable.proofs.node.put_at.Goals as goal
 
-takes : (g : _) (c : goal.After-put g) → TakesKey c.args.key c.args.value c.args.nodes.now (set c.args.nodes.now c.args.index c.put.new.self) c.put.result
+takes : (g : _) (c : goal.After-names_now g) → TakesKey c.args.key c.args.value c.args.nodes.now (set c.args.nodes.now c.args.index c.put-before.new.self) c.put-before.result
 takes g c =
     let nodes = c.args.nodes.now in
-    takes_key c.args.key c.args.value nodes c.args.index (get_or nodes c.args.index c.index-nodes-index.result) c.put.new.self c.requires.nodes
-    (found_at c.args.key.owner nodes c.args.index c.index-nodes-index.result c.requires.nodes c.requires.place)
-    c.put.ensures.name c.put.result c.put.ensures.rows c.put.ensures.none c.put.ensures.value c.put.ensures.succeeds c.put.ensures.room
+    takes_key c.args.key c.args.value nodes c.args.index (get_or nodes c.args.index c.index-nodes-index-2.result) c.put-before.new.self c.requires.nodes
+    (found_at c.args.key.owner nodes c.args.index c.index-nodes-index-2.result c.requires.nodes c.requires.place)
+    c.put-before.ensures.name c.put-before.result c.put-before.ensures.rows c.put-before.ensures.none c.put-before.ensures.value c.put-before.ensures.succeeds c.put-before.ensures.room
 
 pub returns-clause-nodes : goal.returns-clause-nodes
 returns-clause-nodes g c = (takes g c).are
@@ -30,3 +31,8 @@ returns-clause-here g c = (takes g c).here
 
 pub returns-clause-others : goal.returns-clause-others
 returns-clause-others g c = (takes g c).others
+
+pub returns-clause-names : goal.returns-clause-names
+returns-clause-names g c =
+    count-set c.args.names.now c.names_now.result c.has_rows-had.result c.has_rows-has.result c.args.nodes.now c.args.index c.index-nodes-index.result c.index-nodes-index-3.result c.put-before.new.self
+    c.requires.place.within c.requires.names c.has_rows-had.ensures c.has_rows-has.ensures c.names_now.ensures

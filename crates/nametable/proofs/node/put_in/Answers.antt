@@ -1,9 +1,10 @@
-use Rattle.std.proofs.Common.{◌≡◌, ◌≤◌, ◌∙◌, ap, sym, subst, is_some, ◌⊎◌}
+use Rattle.std.proofs.Common.{ℕ, ◌%◌, ◌^◌, ◌≡◌, ◌≤◌, ◌∙◌, ap, sym, subst, is_some, ◌⊎◌}
 use Rattle.std.proofs.lemmas.List.{with_items_is}
 use Rattle.std.specs.Prelude.{IsTrue}
 use Rattle.std.specs.Result.{IfOk, IsOk, OnOk}
 use Rattle.rrset.specs.KeyedRows.{Rows, put_row, row_at}
-use Rattle.nametable.specs.Nodes.{Nodes, IsNameGap, all_rows, room_at}
+use Rattle.nametable.specs.Nodes.{Nodes, IsNameGap, all_rows, names_in, room_at}
+use Rattle.nametable.proofs.NameCounts.{names-same}
 use Rattle.nametable.proofs.NodeChanges.{no_room}
 use Rattle.nametable.proofs.node.put_in.Goals as goal
 
@@ -32,3 +33,13 @@ returns-in-Ok-clause-rows g c =
     let later = with_items_is c.args.nodes.now c.put_at.new.nodes (c.put_at.auto.nodes ∙ c.deref_mut.ensures.len) in
     subst (λ (l : Nodes _). OnOk c.put_at.result (all_rows l ≡ put_row c.args.key c.args.value (all_rows c.args.nodes.now.items))) (sym later)
     (subst (λ (l : Nodes _). OnOk c.put_at.result (all_rows c.put_at.new.nodes ≡ put_row c.args.key c.args.value (all_rows l))) c.deref_mut.ensures.value c.put_at.ensures.rows)
+
+pub returns-in_err-add_name-in-Err-clause-names : goal.returns-in_err-add_name-in-Err-clause-names
+returns-in_err-add_name-in-Err-clause-names g c =
+    c.requires.names ∙ ap (λ (n : ℕ). n % 2 ^ 64) (names-same c.args.nodes.now.items c.add_name.new.nodes.items c.requires.nodes c.in_err-add_name-in-Err.ensures.nodes (sym c.in_err-add_name-in-Err.ensures.rows))
+
+pub put_at-requires-in-Err-clause-names : goal.put_at-requires-in-Err-clause-names
+put_at-requires-in-Err-clause-names g c =
+    c.requires.names
+    ∙ ap (λ (n : ℕ). n % 2 ^ 64) (names-same c.args.nodes.now.items c.add_name.new.nodes.items c.requires.nodes c.in_ok-add_name-in-Err.ensures.nodes (sym c.in_ok-add_name-in-Err.ensures.rows))
+    ∙ ap (λ (ns : Nodes _). names_in ns % 2 ^ 64) (sym c.deref_mut-in-Err.ensures.value)

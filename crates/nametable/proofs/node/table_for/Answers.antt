@@ -1,5 +1,4 @@
 use Rattle.std.proofs.Common.{◌∙◌, sym, ap, Some}
-use Rattle.dnsname.specs.Names.{Labels}
 use Rattle.rrset.specs.Tables.{TableState}
 use Rattle.nametable.specs.Nodes.{Node}
 use Rattle.nametable.proofs.NodePlaces.{found_at, name_gone}

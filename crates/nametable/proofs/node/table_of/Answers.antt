@@ -1,5 +1,5 @@
 use Rattle.std.proofs.Common.{◌∙◌, sym, ap, Some}
-use Rattle.dnsname.specs.Names.{Labels, lower}
+use Rattle.dnsname.specs.Names.{lower}
 use Rattle.rrset.specs.Tables.{TableState}
 use Rattle.nametable.specs.Nodes.{Node}
 use Rattle.nametable.proofs.NodePlaces.{found_at, name_gone}

@@ -1,6 +1,6 @@
-use Rattle.std.proofs.Common.{◌≡◌, ◌∙◌, sym, ap, subst, take, arith, ◌++◌, ◌∷◌, []}
-use Rattle.std.proofs.lemmas.List.{take_all, take_more}
-use Rattle.nametable.specs.Nodes.{Node, Nodes, AreAlike}
+use Rattle.std.proofs.Common.{◌∙◌, subst}
+use Rattle.std.proofs.lemmas.List.{take_all}
+use Rattle.nametable.specs.Nodes.{Nodes, AreAlike}
 use Rattle.nametable.proofs.NodeSets.{alike-next}
 use Rattle.nametable.proofs.reserving.copied_nodes.Goals as goal
 

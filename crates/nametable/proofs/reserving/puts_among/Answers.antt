@@ -1,4 +1,4 @@
-use Rattle.std.proofs.Common.{◌∙◌, sym, ap, arith, is_some}
+use Rattle.std.proofs.Common.{◌∙◌, sym, ap, arith}
 use Rattle.std.proofs.lemmas.List.{take_all}
 use Rattle.nametable.proofs.PlanRuns.{puts_among, puts-more}
 use Rattle.nametable.proofs.reserving.puts_among.Goals.{then-is_some, else-is_some}

@@ -1,6 +1,6 @@
 use Rattle.std.proofs.Common.{◌≡◌, ◌∙◌, sym, ap, subst, Option, Some, None}
 use Rattle.std.specs.Option.{MatchOption}
-use Rattle.rrset.specs.KeyedRows.{Rows, row_at}
+use Rattle.rrset.specs.KeyedRows.{row_at}
 use Rattle.nametable.specs.Nodes.{Nodes, NodesState, table_at}
 use Rattle.nametable.proofs.AllRows.{row_at-all_rows, value_in}
 use Rattle.nametable.proofs.name_table.NameTable.get.Goals as goal

@@ -9,6 +9,7 @@ pub invariant_of-self : goal.invariant_of-self
 invariant_of-self g c = (
   c.put_in.ensures.nodes,
   c.self.invariant.1 ∙ ap (λ (l : Rows _). length l % 2 ^ 64) (sym c.in_err-before.ensures.none),
+  c.put_in.ensures.names,
 )
 
 pub invariant_of-self-2 : goal.invariant_of-self-2
@@ -16,4 +17,5 @@ invariant_of-self-2 g c = (
   c.put_in.ensures.nodes,
   count-put c.self.inside.count c.count_with-count.result c.args.key c.args.value (all_rows c.self.inside.nodes.items) (all_rows c.put_in.new.nodes.items) c.in_ok-before.before
       (rising-all_rows c.self.inside.nodes.items c.self.invariant.0) c.self.invariant.1 c.in_ok-before.ensures.value c.in_ok-before.ensures.rows c.count_with-count.ensures,
+  c.put_in.ensures.names,
 )

@@ -8,4 +8,5 @@ invariant_of-self g c = (
   c.remove_in-removed.ensures.nodes,
   count-without c.self.inside.count c.count_without-count.result c.args.key.now (all_rows c.self.inside.nodes.items) (all_rows c.remove_in-removed.new.nodes.items) c.remove_in-removed.result
       (rising-all_rows c.self.inside.nodes.items c.self.invariant.0) c.self.invariant.1 c.remove_in-removed.ensures.value c.remove_in-removed.ensures.rows c.count_without-count.ensures,
+  c.remove_in-removed.ensures.names,
 )

@@ -1,9 +1,6 @@
-use Rattle.std.proofs.Common.{◌%◌, ◌^◌, ◌∙◌, ap, sym, length}
-use Rattle.rrset.specs.KeyedRows.{Rows}
+use Rattle.nametable.proofs.NodeSets.{counted-same}
 use Rattle.nametable.proofs.name_table.NameTable.reserve_for_rows.Goals as goal
 
 pub invariant_of-self : goal.invariant_of-self
-invariant_of-self g c = (
-  c.reserve_rows-made.ensures.nodes,
-  c.self.invariant.1 ∙ ap (λ (l : Rows _). length l % 2 ^ 64) (sym c.reserve_rows-made.ensures.rows),
-)
+invariant_of-self g c =
+    counted-same c.self.inside.count c.self.inside.names c.self.inside.nodes.items c.reserve_rows.new.nodes.items c.self.invariant c.reserve_rows.ensures.nodes c.reserve_rows.ensures.rows

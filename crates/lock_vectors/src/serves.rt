@@ -1,0 +1,339 @@
+//! Whole servers, whose jobs run in threads.
+
+ghost use Rattle.std.specs.Prelude.{◌≡◌, []};
+ghost use Rattle.pushserver.specs.PlainHubs.{Hub as Plain};
+ghost use Rattle.pushserver.specs.KeptHubs.{StandsFor};
+
+use crate::hubs::{SUBSCRIBE, SUBSCRIBED, example_hub};
+use crate::loops::{Drip, host};
+use crate::rows::are_octets;
+use crate::threads::{Apart, List, Listed};
+use crate::watched::{Hearings, Porter, Still, Until, Watch};
+use history::entry::Totals;
+use push_base::{Clock, Datagrams, Doors, Line, Sink, hex_octets, hex_text};
+use serving::{Fed, ServeEnd, Served, Setup, serve};
+use std::alloc::Global;
+use std::sync::{Arc, Mutex, Wait};
+use std::test::Fail;
+use std::thread::Threads;
+
+/// The turns of each loop.
+const TURNS: u64 = 1_000_000;
+
+/// The octets that a line gives at once.
+const PIECE: usize = 3;
+
+/// Sessions that are served.
+struct Case {
+    /// How many.
+    sessions: u16,
+    /// Whether the ID of a request is the number of its session, counted from 1. Else it is 1.
+    numbered: bool,
+    /// What each line waits for.
+    line: Until,
+    /// What the wire of the first session waits for.
+    first_wire: Until,
+    /// What the doors wait for before the last session.
+    last_session: Until,
+    /// Whether the link hears `HOST`.
+    hears: bool,
+    /// What the clock gives.
+    moment: u64,
+    /// The entries that are made.
+    counts: Totals,
+}
+
+/// No entries.
+const NOTHING: Totals = Totals {
+    changes: 0,
+    heard: 0,
+    moments: 0,
+};
+
+/// One session.
+const ONE: Case = Case {
+    sessions: 1,
+    numbered: false,
+    line: Until::Now,
+    first_wire: Until::Now,
+    last_session: Until::Now,
+    hears: false,
+    moment: 0,
+    counts: NOTHING,
+};
+
+/// Two sessions. The wire of the first is held until that of the second took all of its 115 octets, so it is not written
+/// under the lock, nor by the thread that serves the second.
+const TWO: Case = Case {
+    sessions: 2,
+    numbered: false,
+    line: Until::Now,
+    first_wire: Until::Written(115),
+    last_session: Until::Now,
+    hears: false,
+    moment: 0,
+    counts: NOTHING,
+};
+
+/// One session, which is quiet while the link is heard and time passes.
+const HEARING: Case = Case {
+    sessions: 1,
+    numbered: false,
+    line: Until::HeardAndAsked,
+    first_wire: Until::Now,
+    last_session: Until::Now,
+    hears: true,
+    moment: 1,
+    counts: Totals {
+        changes: 0,
+        heard: 1,
+        moments: 1,
+    },
+};
+
+/// One session more than there are seats. It comes once the wires of all others were dropped, so a seat is given again.
+const ONE_MORE: Case = Case {
+    sessions: 65,
+    numbered: true,
+    line: Until::Now,
+    first_wire: Until::Now,
+    last_session: Until::Dropped(64),
+    hears: false,
+    moment: 0,
+    counts: NOTHING,
+};
+
+impl Case {
+    /// The ID of the request of a session.
+    fn id(&self, place: u16) -> u16 {
+        if self.numbered {
+            place.saturating_add(1)
+        } else {
+            1
+        }
+    }
+
+    /// What the wire of a session waits for.
+    fn wire(&self, place: u16) -> Until {
+        if place == 0 {
+            self.first_wire
+        } else {
+            Until::Now
+        }
+    }
+}
+
+/// Puts an ID into a message behind its length.
+fn set_id(octets: &mut [u8], id: u16) {
+    if 4 <= octets.len() {
+        octets[2..4].copy_from_slice(&id.to_be_bytes());
+    }
+}
+
+/// The octets of a message behind its length, with another ID.
+fn with_id(alloc: Global, text: &str, id: u16) -> Result<Vec<u8>, Fail> {
+    let mut octets = Vec::new(alloc);
+    octets.extend_from_slice(hex_octets(alloc, text)?.as_slice())?;
+    set_id(octets.as_mut_slice(), id);
+    Ok(octets)
+}
+
+/// The line of a session is to come.
+fn add_line<R: Wait + Copy>(
+    alloc: Global,
+    doors: &mut Porter<R>,
+    case: &Case,
+    place: u16,
+) -> Result<(), Fail> {
+    let octets = with_id(alloc, SUBSCRIBE, case.id(place))?;
+    doors.add_line(Drip::new(octets, PIECE), case.line)?;
+    Ok(())
+}
+
+/// The wire of a session is to come. Its octets go to a list behind others.
+fn add_wire<R: Wait + Copy>(
+    rt: R,
+    alloc: Global,
+    doors: &mut Porter<R>,
+    case: &Case,
+    place: u16,
+    lists: &mut Vec<List>,
+) -> Result<(), Fail> {
+    let list = Arc::new(alloc, Mutex::new(Vec::new(alloc)))?;
+    lists.push(Arc::try_clone(&list)?)?;
+    doors.add_wire(Listed::new(rt, list), case.wire(place))?;
+    Ok(())
+}
+
+/// All sessions are to come.
+fn add_sessions<R: Wait + Copy>(
+    rt: R,
+    alloc: Global,
+    doors: &mut Porter<R>,
+    case: &Case,
+    lists: &mut Vec<List>,
+) -> Result<(), Fail> {
+    'sessions: for place in 0..case.sessions {
+        add_line(alloc, doors, case, place)?;
+        add_wire(rt, alloc, doors, case, place, lists)?;
+    }
+    Ok(())
+}
+
+/// The link is fed, if it is.
+fn add_hearings<R: Wait + Copy>(
+    alloc: Global,
+    links: &mut Vec<Fed<Hearings<R>>>,
+    watch: &Watch<R>,
+    case: &Case,
+) -> Result<(), Fail> {
+    if case.hears {
+        let watch = watch.again()?;
+        let datagrams = Hearings {
+            watch,
+            datagrams: host(alloc)?,
+        };
+        links.push(Fed { link: 0, datagrams })?;
+    }
+    Ok(())
+}
+
+/// Serves the sessions of doors. Gives how the server ends.
+fn end_of<
+    R: Threads + Wait + Copy + Send + 'static,
+    L: Line + Drop + Send + 'static,
+    K: Sink + Drop + Send + 'static,
+    D: Doors<Line = L, Out = K>,
+    G: Datagrams + Drop + Send + 'static,
+    T: Clock + Drop + Send + 'static,
+>(rt: R, alloc: Global, doors: &mut D, setup: Setup<G, T>) -> ServeEnd
+    requires hub { (setup.hub.history ≡ []) × (setup.hub.numbers_given ≡ 0) }
+    requires stands { (plain : Plain) × StandsFor setup.hub plain }
+{
+    let Served { end, links: _ } = serve(rt, alloc, &mut Apart { faults: 0 }, doors, setup);
+    end
+}
+
+/// The same over the hub of one zone and one link.
+fn end_over_hub<
+    R: Threads + Wait + Copy + Send + 'static,
+    L: Line + Drop + Send + 'static,
+    K: Sink + Drop + Send + 'static,
+    D: Doors<Line = L, Out = K>,
+    G: Datagrams + Drop + Send + 'static,
+    T: Clock + Drop + Send + 'static,
+>(
+    rt: R,
+    alloc: Global,
+    doors: &mut D,
+    links: Vec<Fed<G>>,
+    clock: T,
+    sessions: u16,
+) -> Result<ServeEnd, Fail> {
+    let hub = example_hub(alloc)?;
+    let setup = Setup {
+        hub,
+        links,
+        clock,
+        sessions: u64::from(sessions),
+        turns: TURNS,
+    };
+    Ok(end_of::<R, L, K, D, G, T>(rt, alloc, doors, setup))
+}
+
+/// Fails where not all sessions were served, or other entries were made.
+fn is_served(end: ServeEnd, counts: Totals) -> Result<(), Fail> {
+    if end == ServeEnd::Served(counts) {
+        return Ok(());
+    }
+    Err(Fail::new(format_args!("{end:?}")))
+}
+
+/// Fails where a session got something else than its answer.
+fn is_answered<R: Wait>(
+    rt: &R,
+    alloc: Global,
+    case: &Case,
+    place: u16,
+    list: &List,
+) -> Result<(), Fail> {
+    let octets = with_id(alloc, SUBSCRIBED, case.id(place))?;
+    let wanted = hex_text(alloc, octets.as_slice())?;
+    are_octets(
+        alloc,
+        usize::from(place),
+        list.lock(rt).as_slice(),
+        wanted.as_str(),
+    )
+}
+
+/// Fails where any of the sessions did.
+fn are_answered<R: Wait>(rt: &R, alloc: Global, case: &Case, lists: &[List]) -> Result<(), Fail> {
+    'sessions: for (place, list) in (0..case.sessions).zip(lists) {
+        is_answered(rt, alloc, case, place, list)?;
+    }
+    Ok(())
+}
+
+/// Fails where a server ends otherwise.
+fn ends_so<R: Threads + Wait + Copy + Send + 'static>(
+    rt: R,
+    alloc: Global,
+    watch: &Watch<R>,
+    case: &Case,
+    doors: &mut Porter<R>,
+) -> Result<(), Fail> {
+    let clock = Still {
+        watch: watch.again()?,
+        moment: case.moment,
+    };
+    let mut links = Vec::new(alloc);
+    add_hearings(alloc, &mut links, watch, case)?;
+    let end = end_over_hub(rt, alloc, doors, links, clock, case.sessions)?;
+    is_served(end, case.counts)
+}
+
+/// Fails where sessions aren't served so by these doors.
+fn are_served_by<R: Threads + Wait + Copy + Send + 'static>(
+    rt: R,
+    alloc: Global,
+    watch: &Watch<R>,
+    case: &Case,
+    doors: &mut Porter<R>,
+    lists: &mut Vec<List>,
+) -> Result<(), Fail> {
+    add_sessions(rt, alloc, doors, case, lists)?;
+    ends_so(rt, alloc, watch, case, doors)?;
+    are_answered(&rt, alloc, case, lists.as_slice())
+}
+
+/// Fails where sessions aren't served so.
+fn are_served<R: Threads + Wait + Copy + Send + 'static>(
+    rt: R,
+    alloc: Global,
+    case: &Case,
+) -> Result<(), Fail> {
+    let watch = Watch::new(rt, alloc)?;
+    let mut doors = Porter::new(alloc, watch.again()?, case.last_session);
+    are_served_by(rt, alloc, &watch, case, &mut doors, &mut Vec::new(alloc))
+}
+
+#[test]
+fn a_session_is_served(rt: HostRuntime) -> Result<(), Fail> {
+    are_served(rt, rt.alloc(), &ONE)
+}
+
+#[test]
+fn a_held_wire_holds_no_other_session(rt: HostRuntime) -> Result<(), Fail> {
+    are_served(rt, rt.alloc(), &TWO)
+}
+
+#[test]
+fn a_link_is_heard_beside_a_session(rt: HostRuntime) -> Result<(), Fail> {
+    are_served(rt, rt.alloc(), &HEARING)
+}
+
+#[test]
+fn a_freed_seat_is_given_again(rt: HostRuntime) -> Result<(), Fail> {
+    are_served(rt, rt.alloc(), &ONE_MORE)
+}

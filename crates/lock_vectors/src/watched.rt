@@ -1,0 +1,309 @@
+//! An outside that tells what it did, and waits for what was done elsewhere.
+
+ghost use Rattle.std.specs.Prelude.{None};
+
+use crate::loops::Drip;
+use crate::threads::Listed;
+use push_base::{Clock, Datagrams, Doors, Failed, Got, Line, MemDatagrams, NoMemory, Sink};
+use std::alloc::Global;
+use std::collections::VecDeque;
+use std::sync::{Arc, Condvar, Mutex, Wait};
+
+/// What is done.
+#[derive(Clone, Copy)]
+enum Event {
+    /// A wire took so many octets.
+    Written(usize),
+    /// A wire was dropped.
+    Dropped,
+    /// Datagrams told their end.
+    Heard,
+    /// A clock was asked.
+    Asked,
+}
+
+/// What is waited for.
+#[derive(Clone, Copy)]
+pub(crate) enum Until {
+    /// Nothing.
+    Now,
+    /// Wires took so many octets, together.
+    Written(usize),
+    /// So many wires were dropped.
+    Dropped(u64),
+    /// Datagrams told their end, and the clock was asked twice.
+    HeardAndAsked,
+}
+
+/// What was done so far.
+#[derive(Clone, Copy)]
+struct Done {
+    written: usize,
+    dropped: u64,
+    heard: bool,
+    asked: u64,
+}
+
+impl Done {
+    /// Counts what is done.
+    fn add(&mut self, event: Event) {
+        match event {
+            Event::Written(count) => self.written = self.written.saturating_add(count),
+            Event::Dropped => self.dropped = self.dropped.saturating_add(1),
+            Event::Heard => self.heard = true,
+            Event::Asked => self.asked = self.asked.saturating_add(1),
+        }
+    }
+
+    /// Whether what is waited for was done.
+    fn has(&self, until: Until) -> bool {
+        match until {
+            Until::Now => true,
+            Until::Written(count) => count <= self.written,
+            Until::Dropped(count) => count <= self.dropped,
+            Until::HeardAndAsked => self.heard && 2 <= self.asked,
+        }
+    }
+}
+
+/// What was done so far, behind a lock.
+#[derive(Drop)]
+struct Board {
+    done: Mutex<Done>,
+    changed: Condvar,
+}
+
+/// One hold of it.
+#[derive(Drop)]
+pub(crate) struct Watch<R: Wait + Copy> {
+    rt: R,
+    board: Arc<Board>,
+}
+
+impl<R: Wait + Copy> Watch<R> {
+    /// Nothing was done so far.
+    pub(crate) fn new(rt: R, alloc: Global) -> Result<Watch<R>, NoMemory> {
+        let done = Done {
+            written: 0,
+            dropped: 0,
+            heard: false,
+            asked: 0,
+        };
+        let board = Board {
+            done: Mutex::new(done),
+            changed: Condvar::new(),
+        };
+        Ok(Watch {
+            rt,
+            board: Arc::new(alloc, board)?,
+        })
+    }
+
+    /// Another hold.
+    pub(crate) fn again(&self) -> Result<Watch<R>, NoMemory> {
+        Ok(Watch {
+            rt: self.rt,
+            board: Arc::try_clone(&self.board)?,
+        })
+    }
+
+    /// Tells what is done.
+    fn tell(&self, event: Event) {
+        self.board.done.lock(&self.rt).add(event);
+        self.board.changed.notify_all();
+    }
+
+    /// Waits for what is done elsewhere.
+    fn wait(&self, until: Until) {
+        let done = self.board.done.lock(&self.rt);
+        let _done = self
+            .board
+            .changed
+            .wait_while(&self.rt, done, |done| !done.has(until));
+    }
+}
+
+/// A line that is quiet until something was done elsewhere, and then gives its octets.
+#[derive(Drop)]
+pub(crate) struct Late<R: Wait + Copy> {
+    watch: Watch<R>,
+    until: Until,
+    drip: Drip,
+}
+
+impl<R: Wait + Copy> Line for Late<R> {
+    ghost given = { λ _. None };
+
+    ghost left = { λ _. None };
+
+    ghost reads = { λ _. None };
+
+    ghost calls = { λ _. None };
+
+    ghost faults = { λ _. 0 };
+
+    fn recv(&mut self, buf: &mut [u8]) -> Result<Got, Failed> {
+        match self.until {
+            Until::Now => self.drip.recv(buf),
+            until => {
+                self.watch.wait(until);
+                self.until = Until::Now;
+                Ok(Got::Quiet)
+            }
+        }
+    }
+}
+
+/// A wire that takes nothing until something was done elsewhere. It tells what it takes, and that it is dropped.
+pub(crate) struct Held<R: Wait + Copy> {
+    watch: Watch<R>,
+    until: Until,
+    wire: Listed<R>,
+}
+
+impl<R: Wait + Copy> Sink for Held<R> {
+    ghost taken = { λ _. None };
+
+    ghost calls = { λ _. None };
+
+    ghost faults = { λ s. s.wire.faults };
+
+    fn write(&mut self, piece: &[u8]) -> Result<usize, Failed> {
+        self.watch.wait(self.until);
+        let count = self.wire.write(piece)?;
+        self.watch.tell(Event::Written(count));
+        Ok(count)
+    }
+}
+
+impl<R: Wait + Copy> Drop for Held<R> {
+    fn drop(self) {
+        let Held {
+            watch,
+            until: _,
+            wire: _,
+        } = self;
+        watch.tell(Event::Dropped);
+    }
+}
+
+/// Datagrams that tell their end.
+#[derive(Drop)]
+pub(crate) struct Hearings<R: Wait + Copy> {
+    pub(crate) watch: Watch<R>,
+    pub(crate) datagrams: MemDatagrams,
+}
+
+impl<R: Wait + Copy> Datagrams for Hearings<R> {
+    ghost given = { λ _. None };
+
+    ghost left = { λ _. None };
+
+    ghost calls = { λ _. None };
+
+    ghost faults = { λ d. d.datagrams.calls.faults };
+
+    fn recv(&mut self, buf: &mut [u8]) -> Result<Got, Failed> {
+        let got = self.datagrams.recv(buf)?;
+        if got == Got::End {
+            self.watch.tell(Event::Heard);
+        }
+        Ok(got)
+    }
+}
+
+/// A clock that stands still, and tells that it was asked.
+#[derive(Drop)]
+pub(crate) struct Still<R: Wait + Copy> {
+    pub(crate) watch: Watch<R>,
+    pub(crate) moment: u64,
+}
+
+impl<R: Wait + Copy> Clock for Still<R> {
+    ghost moments = { λ _. None };
+
+    ghost calls = { λ _. None };
+
+    ghost faults = { λ _. 0 };
+
+    fn now(&mut self) -> u64 {
+        self.watch.tell(Event::Asked);
+        self.moment
+    }
+
+    fn tick(&mut self) -> u64 {
+        self.now()
+    }
+}
+
+/// Doors that hold the last of their sessions back until something was done elsewhere.
+#[derive(Drop)]
+pub(crate) struct Porter<R: Wait + Copy> {
+    watch: Watch<R>,
+    until: Until,
+    lines: VecDeque<Late<R>>,
+    wires: VecDeque<Held<R>>,
+    faults: u64,
+}
+
+impl<R: Wait + Copy> Porter<R> {
+    /// There are no sessions so far.
+    pub(crate) fn new(alloc: Global, watch: Watch<R>, until: Until) -> Porter<R> {
+        Porter {
+            watch,
+            until,
+            lines: VecDeque::new(alloc),
+            wires: VecDeque::new(alloc),
+            faults: 0,
+        }
+    }
+
+    /// A line is to come behind others.
+    pub(crate) fn add_line(&mut self, drip: Drip, until: Until) -> Result<(), NoMemory> {
+        let watch = self.watch.again()?;
+        self.lines.push_back(Late { watch, until, drip })?;
+        Ok(())
+    }
+
+    /// A wire is to come behind others.
+    pub(crate) fn add_wire(&mut self, wire: Listed<R>, until: Until) -> Result<(), NoMemory> {
+        let watch = self.watch.again()?;
+        self.wires.push_back(Held { watch, until, wire })?;
+        Ok(())
+    }
+}
+
+/// The first of two lists, where there is one of each.
+fn first_of_each<L: Drop, K: Drop>(
+    lines: &mut VecDeque<L>,
+    wires: &mut VecDeque<K>,
+) -> Option<(L, K)> {
+    let line = lines.pop_front()?;
+    let wire = wires.pop_front()?;
+    Some((line, wire))
+}
+
+impl<R: Wait + Copy> Doors for Porter<R> {
+    type Line = Late<R>;
+
+    type Out = Held<R>;
+
+    ghost accepted = { λ _. None };
+
+    ghost calls = { λ _. None };
+
+    ghost faults = { λ s. s.faults };
+
+    fn accept(&mut self) -> Result<(Late<R>, Held<R>), Failed> {
+        if self.lines.len() == 1 {
+            self.watch.wait(self.until);
+        }
+        match first_of_each(&mut self.lines, &mut self.wires) {
+            Some(session) => Ok(session),
+            None => {
+                self.faults = self.faults.saturating_add(1);
+                Err(Failed)
+            }
+        }
+    }
+}

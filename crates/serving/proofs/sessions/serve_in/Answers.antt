@@ -1,0 +1,38 @@
+use Rattle.std.proofs.Common.{◌≡◌, ℕ, Bool, inl, List, sym, ap, subst}
+use Rattle.std.specs.Prelude.{is_ok}
+use Rattle.serving.specs.Jobs.{jobs_of}
+use Rattle.serving.specs.Servers.{ServerState}
+use Rattle.serving.specs.Serving.{Accepts, Returns, Starts, numbers_of}
+use Rattle.serving.proofs.Finishing.{by_end, counts_from}
+use Rattle.serving.proofs.Handing.{front_none, starts_less}
+use Rattle.serving.proofs.Opening.{accepts_less, accepts_not}
+use Rattle.serving.proofs.sessions.serve_in.Goals as goal
+
+pub returns-in-Err-clause-started : goal.returns-in-Err-clause-started
+returns-in-Err-clause-started g c = front_none (jobs_of c.args.setup.turns (numbers_of c.args.setup.links.items) c.args.setup.sessions) (g.A.Starter.started c.args.starter.now)
+
+pub returns-clause-started : goal.returns-clause-started
+returns-clause-started g c =
+    let turns : c.new-server.result.turns ≡ c.args.setup.turns = ap (λ (s : ServerState). s.turns) c.new-server.ensures in
+    by_end (λ (t : Bool). Starts t c.args.setup.turns (numbers_of c.args.setup.links.items) c.args.setup.sessions (g.A.Starter.started c.args.starter.now) (g.A.Starter.started c.open-opened.new.starter))
+    (starts_less c.args.setup.turns (numbers_of c.args.setup.links.items) c.args.setup.sessions (g.A.Starter.started c.args.starter.now) (g.A.Starter.started c.open-opened.new.starter))
+    c.open-opened.result c.close.result.end c.close.ensures.end
+    (subst (λ (n : ℕ). Starts (is_ok c.open-opened.result) n (numbers_of c.args.setup.links.items) c.args.setup.sessions (g.A.Starter.started c.args.starter.now) (g.A.Starter.started c.open-opened.new.starter)) turns c.open-opened.ensures.started)
+
+pub returns-clause-accepted : goal.returns-clause-accepted
+returns-clause-accepted g c =
+    by_end (λ (t : Bool). Accepts t c.args.setup.sessions (g.D.Doors.accepted c.args.doors.now) (g.D.Doors.accepted c.open-opened.new.doors))
+    (accepts_less c.args.setup.sessions (g.D.Doors.accepted c.args.doors.now) (g.D.Doors.accepted c.open-opened.new.doors))
+    c.open-opened.result c.close.result.end c.close.ensures.end c.open-opened.ensures.accepted
+
+pub returns-clause-outside : goal.returns-clause-outside
+returns-clause-outside g c = λ is. counts_from c.open-opened.ensures.cause (c.close.ensures.outside is)
+
+pub returns-clause-links : goal.returns-clause-links
+returns-clause-links g c =
+    by_end (λ (t : Bool). Returns t (numbers_of c.args.setup.links.items) (numbers_of c.close.result.links.items)) (λ is. inl is)
+    c.open-opened.result c.close.result.end c.close.ensures.end
+    (subst (λ (ns : List ℕ). Returns (is_ok c.open-opened.result) (numbers_of c.args.setup.links.items) ns) (sym c.close.ensures.links) c.open-opened.ensures.links)
+
+pub returns-in-Err-clause-accepted : goal.returns-in-Err-clause-accepted
+returns-in-Err-clause-accepted g c = accepts_not c.args.setup.sessions (g.D.Doors.accepted c.args.doors.now)

@@ -1,0 +1,110 @@
+//! The job of a link, which gives its datagrams back.
+
+ghost use Rattle.std.specs.Prelude.{◌≡◌, true};
+ghost use Rattle.push_base.specs.declared.role.Role.TheVariants as roles;
+ghost use Rattle.hublock.specs.Feeds.{each};
+ghost use Rattle.hublock.specs.Jobs.{role_in};
+ghost use Rattle.serving.specs.Ends.{tells_fault};
+
+use hublock::{Feed, Job, JobEnd, LoopEnd, Shared};
+use push_base::{Clock, Datagrams, Line, Role, Sink, Task};
+use std::alloc::Global;
+use std::sync::Wait;
+use std::sync::ledger::Ledger;
+
+/// What a link's job answers: how its loop ended, its feed of one part of each ledger, and the datagrams, whose count of
+/// faults is above 0 after `LinkFault`.
+#[derive(Drop)]
+pub(crate) struct LinkEnd<G: Datagrams + Drop, C: Ledger, H: Ledger, M: Ledger> {
+    pub(crate) end: LoopEnd,
+    pub(crate) feed: Feed<C, H, M>,
+    pub(crate) datagrams: G,
+    pub(crate) ghost one: { feed.parts ≡ each 1 },
+    pub(crate) ghost failed: { tells_fault end (G.faults datagrams) ≡ true },
+}
+
+/// A job that hears the datagrams of a link.
+#[derive(Drop)]
+pub(crate) struct LinkJob<
+    R: Wait + Copy,
+    L: Line + Drop,
+    K: Sink + Drop,
+    G: Datagrams + Drop,
+    T: Clock + Drop,
+    C: Ledger,
+    H: Ledger,
+    M: Ledger,
+    S: Ledger,
+> {
+    link: usize,
+    job: Job<R, L, K, G, T, C, H, M, S>,
+    ghost hears: { role_in job.work ≡ roles.Link link },
+}
+
+impl<
+    R: Wait + Copy,
+    L: Line + Drop,
+    K: Sink + Drop,
+    G: Datagrams + Drop,
+    T: Clock + Drop,
+    C: Ledger,
+    H: Ledger,
+    M: Ledger,
+    S: Ledger,
+> LinkJob<R, L, K, G, T, C, H, M, S> {
+    /// Hears the datagrams of a link.
+    pub(crate) fn new(
+        alloc: Global,
+        shared: Shared<R, C, H, M, S>,
+        link: usize,
+        datagrams: G,
+        turns: u64,
+    ) -> Self
+        requires { shared.role ≡ roles.Link link }
+        ensures { (role_in result.job.work ≡ roles.Link link) × (result.job.turns ≡ turns) }
+    {
+        LinkJob {
+            link,
+            job: Job::link(alloc, shared, link, datagrams, turns),
+        }
+    }
+}
+
+impl<
+    R: Wait + Copy,
+    L: Line + Drop,
+    K: Sink + Drop,
+    G: Datagrams + Drop + Send + 'static,
+    T: Clock + Drop,
+    C: Ledger + Send + 'static,
+    H: Ledger + Send + 'static,
+    M: Ledger + Send + 'static,
+    S: Ledger,
+> Task for LinkJob<R, L, K, G, T, C, H, M, S> {
+    type Out = LinkEnd<G, C, H, M>;
+
+    ghost role_of = { λ j. role_in j.job.work };
+
+    ghost turns_of = { λ j. j.job.turns };
+
+    fn role(&self) -> Role {
+        self.job.role()
+    }
+
+    fn turns(&self) -> u64 {
+        self.job.turns()
+    }
+
+    fn run(self) -> LinkEnd<G, C, H, M> {
+        let LinkJob { link: _, job } = self;
+        let JobEnd { end, feed, links } = job.run();
+        match links {
+            Some(datagrams) => LinkEnd {
+                end,
+                feed,
+                datagrams,
+            },
+            None => unreachable!(),
+        }
+    }
+}

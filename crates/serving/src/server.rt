@@ -1,0 +1,390 @@
+//! The jobs of a server, as they are started.
+
+ghost use Rattle.std.specs.Prelude.{◌≡◌, ◌⊎◌, ◌<◌, ◌≤◌, ◌+◌, ◌*◌, ◌∷◌, ◌++◌, [], drop, length, vec_len, vec_capacity, IfOk, OnOk, OnErr, IsErrOf, is_ok};
+ghost use Rattle.push_base.specs.Causes.{Rose};
+ghost use Rattle.push_base.specs.declared.role.Role.TheVariants as roles;
+ghost use Rattle.hublock.specs.Feeds.{all_parts, each, parts_each, whole_seats};
+ghost use Rattle.hublock.specs.Jobs.{role_in};
+ghost use Rattle.serving.specs.Jobs.{HandsOver, link_jobs, pair_of};
+ghost use Rattle.serving.specs.Servers.{IsWhole, SeatsAll, SeatsOne, StartsFirst, new_server, with_job, with_jobs, with_part_less};
+ghost use Rattle.serving.specs.Serving.{Accepts, Returns, Starts, numbers_of};
+
+use crate::Fed;
+use crate::ends::Fault;
+use crate::link_job::LinkJob;
+use hublock::{Feed, HubLock, Job, Seats, Shared};
+use push_base::{
+    Clock, Datagrams, Doors, Line, NoMemory, Pending, Role, Sink, StartFault, Starter, Task, start,
+};
+use pushserver::ConnectFault;
+use std::alloc::Global;
+use std::marker::Model;
+use std::sync::Wait;
+use std::sync::ledger::Ledger;
+use std::thread::Threads;
+
+/// How many parts a ledger has: one for each job, and one for the server.
+const PARTS: u64 = 4_194_304;
+
+/// The job of a link that was started.
+#[derive(Drop)]
+pub(crate) struct Hearing<
+    R: Wait + Copy + 'static,
+    L: Line + Drop + 'static,
+    K: Sink + Drop + 'static,
+    G: Datagrams + Drop + Send + 'static,
+    T: Clock + Drop + 'static,
+    C: Ledger + Send + 'static,
+    H: Ledger + Send + 'static,
+    M: Ledger + Send + 'static,
+    S: Ledger + 'static,
+> {
+    pub(crate) link: usize,
+    pub(crate) job: Pending<LinkJob<R, L, K, G, T, C, H, M, S>>,
+}
+
+/// The jobs that were started, and what is left for those that are still to be: a feed, the seats, the lock and the turns.
+#[derive(Drop)]
+pub(crate) struct Server<
+    R: Wait + Copy + 'static,
+    L: Line + Drop + 'static,
+    K: Sink + Drop + 'static,
+    G: Datagrams + Drop + Send + 'static,
+    T: Clock + Drop + 'static,
+    C: Ledger + Send + 'static,
+    H: Ledger + Send + 'static,
+    M: Ledger + Send + 'static,
+    S: Ledger + 'static,
+> {
+    pub(crate) rt: R,
+    alloc: Global,
+    pub(crate) lock: HubLock<C, H, M, S>,
+    pub(crate) feed: Feed<C, H, M>,
+    seats: Seats<S>,
+    pub(crate) hearings: Vec<Hearing<R, L, K, G, T, C, H, M, S>>,
+    pub(crate) jobs: Vec<Pending<Job<R, L, K, G, T, C, H, M, S>>>,
+    turns: u64,
+    left: u64,
+}
+
+impl<
+    R: Wait + Copy + 'static,
+    L: Line + Drop + 'static,
+    K: Sink + Drop + 'static,
+    G: Datagrams + Drop + Send + 'static,
+    T: Clock + Drop + 'static,
+    C: Ledger + Send + 'static,
+    H: Ledger + Send + 'static,
+    M: Ledger + Send + 'static,
+    S: Ledger + 'static,
+> Model for Server<R, L, K, G, T, C, H, M, S> {
+    ghost use Rattle.std.specs.Prelude.{◌≡◌, ◌≤◌, map, vec_len};
+    ghost use Rattle.hublock.specs.Feeds.{each};
+    ghost use Rattle.serving.specs.Servers.{ServerState};
+
+    ghost Value = { ServerState };
+
+    ghost view = { λ s. record { parts = s.feed.parts.changes; made = s.seats.made; links = map (λ h. h.link) s.hearings.items; jobs = vec_len s.jobs; turns = s.turns } };
+
+    ghost invariant = { λ s. (s.feed.parts ≡ each s.feed.parts.changes) × (s.seats.parts ≡ S.parts) × (s.left ≤ s.feed.parts.changes) };
+}
+
+/// Hands a job to the starter. One that couldn't be started is dropped.
+fn hand<R: Threads + Wait + Copy + Send + 'static, A: Starter, J: Task + Send + 'static>(
+    rt: R,
+    alloc: Global,
+    starter: &mut A,
+    job: J,
+) -> Result<Pending<J>, Fault>
+    ensures started { HandsOver ((J.role_of job, J.turns_of job) ∷ []) (A.started starter.old) (A.started starter.new) result }
+    ensures later { A.faults starter.old ≤ A.faults starter.new }
+    ensures cause { IsErrOf result Fault.Outside → Rose (A.faults starter.old) (A.faults starter.new) }
+{
+    match start(rt, alloc, starter, job) {
+        Ok(pending) => Ok(pending),
+        Err(StartFault::Failed(_)) => Err(Fault::Outside),
+        Err(StartFault::NoMemory(_)) => Err(Fault::NoMemory),
+    }
+}
+
+/// The number of the first of these links.
+fn first_link<G>(links: &[Fed<G>]) -> usize
+    requires { 0 < length links.now }
+    ensures { numbers_of links.now ≡ result ∷ numbers_of (drop 1 links.now) }
+{
+    match links.split_first() {
+        Some((first, _)) => first.link,
+        None => unreachable!(),
+    }
+}
+
+impl<
+    R: Threads + Wait + Copy + Send + 'static,
+    L: Line + Drop + Send + 'static,
+    K: Sink + Drop + Send + 'static,
+    G: Datagrams + Drop + Send + 'static,
+    T: Clock + Drop + Send + 'static,
+    C: Ledger + Send + Sync + 'static,
+    H: Ledger + Send + Sync + 'static,
+    M: Ledger + Send + Sync + 'static,
+    S: Ledger + Send + Sync + 'static,
+> Server<R, L, K, G, T, C, H, M, S> {
+    /// A server that has started no job.
+    pub(crate) fn new(
+        rt: R,
+        alloc: Global,
+        lock: HubLock<C, H, M, S>,
+        feed: Feed<C, H, M>,
+        seats: Seats<S>,
+        turns: u64,
+    ) -> Self
+        requires feed { feed ≡ all_parts }
+        requires seats { seats ≡ whole_seats }
+        requires all { S.parts ≡ parts_each }
+        ensures { result ≡ new_server turns }
+    {
+        Server {
+            rt,
+            alloc,
+            lock,
+            feed,
+            seats,
+            hearings: Vec::new(alloc),
+            jobs: Vec::new(alloc),
+            turns,
+            left: PARTS,
+        }
+    }
+
+    /// A hold of the hub for one job, while the feed has a part for it. Where it has none left, there is no room for the job.
+    fn hold(&mut self, role: Role) -> Result<Shared<R, C, H, M, S>, NoMemory>
+        ensures role { IfOk result (λ shared. shared.role ≡ role) }
+        ensures state { OnOk result (self.new ≡ with_part_less self.old) }
+        ensures enough { OnOk result (2 ≤ self.old.parts) }
+        ensures links { self.new.links ≡ self.old.links }
+    {
+        if self.left < 2 {
+            return Err(NoMemory);
+        }
+        self.left -= 1;
+        let shared = Shared::new(self.rt, &self.lock, self.feed.split(), role)?;
+        Ok(shared)
+    }
+
+    /// Starts a job of a session, or the clock's.
+    fn start<A: Starter>(
+        &mut self,
+        starter: &mut A,
+        job: Job<R, L, K, G, T, C, H, M, S>,
+    ) -> Result<(), Fault>
+        ensures started { HandsOver ((role_in job.work, job.turns) ∷ []) (A.started starter.old) (A.started starter.new) result }
+        ensures ok { OnOk result (self.new ≡ with_job self.old) }
+        ensures err { OnErr result (self.new ≡ self.old) }
+        ensures links { self.new.links ≡ self.old.links }
+        ensures later { A.faults starter.old ≤ A.faults starter.new }
+        ensures cause { IsErrOf result Fault.Outside → Rose (A.faults starter.old) (A.faults starter.new) }
+    {
+        self.jobs.reserve(1)?;
+        let job = hand(self.rt, self.alloc, starter, job)?;
+        self.jobs.push_reserved(job);
+        Ok(())
+    }
+
+    /// Starts the job of the first of these links.
+    fn start_link<A: Starter>(
+        &mut self,
+        starter: &mut A,
+        links: &mut Vec<Fed<G>>,
+    ) -> Result<(), Fault>
+        requires some { 0 < vec_len links.old }
+        ensures started { StartsFirst (numbers_of links.old.items) (numbers_of links.new.items) (A.started starter.old) (A.started starter.new) self.old self.new result }
+        ensures len { OnOk result (vec_len links.new + 1 ≡ vec_len links.old) }
+        ensures fewer { vec_len links.new ≤ vec_len links.old }
+        ensures room { vec_capacity links.new ≡ vec_capacity links.old }
+        ensures later { A.faults starter.old ≤ A.faults starter.new }
+        ensures cause { IsErrOf result Fault.Outside → Rose (A.faults starter.old) (A.faults starter.new) }
+    {
+        let link = first_link(links.as_slice());
+        let shared = self.hold(Role::Link(link))?;
+        self.hearings.reserve(1)?;
+        let Fed { link: _, datagrams } = links.remove(0);
+        let job = LinkJob::new(self.alloc, shared, link, datagrams, self.turns);
+        let job = hand(self.rt, self.alloc, starter, job)?;
+        self.hearings.push_reserved(Hearing { link, job });
+        Ok(())
+    }
+
+    /// Starts the jobs of all links, in order.
+    fn start_links<A: Starter>(
+        &mut self,
+        starter: &mut A,
+        links: &mut Vec<Fed<G>>,
+    ) -> Result<(), Fault>
+        requires new { self.old ≡ new_server self.old.turns }
+        ensures started { HandsOver (link_jobs self.old.turns (numbers_of links.old.items)) (A.started starter.old) (A.started starter.new) result }
+        ensures ok { OnOk result ((IsWhole self.new) × (self.new.made ≡ 0) × (self.new.jobs ≡ 0) × (self.new.turns ≡ self.old.turns)) }
+        ensures count { OnOk result (length self.new.links ≤ vec_len links.old) }
+        ensures links { Returns (is_ok result) (numbers_of links.old.items) (self.new.links ++ numbers_of links.new.items) }
+        ensures room { vec_len links.new + length self.new.links ≤ vec_capacity links.new }
+        ensures later { A.faults starter.old ≤ A.faults starter.new }
+        ensures cause { IsErrOf result Fault.Outside → Rose (A.faults starter.old) (A.faults starter.new) }
+    {
+        'links: while !links.is_empty() {
+            self.start_link(starter, links)?;
+        }
+        Ok(())
+    }
+
+    /// Starts the clock's job.
+    fn start_clock<A: Starter>(&mut self, starter: &mut A, clock: T) -> Result<(), Fault>
+        ensures started { HandsOver ((roles.Clock, self.old.turns) ∷ []) (A.started starter.old) (A.started starter.new) result }
+        ensures ok { OnOk result (self.new ≡ with_jobs 1 self.old) }
+        ensures enough { OnOk result (2 ≤ self.old.parts) }
+        ensures links { self.new.links ≡ self.old.links }
+        ensures later { A.faults starter.old ≤ A.faults starter.new }
+        ensures cause { IsErrOf result Fault.Outside → Rose (A.faults starter.old) (A.faults starter.new) }
+    {
+        let shared = self.hold(Role::Clock)?;
+        let job = Job::clock(self.alloc, shared, clock, self.turns);
+        self.start(starter, job)
+    }
+
+    /// Starts the job that reads a session's line.
+    fn start_reader<A: Starter>(
+        &mut self,
+        starter: &mut A,
+        session: u64,
+        line: L,
+    ) -> Result<(), Fault>
+        ensures started { HandsOver ((roles.Reader session, self.old.turns) ∷ []) (A.started starter.old) (A.started starter.new) result }
+        ensures ok { OnOk result (self.new ≡ with_jobs 1 self.old) }
+        ensures enough { OnOk result (2 ≤ self.old.parts) }
+        ensures links { self.new.links ≡ self.old.links }
+        ensures later { A.faults starter.old ≤ A.faults starter.new }
+        ensures cause { IsErrOf result Fault.Outside → Rose (A.faults starter.old) (A.faults starter.new) }
+    {
+        let shared = self.hold(Role::Reader(session))?;
+        let job = Job::reader(self.alloc, shared, session, line, self.turns);
+        self.start(starter, job)
+    }
+
+    /// Starts the job that writes to a session's wire.
+    fn start_writer<A: Starter>(
+        &mut self,
+        starter: &mut A,
+        session: u64,
+        wire: K,
+    ) -> Result<(), Fault>
+        ensures started { HandsOver ((roles.Writer session, self.old.turns) ∷ []) (A.started starter.old) (A.started starter.new) result }
+        ensures ok { OnOk result (self.new ≡ with_jobs 1 self.old) }
+        ensures enough { OnOk result (2 ≤ self.old.parts) }
+        ensures links { self.new.links ≡ self.old.links }
+        ensures later { A.faults starter.old ≤ A.faults starter.new }
+        ensures cause { IsErrOf result Fault.Outside → Rose (A.faults starter.old) (A.faults starter.new) }
+    {
+        let shared = self.hold(Role::Writer(session))?;
+        let job = Job::writer(self.alloc, shared, session, wire, self.turns);
+        self.start(starter, job)
+    }
+
+    /// Starts the jobs of a session.
+    fn start_session<A: Starter>(
+        &mut self,
+        starter: &mut A,
+        session: u64,
+        line: L,
+        wire: K,
+    ) -> Result<(), Fault>
+        ensures started { HandsOver (pair_of self.old.turns session) (A.started starter.old) (A.started starter.new) result }
+        ensures ok { OnOk result (self.new ≡ with_jobs 2 self.old) }
+        ensures enough { OnOk result (3 ≤ self.old.parts) }
+        ensures links { self.new.links ≡ self.old.links }
+        ensures later { A.faults starter.old ≤ A.faults starter.new }
+        ensures cause { IsErrOf result Fault.Outside → Rose (A.faults starter.old) (A.faults starter.new) }
+    {
+        self.start_reader(starter, session, line)?;
+        self.start_writer(starter, session, wire)
+    }
+
+    /// A session takes a seat, and its jobs are started. One that gets none counts as ended at once.
+    fn seat<A: Starter>(&mut self, starter: &mut A, line: L, wire: K) -> Result<(), Fault>
+        ensures started { SeatsOne (A.started starter.old) (A.started starter.new) self.old self.new result }
+        ensures links { self.new.links ≡ self.old.links }
+        ensures later { A.faults starter.old ≤ A.faults starter.new }
+        ensures cause { IsErrOf result Fault.Outside → Rose (A.faults starter.old) (A.faults starter.new) }
+    {
+        match self.lock.connect(&self.rt, &mut self.seats) {
+            Ok(session) => self.start_session(starter, session, line, wire),
+            Err(ConnectFault::NoSeat) => {
+                drop(line);
+                drop(wire);
+                self.lock.session_over(&self.rt);
+                Ok(())
+            }
+            Err(ConnectFault::NoMemory) => Err(Fault::NoMemory),
+        }
+    }
+
+    /// Accepts one session.
+    fn open_session<A: Starter, D: Doors<Line = L, Out = K>>(
+        &mut self,
+        starter: &mut A,
+        doors: &mut D,
+    ) -> Result<(), Fault>
+        ensures started { SeatsOne (A.started starter.old) (A.started starter.new) self.old self.new result }
+        ensures accepted { Accepts (is_ok result) 1 (D.accepted doors.old) (D.accepted doors.new) }
+        ensures links { self.new.links ≡ self.old.links }
+        ensures later { (A.faults starter.old ≤ A.faults starter.new) × (D.faults doors.old ≤ D.faults doors.new) }
+        ensures cause { IsErrOf result Fault.Outside → Rose (A.faults starter.old) (A.faults starter.new) ⊎ Rose (D.faults doors.old) (D.faults doors.new) }
+    {
+        let Ok((line, wire)) = doors.accept() else {
+            return Err(Fault::Outside);
+        };
+        self.seat(starter, line, wire)
+    }
+
+    /// Accepts so many sessions.
+    fn open_sessions<A: Starter, D: Doors<Line = L, Out = K>>(
+        &mut self,
+        starter: &mut A,
+        doors: &mut D,
+        sessions: u64,
+    ) -> Result<(), Fault>
+        requires made { self.old.made ≡ 0 }
+        requires whole { IsWhole self.old }
+        ensures started { SeatsAll self.old.turns sessions (A.started starter.old) (A.started starter.new) result }
+        ensures accepted { Accepts (is_ok result) sessions (D.accepted doors.old) (D.accepted doors.new) }
+        ensures whole { OnOk result (IsWhole self.new) }
+        ensures links { self.new.links ≡ self.old.links }
+        ensures later { (A.faults starter.old ≤ A.faults starter.new) × (D.faults doors.old ≤ D.faults doors.new) }
+        ensures cause { IsErrOf result Fault.Outside → Rose (A.faults starter.old) (A.faults starter.new) ⊎ Rose (D.faults doors.old) (D.faults doors.new) }
+    {
+        'sessions: for session in 0..sessions {
+            self.open_session(starter, doors)?;
+        }
+        Ok(())
+    }
+
+    /// Starts all jobs: those of the links, the clock's, and those of so many sessions that are accepted. Where that fails,
+    /// the server is to be given up.
+    pub(crate) fn open<A: Starter, D: Doors<Line = L, Out = K>>(
+        &mut self,
+        starter: &mut A,
+        doors: &mut D,
+        links: &mut Vec<Fed<G>>,
+        clock: T,
+        sessions: u64,
+    ) -> Result<(), Fault>
+        requires new { self.old ≡ new_server self.old.turns }
+        ensures started { Starts (is_ok result) self.old.turns (numbers_of links.old.items) sessions (A.started starter.old) (A.started starter.new) }
+        ensures accepted { Accepts (is_ok result) sessions (D.accepted doors.old) (D.accepted doors.new) }
+        ensures whole { OnOk result (IsWhole self.new) }
+        ensures links { Returns (is_ok result) (numbers_of links.old.items) (self.new.links ++ numbers_of links.new.items) }
+        ensures room { vec_len links.new + length self.new.links ≤ vec_capacity links.new }
+        ensures cause { IsErrOf result Fault.Outside → Rose (A.faults starter.old) (A.faults starter.new) ⊎ Rose (D.faults doors.old) (D.faults doors.new) }
+    {
+        self.start_links(starter, links)?;
+        self.start_clock(starter, clock)?;
+        self.open_sessions(starter, doors, sessions)
+    }
+}
