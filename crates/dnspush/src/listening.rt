@@ -4,6 +4,7 @@ ghost use Rattle.std.specs.Prelude.{◌≡◌, ◌++◌, ◌∷◌, ◌⊎◌, �
 ghost use Rattle.push_base.specs.Causes.{Rose};
 ghost use Rattle.push_outside.specs.Outside.{Adds, IsUnused};
 ghost use Rattle.pushserver.specs.PlainHubs.{Hub as Plain};
+ghost use Rattle.hublock.specs.Feeds.{parts_each};
 ghost use Rattle.pushserver.specs.KeptHubs.{StandsFor};
 ghost use Rattle.scripts.specs.Lines.{Word};
 ghost use Rattle.scripts.specs.Sources.{front_read};
@@ -21,6 +22,7 @@ use crate::configured::{read_path, tell_line};
 use crate::status::{OUTSIDE_FAULT, Status, tell_status};
 use configurations::{FedLink, ReadServe, ServeConfiguration, read_serve};
 use history::entry::Totals;
+use hublock::Blanks;
 use push_base::{NoMemory, Sink};
 use push_outside::{OpenFault, Outside};
 use pushserver::Hub;
@@ -28,7 +30,9 @@ use replay::{NO_MEMORY, Outcome, READ_FAULT, tell};
 use scripts::ReadError;
 use serving::{Fed, ServeEnd, Served, Setup, serve};
 use std::alloc::Global;
+use std::marker::Brand;
 use std::sync::Wait;
+use std::sync::ledger::Ledger;
 use std::thread::Threads;
 
 /// What is written where the journal is full.
@@ -245,22 +249,40 @@ fn serve_doors<R: Threads + Wait + Copy + Send + 'static, O: Outside>(
                 sessions,
                 turns,
             };
-            serve_setup(rt, alloc, setup, doors, outside)
+            serve_setup::<R, O, Brand, Brand, Brand, Brand>(
+                rt,
+                alloc,
+                setup,
+                Blanks::new(),
+                doors,
+                outside,
+            )
         }
         Err(fault) => end_of(fault),
     }
 }
 
 // Serves with all that is needed for it.
-fn serve_setup<R: Threads + Wait + Copy + Send + 'static, O: Outside>(
+fn serve_setup<
+    R: Threads + Wait + Copy + Send + 'static,
+    O: Outside,
+    C: Ledger + Send + Sync + 'static,
+    H: Ledger + Send + Sync + 'static,
+    M: Ledger + Send + Sync + 'static,
+    S: Ledger + Send + Sync + 'static,
+>(
     rt: R,
     alloc: Global,
     setup: Setup<O::Links, O::Clock>,
+    blanks: Blanks,
     doors: &mut O::Doors,
     outside: &mut O,
 ) -> ServeEnd
     requires hub { (setup.hub.history ≡ []) × (setup.hub.numbers_given ≡ 0) }
     requires stands { (plain : Plain) × StandsFor setup.hub plain }
+    requires names { (blanks.changes.name ≡ C.name) × (blanks.heard.name ≡ H.name) × (blanks.moments.name ≡ M.name) × (blanks.made.name ≡ S.name) }
+    requires parts { (blanks.changes.parts ≡ C.parts) × (blanks.heard.parts ≡ H.parts) × (blanks.moments.parts ≡ M.parts) × (blanks.made.parts ≡ S.parts) }
+    requires all { (C.parts ≡ parts_each) × (H.parts ≡ parts_each) × (M.parts ≡ parts_each) × (S.parts ≡ parts_each) }
     ensures accepted { Accepts (is_full_run result) setup.sessions (O.Doors.accepted doors.old) (O.Doors.accepted doors.new) }
     ensures started { StartsBy (is_full_run result) setup.turns (numbers_of setup.links.items) setup.sessions (O.told outside.old).started (O.told outside.new).started }
     ensures cause { result ≡ ends.OutsideFault → Rose (O.Doors.faults doors.old) (O.Doors.faults doors.new) ⊎ Rose (O.others outside.old) (O.others outside.new) }
@@ -269,7 +291,7 @@ fn serve_setup<R: Threads + Wait + Copy + Send + 'static, O: Outside>(
     ensures told { O.told outside.new ≡ record (O.told outside.old) { started = (O.told outside.new).started } }
 {
     let mut starter = outside.starter();
-    let Served { end, links } = serve::<
+    let Served { end, links, .. } = serve::<
         R,
         O::Starter,
         O::Line,
@@ -277,7 +299,11 @@ fn serve_setup<R: Threads + Wait + Copy + Send + 'static, O: Outside>(
         O::Doors,
         O::Links,
         O::Clock,
-    >(rt, alloc, &mut starter, doors, setup);
+        C,
+        H,
+        M,
+        S,
+    >(rt, alloc, &mut starter, doors, setup, blanks);
     outside.back_starter(starter);
     give_back(links, outside);
     end

@@ -48,28 +48,27 @@ impl<C: Ledger, H: Ledger, M: Ledger> Feed<C, H, M> {
         }
     }
 
+    /// What was accepted through another counts as accepted through this one.
+    pub fn take_in(&mut self, other: Feed<C, H, M>)
+        ensures { self.new ≡ joined self.old other }
+    {
+        let Feed {
+            changes,
+            heard,
+            moments,
+        } = other;
+        self.changes.merge(changes);
+        self.heard.merge(heard);
+        self.moments.merge(moments);
+    }
+
     /// All that was accepted through both.
     pub fn join(self, other: Feed<C, H, M>) -> Feed<C, H, M>
         ensures { result ≡ joined self other }
     {
-        let Feed {
-            mut changes,
-            mut heard,
-            mut moments,
-        } = self;
-        let Feed {
-            changes: more_changes,
-            heard: more_heard,
-            moments: more_moments,
-        } = other;
-        changes.merge(more_changes);
-        heard.merge(more_heard);
-        moments.merge(more_moments);
-        Feed {
-            changes,
-            heard,
-            moments,
-        }
+        let mut both = self;
+        both.take_in(other);
+        both
     }
 
     /// As many were accepted as the counts rose.

@@ -10,6 +10,7 @@ mod jobs;
 mod lock;
 mod locked;
 mod marks;
+mod moves;
 mod reading;
 mod seats;
 mod shared;

@@ -7,13 +7,14 @@ ghost use Rattle.pushserver.specs.KeptHubs.{StandsFor};
 ghost use Rattle.hublock.specs.Feeds.{all_parts, parts_each, whole_seats};
 
 use crate::marks::Marks;
+use crate::moves::{Places, Wakes};
 use crate::{Feed, Locked, Seats};
 use history::entry::Totals;
 use push_base::NoMemory;
 use pushserver::{ConnectFault, Hub};
 use std::alloc::Global;
 use std::sync::ledger::{Blank, Ledger};
-use std::sync::{Arc, Condvar, Mutex, Wait};
+use std::sync::{Arc, Mutex, Wait};
 
 /// The parts of each ledger.
 pub const PARTS: u64 = 4_194_304;
@@ -48,7 +49,7 @@ impl Blanks {
 #[derive(Drop)]
 pub(crate) struct Held<C: Ledger, H: Ledger, M: Ledger, S: Ledger> {
     pub(crate) locked: Mutex<Locked<C, H, M, S>>,
-    pub(crate) changed: Condvar,
+    pub(crate) places: Places,
 }
 
 /// One hold of the hub behind its lock.
@@ -88,7 +89,7 @@ impl<C: Ledger, H: Ledger, M: Ledger, S: Ledger> HubLock<C, H, M, S> {
             alloc,
             Held {
                 locked: Mutex::new(locked),
-                changed: Condvar::new(),
+                places: Places::new(),
             },
         )?;
         let feed = Feed {
@@ -122,25 +123,25 @@ impl<C: Ledger, H: Ledger, M: Ledger, S: Ledger> HubLock<C, H, M, S> {
     /// So many sessions are still to end.
     pub fn begin<R: Wait>(&self, rt: &R, sessions: u64) {
         self.held.locked.lock(rt).begin(sessions);
-        self.held.changed.notify_all();
+        self.held.places.wake(Wakes::All);
     }
 
     /// The line of a session is over. Nothing happens where it doesn't live.
     pub fn line_over<R: Wait>(&self, rt: &R, session: u64) {
         self.held.locked.lock(rt).line_over(session);
-        self.held.changed.notify_all();
+        self.held.places.wake(Wakes::Session(session));
     }
 
     /// One session has ended.
     pub fn session_over<R: Wait>(&self, rt: &R) {
         self.held.locked.lock(rt).session_over();
-        self.held.changed.notify_all();
+        self.held.places.wake(Wakes::All);
     }
 
     /// All is to stop.
     pub fn quit<R: Wait>(&self, rt: &R) {
         self.held.locked.lock(rt).quit();
-        self.held.changed.notify_all();
+        self.held.places.wake(Wakes::All);
     }
 }
 
@@ -148,11 +149,11 @@ impl<C: Ledger, H: Ledger, M: Ledger, S: Ledger> HubLock<C, H, M, S> {
 pub fn finish<C: Ledger, H: Ledger, M: Ledger, S: Ledger, R: Wait>(
     rt: &R,
     lock: &HubLock<C, H, M, S>,
-    feed: Feed<C, H, M>,
+    feed: &mut Feed<C, H, M>,
 ) -> Totals
-    requires { (feed.parts.changes ≡ C.parts) × (feed.parts.heard ≡ H.parts) × (feed.parts.moments ≡ M.parts) }
-    ensures { result ≡ feed.sums }
+    requires { (feed.old.parts.changes ≡ C.parts) × (feed.old.parts.heard ≡ H.parts) × (feed.old.parts.moments ≡ M.parts) }
+    ensures sums { result ≡ feed.old.sums }
+    ensures same { feed.new ≡ feed.old }
 {
-    let mut feed = feed;
-    lock.held.locked.lock(rt).totals(&mut feed)
+    lock.held.locked.lock(rt).totals(feed)
 }

@@ -14,6 +14,7 @@ ghost use Rattle.hublock.specs.Feeds.{IsBelow};
 ghost use Rattle.hublock.specs.Inside.{AcceptsAsHeard, AcceptsNone, MayAcceptChange, MayAcceptMoment, counted, is_done, marked, with_hub, without_mark};
 
 use crate::marks::Marks;
+use crate::moves::{Moves, Wakes, count_move, wakes_at_entry, wakes_at_take, wakes_of};
 use crate::{Feed, Seats};
 use history::entry::Totals;
 use push_base::Role;
@@ -32,8 +33,8 @@ pub struct Locked<C: Ledger, H: Ledger, M: Ledger, S: Ledger> {
     over: Marks,
     left: u64,
     quit: bool,
-    // It rises, and wraps, where something changed for which a loop may wait. Contracts don't see it.
-    moves: u64,
+    // The changes for which a loop may wait. Contracts don't see them.
+    moves: Moves,
 }
 
 impl<C: Ledger, H: Ledger, M: Ledger, S: Ledger> Model for Locked<C, H, M, S> {
@@ -71,7 +72,7 @@ impl<C: Ledger, H: Ledger, M: Ledger, S: Ledger> Locked<C, H, M, S> {
             over,
             left: 0,
             quit: false,
-            moves: 0,
+            moves: Moves::new(),
         }
     }
 
@@ -90,7 +91,7 @@ impl<C: Ledger, H: Ledger, M: Ledger, S: Ledger> Locked<C, H, M, S> {
         ensures bound { result ≤ length piece.now }
     {
         let count = self.hub.take(session, piece);
-        count_move(&mut self.moves, count > 0);
+        count_move(&mut self.moves, wakes_at_take(session, count));
         count
     }
 
@@ -118,7 +119,8 @@ impl<C: Ledger, H: Ledger, M: Ledger, S: Ledger> Locked<C, H, M, S> {
             before,
             after,
         );
-        count_move(&mut self.moves, has_worked(&answer));
+        let has_entered = after.changes > before.changes;
+        count_move(&mut self.moves, wakes_of(session, &answer, has_entered));
         answer
     }
 
@@ -144,7 +146,7 @@ impl<C: Ledger, H: Ledger, M: Ledger, S: Ledger> Locked<C, H, M, S> {
             before,
             after,
         );
-        count_move(&mut self.moves, after.heard > before.heard);
+        count_move(&mut self.moves, wakes_at_entry(after.heard > before.heard));
         answer
     }
 
@@ -166,7 +168,8 @@ impl<C: Ledger, H: Ledger, M: Ledger, S: Ledger> Locked<C, H, M, S> {
             before,
             after,
         );
-        count_move(&mut self.moves, after.moments > before.moments);
+        let has_entered = after.moments > before.moments;
+        count_move(&mut self.moves, wakes_at_entry(has_entered));
         answer
     }
 
@@ -178,7 +181,7 @@ impl<C: Ledger, H: Ledger, M: Ledger, S: Ledger> Locked<C, H, M, S> {
     {
         self.hub.end(session);
         self.over.remove(session);
-        count_move(&mut self.moves, true);
+        count_move(&mut self.moves, Wakes::Session(session));
     }
 
     /// A new session.
@@ -218,9 +221,14 @@ impl<C: Ledger, H: Ledger, M: Ledger, S: Ledger> Locked<C, H, M, S> {
         feed.audit(&mut self.changes, &mut self.heard, &mut self.moments);
     }
 
-    /// The number of changes for which a loop may wait, wrapping.
-    pub(crate) fn moves(&self) -> u64 {
-        self.moves
+    /// A number that is another one after each change for which the loop of a role may wait.
+    pub(crate) fn moves(&self, role: Role) -> u64 {
+        self.moves.of(role)
+    }
+
+    /// Who may wait for what the last call changed.
+    pub(crate) fn wakes(&self) -> Wakes {
+        self.moves.last()
     }
 
     /// Whether nothing is left to do for a role.
@@ -242,7 +250,7 @@ impl<C: Ledger, H: Ledger, M: Ledger, S: Ledger> Locked<C, H, M, S> {
         ensures { self.new ≡ record self.old { left = sessions } }
     {
         self.left = sessions;
-        count_move(&mut self.moves, true);
+        count_move(&mut self.moves, Wakes::All);
     }
 
     /// The line of a session is over. Nothing happens where it doesn't live.
@@ -250,7 +258,7 @@ impl<C: Ledger, H: Ledger, M: Ledger, S: Ledger> Locked<C, H, M, S> {
         ensures { self.new ≡ record self.old { over = marked self.old.hub session self.old.over } }
     {
         self.over.add(session, &self.hub);
-        count_move(&mut self.moves, true);
+        count_move(&mut self.moves, Wakes::Session(session));
     }
 
     /// One session has ended.
@@ -258,7 +266,7 @@ impl<C: Ledger, H: Ledger, M: Ledger, S: Ledger> Locked<C, H, M, S> {
         ensures { self.new ≡ record self.old { left = self.old.left - 1 } }
     {
         self.left = self.left.saturating_sub(1);
-        count_move(&mut self.moves, true);
+        count_move(&mut self.moves, Wakes::All);
     }
 
     /// All is to stop.
@@ -266,21 +274,6 @@ impl<C: Ledger, H: Ledger, M: Ledger, S: Ledger> Locked<C, H, M, S> {
         ensures { self.new ≡ record self.old { quit = true } }
     {
         self.quit = true;
-        count_move(&mut self.moves, true);
-    }
-}
-
-/// Counts a change for which a loop may wait.
-fn count_move(moves: &mut u64, moved: bool) {
-    if moved {
-        *moves = moves.wrapping_add(1);
-    }
-}
-
-/// Whether octets were given, or a message was reacted to.
-fn has_worked(answer: &Result<Given, HubFault>) -> bool {
-    match answer {
-        Ok(Given::Bytes(_) | Given::Worked | Given::End(_)) => true,
-        Ok(Given::Nothing | Given::Ending) | Err(_) => false,
+        count_move(&mut self.moves, Wakes::All);
     }
 }

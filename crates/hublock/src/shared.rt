@@ -10,6 +10,7 @@ ghost use Rattle.hublock.specs.Feeds.{each, one_change_more, one_moment_more, Ri
 ghost use Rattle.hublock.specs.Gates.{DoesApart, DoesTurn};
 ghost use Rattle.hublock.specs.Sharing.{with_feed};
 
+use crate::moves::Wakes;
 use crate::{Feed, Gate, HubLock};
 use push_base::{NoMemory, Role};
 use pushserver::{Given, Heard, HubFault};
@@ -24,7 +25,7 @@ pub struct Shared<R: Wait + Copy, C: Ledger, H: Ledger, M: Ledger, S: Ledger> {
     lock: HubLock<C, H, M, S>,
     feed: Feed<C, H, M>,
     role: Role,
-    // The changes that were made when the hub was called last. Contracts don't see it.
+    // The number of the changes for which it may wait, when the hub was called last. Contracts don't see it.
     seen: u64,
 }
 
@@ -99,12 +100,11 @@ impl<R: Wait + Copy, C: Ledger, H: Ledger, M: Ledger, S: Ledger> Gate for Shared
         ensures feed { self.new ≡ self.old }
     {
         let mut locked = self.lock.held.locked.lock(&self.rt);
-        let before = locked.moves();
         let count = locked.take(session, piece);
-        self.seen = locked.moves();
-        if self.seen != before {
-            self.lock.held.changed.notify_all();
-        }
+        let wakes = locked.wakes();
+        self.seen = locked.moves(self.role);
+        drop(locked);
+        self.lock.held.places.wake(wakes);
         count
     }
 
@@ -116,12 +116,11 @@ impl<R: Wait + Copy, C: Ledger, H: Ledger, M: Ledger, S: Ledger> Gate for Shared
         ensures err { OnErr result (self.new ≡ self.old) }
     {
         let mut locked = self.lock.held.locked.lock(&self.rt);
-        let before = locked.moves();
         let answer = locked.give(session, buf, &mut self.feed);
-        self.seen = locked.moves();
-        if self.seen != before {
-            self.lock.held.changed.notify_all();
-        }
+        let wakes = locked.wakes();
+        self.seen = locked.moves(self.role);
+        drop(locked);
+        self.lock.held.places.wake(wakes);
         answer
     }
 
@@ -132,12 +131,11 @@ impl<R: Wait + Copy, C: Ledger, H: Ledger, M: Ledger, S: Ledger> Gate for Shared
         ensures role { self.new.role ≡ self.old.role }
     {
         let mut locked = self.lock.held.locked.lock(&self.rt);
-        let before = locked.moves();
         let answer = locked.hear(link, datagram, &mut self.feed);
-        self.seen = locked.moves();
-        if self.seen != before {
-            self.lock.held.changed.notify_all();
-        }
+        let wakes = locked.wakes();
+        self.seen = locked.moves(self.role);
+        drop(locked);
+        self.lock.held.places.wake(wakes);
         answer
     }
 
@@ -148,12 +146,11 @@ impl<R: Wait + Copy, C: Ledger, H: Ledger, M: Ledger, S: Ledger> Gate for Shared
         ensures err { OnErr result (self.new ≡ self.old) }
     {
         let mut locked = self.lock.held.locked.lock(&self.rt);
-        let before = locked.moves();
         let answer = locked.moment(at, &mut self.feed);
-        self.seen = locked.moves();
-        if self.seen != before {
-            self.lock.held.changed.notify_all();
-        }
+        let wakes = locked.wakes();
+        self.seen = locked.moves(self.role);
+        drop(locked);
+        self.lock.held.places.wake(wakes);
         answer
     }
 
@@ -162,7 +159,7 @@ impl<R: Wait + Copy, C: Ledger, H: Ledger, M: Ledger, S: Ledger> Gate for Shared
         ensures feed { self.new ≡ self.old }
     {
         self.lock.held.locked.lock(&self.rt).end(session);
-        self.lock.held.changed.notify_all();
+        self.lock.held.places.wake(Wakes::Session(session));
     }
 
     fn pause(&mut self)
@@ -171,10 +168,10 @@ impl<R: Wait + Copy, C: Ledger, H: Ledger, M: Ledger, S: Ledger> Gate for Shared
         let seen = self.seen;
         let role = self.role;
         let locked = self.lock.held.locked.lock(&self.rt);
-        let _locked = self.lock.held.changed.wait_while(
+        let _locked = self.lock.held.places.of(role).wait_while(
             &self.rt,
             locked,
-            |l| l.moves() == seen && !l.is_done(role),
+            |l| l.moves(role) == seen && !l.is_done(role),
         );
     }
 

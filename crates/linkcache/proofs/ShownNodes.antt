@@ -1,4 +1,4 @@
--- What the rows of names show, one name after the other.
+-- What the rows of names show, one name after the other, and one block after the other.
 use Rattle.std.proofs.Common.{◌≡◌, ℕ, zero, suc, ◌+◌, ◌<◌, ◌++◌, ◌∷◌, [], length, get_or, drop, fold, refl, sym, ap, subst, ◌∙◌, arith}
 use Rattle.std.specs.List.{AllByRecursion}
 use Rattle.std.proofs.lemmas.List.{drop_more}
@@ -7,6 +7,8 @@ use Rattle.dnsname.specs.Names.{Labels}
 use Rattle.rrset.specs.RecordSet.{RecordSet}
 use Rattle.rrset.specs.declared.record.Key.{Key}
 use Rattle.nametable.specs.Nodes.{Node, Nodes, all_rows}
+use Rattle.nametable.specs.Blocks.{Blocks, nodes_in}
+use Rattle.nametable.proofs.BlockParts.{all_rows-append}
 use Rattle.linkcache.specs.declared.row.HeardRow.{HeardRow}
 use Rattle.linkcache.specs.Rows.{LinkRows, put_shown}
 use Rattle.linkcache.specs.Sound.{IsLinkRow, AreLinkRows}
@@ -32,4 +34,24 @@ shown-next domain set now target ns index g within is now-is so_far =
     ∙ sym (fold-append (put_shown domain) set g.1.rows (all_rows (drop (index + 1) ns)))
     ∙ ap (λ (h : Node HeardRow). fold (put_shown domain) set (h.1.rows ++ all_rows (drop (index + 1) ns))) is
     ∙ ap (λ (l : Nodes HeardRow). fold (put_shown domain) set (all_rows l)) (sym (drop_more ns index g within))
+    ∙ so_far
+
+-- ---- one block after the other
+
+pub block-sound : (domain : Labels) (bs : Blocks HeardRow) (index : ℕ) (b : Nodes HeardRow) → AreLinkRows domain (all_rows (nodes_in bs)) → index < length bs → b ≡ get_or bs index b → AreLinkRows domain (all_rows b)
+block-sound domain [] index b h within is = absurd (omega (arith, within))
+block-sound domain (c ∷ bs) zero b h within is =
+    subst (λ (d : Nodes HeardRow). AreLinkRows domain (all_rows d)) (sym is) (front-part (IsLinkRow domain) (all_rows c) (all_rows (nodes_in bs)) (subst (AreLinkRows domain) (all_rows-append c (nodes_in bs)) h))
+block-sound domain (c ∷ bs) (suc index) b h within is =
+    block-sound domain bs index b (back-part (IsLinkRow domain) (all_rows c) (all_rows (nodes_in bs)) (subst (AreLinkRows domain) (all_rows-append c (nodes_in bs)) h)) (omega (arith, within)) is
+
+pub shown-next-block : (domain : Labels) (set now target : RecordSet) (bs : Blocks HeardRow) (index : ℕ) (b : Nodes HeardRow) → index < length bs → b ≡ get_or bs index b
+    → now ≡ fold (put_shown domain) set (all_rows b) → fold (put_shown domain) set (all_rows (nodes_in (drop index bs))) ≡ target → fold (put_shown domain) now (all_rows (nodes_in (drop (index + 1) bs))) ≡ target
+shown-next-block domain set now target bs index b within is now-is so_far =
+    let rest = nodes_in (drop (index + 1) bs) in
+    ap (λ (l : RecordSet). fold (put_shown domain) l (all_rows rest)) now-is
+    ∙ sym (fold-append (put_shown domain) set (all_rows b) (all_rows rest))
+    ∙ ap (fold (put_shown domain) set) (sym (all_rows-append b rest))
+    ∙ ap (λ (c : Nodes HeardRow). fold (put_shown domain) set (all_rows (c ++ rest))) is
+    ∙ ap (λ (l : Blocks HeardRow). fold (put_shown domain) set (all_rows (nodes_in l))) (sym (drop_more bs index b within))
     ∙ so_far

@@ -15,7 +15,7 @@ use crate::end_key::EndKey;
 use crate::plan::HearPlan;
 use crate::planning::{has_row, heard_plan, moment_plan, reconfirm_plan};
 use crate::row::HeardRow;
-use crate::showing::shown_nodes;
+use crate::showing::shown_blocks;
 use clockqueue::Deadlines;
 use dnsname::Name;
 use nametable::NameTable;
@@ -85,7 +85,7 @@ impl Cache {
     pub fn shown(&self, alloc: Global) -> Result<Table, NoMemory>
         ensures { IfOk result (λ set. set.rows ≡ shown_rows self.now.state.domain self.now.state.rows) }
     {
-        shown_nodes(alloc, &self.domain, self.rows.nodes())
+        shown_blocks(alloc, &self.domain, self.rows.blocks())
     }
 
     /// Whether there is a row of a key.

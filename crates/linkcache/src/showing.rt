@@ -3,13 +3,14 @@
 ghost use Rattle.std.specs.Prelude.{◌≡◌, fold, IfOk, OnOk};
 ghost use Rattle.rrset.specs.RecordSet.{put_rr};
 ghost use Rattle.nametable.specs.Nodes.{all_rows};
+ghost use Rattle.nametable.specs.Blocks.{nodes_in};
 ghost use Rattle.linkcache.specs.Rows.{put_shown, shown_rows};
 ghost use Rattle.linkcache.specs.Sound.{IsLinkRow, AreLinkRows};
 
 use crate::row::{HeardRow, record_of};
 use dnsname::Name;
 use linkmap::show;
-use nametable::Node;
+use nametable::{Block, Node};
 use rrset::{Key, NoMemory, Rr, Shown, Table};
 use std::alloc::Global;
 
@@ -76,18 +77,34 @@ pub(crate) fn shown_rows(
     Ok(set)
 }
 
-/// The records that the rows of some names show under a link's domain.
-pub(crate) fn shown_nodes(
+/// Puts what the rows of some names show.
+fn put_shown_nodes(
     alloc: Global,
     domain: &Name,
+    set: &mut Table,
     nodes: &[Node<HeardRow>],
-) -> Result<Table, NoMemory>
+) -> Result<(), NoMemory>
     requires { AreLinkRows domain.now (all_rows nodes.now) }
-    ensures { IfOk result (λ set. set.rows ≡ shown_rows domain.now (all_rows nodes.now)) }
+    ensures { OnOk result (set.new.rows ≡ fold (put_shown domain.now) set.old.rows (all_rows nodes.now)) }
+{
+    'nodes: for node in nodes {
+        put_shown_rows(alloc, domain, set, node.table().entries())?;
+    }
+    Ok(())
+}
+
+/// The records that the rows of names in blocks show under a link's domain.
+pub(crate) fn shown_blocks(
+    alloc: Global,
+    domain: &Name,
+    blocks: &[Block<HeardRow>],
+) -> Result<Table, NoMemory>
+    requires { AreLinkRows domain.now (all_rows (nodes_in blocks.now)) }
+    ensures { IfOk result (λ set. set.rows ≡ shown_rows domain.now (all_rows (nodes_in blocks.now))) }
 {
     let mut set = Table::new(alloc);
-    'nodes: for node in nodes {
-        put_shown_rows(alloc, domain, &mut set, node.table().entries())?;
+    'blocks: for block in blocks {
+        put_shown_nodes(alloc, domain, &mut set, block.nodes())?;
     }
     Ok(set)
 }

@@ -5,7 +5,9 @@ ghost use Rattle.pushserver.specs.PlainHubs.{Hub as Plain};
 ghost use Rattle.pushserver.specs.KeptHubs.{StandsFor};
 ghost use Rattle.hublock.specs.Feeds.{HasAtLeast, each, parts_each};
 
-use crate::hubs::{HOST, SUBSCRIBE, SUBSCRIBED, connected_hub, example_hub};
+use crate::hubs::{
+    HOST, OF_THE_HOST, OF_THE_HOST_TOLD, SUBSCRIBE, SUBSCRIBED, connected_hub, example_hub,
+};
 use crate::rows::{are_octets, is_written};
 use hublock::{Alone, Blanks, Feed, Gate, HubLock, Seats, Shared};
 use push_base::limits::MAX_MOMENT;
@@ -16,14 +18,6 @@ use std::marker::Brand;
 use std::sync::Wait;
 use std::sync::ledger::Ledger;
 use std::test::Fail;
-
-/// A SUBSCRIBE with the ID 2, for addresses of `h.lan.example.com.`.
-const OF_THE_HOST: &str =
-    "0027000230000000000000000000004000170168036c616e076578616d706c6503636f6d0000010001";
-
-/// Its answer, and the address.
-const OF_THE_HOST_TOLD: &str =
-    "000c0002b00000000000000000000031000030000000000000000000004100210168036c616e076578616d706c6503636f6d0000010001000000780004c0000201";
 
 /// The places of the gates by those who call.
 const READER: usize = 0;

@@ -1,4 +1,4 @@
-//! A hub of one zone and one link, and what is sent to it.
+//! A hub of one zone and two links, and what is sent to it.
 
 ghost use Rattle.std.specs.Prelude.{◌≡◌, ℕ, [], IfOk};
 ghost use Rattle.zoneupdate.specs.Zones.{new_zone};
@@ -25,13 +25,25 @@ pub(crate) const SUBSCRIBED: &str =
 pub(crate) const HOST: &str =
     "0000840000000001000000000168056c6f63616c0000010001000000780004c0000201";
 
+/// A datagram of another link: `h.local.` has the address 192.0.2.2 for 120 s.
+pub(crate) const OTHER_HOST: &str =
+    "0000840000000001000000000168056c6f63616c0000010001000000780004c0000202";
+
+/// A SUBSCRIBE with the ID 2, for addresses of `h.lan.example.com.`.
+pub(crate) const OF_THE_HOST: &str =
+    "0027000230000000000000000000004000170168036c616e076578616d706c6503636f6d0000010001";
+
+/// Its answer, and the address.
+pub(crate) const OF_THE_HOST_TOLD: &str =
+    "000c0002b00000000000000000000031000030000000000000000000004100210168036c616e076578616d706c6503636f6d0000010001000000780004c0000201";
+
 /// What a Keepalive is granted: 15 s each (RFC 8490, 6.2).
 const TIMERS: Timers = Timers {
     inactivity: 15_000,
     keepalive: 15_000,
 };
 
-/// A hub of one zone, and the link `lan.example.com.`.
+/// A hub of one zone, and the links `lan.example.com.` and `wlan.example.com.`.
 fn hub_of(zone: Zone, alloc: Global) -> Result<Hub, Fail>
     requires { (serial : ℕ) × (zone.state ≡ new_zone zone.state.apex serial zone.state.writable) }
     ensures fresh { IfOk result (λ hub. (hub.history ≡ []) × (hub.numbers_given ≡ 0)) }
@@ -40,11 +52,12 @@ fn hub_of(zone: Zone, alloc: Global) -> Result<Hub, Fail>
     let mut homes = Homes::new(alloc);
     homes.add_zone(zone)?;
     homes.add_link(Name::from_text(alloc, "lan.example.com.")?)?;
+    homes.add_link(Name::from_text(alloc, "wlan.example.com.")?)?;
     let hub = Hub::new(homes, TIMERS)?;
     Ok(hub)
 }
 
-/// A hub of `example.com.`, which may be written, and of the link.
+/// A hub of `example.com.`, which may be written, and of the links.
 pub(crate) fn example_hub(alloc: Global) -> Result<Hub, Fail>
     ensures fresh { IfOk result (λ hub. (hub.history ≡ []) × (hub.numbers_given ≡ 0)) }
     ensures stands { IfOk result (λ hub. (plain : Plain) × StandsFor hub plain) }

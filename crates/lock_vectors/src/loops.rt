@@ -69,10 +69,15 @@ pub(crate) fn request_of_a_client(alloc: Global) -> Result<Drip, Fail> {
     Ok(Drip::new(octets, 1))
 }
 
+/// One datagram.
+pub(crate) fn heard(alloc: Global, text: &str) -> Result<MemDatagrams, Fail> {
+    let items = vec![in alloc; MemItem::Bytes(hex_octets(alloc, text)?)]?;
+    Ok(MemDatagrams::new(items, Vec::new(alloc)))
+}
+
 /// Datagrams with `HOST` alone.
 pub(crate) fn host(alloc: Global) -> Result<MemDatagrams, Fail> {
-    let items = vec![in alloc; MemItem::Bytes(hex_octets(alloc, HOST)?)]?;
-    Ok(MemDatagrams::new(items, Vec::new(alloc)))
+    heard(alloc, HOST)
 }
 
 /// Fails where a loop ended otherwise.

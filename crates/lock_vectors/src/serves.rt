@@ -3,16 +3,22 @@
 ghost use Rattle.std.specs.Prelude.{◌≡◌, []};
 ghost use Rattle.pushserver.specs.PlainHubs.{Hub as Plain};
 ghost use Rattle.pushserver.specs.KeptHubs.{StandsFor};
+ghost use Rattle.hublock.specs.Feeds.{parts_each};
 
-use crate::hubs::{SUBSCRIBE, SUBSCRIBED, example_hub};
-use crate::loops::{Drip, host};
+use crate::hubs::{
+    HOST, OF_THE_HOST, OF_THE_HOST_TOLD, OTHER_HOST, SUBSCRIBE, SUBSCRIBED, example_hub,
+};
+use crate::loops::{Drip, heard};
 use crate::rows::are_octets;
 use crate::threads::{Apart, List, Listed};
 use crate::watched::{Hearings, Porter, Still, Until, Watch};
 use history::entry::Totals;
+use hublock::Blanks;
 use push_base::{Clock, Datagrams, Doors, Line, Sink, hex_octets, hex_text};
 use serving::{Fed, ServeEnd, Served, Setup, serve};
 use std::alloc::Global;
+use std::marker::Brand;
+use std::sync::ledger::Ledger;
 use std::sync::{Arc, Mutex, Wait};
 use std::test::Fail;
 use std::thread::Threads;
@@ -35,8 +41,11 @@ struct Case {
     first_wire: Until,
     /// What the doors wait for before the last session.
     last_session: Until,
-    /// Whether the link hears `HOST`.
-    hears: bool,
+    /// What each sends, and what it is answered.
+    request: &'static str,
+    answer: &'static str,
+    /// The datagrams of the links, one of each.
+    hears: &'static [&'static str],
     /// What the clock gives.
     moment: u64,
     /// The entries that are made.
@@ -57,7 +66,9 @@ const ONE: Case = Case {
     line: Until::Now,
     first_wire: Until::Now,
     last_session: Until::Now,
-    hears: false,
+    request: SUBSCRIBE,
+    answer: SUBSCRIBED,
+    hears: &[],
     moment: 0,
     counts: NOTHING,
 };
@@ -70,7 +81,9 @@ const TWO: Case = Case {
     line: Until::Now,
     first_wire: Until::Written(115),
     last_session: Until::Now,
-    hears: false,
+    request: SUBSCRIBE,
+    answer: SUBSCRIBED,
+    hears: &[],
     moment: 0,
     counts: NOTHING,
 };
@@ -79,14 +92,34 @@ const TWO: Case = Case {
 const HEARING: Case = Case {
     sessions: 1,
     numbered: false,
-    line: Until::HeardAndAsked,
+    line: Until::HeardAndAsked(1),
     first_wire: Until::Now,
     last_session: Until::Now,
-    hears: true,
+    request: SUBSCRIBE,
+    answer: SUBSCRIBED,
+    hears: &[HOST],
     moment: 1,
     counts: Totals {
         changes: 0,
         heard: 1,
+        moments: 1,
+    },
+};
+
+/// One session, which asks for the host of the first of two links when both have told theirs.
+const HEARING_TWO: Case = Case {
+    sessions: 1,
+    numbered: false,
+    line: Until::HeardAndAsked(2),
+    first_wire: Until::Now,
+    last_session: Until::Now,
+    request: OF_THE_HOST,
+    answer: OF_THE_HOST_TOLD,
+    hears: &[HOST, OTHER_HOST],
+    moment: 1,
+    counts: Totals {
+        changes: 0,
+        heard: 2,
         moments: 1,
     },
 };
@@ -98,7 +131,9 @@ const ONE_MORE: Case = Case {
     line: Until::Now,
     first_wire: Until::Now,
     last_session: Until::Dropped(64),
-    hears: false,
+    request: SUBSCRIBE,
+    answer: SUBSCRIBED,
+    hears: &[],
     moment: 0,
     counts: NOTHING,
 };
@@ -145,7 +180,7 @@ fn add_line<R: Wait + Copy>(
     case: &Case,
     place: u16,
 ) -> Result<(), Fail> {
-    let octets = with_id(alloc, SUBSCRIBE, case.id(place))?;
+    let octets = with_id(alloc, case.request, case.id(place))?;
     doors.add_line(Drip::new(octets, PIECE), case.line)?;
     Ok(())
 }
@@ -180,20 +215,32 @@ fn add_sessions<R: Wait + Copy>(
     Ok(())
 }
 
-/// The link is fed, if it is.
+/// A link is fed.
+fn add_hearing<R: Wait + Copy>(
+    alloc: Global,
+    links: &mut Vec<Fed<Hearings<R>>>,
+    watch: &Watch<R>,
+    link: usize,
+    text: &str,
+) -> Result<(), Fail> {
+    let watch = watch.again()?;
+    let datagrams = Hearings {
+        watch,
+        datagrams: heard(alloc, text)?,
+    };
+    links.push(Fed { link, datagrams })?;
+    Ok(())
+}
+
+/// The links are fed that are.
 fn add_hearings<R: Wait + Copy>(
     alloc: Global,
     links: &mut Vec<Fed<Hearings<R>>>,
     watch: &Watch<R>,
     case: &Case,
 ) -> Result<(), Fail> {
-    if case.hears {
-        let watch = watch.again()?;
-        let datagrams = Hearings {
-            watch,
-            datagrams: host(alloc)?,
-        };
-        links.push(Fed { link: 0, datagrams })?;
+    'links: for (link, text) in case.hears.iter().enumerate() {
+        add_hearing(alloc, links, watch, link, text)?;
     }
     Ok(())
 }
@@ -206,15 +253,30 @@ fn end_of<
     D: Doors<Line = L, Out = K>,
     G: Datagrams + Drop + Send + 'static,
     T: Clock + Drop + Send + 'static,
->(rt: R, alloc: Global, doors: &mut D, setup: Setup<G, T>) -> ServeEnd
+    C: Ledger + Send + Sync + 'static,
+    H: Ledger + Send + Sync + 'static,
+    M: Ledger + Send + Sync + 'static,
+    S: Ledger + Send + Sync + 'static,
+>(rt: R, alloc: Global, doors: &mut D, setup: Setup<G, T>, blanks: Blanks) -> ServeEnd
     requires hub { (setup.hub.history ≡ []) × (setup.hub.numbers_given ≡ 0) }
     requires stands { (plain : Plain) × StandsFor setup.hub plain }
+    requires names { (blanks.changes.name ≡ C.name) × (blanks.heard.name ≡ H.name) × (blanks.moments.name ≡ M.name) × (blanks.made.name ≡ S.name) }
+    requires parts { (blanks.changes.parts ≡ C.parts) × (blanks.heard.parts ≡ H.parts) × (blanks.moments.parts ≡ M.parts) × (blanks.made.parts ≡ S.parts) }
+    requires all { (C.parts ≡ parts_each) × (H.parts ≡ parts_each) × (M.parts ≡ parts_each) × (S.parts ≡ parts_each) }
 {
-    let Served { end, links: _ } = serve(rt, alloc, &mut Apart { faults: 0 }, doors, setup);
+    let mut starter = Apart { faults: 0 };
+    let Served { end, .. } = serve::<R, Apart, L, K, D, G, T, C, H, M, S>(
+        rt,
+        alloc,
+        &mut starter,
+        doors,
+        setup,
+        blanks,
+    );
     end
 }
 
-/// The same over the hub of one zone and one link.
+/// The same over the hub of one zone and two links.
 fn end_over_hub<
     R: Threads + Wait + Copy + Send + 'static,
     L: Line + Drop + Send + 'static,
@@ -238,7 +300,13 @@ fn end_over_hub<
         sessions: u64::from(sessions),
         turns: TURNS,
     };
-    Ok(end_of::<R, L, K, D, G, T>(rt, alloc, doors, setup))
+    Ok(end_of::<R, L, K, D, G, T, Brand, Brand, Brand, Brand>(
+        rt,
+        alloc,
+        doors,
+        setup,
+        Blanks::new(),
+    ))
 }
 
 /// Fails where not all sessions were served, or other entries were made.
@@ -257,7 +325,7 @@ fn is_answered<R: Wait>(
     place: u16,
     list: &List,
 ) -> Result<(), Fail> {
-    let octets = with_id(alloc, SUBSCRIBED, case.id(place))?;
+    let octets = with_id(alloc, case.answer, case.id(place))?;
     let wanted = hex_text(alloc, octets.as_slice())?;
     are_octets(
         alloc,
@@ -331,6 +399,11 @@ fn a_held_wire_holds_no_other_session(rt: HostRuntime) -> Result<(), Fail> {
 #[test]
 fn a_link_is_heard_beside_a_session(rt: HostRuntime) -> Result<(), Fail> {
     are_served(rt, rt.alloc(), &HEARING)
+}
+
+#[test]
+fn links_are_heard_as_they_are_numbered(rt: HostRuntime) -> Result<(), Fail> {
+    are_served(rt, rt.alloc(), &HEARING_TWO)
 }
 
 #[test]

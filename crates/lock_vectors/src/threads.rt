@@ -265,13 +265,13 @@ fn serve_all<
     lock.connect(&rt, seats)?;
     // One more than there are, so that the link is heard to its end.
     lock.begin(&rt, 2);
-    let feed = served(rt, alloc, lock, feed, list)?;
+    let mut feed = served(rt, alloc, lock, feed, list)?;
     let one_hearing = Totals {
         changes: 0,
         heard: 1,
         moments: 0,
     };
-    are_counts(finish(&rt, lock, feed), one_hearing)
+    are_counts(finish(&rt, lock, &mut feed), one_hearing)
 }
 
 /// A session and a link of a hub behind its lock are served by threads.

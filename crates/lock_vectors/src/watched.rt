@@ -31,8 +31,8 @@ pub(crate) enum Until {
     Written(usize),
     /// So many wires were dropped.
     Dropped(u64),
-    /// Datagrams told their end, and the clock was asked twice.
-    HeardAndAsked,
+    /// Datagrams of so many links told their end, and the clock was asked twice.
+    HeardAndAsked(u64),
 }
 
 /// What was done so far.
@@ -40,7 +40,7 @@ pub(crate) enum Until {
 struct Done {
     written: usize,
     dropped: u64,
-    heard: bool,
+    heard: u64,
     asked: u64,
 }
 
@@ -50,7 +50,7 @@ impl Done {
         match event {
             Event::Written(count) => self.written = self.written.saturating_add(count),
             Event::Dropped => self.dropped = self.dropped.saturating_add(1),
-            Event::Heard => self.heard = true,
+            Event::Heard => self.heard = self.heard.saturating_add(1),
             Event::Asked => self.asked = self.asked.saturating_add(1),
         }
     }
@@ -61,7 +61,7 @@ impl Done {
             Until::Now => true,
             Until::Written(count) => count <= self.written,
             Until::Dropped(count) => count <= self.dropped,
-            Until::HeardAndAsked => self.heard && 2 <= self.asked,
+            Until::HeardAndAsked(count) => count <= self.heard && 2 <= self.asked,
         }
     }
 }
@@ -86,7 +86,7 @@ impl<R: Wait + Copy> Watch<R> {
         let done = Done {
             written: 0,
             dropped: 0,
-            heard: false,
+            heard: 0,
             asked: 0,
         };
         let board = Board {

@@ -71,7 +71,7 @@ module _ {X : Type 0} where
       ∙ row_at-other q name es of.1 other
 
   -- a name before all others isn't among them
-  table_at-below : (name first : Labels) (ns : Nodes X) → name ≡ first → T (below_all name_cmp first ns) → table_at name ns ≡ None
+  pub table_at-below : (name first : Labels) (ns : Nodes X) → name ≡ first → T (below_all name_cmp first ns) → table_at name ns ≡ None
   table_at-below name first [] same h = refl
   table_at-below name first (g ∷ ns) same h =
       ap (λ (r : Ordering). cond (is_eq r) (Some g.1) (table_at name ns)) (ap (λ (l : Labels). name_cmp l g.0) same ∙ less _ (and_left _ _ h))

@@ -8,3 +8,8 @@ pub mod NodeSets
 pub mod KeyRoom
 pub mod PlanRuns
 pub mod NodeUnions
+pub mod Between
+pub mod BlockParts
+pub mod BlockPlaces
+pub mod BlockSets
+pub mod Turns

@@ -91,14 +91,14 @@ module _ {X : Type 0} where
       by true rest = omega (arith, rest)
       by false rest = omega (arith, rest)
 
-  pub count-set : (names now : ℕ) (had has : Bool) (ns : Nodes X) (index : ℕ) (d e n : Node X) → index < length ns → names ≡ names_in ns % 2 ^ 64
+  pub count-set : (others names now : ℕ) (had has : Bool) (ns : Nodes X) (index : ℕ) (d e n : Node X) → index < length ns → names ≡ (others + names_in ns) % 2 ^ 64
       → had ≡ has_rows (get_or ns index d) → has ≡ has_rows (get_or (set ns index n) index e)
-      → now ≡ cond had (cond has names ((names + (2 ^ 64 - 1)) % 2 ^ 64)) (cond has ((names + 1) % 2 ^ 64) names) → now ≡ names_in (set ns index n) % 2 ^ 64
-  count-set names now had has ns index d e n within so_far had-is has-is now-is =
+      → now ≡ cond had (cond has names ((names + (2 ^ 64 - 1)) % 2 ^ 64)) (cond has ((names + 1) % 2 ^ 64) names) → now ≡ (others + names_in (set ns index n)) % 2 ^ 64
+  count-set others names now had has ns index d e n within so_far had-is has-is now-is =
       now-is ∙ by had has (ap (λ (b : Bool). cond b 1 0 + names_in (set ns index n)) had-is ∙ names-set ns index d n within ∙ ap (λ (b : Bool). cond b 1 0 + names_in ns) (sym (has-is ∙ ap has_rows (get_or-set_same ns index n e within))))
     where
       by : (b c : Bool) → cond b 1 0 + names_in (set ns index n) ≡ cond c 1 0 + names_in ns
-          → cond b (cond c names ((names + (2 ^ 64 - 1)) % 2 ^ 64)) (cond c ((names + 1) % 2 ^ 64) names) ≡ names_in (set ns index n) % 2 ^ 64
+          → cond b (cond c names ((names + (2 ^ 64 - 1)) % 2 ^ 64)) (cond c ((names + 1) % 2 ^ 64) names) ≡ (others + names_in (set ns index n)) % 2 ^ 64
       by true true is = omega (arith, so_far, is)
       by true false is = omega (arith, so_far, is)
       by false true is = omega (arith, so_far, is)

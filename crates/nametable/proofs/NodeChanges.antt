@@ -4,12 +4,13 @@ use Rattle.std.specs.Result.{IfOk, OnOk, OnErr, IsOk}
 use Rattle.std.specs.Prelude.{IsTrue}
 use Rattle.std.specs.Ordering.{is_eq}
 use Rattle.std.specs.List.{AllByRecursion, insert}
-use Rattle.std.specs.FinMap.Entries.{put as put_entry}
+use Rattle.std.specs.FinMap.Entries.{put as put_entry, by_order}
 use Rattle.std.specs.Cmp.{eq_by_cmp_equiv}
 use Rattle.dnsname.specs.Names.{Labels, lower}
 use Rattle.rrset.specs.Records.{same_key, key_cmp}
 use Rattle.rrset.specs.KeyedRows.{Rows, is_rising, put_row, without_rows, row_at}
 use Rattle.rrset.specs.Tables.{TableState}
+use Rattle.nametable.specs.Blocks.{AddsNoOther}
 use Rattle.nametable.specs.Nodes.{Node, Nodes, name_cmp, table_at, all_rows, IsNode, AreNodes, IsNameAt, IsNameGap, room_at, spare_of}
 use Rattle.rrset.specs.declared.record.Key.{Key}
 use Rattle.rrset.proofs.KeyOrder.{key_cmp-IsAntisymmetric}
@@ -196,3 +197,35 @@ module _ {X : Type 0} where
       tied Less e = cc
       tied Equal e = refl
       tied Greater e = cc
+
+  -- ---- names that are new
+
+  adds-put : (name : Labels) (table : TableState X) (ns : Nodes X) → AddsNoOther name ns (put_entry name_cmp name table ns)
+  adds-put name table ns = record {
+    names = λ test one all. all_put name_cmp (λ n. test n ≡ true) name table ns one all;
+    filled = λ h. some ns;
+  }
+    where
+      by : (g : Node X) (gs rest : Nodes X) (r : Ordering) → 0 < length (by_order r ((name, table) ∷ g ∷ gs) ((g.0, table) ∷ gs) (g ∷ rest))
+      by g gs rest Less = omega arith
+      by g gs rest Equal = omega arith
+      by g gs rest Greater = omega arith
+
+      some : (ns : Nodes X) → 0 < length (put_entry name_cmp name table ns)
+      some [] = omega arith
+      some (g ∷ gs) = by g gs (put_entry name_cmp name table gs) (name_cmp name g.0)
+
+  pub adds-set : (name : Labels) (ns : Nodes X) (index : ℕ) (g n : Node X) → IsFound name ns index g → n.0 ≡ g.0 → AddsNoOther name ns (set ns index n)
+  adds-set name ns index g n here same = subst (AddsNoOther name ns) (sym (put_is name ns index g n here same)) (adds-put name n.1 ns)
+
+  pub adds-insert : (name : Labels) (table : TableState X) (ns : Nodes X) (index : ℕ) → IsNameGap name ns index → AddsNoOther name ns (insert ns index (name, table))
+  adds-insert name table ns index gap = subst (AddsNoOther name ns) ((name_gone name ns index gap).puts table) (adds-put name table ns)
+
+  pub adds-none : (name : Labels) (ns : Nodes X) → AddsNoOther name ns ns
+  adds-none name ns = record { names = λ test one all. all; filled = λ h. h }
+
+  pub adds-both : (name : Labels) (first second third : Nodes X) → AddsNoOther name first second → AddsNoOther name second third → AddsNoOther name first third
+  adds-both name first second third h g = record {
+    names = λ test one all. g.names test one (h.names test one all);
+    filled = λ some. g.filled (h.filled some);
+  }

@@ -15,6 +15,8 @@ use Rattle.rrset.proofs.InOrder.{InOrder, in_order-union, same_sets}
 use Rattle.rrset.specs.declared.record.Key.{Key}
 use Rattle.rrset.specs.declared.record.Shown.{Shown}
 use Rattle.nametable.specs.Nodes.{Node, Nodes, all_rows}
+use Rattle.nametable.specs.Blocks.{Blocks, nodes_in}
+use Rattle.nametable.proofs.BlockParts.{all_rows-append}
 
 pub union-next : (all now target : RecordSet) (ns : Nodes Shown) (index : ℕ) (g : Node Shown) → index < length ns → g ≡ get_or ns index g → now ≡ union all g.1.rows
     → union all (all_rows (drop index ns)) ≡ target → union now (all_rows (drop (index + 1) ns)) ≡ target
@@ -58,3 +60,14 @@ union-none set h = same_sets (union [] set) set (in_order-union [] set tt) h (λ
     itself : (o : Option Shown) → or_else o None ≡ o
     itself None = refl
     itself (Some shown) = refl
+
+pub union-next-block : (all now target : RecordSet) (bs : Blocks Shown) (index : ℕ) (b : Nodes Shown) → index < length bs → b ≡ get_or bs index b → now ≡ union all (all_rows b)
+    → union all (all_rows (nodes_in (drop index bs))) ≡ target → union now (all_rows (nodes_in (drop (index + 1) bs))) ≡ target
+union-next-block all now target bs index b within is now-is so_far =
+    let rest = nodes_in (drop (index + 1) bs) in
+    ap (λ (l : RecordSet). union l (all_rows rest)) now-is
+    ∙ sym (fold-append (λ (set : RecordSet) (e : Key × Shown). put e.0 e.1 set) all (all_rows b) (all_rows rest))
+    ∙ ap (union all) (sym (all_rows-append b rest))
+    ∙ ap (λ (c : Nodes Shown). union all (all_rows (c ++ rest))) is
+    ∙ ap (λ (l : Blocks Shown). union all (all_rows (nodes_in l))) (sym (drop_more bs index b within))
+    ∙ so_far

@@ -7,10 +7,15 @@ ghost use Rattle.dnsname.specs.Names.{Labels};
 ghost use Rattle.rrset.specs.Records.{same_key};
 ghost use Rattle.rrset.specs.KeyedRows.{row_at, put_row, without_rows, rows_of};
 ghost use Rattle.rrset.specs.Tables.{HasLowerOwner};
+ghost use Rattle.nametable.specs.Blocks.{nodes_in};
 ghost use Rattle.nametable.specs.Nodes.{AreNodes, HasRoomFor, HaveRisingKeys, all_rows, keys_of, keys_put, name_cmp, room_at};
 
-use crate::node::{Node, drop_empty, put_in, remove_in, table_for, table_of};
-use crate::reserving::{copied_nodes, reserve_all, reserve_rows};
+use crate::block::Block;
+use crate::blocks::{
+    copied_blocks, drop_empty_blocks, names_in_blocks, put_in_blocks, remove_in_blocks,
+    table_for_in_blocks, table_of_in_blocks,
+};
+use crate::reserving::{reserve_all, reserve_rows};
 use dnsname::Name;
 use rrset::{Changed, Copied, Key, NoMemory, Shown, Table};
 use std::alloc::Global;
@@ -24,20 +29,21 @@ const NAMES_PER_EMPTY: usize = 8;
 /// by a count of the names with rows.
 #[derive(Debug, Drop)]
 pub struct NameTable<V = Shown> {
-    nodes: Vec<Node<V>>,
+    blocks: Vec<Block<V>>,
     count: usize,
     names: usize,
 }
 
 impl<V> Model for NameTable<V> {
     ghost use Rattle.std.specs.Prelude.{◌≡◌, ◌%◌, ◌^◌, length};
-    ghost use Rattle.nametable.specs.Nodes.{NodesState, AreNodes, all_rows, names_in};
+    ghost use Rattle.nametable.specs.Nodes.{NodesState, all_rows, names_in};
+    ghost use Rattle.nametable.specs.Blocks.{AreBlocks, nodes_in};
 
     ghost Value = { NodesState V };
 
-    ghost view = { λ t. record { rows = all_rows t.nodes.items; nodes = t.nodes.items } };
+    ghost view = { λ t. record { rows = all_rows (nodes_in t.blocks.items); nodes = nodes_in t.blocks.items } };
 
-    ghost invariant = { λ t. AreNodes t.nodes.items × (t.count ≡ length (all_rows t.nodes.items) % 2 ^ 64) × (t.names ≡ names_in t.nodes.items % 2 ^ 64) };
+    ghost invariant = { λ t. AreBlocks t.blocks.items × (t.count ≡ length (all_rows (nodes_in t.blocks.items)) % 2 ^ 64) × (t.names ≡ names_in (nodes_in t.blocks.items) % 2 ^ 64) };
 }
 
 /// A count of rows after a put that gave back this, modulo 2^64.
@@ -66,7 +72,7 @@ impl<V: Drop> NameTable<V> {
         ensures { result.rows ≡ [] }
     {
         NameTable {
-            nodes: Vec::new(alloc),
+            blocks: Vec::new(alloc),
             count: 0,
             names: 0,
         }
@@ -76,7 +82,7 @@ impl<V: Drop> NameTable<V> {
     pub fn get(&self, key: &Key) -> Option<&V>
         ensures { MatchOption result (row_at key.now self.now.rows ≡ None) (λ value. row_at key.now self.now.rows ≡ Some value.now) }
     {
-        match table_for(&self.nodes, key) {
+        match table_for_in_blocks(&self.blocks, key) {
             Some(table) => table.get(key),
             None => None,
         }
@@ -86,7 +92,7 @@ impl<V: Drop> NameTable<V> {
     pub fn at(&self, name: &Name) -> &[(Key, V)]
         ensures { result.now ≡ rows_of name.now self.now.rows }
     {
-        match table_of(&self.nodes, name) {
+        match table_of_in_blocks(&self.blocks, name) {
             Some(table) => table.entries(),
             None => &[],
         }
@@ -99,12 +105,12 @@ impl<V: Drop> NameTable<V> {
         self.count
     }
 
-    /// The nodes, in the order of names.
-    pub fn nodes(&self) -> &[Node<V>]
-        ensures rows { all_rows result.now ≡ self.now.rows }
-        ensures nodes { AreNodes result.now }
+    /// The names with their rows in blocks, in the order of names.
+    pub fn blocks(&self) -> &[Block<V>]
+        ensures rows { all_rows (nodes_in result.now) ≡ self.now.rows }
+        ensures nodes { AreNodes (nodes_in result.now) }
     {
-        &self.nodes
+        &self.blocks
     }
 
     /// Takes a key out, and gives its value. It takes no memory.
@@ -113,7 +119,7 @@ impl<V: Drop> NameTable<V> {
         ensures rows { self.new.rows ≡ without_rows (same_key key.now) self.old.rows }
         ensures room { (name : Labels) → room_at self.old.nodes name ≤ room_at self.new.nodes name }
     {
-        let removed = remove_in(&mut self.nodes, key, &mut self.names);
+        let removed = remove_in_blocks(&mut self.blocks, key, &mut self.names);
         let count = count_without(self.count, &removed);
         self.count = count;
         removed
@@ -127,7 +133,7 @@ impl<V: Drop> NameTable<V> {
         ensures room { OnOk result (HasRoomFor (keys_put changed.now) self.new.nodes) }
         ensures kept { (name : Labels) → room_at self.old.nodes name ≤ room_at self.new.nodes name }
     {
-        reserve_all(&mut self.nodes, changed)
+        reserve_all(&mut self.blocks, changed)
     }
 
     /// Makes room for the keys of a table, in time linear in its rows but for searches.
@@ -136,7 +142,7 @@ impl<V: Drop> NameTable<V> {
         ensures room { OnOk result (HasRoomFor (keys_of rows.now.rows) self.new.nodes) }
         ensures kept { (name : Labels) → room_at self.old.nodes name ≤ room_at self.new.nodes name }
     {
-        reserve_rows(&mut self.nodes, rows)
+        reserve_rows(&mut self.blocks, rows)
     }
 
     /// Gives a key this value, and gives back the one that it had. It takes no memory where the key is there, or there
@@ -150,7 +156,7 @@ impl<V: Drop> NameTable<V> {
         ensures here { room_at self.old.nodes key.owner ≤ room_at self.new.nodes key.owner + 1 }
         ensures others { (name : Labels) → is_eq (name_cmp name key.owner) ≡ false → room_at self.old.nodes name ≤ room_at self.new.nodes name }
     {
-        let before = put_in(&mut self.nodes, key, value, &mut self.names)?;
+        let before = put_in_blocks(&mut self.blocks, key, value, &mut self.names)?;
         let count = count_with(self.count, &before);
         self.count = count;
         Ok(before)
@@ -161,11 +167,12 @@ impl<V: Drop> NameTable<V> {
     pub fn give_back(&mut self)
         ensures { self.new.rows ≡ self.old.rows }
     {
-        let empty = self.nodes.len().saturating_sub(self.names);
-        if empty <= self.nodes.len() / NAMES_PER_EMPTY {
+        let all = names_in_blocks(&self.blocks);
+        let empty = all.saturating_sub(self.names);
+        if empty <= all / NAMES_PER_EMPTY {
             return;
         }
-        drop_empty(&mut self.nodes);
+        drop_empty_blocks(&mut self.blocks);
     }
 }
 
@@ -174,9 +181,9 @@ impl<V: Copied + Drop> NameTable<V> {
     pub fn copy(&self) -> Result<NameTable<V>, NoMemory>
         ensures { IfOk result (λ table. table.rows ≡ self.now.rows) }
     {
-        let nodes = copied_nodes(&self.nodes)?;
+        let blocks = copied_blocks(&self.blocks)?;
         Ok(NameTable {
-            nodes,
+            blocks,
             count: self.count,
             names: self.names,
         })

@@ -1,12 +1,13 @@
 //! A name with its rows (RFC 1034, 3.1), and lists of them in the order of names.
 
-ghost use Rattle.std.specs.Prelude.{◌≡◌, ◌≤◌, ◌+◌, ◌-◌, ◌%◌, ◌^◌, ◌⊎◌, [], false, cond, IfOk, IfErr, IsOk, OnOk, OnErr, IsTrue, is_some, Some, None, MatchOption};
+ghost use Rattle.std.specs.Prelude.{◌≡◌, ℕ, ◌≤◌, ◌+◌, ◌-◌, ◌%◌, ◌^◌, ◌⊎◌, [], false, cond, IfOk, IfErr, IsOk, OnOk, OnErr, IsTrue, is_some, Some, None, MatchOption};
 ghost use Rattle.std.specs.Ordering.{is_eq};
 ghost use Rattle.std.specs.List.{filter};
 ghost use Rattle.dnsname.specs.Names.{Labels, lower};
 ghost use Rattle.rrset.specs.Records.{same_key};
 ghost use Rattle.rrset.specs.KeyedRows.{put_row, without_rows, row_at};
 ghost use Rattle.rrset.specs.Tables.{HasLowerOwner};
+ghost use Rattle.nametable.specs.Blocks.{AddsNoOther};
 ghost use Rattle.nametable.specs.FirstOctets.{HasFirst};
 ghost use Rattle.nametable.specs.Nodes.{AreNodes, IsNameAt, IsNameGap, all_rows, has_rows, name_cmp, names_in, room_at, table_at};
 
@@ -17,17 +18,18 @@ use std::alloc::Global;
 use std::cmp::Ordering;
 use std::marker::Model;
 
-/// A name in lower case with the number of its first octets, and its rows.
+/// A name in lower case, and its rows.
 #[derive(Debug, Drop)]
 struct Named<V> {
-    first: u64,
     owner: Name,
     table: Table<V>,
 }
 
-/// A name in lower case and its rows, behind one pointer, so that few octets move where a name is put between others.
+/// A name in lower case and its rows, behind one pointer, so that few octets move where a name is put between others. The
+/// number of its first octets stands beside the pointer, so that most comparisons don't follow it.
 #[derive(Debug, Drop)]
 pub struct Node<V> {
+    first: u64,
     named: Box<Named<V>>,
 }
 
@@ -39,7 +41,7 @@ impl<V> Model for Node<V> {
 
     ghost view = { λ n. (n.named.value.owner, n.named.value.table) };
 
-    ghost invariant = { λ n. HasFirst n.named.value.first n.named.value.owner };
+    ghost invariant = { λ n. HasFirst n.first n.named.value.owner };
 }
 
 impl<V: Drop> Node<V> {
@@ -49,13 +51,8 @@ impl<V: Drop> Node<V> {
         ensures rows { IfOk result (λ node. node.1 ≡ table) }
     {
         let first = first_of(&owner);
-        let named = Named {
-            first,
-            owner,
-            table,
-        };
-        let named = Box::new(alloc, named)?;
-        Ok(Node { named })
+        let named = Box::new(alloc, Named { owner, table })?;
+        Ok(Node { first, named })
     }
 
     /// A name without rows, with room for so many keys.
@@ -77,10 +74,10 @@ impl<V: Drop> Node<V> {
     }
 
     /// The order of its name and of one whose first octets have this number.
-    fn compare(&self, first: u64, name: &Name) -> Ordering
+    pub(crate) fn compare(&self, first: u64, name: &Name) -> Ordering
         ensures { HasFirst first name.now → result ≡ name_cmp self.now.0 name.now }
     {
-        match self.named.first.cmp(&first) {
+        match self.first.cmp(&first) {
             Ordering::Less => Ordering::Less,
             Ordering::Equal => compare_names(&self.named.owner, name),
             Ordering::Greater => Ordering::Greater,
@@ -88,10 +85,10 @@ impl<V: Drop> Node<V> {
     }
 
     /// The order of its name and of one in lower case, whose first octets have this number there.
-    fn compare_with_lower(&self, first: u64, name: &Name) -> Ordering
+    pub(crate) fn compare_with_lower(&self, first: u64, name: &Name) -> Ordering
         ensures { HasFirst first (lower name.now) → result ≡ name_cmp self.now.0 (lower name.now) }
     {
-        match self.named.first.cmp(&first) {
+        match self.first.cmp(&first) {
             Ordering::Less => Ordering::Less,
             Ordering::Equal => compare_with_lower_name(&self.named.owner, name),
             Ordering::Greater => Ordering::Greater,
@@ -222,9 +219,9 @@ fn put_at<V: Drop>(
     requires nodes { AreNodes nodes.old }
     requires lower { HasLowerOwner key }
     requires place { IsNameAt key.owner nodes.old index }
-    requires names { names.old ≡ names_in nodes.old % 2 ^ 64 }
     ensures nodes { AreNodes nodes.new }
-    ensures names { names.new ≡ names_in nodes.new % 2 ^ 64 }
+    ensures only { AddsNoOther key.owner nodes.old nodes.new }
+    ensures names { (others : ℕ) → names.old ≡ (others + names_in nodes.old) % 2 ^ 64 → names.new ≡ (others + names_in nodes.new) % 2 ^ 64 }
     ensures value { IfOk result (λ before. before ≡ row_at key (all_rows nodes.old)) }
     ensures rows { OnOk result (all_rows nodes.new ≡ put_row key value (all_rows nodes.old)) }
     ensures none { OnErr result (all_rows nodes.new ≡ all_rows nodes.old) }
@@ -240,7 +237,7 @@ fn put_at<V: Drop>(
 }
 
 /// Gives a name that has no node one without rows, with room for so many keys.
-fn add_name<V: Drop>(
+pub(crate) fn add_name<V: Drop>(
     nodes: &mut Vec<Node<V>>,
     index: usize,
     owner: Name,
@@ -250,6 +247,7 @@ fn add_name<V: Drop>(
     requires lower { lower owner ≡ owner }
     requires place { IsNameGap owner nodes.old.items index }
     ensures nodes { AreNodes nodes.new.items }
+    ensures only { AddsNoOther owner nodes.old.items nodes.new.items }
     ensures place { OnOk result (IsNameAt owner nodes.new.items index) }
     ensures rows { all_rows nodes.new.items ≡ all_rows nodes.old.items }
     ensures room { OnOk result (keys ≤ room_at nodes.new.items owner) }
@@ -270,6 +268,7 @@ fn reserve_at<V: Drop>(
     requires nodes { AreNodes nodes.old }
     requires place { IsNameAt owner.now nodes.old index }
     ensures nodes { AreNodes nodes.new }
+    ensures only { AddsNoOther owner.now nodes.old nodes.new }
     ensures rows { all_rows nodes.new ≡ all_rows nodes.old }
     ensures room { OnOk result (keys ≤ room_at nodes.new owner.now) }
     ensures kept { (name : Labels) → room_at nodes.old name ≤ room_at nodes.new name }
@@ -286,9 +285,9 @@ fn remove_at<V: Drop>(
 ) -> Option<V>
     requires nodes { AreNodes nodes.old }
     requires place { IsNameAt key.now.owner nodes.old index }
-    requires names { names.old ≡ names_in nodes.old % 2 ^ 64 }
     ensures nodes { AreNodes nodes.new }
-    ensures names { names.new ≡ names_in nodes.new % 2 ^ 64 }
+    ensures only { AddsNoOther key.now.owner nodes.old nodes.new }
+    ensures names { (others : ℕ) → names.old ≡ (others + names_in nodes.old) % 2 ^ 64 → names.new ≡ (others + names_in nodes.new) % 2 ^ 64 }
     ensures value { result ≡ row_at key.now (all_rows nodes.old) }
     ensures rows { all_rows nodes.new ≡ without_rows (same_key key.now) (all_rows nodes.old) }
     ensures room { (name : Labels) → room_at nodes.old name ≤ room_at nodes.new name }
@@ -307,9 +306,9 @@ pub(crate) fn remove_in<V: Drop>(
     names: &mut usize,
 ) -> Option<V>
     requires nodes { AreNodes nodes.old.items }
-    requires names { names.old ≡ names_in nodes.old.items % 2 ^ 64 }
     ensures nodes { AreNodes nodes.new.items }
-    ensures names { names.new ≡ names_in nodes.new.items % 2 ^ 64 }
+    ensures only { AddsNoOther key.now.owner nodes.old.items nodes.new.items }
+    ensures names { (others : ℕ) → names.old ≡ (others + names_in nodes.old.items) % 2 ^ 64 → names.new ≡ (others + names_in nodes.new.items) % 2 ^ 64 }
     ensures value { result ≡ row_at key.now (all_rows nodes.old.items) }
     ensures rows { all_rows nodes.new.items ≡ without_rows (same_key key.now) (all_rows nodes.old.items) }
     ensures room { (name : Labels) → room_at nodes.old.items name ≤ room_at nodes.new.items name }
@@ -329,6 +328,7 @@ pub(crate) fn reserve_in<V: Drop>(
     requires nodes { AreNodes nodes.old.items }
     requires lower { lower owner.now ≡ owner.now }
     ensures nodes { AreNodes nodes.new.items }
+    ensures only { AddsNoOther owner.now nodes.old.items nodes.new.items }
     ensures rows { all_rows nodes.new.items ≡ all_rows nodes.old.items }
     ensures room { OnOk result (keys ≤ room_at nodes.new.items owner.now) }
     ensures kept { (name : Labels) → room_at nodes.old.items name ≤ room_at nodes.new.items name }
@@ -348,9 +348,9 @@ pub(crate) fn put_in<V: Drop>(
 ) -> Result<Option<V>, NoMemory>
     requires nodes { AreNodes nodes.old.items }
     requires lower { HasLowerOwner key }
-    requires names { names.old ≡ names_in nodes.old.items % 2 ^ 64 }
     ensures nodes { AreNodes nodes.new.items }
-    ensures names { names.new ≡ names_in nodes.new.items % 2 ^ 64 }
+    ensures only { AddsNoOther key.owner nodes.old.items nodes.new.items }
+    ensures names { (others : ℕ) → names.old ≡ (others + names_in nodes.old.items) % 2 ^ 64 → names.new ≡ (others + names_in nodes.new.items) % 2 ^ 64 }
     ensures value { IfOk result (λ before. before ≡ row_at key (all_rows nodes.old.items)) }
     ensures rows { OnOk result (all_rows nodes.new.items ≡ put_row key value (all_rows nodes.old.items)) }
     ensures none { OnErr result (all_rows nodes.new.items ≡ all_rows nodes.old.items) }
@@ -372,4 +372,5 @@ pub(crate) fn drop_empty<V: Drop>(nodes: &mut Vec<Node<V>>)
     ensures { nodes.new.items ≡ filter has_rows nodes.old.items }
 {
     nodes.retain(|node| node.has_rows());
+    nodes.shrink_to_fit();
 }

@@ -1,16 +1,18 @@
-//! Room for the keys of a plan, and copies.
+//! Room for the keys of a plan.
 
-ghost use Rattle.std.specs.Prelude.{◌≡◌, ◌≤◌, ◌<◌, true, IfOk, IsTrue, OnOk, is_some, length};
+ghost use Rattle.std.specs.Prelude.{◌≡◌, ◌≤◌, ◌<◌, true, IsTrue, OnOk, is_some, length};
 ghost use Rattle.std.specs.List.{AllByRecursion, filter};
 ghost use Rattle.std.specs.Ordering.{is_eq};
 ghost use Rattle.dnsname.specs.Names.{Labels, lower};
 ghost use Rattle.rrset.specs.Tables.{HasLowerOwner, HaveLowerOwners};
-ghost use Rattle.nametable.specs.Nodes.{AreAlike, AreNodes, HasRoomFor, HaveRisingKeys, all_rows, count_at, keys_of, keys_put, name_cmp, room_at};
+ghost use Rattle.nametable.specs.Blocks.{AreBlocks, nodes_in};
+ghost use Rattle.nametable.specs.Nodes.{HasRoomFor, HaveRisingKeys, all_rows, count_at, keys_of, keys_put, name_cmp, room_at};
 
-use crate::node::{Node, reserve_in};
+use crate::block::Block;
+use crate::blocks::reserve_in_blocks;
 use crate::order::compare_names;
 use dnsname::Name;
-use rrset::{Changed, Copied, NoMemory, Table};
+use rrset::{Changed, NoMemory, Table};
 
 /// The changes at keys of an owner, which stand together.
 fn changes_of<'a>(changed: &'a [Changed], owner: &Name) -> &'a [Changed]
@@ -47,41 +49,41 @@ fn keys_of(changed: &[Changed], owner: &Name) -> usize
 
 /// Makes room for the keys that changes put at the owner of one of them, where this one puts something.
 fn reserve_for_one<V: Drop>(
-    nodes: &mut Vec<Node<V>>,
+    blocks: &mut Vec<Block<V>>,
     changed: &[Changed],
     change: &Changed,
 ) -> Result<(), NoMemory>
-    requires nodes { AreNodes nodes.old.items }
+    requires blocks { AreBlocks blocks.old.items }
     requires lower { HasLowerOwner change.now.key }
     requires order { HaveRisingKeys changed.now }
-    ensures nodes { AreNodes nodes.new.items }
-    ensures rows { all_rows nodes.new.items ≡ all_rows nodes.old.items }
-    ensures room { OnOk result (IsTrue (is_some change.now.after) → count_at change.now.key.owner (keys_put changed.now) ≤ room_at nodes.new.items change.now.key.owner) }
-    ensures kept { (name : Labels) → room_at nodes.old.items name ≤ room_at nodes.new.items name }
+    ensures blocks { AreBlocks blocks.new.items }
+    ensures rows { all_rows (nodes_in blocks.new.items) ≡ all_rows (nodes_in blocks.old.items) }
+    ensures room { OnOk result (IsTrue (is_some change.now.after) → count_at change.now.key.owner (keys_put changed.now) ≤ room_at (nodes_in blocks.new.items) change.now.key.owner) }
+    ensures kept { (name : Labels) → room_at (nodes_in blocks.old.items) name ≤ room_at (nodes_in blocks.new.items) name }
 {
     if change.after.is_none() {
         return Ok(());
     }
     let owner = &change.key.owner;
     let keys = keys_of(changed, owner);
-    reserve_in(nodes, owner, keys)
+    reserve_in_blocks(blocks, owner, keys)
 }
 
 /// Makes room for the keys that changes put.
 pub(crate) fn reserve_all<V: Drop>(
-    nodes: &mut Vec<Node<V>>,
+    blocks: &mut Vec<Block<V>>,
     changed: &[Changed],
 ) -> Result<(), NoMemory>
-    requires nodes { AreNodes nodes.old.items }
+    requires blocks { AreBlocks blocks.old.items }
     requires lower { AllByRecursion (λ c. HasLowerOwner c.key) changed.now }
     requires order { HaveRisingKeys changed.now }
-    ensures nodes { AreNodes nodes.new.items }
-    ensures rows { all_rows nodes.new.items ≡ all_rows nodes.old.items }
-    ensures room { OnOk result (HasRoomFor (keys_put changed.now) nodes.new.items) }
-    ensures kept { (name : Labels) → room_at nodes.old.items name ≤ room_at nodes.new.items name }
+    ensures blocks { AreBlocks blocks.new.items }
+    ensures rows { all_rows (nodes_in blocks.new.items) ≡ all_rows (nodes_in blocks.old.items) }
+    ensures room { OnOk result (HasRoomFor (keys_put changed.now) (nodes_in blocks.new.items)) }
+    ensures kept { (name : Labels) → room_at (nodes_in blocks.old.items) name ≤ room_at (nodes_in blocks.new.items) name }
 {
     'changes: for change in changed {
-        reserve_for_one(nodes, changed, change)?;
+        reserve_for_one(blocks, changed, change)?;
     }
     Ok(())
 }
@@ -97,31 +99,18 @@ fn rows_at<V: Drop>(rows: &Table<V>, owner: &Name) -> usize
 
 /// Makes room for the keys of a table.
 pub(crate) fn reserve_rows<V: Drop>(
-    nodes: &mut Vec<Node<V>>,
+    blocks: &mut Vec<Block<V>>,
     rows: &Table<V>,
 ) -> Result<(), NoMemory>
-    requires nodes { AreNodes nodes.old.items }
-    ensures nodes { AreNodes nodes.new.items }
-    ensures rows { all_rows nodes.new.items ≡ all_rows nodes.old.items }
-    ensures room { OnOk result (HasRoomFor (keys_of rows.now.rows) nodes.new.items) }
-    ensures kept { (name : Labels) → room_at nodes.old.items name ≤ room_at nodes.new.items name }
+    requires blocks { AreBlocks blocks.old.items }
+    ensures blocks { AreBlocks blocks.new.items }
+    ensures rows { all_rows (nodes_in blocks.new.items) ≡ all_rows (nodes_in blocks.old.items) }
+    ensures room { OnOk result (HasRoomFor (keys_of rows.now.rows) (nodes_in blocks.new.items)) }
+    ensures kept { (name : Labels) → room_at (nodes_in blocks.old.items) name ≤ room_at (nodes_in blocks.new.items) name }
 {
     'rows: for (key, _) in rows.entries() {
         let keys = rows_at(rows, &key.owner);
-        reserve_in(nodes, &key.owner, keys)?;
+        reserve_in_blocks(blocks, &key.owner, keys)?;
     }
     Ok(())
-}
-
-/// Nodes with the same names and rows, each with room for no more.
-pub(crate) fn copied_nodes<V: Copied + Drop>(nodes: &Vec<Node<V>>) -> Result<Vec<Node<V>>, NoMemory>
-    ensures { IfOk result (λ copies. AreAlike copies.items nodes.now.items) }
-{
-    let alloc = *nodes.allocator();
-    let mut copies = Vec::with_capacity(alloc, nodes.len())?;
-    'nodes: for node in nodes {
-        let copy = node.copy(alloc)?;
-        copies.push(copy)?;
-    }
-    Ok(copies)
 }

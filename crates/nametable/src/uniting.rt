@@ -3,8 +3,10 @@
 ghost use Rattle.std.specs.Prelude.{◌≡◌, IfOk, OnOk};
 ghost use Rattle.rrset.specs.RecordSet.{union};
 ghost use Rattle.rrset.specs.Tables.{HaveLowerOwners};
+ghost use Rattle.nametable.specs.Blocks.{nodes_in};
 ghost use Rattle.nametable.specs.Nodes.{all_rows};
 
+use crate::block::Block;
 use crate::name_table::NameTable;
 use crate::node::Node;
 use rrset::{Key, NoMemory, Shown, Table, put_all};
@@ -20,11 +22,21 @@ fn put_nodes(all: &mut Table, nodes: &[Node<Shown>]) -> Result<(), NoMemory>
     Ok(())
 }
 
+/// Puts copies of the records of blocks over those of a table.
+fn put_blocks(all: &mut Table, blocks: &[Block<Shown>]) -> Result<(), NoMemory>
+    ensures { OnOk result (all.new.rows ≡ union all.old.rows (all_rows (nodes_in blocks.now))) }
+{
+    'blocks: for block in blocks {
+        put_nodes(all, block.nodes())?;
+    }
+    Ok(())
+}
+
 /// Puts copies of records over those of a table. Where memory runs out, some of them are put.
 pub fn put_all_names(all: &mut Table, rows: &NameTable) -> Result<(), NoMemory>
     ensures { OnOk result (all.new.rows ≡ union all.old.rows rows.now.rows) }
 {
-    put_nodes(all, rows.nodes())
+    put_blocks(all, rows.blocks())
 }
 
 /// Puts records. Where memory runs out, some of them are put.

@@ -41,12 +41,21 @@ fn filled(alloc: Global, names: u32) -> Result<NameTable, Fail> {
     Ok(table)
 }
 
+/// How many names stand in a table, with rows and without.
+fn names_of(table: &NameTable) -> usize {
+    let mut names = 0_usize;
+    'blocks: for block in table.blocks() {
+        names = names.saturating_add(block.nodes().len());
+    }
+    names
+}
+
 /// How many names a table has at most while names of these numbers come and go in turn.
 fn most_names(alloc: Global, table: &mut NameTable, first: u32, last: u32) -> Result<usize, Fail> {
     let mut most = 0;
     'names: for number in first..last {
         put(table, address(alloc, number)?)?;
-        most = most.max(table.nodes().len());
+        most = most.max(names_of(table));
         take(table, &address(alloc, number)?)?;
     }
     Ok(most)

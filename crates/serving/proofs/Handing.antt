@@ -1,14 +1,15 @@
 -- Jobs that are handed over, one behind the other.
-use Rattle.std.proofs.Common.{◌≡◌, ℕ, ◌+◌, ◌-◌, ◌≤◌, true, false, zero, suc, List, [], ◌∷◌, ◌++◌, refl, sym, ap, ◌∙◌, subst, append_assoc, append-nil, arith}
-use Rattle.std.specs.Prelude.{Result, Ok, Err, is_ok}
+use Rattle.std.proofs.Common.{◌≡◌, ℕ, ◌+◌, ◌-◌, ◌*◌, ◌≤◌, true, false, zero, suc, List, [], ◌∷◌, ◌++◌, length, refl, sym, ap, ◌∙◌, subst, append_assoc, append-nil, length-append, arith}
+use Rattle.std.proofs.lemmas.List.{length-map}
+use Rattle.std.specs.Prelude.{Result, Ok, Err, OnOk, is_ok}
 use Rattle.push_base.specs.Starter.{Jobs}
 use Rattle.push_base.specs.Told.{TellsMore}
 use Rattle.push_base.specs.declared.role.Role.{Role}
 use Rattle.push_base.specs.declared.role.Role.TheVariants as roles
 use Rattle.hublock.proofs.Leading.{tells_none, tells_join}
 use Rattle.serving.specs.Jobs.{HandsFront, HandsOver, jobs_of, link_jobs, pair_of, session_jobs}
-use Rattle.serving.specs.Servers.{SeatsAll}
-use Rattle.serving.specs.Serving.{Starts}
+use Rattle.serving.specs.Servers.{SeatsAll, ServerState}
+use Rattle.serving.specs.Serving.{Starts, StartsAll}
 
 abbrev Handed : Type 0
 Handed = List (Role × ℕ)
@@ -92,12 +93,41 @@ starts_clock turns links sessions told mid now (Err fault) e is handed front =
     front_behind (link_jobs turns links) (clock_job turns ++ session_jobs turns sessions) told mid now handed (front_longer (clock_job turns) (session_jobs turns sessions) mid now front)
 
 -- at a session, or nowhere
-pub starts_all : {A E : Type 0} (turns : ℕ) (links : List ℕ) (sessions : ℕ) (told mid later now : Jobs) (r : Result A E)
-    → TellsMore told mid (link_jobs turns links) → TellsMore mid later (clock_job turns) → SeatsAll turns sessions later now r → Starts (is_ok r) turns links sessions told now
-starts_all turns links sessions told mid later now (Ok done) handed clock (seats, are, opened) =
-    (seats, are, tells_join told mid now (link_jobs turns links) (clock_job turns ++ session_jobs turns seats) handed (tells_join mid later now (clock_job turns) (session_jobs turns seats) clock opened))
-starts_all turns links sessions told mid later now (Err fault) handed clock front =
+pub starts_all : {A E : Type 0} (turns : ℕ) (links : List ℕ) (sessions : ℕ) (told mid later now : Jobs) (before after : ServerState) (r : Result A E)
+    → TellsMore told mid (link_jobs turns links) → TellsMore mid later (clock_job turns) → SeatsAll turns sessions later now before after r → Starts (is_ok r) turns links sessions told now
+starts_all turns links sessions told mid later now before after (Ok done) handed clock (are, opened, jobs) =
+    (after.made, are, tells_join told mid now (link_jobs turns links) (clock_job turns ++ session_jobs turns after.made) handed (tells_join mid later now (clock_job turns) (session_jobs turns after.made) clock opened))
+starts_all turns links sessions told mid later now before after (Err fault) handed clock front =
     front_behind (link_jobs turns links) (clock_job turns ++ session_jobs turns sessions) told mid now handed (front_behind (clock_job turns) (session_jobs turns sessions) mid later now clock front)
+
+sessions_length : (turns n : ℕ) → length (session_jobs turns n) ≡ 2 * n
+sessions_length turns zero = refl
+sessions_length turns (suc n) =
+    let before : length (session_jobs turns n) ≡ 2 * n = sessions_length turns n in
+    let more : length (session_jobs turns (suc n)) ≡ length (session_jobs turns n) + 2 = length-append (session_jobs turns n) (pair_of turns n) in
+    omega (arith, before, more)
+
+jobs_length : (turns : ℕ) (links : List ℕ) (seats : ℕ) → length (jobs_of turns links seats) ≡ length links + (1 + 2 * seats)
+jobs_length turns links seats =
+    let parted : length (jobs_of turns links seats) ≡ length (link_jobs turns links) + suc (length (session_jobs turns seats)) = length-append (link_jobs turns links) (clock_job turns ++ session_jobs turns seats) in
+    let linked : length (link_jobs turns links) ≡ length links = length-map links (λ (link : ℕ). (roles.Link link, turns)) in
+    let seated : length (session_jobs turns seats) ≡ 2 * seats = sessions_length turns seats in
+    omega (arith, parted, linked, seated)
+
+counted_jobs : (linked jobs first made many all : ℕ) → linked ≡ many → first ≡ 1 → jobs ≡ first + 2 * made → all ≡ many + (1 + 2 * made) → linked + jobs ≡ all
+counted_jobs linked jobs first made many all same one is whole = omega arith
+
+-- all jobs were started, as many as the server holds
+pub starts_whole : {A E : Type 0} (turns : ℕ) (links : List ℕ) (sessions : ℕ) (told mid later now : Jobs) (before after : ServerState) (r : Result A E)
+    → TellsMore told mid (link_jobs turns links) → TellsMore mid later (clock_job turns) → SeatsAll turns sessions later now before after r → before.jobs ≡ 1 → after.links ≡ links
+    → OnOk r (StartsAll turns links sessions told now (length after.links + after.jobs))
+starts_whole turns links sessions told mid later now before after (Ok done) handed clock (are, opened, jobs) one same = (
+  after.made,
+  are,
+  tells_join told mid now (link_jobs turns links) (clock_job turns ++ session_jobs turns after.made) handed (tells_join mid later now (clock_job turns) (session_jobs turns after.made) clock opened),
+  counted_jobs (length after.links) after.jobs before.jobs after.made (length links) (length (jobs_of turns links after.made)) (ap (λ (ls : List ℕ). length ls) same) one jobs (jobs_length turns links after.made),
+)
+starts_whole turns links sessions told mid later now before after (Err fault) handed clock front one same = tt
 
 -- ---- a job by its role and its turns
 

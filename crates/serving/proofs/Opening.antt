@@ -174,9 +174,9 @@ sessions_fault A E turns k sessions told mid now before server next fault more s
     let few : suc server.made ≤ sessions = omega (arith, so_far.most, more) in
     front_of_more turns (suc server.made) sessions told now few (front_behind (session_jobs turns server.made) (pair_of turns server.made) told mid now so_far.handed pair)
 
-pub seats_err : {A E : Type 0} (turns sessions : ℕ) (told now : Jobs) (r : Result A E) (e : E) → r ≡ Err e → HandsFront (session_jobs turns sessions) told now → SeatsAll turns sessions told now r
-seats_err turns sessions told now (Ok done) e is front = absurd cc
-seats_err turns sessions told now (Err f) e is front = front
+pub seats_err : {A E : Type 0} (turns sessions : ℕ) (told now : Jobs) (before after : ServerState) (r : Result A E) (e : E) → r ≡ Err e → HandsFront (session_jobs turns sessions) told now → SeatsAll turns sessions told now before after r
+seats_err turns sessions told now before after (Ok done) e is front = absurd cc
+seats_err turns sessions told now before after (Err f) e is front = front
 
 -- ---- one session
 
@@ -277,10 +277,12 @@ pub links_count_err : (A E : Type 0) (left after : List ℕ) (mid now : Jobs) (s
 links_count_err A E [] after mid now server next fault step = absurd step
 links_count_err A E (link ∷ others) after mid now server next fault (front, same, kept) = ap (λ (ls : List ℕ). length ls) kept
 
+pub links_all : (turns : ℕ) (numbers left : List ℕ) (told now : Jobs) (server : ServerState) → LinksSoFar turns numbers left told now server → left ≡ [] → server.links ≡ numbers
+links_all turns numbers left told now server so_far over = sym (append-nil server.links) ∙ (ap (λ (ls : List ℕ). server.links ++ ls) (sym over) ∙ so_far.parted)
+
 pub links_ended : (turns : ℕ) (numbers left : List ℕ) (told now : Jobs) (server : ServerState) → LinksSoFar turns numbers left told now server → left ≡ [] → TellsMore told now (link_jobs turns numbers)
 links_ended turns numbers left told now server so_far over =
-    let all : server.links ≡ numbers = sym (append-nil server.links) ∙ (ap (λ (ls : List ℕ). server.links ++ ls) (sym over) ∙ so_far.parted) in
-    subst (λ (ls : List ℕ). TellsMore told now (link_jobs turns ls)) all so_far.handed
+    subst (λ (ls : List ℕ). TellsMore told now (link_jobs turns ls)) (links_all turns numbers left told now server so_far over) so_far.handed
 
 moved_part : (parts links jobs : ℕ) → 1 ≤ parts → parts + (links + jobs) ≡ parts_each → (parts - 1) + (links + (jobs + 1)) ≡ parts_each
 moved_part parts links jobs some whole = omega arith

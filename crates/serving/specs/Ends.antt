@@ -1,11 +1,16 @@
 -- How a server ends.
---     cause_of, cause_of_link, cause_at      the cause that a loop's end is, that of a link's loop, and that for which a server is given up
---     rank, worst      how bad a cause is, and the worse of two
---     end_for, EndsAs      the end of a server, and of one that is given up
+--     is_starved, is_link_fault, is_full      how a loop ended
+--     EndsFor      the end of a server, by how its loops ended and whether the outside failed while they were started
+--     CountsAs      the counts are the sums of a feed that has every part
+--     CountsEnds      as many loops ended as jobs were started
+--     lacks_memory, fails_outside, EndsAs      why a server is given up, and how it ends then
+--     cause_of, end_for      the cause that a server ends for, and its end
 --     tells_fault      datagrams that failed have counted that
-use Rattle.std.specs.Prelude.{◌≡◌, ◌⊎◌, ⊤, ℕ, Bool, true, nat_lt, if◌then◌else◌, None, Some, Result, Ok, Err}
+use Rattle.std.specs.Prelude.{◌≡◌, ◌⊎◌, ◌||◌, ⊤, ℕ, Bool, true, false, nat_lt, None, Some, List, Result, Ok, Err}
 use Rattle.std.specs.declared.option.Option.{Option}
+use Rattle.std.specs.List.{list_any}
 use Rattle.history.specs.declared.entry.Totals.{Totals}
+use Rattle.hublock.specs.Feeds.{FeedState}
 use Rattle.hublock.specs.declared.ends.LoopEnd.{LoopEnd}
 use Rattle.hublock.specs.declared.ends.LoopEnd.TheVariants as loops
 use Rattle.serving.specs.declared.ends.ServeEnd.{ServeEnd}
@@ -15,28 +20,69 @@ use Rattle.serving.specs.declared.ends.Fault.TheVariants as faults
 use Rattle.serving.specs.declared.ends.Cause.{Cause}
 use Rattle.serving.specs.declared.ends.Cause.TheVariants as causes
 
-abbrev pub cause_of : LoopEnd → Option Cause
-cause_of loops.Full = Some causes.Full
-cause_of loops.NoMemory = Some causes.NoMemory
-cause_of _ = None
+-- memory ran out for a loop
+abbrev pub is_starved : LoopEnd → Bool
+is_starved loops.NoMemory = true
+is_starved _ = false
 
-abbrev pub cause_of_link : LoopEnd → Option Cause
-cause_of_link loops.LinkFault = Some causes.Outside
-cause_of_link end = cause_of end
+-- the datagrams of a link failed
+abbrev pub is_link_fault : LoopEnd → Bool
+is_link_fault loops.LinkFault = true
+is_link_fault _ = false
 
-abbrev pub cause_at : {A : Type 0} → Result A Fault → Option Cause
-cause_at (Ok done) = None
-cause_at (Err faults.Outside) = Some causes.Outside
-cause_at (Err faults.NoMemory) = Some causes.NoMemory
+-- the journal is full
+abbrev pub is_full : LoopEnd → Bool
+is_full loops.Full = true
+is_full _ = false
 
-abbrev pub rank : Option Cause → ℕ
-rank None = 0
-rank (Some causes.Full) = 1
-rank (Some causes.Outside) = 2
-rank (Some causes.NoMemory) = 3
+-- How a server ended whose loops ended so, and for which the outside failed or didn't while they were started. Want of memory is
+-- free; every other end says that no loop told of a worse one.
+abbrev pub EndsFor : ServeEnd → List LoopEnd → Type 0 → Type 0
+EndsFor (ends.Served totals) told failed = (list_any is_starved told ≡ false) × (list_any is_link_fault told ≡ false) × (list_any is_full told ≡ false)
+EndsFor ends.Full told failed = (list_any is_starved told ≡ false) × (list_any is_link_fault told ≡ false) × (list_any is_full told ≡ true)
+EndsFor ends.OutsideFault told failed = (list_any is_starved told ≡ false) × ((list_any is_link_fault told ≡ true) ⊎ failed)
+EndsFor ends.NoMemory told failed = ⊤
 
-abbrev pub worst : Option Cause → Option Cause → Option Cause
-worst next so_far = if nat_lt (rank so_far) (rank next) then next else so_far
+-- Where all jobs were started, there is a feed of all their parts, which are all that there are; and the counts are its sums. There
+-- is none only where memory ran out.
+abbrev pub CountsAs : Totals → ServeEnd → Option FeedState → Type 0
+CountsAs all end None = end ≡ ends.NoMemory
+CountsAs all (ends.Served totals) (Some feed) = (feed.parts ≡ all) × (feed.sums ≡ totals)
+CountsAs all ends.Full (Some feed) = feed.parts ≡ all
+CountsAs all ends.OutsideFault (Some feed) = ⊤
+CountsAs all ends.NoMemory (Some feed) = ⊤
+
+-- so many loops ended, as many as jobs were started; unless memory ran out
+abbrev pub CountsEnds : ServeEnd → ℕ → ℕ → Type 0
+CountsEnds ends.NoMemory ended started = ⊤
+CountsEnds (ends.Served totals) ended started = ended ≡ started
+CountsEnds ends.Full ended started = ended ≡ started
+CountsEnds ends.OutsideFault ended started = ended ≡ started
+
+-- ---- how that end is found
+
+-- the server was given up for want of memory
+abbrev pub lacks_memory : {A : Type 0} → Result A Fault → Bool
+lacks_memory (Ok done) = false
+lacks_memory (Err faults.Outside) = false
+lacks_memory (Err faults.NoMemory) = true
+
+-- for a fault of the outside
+abbrev pub fails_outside : {A : Type 0} → Result A Fault → Bool
+fails_outside (Ok done) = false
+fails_outside (Err faults.Outside) = true
+fails_outside (Err faults.NoMemory) = false
+
+-- the worst of the causes that are there
+abbrev pub worst_cause : Bool → Bool → Bool → Option Cause
+worst_cause true failed full = Some causes.NoMemory
+worst_cause false true full = Some causes.Outside
+worst_cause false false true = Some causes.Full
+worst_cause false false false = None
+
+-- by what it was given up for, whether memory ran out for the list of the loops' ends, and these
+abbrev pub cause_of : {A : Type 0} → Result A Fault → Bool → List LoopEnd → Option Cause
+cause_of opened starved told = worst_cause (starved || (lacks_memory opened || list_any is_starved told)) (fails_outside opened || list_any is_link_fault told) (list_any is_full told)
 
 -- with these sums, unless there is a cause to end otherwise
 abbrev pub end_for : Option Cause → Totals → ServeEnd
@@ -45,13 +91,13 @@ end_for (Some causes.Full) sums = ends.Full
 end_for (Some causes.Outside) sums = ends.OutsideFault
 end_for (Some causes.NoMemory) sums = ends.NoMemory
 
--- datagrams that failed have counted that
-abbrev pub tells_fault : LoopEnd → ℕ → Bool
-tells_fault loops.LinkFault count = nat_lt 0 count
-tells_fault _ count = true
-
 -- a server that is given up ends so, or as one that is out of memory
 abbrev pub EndsAs : {A : Type 0} → Result A Fault → ServeEnd → Type 0
 EndsAs (Ok done) end = ⊤
 EndsAs (Err faults.Outside) end = (end ≡ ends.OutsideFault) ⊎ (end ≡ ends.NoMemory)
 EndsAs (Err faults.NoMemory) end = end ≡ ends.NoMemory
+
+-- datagrams that failed have counted that
+abbrev pub tells_fault : LoopEnd → ℕ → Bool
+tells_fault loops.LinkFault count = nat_lt 0 count
+tells_fault _ count = true

@@ -1,13 +1,18 @@
 -- The jobs that a server hands to the starter.
+--     is_link      a role is that of a link's job
 --     link_jobs, session_jobs, jobs_of      those of the links, of the sessions that got a seat, and all in order
 --     AreSeats      how many of the accepted sessions got a seat
 --     HandsFront, HandsOver      the first of these jobs were handed over; all of them, unless the server is given up
-use Rattle.std.specs.Prelude.{◌≡◌, ◌≤◌, ℕ, min, zero, suc, List, [], ◌∷◌, ◌++◌, map, Result, Ok, Err}
+use Rattle.std.specs.Prelude.{◌≡◌, ◌≤◌, ℕ, Bool, true, false, min, zero, suc, List, [], ◌∷◌, ◌++◌, map, Result, Ok, Err}
 use Rattle.push_base.specs.Starter.{Jobs}
 use Rattle.push_base.specs.Told.{TellsMore}
 use Rattle.push_base.specs.declared.role.Role.{Role}
 use Rattle.push_base.specs.declared.role.Role.TheVariants as roles
 use Rattle.pushserver.specs.Hubs.{max_sessions}
+
+abbrev pub is_link : Role → Bool
+is_link (roles.Link link) = true
+is_link _ = false
 
 -- one for each link
 abbrev pub link_jobs : ℕ → List ℕ → List (Role × ℕ)

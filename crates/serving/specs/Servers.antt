@@ -2,9 +2,9 @@
 --     ServerState      the parts of its feed, its seats, and the jobs that were started
 --     IsWhole      its feed and its jobs have all parts
 --     SeatsOne      one session got a seat or not
---     SeatsAll      so many sessions were accepted, and the first of them got seats
+--     SeatsAll      so many sessions were accepted, and the first of them got seats, each with two jobs
 --     StartsFirst      the job of the first link was started
-use Rattle.std.specs.Prelude.{◌≡◌, ◌⊎◌, ◌≤◌, ℕ, ◌+◌, ◌-◌, List, [], ◌∷◌, ◌++◌, length, Result, Ok, Err}
+use Rattle.std.specs.Prelude.{◌≡◌, ◌⊎◌, ◌≤◌, ℕ, ◌+◌, ◌-◌, ◌*◌, List, [], ◌∷◌, ◌++◌, length, Result, Ok, Err}
 use Rattle.push_base.specs.Starter.{Jobs}
 use Rattle.push_base.specs.Told.{TellsMore}
 use Rattle.push_base.specs.declared.role.Role.TheVariants as roles
@@ -13,7 +13,7 @@ use Rattle.hublock.specs.Feeds.{parts_each}
 use Rattle.serving.specs.Jobs.{AreSeats, HandsFront, pair_of, session_jobs}
 
 -- the parts of each ledger that its feed has, how many sessions were made, the links whose jobs were started, how many other
--- jobs were, and the turns of each
+-- jobs were, and the turns of each; a job that is over counts as if it still had its part
 pub record ServerState : Type 0 where
   pub parts : ℕ
   pub made : ℕ
@@ -52,9 +52,10 @@ SeatsOne told now before after (Ok done) =
 SeatsOne told now before after (Err e) = HandsFront (pair_of before.turns before.made) told now
 
 -- of so many sessions the first got seats, and their jobs were handed over; else the first of these jobs
-abbrev pub SeatsAll : {A E : Type 0} → ℕ → ℕ → Jobs → Jobs → Result A E → Type 0
-SeatsAll turns sessions told now (Ok done) = (seats : ℕ) × AreSeats sessions seats × TellsMore told now (session_jobs turns seats)
-SeatsAll turns sessions told now (Err e) = HandsFront (session_jobs turns sessions) told now
+abbrev pub SeatsAll : {A E : Type 0} → ℕ → ℕ → Jobs → Jobs → ServerState → ServerState → Result A E → Type 0
+SeatsAll turns sessions told now before after (Ok done) =
+    AreSeats sessions after.made × TellsMore told now (session_jobs turns after.made) × (after.jobs ≡ before.jobs + 2 * after.made)
+SeatsAll turns sessions told now before after (Err e) = HandsFront (session_jobs turns sessions) told now
 
 -- the job of the first link was handed over, the others and a part are left; where the server is given up, it may be among them
 abbrev pub StartsFirst : {A E : Type 0} → List ℕ → List ℕ → Jobs → Jobs → ServerState → ServerState → Result A E → Type 0

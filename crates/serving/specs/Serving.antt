@@ -3,8 +3,9 @@
 --     is_full_run      a server that ended so started all its jobs
 --     CountsBy      a count that is told went on by so many
 --     Starts, Accepts, Returns      the jobs, the sessions, and the links whose datagrams are given back
+--     StartsAll, Finishes      all jobs were started, and so many loops ended
 --     has_fault, CountsFault      datagrams are among these that failed; something outside counted a fault
-use Rattle.std.specs.Prelude.{◌≡◌, ◌⊎◌, ◌≤◌, ◌+◌, ◌-◌, ◌^◌, ⊤, ℕ, Bool, true, false, None, Some, min, nat_lt, List, ◌∷◌, ◌++◌, map}
+use Rattle.std.specs.Prelude.{◌≡◌, ◌⊎◌, ◌≤◌, ◌+◌, ◌-◌, ◌^◌, ⊤, ℕ, Bool, true, false, None, Some, min, nat_lt, List, ◌∷◌, ◌++◌, length, map}
 use Rattle.std.specs.declared.option.Option.{Option}
 use Rattle.std.specs.List.{list_any}
 use Rattle.push_base.specs.Causes.{Rose}
@@ -38,6 +39,15 @@ is_full_run ends.NoMemory = false
 abbrev pub Starts : Bool → ℕ → List ℕ → ℕ → Jobs → Jobs → Type 0
 Starts true turns links sessions told now = (seats : ℕ) × AreSeats sessions seats × TellsMore told now (jobs_of turns links seats)
 Starts false turns links sessions told now = HandsFront (jobs_of turns links sessions) told now
+
+-- all jobs were started, and there are so many of them
+abbrev pub StartsAll : ℕ → List ℕ → ℕ → Jobs → Jobs → ℕ → Type 0
+StartsAll turns links sessions told now count = (seats : ℕ) × AreSeats sessions seats × TellsMore told now (jobs_of turns links seats) × (count ≡ length (jobs_of turns links seats))
+
+-- in a full run as many loops ended as there were jobs
+abbrev pub Finishes : Bool → ℕ → List ℕ → ℕ → Jobs → Jobs → ℕ → Type 0
+Finishes true turns links sessions told now count = StartsAll turns links sessions told now count
+Finishes false turns links sessions told now count = ⊤
 
 -- a count of 64 bits that is told went on by so many; at its last value it stays
 abbrev pub CountsBy : ℕ → Option ℕ → Option ℕ → Type 0

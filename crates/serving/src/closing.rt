@@ -1,31 +1,51 @@
 //! The jobs of a server, as they are finished.
 
-ghost use Rattle.std.specs.Prelude.{◌≡◌, ◌⊎◌, ◌<◌, ◌≤◌, ◌+◌, ◌++◌, None, Some, true, List, map, length, vec_len, vec_capacity, OnOk, IsErrOf};
-ghost use Rattle.std.specs.List.{insert};
+ghost use Rattle.std.specs.Prelude.{◌≡◌, ◌⊎◌, ◌<◌, ◌≤◌, ◌+◌, ◌++◌, ◌∷◌, [], None, Some, true, false, List, map, length, vec_len, vec_capacity, OnOk, IsErrOf};
+ghost use Rattle.std.specs.List.{insert, list_any};
 ghost use Rattle.hublock.specs.Feeds.{added, each, parts_each};
 ghost use Rattle.serving.specs.declared.ends.Cause.TheVariants as causes;
-ghost use Rattle.serving.specs.Ends.{EndsAs, end_for, rank};
+ghost use Rattle.serving.specs.Ends.{CountsAs, CountsEnds, EndsAs, EndsFor, end_for, is_link_fault, tells_fault};
 ghost use Rattle.serving.specs.Servers.{IsWhole};
 ghost use Rattle.serving.specs.Serving.{has_fault, numbers_of};
 
-use crate::ends::{Cause, Fault, cause_at, cause_of, cause_of_link, worst};
+use crate::ends::{Cause, Fault, cause_of};
 use crate::link_job::LinkJob;
+use crate::other_job::OtherJob;
+use crate::running::Running;
 use crate::server::{Hearing, Server};
 use crate::{Fed, ServeEnd, Served};
-use hublock::{Feed, HubLock, Job, finish};
+use hublock::{Feed, HubLock, LoopEnd, finish};
 use push_base::{Clock, Datagrams, Line, Pending, Sink};
 use std::sync::Wait;
 use std::sync::ledger::Ledger;
 use std::thread::Threads;
 
-/// What the jobs that are over leave: a feed, into which theirs were joined, and the worst cause that they ended for.
+/// How the loops of the jobs that are over ended, and whether memory ran out for this list.
 #[derive(Drop)]
-pub(crate) struct Left<C: Ledger, H: Ledger, M: Ledger> {
-    feed: Feed<C, H, M>,
-    cause: Option<Cause>,
+struct Noted {
+    ends: Vec<LoopEnd>,
+    starved: bool,
 }
 
-/// Finishes the job of a link. Gives its datagrams.
+/// Notes how one more loop ended.
+fn note(noted: &mut Noted, end: LoopEnd)
+    ensures { noted.new.starved ≡ false → (noted.old.starved ≡ false) × (noted.new.ends.items ≡ noted.old.ends.items ++ end ∷ []) }
+{
+    if noted.ends.push(end).is_err() {
+        noted.starved = true;
+    }
+}
+
+/// Notes how the loops ended of the jobs that were over before.
+fn note_over(noted: &mut Noted, ends: Vec<LoopEnd>)
+    ensures { noted.new.starved ≡ false → (noted.old.starved ≡ false) × (noted.new.ends.items ≡ noted.old.ends.items ++ ends.items) }
+{
+    if noted.ends.extend_from_slice(&ends).is_err() {
+        noted.starved = true;
+    }
+}
+
+/// Finishes the job of a link. Gives how its loop ended, the feed with the job's, and its datagrams.
 fn finish_link<
     R: Threads + Wait + Copy + Send + 'static,
     L: Line + Drop + Send + 'static,
@@ -39,19 +59,13 @@ fn finish_link<
 >(
     rt: R,
     job: Pending<LinkJob<R, L, K, G, T, C, H, M, S>>,
-    left: Left<C, H, M>,
-) -> (Left<C, H, M>, G)
-    ensures parts { result.0.feed.parts ≡ added left.feed.parts (each 1) }
-    ensures worse { rank left.cause ≤ rank result.0.cause }
-    ensures outside { result.0.cause ≡ Some causes.Outside → (left.cause ≡ Some causes.Outside) ⊎ (0 < G.faults result.1) }
+    feed: Feed<C, H, M>,
+) -> (LoopEnd, Feed<C, H, M>, G)
+    ensures parts { result.1.parts ≡ added feed.parts (each 1) }
+    ensures failed { tells_fault result.0 (G.faults result.2) ≡ true }
 {
     let over = job.finish(&rt);
-    let Left { feed, cause } = left;
-    let left = Left {
-        feed: feed.join(over.feed),
-        cause: worst(cause_of_link(over.end), cause),
-    };
-    (left, over.datagrams)
+    (over.end, feed.join(over.feed), over.datagrams)
 }
 
 /// Puts datagrams back at their place. There is room for them.
@@ -68,8 +82,8 @@ fn put_back<G: Drop>(links: &mut Vec<Fed<G>>, place: usize, fed: Fed<G>)
     }
 }
 
-/// Finishes the jobs of the links, in the order of their starts. Their datagrams are given back before those that no job
-/// has.
+/// Finishes the jobs of the links, in the order of their starts, and notes how their loops ended. Their datagrams are given
+/// back before those that no job has.
 fn finish_links<
     R: Threads + Wait + Copy + Send + 'static,
     L: Line + Drop + Send + 'static,
@@ -83,28 +97,31 @@ fn finish_links<
 >(
     rt: R,
     hearings: Vec<Hearing<R, L, K, G, T, C, H, M, S>>,
-    left: Left<C, H, M>,
+    feed: Feed<C, H, M>,
+    noted: &mut Noted,
     links: &mut Vec<Fed<G>>,
-) -> Left<C, H, M>
-    requires { vec_len links.old + vec_len hearings ≤ vec_capacity links.old }
-    ensures parts { result.feed.parts ≡ added left.feed.parts (each (vec_len hearings)) }
-    ensures worse { rank left.cause ≤ rank result.cause }
-    ensures outside { result.cause ≡ Some causes.Outside → (left.cause ≡ Some causes.Outside) ⊎ (has_fault G.faults links.new.items ≡ true) }
+) -> Feed<C, H, M>
+    requires none { noted.old.ends.items ≡ [] }
+    requires room { vec_len links.old + vec_len hearings ≤ vec_capacity links.old }
+    ensures parts { result.parts ≡ added feed.parts (each (vec_len hearings)) }
+    ensures count { noted.new.starved ≡ false → length noted.new.ends.items ≡ vec_len hearings }
+    ensures failed { noted.new.starved ≡ false → list_any is_link_fault noted.new.ends.items ≡ true → has_fault G.faults links.new.items ≡ true }
     ensures links { numbers_of links.new.items ≡ map (λ h. h.link) hearings.items ++ numbers_of links.old.items }
 {
-    let mut left = left;
+    let mut feed = feed;
     let mut place = 0;
     'hearings: for hearing in hearings {
         let Hearing { link, job } = hearing;
-        let (now, datagrams) = finish_link::<R, L, K, G, T, C, H, M, S>(rt, job, left);
-        left = now;
+        let (end, joined, datagrams) = finish_link::<R, L, K, G, T, C, H, M, S>(rt, job, feed);
+        feed = joined;
+        note(noted, end);
         put_back(links, place, Fed { link, datagrams });
         place += 1;
     }
-    left
+    feed
 }
 
-/// Finishes a job that isn't a link's.
+/// Finishes a job that isn't a link's. Gives how its loop ended, and the feed with the job's.
 fn finish_job<
     R: Threads + Wait + Copy + Send + 'static,
     L: Line + Drop + Send + 'static,
@@ -115,20 +132,19 @@ fn finish_job<
     H: Ledger + Send + Sync + 'static,
     M: Ledger + Send + Sync + 'static,
     S: Ledger + Send + Sync + 'static,
->(rt: R, job: Pending<Job<R, L, K, G, T, C, H, M, S>>, left: Left<C, H, M>) -> Left<C, H, M>
-    ensures parts { result.feed.parts ≡ added left.feed.parts (each 1) }
-    ensures worse { rank left.cause ≤ rank result.cause }
-    ensures outside { result.cause ≡ Some causes.Outside → left.cause ≡ Some causes.Outside }
+>(
+    rt: R,
+    job: Pending<OtherJob<R, L, K, G, T, C, H, M, S>>,
+    feed: Feed<C, H, M>,
+) -> (LoopEnd, Feed<C, H, M>)
+    ensures parts { result.1.parts ≡ added feed.parts (each 1) }
+    ensures linkless { is_link_fault result.0 ≡ false }
 {
     let over = job.finish(&rt);
-    let Left { feed, cause } = left;
-    Left {
-        feed: feed.join(over.feed),
-        cause: worst(cause_of(over.end), cause),
-    }
+    (over.end, feed.join(over.feed))
 }
 
-/// Finishes all jobs that aren't links', in the order of their starts.
+/// Finishes all jobs that aren't links', in the order of their starts, and notes how their loops ended.
 fn finish_jobs<
     R: Threads + Wait + Copy + Send + 'static,
     L: Line + Drop + Send + 'static,
@@ -139,16 +155,25 @@ fn finish_jobs<
     H: Ledger + Send + Sync + 'static,
     M: Ledger + Send + Sync + 'static,
     S: Ledger + Send + Sync + 'static,
->(rt: R, jobs: Vec<Pending<Job<R, L, K, G, T, C, H, M, S>>>, left: Left<C, H, M>) -> Left<C, H, M>
-    ensures parts { result.feed.parts ≡ added left.feed.parts (each (vec_len jobs)) }
-    ensures worse { rank left.cause ≤ rank result.cause }
-    ensures outside { result.cause ≡ Some causes.Outside → left.cause ≡ Some causes.Outside }
+>(
+    rt: R,
+    jobs: Vec<Running<R, L, K, G, T, C, H, M, S>>,
+    feed: Feed<C, H, M>,
+    noted: &mut Noted,
+) -> Feed<C, H, M>
+    ensures parts { result.parts ≡ added feed.parts (each (vec_len jobs)) }
+    ensures starved { noted.new.starved ≡ false → noted.old.starved ≡ false }
+    ensures count { noted.new.starved ≡ false → length noted.new.ends.items ≡ length noted.old.ends.items + vec_len jobs }
+    ensures failed { noted.new.starved ≡ false → list_any is_link_fault noted.new.ends.items ≡ list_any is_link_fault noted.old.ends.items }
 {
-    let mut left = left;
+    let mut feed = feed;
     'jobs: for job in jobs {
-        left = finish_job::<R, L, K, G, T, C, H, M, S>(rt, job, left);
+        let Running { job, over: _ } = job;
+        let (end, joined) = finish_job::<R, L, K, G, T, C, H, M, S>(rt, job, feed);
+        feed = joined;
+        note(noted, end);
     }
-    left
+    feed
 }
 
 /// How a server ends: with the journal's counts, which are the sums of the feed that has every part, unless there is a
@@ -156,12 +181,13 @@ fn finish_jobs<
 fn end_of<R: Wait, C: Ledger, H: Ledger, M: Ledger, S: Ledger>(
     rt: &R,
     lock: &HubLock<C, H, M, S>,
-    left: Left<C, H, M>,
+    cause: Option<Cause>,
+    feed: &mut Feed<C, H, M>,
 ) -> ServeEnd
-    requires { left.cause ≡ None → (left.feed.parts.changes ≡ C.parts) × (left.feed.parts.heard ≡ H.parts) × (left.feed.parts.moments ≡ M.parts) }
-    ensures { result ≡ end_for left.cause left.feed.sums }
+    requires { cause ≡ None → (feed.old.parts.changes ≡ C.parts) × (feed.old.parts.heard ≡ H.parts) × (feed.old.parts.moments ≡ M.parts) }
+    ensures end { result ≡ end_for cause feed.old.sums }
+    ensures same { feed.new ≡ feed.old }
 {
-    let Left { feed, cause } = left;
     match cause {
         None => ServeEnd::Served(finish(rt, lock, feed)),
         Some(Cause::Full) => ServeEnd::Full,
@@ -170,7 +196,8 @@ fn end_of<R: Wait, C: Ledger, H: Ledger, M: Ledger, S: Ledger>(
     }
 }
 
-/// Finishes all jobs that were started, in the order of their starts. Where the server is given up, they are told to stop.
+/// Finishes all jobs that aren't finished yet, in the order of their starts. Where the server is given up, they are told to
+/// stop.
 pub(crate) fn close<
     R: Threads + Wait + Copy + Send + 'static,
     L: Line + Drop + Send + 'static,
@@ -185,11 +212,14 @@ pub(crate) fn close<
     server: Server<R, L, K, G, T, C, H, M, S>,
     opened: Result<(), Fault>,
     links: Vec<Fed<G>>,
-) -> Served<G>
+) -> Served<G, C, H, M>
     requires whole { OnOk opened (IsWhole server) }
     requires room { vec_len links + length server.links ≤ vec_capacity links }
     requires all { (C.parts ≡ parts_each) × (H.parts ≡ parts_each) × (M.parts ≡ parts_each) }
     ensures end { EndsAs opened result.end }
+    ensures counts { CountsAs (record { changes = C.parts; heard = H.parts; moments = M.parts }) result.end result.feed }
+    ensures ended { EndsFor result.end result.ends.items (IsErrOf opened Fault.Outside) }
+    ensures finished { CountsEnds result.end (length result.ends.items) (length server.links + server.jobs) }
     ensures outside { result.end ≡ ServeEnd.OutsideFault → IsErrOf opened Fault.Outside ⊎ (has_fault G.faults result.links.items ≡ true) }
     ensures links { numbers_of result.links.items ≡ server.links ++ numbers_of links.items }
 {
@@ -198,21 +228,30 @@ pub(crate) fn close<
     }
     let Server {
         rt,
+        alloc,
         lock,
         feed,
         hearings,
         jobs,
+        ends,
         ..
     } = server;
     let mut links = links;
-    let left = Left {
-        feed,
-        cause: cause_at(opened),
+    let mut noted = Noted {
+        ends: Vec::new(alloc),
+        starved: false,
     };
-    let left = finish_links::<R, L, K, G, T, C, H, M, S>(rt, hearings, left, &mut links);
-    let left = finish_jobs::<R, L, K, G, T, C, H, M, S>(rt, jobs, left);
+    let feed = finish_links::<R, L, K, G, T, C, H, M, S>(
+        rt, hearings, feed, &mut noted, &mut links,
+    );
+    note_over(&mut noted, ends);
+    let mut feed = finish_jobs::<R, L, K, G, T, C, H, M, S>(rt, jobs, feed, &mut noted);
+    let cause = cause_of(opened, noted.starved, noted.ends.as_slice());
+    let end = end_of(&rt, &lock, cause, &mut feed);
     Served {
-        end: end_of(&rt, &lock, left),
+        end,
         links,
+        ends: noted.ends,
+        feed: Some(feed),
     }
 }

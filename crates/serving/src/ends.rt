@@ -1,8 +1,9 @@
 //! How a server ends.
 
 ghost use Rattle.std.specs.Prelude.{◌≡◌};
+ghost use Rattle.std.specs.List.{list_any};
 ghost use Rattle.serving.specs.declared.ends.Fault.TheVariants as faults;
-ghost use Rattle.serving.specs.Ends.{cause_at, cause_of, cause_of_link, rank, worst};
+ghost use Rattle.serving.specs.Ends.{cause_of, fails_outside, is_full, is_link_fault, is_starved, lacks_memory, worst_cause};
 
 use history::entry::Totals;
 use hublock::LoopEnd;
@@ -49,62 +50,62 @@ pub(crate) enum Cause {
     NoMemory,
 }
 
-/// The cause that a server is given up for, if it is.
-pub(crate) fn cause_at(opened: Result<(), Fault>) -> Option<Cause>
-    ensures { result ≡ cause_at opened }
+/// Whether the server was given up for want of memory.
+fn lacks_memory(opened: Result<(), Fault>) -> bool
+    ensures { result ≡ lacks_memory opened }
 {
-    match opened {
-        Ok(()) => None,
-        Err(Fault::Outside) => Some(Cause::Outside),
-        Err(Fault::NoMemory) => Some(Cause::NoMemory),
-    }
+    matches!(opened, Err(Fault::NoMemory))
 }
 
-/// The cause that the end of a loop is, if it is one. The end of a line or of a wire is none, whatever it is, and no such
-/// loop ends as `LinkFault`.
-pub(crate) fn cause_of(end: LoopEnd) -> Option<Cause>
-    ensures { result ≡ cause_of end }
+/// Whether it was given up for a fault of the outside.
+fn fails_outside(opened: Result<(), Fault>) -> bool
+    ensures { result ≡ fails_outside opened }
 {
-    match end {
-        LoopEnd::Full => Some(Cause::Full),
-        LoopEnd::NoMemory => Some(Cause::NoMemory),
-        LoopEnd::Finished
-        | LoopEnd::ReadFault
-        | LoopEnd::WriteFault
-        | LoopEnd::LinkFault
-        | LoopEnd::Turns => None,
-    }
+    matches!(opened, Err(Fault::Outside))
 }
 
-/// The cause that the end of a link's loop is, if it is one.
-pub(crate) fn cause_of_link(end: LoopEnd) -> Option<Cause>
-    ensures { result ≡ cause_of_link end }
+/// Whether memory ran out for a loop.
+fn any_starved(told: &[LoopEnd]) -> bool
+    ensures { result ≡ list_any is_starved told.now }
 {
-    match end {
-        LoopEnd::LinkFault => Some(Cause::Outside),
-        other => cause_of(other),
-    }
+    told.iter().any(|end| matches!(end, LoopEnd::NoMemory))
 }
 
-/// How bad a cause is.
-fn rank(cause: Option<Cause>) -> u8
-    ensures { result ≡ rank cause }
+/// Whether the datagrams of a link failed.
+fn any_link_fault(told: &[LoopEnd]) -> bool
+    ensures { result ≡ list_any is_link_fault told.now }
 {
-    match cause {
-        None => 0,
-        Some(Cause::Full) => 1,
-        Some(Cause::Outside) => 2,
-        Some(Cause::NoMemory) => 3,
-    }
+    told.iter().any(|end| matches!(end, LoopEnd::LinkFault))
 }
 
-/// The worse of two causes.
-pub(crate) fn worst(next: Option<Cause>, so_far: Option<Cause>) -> Option<Cause>
-    ensures { result ≡ worst next so_far }
+/// Whether the journal is full.
+fn any_full(told: &[LoopEnd]) -> bool
+    ensures { result ≡ list_any is_full told.now }
 {
-    if rank(so_far) < rank(next) {
-        next
+    told.iter().any(|end| matches!(end, LoopEnd::Full))
+}
+
+/// The worst of the causes that are there.
+fn worst_cause(starved: bool, failed: bool, full: bool) -> Option<Cause>
+    ensures { result ≡ worst_cause starved failed full }
+{
+    if starved {
+        Some(Cause::NoMemory)
+    } else if failed {
+        Some(Cause::Outside)
+    } else if full {
+        Some(Cause::Full)
     } else {
-        so_far
+        None
     }
+}
+
+/// The cause that a server ends for, if it is one: by what it was given up for, by whether memory ran out for the list of the
+/// loops' ends, and by these.
+pub(crate) fn cause_of(opened: Result<(), Fault>, starved: bool, told: &[LoopEnd]) -> Option<Cause>
+    ensures { result ≡ cause_of opened starved told.now }
+{
+    let starved = starved | (lacks_memory(opened) | any_starved(told));
+    let failed = fails_outside(opened) | any_link_fault(told);
+    worst_cause(starved, failed, any_full(told))
 }

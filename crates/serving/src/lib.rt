@@ -4,6 +4,8 @@
 mod closing;
 mod ends;
 mod link_job;
+mod other_job;
+mod running;
 mod server;
 mod sessions;
 mod setup;

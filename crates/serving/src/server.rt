@@ -1,18 +1,20 @@
 //! The jobs of a server, as they are started.
 
-ghost use Rattle.std.specs.Prelude.{◌≡◌, ◌⊎◌, ◌<◌, ◌≤◌, ◌+◌, ◌*◌, ◌∷◌, ◌++◌, [], drop, length, vec_len, vec_capacity, IfOk, OnOk, OnErr, IsErrOf, is_ok};
+ghost use Rattle.std.specs.Prelude.{◌≡◌, ◌⊎◌, ◌<◌, ◌≤◌, ◌+◌, ◌*◌, ◌∷◌, ◌++◌, [], drop, length, vec_len, vec_capacity, IfOk, OnOk, OnErr, IsErrOf, is_ok, false};
 ghost use Rattle.push_base.specs.Causes.{Rose};
 ghost use Rattle.push_base.specs.declared.role.Role.TheVariants as roles;
 ghost use Rattle.hublock.specs.Feeds.{all_parts, each, parts_each, whole_seats};
 ghost use Rattle.hublock.specs.Jobs.{role_in};
-ghost use Rattle.serving.specs.Jobs.{HandsOver, link_jobs, pair_of};
+ghost use Rattle.serving.specs.Jobs.{HandsOver, is_link, link_jobs, pair_of};
 ghost use Rattle.serving.specs.Servers.{IsWhole, SeatsAll, SeatsOne, StartsFirst, new_server, with_job, with_jobs, with_part_less};
-ghost use Rattle.serving.specs.Serving.{Accepts, Returns, Starts, numbers_of};
+ghost use Rattle.serving.specs.Serving.{Accepts, Returns, Starts, StartsAll, numbers_of};
 
 use crate::Fed;
 use crate::ends::Fault;
 use crate::link_job::LinkJob;
-use hublock::{Feed, HubLock, Job, Seats, Shared};
+use crate::other_job::OtherJob;
+use crate::running::{Running, finish_over, flags};
+use hublock::{Feed, HubLock, Job, LoopEnd, Seats, Shared};
 use push_base::{
     Clock, Datagrams, Doors, Line, NoMemory, Pending, Role, Sink, StartFault, Starter, Task, start,
 };
@@ -57,12 +59,14 @@ pub(crate) struct Server<
     S: Ledger + 'static,
 > {
     pub(crate) rt: R,
-    alloc: Global,
+    pub(crate) alloc: Global,
     pub(crate) lock: HubLock<C, H, M, S>,
     pub(crate) feed: Feed<C, H, M>,
     seats: Seats<S>,
     pub(crate) hearings: Vec<Hearing<R, L, K, G, T, C, H, M, S>>,
-    pub(crate) jobs: Vec<Pending<Job<R, L, K, G, T, C, H, M, S>>>,
+    pub(crate) jobs: Vec<Running<R, L, K, G, T, C, H, M, S>>,
+    // How the loops ended of those jobs that are over already.
+    pub(crate) ends: Vec<LoopEnd>,
     turns: u64,
     left: u64,
 }
@@ -78,15 +82,17 @@ impl<
     M: Ledger + Send + 'static,
     S: Ledger + 'static,
 > Model for Server<R, L, K, G, T, C, H, M, S> {
-    ghost use Rattle.std.specs.Prelude.{◌≡◌, ◌≤◌, map, vec_len};
+    ghost use Rattle.std.specs.Prelude.{◌≡◌, ◌≤◌, ◌+◌, ◌-◌, map, vec_len, false};
+    ghost use Rattle.std.specs.List.{list_any};
+    ghost use Rattle.serving.specs.Ends.{is_link_fault};
     ghost use Rattle.hublock.specs.Feeds.{each};
     ghost use Rattle.serving.specs.Servers.{ServerState};
 
     ghost Value = { ServerState };
 
-    ghost view = { λ s. record { parts = s.feed.parts.changes; made = s.seats.made; links = map (λ h. h.link) s.hearings.items; jobs = vec_len s.jobs; turns = s.turns } };
+    ghost view = { λ s. record { parts = s.feed.parts.changes - vec_len s.ends; made = s.seats.made; links = map (λ h. h.link) s.hearings.items; jobs = vec_len s.jobs + vec_len s.ends; turns = s.turns } };
 
-    ghost invariant = { λ s. (s.feed.parts ≡ each s.feed.parts.changes) × (s.seats.parts ≡ S.parts) × (s.left ≤ s.feed.parts.changes) };
+    ghost invariant = { λ s. (s.feed.parts ≡ each s.feed.parts.changes) × (s.seats.parts ≡ S.parts) × (s.left + vec_len s.ends ≤ s.feed.parts.changes) × (list_any is_link_fault s.ends.items ≡ false) };
 }
 
 /// Hands a job to the starter. One that couldn't be started is dropped.
@@ -151,6 +157,7 @@ impl<
             seats,
             hearings: Vec::new(alloc),
             jobs: Vec::new(alloc),
+            ends: Vec::new(alloc),
             turns,
             left: PARTS,
         }
@@ -177,6 +184,7 @@ impl<
         starter: &mut A,
         job: Job<R, L, K, G, T, C, H, M, S>,
     ) -> Result<(), Fault>
+        requires { is_link (role_in job.work) ≡ false }
         ensures started { HandsOver ((role_in job.work, job.turns) ∷ []) (A.started starter.old) (A.started starter.new) result }
         ensures ok { OnOk result (self.new ≡ with_job self.old) }
         ensures err { OnErr result (self.new ≡ self.old) }
@@ -184,9 +192,10 @@ impl<
         ensures later { A.faults starter.old ≤ A.faults starter.new }
         ensures cause { IsErrOf result Fault.Outside → Rose (A.faults starter.old) (A.faults starter.new) }
     {
+        let (over, tells) = flags(self.alloc)?;
         self.jobs.reserve(1)?;
-        let job = hand(self.rt, self.alloc, starter, job)?;
-        self.jobs.push_reserved(job);
+        let job = hand(self.rt, self.alloc, starter, OtherJob::new(job, tells))?;
+        self.jobs.push_reserved(Running { job, over });
         Ok(())
     }
 
@@ -223,7 +232,7 @@ impl<
         requires new { self.old ≡ new_server self.old.turns }
         ensures started { HandsOver (link_jobs self.old.turns (numbers_of links.old.items)) (A.started starter.old) (A.started starter.new) result }
         ensures ok { OnOk result ((IsWhole self.new) × (self.new.made ≡ 0) × (self.new.jobs ≡ 0) × (self.new.turns ≡ self.old.turns)) }
-        ensures count { OnOk result (length self.new.links ≤ vec_len links.old) }
+        ensures all { OnOk result (self.new.links ≡ numbers_of links.old.items) }
         ensures links { Returns (is_ok result) (numbers_of links.old.items) (self.new.links ++ numbers_of links.new.items) }
         ensures room { vec_len links.new + length self.new.links ≤ vec_capacity links.new }
         ensures later { A.faults starter.old ≤ A.faults starter.new }
@@ -325,7 +334,19 @@ impl<
         }
     }
 
-    /// Accepts one session.
+    /// Finishes the jobs that are over, where there is memory for how their loops ended, of which alone more is kept.
+    fn finish_over(&mut self)
+        ensures { self.new ≡ self.old }
+    {
+        finish_over::<R, L, K, G, T, C, H, M, S>(
+            self.rt,
+            &mut self.jobs,
+            &mut self.feed,
+            &mut self.ends,
+        );
+    }
+
+    /// Accepts one session. The jobs that are over then are finished.
     fn open_session<A: Starter, D: Doors<Line = L, Out = K>>(
         &mut self,
         starter: &mut A,
@@ -340,6 +361,7 @@ impl<
         let Ok((line, wire)) = doors.accept() else {
             return Err(Fault::Outside);
         };
+        self.finish_over();
         self.seat(starter, line, wire)
     }
 
@@ -352,7 +374,7 @@ impl<
     ) -> Result<(), Fault>
         requires made { self.old.made ≡ 0 }
         requires whole { IsWhole self.old }
-        ensures started { SeatsAll self.old.turns sessions (A.started starter.old) (A.started starter.new) result }
+        ensures started { SeatsAll self.old.turns sessions (A.started starter.old) (A.started starter.new) self.old self.new result }
         ensures accepted { Accepts (is_ok result) sessions (D.accepted doors.old) (D.accepted doors.new) }
         ensures whole { OnOk result (IsWhole self.new) }
         ensures links { self.new.links ≡ self.old.links }
@@ -378,6 +400,7 @@ impl<
         requires new { self.old ≡ new_server self.old.turns }
         ensures started { Starts (is_ok result) self.old.turns (numbers_of links.old.items) sessions (A.started starter.old) (A.started starter.new) }
         ensures accepted { Accepts (is_ok result) sessions (D.accepted doors.old) (D.accepted doors.new) }
+        ensures all { OnOk result (StartsAll self.old.turns (numbers_of links.old.items) sessions (A.started starter.old) (A.started starter.new) (length self.new.links + self.new.jobs)) }
         ensures whole { OnOk result (IsWhole self.new) }
         ensures links { Returns (is_ok result) (numbers_of links.old.items) (self.new.links ++ numbers_of links.new.items) }
         ensures room { vec_len links.new + length self.new.links ≤ vec_capacity links.new }

@@ -1,7 +1,9 @@
 //! What a server is given, and what it gives back.
 
 use crate::ServeEnd;
+use hublock::{Feed, LoopEnd};
 use pushserver::Hub;
+use std::sync::ledger::Ledger;
 
 /// The datagrams that a link is fed with, and the link's number.
 #[derive(Drop)]
@@ -21,9 +23,13 @@ pub struct Setup<G, T> {
     pub turns: u64,
 }
 
-/// How a server ended, and the datagrams that no job holds which couldn't be started.
+/// How a server ended, the datagrams that no job holds which couldn't be started, how the loop of each job ended, the links'
+/// first, then those of the jobs that were over while others were started, and then the others', and a feed into which those
+/// of all jobs were joined. There is none where memory ran out before there was one.
 #[derive(Drop)]
-pub struct Served<G> {
+pub struct Served<G, C: Ledger, H: Ledger, M: Ledger> {
     pub end: ServeEnd,
     pub links: Vec<Fed<G>>,
+    pub ends: Vec<LoopEnd>,
+    pub feed: Option<Feed<C, H, M>>,
 }

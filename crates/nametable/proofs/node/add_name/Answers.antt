@@ -2,7 +2,8 @@ use Rattle.std.proofs.Common.{◌≡◌, ◌∙◌, sym, ap, subst, arith}
 use Rattle.std.specs.List.{insert}
 use Rattle.dnsname.specs.Names.{Labels}
 use Rattle.nametable.specs.Nodes.{Nodes, IsNameAt, room_at}
-use Rattle.nametable.proofs.NodeChanges.{KeepsRows, adds_name, room_added, stands}
+use Rattle.nametable.specs.Blocks.{AddsNoOther}
+use Rattle.nametable.proofs.NodeChanges.{KeepsRows, adds_name, room_added, stands, adds-insert}
 use Rattle.nametable.proofs.node.add_name.Goals as goal
 
 seen : (g : _) (c : goal.In_ok-insert g) → c.insert.new.self.items ≡ insert c.args.nodes.now.items c.args.index (c.args.owner, c.in_ok-node.node.1)
@@ -30,3 +31,6 @@ returns-clause-room g c =
     let made = c.in_ok-node.ensures.room in
     let seen_room = ap (λ (ns : Nodes _). room_at ns c.args.owner) (seen g c) ∙ room_added c.args.owner c.in_ok-node.node.1 c.args.nodes.now.items c.args.index c.requires.place in
     omega (arith, made, seen_room)
+
+pub returns-clause-only : goal.returns-clause-only
+returns-clause-only g c = subst (AddsNoOther c.args.owner c.args.nodes.now.items) (sym (seen g c)) (adds-insert c.args.owner c.in_ok-node.node.1 c.args.nodes.now.items c.args.index c.requires.place)

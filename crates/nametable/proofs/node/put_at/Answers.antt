@@ -1,7 +1,7 @@
 use Rattle.std.proofs.Common.{get_or, set}
 use Rattle.nametable.proofs.NameCounts.{count-set}
 use Rattle.nametable.proofs.NodePlaces.{found_at}
-use Rattle.nametable.proofs.NodeChanges.{TakesKey, takes_key}
+use Rattle.nametable.proofs.NodeChanges.{TakesKey, takes_key, adds-set}
 use Rattle.nametable.proofs.node.put_at.Goals as goal
 
 takes : (g : _) (c : goal.After-names_now g) → TakesKey c.args.key c.args.value c.args.nodes.now (set c.args.nodes.now c.args.index c.put-before.new.self) c.put-before.result
@@ -32,7 +32,13 @@ returns-clause-here g c = (takes g c).here
 pub returns-clause-others : goal.returns-clause-others
 returns-clause-others g c = (takes g c).others
 
+pub returns-clause-only : goal.returns-clause-only
+returns-clause-only g c =
+    let nodes = c.args.nodes.now in
+    adds-set c.args.key.owner nodes c.args.index (get_or nodes c.args.index c.index-nodes-index-2.result) c.put-before.new.self
+    (found_at c.args.key.owner nodes c.args.index c.index-nodes-index-2.result c.requires.nodes c.requires.place) c.put-before.ensures.name
+
 pub returns-clause-names : goal.returns-clause-names
-returns-clause-names g c =
-    count-set c.args.names.now c.names_now.result c.has_rows-had.result c.has_rows-has.result c.args.nodes.now c.args.index c.index-nodes-index.result c.index-nodes-index-3.result c.put-before.new.self
-    c.requires.place.within c.requires.names c.has_rows-had.ensures c.has_rows-has.ensures c.names_now.ensures
+returns-clause-names g c = λ others so_far.
+    count-set others c.args.names.now c.names_now.result c.has_rows-had.result c.has_rows-has.result c.args.nodes.now c.args.index c.index-nodes-index.result c.index-nodes-index-3.result c.put-before.new.self
+    c.requires.place.within so_far c.has_rows-had.ensures c.has_rows-has.ensures c.names_now.ensures

@@ -1,11 +1,13 @@
-use Rattle.std.proofs.Common.{ℕ, ◌%◌, ◌^◌, ◌≡◌, ◌≤◌, ◌∙◌, ap, sym, subst, is_some, ◌⊎◌}
+use Rattle.std.proofs.Common.{ℕ, ◌+◌, ◌%◌, ◌^◌, ◌≡◌, ◌≤◌, ◌∙◌, ap, sym, subst, is_some, ◌⊎◌}
 use Rattle.std.proofs.lemmas.List.{with_items_is}
 use Rattle.std.specs.Prelude.{IsTrue}
 use Rattle.std.specs.Result.{IfOk, IsOk, OnOk}
 use Rattle.rrset.specs.KeyedRows.{Rows, put_row, row_at}
 use Rattle.nametable.specs.Nodes.{Nodes, IsNameGap, all_rows, names_in, room_at}
+use Rattle.dnsname.specs.Names.{Labels}
+use Rattle.nametable.specs.Blocks.{AddsNoOther}
 use Rattle.nametable.proofs.NameCounts.{names-same}
-use Rattle.nametable.proofs.NodeChanges.{no_room}
+use Rattle.nametable.proofs.NodeChanges.{no_room, adds-both}
 use Rattle.nametable.proofs.node.put_in.Goals as goal
 
 pub returns-in_err-copy-in-Err-clause-succeeds : goal.returns-in_err-copy-in-Err-clause-succeeds
@@ -35,11 +37,20 @@ returns-in-Ok-clause-rows g c =
     (subst (λ (l : Nodes _). OnOk c.put_at.result (all_rows c.put_at.new.nodes ≡ put_row c.args.key c.args.value (all_rows l))) c.deref_mut.ensures.value c.put_at.ensures.rows)
 
 pub returns-in_err-add_name-in-Err-clause-names : goal.returns-in_err-add_name-in-Err-clause-names
-returns-in_err-add_name-in-Err-clause-names g c =
-    c.requires.names ∙ ap (λ (n : ℕ). n % 2 ^ 64) (names-same c.args.nodes.now.items c.add_name.new.nodes.items c.requires.nodes c.in_err-add_name-in-Err.ensures.nodes (sym c.in_err-add_name-in-Err.ensures.rows))
+returns-in_err-add_name-in-Err-clause-names g c = λ others is.
+    is ∙ ap (λ (n : ℕ). (others + n) % 2 ^ 64) (names-same c.args.nodes.now.items c.add_name.new.nodes.items c.requires.nodes c.in_err-add_name-in-Err.ensures.nodes (sym c.in_err-add_name-in-Err.ensures.rows))
 
-pub put_at-requires-in-Err-clause-names : goal.put_at-requires-in-Err-clause-names
-put_at-requires-in-Err-clause-names g c =
-    c.requires.names
-    ∙ ap (λ (n : ℕ). n % 2 ^ 64) (names-same c.args.nodes.now.items c.add_name.new.nodes.items c.requires.nodes c.in_ok-add_name-in-Err.ensures.nodes (sym c.in_ok-add_name-in-Err.ensures.rows))
-    ∙ ap (λ (ns : Nodes _). names_in ns % 2 ^ 64) (sym c.deref_mut-in-Err.ensures.value)
+pub returns-in_ok-add_name-in-Err-clause-names : goal.returns-in_ok-add_name-in-Err-clause-names
+returns-in_ok-add_name-in-Err-clause-names g c = λ others is.
+    c.put_at-in-Err.ensures.names others
+    (is
+    ∙ ap (λ (n : ℕ). (others + n) % 2 ^ 64) (names-same c.args.nodes.now.items c.add_name.new.nodes.items c.requires.nodes c.in_ok-add_name-in-Err.ensures.nodes (sym c.in_ok-add_name-in-Err.ensures.rows))
+    ∙ ap (λ (ns : Nodes _). (others + names_in ns) % 2 ^ 64) (sym c.deref_mut-in-Err.ensures.value))
+    ∙ ap (λ (ns : Nodes _). (others + names_in ns) % 2 ^ 64) (sym (with_items_is c.add_name.new.nodes c.put_at-in-Err.new.nodes (c.put_at-in-Err.auto.nodes ∙ c.deref_mut-in-Err.ensures.len)))
+
+pub returns-in_ok-add_name-in-Err-clause-only : goal.returns-in_ok-add_name-in-Err-clause-only
+returns-in_ok-add_name-in-Err-clause-only g c =
+    subst (λ (ns : Nodes _). AddsNoOther c.args.key.owner c.args.nodes.now.items ns) (sym (with_items_is c.add_name.new.nodes c.put_at-in-Err.new.nodes (c.put_at-in-Err.auto.nodes ∙ c.deref_mut-in-Err.ensures.len)))
+    (adds-both c.args.key.owner c.args.nodes.now.items c.add_name.new.nodes.items c.put_at-in-Err.new.nodes
+    (subst (λ (l : Labels). AddsNoOther l c.args.nodes.now.items c.add_name.new.nodes.items) c.in_ok-copy-in-Err.ensures c.in_ok-add_name-in-Err.ensures.only)
+    (subst (λ (ns : Nodes _). AddsNoOther c.args.key.owner ns c.put_at-in-Err.new.nodes) c.deref_mut-in-Err.ensures.value c.put_at-in-Err.ensures.only))

@@ -1,7 +1,7 @@
 use Rattle.std.proofs.Common.{get_or, set}
 use Rattle.nametable.proofs.NameCounts.{count-set}
 use Rattle.nametable.proofs.NodePlaces.{found_at}
-use Rattle.nametable.proofs.NodeChanges.{DropsKey, drops_key}
+use Rattle.nametable.proofs.NodeChanges.{DropsKey, drops_key, adds-set}
 use Rattle.nametable.proofs.node.remove_at.Goals as goal
 
 drops : (g : _) (c : goal.After-names_now g) → DropsKey c.args.key.now c.args.nodes.now (set c.args.nodes.now c.args.index c.remove-removed.new.self) c.remove-removed.result
@@ -23,7 +23,13 @@ returns-clause-rows g c = (drops g c).rows
 pub returns-clause-room : goal.returns-clause-room
 returns-clause-room g c = (drops g c).room
 
+pub returns-clause-only : goal.returns-clause-only
+returns-clause-only g c =
+    let nodes = c.args.nodes.now in
+    adds-set c.args.key.now.owner nodes c.args.index (get_or nodes c.args.index c.index-nodes-index-2.result) c.remove-removed.new.self
+    (found_at c.args.key.now.owner nodes c.args.index c.index-nodes-index-2.result c.requires.nodes c.requires.place) c.remove-removed.ensures.name
+
 pub returns-clause-names : goal.returns-clause-names
-returns-clause-names g c =
-    count-set c.args.names.now c.names_now.result c.has_rows-had.result c.has_rows-has.result c.args.nodes.now c.args.index c.index-nodes-index.result c.index-nodes-index-3.result c.remove-removed.new.self
-    c.requires.place.within c.requires.names c.has_rows-had.ensures c.has_rows-has.ensures c.names_now.ensures
+returns-clause-names g c = λ others so_far.
+    count-set others c.args.names.now c.names_now.result c.has_rows-had.result c.has_rows-has.result c.args.nodes.now c.args.index c.index-nodes-index.result c.index-nodes-index-3.result c.remove-removed.new.self
+    c.requires.place.within so_far c.has_rows-had.ensures c.has_rows-has.ensures c.names_now.ensures

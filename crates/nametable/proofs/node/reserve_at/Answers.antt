@@ -1,7 +1,7 @@
 use Rattle.std.proofs.Common.{ℕ, ◌≤◌, get_or, set, subst, sym}
 use Rattle.std.specs.Result.{OnOk}
 use Rattle.nametable.proofs.NodePlaces.{found_at}
-use Rattle.nametable.proofs.NodeChanges.{KeepsRows, keeps_rows, room_set}
+use Rattle.nametable.proofs.NodeChanges.{KeepsRows, keeps_rows, room_set, adds-set}
 use Rattle.nametable.proofs.node.reserve_at.Goals as goal
 
 keeps : (g : _) (c : goal.After-reserve g) → KeepsRows c.args.owner.now c.args.nodes.now (set c.args.nodes.now c.args.index c.reserve.new.self)
@@ -25,3 +25,9 @@ returns-clause-room g c =
 
 pub returns-clause-kept : goal.returns-clause-kept
 returns-clause-kept g c = (keeps g c).room
+
+pub returns-clause-only : goal.returns-clause-only
+returns-clause-only g c =
+    let nodes = c.args.nodes.now in
+    adds-set c.args.owner.now nodes c.args.index (get_or nodes c.args.index c.index-nodes-index.result) c.reserve.new.self
+    (found_at c.args.owner.now nodes c.args.index c.index-nodes-index.result c.requires.nodes c.requires.place) c.reserve.ensures.name

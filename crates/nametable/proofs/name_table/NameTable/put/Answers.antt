@@ -1,21 +1,22 @@
 use Rattle.std.proofs.Common.{◌∙◌, ◌%◌, ◌^◌, ap, sym, length}
 use Rattle.rrset.specs.KeyedRows.{Rows}
 use Rattle.nametable.specs.Nodes.{all_rows}
+use Rattle.nametable.specs.Blocks.{nodes_in}
 use Rattle.nametable.proofs.AllRows.{rising-all_rows}
 use Rattle.nametable.proofs.NodeSets.{count-put}
 use Rattle.nametable.proofs.name_table.NameTable.put.Goals as goal
 
 pub invariant_of-self : goal.invariant_of-self
 invariant_of-self g c = (
-  c.put_in.ensures.nodes,
+  c.put_in_blocks.ensures.blocks,
   c.self.invariant.1 ∙ ap (λ (l : Rows _). length l % 2 ^ 64) (sym c.in_err-before.ensures.none),
-  c.put_in.ensures.names,
+  c.put_in_blocks.ensures.names,
 )
 
 pub invariant_of-self-2 : goal.invariant_of-self-2
 invariant_of-self-2 g c = (
-  c.put_in.ensures.nodes,
-  count-put c.self.inside.count c.count_with-count.result c.args.key c.args.value (all_rows c.self.inside.nodes.items) (all_rows c.put_in.new.nodes.items) c.in_ok-before.before
-      (rising-all_rows c.self.inside.nodes.items c.self.invariant.0) c.self.invariant.1 c.in_ok-before.ensures.value c.in_ok-before.ensures.rows c.count_with-count.ensures,
-  c.put_in.ensures.names,
+  c.put_in_blocks.ensures.blocks,
+  count-put c.self.inside.count c.count_with-count.result c.args.key c.args.value (all_rows (nodes_in c.self.inside.blocks.items)) (all_rows (nodes_in c.put_in_blocks.new.blocks.items)) c.in_ok-before.before
+      (rising-all_rows (nodes_in c.self.inside.blocks.items) c.self.invariant.0.0) c.self.invariant.1 c.in_ok-before.ensures.value c.in_ok-before.ensures.rows c.count_with-count.ensures,
+  c.put_in_blocks.ensures.names,
 )

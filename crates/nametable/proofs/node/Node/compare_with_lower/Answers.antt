@@ -1,5 +1,4 @@
 use Rattle.std.proofs.Common.{◌∙◌, sym, ap}
-use Rattle.std.specs.Ordering.{nat_cmp}
 use Rattle.std.specs.declared.cmp.Ordering.TheVariants.{Less, Greater}
 use Rattle.dnsname.specs.Names.{lower}
 use Rattle.nametable.specs.Nodes.{Node, name_cmp}
@@ -8,10 +7,10 @@ use Rattle.nametable.proofs.node.Node.compare_with_lower.Goals as goal
 
 pub returns-in-Less : goal.returns-in-Less
 returns-in-Less g c = λ wanted.
-    sym (by_first c.self.inside.named.value.first c.args.first c.self.inside.named.value.owner (lower c.args.name.now) c.self.invariant wanted Less (sym c.in-Less.is ∙ c.cmp.ensures ∙ (λ j. nat_cmp (c.deref.ensures j).first c.args.first)))
+    sym (by_first c.self.inside.first c.args.first c.self.inside.named.value.owner (lower c.args.name.now) c.self.invariant wanted Less (sym c.in-Less.is ∙ c.cmp.ensures))
     ∙ ap (λ (n : Node _). name_cmp n.0 (lower c.args.name.now)) c.self.view_is
 
 pub returns-in-Greater : goal.returns-in-Greater
 returns-in-Greater g c = λ wanted.
-    sym (by_first c.self.inside.named.value.first c.args.first c.self.inside.named.value.owner (lower c.args.name.now) c.self.invariant wanted Greater (sym c.in-Greater.is ∙ c.cmp.ensures ∙ (λ j. nat_cmp (c.deref.ensures j).first c.args.first)))
+    sym (by_first c.self.inside.first c.args.first c.self.inside.named.value.owner (lower c.args.name.now) c.self.invariant wanted Greater (sym c.in-Greater.is ∙ c.cmp.ensures))
     ∙ ap (λ (n : Node _). name_cmp n.0 (lower c.args.name.now)) c.self.view_is

@@ -1,4 +1,4 @@
-use Rattle.std.proofs.Common.{◌≡◌, ℕ, List, [], ◌∷◌, ◌++◌, length, ap, ◌∙◌, subst, arith}
+use Rattle.std.proofs.Common.{◌≡◌, ℕ, ◌+◌, List, [], ◌∷◌, ◌++◌, length, ap, ◌∙◌, subst, arith}
 use Rattle.std.specs.Prelude.{is_ok}
 use Rattle.std.proofs.lemmas.Result.{err_from_is_err_and}
 use Rattle.push_base.specs.Told.{TellsMore}
@@ -6,7 +6,7 @@ use Rattle.push_base.specs.declared.role.Role.TheVariants as roles
 use Rattle.serving.specs.Jobs.{HandsFront}
 use Rattle.serving.specs.Servers.{ServerState, SeatsAll}
 use Rattle.serving.specs.Serving.{numbers_of}
-use Rattle.serving.proofs.Handing.{starts_all, starts_clock, starts_links}
+use Rattle.serving.proofs.Handing.{starts_all, starts_clock, starts_links, starts_whole}
 use Rattle.serving.proofs.Opening.{accepts_none, returns_any, returns_err, whole_with_job}
 use Rattle.serving.proofs.server.Server.open.Goals as goal
 
@@ -58,9 +58,19 @@ pub returns-clause-started : goal.returns-clause-started
 returns-clause-started g c =
     let turns : c.start_clock.new.self.turns ≡ c.args.self.now.turns = ap (λ (s : ServerState). s.turns) c.in_ok-start_clock.ensures.ok ∙ c.in_ok-start_links.ensures.ok.3 in
     starts_all c.args.self.now.turns (numbers_of c.args.links.now.items) c.args.sessions (g.A.Starter.started c.args.starter.now) (g.A.Starter.started c.start_links.new.starter) (g.A.Starter.started c.start_clock.new.starter) (g.A.Starter.started c.open_sessions.new.starter)
-    c.open_sessions.result c.in_ok-start_links.ensures.started
+    c.start_clock.new.self c.open_sessions.new.self c.open_sessions.result c.in_ok-start_links.ensures.started
     (subst (λ (t : ℕ). TellsMore (g.A.Starter.started c.start_links.new.starter) (g.A.Starter.started c.start_clock.new.starter) ((roles.Clock, t) ∷ [])) c.in_ok-start_links.ensures.ok.3 c.in_ok-start_clock.ensures.started)
-    (subst (λ (t : ℕ). SeatsAll t c.args.sessions (g.A.Starter.started c.start_clock.new.starter) (g.A.Starter.started c.open_sessions.new.starter) c.open_sessions.result) turns c.open_sessions.ensures.started)
+    (subst (λ (t : ℕ). SeatsAll t c.args.sessions (g.A.Starter.started c.start_clock.new.starter) (g.A.Starter.started c.open_sessions.new.starter) c.start_clock.new.self c.open_sessions.new.self c.open_sessions.result) turns c.open_sessions.ensures.started)
+
+pub returns-clause-all : goal.returns-clause-all
+returns-clause-all g c =
+    let turns : c.start_clock.new.self.turns ≡ c.args.self.now.turns = ap (λ (s : ServerState). s.turns) c.in_ok-start_clock.ensures.ok ∙ c.in_ok-start_links.ensures.ok.3 in
+    starts_whole c.args.self.now.turns (numbers_of c.args.links.now.items) c.args.sessions (g.A.Starter.started c.args.starter.now) (g.A.Starter.started c.start_links.new.starter) (g.A.Starter.started c.start_clock.new.starter) (g.A.Starter.started c.open_sessions.new.starter)
+    c.start_clock.new.self c.open_sessions.new.self c.open_sessions.result c.in_ok-start_links.ensures.started
+    (subst (λ (t : ℕ). TellsMore (g.A.Starter.started c.start_links.new.starter) (g.A.Starter.started c.start_clock.new.starter) ((roles.Clock, t) ∷ [])) c.in_ok-start_links.ensures.ok.3 c.in_ok-start_clock.ensures.started)
+    (subst (λ (t : ℕ). SeatsAll t c.args.sessions (g.A.Starter.started c.start_clock.new.starter) (g.A.Starter.started c.open_sessions.new.starter) c.start_clock.new.self c.open_sessions.new.self c.open_sessions.result) turns c.open_sessions.ensures.started)
+    (ap (λ (s : ServerState). s.jobs) c.in_ok-start_clock.ensures.ok ∙ ap (λ (n : ℕ). n + 1) c.in_ok-start_links.ensures.ok.2)
+    (c.open_sessions.ensures.links ∙ (c.start_clock.ensures.links ∙ c.in_ok-start_links.ensures.all))
 
 pub returns-clause-links : goal.returns-clause-links
 returns-clause-links g c =

@@ -25,7 +25,7 @@ sessions-preserved g c = record {
 pub returns-in_err-open_session-clause-started : goal.returns-in_err-open_session-clause-started
 returns-in_err-open_session-clause-started g c =
     let p = err_from_is_err_and c.from_residual.result c.from_residual.ensures.1 in
-    seats_err c.args.self.now.turns c.args.sessions (g.A.Starter.started c.args.starter.now) (g.A.Starter.started c.open_session.new.starter) c.from_residual.result p.0 p.1
+    seats_err c.args.self.now.turns c.args.sessions (g.A.Starter.started c.args.starter.now) (g.A.Starter.started c.open_session.new.starter) c.args.self.now c.open_session.new.self c.from_residual.result p.0 p.1
     (sessions_fault ⊤ Fault c.args.self.now.turns c.sessions.session c.args.sessions (g.A.Starter.started c.args.starter.now) (g.A.Starter.started c.sessions.starter) (g.A.Starter.started c.open_session.new.starter)
     c.args.self.now c.sessions.self c.open_session.new.self p.0 c.sessions-test.true c.sessions.invariant.so_far c.in_err-open_session.ensures.started)
 

@@ -1,4 +1,4 @@
-use Rattle.std.proofs.Common.{◌≡◌, ℕ, List, [], ◌∷◌, ◌++◌, inl, inr, map, drop, vec_len, ap, ◌∙◌, subst}
+use Rattle.std.proofs.Common.{◌≡◌, ◌-◌, ◌+◌, ℕ, List, [], ◌∷◌, ◌++◌, inl, inr, map, drop, vec_len, ap, ◌∙◌, subst}
 use Rattle.std.proofs.lemmas.List.{map-append}
 use Rattle.std.proofs.lemmas.Result.{err_from_is_err_and}
 use Rattle.push_base.specs.declared.role.Role.TheVariants as roles
@@ -26,7 +26,7 @@ returns-in_err-reserve-clause-started g c =
     subst (λ (s : List (Fed g.row.G.Denot)). numbers_of s ≡ c.first_link-link.result ∷ numbers_of (drop 1 s)) c.as_slice.ensures.value c.first_link-link.ensures in
     let kept : map (λ h. h.link) c.reserve.new.self.items ≡ c.args.self.now.links =
     ap (λ hs. map (λ h. h.link) hs) c.reserve.ensures.items ∙ (ap (λ (s : ServerState). s.links) c.self.view_is ∙ ap (λ (s : ServerState). s.links) c.in_ok-shared.ensures.state) in
-    first_fault (numbers_of c.args.links.now.items) c.first_link-link.result (numbers_of (drop 1 c.args.links.now.items)) (numbers_of c.args.links.now.items) (g.A.Starter.started c.args.starter.now) (g.A.Starter.started c.args.starter.now) c.args.self.now (record { parts = c.self.inside.feed.parts.changes; made = c.self.inside.seats.made; links = map (λ h. h.link) c.reserve.new.self.items; jobs = vec_len c.self.inside.jobs; turns = c.self.inside.turns }) c.from_residual-in_err-reserve.result p.0 p.1 is (inr is)
+    first_fault (numbers_of c.args.links.now.items) c.first_link-link.result (numbers_of (drop 1 c.args.links.now.items)) (numbers_of c.args.links.now.items) (g.A.Starter.started c.args.starter.now) (g.A.Starter.started c.args.starter.now) c.args.self.now (record { parts = c.self.inside.feed.parts.changes - vec_len c.self.inside.ends; made = c.self.inside.seats.made; links = map (λ h. h.link) c.reserve.new.self.items; jobs = vec_len c.self.inside.jobs + vec_len c.self.inside.ends; turns = c.self.inside.turns }) c.from_residual-in_err-reserve.result p.0 p.1 is (inr is)
     (front_none ((roles.Link c.first_link-link.result, c.args.self.now.turns) ∷ []) (g.A.Starter.started c.args.starter.now))
     kept
 
@@ -38,7 +38,7 @@ returns-in_err-job-clause-started g c =
     let kept : map (λ h. h.link) c.reserve.new.self.items ≡ c.args.self.now.links =
     ap (λ hs. map (λ h. h.link) hs) c.reserve.ensures.items ∙ (ap (λ (s : ServerState). s.links) c.self.view_is ∙ ap (λ (s : ServerState). s.links) c.in_ok-shared.ensures.state) in
     let turns : c.self.inside.turns ≡ c.args.self.now.turns = ap (λ (s : ServerState). s.turns) c.self.view_is ∙ ap (λ (s : ServerState). s.turns) c.in_ok-shared.ensures.state in
-    first_fault (numbers_of c.args.links.now.items) c.first_link-link.result (numbers_of (drop 1 c.args.links.now.items)) (numbers_of c.remove-datagrams.new.self.items) (g.A.Starter.started c.args.starter.now) (g.A.Starter.started c.hand.new.starter) c.args.self.now (record { parts = c.self.inside.feed.parts.changes; made = c.self.inside.seats.made; links = map (λ h. h.link) c.reserve.new.self.items; jobs = vec_len c.self.inside.jobs; turns = c.self.inside.turns }) c.from_residual-in_err-job.result p.0 p.1 is
+    first_fault (numbers_of c.args.links.now.items) c.first_link-link.result (numbers_of (drop 1 c.args.links.now.items)) (numbers_of c.remove-datagrams.new.self.items) (g.A.Starter.started c.args.starter.now) (g.A.Starter.started c.hand.new.starter) c.args.self.now (record { parts = c.self.inside.feed.parts.changes - vec_len c.self.inside.ends; made = c.self.inside.seats.made; links = map (λ h. h.link) c.reserve.new.self.items; jobs = vec_len c.self.inside.jobs + vec_len c.self.inside.ends; turns = c.self.inside.turns }) c.from_residual-in_err-job.result p.0 p.1 is
     (inl (ap (λ (s : List (Fed g.row.G.Denot)). numbers_of s) c.remove-datagrams.ensures.items))
     (front_as (g.A.Starter.started c.args.starter.now) (g.A.Starter.started c.hand.new.starter) (role_in c.new-job.result.job.work) (roles.Link c.first_link-link.result) c.new-job.result.job.turns c.args.self.now.turns c.new-job.ensures.0 (c.new-job.ensures.1 ∙ turns) c.in_err-job.ensures.started)
     kept
@@ -52,8 +52,8 @@ returns-clause-started g c =
     let linked : map (λ h. h.link) c.push_reserved.new.self.items ≡ map (λ h. h.link) c.self.inside.hearings.items ++ link ∷ [] =
     rw (c.push_reserved.ensures.items, c.reserve.ensures.items) (map-append (λ h. h.link) c.self.inside.hearings.items _) in
     let led : ServerState → ServerState = λ s. record s { links = s.links ++ link ∷ [] } in
-    first_done _ (numbers_of c.args.links.now.items) link (numbers_of (drop 1 c.args.links.now.items)) (numbers_of c.remove-datagrams.new.self.items) (g.A.Starter.started c.args.starter.now) (g.A.Starter.started c.hand.new.starter) c.args.self.now (record { parts = c.self.inside.feed.parts.changes; made = c.self.inside.seats.made; links = map (λ h. h.link) c.push_reserved.new.self.items; jobs = vec_len c.self.inside.jobs; turns = c.self.inside.turns }) is (ap (λ (s : List (Fed g.row.G.Denot)). numbers_of s) c.remove-datagrams.ensures.items)
+    first_done _ (numbers_of c.args.links.now.items) link (numbers_of (drop 1 c.args.links.now.items)) (numbers_of c.remove-datagrams.new.self.items) (g.A.Starter.started c.args.starter.now) (g.A.Starter.started c.hand.new.starter) c.args.self.now (record { parts = c.self.inside.feed.parts.changes - vec_len c.self.inside.ends; made = c.self.inside.seats.made; links = map (λ h. h.link) c.push_reserved.new.self.items; jobs = vec_len c.self.inside.jobs + vec_len c.self.inside.ends; turns = c.self.inside.turns }) is (ap (λ (s : List (Fed g.row.G.Denot)). numbers_of s) c.remove-datagrams.ensures.items)
     (tells_as (g.A.Starter.started c.args.starter.now) (g.A.Starter.started c.hand.new.starter) (role_in c.new-job.result.job.work) (roles.Link link) c.new-job.result.job.turns c.args.self.now.turns c.new-job.ensures.0 (c.new-job.ensures.1 ∙ turns) c.in_ok-job.ensures.started)
-    (ap (λ (ls : List ℕ). record { parts = c.self.inside.feed.parts.changes; made = c.self.inside.seats.made; links = ls; jobs = vec_len c.self.inside.jobs; turns = c.self.inside.turns }) linked
+    (ap (λ (ls : List ℕ). record { parts = c.self.inside.feed.parts.changes - vec_len c.self.inside.ends; made = c.self.inside.seats.made; links = ls; jobs = vec_len c.self.inside.jobs + vec_len c.self.inside.ends; turns = c.self.inside.turns }) linked
     ∙ (ap led c.self.view_is ∙ ap led c.in_ok-shared.ensures.state))
     c.in_ok-shared.ensures.enough

@@ -6,7 +6,7 @@ use Rattle.serving.specs.Servers.{ServerState}
 use Rattle.serving.specs.Serving.{numbers_of}
 use Rattle.serving.proofs.Finishing.{none_mapped}
 use Rattle.serving.proofs.Handing.{over_err}
-use Rattle.serving.proofs.Opening.{links_back, links_begun, links_count, links_count_err, links_ended, links_fault, links_more, over_tested, returns_err}
+use Rattle.serving.proofs.Opening.{links_all, links_back, links_begun, links_count, links_count_err, links_ended, links_fault, links_more, over_tested, returns_err}
 use Rattle.serving.proofs.server.Server.start_links.Goals as goal
 
 pub links-init : goal.links-init
@@ -56,4 +56,10 @@ pub returns-clause-started : goal.returns-clause-started
 returns-clause-started g c =
     let none : length c.links.links.items ≡ 0 = over_tested (vec_len c.links.links) (length c.links.links.items) c.links.links.ok.0 c.links-test.ensures in
     links_ended c.args.self.now.turns (numbers_of c.args.links.now.items) (numbers_of c.links.links.items) (g.A.Starter.started c.args.starter.now) (g.A.Starter.started c.links.starter) c.links.self c.links.invariant.so_far
+    (none_mapped (λ (f : Fed g.row.G.Denot). f.link) c.links.links.items none)
+
+pub returns-clause-all : goal.returns-clause-all
+returns-clause-all g c =
+    let none : length c.links.links.items ≡ 0 = over_tested (vec_len c.links.links) (length c.links.links.items) c.links.links.ok.0 c.links-test.ensures in
+    links_all c.args.self.now.turns (numbers_of c.args.links.now.items) (numbers_of c.links.links.items) (g.A.Starter.started c.args.starter.now) (g.A.Starter.started c.links.starter) c.links.self c.links.invariant.so_far
     (none_mapped (λ (f : Fed g.row.G.Denot). f.link) c.links.links.items none)

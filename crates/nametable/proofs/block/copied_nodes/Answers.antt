@@ -2,7 +2,7 @@ use Rattle.std.proofs.Common.{◌∙◌, subst}
 use Rattle.std.proofs.lemmas.List.{take_all}
 use Rattle.nametable.specs.Nodes.{Nodes, AreAlike}
 use Rattle.nametable.proofs.NodeSets.{alike-next}
-use Rattle.nametable.proofs.reserving.copied_nodes.Goals as goal
+use Rattle.nametable.proofs.block.copied_nodes.Goals as goal
 
 pub nodes-preserved : goal.nodes-preserved
 nodes-preserved g c =

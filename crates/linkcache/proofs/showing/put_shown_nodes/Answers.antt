@@ -6,7 +6,7 @@ use Rattle.linkcache.specs.declared.row.HeardRow.{HeardRow}
 use Rattle.linkcache.specs.Rows.{LinkRows, put_shown}
 use Rattle.linkcache.specs.Sound.{AreLinkRows}
 use Rattle.linkcache.proofs.ShownNodes.{node-sound, shown-next}
-use Rattle.linkcache.proofs.showing.shown_nodes.Goals as goal
+use Rattle.linkcache.proofs.showing.put_shown_nodes.Goals as goal
 
 pub put_shown_rows-requires : goal.put_shown_rows-requires
 put_shown_rows-requires c =

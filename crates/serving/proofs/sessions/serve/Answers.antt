@@ -1,12 +1,14 @@
-use Rattle.std.proofs.Common.{◌≡◌, ℕ, Bool, inl, List, sym, ap, subst}
-use Rattle.std.specs.Prelude.{is_ok}
+use Rattle.std.proofs.Common.{◌≡◌, ◌⊎◌, ℕ, ◌+◌, Bool, inl, List, length, sym, ap, subst}
+use Rattle.std.specs.Prelude.{IsErrOf, OnOk, is_ok}
+use Rattle.push_base.specs.Causes.{Rose}
+use Rattle.serving.specs.declared.ends.Fault.TheVariants as faults
 use Rattle.serving.specs.Jobs.{jobs_of}
 use Rattle.serving.specs.Servers.{ServerState}
-use Rattle.serving.specs.Serving.{Accepts, Returns, Starts, numbers_of}
-use Rattle.serving.proofs.Finishing.{by_end, counts_from}
+use Rattle.serving.specs.Serving.{Accepts, Returns, Starts, StartsAll, numbers_of}
+use Rattle.serving.proofs.Finishing.{by_end, counts_from, ends_map, finishes}
 use Rattle.serving.proofs.Handing.{front_none, starts_less}
 use Rattle.serving.proofs.Opening.{accepts_less, accepts_not}
-use Rattle.serving.proofs.sessions.serve_in.Goals as goal
+use Rattle.serving.proofs.sessions.serve.Goals as goal
 
 pub returns-in-Err-clause-started : goal.returns-in-Err-clause-started
 returns-in-Err-clause-started g c = front_none (jobs_of c.args.setup.turns (numbers_of c.args.setup.links.items) c.args.setup.sessions) (g.A.Starter.started c.args.starter.now)
@@ -36,3 +38,17 @@ returns-clause-links g c =
 
 pub returns-in-Err-clause-accepted : goal.returns-in-Err-clause-accepted
 returns-in-Err-clause-accepted g c = accepts_not c.args.setup.sessions (g.D.Doors.accepted c.args.doors.now)
+
+pub returns-clause-ended : goal.returns-clause-ended
+returns-clause-ended g c =
+    ends_map c.close.result.end c.close.result.ends.items (IsErrOf c.open-opened.result faults.Outside)
+    (Rose (g.A.Starter.faults c.args.starter.now) (g.A.Starter.faults c.open-opened.new.starter) ⊎ Rose (g.D.Doors.faults c.args.doors.now) (g.D.Doors.faults c.open-opened.new.doors))
+    c.open-opened.ensures.cause c.close.ensures.ended
+
+pub returns-clause-finished : goal.returns-clause-finished
+returns-clause-finished g c =
+    let turns : c.new-server.result.turns ≡ c.args.setup.turns = ap (λ (s : ServerState). s.turns) c.new-server.ensures in
+    finishes c.open-opened.result c.close.result.end c.args.setup.turns (numbers_of c.args.setup.links.items) c.args.setup.sessions (g.A.Starter.started c.args.starter.now) (g.A.Starter.started c.open-opened.new.starter)
+    (length c.close.result.ends.items) (length c.open-opened.new.self.links + c.open-opened.new.self.jobs) c.close.ensures.end c.close.ensures.finished
+    (subst (λ (n : ℕ). OnOk c.open-opened.result (StartsAll n (numbers_of c.args.setup.links.items) c.args.setup.sessions (g.A.Starter.started c.args.starter.now) (g.A.Starter.started c.open-opened.new.starter) (length c.open-opened.new.self.links + c.open-opened.new.self.jobs)))
+    turns c.open-opened.ensures.all)

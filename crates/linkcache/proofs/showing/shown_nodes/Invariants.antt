@@ -1,7 +1,0 @@
-use Rattle.std.proofs.Common.{◌≡◌, drop, fold}
-use Rattle.nametable.specs.Nodes.{all_rows}
-use Rattle.linkcache.specs.Rows.{put_shown, shown_rows}
-use Rattle.linkcache.proofs.showing.shown_nodes.Given as goal
-
-abbrev pub invariant-nodes : goal.invariant-nodes
-invariant-nodes l = fold (put_shown l.domain) l.set.rows (all_rows (drop l.node-index l.nodes)) ≡ shown_rows l.domain (all_rows l.nodes)

@@ -1,0 +1,97 @@
+//! The jobs that aren't links'.
+
+ghost use Rattle.std.specs.Prelude.{◌≡◌, false};
+ghost use Rattle.hublock.specs.Feeds.{each};
+ghost use Rattle.hublock.specs.Jobs.{role_in};
+ghost use Rattle.serving.specs.Ends.{is_link_fault};
+ghost use Rattle.serving.specs.Jobs.{is_link};
+
+use hublock::{Feed, Job, JobEnd, LoopEnd};
+use push_base::{Clock, Datagrams, Line, Role, Sink, Task};
+use std::sync::atomic::{AtomicBool, Ordering};
+use std::sync::ledger::Ledger;
+use std::sync::{Arc, Wait};
+
+/// What the job of a session or of the clock answers: how its loop ended, which is never as `LinkFault`, and its feed of one
+/// part of each ledger.
+#[derive(Drop)]
+pub(crate) struct OtherEnd<C: Ledger, H: Ledger, M: Ledger> {
+    pub(crate) end: LoopEnd,
+    pub(crate) feed: Feed<C, H, M>,
+    pub(crate) ghost one: { feed.parts ≡ each 1 },
+    pub(crate) ghost linkless: { is_link_fault end ≡ false },
+}
+
+/// A job of a session, or the clock's, which tells when it is over.
+#[derive(Drop)]
+pub(crate) struct OtherJob<
+    R: Wait + Copy,
+    L: Line + Drop,
+    K: Sink + Drop,
+    G: Datagrams + Drop,
+    T: Clock + Drop,
+    C: Ledger,
+    H: Ledger,
+    M: Ledger,
+    S: Ledger,
+> {
+    job: Job<R, L, K, G, T, C, H, M, S>,
+    over: Arc<AtomicBool>,
+    ghost other: { is_link (role_in job.work) ≡ false },
+}
+
+impl<
+    R: Wait + Copy,
+    L: Line + Drop,
+    K: Sink + Drop,
+    G: Datagrams + Drop,
+    T: Clock + Drop,
+    C: Ledger,
+    H: Ledger,
+    M: Ledger,
+    S: Ledger,
+> OtherJob<R, L, K, G, T, C, H, M, S> {
+    /// That job, and where it tells that it is over.
+    pub(crate) fn new(job: Job<R, L, K, G, T, C, H, M, S>, over: Arc<AtomicBool>) -> Self
+        requires { is_link (role_in job.work) ≡ false }
+        ensures { result.job ≡ job }
+    {
+        OtherJob { job, over }
+    }
+}
+
+impl<
+    R: Wait + Copy,
+    L: Line + Drop,
+    K: Sink + Drop,
+    G: Datagrams + Drop + Send + 'static,
+    T: Clock + Drop,
+    C: Ledger + Send + 'static,
+    H: Ledger + Send + 'static,
+    M: Ledger + Send + 'static,
+    S: Ledger,
+> Task for OtherJob<R, L, K, G, T, C, H, M, S> {
+    type Out = OtherEnd<C, H, M>;
+
+    ghost role_of = { λ j. role_in j.job.work };
+
+    ghost turns_of = { λ j. j.job.turns };
+
+    fn role(&self) -> Role {
+        self.job.role()
+    }
+
+    fn turns(&self) -> u64 {
+        self.job.turns()
+    }
+
+    fn run(self) -> OtherEnd<C, H, M> {
+        let OtherJob { job, over } = self;
+        let JobEnd { end, feed, links } = job.run();
+        over.store(true, Ordering::SeqCst);
+        match links {
+            None => OtherEnd { end, feed },
+            Some(_) => unreachable!(),
+        }
+    }
+}
