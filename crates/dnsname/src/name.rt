@@ -20,6 +20,7 @@ use crate::text::text_octets;
 pub use push_base::Octets;
 use std::alloc::{AllocError, AllocFailed, Global};
 use std::marker::Model;
+use std::sync::Arc;
 
 /// The first fault in reading order, with its place: a count of octets from the start of the message.
 #[derive(Clone, Copy, Debug, PartialEq, Eq)]
@@ -77,21 +78,22 @@ impl<T: Drop> From<AllocFailed<T>> for TextFault {
     }
 }
 
-/// A domain name, as the list of its labels.
+/// A domain name, as the list of its labels. Copies of a name share its octets.
 #[derive(Debug, Drop)]
 pub struct Name {
-    octets: Vec<u8>,
+    octets: Arc<Vec<u8>>,
 }
 
 impl Model for Name {
+    ghost use Rattle.std.specs.Arc.{arc_value};
     ghost use Rattle.dnsname.specs.Names.{Labels, SpellsName};
     ghost use Rattle.dnsname.specs.Octets.{labels_of};
 
     ghost Value = { Labels };
 
-    ghost view = { λ n. labels_of n.octets.items };
+    ghost view = { λ n. labels_of (arc_value n.octets).items };
 
-    ghost invariant = { λ n. SpellsName n.octets.items (labels_of n.octets.items) };
+    ghost invariant = { λ n. SpellsName (arc_value n.octets).items (labels_of (arc_value n.octets).items) };
 }
 
 /// The name without pointers at a place, and the place after it.
@@ -100,7 +102,8 @@ fn plain_name(alloc: Global, octets: &[u8], at: usize) -> Result<(Name, usize), 
     ensures fault { IfErr result (IsMemoryOr (PlainFaultAt octets.now at)) }
 {
     let after = plain_end(octets, at)?;
-    let octets = Vec::from_slice(alloc, &octets[at..after])?;
+    let spelled = Vec::from_slice(alloc, &octets[at..after])?;
+    let octets = Arc::new(alloc, spelled)?;
     Ok((Name { octets }, after))
 }
 
@@ -133,7 +136,8 @@ fn pointed_name(
     ensures name { IfOk result (λ read. SpellsNameIn first.now message.now at read.0 read.1) }
     ensures fault { IfErr result (IsMemoryOr (FaultIn first.now message.now at)) }
 {
-    let (octets, after) = name_octets(alloc, first, message, at)?;
+    let (spelled, after) = name_octets(alloc, first, message, at)?;
+    let octets = Arc::new(alloc, spelled)?;
     Ok((Name { octets }, after))
 }
 
@@ -144,7 +148,8 @@ fn text_name(alloc: Global, text: &str) -> Result<Name, TextFault>
     ensures only { (name : Labels) → SpellsText text.now name
         → MatchResult result (λ read. read ≡ name) (λ e. e ≡ TextFault.NoMemory) }
 {
-    let octets = text_octets(alloc, text.as_bytes())?;
+    let spelled = text_octets(alloc, text.as_bytes())?;
+    let octets = Arc::new(alloc, spelled)?;
     Ok(Name { octets })
 }
 
@@ -216,7 +221,12 @@ impl Name {
         ensures octets { result.now ≡ octets self.now }
         ensures name { IsName self.now }
     {
-        &self.octets
+        self.octets.as_slice()
+    }
+
+    /// The allocator that the octets came with.
+    fn allocator(&self) -> Global {
+        *self.octets.allocator()
     }
 
     /// Appends the name's octets.
@@ -224,7 +234,7 @@ impl Name {
         ensures ok { OnOk result (out.new.items ≡ out.old.items ++ octets self.now) }
         ensures err { OnErr result (out.new.items ≡ out.old.items) }
     {
-        out.extend_from_slice(&self.octets)
+        out.extend_from_slice(self.octets())
     }
 
     /// Whether the names are one, but for upper and lower case.
@@ -233,7 +243,7 @@ impl Name {
         // The same as a test of the names.
         ensures exact { result ≡ same_name self.now other.now }
     {
-        self.octets.eq_ignore_ascii_case(&other.octets)
+        self.octets().eq_ignore_ascii_case(other.octets())
     }
 
     /// Whether the last labels of the name are those of the suffix, but for upper and lower case.
@@ -242,29 +252,34 @@ impl Name {
         // The same as a test of the names.
         ensures exact { result ≡ ends_in self.now suffix.now }
     {
-        spelled_ends_in(&self.octets, &suffix.octets)
+        spelled_ends_in(self.octets(), suffix.octets())
     }
 
     /// The name's text: its labels, each with a dot after it, or a dot alone.
     pub fn text(&self) -> Result<String, NoMemory>
         ensures { IfOk result (λ text. string_bytes text ≡ name_text self.now) }
     {
-        octets_text(*self.octets.allocator(), &self.octets)
+        octets_text(self.allocator(), self.octets())
     }
 
     /// The same name.
     pub fn copy(&self) -> Result<Name, NoMemory>
         ensures { IfOk result (λ copy. copy ≡ self.now) }
     {
-        let octets = self.octets.clone()?;
+        let octets = Arc::try_clone(&self.octets)?;
         Ok(Name { octets })
     }
 
-    /// The name in lower case.
+    /// The name in lower case: a copy, where it is so already. It takes memory in either case.
     pub fn lower(&self) -> Result<Name, NoMemory>
         ensures { IfOk result (λ low. low ≡ lower self.now) }
     {
-        let octets = in_lower_case(*self.octets.allocator(), &self.octets)?;
+        let alloc = self.allocator();
+        let low = in_lower_case(alloc, self.octets())?;
+        if low.as_slice() == self.octets() {
+            return self.copy();
+        }
+        let octets = Arc::new(alloc, low)?;
         Ok(Name { octets })
     }
 
@@ -275,12 +290,17 @@ impl Name {
         ensures none { IfOk result (λ swap. IsNone swap ↔ (255 < length (octets (swapped_suffix self.now old.now new.now)))) }
         ensures name { IfOk result (λ swap. IfSome swap (λ name. name ≡ swapped_suffix self.now old.now new.now)) }
     {
-        let front = self.octets.len() - old.octets.len();
-        if front + new.octets.len() > MAX_NAME {
+        let mine = self.octets();
+        let last = old.octets();
+        let next = new.octets();
+        let front = mine.len() - last.len();
+        if front + next.len() > MAX_NAME {
             return Ok(None);
         }
-        let (kept, _) = self.octets.split_at(front);
-        let octets = joined(*self.octets.allocator(), kept, &new.octets)?;
+        let (kept, _) = mine.split_at(front);
+        let alloc = self.allocator();
+        let spelled = joined(alloc, kept, next)?;
+        let octets = Arc::new(alloc, spelled)?;
         Ok(Some(Name { octets }))
     }
 }

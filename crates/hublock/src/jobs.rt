@@ -6,7 +6,7 @@ ghost use Rattle.hublock.specs.declared.ends.LoopEnd.TheVariants.{LinkFault};
 ghost use Rattle.hublock.specs.Feeds.{each};
 ghost use Rattle.hublock.specs.Jobs.{GivesBack, role_in};
 
-use crate::{Feed, Gate, LoopEnd, Shared, clock_loop, link_loop, read_loop, write_loop};
+use crate::{Ended, Feed, Gate, LoopEnd, Shared, clock_loop, link_loop, read_loop, write_loop};
 use push_base::{Clock, Datagrams, Line, Role, Sink, Task};
 use std::alloc::Global;
 use std::sync::Wait;
@@ -16,7 +16,7 @@ use std::sync::ledger::Ledger;
 /// `LinkFault` they are there, with a count of faults above 0.
 #[derive(Drop)]
 pub struct JobEnd<D: Datagrams + Drop, C: Ledger, H: Ledger, M: Ledger> {
-    pub end: LoopEnd,
+    pub end: Ended,
     pub feed: Feed<C, H, M>,
     pub links: Option<D>,
     pub ghost one: { feed.parts ≡ each 1 },
@@ -148,7 +148,7 @@ fn without_links<D: Datagrams + Drop, C: Ledger, H: Ledger, M: Ledger>(
     ensures { result.links ≡ None }
 {
     JobEnd {
-        end,
+        end: Ended::of_loop(end),
         feed,
         links: None,
     }
@@ -215,7 +215,7 @@ fn hear<R: Wait + Copy, D: Datagrams + Drop, C: Ledger, H: Ledger, M: Ledger, S:
 {
     let end = link_loop(alloc, &mut shared, link, &mut datagrams, turns);
     JobEnd {
-        end,
+        end: Ended::of_loop(end),
         feed: shared.into_feed(),
         links: Some(datagrams),
     }

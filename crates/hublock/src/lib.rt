@@ -18,12 +18,12 @@ mod ticking;
 mod writing;
 
 pub use alone::Alone;
-pub use ends::LoopEnd;
+pub use ends::{Ended, LoopEnd};
 pub use feed::Feed;
 pub use gate::Gate;
 pub use hearing::link_loop;
 pub use jobs::{Job, JobEnd};
-pub use lock::{Blanks, HubLock, finish};
+pub use lock::{Blanks, HubLock, PARTS, finish};
 pub use locked::Locked;
 pub use reading::{MAX_READ, read_loop};
 pub use seats::Seats;

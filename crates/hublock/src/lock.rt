@@ -7,7 +7,7 @@ ghost use Rattle.pushserver.specs.KeptHubs.{StandsFor};
 ghost use Rattle.hublock.specs.Feeds.{all_parts, parts_each, whole_seats};
 
 use crate::marks::Marks;
-use crate::moves::{Places, Wakes};
+use crate::moves::Places;
 use crate::{Feed, Locked, Seats};
 use history::entry::Totals;
 use push_base::NoMemory;
@@ -120,28 +120,32 @@ impl<C: Ledger, H: Ledger, M: Ledger, S: Ledger> HubLock<C, H, M, S> {
         self.held.locked.lock(rt).connect(seats)
     }
 
-    /// So many sessions are still to end.
+    /// So many sessions are still to end. No loop pauses for that: those of links and of the clock ask at each turn.
     pub fn begin<R: Wait>(&self, rt: &R, sessions: u64) {
         self.held.locked.lock(rt).begin(sessions);
-        self.held.places.wake(Wakes::All);
     }
 
     /// The line of a session is over. Nothing happens where it doesn't live.
     pub fn line_over<R: Wait>(&self, rt: &R, session: u64) {
-        self.held.locked.lock(rt).line_over(session);
-        self.held.places.wake(Wakes::Session(session));
+        let mut locked = self.held.locked.lock(rt);
+        locked.line_over(session);
+        let wakes = locked.wakes();
+        drop(locked);
+        self.held.places.wake(wakes);
     }
 
-    /// One session has ended.
+    /// One session has ended. No loop pauses for that: those of links and of the clock ask at each turn.
     pub fn session_over<R: Wait>(&self, rt: &R) {
         self.held.locked.lock(rt).session_over();
-        self.held.places.wake(Wakes::All);
     }
 
     /// All is to stop.
     pub fn quit<R: Wait>(&self, rt: &R) {
-        self.held.locked.lock(rt).quit();
-        self.held.places.wake(Wakes::All);
+        let mut locked = self.held.locked.lock(rt);
+        locked.quit();
+        let wakes = locked.wakes();
+        drop(locked);
+        self.held.places.wake(wakes);
     }
 }
 

@@ -14,7 +14,7 @@ ghost use Rattle.hublock.specs.Feeds.{IsBelow};
 ghost use Rattle.hublock.specs.Inside.{AcceptsAsHeard, AcceptsNone, MayAcceptChange, MayAcceptMoment, counted, is_done, marked, with_hub, without_mark};
 
 use crate::marks::Marks;
-use crate::moves::{Moves, Wakes, count_move, wakes_at_entry, wakes_at_take, wakes_of};
+use crate::moves::{Moves, Wakes, count_move, wakes_at_entry, wakes_at_give, wakes_at_take};
 use crate::{Feed, Seats};
 use history::entry::Totals;
 use push_base::Role;
@@ -120,7 +120,10 @@ impl<C: Ledger, H: Ledger, M: Ledger, S: Ledger> Locked<C, H, M, S> {
             after,
         );
         let has_entered = after.changes > before.changes;
-        count_move(&mut self.moves, wakes_of(session, &answer, has_entered));
+        count_move(
+            &mut self.moves,
+            wakes_at_give(session, &answer, has_entered),
+        );
         answer
     }
 
@@ -250,7 +253,7 @@ impl<C: Ledger, H: Ledger, M: Ledger, S: Ledger> Locked<C, H, M, S> {
         ensures { self.new ≡ record self.old { left = sessions } }
     {
         self.left = sessions;
-        count_move(&mut self.moves, Wakes::All);
+        count_move(&mut self.moves, Wakes::Nobody);
     }
 
     /// The line of a session is over. Nothing happens where it doesn't live.
@@ -266,7 +269,7 @@ impl<C: Ledger, H: Ledger, M: Ledger, S: Ledger> Locked<C, H, M, S> {
         ensures { self.new ≡ record self.old { left = self.old.left - 1 } }
     {
         self.left = self.left.saturating_sub(1);
-        count_move(&mut self.moves, Wakes::All);
+        count_move(&mut self.moves, Wakes::Nobody);
     }
 
     /// All is to stop.

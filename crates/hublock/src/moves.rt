@@ -42,7 +42,11 @@ fn place_of(session: u64) -> usize
 }
 
 /// Who may wait for what is so after an answer for a session, where an entry was made or not.
-pub(crate) fn wakes_of(session: u64, answer: &Result<Given, HubFault>, has_entered: bool) -> Wakes {
+pub(crate) fn wakes_at_give(
+    session: u64,
+    answer: &Result<Given, HubFault>,
+    has_entered: bool,
+) -> Wakes {
     if has_entered {
         return Wakes::All;
     }

@@ -10,7 +10,6 @@ ghost use Rattle.hublock.specs.Feeds.{each, one_change_more, one_moment_more, Ri
 ghost use Rattle.hublock.specs.Gates.{DoesApart, DoesTurn};
 ghost use Rattle.hublock.specs.Sharing.{with_feed};
 
-use crate::moves::Wakes;
 use crate::{Feed, Gate, HubLock};
 use push_base::{NoMemory, Role};
 use pushserver::{Given, Heard, HubFault};
@@ -158,8 +157,11 @@ impl<R: Wait + Copy, C: Ledger, H: Ledger, M: Ledger, S: Ledger> Gate for Shared
         ensures call { DoesApart (Left session) None None }
         ensures feed { self.new ≡ self.old }
     {
-        self.lock.held.locked.lock(&self.rt).end(session);
-        self.lock.held.places.wake(Wakes::Session(session));
+        let mut locked = self.lock.held.locked.lock(&self.rt);
+        locked.end(session);
+        let wakes = locked.wakes();
+        drop(locked);
+        self.lock.held.places.wake(wakes);
     }
 
     fn pause(&mut self)

@@ -204,7 +204,7 @@ fn all_ended<D: Datagrams + Drop, C: Ledger, H: Ledger, M: Ledger>(
     ensures { result.0.parts ≡ each parts_each }
 {
     let (one, two, three) = ends;
-    let ends = [one.end, two.end, three.end];
+    let ends = [one.end.end(), two.end.end(), three.end.end()];
     let feed = feed.join(one.feed).join(two.feed).join(three.feed);
     (feed, ends)
 }

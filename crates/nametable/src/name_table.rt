@@ -21,17 +21,19 @@ use rrset::{Changed, Copied, Key, NoMemory, Shown, Table};
 use std::alloc::Global;
 use std::marker::Model;
 
-/// Of so many names one may be without rows, before these are given back.
+/// Of so many names one may be without rows when they are counted, and one may change before they are counted again.
 const NAMES_PER_EMPTY: usize = 8;
 
 /// Rows, each a key and its value, in tables by name: a finite map in key order, in which a change moves nothing of
-/// other names but pointers. A name that lost its rows keeps its room until `give_back`, which knows how many have none
-/// by a count of the names with rows.
+/// other names but pointers. A name that lost its rows keeps its room until `give_back` counts, which knows how many have
+/// none by a count of the names with rows.
 #[derive(Debug, Drop)]
 pub struct NameTable<V = Shown> {
     blocks: Vec<Block<V>>,
     count: usize,
     names: usize,
+    // How many names may have come without rows, or lost theirs, since names were counted last. Contracts don't see it.
+    uncounted: usize,
 }
 
 impl<V> Model for NameTable<V> {
@@ -75,6 +77,7 @@ impl<V: Drop> NameTable<V> {
             blocks: Vec::new(alloc),
             count: 0,
             names: 0,
+            uncounted: 0,
         }
     }
 
@@ -119,6 +122,7 @@ impl<V: Drop> NameTable<V> {
         ensures rows { self.new.rows ≡ without_rows (same_key key.now) self.old.rows }
         ensures room { (name : Labels) → room_at self.old.nodes name ≤ room_at self.new.nodes name }
     {
+        self.uncounted = self.uncounted.saturating_add(1);
         let removed = remove_in_blocks(&mut self.blocks, key, &mut self.names);
         let count = count_without(self.count, &removed);
         self.count = count;
@@ -133,6 +137,7 @@ impl<V: Drop> NameTable<V> {
         ensures room { OnOk result (HasRoomFor (keys_put changed.now) self.new.nodes) }
         ensures kept { (name : Labels) → room_at self.old.nodes name ≤ room_at self.new.nodes name }
     {
+        self.uncounted = self.uncounted.saturating_add(changed.len());
         reserve_all(&mut self.blocks, changed)
     }
 
@@ -142,6 +147,7 @@ impl<V: Drop> NameTable<V> {
         ensures room { OnOk result (HasRoomFor (keys_of rows.now.rows) self.new.nodes) }
         ensures kept { (name : Labels) → room_at self.old.nodes name ≤ room_at self.new.nodes name }
     {
+        self.uncounted = self.uncounted.saturating_add(rows.len());
         reserve_rows(&mut self.blocks, rows)
     }
 
@@ -162,9 +168,21 @@ impl<V: Drop> NameTable<V> {
         Ok(before)
     }
 
-    /// Gives back the names without rows, and the room in them, where these are more than one of eight. To be called
-    /// where no plan is pending, since room that was made may be lost. It takes no memory.
+    /// Gives back the names without rows, and the room in them, where these are counted and are more than one of eight.
+    /// They are counted when more than one change for eight names with rows came since the last time. To be called where
+    /// no plan is pending, since room that was made may be lost. It takes no memory.
     pub fn give_back(&mut self)
+        ensures { self.new.rows ≡ self.old.rows }
+    {
+        if self.uncounted <= self.names / NAMES_PER_EMPTY {
+            return;
+        }
+        self.sweep();
+        self.uncounted = 0;
+    }
+
+    /// Counts the names, and gives back those without rows, and the room in them, where these are more than one of eight.
+    fn sweep(&mut self)
         ensures { self.new.rows ≡ self.old.rows }
     {
         let all = names_in_blocks(&self.blocks);
@@ -186,6 +204,7 @@ impl<V: Copied + Drop> NameTable<V> {
             blocks,
             count: self.count,
             names: self.names,
+            uncounted: self.uncounted,
         })
     }
 }

@@ -12,7 +12,7 @@ use std::net::{Net, TcpListener, TcpStream};
 use std::time::Duration;
 
 /// How long a read waits for octets, in milliseconds.
-const READ_WAIT: u64 = 100;
+const READ_WAIT: u64 = 500;
 
 /// How long a write waits for a peer that takes nothing, in milliseconds.
 const WRITE_WAIT: u64 = 10_000;

@@ -61,6 +61,35 @@ fn most_names(alloc: Global, table: &mut NameTable, first: u32, last: u32) -> Re
     Ok(most)
 }
 
+/// The most names of a block.
+fn most_in_a_block(table: &NameTable) -> usize {
+    let mut most = 0;
+    'blocks: for block in table.blocks() {
+        most = most.max(block.nodes().len());
+    }
+    most
+}
+
+/// Whether a table has an address of each of so many names.
+fn has_all(alloc: Global, table: &NameTable, names: u32) -> Result<bool, Fail> {
+    'names: for number in 0..names {
+        let record = address(alloc, number)?;
+        if table.at(&record.owner).len() != 1 {
+            return Ok(false);
+        }
+    }
+    Ok(true)
+}
+
+#[test]
+fn many_names_stand_in_small_blocks(rt: HostRuntime) -> Result<(), Fail> {
+    let table = filled(rt.alloc(), 2_000)?;
+    holds("names", names_of(&table) == 2_000)?;
+    holds("small", most_in_a_block(&table) <= 512)?;
+    holds("found", has_all(rt.alloc(), &table, 2_000)?)?;
+    holds("rows", table.len() == 2_000)
+}
+
 #[test]
 fn names_that_come_and_go_leave_nothing(rt: HostRuntime) -> Result<(), Fail> {
     let mut table = filled(rt.alloc(), 100)?;

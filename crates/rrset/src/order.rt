@@ -3,7 +3,7 @@
 ghost use Rattle.std.specs.Prelude.{◌≡◌, map, refl};
 ghost use Rattle.std.specs.Char.{to_ascii_lowercase};
 ghost use Rattle.std.specs.Cmp.{eq_by_cmp_equiv, partial_equiv_from_equiv, partial_order_from_total};
-ghost use Rattle.std.specs.Ordering.{as_partial_cmp};
+ghost use Rattle.std.specs.Ordering.{as_partial_cmp, nat_cmp, ordering_then};
 ghost use Rattle.dnsname.specs.Names.{octets, lower};
 ghost use Rattle.rrset.specs.KeyOrder.{key_cmp_total};
 ghost use Rattle.rrset.specs.Records.{key_cmp, octets_cmp, same_key};
@@ -13,15 +13,38 @@ use crate::record::Key;
 use dnsname::Name;
 use std::cmp::Ordering;
 
-/// The order of keys: by owner, kind, rdata and class.
+/// The order of keys: by owner, kind, rdata and class. Rdata are compared only where owner and kind are equal.
 pub fn compare_keys(first: &Key, second: &Key) -> Ordering
     ensures { result ≡ key_cmp first.now second.now }
 {
-    let owners = first.owner.octets().cmp(second.owner.octets());
-    let kinds = first.kind.cmp(&second.kind);
-    let rdata = first.rdata.as_slice().cmp(second.rdata.as_slice());
+    match first.owner.octets().cmp(second.owner.octets()) {
+        Ordering::Less => Ordering::Less,
+        Ordering::Equal => compare_kinds(first, second),
+        Ordering::Greater => Ordering::Greater,
+    }
+}
+
+/// The order of keys of one owner: by kind, rdata and class.
+fn compare_kinds(first: &Key, second: &Key) -> Ordering
+    ensures { result ≡ ordering_then (nat_cmp first.now.kind second.now.kind) (ordering_then (octets_cmp first.now.rdata second.now.rdata) (nat_cmp first.now.class second.now.class)) }
+{
+    match first.kind.cmp(&second.kind) {
+        Ordering::Less => Ordering::Less,
+        Ordering::Equal => compare_data(first, second),
+        Ordering::Greater => Ordering::Greater,
+    }
+}
+
+/// The order of keys of one owner and kind: by rdata and class.
+fn compare_data(first: &Key, second: &Key) -> Ordering
+    ensures { result ≡ ordering_then (octets_cmp first.now.rdata second.now.rdata) (nat_cmp first.now.class second.now.class) }
+{
     let classes = first.class.cmp(&second.class);
-    owners.then(kinds.then(rdata.then(classes)))
+    first
+        .rdata
+        .as_slice()
+        .cmp(second.rdata.as_slice())
+        .then(classes)
 }
 
 impl PartialEq for Key {

@@ -17,7 +17,7 @@ use Rattle.serving.specs.declared.ends.Fault.TheVariants as faults
 use Rattle.serving.specs.declared.ends.ServeEnd.{ServeEnd}
 use Rattle.serving.specs.declared.ends.ServeEnd.TheVariants as ends
 use Rattle.serving.specs.Ends.{CountsAs, CountsEnds, EndsAs, EndsFor, cause_of, end_for, fails_outside, is_full, is_link_fault, is_starved, lacks_memory, tells_fault, worst_cause}
-use Rattle.serving.specs.Serving.{Finishes, StartsAll, has_fault, is_full_run, numbers_of}
+use Rattle.serving.specs.Serving.{Finishes, StartsAll, StartsAllUnless, has_fault, is_full_run, numbers_of}
 
 -- these datagrams were put back before the others, and as many loops ended; where one failed, so did some of these
 pub record LinksBack {G : Type 0} (count : G → ℕ) (all rest : List ℕ) (before now : List (Fed G)) (place : ℕ) (starved : Bool) (told : List LoopEnd) : Type 0 where
@@ -143,6 +143,16 @@ by_end P less (Ok done) ends.NoMemory how p = less p
 by_end P less (Err faults.Outside) end (inl is) p = subst (λ (e : ServeEnd). P (is_full_run e)) (sym is) p
 by_end P less (Err faults.Outside) end (inr is) p = subst (λ (e : ServeEnd). P (is_full_run e)) (sym is) p
 by_end P less (Err faults.NoMemory) end is p = subst (λ (e : ServeEnd). P (is_full_run e)) (sym is) p
+
+-- a server that isn't given up has started all
+pub goes_on_by : {A : Type 0} (P : Bool → Type 0) (failed : Type 0) (opened : Result A Fault) (end : ServeEnd) → EndsAs opened end → (IsErrOf opened faults.Outside → failed) → P (is_ok opened) → StartsAllUnless end failed (P true)
+goes_on_by P failed (Ok done) (ends.Served totals) how cause all = all
+goes_on_by P failed (Ok done) ends.Full how cause all = all
+goes_on_by P failed (Ok done) ends.OutsideFault how cause all = inr all
+goes_on_by P failed (Ok done) ends.NoMemory how cause all = tt
+goes_on_by P failed (Err faults.Outside) end (inl is) cause all = subst (λ (e : ServeEnd). StartsAllUnless e failed (P true)) (sym is) (inl (cause refl))
+goes_on_by P failed (Err faults.Outside) end (inr is) cause all = subst (λ (e : ServeEnd). StartsAllUnless e failed (P true)) (sym is) tt
+goes_on_by P failed (Err faults.NoMemory) end is cause all = subst (λ (e : ServeEnd). StartsAllUnless e failed (P true)) (sym is) tt
 
 outside_or_worse : (starved full : Bool) (sums : Totals) → (end_for (worst_cause starved true full) sums ≡ ends.OutsideFault) ⊎ (end_for (worst_cause starved true full) sums ≡ ends.NoMemory)
 outside_or_worse true full sums = inr refl
@@ -298,6 +308,11 @@ counts_from opened (inr links) = inr (inr links)
 pub failed_behind : (told more over : List LoopEnd) → more ≡ told ++ over → list_any is_link_fault over ≡ false → list_any is_link_fault more ≡ list_any is_link_fault told
 failed_behind told more over is quiet =
     ap (λ (es : List LoopEnd). list_any is_link_fault es) is ∙ (list_any-append is_link_fault told over ∙ none_behind (list_any is_link_fault told) (list_any is_link_fault over) quiet)
+
+-- one more of them is noted
+pub noted_on : (told more rest left all : List LoopEnd) (end : LoopEnd) → more ≡ told ++ end ∷ [] → rest ≡ end ∷ left → told ++ rest ≡ all → more ++ left ≡ all
+noted_on told more rest left all end is step before =
+    ap (λ (es : List LoopEnd). es ++ left) is ∙ (append_assoc told (end ∷ []) left ∙ (ap (λ (es : List LoopEnd). told ++ es) (sym step) ∙ before))
 
 pub count_behind : (told more over : List LoopEnd) → more ≡ told ++ over → length more ≡ length told + length over
 count_behind told more over is = ap (λ (es : List LoopEnd). length es) is ∙ length-append told over

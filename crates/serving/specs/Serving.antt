@@ -4,6 +4,7 @@
 --     CountsBy      a count that is told went on by so many
 --     Starts, Accepts, Returns      the jobs, the sessions, and the links whose datagrams are given back
 --     StartsAll, Finishes      all jobs were started, and so many loops ended
+--     StartsAllUnless      a server goes on until all is started
 --     has_fault, CountsFault      datagrams are among these that failed; something outside counted a fault
 use Rattle.std.specs.Prelude.{◌≡◌, ◌⊎◌, ◌≤◌, ◌+◌, ◌-◌, ◌^◌, ⊤, ℕ, Bool, true, false, None, Some, min, nat_lt, List, ◌∷◌, ◌++◌, length, map}
 use Rattle.std.specs.declared.option.Option.{Option}
@@ -48,6 +49,13 @@ StartsAll turns links sessions told now count = (seats : ℕ) × AreSeats sessio
 abbrev pub Finishes : Bool → ℕ → List ℕ → ℕ → Jobs → Jobs → ℕ → Type 0
 Finishes true turns links sessions told now count = StartsAll turns links sessions told now count
 Finishes false turns links sessions told now count = ⊤
+
+-- however loops end, a server goes on until all is started, unless want of memory is told, or the starter or the doors failed
+abbrev pub StartsAllUnless : ServeEnd → Type 0 → Type 0 → Type 0
+StartsAllUnless (ends.Served totals) failed all = all
+StartsAllUnless ends.Full failed all = all
+StartsAllUnless ends.OutsideFault failed all = failed ⊎ all
+StartsAllUnless ends.NoMemory failed all = ⊤
 
 -- a count of 64 bits that is told went on by so many; at its last value it stays
 abbrev pub CountsBy : ℕ → Option ℕ → Option ℕ → Type 0

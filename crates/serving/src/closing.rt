@@ -14,7 +14,7 @@ use crate::other_job::OtherJob;
 use crate::running::Running;
 use crate::server::{Hearing, Server};
 use crate::{Fed, ServeEnd, Served};
-use hublock::{Feed, HubLock, LoopEnd, finish};
+use hublock::{Ended, Feed, HubLock, finish};
 use push_base::{Clock, Datagrams, Line, Pending, Sink};
 use std::sync::Wait;
 use std::sync::ledger::Ledger;
@@ -23,12 +23,12 @@ use std::thread::Threads;
 /// How the loops of the jobs that are over ended, and whether memory ran out for this list.
 #[derive(Drop)]
 struct Noted {
-    ends: Vec<LoopEnd>,
+    ends: Vec<Ended>,
     starved: bool,
 }
 
 /// Notes how one more loop ended.
-fn note(noted: &mut Noted, end: LoopEnd)
+fn note(noted: &mut Noted, end: Ended)
     ensures { noted.new.starved ≡ false → (noted.old.starved ≡ false) × (noted.new.ends.items ≡ noted.old.ends.items ++ end ∷ []) }
 {
     if noted.ends.push(end).is_err() {
@@ -37,11 +37,11 @@ fn note(noted: &mut Noted, end: LoopEnd)
 }
 
 /// Notes how the loops ended of the jobs that were over before.
-fn note_over(noted: &mut Noted, ends: Vec<LoopEnd>)
+fn note_over(noted: &mut Noted, ends: Vec<Ended>)
     ensures { noted.new.starved ≡ false → (noted.old.starved ≡ false) × (noted.new.ends.items ≡ noted.old.ends.items ++ ends.items) }
 {
-    if noted.ends.extend_from_slice(&ends).is_err() {
-        noted.starved = true;
+    'over: for end in ends {
+        note(noted, end);
     }
 }
 
@@ -60,7 +60,7 @@ fn finish_link<
     rt: R,
     job: Pending<LinkJob<R, L, K, G, T, C, H, M, S>>,
     feed: Feed<C, H, M>,
-) -> (LoopEnd, Feed<C, H, M>, G)
+) -> (Ended, Feed<C, H, M>, G)
     ensures parts { result.1.parts ≡ added feed.parts (each 1) }
     ensures failed { tells_fault result.0 (G.faults result.2) ≡ true }
 {
@@ -136,7 +136,7 @@ fn finish_job<
     rt: R,
     job: Pending<OtherJob<R, L, K, G, T, C, H, M, S>>,
     feed: Feed<C, H, M>,
-) -> (LoopEnd, Feed<C, H, M>)
+) -> (Ended, Feed<C, H, M>)
     ensures parts { result.1.parts ≡ added feed.parts (each 1) }
     ensures linkless { is_link_fault result.0 ≡ false }
 {

@@ -6,7 +6,7 @@ ghost use Rattle.serving.specs.declared.ends.Fault.TheVariants as faults;
 ghost use Rattle.serving.specs.Ends.{cause_of, fails_outside, is_full, is_link_fault, is_starved, lacks_memory, worst_cause};
 
 use history::entry::Totals;
-use hublock::LoopEnd;
+use hublock::{Ended, LoopEnd};
 use std::alloc::{AllocError, AllocFailed};
 
 /// How a server ended.
@@ -65,24 +65,27 @@ fn fails_outside(opened: Result<(), Fault>) -> bool
 }
 
 /// Whether memory ran out for a loop.
-fn any_starved(told: &[LoopEnd]) -> bool
+fn any_starved(told: &[Ended]) -> bool
     ensures { result ≡ list_any is_starved told.now }
 {
-    told.iter().any(|end| matches!(end, LoopEnd::NoMemory))
+    told.iter()
+        .any(|ended| matches!(ended.end(), LoopEnd::NoMemory))
 }
 
 /// Whether the datagrams of a link failed.
-fn any_link_fault(told: &[LoopEnd]) -> bool
+fn any_link_fault(told: &[Ended]) -> bool
     ensures { result ≡ list_any is_link_fault told.now }
 {
-    told.iter().any(|end| matches!(end, LoopEnd::LinkFault))
+    told.iter()
+        .any(|ended| matches!(ended.end(), LoopEnd::LinkFault))
 }
 
 /// Whether the journal is full.
-fn any_full(told: &[LoopEnd]) -> bool
+fn any_full(told: &[Ended]) -> bool
     ensures { result ≡ list_any is_full told.now }
 {
-    told.iter().any(|end| matches!(end, LoopEnd::Full))
+    told.iter()
+        .any(|ended| matches!(ended.end(), LoopEnd::Full))
 }
 
 /// The worst of the causes that are there.
@@ -102,7 +105,7 @@ fn worst_cause(starved: bool, failed: bool, full: bool) -> Option<Cause>
 
 /// The cause that a server ends for, if it is one: by what it was given up for, by whether memory ran out for the list of the
 /// loops' ends, and by these.
-pub(crate) fn cause_of(opened: Result<(), Fault>, starved: bool, told: &[LoopEnd]) -> Option<Cause>
+pub(crate) fn cause_of(opened: Result<(), Fault>, starved: bool, told: &[Ended]) -> Option<Cause>
     ensures { result ≡ cause_of opened starved told.now }
 {
     let starved = starved | (lacks_memory(opened) | any_starved(told));

@@ -6,7 +6,7 @@ ghost use Rattle.hublock.specs.Feeds.{each};
 ghost use Rattle.hublock.specs.Jobs.{role_in};
 ghost use Rattle.serving.specs.Ends.{tells_fault};
 
-use hublock::{Feed, Job, JobEnd, LoopEnd, Shared};
+use hublock::{Ended, Feed, Job, JobEnd, Shared};
 use push_base::{Clock, Datagrams, Line, Role, Sink, Task};
 use std::alloc::Global;
 use std::sync::Wait;
@@ -16,7 +16,7 @@ use std::sync::ledger::Ledger;
 /// faults is above 0 after `LinkFault`.
 #[derive(Drop)]
 pub(crate) struct LinkEnd<G: Datagrams + Drop, C: Ledger, H: Ledger, M: Ledger> {
-    pub(crate) end: LoopEnd,
+    pub(crate) end: Ended,
     pub(crate) feed: Feed<C, H, M>,
     pub(crate) datagrams: G,
     pub(crate) ghost one: { feed.parts ≡ each 1 },

@@ -6,7 +6,7 @@ ghost use Rattle.hublock.specs.Jobs.{role_in};
 ghost use Rattle.serving.specs.Ends.{is_link_fault};
 ghost use Rattle.serving.specs.Jobs.{is_link};
 
-use hublock::{Feed, Job, JobEnd, LoopEnd};
+use hublock::{Ended, Feed, Job, JobEnd};
 use push_base::{Clock, Datagrams, Line, Role, Sink, Task};
 use std::sync::atomic::{AtomicBool, Ordering};
 use std::sync::ledger::Ledger;
@@ -16,7 +16,7 @@ use std::sync::{Arc, Wait};
 /// part of each ledger.
 #[derive(Drop)]
 pub(crate) struct OtherEnd<C: Ledger, H: Ledger, M: Ledger> {
-    pub(crate) end: LoopEnd,
+    pub(crate) end: Ended,
     pub(crate) feed: Feed<C, H, M>,
     pub(crate) ghost one: { feed.parts ≡ each 1 },
     pub(crate) ghost linkless: { is_link_fault end ≡ false },

@@ -7,7 +7,7 @@ ghost use Rattle.serving.specs.Ends.{is_link_fault};
 ghost use Rattle.serving.specs.Running.{IsMovedOn};
 
 use crate::other_job::OtherJob;
-use hublock::{Feed, LoopEnd};
+use hublock::{Ended, Feed};
 use push_base::{Clock, Datagrams, Line, NoMemory, Pending, Sink};
 use std::alloc::Global;
 use std::sync::atomic::{AtomicBool, Ordering};
@@ -55,7 +55,7 @@ fn finish_at<
     jobs: &mut Vec<Running<R, L, K, G, T, C, H, M, S>>,
     place: usize,
     feed: &mut Feed<C, H, M>,
-    ends: &mut Vec<LoopEnd>,
+    ends: &mut Vec<Ended>,
 )
     requires place { place < vec_len jobs.old }
     requires even { feed.old.parts ≡ each feed.old.parts.changes }
@@ -91,7 +91,7 @@ pub(crate) fn finish_over<
     rt: R,
     jobs: &mut Vec<Running<R, L, K, G, T, C, H, M, S>>,
     feed: &mut Feed<C, H, M>,
-    ends: &mut Vec<LoopEnd>,
+    ends: &mut Vec<Ended>,
 )
     requires even { feed.old.parts ≡ each feed.old.parts.changes }
     requires linkless { list_any is_link_fault ends.old.items ≡ false }

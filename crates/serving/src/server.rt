@@ -14,7 +14,7 @@ use crate::ends::Fault;
 use crate::link_job::LinkJob;
 use crate::other_job::OtherJob;
 use crate::running::{Running, finish_over, flags};
-use hublock::{Feed, HubLock, Job, LoopEnd, Seats, Shared};
+use hublock::{Ended, Feed, HubLock, Job, PARTS, Seats, Shared};
 use push_base::{
     Clock, Datagrams, Doors, Line, NoMemory, Pending, Role, Sink, StartFault, Starter, Task, start,
 };
@@ -24,9 +24,6 @@ use std::marker::Model;
 use std::sync::Wait;
 use std::sync::ledger::Ledger;
 use std::thread::Threads;
-
-/// How many parts a ledger has: one for each job, and one for the server.
-const PARTS: u64 = 4_194_304;
 
 /// The job of a link that was started.
 #[derive(Drop)]
@@ -66,7 +63,7 @@ pub(crate) struct Server<
     pub(crate) hearings: Vec<Hearing<R, L, K, G, T, C, H, M, S>>,
     pub(crate) jobs: Vec<Running<R, L, K, G, T, C, H, M, S>>,
     // How the loops ended of those jobs that are over already.
-    pub(crate) ends: Vec<LoopEnd>,
+    pub(crate) ends: Vec<Ended>,
     turns: u64,
     left: u64,
 }

@@ -1,12 +1,12 @@
 //! The server of a number of sessions.
 
-ghost use Rattle.std.specs.Prelude.{◌≡◌, ◌⊎◌, [], length};
+ghost use Rattle.std.specs.Prelude.{◌≡◌, ◌⊎◌, true, [], length};
 ghost use Rattle.push_base.specs.Causes.{Rose};
 ghost use Rattle.pushserver.specs.PlainHubs.{Hub as Plain};
 ghost use Rattle.pushserver.specs.KeptHubs.{StandsFor};
 ghost use Rattle.hublock.specs.Feeds.{parts_each};
 ghost use Rattle.serving.specs.Ends.{CountsAs, EndsFor};
-ghost use Rattle.serving.specs.Serving.{Accepts, CountsFault, Finishes, Returns, Starts, has_fault, is_full_run, numbers_of};
+ghost use Rattle.serving.specs.Serving.{Accepts, CountsFault, Finishes, Returns, Starts, StartsAllUnless, has_fault, is_full_run, numbers_of};
 
 use crate::closing::close;
 use crate::server::Server;
@@ -55,6 +55,11 @@ pub fn serve<
 
     // How many sessions were accepted.
     ensures accepted { Accepts (is_full_run result.end) setup.sessions (D.accepted doors.old) (D.accepted doors.new) }
+
+    // However loops end, all jobs are started and all sessions accepted, unless want of memory is told, or the starter or the
+    // doors fail. With `Served` and `Full` `started` and `accepted` say this already.
+    ensures goes_on { StartsAllUnless result.end (Rose (A.faults starter.old) (A.faults starter.new) ⊎ Rose (D.faults doors.old) (D.faults doors.new))
+        (Starts true setup.turns (numbers_of setup.links.items) setup.sessions (A.started starter.old) (A.started starter.new) × Accepts true setup.sessions (D.accepted doors.old) (D.accepted doors.new)) }
 
     // A fault of the outside is told only where one was counted.
     ensures outside { result.end ≡ ServeEnd.OutsideFault → CountsFault (A.faults starter.old) (A.faults starter.new) (D.faults doors.old) (D.faults doors.new) (has_fault G.faults result.links.items) }

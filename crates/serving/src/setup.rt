@@ -1,7 +1,7 @@
 //! What a server is given, and what it gives back.
 
 use crate::ServeEnd;
-use hublock::{Feed, LoopEnd};
+use hublock::{Ended, Feed};
 use pushserver::Hub;
 use std::sync::ledger::Ledger;
 
@@ -30,6 +30,6 @@ pub struct Setup<G, T> {
 pub struct Served<G, C: Ledger, H: Ledger, M: Ledger> {
     pub end: ServeEnd,
     pub links: Vec<Fed<G>>,
-    pub ends: Vec<LoopEnd>,
+    pub ends: Vec<Ended>,
     pub feed: Option<Feed<C, H, M>>,
 }

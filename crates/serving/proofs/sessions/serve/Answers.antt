@@ -5,7 +5,7 @@ use Rattle.serving.specs.declared.ends.Fault.TheVariants as faults
 use Rattle.serving.specs.Jobs.{jobs_of}
 use Rattle.serving.specs.Servers.{ServerState}
 use Rattle.serving.specs.Serving.{Accepts, Returns, Starts, StartsAll, numbers_of}
-use Rattle.serving.proofs.Finishing.{by_end, counts_from, ends_map, finishes}
+use Rattle.serving.proofs.Finishing.{by_end, counts_from, ends_map, finishes, goes_on_by}
 use Rattle.serving.proofs.Handing.{front_none, starts_less}
 use Rattle.serving.proofs.Opening.{accepts_less, accepts_not}
 use Rattle.serving.proofs.sessions.serve.Goals as goal
@@ -26,6 +26,16 @@ returns-clause-accepted g c =
     by_end (λ (t : Bool). Accepts t c.args.setup.sessions (g.D.Doors.accepted c.args.doors.now) (g.D.Doors.accepted c.open-opened.new.doors))
     (accepts_less c.args.setup.sessions (g.D.Doors.accepted c.args.doors.now) (g.D.Doors.accepted c.open-opened.new.doors))
     c.open-opened.result c.close.result.end c.close.ensures.end c.open-opened.ensures.accepted
+
+pub returns-clause-goes_on : goal.returns-clause-goes_on
+returns-clause-goes_on g c =
+    let turns : c.new-server.result.turns ≡ c.args.setup.turns = ap (λ (s : ServerState). s.turns) c.new-server.ensures in
+    goes_on_by (λ (t : Bool). Starts t c.args.setup.turns (numbers_of c.args.setup.links.items) c.args.setup.sessions (g.A.Starter.started c.args.starter.now) (g.A.Starter.started c.open-opened.new.starter)
+    × Accepts t c.args.setup.sessions (g.D.Doors.accepted c.args.doors.now) (g.D.Doors.accepted c.open-opened.new.doors))
+    _ c.open-opened.result c.close.result.end c.close.ensures.end c.open-opened.ensures.cause (
+      subst (λ (n : ℕ). Starts (is_ok c.open-opened.result) n (numbers_of c.args.setup.links.items) c.args.setup.sessions (g.A.Starter.started c.args.starter.now) (g.A.Starter.started c.open-opened.new.starter)) turns c.open-opened.ensures.started,
+      c.open-opened.ensures.accepted,
+    )
 
 pub returns-clause-outside : goal.returns-clause-outside
 returns-clause-outside g c = λ is. counts_from c.open-opened.ensures.cause (c.close.ensures.outside is)

@@ -2,7 +2,7 @@ use Rattle.std.proofs.Common.{◌∙◌, ap}
 use Rattle.nametable.specs.Nodes.{NodesState, all_rows}
 use Rattle.nametable.specs.Blocks.{nodes_in}
 use Rattle.nametable.proofs.NodeSets.{counted-dropped, all_rows-filter}
-use Rattle.nametable.proofs.name_table.NameTable.give_back.Goals as goal
+use Rattle.nametable.proofs.name_table.NameTable.sweep.Goals as goal
 
 pub invariant_of-self : goal.invariant_of-self
 invariant_of-self g c =
