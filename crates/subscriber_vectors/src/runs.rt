@@ -6,6 +6,7 @@ ghost use Rattle.push_base.specs.Items.{HasOctets};
 use configurations::SubscribeConfiguration;
 use dnsname::Name;
 use push_base::{MemClock, MemItem, MemLine, MemSink, Octets, hex_octets, hex_text};
+use replay::Outcome;
 use rrset::record::Question;
 use std::alloc::Global;
 use std::test::Fail;
@@ -141,27 +142,45 @@ fn configuration(alloc: Global, case: &Case) -> Result<SubscribeConfiguration, F
     })
 }
 
-/// How a run ended, what it said, and what it sent.
-fn ran(alloc: Global, case: &Case) -> Result<String, Fail> {
-    let configuration = configuration(alloc, case)?;
+/// The line of a case.
+fn line(alloc: Global, case: &Case) -> Result<MemLine, Fail> {
     let octets = hex_octets(alloc, case.comes)?;
     let items = items(alloc, octets.as_slice(), case.size)?;
-    let mut line = MemLine::new(items, case.line_fails.to_vec(alloc)?);
-    let mut wire = MemSink::new(alloc, Vec::new(alloc), Vec::new(alloc), 1000)?;
+    Ok(MemLine::new(items, case.line_fails.to_vec(alloc)?))
+}
+
+/// A sink that takes whole pieces, but for the calls that fail.
+fn sink(alloc: Global, fails: &[u64]) -> Result<MemSink, Fail> {
+    let fails = fails.to_vec(alloc)?;
+    Ok(MemSink::new(alloc, Vec::new(alloc), fails, 1000)?)
+}
+
+/// How a run over these sinks ended.
+fn followed(
+    alloc: Global,
+    case: &Case,
+    wire: &mut MemSink,
+    out: &mut MemSink,
+) -> Result<Outcome, Fail> {
+    let configuration = configuration(alloc, case)?;
+    let mut line = line(alloc, case)?;
     let mut clock = MemClock::new(case.moments.to_vec(alloc)?);
-    let out_fails = case.out_fails.to_vec(alloc)?;
-    let mut out = MemSink::new(alloc, Vec::new(alloc), out_fails, 1000)?;
-    let outcome = subscribe(
-        alloc,
-        &configuration,
-        &mut line,
-        &mut wire,
-        &mut clock,
-        &mut out,
-    );
-    let said = hex_text(alloc, out.taken())?;
-    let sent = hex_text(alloc, wire.taken())?;
+    Ok(subscribe(alloc, &configuration, &mut line, wire, &mut clock, out))
+}
+
+/// How a run ended, with what was said and what was sent.
+fn told(alloc: Global, outcome: Outcome, out: &[u8], wire: &[u8]) -> Result<String, Fail> {
+    let said = hex_text(alloc, out)?;
+    let sent = hex_text(alloc, wire)?;
     Ok(format!(in alloc; "{outcome:?} {said} {sent}")?)
+}
+
+/// How a run ended, what it said, and what it sent.
+fn ran(alloc: Global, case: &Case) -> Result<String, Fail> {
+    let mut wire = sink(alloc, &[])?;
+    let mut out = sink(alloc, case.out_fails)?;
+    let outcome = followed(alloc, case, &mut wire, &mut out)?;
+    told(alloc, outcome, out.taken(), wire.taken())
 }
 
 /// What is wanted of a run.
