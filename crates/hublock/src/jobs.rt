@@ -7,7 +7,8 @@ ghost use Rattle.hublock.specs.Feeds.{each};
 ghost use Rattle.hublock.specs.Jobs.{GivesBack, role_in};
 
 use crate::{Ended, Feed, Gate, LoopEnd, Shared, clock_loop, link_loop, read_loop, write_loop};
-use push_base::{Clock, Datagrams, Line, Role, Sink, Task};
+use push_base::{Clock, Datagrams, Line, Role, Task};
+use push_outside::Wire;
 use std::alloc::Global;
 use std::sync::Wait;
 use std::sync::ledger::Ledger;
@@ -25,7 +26,7 @@ pub struct JobEnd<D: Datagrams + Drop, C: Ledger, H: Ledger, M: Ledger> {
 
 /// What a job does, with what it does it.
 #[derive(Drop)]
-pub(crate) enum Work<L: Line + Drop, K: Sink + Drop, D: Datagrams + Drop, T: Clock + Drop> {
+pub(crate) enum Work<L: Line + Drop, K: Wire + Drop, D: Datagrams + Drop, T: Clock + Drop> {
     /// Reads the line of a session.
     Read(u64, L),
     /// Writes what a session says to its wire.
@@ -41,7 +42,7 @@ pub(crate) enum Work<L: Line + Drop, K: Sink + Drop, D: Datagrams + Drop, T: Clo
 pub struct Job<
     R: Wait + Copy,
     L: Line + Drop,
-    K: Sink + Drop,
+    K: Wire + Drop,
     D: Datagrams + Drop,
     T: Clock + Drop,
     C: Ledger,
@@ -58,7 +59,7 @@ pub struct Job<
 impl<
     R: Wait + Copy,
     L: Line + Drop,
-    K: Sink + Drop,
+    K: Wire + Drop,
     D: Datagrams + Drop,
     T: Clock + Drop,
     C: Ledger,
@@ -177,10 +178,10 @@ fn read<
     without_links(end, shared.into_feed())
 }
 
-/// Writes to a wire to the end of its loop. The wire is dropped last.
+/// Writes to a wire to the end of its loop, and lets go out what it has taken. The wire is dropped last.
 fn write<
     R: Wait + Copy,
-    K: Sink + Drop,
+    K: Wire + Drop,
     D: Datagrams + Drop,
     C: Ledger,
     H: Ledger,
@@ -196,6 +197,7 @@ fn write<
     ensures { result.links ≡ None }
 {
     let end = write_loop(alloc, &mut shared, session, &mut wire, turns);
+    wire.flush();
     shared.end(session);
     shared.session_over();
     let end = without_links(end, shared.into_feed());
@@ -240,7 +242,7 @@ fn tick<
 impl<
     R: Wait + Copy,
     L: Line + Drop,
-    K: Sink + Drop,
+    K: Wire + Drop,
     D: Datagrams + Drop + Send + 'static,
     T: Clock + Drop,
     C: Ledger + Send + 'static,

@@ -10,7 +10,7 @@ mod jobs;
 mod lock;
 mod locked;
 mod marks;
-mod moves;
+mod places;
 mod reading;
 mod seats;
 mod shared;

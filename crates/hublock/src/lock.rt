@@ -7,7 +7,7 @@ ghost use Rattle.pushserver.specs.KeptHubs.{StandsFor};
 ghost use Rattle.hublock.specs.Feeds.{all_parts, parts_each, whole_seats};
 
 use crate::marks::Marks;
-use crate::moves::Places;
+use crate::places::Places;
 use crate::{Feed, Locked, Seats};
 use history::entry::Totals;
 use push_base::NoMemory;
@@ -129,6 +129,7 @@ impl<C: Ledger, H: Ledger, M: Ledger, S: Ledger> HubLock<C, H, M, S> {
     pub fn line_over<R: Wait>(&self, rt: &R, session: u64) {
         let mut locked = self.held.locked.lock(rt);
         locked.line_over(session);
+        self.held.places.count_ending();
         let wakes = locked.wakes();
         drop(locked);
         self.held.places.wake(wakes);
@@ -143,6 +144,7 @@ impl<C: Ledger, H: Ledger, M: Ledger, S: Ledger> HubLock<C, H, M, S> {
     pub fn quit<R: Wait>(&self, rt: &R) {
         let mut locked = self.held.locked.lock(rt);
         locked.quit();
+        self.held.places.count_ending();
         let wakes = locked.wakes();
         drop(locked);
         self.held.places.wake(wakes);

@@ -14,7 +14,7 @@ ghost use Rattle.hublock.specs.Feeds.{IsBelow};
 ghost use Rattle.hublock.specs.Inside.{AcceptsAsHeard, AcceptsNone, MayAcceptChange, MayAcceptMoment, counted, is_done, marked, with_hub, without_mark};
 
 use crate::marks::Marks;
-use crate::moves::{Moves, Wakes, count_move, wakes_at_entry, wakes_at_give, wakes_at_take};
+use crate::places::{Wakes, wakes_at_entry, wakes_at_give, wakes_at_take};
 use crate::{Feed, Seats};
 use history::entry::Totals;
 use push_base::Role;
@@ -33,8 +33,8 @@ pub struct Locked<C: Ledger, H: Ledger, M: Ledger, S: Ledger> {
     over: Marks,
     left: u64,
     quit: bool,
-    // The changes for which a loop may wait. Contracts don't see them.
-    moves: Moves,
+    // Who may wait for what the last call changed. Contracts don't see it.
+    wakes: Wakes,
 }
 
 impl<C: Ledger, H: Ledger, M: Ledger, S: Ledger> Model for Locked<C, H, M, S> {
@@ -72,7 +72,7 @@ impl<C: Ledger, H: Ledger, M: Ledger, S: Ledger> Locked<C, H, M, S> {
             over,
             left: 0,
             quit: false,
-            moves: Moves::new(),
+            wakes: Wakes::Nobody,
         }
     }
 
@@ -91,7 +91,7 @@ impl<C: Ledger, H: Ledger, M: Ledger, S: Ledger> Locked<C, H, M, S> {
         ensures bound { result ≤ length piece.now }
     {
         let count = self.hub.take(session, piece);
-        count_move(&mut self.moves, wakes_at_take(session, count));
+        self.wakes = wakes_at_take(session, count);
         count
     }
 
@@ -120,10 +120,7 @@ impl<C: Ledger, H: Ledger, M: Ledger, S: Ledger> Locked<C, H, M, S> {
             after,
         );
         let has_entered = after.changes > before.changes;
-        count_move(
-            &mut self.moves,
-            wakes_at_give(session, &answer, has_entered),
-        );
+        self.wakes = wakes_at_give(session, &answer, has_entered);
         answer
     }
 
@@ -149,7 +146,7 @@ impl<C: Ledger, H: Ledger, M: Ledger, S: Ledger> Locked<C, H, M, S> {
             before,
             after,
         );
-        count_move(&mut self.moves, wakes_at_entry(after.heard > before.heard));
+        self.wakes = wakes_at_entry(after.heard > before.heard);
         answer
     }
 
@@ -172,7 +169,7 @@ impl<C: Ledger, H: Ledger, M: Ledger, S: Ledger> Locked<C, H, M, S> {
             after,
         );
         let has_entered = after.moments > before.moments;
-        count_move(&mut self.moves, wakes_at_entry(has_entered));
+        self.wakes = wakes_at_entry(has_entered);
         answer
     }
 
@@ -184,7 +181,7 @@ impl<C: Ledger, H: Ledger, M: Ledger, S: Ledger> Locked<C, H, M, S> {
     {
         self.hub.end(session);
         self.over.remove(session);
-        count_move(&mut self.moves, Wakes::Session(session));
+        self.wakes = Wakes::Session(session);
     }
 
     /// A new session.
@@ -224,14 +221,9 @@ impl<C: Ledger, H: Ledger, M: Ledger, S: Ledger> Locked<C, H, M, S> {
         feed.audit(&mut self.changes, &mut self.heard, &mut self.moments);
     }
 
-    /// A number that is another one after each change for which the loop of a role may wait.
-    pub(crate) fn moves(&self, role: Role) -> u64 {
-        self.moves.of(role)
-    }
-
     /// Who may wait for what the last call changed.
     pub(crate) fn wakes(&self) -> Wakes {
-        self.moves.last()
+        self.wakes
     }
 
     /// Whether nothing is left to do for a role.
@@ -253,7 +245,7 @@ impl<C: Ledger, H: Ledger, M: Ledger, S: Ledger> Locked<C, H, M, S> {
         ensures { self.new ≡ record self.old { left = sessions } }
     {
         self.left = sessions;
-        count_move(&mut self.moves, Wakes::Nobody);
+        self.wakes = Wakes::Nobody;
     }
 
     /// The line of a session is over. Nothing happens where it doesn't live.
@@ -261,7 +253,7 @@ impl<C: Ledger, H: Ledger, M: Ledger, S: Ledger> Locked<C, H, M, S> {
         ensures { self.new ≡ record self.old { over = marked self.old.hub session self.old.over } }
     {
         self.over.add(session, &self.hub);
-        count_move(&mut self.moves, Wakes::Session(session));
+        self.wakes = Wakes::Session(session);
     }
 
     /// One session has ended.
@@ -269,7 +261,7 @@ impl<C: Ledger, H: Ledger, M: Ledger, S: Ledger> Locked<C, H, M, S> {
         ensures { self.new ≡ record self.old { left = self.old.left - 1 } }
     {
         self.left = self.left.saturating_sub(1);
-        count_move(&mut self.moves, Wakes::Nobody);
+        self.wakes = Wakes::Nobody;
     }
 
     /// All is to stop.
@@ -277,6 +269,6 @@ impl<C: Ledger, H: Ledger, M: Ledger, S: Ledger> Locked<C, H, M, S> {
         ensures { self.new ≡ record self.old { quit = true } }
     {
         self.quit = true;
-        count_move(&mut self.moves, Wakes::All);
+        self.wakes = Wakes::All;
     }
 }

@@ -10,6 +10,7 @@ ghost use Rattle.hublock.specs.Feeds.{each, one_change_more, one_moment_more, Ri
 ghost use Rattle.hublock.specs.Gates.{DoesApart, DoesTurn};
 ghost use Rattle.hublock.specs.Sharing.{with_feed};
 
+use crate::places::Known;
 use crate::{Feed, Gate, HubLock};
 use push_base::{NoMemory, Role};
 use pushserver::{Given, Heard, HubFault};
@@ -24,8 +25,10 @@ pub struct Shared<R: Wait + Copy, C: Ledger, H: Ledger, M: Ledger, S: Ledger> {
     lock: HubLock<C, H, M, S>,
     feed: Feed<C, H, M>,
     role: Role,
-    // The number of the changes for which it may wait, when the hub was called last. Contracts don't see it.
-    seen: u64,
+    // What it knows since it called the hub last. Contracts don't see it.
+    known: Known,
+    // Whether the next change for which it waits may come at once. Contracts don't see it.
+    is_eager: bool,
 }
 
 impl<R: Wait + Copy, C: Ledger, H: Ledger, M: Ledger, S: Ledger> Model for Shared<R, C, H, M, S> {
@@ -56,7 +59,8 @@ impl<R: Wait + Copy, C: Ledger, H: Ledger, M: Ledger, S: Ledger> Shared<R, C, H,
             lock: lock.again()?,
             feed,
             role,
-            seen: 0,
+            known: Known::nothing(),
+            is_eager: false,
         })
     }
 
@@ -84,7 +88,8 @@ impl<R: Wait + Copy, C: Ledger, H: Ledger, M: Ledger, S: Ledger> Shared<R, C, H,
             lock: _,
             feed,
             role: _,
-            seen: _,
+            known: _,
+            is_eager: _,
         } = self;
         feed
     }
@@ -101,7 +106,11 @@ impl<R: Wait + Copy, C: Ledger, H: Ledger, M: Ledger, S: Ledger> Gate for Shared
         let mut locked = self.lock.held.locked.lock(&self.rt);
         let count = locked.take(session, piece);
         let wakes = locked.wakes();
-        self.seen = locked.moves(self.role);
+        self.known = self
+            .lock
+            .held
+            .places
+            .known(self.role, locked.is_done(self.role), wakes);
         drop(locked);
         self.lock.held.places.wake(wakes);
         count
@@ -117,7 +126,12 @@ impl<R: Wait + Copy, C: Ledger, H: Ledger, M: Ledger, S: Ledger> Gate for Shared
         let mut locked = self.lock.held.locked.lock(&self.rt);
         let answer = locked.give(session, buf, &mut self.feed);
         let wakes = locked.wakes();
-        self.seen = locked.moves(self.role);
+        self.is_eager |= wakes.are_for_all();
+        self.known = self
+            .lock
+            .held
+            .places
+            .known(self.role, locked.is_done(self.role), wakes);
         drop(locked);
         self.lock.held.places.wake(wakes);
         answer
@@ -132,7 +146,11 @@ impl<R: Wait + Copy, C: Ledger, H: Ledger, M: Ledger, S: Ledger> Gate for Shared
         let mut locked = self.lock.held.locked.lock(&self.rt);
         let answer = locked.hear(link, datagram, &mut self.feed);
         let wakes = locked.wakes();
-        self.seen = locked.moves(self.role);
+        self.known = self
+            .lock
+            .held
+            .places
+            .known(self.role, locked.is_done(self.role), wakes);
         drop(locked);
         self.lock.held.places.wake(wakes);
         answer
@@ -147,7 +165,11 @@ impl<R: Wait + Copy, C: Ledger, H: Ledger, M: Ledger, S: Ledger> Gate for Shared
         let mut locked = self.lock.held.locked.lock(&self.rt);
         let answer = locked.moment(at, &mut self.feed);
         let wakes = locked.wakes();
-        self.seen = locked.moves(self.role);
+        self.known = self
+            .lock
+            .held
+            .places
+            .known(self.role, locked.is_done(self.role), wakes);
         drop(locked);
         self.lock.held.places.wake(wakes);
         answer
@@ -159,6 +181,7 @@ impl<R: Wait + Copy, C: Ledger, H: Ledger, M: Ledger, S: Ledger> Gate for Shared
     {
         let mut locked = self.lock.held.locked.lock(&self.rt);
         locked.end(session);
+        self.lock.held.places.count_ending();
         let wakes = locked.wakes();
         drop(locked);
         self.lock.held.places.wake(wakes);
@@ -167,19 +190,21 @@ impl<R: Wait + Copy, C: Ledger, H: Ledger, M: Ledger, S: Ledger> Gate for Shared
     fn pause(&mut self)
         ensures feed { self.new ≡ self.old }
     {
-        let seen = self.seen;
-        let role = self.role;
-        let locked = self.lock.held.locked.lock(&self.rt);
-        let _locked = self.lock.held.places.of(role).wait_while(
-            &self.rt,
-            locked,
-            |l| l.moves(role) == seen && !l.is_done(role),
-        );
+        let places = &self.lock.held.places;
+        if self.is_eager {
+            self.is_eager = places.watch(self.role, self.known);
+        }
+        if !self.is_eager {
+            places.wait(&self.rt, self.role, self.known);
+        }
     }
 
     fn done(&mut self) -> bool
         ensures feed { self.new ≡ self.old }
     {
-        self.lock.held.locked.lock(&self.rt).is_done(self.role)
+        match self.known.is_done(&self.lock.held.places, self.role) {
+            Some(is_done) => is_done,
+            None => self.lock.held.locked.lock(&self.rt).is_done(self.role),
+        }
     }
 }

@@ -7,6 +7,7 @@ ghost use Rattle.hublock.specs.Writing.{TakesPiece, WritesOn, WritesUntil};
 
 use crate::{Gate, LoopEnd};
 use push_base::Sink;
+use push_outside::Wire;
 use pushserver::{Given, HubFault};
 use std::alloc::Global;
 
@@ -35,11 +36,20 @@ fn write_piece<K: Sink>(sink: &mut K, piece: &[u8], turns: u64) -> Result<u64, L
     Ok(left)
 }
 
-/// Waits for a change, unless nothing was left to do before.
-fn wait_on<G: Gate>(gate: &mut G, idle: bool, left: u64) -> Result<u64, LoopEnd>
+/// Lets go out what the sink has taken, and waits for a change, unless nothing was left to do before.
+fn wait_on<G: Gate, K: Wire>(
+    gate: &mut G,
+    sink: &mut K,
+    idle: bool,
+    left: u64,
+) -> Result<u64, LoopEnd>
     ensures state { G.state gate.new ≡ G.state gate.old }
+    ensures taken { K.taken sink.new ≡ K.taken sink.old }
+    ensures calls { K.calls sink.new ≡ K.calls sink.old }
+    ensures faults { K.faults sink.new ≡ K.faults sink.old }
     ensures result { result ≡ (if idle then Err LoopEnd.Finished else Ok left) }
 {
+    sink.flush();
     if idle {
         return Err(LoopEnd::Finished);
     }
@@ -48,7 +58,7 @@ fn wait_on<G: Gate>(gate: &mut G, idle: bool, left: u64) -> Result<u64, LoopEnd>
 }
 
 /// Asks the hub once, and writes what it gives. Gives the turns that are left.
-fn write_on<G: Gate, K: Sink>(
+fn write_on<G: Gate, K: Wire>(
     gate: &mut G,
     session: u64,
     sink: &mut K,
@@ -66,8 +76,8 @@ fn write_on<G: Gate, K: Sink>(
     match gate.give(session, buf) {
         Ok(Given::Bytes(count)) => write_piece(sink, &buf[..count], turns - 1),
         Ok(Given::Worked) => Ok(turns - 1),
-        Ok(Given::Nothing) => wait_on(gate, idle, turns - 1),
-        Ok(Given::Ending) => wait_on(gate, idle, turns - 1),
+        Ok(Given::Nothing) => wait_on(gate, sink, idle, turns - 1),
+        Ok(Given::Ending) => wait_on(gate, sink, idle, turns - 1),
         Ok(Given::End(_)) => Err(LoopEnd::Finished),
         Err(HubFault::Full) => unreachable!(),
         Err(HubFault::NoMemory) => Err(LoopEnd::NoMemory),
@@ -75,7 +85,7 @@ fn write_on<G: Gate, K: Sink>(
 }
 
 /// The loop over a buffer.
-fn write_all<G: Gate, K: Sink>(
+fn write_all<G: Gate, K: Wire>(
     gate: &mut G,
     session: u64,
     sink: &mut K,
@@ -97,7 +107,7 @@ fn write_all<G: Gate, K: Sink>(
 
 /// Writes what the hub gives for a session, until the session ends, or nothing is left to do, or all turns were used. A turn
 /// is one call of the hub or one write.
-pub fn write_loop<G: Gate, K: Sink>(
+pub fn write_loop<G: Gate, K: Wire>(
     alloc: Global,
     gate: &mut G,
     session: u64,

@@ -6,7 +6,8 @@ use crate::hubs::{HOST, SUBSCRIBE, SUBSCRIBED, connected_hub};
 use crate::rows::are_octets;
 use history::entry::Totals;
 use hublock::{Alone, LoopEnd, clock_loop, link_loop, read_loop, write_loop};
-use push_base::{Failed, Got, Line, MemClock, MemDatagrams, MemItem, MemSink, hex_octets};
+use push_base::{Failed, Got, Line, MemClock, MemDatagrams, MemItem, MemSink, Sink, hex_octets};
+use push_outside::Wire;
 use std::alloc::Global;
 use std::test::Fail;
 
@@ -62,6 +63,31 @@ impl Line for Drip {
     }
 }
 
+/// A wire that counts how often it is flushed.
+#[derive(Drop)]
+struct Flushed {
+    sink: MemSink,
+    flushes: u64,
+}
+
+impl Sink for Flushed {
+    ghost taken = { λ _. None };
+
+    ghost calls = { λ _. None };
+
+    ghost faults = { λ s. s.sink.calls.faults };
+
+    fn write(&mut self, piece: &[u8]) -> Result<usize, Failed> {
+        self.sink.write(piece)
+    }
+}
+
+impl Wire for Flushed {
+    fn flush(&mut self) {
+        self.flushes = self.flushes.saturating_add(1);
+    }
+}
+
 /// The line of a client that sends `SUBSCRIBE`, one octet at a time.
 pub(crate) fn request_of_a_client(alloc: Global) -> Result<Drip, Fail> {
     let mut octets = Vec::new(alloc);
@@ -96,12 +122,13 @@ pub(crate) fn are_counts(counts: Totals, wanted: Totals) -> Result<(), Fail> {
     Err(Fail::new(format_args!("{counts:?}")))
 }
 
-/// How the loops end, one behind the other, the wire with 4 turns, the clock with 4; what the session was told, and what
-/// the hub is then.
+/// How the loops end, one behind the other, the wire with 4 turns, the clock with 4; what the session was told, how often
+/// its wire was flushed, and what the hub is then.
 struct Ends {
     read: LoopEnd,
     written: LoopEnd,
     octets: &'static str,
+    flushes: u64,
     heard: LoopEnd,
     ticked: LoopEnd,
     calls: u64,
@@ -109,11 +136,13 @@ struct Ends {
     counts: Totals,
 }
 
-/// Where nothing says that all is to stop: the session's wire, which has no end, uses its turns, as the clock does.
+/// Where nothing says that all is to stop: the session's wire, which has no end, uses its turns, as the clock does. It is
+/// flushed each time that the hub has nothing to say.
 const GOING: Ends = Ends {
     read: LoopEnd::Finished,
     written: LoopEnd::Turns,
     octets: SUBSCRIBED,
+    flushes: 2,
     heard: LoopEnd::Finished,
     ticked: LoopEnd::Turns,
     calls: 41,
@@ -130,6 +159,7 @@ const STOPPED: Ends = Ends {
     read: LoopEnd::Finished,
     written: LoopEnd::Finished,
     octets: "",
+    flushes: 1,
     heard: LoopEnd::Finished,
     ticked: LoopEnd::Finished,
     calls: 1,
@@ -147,11 +177,26 @@ fn is_read_so(alloc: Global, alone: &mut Alone, wanted: &Ends) -> Result<(), Fai
     is_end(read_loop(alloc, alone, 0, &mut line, 100), wanted.read)
 }
 
-/// Fails where the loop of a wire ends otherwise, or the wire gets other octets.
+/// Fails where the loop of a wire ends otherwise, or the wire gets other octets, or is flushed more or less often.
+fn is_written_over(
+    alloc: Global,
+    alone: &mut Alone,
+    wire: &mut Flushed,
+    wanted: &Ends,
+) -> Result<(), Fail> {
+    is_end(write_loop(alloc, alone, 0, wire, 4), wanted.written)?;
+    are_octets(alloc, 1, wire.sink.taken(), wanted.octets)?;
+    if wire.flushes == wanted.flushes {
+        return Ok(());
+    }
+    Err(Fail::new(format_args!("flushed {} times", wire.flushes)))
+}
+
+/// The same over a wire of its own.
 fn is_written_so(alloc: Global, alone: &mut Alone, wanted: &Ends) -> Result<(), Fail> {
-    let mut sink = MemSink::new(alloc, Vec::new(alloc), Vec::new(alloc), 200)?;
-    is_end(write_loop(alloc, alone, 0, &mut sink, 4), wanted.written)?;
-    are_octets(alloc, 1, sink.taken(), wanted.octets)
+    let sink = MemSink::new(alloc, Vec::new(alloc), Vec::new(alloc), 200)?;
+    let mut wire = Flushed { sink, flushes: 0 };
+    is_written_over(alloc, alone, &mut wire, wanted)
 }
 
 /// Fails where the loop of a link ends otherwise.

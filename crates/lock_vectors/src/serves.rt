@@ -14,7 +14,8 @@ use crate::threads::{Apart, List, Listed};
 use crate::watched::{Hearings, Porter, Still, Until, Watch};
 use history::entry::Totals;
 use hublock::Blanks;
-use push_base::{Clock, Datagrams, Doors, Line, Sink, hex_octets, hex_text};
+use push_base::{Clock, Datagrams, Doors, Line, hex_octets, hex_text};
+use push_outside::Wire;
 use serving::{Fed, ServeEnd, Served, Setup, serve};
 use std::alloc::Global;
 use std::marker::Brand;
@@ -249,7 +250,7 @@ fn add_hearings<R: Wait + Copy>(
 fn end_of<
     R: Threads + Wait + Copy + Send + 'static,
     L: Line + Drop + Send + 'static,
-    K: Sink + Drop + Send + 'static,
+    K: Wire + Drop + Send + 'static,
     D: Doors<Line = L, Out = K>,
     G: Datagrams + Drop + Send + 'static,
     T: Clock + Drop + Send + 'static,
@@ -280,7 +281,7 @@ fn end_of<
 fn end_over_hub<
     R: Threads + Wait + Copy + Send + 'static,
     L: Line + Drop + Send + 'static,
-    K: Sink + Drop + Send + 'static,
+    K: Wire + Drop + Send + 'static,
     D: Doors<Line = L, Out = K>,
     G: Datagrams + Drop + Send + 'static,
     T: Clock + Drop + Send + 'static,

@@ -13,6 +13,7 @@ use hublock::{Blanks, Feed, HubLock, Job, JobEnd, LoopEnd, Seats, Shared, finish
 use push_base::{
     Datagrams, Failed, MemClock, MemDatagrams, Pending, Refusal, Role, Sink, Starter, Task, start,
 };
+use push_outside::Wire;
 use pushserver::Hub;
 use std::alloc::Global;
 use std::marker::Brand;
@@ -82,6 +83,10 @@ impl<R: Wait + Copy> Sink for Listed<R> {
         }
         Ok(piece.len())
     }
+}
+
+impl<R: Wait + Copy> Wire for Listed<R> {
+    fn flush(&mut self) {}
 }
 
 /// A job of the test.

@@ -5,6 +5,7 @@ ghost use Rattle.std.specs.Prelude.{None};
 use crate::loops::Drip;
 use crate::threads::Listed;
 use push_base::{Clock, Datagrams, Doors, Failed, Got, Line, MemDatagrams, NoMemory, Sink};
+use push_outside::Wire;
 use std::alloc::Global;
 use std::collections::VecDeque;
 use std::sync::{Arc, Condvar, Mutex, Wait};
@@ -174,6 +175,10 @@ impl<R: Wait + Copy> Sink for Held<R> {
         self.watch.tell(Event::Written(count));
         Ok(count)
     }
+}
+
+impl<R: Wait + Copy> Wire for Held<R> {
+    fn flush(&mut self) {}
 }
 
 impl<R: Wait + Copy> Drop for Held<R> {

@@ -3,6 +3,7 @@
 ghost use Rattle.std.specs.Prelude.{◌≡◌, ℕ, List, Option, IfOk};
 ghost use Rattle.push_outside.specs.Outside.{Telling, AddsTold, AddsUse, IsFresh, IsUnused, RaisedBy};
 
+use crate::Wire;
 use push_base::{Clock, Datagrams, Doors, Line, Sink, Source, Starter};
 
 /// Why an object wasn't made.
@@ -30,7 +31,7 @@ pub trait Outside {
     type Line: Line + Drop + Send + 'static;
 
     /// Where what is said to the other end of a connection goes.
-    type Wire: Sink + Drop + Send + 'static;
+    type Wire: Wire + Drop + Send + 'static;
 
     /// The datagrams of a link.
     type Links: Datagrams + Drop + Send + 'static;

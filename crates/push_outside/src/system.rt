@@ -11,6 +11,7 @@ use crate::hearing::Hearing;
 use crate::machine_clock::MachineClock;
 use crate::origin::Origin;
 use crate::reading::Reading;
+use crate::sending::Sending;
 use crate::tcp::{TcpDoors, TcpEnds, dial};
 use crate::thread_starter::ThreadStarter;
 use crate::udp_links::UdpLinks;
@@ -81,7 +82,7 @@ where
 
     type Line = Hearing<TcpStream>;
 
-    type Wire = Writing<TcpStream>;
+    type Wire = Sending;
 
     type Links = UdpLinks;
 
@@ -139,7 +140,7 @@ where
         self.reads = raised_by(line.faults(), self.reads);
     }
 
-    fn back_wire(&mut self, wire: Writing<TcpStream>) {
+    fn back_wire(&mut self, wire: Sending) {
         self.writes = raised_by(wire.faults(), self.writes);
     }
 

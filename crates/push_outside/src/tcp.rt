@@ -4,8 +4,8 @@ ghost use Rattle.std.specs.Prelude.{◌≡◌, None, IfOk};
 
 use crate::OpenFault;
 use crate::hearing::Hearing;
+use crate::sending::Sending;
 use crate::system::fault_of;
-use crate::writing::Writing;
 use push_base::{Doors, Failed};
 use std::io::{self, ErrorKind};
 use std::net::{Net, TcpListener, TcpStream};
@@ -21,18 +21,30 @@ const WRITE_WAIT: u64 = 10_000;
 const MOST_TRIES: u32 = 1_000;
 
 /// The two ends of a connection.
-pub type TcpEnds = (Hearing<TcpStream>, Writing<TcpStream>);
+pub type TcpEnds = (Hearing<TcpStream>, Sending);
 
-/// The two ends of a stream, neither of which waits for its peer for ever.
-fn ends_of(stream: TcpStream) -> io::Result<TcpEnds>
-    ensures line { IfOk result (λ ends. ends.0.faults ≡ 0) }
-    ensures wire { IfOk result (λ ends. ends.1.faults ≡ 0) }
-{
+/// The two handles of a stream, neither of which waits for its peer for ever, and whose writes go out at once.
+fn handles_of(stream: TcpStream) -> io::Result<(TcpStream, TcpStream)> {
     stream.set_read_timeout(Some(Duration::from_millis(READ_WAIT)))?;
     stream.set_write_timeout(Some(Duration::from_millis(WRITE_WAIT)))?;
     stream.set_nodelay(true)?;
     let writer = stream.try_clone()?;
-    Ok((Hearing::new(stream), Writing::new(writer)))
+    Ok((stream, writer))
+}
+
+/// The two ends of a stream that was dialled: whoever dials may not flush.
+fn dialled(stream: TcpStream) -> io::Result<TcpEnds>
+    ensures line { IfOk result (λ ends. ends.0.faults ≡ 0) }
+    ensures wire { IfOk result (λ ends. ends.1.writing.faults ≡ 0) }
+{
+    let (reader, writer) = handles_of(stream)?;
+    Ok((Hearing::new(reader), Sending::at_once(writer)))
+}
+
+/// The two ends of a stream that was accepted: its server flushes whenever it has nothing more to say.
+fn accepted(stream: TcpStream) -> io::Result<TcpEnds> {
+    let (reader, writer) = handles_of(stream)?;
+    Ok((Hearing::new(reader), Sending::gathering(writer)))
 }
 
 /// A connection to an address.
@@ -41,13 +53,13 @@ pub(crate) fn dial<R: Net<Listener = TcpListener, Stream = TcpStream>>(
     address: &str,
 ) -> Result<TcpEnds, OpenFault>
     ensures line { IfOk result (λ ends. ends.0.faults ≡ 0) }
-    ensures wire { IfOk result (λ ends. ends.1.faults ≡ 0) }
+    ensures wire { IfOk result (λ ends. ends.1.writing.faults ≡ 0) }
 {
     let stream = match TcpStream::connect(net, address) {
         Ok(stream) => stream,
         Err(error) => return Err(fault_of(error.kind())),
     };
-    match ends_of(stream) {
+    match dialled(stream) {
         Ok(ends) => Ok(ends),
         Err(error) => Err(fault_of(error.kind())),
     }
@@ -89,7 +101,7 @@ impl TcpDoors {
 fn accept_one(listener: &TcpListener) -> io::Result<TcpEnds> {
     for _ in 0..MOST_TRIES {
         match listener.accept() {
-            Ok((stream, _)) => return ends_of(stream),
+            Ok((stream, _)) => return accepted(stream),
             Err(error) if is_passing(error.kind()) => {}
             Err(error) => return Err(error),
         }
@@ -105,7 +117,7 @@ fn is_passing(kind: ErrorKind) -> bool {
 impl Doors for TcpDoors {
     type Line = Hearing<TcpStream>;
 
-    type Out = Writing<TcpStream>;
+    type Out = Sending;
 
     ghost accepted = { λ _. None };
 

@@ -29,6 +29,13 @@ impl<W: Write> Writing<W> {
         Writing { inner, faults: 0 }
     }
 
+    /// The writer.
+    pub(crate) fn inner(&self) -> &W
+        ensures { result.now ≡ self.now.inner }
+    {
+        &self.inner
+    }
+
     /// How often it has failed.
     pub fn faults(&self) -> u64
         ensures { result ≡ self.now.faults }

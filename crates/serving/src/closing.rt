@@ -15,7 +15,8 @@ use crate::running::Running;
 use crate::server::{Hearing, Server};
 use crate::{Fed, ServeEnd, Served};
 use hublock::{Ended, Feed, HubLock, finish};
-use push_base::{Clock, Datagrams, Line, Pending, Sink};
+use push_base::{Clock, Datagrams, Line, Pending};
+use push_outside::Wire;
 use std::sync::Wait;
 use std::sync::ledger::Ledger;
 use std::thread::Threads;
@@ -49,7 +50,7 @@ fn note_over(noted: &mut Noted, ends: Vec<Ended>)
 fn finish_link<
     R: Threads + Wait + Copy + Send + 'static,
     L: Line + Drop + Send + 'static,
-    K: Sink + Drop + Send + 'static,
+    K: Wire + Drop + Send + 'static,
     G: Datagrams + Drop + Send + 'static,
     T: Clock + Drop + Send + 'static,
     C: Ledger + Send + Sync + 'static,
@@ -87,7 +88,7 @@ fn put_back<G: Drop>(links: &mut Vec<Fed<G>>, place: usize, fed: Fed<G>)
 fn finish_links<
     R: Threads + Wait + Copy + Send + 'static,
     L: Line + Drop + Send + 'static,
-    K: Sink + Drop + Send + 'static,
+    K: Wire + Drop + Send + 'static,
     G: Datagrams + Drop + Send + 'static,
     T: Clock + Drop + Send + 'static,
     C: Ledger + Send + Sync + 'static,
@@ -125,7 +126,7 @@ fn finish_links<
 fn finish_job<
     R: Threads + Wait + Copy + Send + 'static,
     L: Line + Drop + Send + 'static,
-    K: Sink + Drop + Send + 'static,
+    K: Wire + Drop + Send + 'static,
     G: Datagrams + Drop + Send + 'static,
     T: Clock + Drop + Send + 'static,
     C: Ledger + Send + Sync + 'static,
@@ -148,7 +149,7 @@ fn finish_job<
 fn finish_jobs<
     R: Threads + Wait + Copy + Send + 'static,
     L: Line + Drop + Send + 'static,
-    K: Sink + Drop + Send + 'static,
+    K: Wire + Drop + Send + 'static,
     G: Datagrams + Drop + Send + 'static,
     T: Clock + Drop + Send + 'static,
     C: Ledger + Send + Sync + 'static,
@@ -201,7 +202,7 @@ fn end_of<R: Wait, C: Ledger, H: Ledger, M: Ledger, S: Ledger>(
 pub(crate) fn close<
     R: Threads + Wait + Copy + Send + 'static,
     L: Line + Drop + Send + 'static,
-    K: Sink + Drop + Send + 'static,
+    K: Wire + Drop + Send + 'static,
     G: Datagrams + Drop + Send + 'static,
     T: Clock + Drop + Send + 'static,
     C: Ledger + Send + Sync + 'static,

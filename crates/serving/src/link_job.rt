@@ -7,7 +7,8 @@ ghost use Rattle.hublock.specs.Jobs.{role_in};
 ghost use Rattle.serving.specs.Ends.{tells_fault};
 
 use hublock::{Ended, Feed, Job, JobEnd, Shared};
-use push_base::{Clock, Datagrams, Line, Role, Sink, Task};
+use push_base::{Clock, Datagrams, Line, Role, Task};
+use push_outside::Wire;
 use std::alloc::Global;
 use std::sync::Wait;
 use std::sync::ledger::Ledger;
@@ -28,7 +29,7 @@ pub(crate) struct LinkEnd<G: Datagrams + Drop, C: Ledger, H: Ledger, M: Ledger> 
 pub(crate) struct LinkJob<
     R: Wait + Copy,
     L: Line + Drop,
-    K: Sink + Drop,
+    K: Wire + Drop,
     G: Datagrams + Drop,
     T: Clock + Drop,
     C: Ledger,
@@ -44,7 +45,7 @@ pub(crate) struct LinkJob<
 impl<
     R: Wait + Copy,
     L: Line + Drop,
-    K: Sink + Drop,
+    K: Wire + Drop,
     G: Datagrams + Drop,
     T: Clock + Drop,
     C: Ledger,
@@ -73,7 +74,7 @@ impl<
 impl<
     R: Wait + Copy,
     L: Line + Drop,
-    K: Sink + Drop,
+    K: Wire + Drop,
     G: Datagrams + Drop + Send + 'static,
     T: Clock + Drop,
     C: Ledger + Send + 'static,

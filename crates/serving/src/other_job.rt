@@ -7,7 +7,8 @@ ghost use Rattle.serving.specs.Ends.{is_link_fault};
 ghost use Rattle.serving.specs.Jobs.{is_link};
 
 use hublock::{Ended, Feed, Job, JobEnd};
-use push_base::{Clock, Datagrams, Line, Role, Sink, Task};
+use push_base::{Clock, Datagrams, Line, Role, Task};
+use push_outside::Wire;
 use std::sync::atomic::{AtomicBool, Ordering};
 use std::sync::ledger::Ledger;
 use std::sync::{Arc, Wait};
@@ -27,7 +28,7 @@ pub(crate) struct OtherEnd<C: Ledger, H: Ledger, M: Ledger> {
 pub(crate) struct OtherJob<
     R: Wait + Copy,
     L: Line + Drop,
-    K: Sink + Drop,
+    K: Wire + Drop,
     G: Datagrams + Drop,
     T: Clock + Drop,
     C: Ledger,
@@ -43,7 +44,7 @@ pub(crate) struct OtherJob<
 impl<
     R: Wait + Copy,
     L: Line + Drop,
-    K: Sink + Drop,
+    K: Wire + Drop,
     G: Datagrams + Drop,
     T: Clock + Drop,
     C: Ledger,
@@ -63,7 +64,7 @@ impl<
 impl<
     R: Wait + Copy,
     L: Line + Drop,
-    K: Sink + Drop,
+    K: Wire + Drop,
     G: Datagrams + Drop + Send + 'static,
     T: Clock + Drop,
     C: Ledger + Send + 'static,

@@ -8,7 +8,8 @@ ghost use Rattle.serving.specs.Running.{IsMovedOn};
 
 use crate::other_job::OtherJob;
 use hublock::{Ended, Feed};
-use push_base::{Clock, Datagrams, Line, NoMemory, Pending, Sink};
+use push_base::{Clock, Datagrams, Line, NoMemory, Pending};
+use push_outside::Wire;
 use std::alloc::Global;
 use std::sync::atomic::{AtomicBool, Ordering};
 use std::sync::ledger::Ledger;
@@ -20,7 +21,7 @@ use std::thread::Threads;
 pub(crate) struct Running<
     R: Wait + Copy + 'static,
     L: Line + Drop + 'static,
-    K: Sink + Drop + 'static,
+    K: Wire + Drop + 'static,
     G: Datagrams + Drop + Send + 'static,
     T: Clock + Drop + 'static,
     C: Ledger + Send + 'static,
@@ -43,7 +44,7 @@ pub(crate) fn flags(alloc: Global) -> Result<(Arc<AtomicBool>, Arc<AtomicBool>),
 fn finish_at<
     R: Threads + Wait + Copy + Send + 'static,
     L: Line + Drop + Send + 'static,
-    K: Sink + Drop + Send + 'static,
+    K: Wire + Drop + Send + 'static,
     G: Datagrams + Drop + Send + 'static,
     T: Clock + Drop + Send + 'static,
     C: Ledger + Send + Sync + 'static,
@@ -80,7 +81,7 @@ fn finish_at<
 pub(crate) fn finish_over<
     R: Threads + Wait + Copy + Send + 'static,
     L: Line + Drop + Send + 'static,
-    K: Sink + Drop + Send + 'static,
+    K: Wire + Drop + Send + 'static,
     G: Datagrams + Drop + Send + 'static,
     T: Clock + Drop + Send + 'static,
     C: Ledger + Send + Sync + 'static,

@@ -16,8 +16,9 @@ use crate::other_job::OtherJob;
 use crate::running::{Running, finish_over, flags};
 use hublock::{Ended, Feed, HubLock, Job, PARTS, Seats, Shared};
 use push_base::{
-    Clock, Datagrams, Doors, Line, NoMemory, Pending, Role, Sink, StartFault, Starter, Task, start,
+    Clock, Datagrams, Doors, Line, NoMemory, Pending, Role, StartFault, Starter, Task, start,
 };
+use push_outside::Wire;
 use pushserver::ConnectFault;
 use std::alloc::Global;
 use std::marker::Model;
@@ -30,7 +31,7 @@ use std::thread::Threads;
 pub(crate) struct Hearing<
     R: Wait + Copy + 'static,
     L: Line + Drop + 'static,
-    K: Sink + Drop + 'static,
+    K: Wire + Drop + 'static,
     G: Datagrams + Drop + Send + 'static,
     T: Clock + Drop + 'static,
     C: Ledger + Send + 'static,
@@ -47,7 +48,7 @@ pub(crate) struct Hearing<
 pub(crate) struct Server<
     R: Wait + Copy + 'static,
     L: Line + Drop + 'static,
-    K: Sink + Drop + 'static,
+    K: Wire + Drop + 'static,
     G: Datagrams + Drop + Send + 'static,
     T: Clock + Drop + 'static,
     C: Ledger + Send + 'static,
@@ -71,7 +72,7 @@ pub(crate) struct Server<
 impl<
     R: Wait + Copy + 'static,
     L: Line + Drop + 'static,
-    K: Sink + Drop + 'static,
+    K: Wire + Drop + 'static,
     G: Datagrams + Drop + Send + 'static,
     T: Clock + Drop + 'static,
     C: Ledger + Send + 'static,
@@ -124,7 +125,7 @@ fn first_link<G>(links: &[Fed<G>]) -> usize
 impl<
     R: Threads + Wait + Copy + Send + 'static,
     L: Line + Drop + Send + 'static,
-    K: Sink + Drop + Send + 'static,
+    K: Wire + Drop + Send + 'static,
     G: Datagrams + Drop + Send + 'static,
     T: Clock + Drop + Send + 'static,
     C: Ledger + Send + Sync + 'static,

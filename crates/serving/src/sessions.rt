@@ -12,7 +12,8 @@ use crate::closing::close;
 use crate::server::Server;
 use crate::{ServeEnd, Served, Setup};
 use hublock::{Blanks, Feed, HubLock, Seats};
-use push_base::{Clock, Datagrams, Doors, Line, Sink, Starter};
+use push_base::{Clock, Datagrams, Doors, Line, Starter};
+use push_outside::Wire;
 use std::alloc::Global;
 use std::sync::Wait;
 use std::sync::ledger::Ledger;
@@ -28,7 +29,7 @@ pub fn serve<
     R: Threads + Wait + Copy + Send + 'static,
     A: Starter,
     L: Line + Drop + Send + 'static,
-    K: Sink + Drop + Send + 'static,
+    K: Wire + Drop + Send + 'static,
     D: Doors<Line = L, Out = K>,
     G: Datagrams + Drop + Send + 'static,
     T: Clock + Drop + Send + 'static,
