@@ -1,11 +1,12 @@
 //! The configuration of a subscriber.
 
-ghost use Rattle.std.specs.Prelude.{◌≡◌, IfOk};
+ghost use Rattle.std.specs.Prelude.{◌≡◌, IfOk, option_map};
 ghost use Rattle.std.specs.List.{list_any};
 ghost use Rattle.rrset.specs.Records.{same_question};
+ghost use Rattle.scripts.specs.KeptLines.{said};
 ghost use Rattle.scripts.specs.Lines.{words_in};
 ghost use Rattle.configurations.specs.Configurations.{may_ask, messages_line, no_subscribing, question_line, reads_line, server_line, subscribing_behind, subscribing_kind, subscribing_line};
-ghost use Rattle.configurations.specs.Kept.{EndsSubscribing, ReadsSubscribing, TakesSubscribing, is_silent, subscribing_drafted};
+ghost use Rattle.configurations.specs.Kept.{EndsSubscribing, ReadsSubscribing, TakesSubscribing, is_silent, says_nothing, subscribing_drafted};
 
 use crate::limits::MAX_TURNS;
 use crate::words::address_of_word;
@@ -233,11 +234,15 @@ impl SubscribeDraft {
 fn is_silent(alloc: Global, text: &[u8]) -> Result<bool, NoMemory>
     ensures { IfOk result (λ silent. silent ≡ is_silent text.now) }
 {
-    match read_line(alloc, text)? {
-        None => Ok(false),
-        Some(Line::Silent) => Ok(true),
-        Some(Line::Timers(_) | Line::Zone(_) | Line::Link(_) | Line::Event(_)) => Ok(false),
-    }
+    let line = read_line(alloc, text)?;
+    Ok(says_nothing(&line))
+}
+
+// Whether a line is in the grammar and says nothing.
+fn says_nothing(line: &Option<Line>) -> bool
+    ensures { result ≡ says_nothing (option_map (λ l. said l) line.now) }
+{
+    matches!(line, Some(Line::Silent))
 }
 
 // Whether a question is one of those.

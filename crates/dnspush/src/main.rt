@@ -22,7 +22,7 @@ fn main(rt: HostRuntime) -> ExitCode {
     let words = given_words(&rt);
     let mut input = Reading::new(Origin::Input(rt.stdin()));
     let mut out = Writing::new(rt.stdout());
-    let mut system = System::new(rt);
+    let mut system = System::new(rt, alloc);
     ExitCode::from(program::run(rt, alloc, &words, &mut input, &mut out, &mut system))
 }
 

@@ -6,16 +6,12 @@ ghost use Rattle.pushserver.specs.Hubs.{max_sessions};
 use push_base::Role;
 use pushserver::{Given, HubFault, MAX_SESSIONS};
 use std::array;
-use std::hint::spin_loop;
 use std::sync::atomic::{AtomicU64, Ordering};
 use std::sync::{Condvar, Wait};
 use std::time::Duration;
 
 /// The longest that a loop waits for a notification, in seconds.
 const LONGEST_WAIT: u64 = 10;
-
-/// How often a loop looks whether it is notified, before it waits: for some tens of microseconds.
-const LOOKS: u32 = 500;
 
 /// Who may wait for a change.
 #[derive(Clone, Copy)]
@@ -45,13 +41,6 @@ pub(crate) struct Known {
     endings: u64,
     // Whether nothing was left to do then.
     is_done: Option<bool>,
-}
-
-impl Wakes {
-    /// Whether they are for all loops.
-    pub(crate) fn are_for_all(self) -> bool {
-        matches!(self, Wakes::All)
-    }
 }
 
 /// The place of a session.
@@ -170,17 +159,6 @@ impl Places {
             endings: self.endings(),
             is_done: Some(is_done),
         }
-    }
-
-    /// Looks for a while whether the place of a role is notified. Gives whether it was.
-    pub(crate) fn watch(&self, role: Role, known: Known) -> bool {
-        'looks: for _ in 0..LOOKS {
-            if self.notified(role) != known.notified {
-                return true;
-            }
-            spin_loop();
-        }
-        false
     }
 
     /// Waits until the place of a role is notified, unless it was since a loop knew this, or nothing was left to do then.

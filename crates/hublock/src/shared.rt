@@ -27,8 +27,6 @@ pub struct Shared<R: Wait + Copy, C: Ledger, H: Ledger, M: Ledger, S: Ledger> {
     role: Role,
     // What it knows since it called the hub last. Contracts don't see it.
     known: Known,
-    // Whether the next change for which it waits may come at once. Contracts don't see it.
-    is_eager: bool,
 }
 
 impl<R: Wait + Copy, C: Ledger, H: Ledger, M: Ledger, S: Ledger> Model for Shared<R, C, H, M, S> {
@@ -60,7 +58,6 @@ impl<R: Wait + Copy, C: Ledger, H: Ledger, M: Ledger, S: Ledger> Shared<R, C, H,
             feed,
             role,
             known: Known::nothing(),
-            is_eager: false,
         })
     }
 
@@ -89,7 +86,6 @@ impl<R: Wait + Copy, C: Ledger, H: Ledger, M: Ledger, S: Ledger> Shared<R, C, H,
             feed,
             role: _,
             known: _,
-            is_eager: _,
         } = self;
         feed
     }
@@ -126,7 +122,6 @@ impl<R: Wait + Copy, C: Ledger, H: Ledger, M: Ledger, S: Ledger> Gate for Shared
         let mut locked = self.lock.held.locked.lock(&self.rt);
         let answer = locked.give(session, buf, &mut self.feed);
         let wakes = locked.wakes();
-        self.is_eager |= wakes.are_for_all();
         self.known = self
             .lock
             .held
@@ -190,13 +185,7 @@ impl<R: Wait + Copy, C: Ledger, H: Ledger, M: Ledger, S: Ledger> Gate for Shared
     fn pause(&mut self)
         ensures feed { self.new ≡ self.old }
     {
-        let places = &self.lock.held.places;
-        if self.is_eager {
-            self.is_eager = places.watch(self.role, self.known);
-        }
-        if !self.is_eager {
-            places.wait(&self.rt, self.role, self.known);
-        }
+        self.lock.held.places.wait(&self.rt, self.role, self.known);
     }
 
     fn done(&mut self) -> bool

@@ -49,7 +49,7 @@ fn reaches_nothing(system: &mut System<HostRuntime>) -> [bool; 4] {
 
 #[test]
 fn nothing_is_reached(rt: HostRuntime) -> Result<(), Fail> {
-    let mut system = System::new(rt);
+    let mut system = System::new(rt, rt.alloc());
     if reaches_nothing(&mut system) == [true; 4] {
         return Ok(());
     }
@@ -74,7 +74,7 @@ fn is_quiet(system: &mut System<HostRuntime>) -> bool {
 
 #[test]
 fn a_quiet_link(rt: HostRuntime) -> Result<(), Fail> {
-    let mut system = System::new(rt);
+    let mut system = System::new(rt, rt.alloc());
     let is_quiet = is_quiet(&mut system);
     let mut clock = system.clock();
     let goes_on = goes_on(&mut clock);

@@ -5,46 +5,32 @@ ghost use Rattle.std.specs.Prelude.{◌≡◌, None};
 use crate::Wire;
 use crate::writing::Writing;
 use push_base::{Failed, Sink};
-use std::net::TcpStream;
+use std::alloc::Global;
+use std::net::{Shutdown, TcpStream};
 
-/// How the octets of a connection go together.
-#[derive(Clone, Copy, Debug, PartialEq, Eq)]
-enum Gathering {
-    /// Each write goes out at once.
-    Never,
-    /// Nothing was written since the last flush: the next write goes out at once, whatever comes behind it.
-    Flushed,
-    /// One write was, which went out at once.
-    Written,
-    /// What is written waits while a short message before it isn't acknowledged (Nagle's rule; RFC 9293, 3.7.4).
-    Held,
-}
-
-/// The writing end of a TCP connection, a sink that tells no octets and counts its faults.
+/// The writing end of a TCP connection, a sink that tells no octets and counts its faults. The first write after a flush
+/// goes out at once; what follows may be held back until the next flush. Where that can't go out then, the connection is
+/// shut down in both directions, as no octet may be left out: its reader comes to its end, and later writes fail.
 #[derive(Drop)]
 pub struct Sending {
     writing: Writing<TcpStream>,
-    gathering: Gathering,
+    // The octets that are held back, and how many these may be.
+    held: Vec<u8>,
+    most: usize,
+    // Whether something was written since the last flush.
+    has_written: bool,
 }
 
 impl Sending {
-    /// An end whose writes all go out at once.
-    pub(crate) fn at_once(stream: TcpStream) -> Self
+    /// An end that holds back so many octets at most. With 0 each write goes out at once.
+    pub(crate) fn new(alloc: Global, most: usize, stream: TcpStream) -> Self
         ensures { result.writing.faults ≡ 0 }
     {
         Sending {
             writing: Writing::new(stream),
-            gathering: Gathering::Never,
-        }
-    }
-
-    /// An end that holds back what follows the first write after a flush.
-    pub(crate) fn gathering(stream: TcpStream) -> Self
-        ensures { result.writing.faults ≡ 0 }
-    {
-        Sending {
-            writing: Writing::new(stream),
-            gathering: Gathering::Flushed,
+            held: Vec::new(alloc),
+            most,
+            has_written: false,
         }
     }
 
@@ -54,27 +40,24 @@ impl Sending {
     {
         self.writing.faults()
     }
-}
 
-/// How the octets go together from a further write on. A system that doesn't do as asked sends at once.
-fn before_write(gathering: Gathering, stream: &TcpStream) -> Gathering {
-    match gathering {
-        Gathering::Flushed => Gathering::Written,
-        Gathering::Written if stream.set_nodelay(false).is_ok() => Gathering::Held,
-        Gathering::Never | Gathering::Written | Gathering::Held => gathering,
+    /// Holds back a piece, where something went out since the last flush and there is room for it. Gives whether it does.
+    fn hold(&mut self, piece: &[u8]) -> bool
+        ensures { self.new.writing ≡ self.old.writing }
+    {
+        self.has_written
+            && piece.len() <= self.most.saturating_sub(self.held.len())
+            && self.held.extend_from_slice(piece).is_ok()
     }
-}
 
-/// How the octets go together once nothing waits. Where the system doesn't do as asked, what waits goes out with the next
-/// acknowledgement.
-fn after_flush(gathering: Gathering, stream: &TcpStream) -> Gathering {
-    match gathering {
-        Gathering::Never => Gathering::Never,
-        Gathering::Flushed | Gathering::Written => Gathering::Flushed,
-        Gathering::Held => match stream.set_nodelay(true) {
-            Ok(()) => Gathering::Flushed,
-            Err(_) => Gathering::Held,
-        },
+    /// What is held back goes out, or the connection is shut down.
+    fn send(&mut self)
+        ensures { self.new.writing.faults ≡ self.old.writing.faults }
+    {
+        if self.writing.write_all(&self.held).is_err() {
+            let _ = self.writing.inner().shutdown(Shutdown::Both);
+        }
+        self.held.clear();
     }
 }
 
@@ -86,13 +69,18 @@ impl Sink for Sending {
     ghost faults = { λ s. s.writing.faults };
 
     fn write(&mut self, piece: &[u8]) -> Result<usize, Failed> {
-        self.gathering = before_write(self.gathering, self.writing.inner());
+        if self.hold(piece) {
+            return Ok(piece.len());
+        }
+        self.send();
+        self.has_written = true;
         self.writing.write(piece)
     }
 }
 
 impl Wire for Sending {
     fn flush(&mut self) {
-        self.gathering = after_flush(self.gathering, self.writing.inner());
+        self.send();
+        self.has_written = false;
     }
 }

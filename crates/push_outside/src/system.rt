@@ -17,6 +17,7 @@ use crate::thread_starter::ThreadStarter;
 use crate::udp_links::UdpLinks;
 use crate::writing::Writing;
 use crate::{OpenFault, Outside};
+use std::alloc::Global;
 use std::fs::{File, Files};
 use std::io::{ErrorKind, Stdin, Stdout};
 use std::net::{Net, TcpListener, TcpStream};
@@ -28,6 +29,7 @@ use std::time::Instant;
 #[derive(Drop)]
 pub struct System<R> {
     rt: R,
+    alloc: Global,
     start: Option<Instant>,
     reads: u64,
     writes: u64,
@@ -36,10 +38,11 @@ pub struct System<R> {
 
 impl<R: time::Clock> System<R> {
     /// The outside that this runtime reaches, without faults so far. Its clocks begin now.
-    pub fn new(rt: R) -> Self {
+    pub fn new(rt: R, alloc: Global) -> Self {
         let start = Instant::now(&rt).ok();
         System {
             rt,
+            alloc,
             start,
             reads: 0,
             writes: 0,
@@ -107,13 +110,13 @@ where
     }
 
     fn doors(&mut self, address: &str) -> Result<TcpDoors, OpenFault> {
-        let doors = TcpDoors::bind(&self.rt, address);
+        let doors = TcpDoors::bind(&self.rt, self.alloc, address);
         self.others = counted(self.others, &doors);
         doors
     }
 
     fn dial(&mut self, address: &str) -> Result<TcpEnds, OpenFault> {
-        let ends = dial(&self.rt, address);
+        let ends = dial(&self.rt, self.alloc, address);
         self.others = counted(self.others, &ends);
         ends
     }

@@ -7,6 +7,7 @@ use crate::hearing::Hearing;
 use crate::sending::Sending;
 use crate::system::fault_of;
 use push_base::{Doors, Failed};
+use std::alloc::Global;
 use std::io::{self, ErrorKind};
 use std::net::{Net, TcpListener, TcpStream};
 use std::time::Duration;
@@ -16,6 +17,12 @@ const READ_WAIT: u64 = 500;
 
 /// How long a write waits for a peer that takes nothing, in milliseconds.
 const WRITE_WAIT: u64 = 10_000;
+
+/// How many octets the wire of an accepted connection holds back at most: the answers to 36 updates.
+const MOST_HELD: usize = 512;
+
+/// The same of a connection that was dialled: whoever dials may not flush.
+const NONE_HELD: usize = 0;
 
 /// How often doors try again where a peer went away before it was accepted.
 const MOST_TRIES: u32 = 1_000;
@@ -32,24 +39,19 @@ fn handles_of(stream: TcpStream) -> io::Result<(TcpStream, TcpStream)> {
     Ok((stream, writer))
 }
 
-/// The two ends of a stream that was dialled: whoever dials may not flush.
-fn dialled(stream: TcpStream) -> io::Result<TcpEnds>
+/// The two ends of a stream, of which the wire holds back so many octets at most.
+fn ends_of(alloc: Global, most: usize, stream: TcpStream) -> io::Result<TcpEnds>
     ensures line { IfOk result (λ ends. ends.0.faults ≡ 0) }
     ensures wire { IfOk result (λ ends. ends.1.writing.faults ≡ 0) }
 {
     let (reader, writer) = handles_of(stream)?;
-    Ok((Hearing::new(reader), Sending::at_once(writer)))
-}
-
-/// The two ends of a stream that was accepted: its server flushes whenever it has nothing more to say.
-fn accepted(stream: TcpStream) -> io::Result<TcpEnds> {
-    let (reader, writer) = handles_of(stream)?;
-    Ok((Hearing::new(reader), Sending::gathering(writer)))
+    Ok((Hearing::new(reader), Sending::new(alloc, most, writer)))
 }
 
 /// A connection to an address.
 pub(crate) fn dial<R: Net<Listener = TcpListener, Stream = TcpStream>>(
     net: &R,
+    alloc: Global,
     address: &str,
 ) -> Result<TcpEnds, OpenFault>
     ensures line { IfOk result (λ ends. ends.0.faults ≡ 0) }
@@ -59,7 +61,7 @@ pub(crate) fn dial<R: Net<Listener = TcpListener, Stream = TcpStream>>(
         Ok(stream) => stream,
         Err(error) => return Err(fault_of(error.kind())),
     };
-    match dialled(stream) {
+    match ends_of(alloc, NONE_HELD, stream) {
         Ok(ends) => Ok(ends),
         Err(error) => Err(fault_of(error.kind())),
     }
@@ -68,6 +70,7 @@ pub(crate) fn dial<R: Net<Listener = TcpListener, Stream = TcpStream>>(
 /// A TCP listener as doors. It doesn't tell how many sessions were accepted, and counts its faults.
 #[derive(Drop)]
 pub struct TcpDoors {
+    alloc: Global,
     listener: TcpListener,
     faults: u64,
 }
@@ -76,12 +79,14 @@ impl TcpDoors {
     /// Doors at an address, without faults so far.
     pub fn bind<R: Net<Listener = TcpListener, Stream = TcpStream>>(
         net: &R,
+        alloc: Global,
         address: &str,
     ) -> Result<Self, OpenFault>
         ensures { IfOk result (λ doors. doors.faults ≡ 0) }
     {
         match TcpListener::bind(net, address) {
             Ok(listener) => Ok(TcpDoors {
+                alloc,
                 listener,
                 faults: 0,
             }),
@@ -98,10 +103,10 @@ impl TcpDoors {
 }
 
 /// The next connection. One that its peer has left before is passed over.
-fn accept_one(listener: &TcpListener) -> io::Result<TcpEnds> {
+fn accept_one(alloc: Global, listener: &TcpListener) -> io::Result<TcpEnds> {
     for _ in 0..MOST_TRIES {
         match listener.accept() {
-            Ok((stream, _)) => return accepted(stream),
+            Ok((stream, _)) => return ends_of(alloc, MOST_HELD, stream),
             Err(error) if is_passing(error.kind()) => {}
             Err(error) => return Err(error),
         }
@@ -126,7 +131,7 @@ impl Doors for TcpDoors {
     ghost faults = { λ s. s.faults };
 
     fn accept(&mut self) -> Result<TcpEnds, Failed> {
-        match accept_one(&self.listener) {
+        match accept_one(self.alloc, &self.listener) {
             Ok(ends) => Ok(ends),
             Err(_) => {
                 self.faults = self.faults.saturating_add(1);

@@ -7,7 +7,7 @@ ghost use Rattle.push_base.specs.Causes.{HasCause, CountsOne};
 ghost use Rattle.push_base.specs.Sink.{WriteTakes, TakesNoneAtFault};
 
 use push_base::{Failed, Sink};
-use std::io::Write;
+use std::io::{self, Write};
 
 /// A writer of std as a sink, which tells no octets and counts its faults. A write that waits longer than the writer
 /// allows is a fault, too, so that one stalled peer doesn't hold up others.
@@ -34,6 +34,13 @@ impl<W: Write> Writing<W> {
         ensures { result.now ≡ self.now.inner }
     {
         &self.inner
+    }
+
+    /// Writes all octets, beside the calls of the sink: a fault isn't counted.
+    pub(crate) fn write_all(&mut self, octets: &[u8]) -> io::Result<()>
+        ensures { self.new.faults ≡ self.old.faults }
+    {
+        self.inner.write_all(octets)
     }
 
     /// How often it has failed.
