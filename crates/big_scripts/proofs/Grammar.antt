@@ -1,6 +1,6 @@
 -- The scripts of a number are within the grammar.
-use Rattle.std.proofs.Common.{◌≡◌, ◌⊎◌, inl, inr, ℕ, zero, suc, ◌+◌, ◌%◌, ◌==◌, ◌<◌, ◌≤◌, Bool, true, false, cond, Option, Some, None, Ok, List, [], ◌∷◌, ◌++◌, map, length, refl, sym, ◌∙◌, ap, subst, arith, codes}
-use Rattle.std.specs.Prelude.{not, ◌&&◌, nat_lt, filter_map, if◌then◌else◌, Result}
+use Rattle.std.proofs.Common.{◌≡◌, inl, inr, ℕ, zero, suc, ◌+◌, ◌%◌, ◌==◌, ◌<◌, ◌≤◌, Bool, true, false, cond, Option, Some, None, Ok, List, [], ◌∷◌, ◌++◌, map, length, refl, sym, ◌∙◌, ap, subst, arith, codes}
+use Rattle.std.specs.Prelude.{not, ◌&&◌, nat_lt, if◌then◌else◌, Result}
 use Rattle.std.specs.List.{list_all, onto_first}
 use Rattle.std.specs.Str.{bytes_eq}
 use Rattle.std.proofs.lemmas.Bool.{cases_Bool, cases_order, and_from, ltb-true}
@@ -12,10 +12,12 @@ use Rattle.push_base.specs.Hexadecimal.{hex_text}
 use Rattle.push_base.specs.Optional.{◌>>=◌}
 use Rattle.dnsname.proofs.Decisions.{and_true}
 use Rattle.dnsname.specs.Text.{name}
-use Rattle.scripts.specs.Lines.{Word, ScriptLine, silent, timers, zone, link, client, lone, at_moment, update, hear, ask, drop_question, reconfirm, open_connection, cut, say, up, emit, down, settle, send, feed, stop, point, show, line_of}
+use Rattle.scripts.specs.Lines.{Word, ScriptLine, silent, head_line, joining, hub_event, link_event, client_call, client_passing, client_event, session_event, line_of}
+use Rattle.scripts.specs.declared.line.HubEvent.{HubEvent}
+use Rattle.scripts.specs.declared.line.LinkEvent.{LinkEvent}
+use Rattle.scripts.specs.declared.line.Way.TheVariants as ways
 use Rattle.scripts.specs.Scripts.{Known, nothing_known, client_word, client_words, lines_in, lines_left, lines_read, lines_from, with_line, script_of}
-use Rattle.replay.specs.Reply.{line}
-use Rattle.replay.specs.Text.{ended_lines}
+use Rattle.scripts.specs.Words.{line, ended_lines}
 use Rattle.big_scripts.specs.Scripts.{update_line, update_of_round, hear_of_round, opening_lines, closing_lines, round_lines, rounds_to, script_lines, script_octets}
 use Rattle.big_scripts.proofs.Making.{script_length}
 
@@ -50,38 +52,23 @@ abbrev heard : ℕ → List ℕ
 heard last = codes "hear lan 0000840000000001000000000168056c6f63616c0000010001000000780004c00002" ++ hex_text (last ∷ [])
 
 abbrev is_hear : Option ScriptLine → Bool
-is_hear (Some (hear w o)) = bytes_eq w (codes "lan")
+is_hear (Some (link_event w event)) = bytes_eq w (codes "lan")
 is_hear _ = false
 
 abbrev IsHear : Option ScriptLine → Type 0
-IsHear read = (octets : List ℕ) × (read ≡ Some (hear (codes "lan") octets))
+IsHear read = (event : LinkEvent) × (read ≡ Some (link_event (codes "lan") event))
 
 hear_is : (read : Option ScriptLine) → is_hear read ≡ true → IsHear read
-hear_is (Some (hear w o)) e = (o, ap (λ v. Some (hear v o)) ((bytes_eq-Decides w (codes "lan")).0 e))
+hear_is (Some (link_event w event)) e = (event, ap (λ v. Some (link_event v event)) ((bytes_eq-Decides w (codes "lan")).0 e))
 hear_is None e = cc e
 hear_is (Some silent) e = cc e
-hear_is (Some (timers i k)) e = cc e
-hear_is (Some (zone n s b)) e = cc e
-hear_is (Some (link w n)) e = cc e
-hear_is (Some (client w)) e = cc e
-hear_is (Some (lone w)) e = cc e
-hear_is (Some (at_moment t)) e = cc e
-hear_is (Some (update o)) e = cc e
-hear_is (Some (ask w q)) e = cc e
-hear_is (Some (drop_question w q)) e = cc e
-hear_is (Some (reconfirm w rr)) e = cc e
-hear_is (Some (open_connection w)) e = cc e
-hear_is (Some (cut w)) e = cc e
-hear_is (Some (say w n)) e = cc e
-hear_is (Some (up w n)) e = cc e
-hear_is (Some (emit w n)) e = cc e
-hear_is (Some (down w n)) e = cc e
-hear_is (Some (settle w)) e = cc e
-hear_is (Some (send w o)) e = cc e
-hear_is (Some (feed w o)) e = cc e
-hear_is (Some (stop w r d)) e = cc e
-hear_is (Some point) e = cc e
-hear_is (Some (show w q n)) e = cc e
+hear_is (Some (head_line line)) e = cc e
+hear_is (Some (joining w is_lone)) e = cc e
+hear_is (Some (hub_event event)) e = cc e
+hear_is (Some (client_call w call)) e = cc e
+hear_is (Some (client_passing w way)) e = cc e
+hear_is (Some (client_event w event)) e = cc e
+hear_is (Some (session_event w event)) e = cc e
 
 abbrev is_heard : ℕ → Bool
 is_heard last = is_hear (line_of (heard last)) && is_one (heard last)
@@ -110,7 +97,7 @@ round_heard i = heard_at 256 (i % 256) (omega arith) all_heard
 -- ---- a round
 
 abbrev IsUpdate : List ℕ → Type 0
-IsUpdate text = (is_one text ≡ true) × ((octets : List ℕ) × (line_of text ≡ Some (update octets)))
+IsUpdate text = (is_one text ≡ true) × ((event : HubEvent) × (line_of text ≡ Some (hub_event event)))
 
 update_by : (first second : Bool) → IsUpdate (if first then update_line (codes "0001") (codes "0001") (codes "0000003c") (codes "01")
     else if second then update_line (codes "0003") (codes "0001") (codes "0000003c") (codes "02")
@@ -154,8 +141,8 @@ no_clients : (n : ℕ) → client_words (read_of (rounds_to n)) ≡ []
 no_clients zero = refl
 no_clients (suc n) =
     let word_of : Option ScriptLine → Option Word = λ l. l >>= client_word in
-    let of_round : (read : Option ScriptLine) (hearing : Option ScriptLine) → ((octets : List ℕ) × (read ≡ Some (update octets))) → IsHear hearing → client_words (read ∷ hearing ∷ read_of (codes "emit c 100" ∷ codes "down c 60" ∷ [])) ≡ [] =
-    λ read hearing first second. ap (λ (r : Option ScriptLine). client_words (r ∷ hearing ∷ read_of (codes "emit c 100" ∷ codes "down c 60" ∷ []))) first.1 ∙ ap (λ (h : Option ScriptLine). client_words (Some (update first.0) ∷ h ∷ read_of (codes "emit c 100" ∷ codes "down c 60" ∷ []))) second.1 in
+    let of_round : (read : Option ScriptLine) (hearing : Option ScriptLine) → ((event : HubEvent) × (read ≡ Some (hub_event event))) → IsHear hearing → client_words (read ∷ hearing ∷ read_of (codes "emit c 100" ∷ codes "down c 60" ∷ [])) ≡ [] =
+    λ read hearing first second. ap (λ (r : Option ScriptLine). client_words (r ∷ hearing ∷ read_of (codes "emit c 100" ∷ codes "down c 60" ∷ []))) first.1 ∙ ap (λ (h : Option ScriptLine). client_words (Some (hub_event first.0) ∷ h ∷ read_of (codes "emit c 100" ∷ codes "down c 60" ∷ []))) second.1 in
     let hearing = hear_is (line_of (hear_of_round (n + 1))) (and_true (is_hear (line_of (hear_of_round (n + 1)))) (is_one (hear_of_round (n + 1))) (round_heard (n + 1))).0 in
     ap client_words (map-append line_of (rounds_to n) (round_lines (n + 1)))
     ∙ filter_map-append word_of (read_of (rounds_to n)) (read_of (round_lines (n + 1)))
@@ -192,10 +179,10 @@ onto l read rest = (l ∷ rest.0, ap (with_line l) rest.1)
 abbrev Passes : List (Option ScriptLine) → Type 0
 Passes lines = (number : ℕ) (rest : List (Option ScriptLine)) → ((later : ℕ) → IsRead (lines_from all_words known later rest)) → IsRead (lines_from all_words known number (lines ++ rest))
 
-round_by : (read hearing : Option ScriptLine) → ((octets : List ℕ) × (read ≡ Some (update octets))) → IsHear hearing → Passes (read ∷ hearing ∷ read_of (codes "emit c 100" ∷ codes "down c 60" ∷ []))
+round_by : (read hearing : Option ScriptLine) → ((event : HubEvent) × (read ≡ Some (hub_event event))) → IsHear hearing → Passes (read ∷ hearing ∷ read_of (codes "emit c 100" ∷ codes "down c 60" ∷ []))
 round_by read hearing first second = subst (λ r. Passes (r ∷ hearing ∷ read_of (codes "emit c 100" ∷ codes "down c 60" ∷ []))) (sym first.1)
-    (subst (λ h. Passes (Some (update first.0) ∷ h ∷ read_of (codes "emit c 100" ∷ codes "down c 60" ∷ []))) (sym second.1)
-    (λ number rest further. onto (update first.0) _ (onto (hear (codes "lan") second.0) _ (onto (emit (codes "c") 100) _ (onto (down (codes "c") 60) _ (further (number + 1 + 1 + 1 + 1)))))))
+    (subst (λ h. Passes (Some (hub_event first.0) ∷ h ∷ read_of (codes "emit c 100" ∷ codes "down c 60" ∷ []))) (sym second.1)
+    (λ number rest further. onto (hub_event first.0) _ (onto (link_event (codes "lan") second.0) _ (onto (client_passing (codes "c") (ways.Emit 100)) _ (onto (client_passing (codes "c") (ways.Down 60)) _ (further (number + 1 + 1 + 1 + 1)))))))
 
 round_passes : (i : ℕ) → Passes (read_of (round_lines i))
 round_passes i =

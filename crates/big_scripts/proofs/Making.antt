@@ -3,8 +3,7 @@ use Rattle.std.proofs.Common.{◌≡◌, ℕ, zero, suc, ◌+◌, ◌*◌, ◌%�
 use Rattle.std.specs.Prelude.{if◌then◌else◌}
 use Rattle.std.proofs.lemmas.List.{append_assoc}
 use Rattle.std.proofs.lemmas.Grind.{flat_map-append}
-use Rattle.replay.specs.Reply.{line}
-use Rattle.replay.specs.Text.{ended_lines}
+use Rattle.scripts.specs.Words.{line, ended_lines}
 use Rattle.big_scripts.specs.Scripts.{update_line, update_of_round, hear_of_round, opening_lines, closing_lines, round_lines, rounds_to, script_octets}
 
 -- three pieces one behind another

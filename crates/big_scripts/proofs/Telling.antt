@@ -2,14 +2,15 @@
 use Rattle.std.proofs.Common.{◌≡◌, ◌⊎◌, inl, inr, ℕ, ◌+◌, ◌<◌, ◌≤◌, Some, IfSome, List, [], ◌∷◌, ◌++◌, take, length, refl, sym, ◌∙◌, ap, subst, arith, codes}
 use Rattle.std.specs.List.{concat}
 use Rattle.std.proofs.lemmas.List.{append_assoc, append-nil, take_all}
-use Rattle.replay.specs.declared.outcome.Outcome.{Outcome}
-use Rattle.replay.specs.declared.outcome.Outcome.TheVariants.{Done, Outside}
-use Rattle.replay.specs.Outcomes.{status_of}
+use Rattle.scripts.specs.declared.outcome.Outcome.{Outcome}
+use Rattle.scripts.specs.declared.outcome.Outcome.TheVariants.{Done, Outside}
+use Rattle.scripts.specs.Outcomes.{status_of}
 use Rattle.replay.specs.TextWords.{by_notices}
-use Rattle.scripts.specs.Words.{spaced}
+use Rattle.scripts.specs.Words.{spaced, line}
 use Rattle.scripts.specs.Sources.{front_read}
 use Rattle.replay.specs.ScriptReplies.{reply_to_script}
-use Rattle.replay.specs.Reply.{Reply, Tells, In_full, Unread, Starved, Answers, Took, line}
+use Rattle.scripts.specs.Reply.{Reply, Tells, In_full, Unread, Starved, Answers}
+use Rattle.push_base.specs.Written.{Took}
 use Rattle.big_scripts.specs.Scripts.{script_octets}
 use Rattle.big_scripts.proofs.Making.{script_length}
 

@@ -3,11 +3,11 @@
 --     sums_of records number      the sums over the texts of the scripts of a number
 --     summary records number      the line that tells them
 use Rattle.std.specs.Prelude.{ℕ, List, [], ◌∷◌, fold, codes, decimal}
-use Rattle.replay.specs.declared.outcome.Outcome.TheVariants.{Done}
-use Rattle.replay.specs.Outcomes.{status_of}
-use Rattle.replay.specs.Reply.{Reply, line}
+use Rattle.scripts.specs.declared.outcome.Outcome.TheVariants.{Done}
+use Rattle.scripts.specs.Outcomes.{status_of}
+use Rattle.scripts.specs.Reply.{Reply}
+use Rattle.scripts.specs.Words.{line, spaced}
 use Rattle.replay.specs.TextWords.{HeldRecords}
-use Rattle.scripts.specs.Words.{spaced}
 use Rattle.replay.specs.ScriptReplies.{reply_to_script}
 use Rattle.big_scripts.specs.Scripts.{script_octets, rounds_of}
 use Rattle.big_scripts.specs.Sums.{sums_of_text, no_sums, added}

@@ -7,7 +7,7 @@ use Rattle.std.specs.Prelude.{◌≡◌, ℕ, zero, suc, ◌+◌, ◌-◌, ◌%�
 use Rattle.push_base.specs.Hexadecimal.{hex_text}
 use Rattle.scripts.specs.Lines.{ScriptLine}
 use Rattle.scripts.specs.Scripts.{script_of}
-use Rattle.replay.specs.Text.{ended_lines}
+use Rattle.scripts.specs.Words.{ended_lines}
 use Rattle.big_scripts.specs.declared.rounds.TheConstants as rounds
 
 -- an address added to `a.example.com.` or deleted there (RFC 2136, 2.5): ID, class, TTL and last octet in hexadecimal

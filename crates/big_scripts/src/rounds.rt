@@ -1,8 +1,7 @@
 //! The scripts of a number.
 
 ghost use Rattle.std.specs.Prelude.{◌≡◌, ◌++◌, ◌∷◌, [], codes, IfOk, OnOk, string_bytes};
-ghost use Rattle.replay.specs.Text.{ended_lines};
-ghost use Rattle.replay.specs.Reply.{line};
+ghost use Rattle.scripts.specs.Words.{ended_lines, line};
 ghost use Rattle.big_scripts.specs.Scripts.{hear_of_round, round_lines, script_octets, update_of_round};
 
 use push_base::{NoMemory, Octets, hex_text};

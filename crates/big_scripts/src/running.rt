@@ -2,8 +2,10 @@
 
 ghost use Rattle.std.specs.Prelude.{◌≡◌, ◌≤◌, ◌<◌, ◌^◌, ◌++◌, ◌∷◌, [], codes, decimal, IfOk, string_bytes};
 ghost use Rattle.push_base.specs.Causes.{Rose};
-ghost use Rattle.replay.specs.Outcomes.{status_of};
-ghost use Rattle.replay.specs.Reply.{Answers, Took, line};
+ghost use Rattle.scripts.specs.Outcomes.{status_of};
+ghost use Rattle.scripts.specs.Reply.{Answers};
+ghost use Rattle.push_base.specs.Written.{Took};
+ghost use Rattle.scripts.specs.Words.{line};
 ghost use Rattle.replay.specs.TextWords.{by_notices};
 ghost use Rattle.big_scripts.specs.Scripts.{most_rounds};
 ghost use Rattle.big_scripts.specs.Replies.{reply_to_number, sums_of as sums_of_number, sums_of_script, summary_of};
@@ -11,7 +13,8 @@ ghost use Rattle.big_scripts.specs.Replies.{reply_to_number, sums_of as sums_of_
 use crate::rounds::{MOST_ROUNDS, script_of};
 use crate::sums::{Sums, sums_of};
 use push_base::{MemSink, MemSource, NoMemory, Sink};
-use replay::{NO_MEMORY, Outcome, replay, tell};
+use replay::replay;
+use scripts::{NO_MEMORY, Outcome, tell};
 use std::alloc::Global;
 
 // For so many octets of a text there is room from the start.

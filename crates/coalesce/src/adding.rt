@@ -10,7 +10,7 @@ ghost use Rattle.coalesce.specs.Sides.{frame_octets};
 ghost use Rattle.coalesce.specs.Steps.{added, additions_to};
 
 use crate::frame::Frame;
-use crate::records::{Fields, append_record, record_size};
+use crate::push_records::{Fields, append_record, record_size};
 use crate::side::Side;
 use rrset::{Key, Shown, same_shown};
 

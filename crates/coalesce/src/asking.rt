@@ -7,7 +7,7 @@ use rrset::{Key, Question, matches};
 use subscr::Subscriptions;
 
 /// Who asks for records.
-#[derive(Clone, Copy, Debug)]
+#[derive(Clone, Copy)]
 pub(crate) enum Asking<'a> {
     /// All records are asked for.
     All,

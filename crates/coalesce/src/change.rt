@@ -7,7 +7,7 @@ ghost use Rattle.coalesce.specs.Sides.{AreOfOneName, frame_octets};
 
 use crate::form::{append_notices, owner, plan_of};
 use crate::frame::Frame;
-use crate::records::{FRAME_HEAD, append_head};
+use crate::push_records::{FRAME_HEAD, append_head};
 use crate::side::Side;
 use rrset::{Key, Shown};
 

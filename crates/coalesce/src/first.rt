@@ -14,7 +14,7 @@ ghost use Rattle.coalesce.specs.Sides.{IsOneSide, frame_octets};
 
 use crate::adding::{all_size, append_all};
 use crate::frame::Frame;
-use crate::records::{FRAME_HEAD, Fields, append_fields, append_head, record_size};
+use crate::push_records::{FRAME_HEAD, Fields, append_fields, append_head, record_size};
 use crate::side::Side;
 use dnsname::Name;
 use dsotlv::ttls::REMOVE_MANY;

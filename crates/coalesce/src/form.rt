@@ -11,7 +11,7 @@ ghost use Rattle.coalesce.specs.Steps.{gone_form, notices_as};
 
 use crate::adding::{all_size, append_all, append_changed, changed_size};
 use crate::frame::Frame;
-use crate::records::{Fields, append_record, record_size};
+use crate::push_records::{Fields, append_record, record_size};
 use crate::removing::{append_removals, removals_size};
 use crate::side::{Records, Side};
 use dnsname::Name;
@@ -21,7 +21,7 @@ use rrset::kinds::ANY;
 use rrset::{same_key, same_shown};
 
 /// How a net tells the change.
-#[derive(Clone, Copy, Debug)]
+#[derive(Clone, Copy)]
 pub(crate) enum Form {
     /// There is nothing to tell.
     Empty,
@@ -36,7 +36,7 @@ pub(crate) enum Form {
 }
 
 /// The form of a net, and the octets of its records.
-#[derive(Clone, Copy, Debug)]
+#[derive(Clone, Copy)]
 pub(crate) struct Plan {
     /// How the net tells the change.
     pub form: Form,

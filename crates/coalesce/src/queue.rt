@@ -12,7 +12,7 @@ ghost use Rattle.coalesce.specs.Waiting.{CanBePacked, before_point, differs, is_
 use crate::NoMemory;
 use crate::first::append_first;
 use crate::frame::Frame;
-use crate::push::{append_push, drop_front, front_of};
+use crate::push_front::{append_push, drop_front, front_of};
 use crate::waiting::{Waiting, keep_before, take_out, waiting_at, waits};
 use dnsname::Name;
 use nametable::NameTable;

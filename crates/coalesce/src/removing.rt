@@ -8,7 +8,7 @@ ghost use Rattle.coalesce.specs.Sides.{frame_octets};
 ghost use Rattle.coalesce.specs.Steps.{removal_of, removal_notices, removals_behind};
 
 use crate::frame::Frame;
-use crate::records::{Fields, append_record, record_size};
+use crate::push_records::{Fields, append_record, record_size};
 use crate::side::Side;
 use dnsname::Name;
 use dsotlv::ttls::{REMOVE_MANY, REMOVE_ONE};
@@ -16,7 +16,7 @@ use rrset::classes::IN;
 use rrset::{Key, Shown};
 
 /// What is told of a record that was there.
-#[derive(Clone, Copy, Debug)]
+#[derive(Clone, Copy)]
 pub(crate) enum Removal {
     /// It is there still, or its kind was told of.
     Nothing,

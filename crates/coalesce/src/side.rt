@@ -15,7 +15,7 @@ use std::marker::Model;
 use subscr::Subscriptions;
 
 /// Records that are asked for, in their order.
-#[derive(Debug, Drop)]
+#[derive(Drop)]
 pub(crate) struct Records<'a> {
     rows: &'a [(Key, Shown)],
     asking: Asking<'a>,
@@ -56,7 +56,7 @@ impl<'a> Records<'a> {
 }
 
 /// The records of one name that are asked for, in key order.
-#[derive(Debug, Drop)]
+#[derive(Drop)]
 pub(crate) struct Side<'a> {
     rows: &'a [(Key, Shown)],
     asking: Asking<'a>,

@@ -8,9 +8,11 @@ use Rattle.push_base.specs.Optional.{◌>>=◌}
 use Rattle.history.specs.States.{State}
 use Rattle.scripts.specs.Lines.{ScriptLine, line_of}
 use Rattle.scripts.specs.Scripts.{Known, is_head, fits}
-use Rattle.scripts.specs.Heads.{Head, with_head_line}
-use Rattle.scripts.specs.Drafts.{Taken, TakesLine, GrowsBy, head_of, head_taken, known_of, may_stand, taken_of}
-use Rattle.scripts.specs.KeptLines.{event_said, said}
+use Rattle.scripts.specs.Heads.{Head, with_head as with_head_of, with_head_line}
+use Rattle.scripts.specs.Drafts.{Taken, TakesLine, HeadGrowsBy, GrowsBy, head_of, head_taken, known_of, may_stand, taken_of}
+use Rattle.scripts.specs.KeptLines.{head_said, event_said, said}
+use Rattle.scripts.specs.declared.line.HeadLine.{HeadLine}
+use Rattle.scripts.specs.declared.line.HeadLine.TheVariants as heads
 use Rattle.scripts.specs.declared.line.Event.{Event}
 use Rattle.scripts.specs.declared.line.Event.TheVariants as events
 use Rattle.scripts.specs.declared.line.Line.{Line}
@@ -19,37 +21,27 @@ use Rattle.scripts.specs.declared.script.Draft.{Draft}
 use Rattle.scripts.proofs.lines.MoreLines.{adds}
 use Rattle.configurations.specs.Configurations.{ServingDraft, head_line}
 use Rattle.configurations.specs.Kept.{TakesServing, serving_drafted}
-use Rattle.configurations.specs.declared.serving.ServeDraft.{ServeDraft}
+use Rattle.configurations.specs.declared.server_config.ServeDraft.{ServeDraft}
 
 -- an event is no line of a head
 no_event : (e : Event) → is_head (event_said e) ≡ true → ⊥
-no_event (events.Update o) h = cc
-no_event (events.Send s) h = cc
-no_event events.Point h = cc
-no_event (events.At t) h = cc
-no_event (events.Stop s) h = cc
-no_event (events.Cut c) h = cc
-no_event (events.Client j) h = cc
-no_event (events.Lone l) h = cc
-no_event (events.Ask a) h = cc
-no_event (events.Drop a) h = cc
-no_event (events.Open o) h = cc
-no_event (events.Feed s) h = cc
-no_event (events.Show s) h = cc
-no_event (events.Say p) h = cc
-no_event (events.Up p) h = cc
-no_event (events.Emit p) h = cc
-no_event (events.Down p) h = cc
-no_event (events.Settle s) h = cc
-no_event (events.Hear s) h = cc
-no_event (events.Reconfirm r) h = cc
+no_event (events.Joining word is_lone) h = cc
+no_event (events.Hub event) h = cc
+no_event (events.Link word event) h = cc
+no_event (events.Call word call) h = cc
+no_event (events.Passing word way) h = cc
+no_event (events.Client word event) h = cc
+no_event (events.Session word event) h = cc
 
 -- the head with a further line
 pub head_grows : (taken later : Taken) (line : Line) → is_head (said line) ≡ true → GrowsBy taken line later → with_head_line (head_taken taken) (said line) ≡ head_taken later
 head_grows taken later lines.Silent head grows = ap head_taken (sym grows)
-head_grows taken later (lines.Timers t) head grows = ap head_taken (sym grows)
-head_grows taken later (lines.Zone z) head grows = ap (λ (s : State). head_of taken.timers s taken.links) (sym grows.0.state) ∙ ap head_taken (sym grows.1)
-head_grows taken later (lines.Link l) head grows = ap (λ (s : State). head_of taken.timers s (taken.links ++ string_bytes l.word ∷ [])) (sym grows.0.state) ∙ ap head_taken (sym grows.1)
+head_grows taken later (lines.Head line) head grows = by line grows
+  where
+    by : (line : HeadLine) → HeadGrowsBy taken line later → with_head_of (head_taken taken) (head_said line) ≡ head_taken later
+    by (heads.Timers t) grows = ap head_taken (sym grows)
+    by (heads.Zone z) grows = ap (λ (s : State). head_of taken.timers s taken.links) (sym grows.0.state) ∙ ap head_taken (sym grows.1)
+    by (heads.Link l) grows = ap (λ (s : State). head_of taken.timers s (taken.links ++ string_bytes l.word ∷ [])) (sym grows.0.state) ∙ ap head_taken (sym grows.1)
 head_grows taken later (lines.Event e) head grows = absurd (no_event e head)
 
 -- ---- a draft with a further line

@@ -4,13 +4,14 @@ use Rattle.std.specs.Prelude.{option_map, unwrap_or}
 use Rattle.std.specs.List.{position}
 use Rattle.std.specs.Str.{bytes_eq}
 use Rattle.push_base.specs.Optional.{◌>>=◌}
-use Rattle.scripts.specs.Lines.{Word, ScriptLine, silent, timers, zone, link, number, words_in, line_of}
+use Rattle.scripts.specs.Lines as script
+use Rattle.scripts.specs.Lines.{Word, HeadLine, timers, zone, link, ScriptLine, silent, number, words_in, line_of}
 use Rattle.scripts.specs.Scripts.{Known, lines_in, is_head, fits}
-use Rattle.scripts.specs.Heads.{empty_head, with_head_line}
+use Rattle.scripts.specs.Heads.{empty_head, with_head, with_head_line}
 use Rattle.scripts.proofs.lines.MoreLines.{start_more, start_linked}
 use Rattle.configurations.specs.Configurations.{Serving, ServingDraft, no_serving, max_accepted, max_turns, address, number_from, once, is_fed, is_too_long, listen_line, sessions_line, turns_line, feed_line, head_line, serving_kind, serving_behind, serving_words, serving_line, serving_whole, serving_of}
-use Rattle.configurations.specs.declared.serving.ServingKind.{ServingKind}
-use Rattle.configurations.specs.declared.serving.ServingKind.TheVariants as of_server
+use Rattle.configurations.specs.declared.server_config.ServingKind.{ServingKind}
+use Rattle.configurations.specs.declared.server_config.ServingKind.TheVariants as of_server
 use Rattle.configurations.specs.Kept.{CanServe}
 use Rattle.configurations.proofs.Granted.{granted}
 use Rattle.configurations.proofs.LineByLine.{kept}
@@ -80,9 +81,12 @@ with_line d line = option_map (behind_line d line) (fits [] d.known line)
 
 line_serves : (d : ServingDraft) (text : List ℕ) (line : ScriptLine) → line_of text ≡ Some line → Serves d → Only Serves (cond (is_head line) (with_line d line) None)
 line_serves d text silent e s = only_map Serves (fits [] d.known silent) (behind_line d silent) (λ k. s)
-line_serves d text (timers i m) e s = only_map Serves (fits [] d.known (timers i m)) (behind_line d (timers i m)) (λ k. record { start = s.start; keepalive = granted text i m e })
-line_serves d text (zone apex serial mode) e s = only_map Serves (fits [] d.known (zone apex serial mode)) (behind_line d (zone apex serial mode)) (λ k. record { start = start_more d.head.start apex serial mode s.start; keepalive = s.keepalive })
-line_serves d text (link w domain) e s = only_map Serves (fits [] d.known (link w domain)) (behind_line d (link w domain)) (λ k. record { start = start_linked d.head.start domain s.start; keepalive = s.keepalive })
+line_serves d text (script.head_line line) e s = only_map Serves (fits [] d.known (script.head_line line)) (behind_line d (script.head_line line)) (λ k. by line e)
+  where
+    by : (line : HeadLine) → line_of text ≡ Some (script.head_line line) → CanServe (with_head d.head line)
+    by (timers i m) e = record { start = s.start; keepalive = granted text i m e }
+    by (zone apex serial mode) e = record { start = start_more d.head.start apex serial mode s.start; keepalive = s.keepalive }
+    by (link w domain) e = record { start = start_linked d.head.start domain s.start; keepalive = s.keepalive }
 line_serves d text _ e s = only_none Serves
 
 head_serves : (d : ServingDraft) (text : List ℕ) → Serves d → Only Serves (head_line d text)

@@ -5,10 +5,10 @@ use Rattle.std.specs.Str.{bytes_eq, is_utf8}
 use Rattle.std.proofs.lemmas.Str.{is_utf8-from_IsUtf8}
 use Rattle.push_base.specs.Optional.{◌>>=◌}
 use Rattle.dnsname.specs.Text.{name}
-use Rattle.scripts.specs.Lines.{Word, ScriptLine, link}
+use Rattle.scripts.specs.Lines.{Word, ScriptLine, head_line, link}
 use Rattle.scripts.specs.Scripts.{nothing_known, known_behind}
 use Rattle.scripts.specs.Heads.{empty_head, with_head_line}
-use Rattle.scripts.proofs.lines.LineKinds.{comment_inside}
+use Rattle.scripts.proofs.lines.Readers.{comment_inside}
 use Rattle.scripts.proofs.lines.LineWords.{word_utf8}
 use Rattle.configurations.specs.Configurations.{Serving, ServingDraft, no_serving, address, once, is_fed, serving_line, serving_whole, serving_of, Subscribing, SubscribingDraft, no_subscribing, subscribing_line, subscribing_whole, subscribing_of}
 use Rattle.configurations.specs.Worked.{text, served, serving, asking, soa, all_records, subscribing}
@@ -52,7 +52,7 @@ pub listens_twice : serving_of (text (codes "listen here" ∷ codes "listen here
 listens_twice = ap (serving_behind_line 1 no_serving (codes "listen here" ∷ codes "sessions 1" ∷ [])) (listens no_serving) ∙ ap (serving_behind_line 2 listened (codes "sessions 1" ∷ [])) (listens listened)
 
 abbrev lan : ScriptLine
-lan = link (codes "lan") (name (codes "lan.example.com."))
+lan = head_line (link (codes "lan") (name (codes "lan.example.com.")))
 
 abbrev linked : ServingDraft
 linked = record no_serving { head = with_head_line empty_head lan; known = known_behind nothing_known lan }

@@ -13,10 +13,10 @@ use Rattle.scripts.specs.Lines.{Word, ScriptLine, silent, number, words_in, ques
 use Rattle.scripts.specs.Scripts.{Known, nothing_known, is_head, fits, lines_in, max_script}
 use Rattle.scripts.specs.Heads.{Head, empty_head, with_head_line}
 use Rattle.configurations.specs.declared.limits.TheConstants as limits
-use Rattle.configurations.specs.declared.serving.ServingKind.{ServingKind}
-use Rattle.configurations.specs.declared.serving.ServingKind.TheVariants as of_server
-use Rattle.configurations.specs.declared.subscribing.SubscribingKind.{SubscribingKind}
-use Rattle.configurations.specs.declared.subscribing.SubscribingKind.TheVariants as of_subscriber
+use Rattle.configurations.specs.declared.server_config.ServingKind.{ServingKind}
+use Rattle.configurations.specs.declared.server_config.ServingKind.TheVariants as of_server
+use Rattle.configurations.specs.declared.subscriber_config.SubscribingKind.{SubscribingKind}
+use Rattle.configurations.specs.declared.subscriber_config.SubscribingKind.TheVariants as of_subscriber
 
 -- ---- words and lines
 

@@ -15,15 +15,15 @@ use Rattle.scripts.specs.Heads.{Head}
 use Rattle.scripts.specs.KeptLines.{words_of}
 use Rattle.scripts.specs.Drafts.{head_taken, known_of, taken_of}
 use Rattle.configurations.specs.Configurations.{Serving, ServingDraft, serving_whole, serving_of, Subscribing, SubscribingDraft, subscribing_whole, subscribing_of}
-use Rattle.configurations.specs.declared.serving.FedLink.{FedLink}
-use Rattle.configurations.specs.declared.serving.ServeConfiguration.{ServeConfiguration}
-use Rattle.configurations.specs.declared.serving.ServeDraft.{ServeDraft}
-use Rattle.configurations.specs.declared.serving.ReadServe.{ReadServe}
-use Rattle.configurations.specs.declared.serving.ReadServe.TheVariants as serve
-use Rattle.configurations.specs.declared.subscribing.SubscribeConfiguration.{SubscribeConfiguration}
-use Rattle.configurations.specs.declared.subscribing.SubscribeDraft.{SubscribeDraft}
-use Rattle.configurations.specs.declared.subscribing.ReadSubscribe.{ReadSubscribe}
-use Rattle.configurations.specs.declared.subscribing.ReadSubscribe.TheVariants.{Whole, Outside}
+use Rattle.configurations.specs.declared.server_config.FedLink.{FedLink}
+use Rattle.configurations.specs.declared.server_config.ServeConfiguration.{ServeConfiguration}
+use Rattle.configurations.specs.declared.server_config.ServeDraft.{ServeDraft}
+use Rattle.configurations.specs.declared.server_config.ReadServe.{ReadServe}
+use Rattle.configurations.specs.declared.server_config.ReadServe.TheVariants as serve
+use Rattle.configurations.specs.declared.subscriber_config.SubscribeConfiguration.{SubscribeConfiguration}
+use Rattle.configurations.specs.declared.subscriber_config.SubscribeDraft.{SubscribeDraft}
+use Rattle.configurations.specs.declared.subscriber_config.ReadSubscribe.{ReadSubscribe}
+use Rattle.configurations.specs.declared.subscriber_config.ReadSubscribe.TheVariants.{Whole, Outside}
 
 -- ---- of a server
 

@@ -2,16 +2,16 @@
 #![tactic(auto)]
 
 pub mod limits;
-mod serving;
-mod subscribing;
+mod server_config;
+mod subscriber_config;
 mod words;
 
 ghost use Rattle.std.specs.Prelude.{◌≡◌, [], ◌∷◌, Err, Ok, codes, false, replicate, true};
 ghost use Rattle.configurations.specs.Configurations.{may_ask, no_subscribing, serving_of, subscribing_of};
 ghost use Rattle.configurations.specs.Worked.{all_records, asking, served, serving, soa, subscribing, text};
 
-pub use serving::{FedLink, ReadServe, ServeConfiguration, read_serve};
-pub use subscribing::{ReadSubscribe, SubscribeConfiguration, read_subscribe};
+pub use server_config::{FedLink, ReadServe, ServeConfiguration, read_serve};
+pub use subscriber_config::{ReadSubscribe, SubscribeConfiguration, read_subscribe};
 
 /// Examples of configurations of a server: all kinds of lines, what is missing, and lines that may not stand there.
 pub fn worked_servers()

@@ -21,19 +21,25 @@ pub use push_base::Octets;
 use std::alloc::{AllocError, AllocFailed, Global};
 use std::marker::Model;
 use std::sync::Arc;
+use thiserror::Error;
 
 /// The first fault in reading order, with its place: a count of octets from the start of the message.
-#[derive(Clone, Copy, Debug, PartialEq, Eq)]
+#[derive(Clone, Copy, Debug, PartialEq, Eq, Error)]
 pub enum NameFault {
     /// The message ends there, inside the name.
+    #[error("the message ends at octet {0}, inside a name")]
     Short(usize),
     /// A length octet with the top bits 01 or 10.
+    #[error("a label length of an unknown type at octet {0}")]
     LongLabel(usize),
     /// A pointer that does not point back before its piece of the name.
+    #[error("a compression pointer that does not point back at octet {0}")]
     Pointer(usize),
     /// A label that would make the name pass 255 octets.
+    #[error("a name longer than 255 octets at octet {0}")]
     TooLong(usize),
     /// Memory ran out.
+    #[error("out of memory")]
     NoMemory,
 }
 
@@ -54,11 +60,13 @@ impl<T: Drop> From<AllocFailed<T>> for NameFault {
 }
 
 /// Why a text is not read as a name.
-#[derive(Clone, Copy, Debug, PartialEq, Eq)]
+#[derive(Clone, Copy, Debug, PartialEq, Eq, Error)]
 pub enum TextFault {
     /// It is no name's text.
+    #[error("no domain name")]
     Form,
     /// Memory ran out.
+    #[error("out of memory")]
     NoMemory,
 }
 

@@ -10,13 +10,14 @@ use Rattle.push_base.specs.Causes.{Rose}
 use Rattle.push_base.specs.Line.{Read}
 use Rattle.push_base.specs.Told.{TellsMore}
 use Rattle.push_outside.specs.Outside.{Telling, Used, Adds, AddsTold, IsFresh, RaisedBy}
-use Rattle.replay.specs.declared.outcome.Outcome.{Outcome}
+use Rattle.scripts.specs.declared.outcome.Outcome.{Outcome}
 use Rattle.configurations.specs.Configurations.{Subscribing, subscribing_of}
 use Rattle.subscriber.specs.Said.{Saying}
 use Rattle.subscriber.specs.Subscribed.{Subscribed, TellsSaying, Whole, Unread, Starved, AnswersSaying}
-use Rattle.replay.specs.declared.outcome.Outcome.TheVariants as outcomes
-use Rattle.replay.specs.Outcomes.{status_of}
-use Rattle.replay.specs.Reply.{IsFrontOf, Took, line}
+use Rattle.scripts.specs.declared.outcome.Outcome.TheVariants as outcomes
+use Rattle.scripts.specs.Outcomes.{status_of}
+use Rattle.push_base.specs.Written.{IsFrontOf, Took}
+use Rattle.scripts.specs.Words.{line}
 use Rattle.std.specs.Prelude.{codes}
 use Rattle.push_outside.specs.declared.outside.OpenFault.{OpenFault}
 use Rattle.push_outside.specs.declared.outside.OpenFault.TheVariants.{Failed, NoMemory}

@@ -10,14 +10,15 @@ use Rattle.replay.specs.Promises.{KeepsPromises, EveryScriptKeepsPromises}
 use Rattle.replay.specs.FedLines.{Fed, fed_reply, FeedsAsMessages}
 use Rattle.scripts.specs.Lines.{ScriptLine}
 use Rattle.replay.specs.ScriptPieces.{SentInPieces, TellsInTurn, pieces_reply}
-use Rattle.replay.specs.Reply.{Answers, Took}
+use Rattle.scripts.specs.Reply.{Answers}
+use Rattle.push_base.specs.Written.{Took}
 use Rattle.replay.specs.Serving.{Asked, served_reply}
 use Rattle.replay.proofs.pieces.SentPieces.{pieces-told}
 use Rattle.script_laws.specs.Sending.{Asks, AskIsAnswered, AsksAreAnswered, asked_reply}
 use Rattle.replay.proofs.serving.Serving.{served_is}
 use Rattle.dnspush.specs.Runs.{AsksReplay, AsksServed, AsksAccepted, AsksInPieces, AsksFed, AsksFor, reply_to}
 use Rattle.dnspush.specs.Words.{Request, On_input, At_path, Big, Serve, Subscribe}
-use Rattle.dnspush.specs.declared.tasks.Task.TheVariants.{Replay, Check}
+use Rattle.dnspush.specs.declared.script_command.ScriptCommand.TheVariants.{Replay, Check}
 
 -- where the words ask for nothing, no script is to be run
 pub none_asked : (request : Option Request) → None ≡ request → AsksReplay request → ⊥

@@ -3,13 +3,15 @@ use Rattle.std.proofs.Common.{◌≡◌, ◌⊎◌, inl, inr, ⊎_elim, ℕ, Opt
 use Rattle.std.proofs.lemmas.List.{append_cancel_left}
 use Rattle.std.specs.Prelude.{fold}
 use Rattle.push_base.specs.Causes.{Rose}
-use Rattle.replay.specs.declared.outcome.Outcome.{Outcome}
-use Rattle.replay.specs.declared.outcome.Outcome.TheVariants.{WriteFault}
+use Rattle.scripts.specs.declared.outcome.Outcome.{Outcome}
+use Rattle.scripts.specs.declared.outcome.Outcome.TheVariants.{WriteFault}
 use Rattle.replay.specs.TextWords.{by_history, by_notices}
 use Rattle.scripts.specs.Sources.{front_read, Gave}
-use Rattle.replay.specs.Outcomes.{status_of}
-use Rattle.replay.specs.Reply.{IsFrontOf, Answers, Took, In_full, line}
-use Rattle.replay.proofs.replies.Written.{Replied, answers_with_cause}
+use Rattle.scripts.specs.Outcomes.{status_of}
+use Rattle.push_base.specs.Written.{IsFrontOf, Took}
+use Rattle.scripts.specs.Reply.{Answers, In_full}
+use Rattle.scripts.specs.Words.{line}
+use Rattle.scripts.proofs.Written.{Replied, answers_with_cause}
 use Rattle.script_laws.specs.Replies.{RepliesAreOne}
 use Rattle.big_scripts.specs.Scripts.{script_octets, rounds_of}
 use Rattle.big_scripts.specs.Sums.{sums_of_text, no_sums, added}
@@ -22,19 +24,19 @@ use Rattle.push_outside.specs.Opening.{CountsFailure}
 use Rattle.push_outside.specs.Outside.{Used, AddsUse, IsFresh, RaisedBy}
 use Rattle.dnspush.specs.Runs.{reply_to, MayBeOctets, MayHaveGiven, SourceRose}
 use Rattle.dnspush.specs.Status.{code_of}
-use Rattle.dnspush.specs.Tasks.{task_reply}
+use Rattle.dnspush.specs.ScriptCommands.{task_reply}
 use Rattle.dnspush.specs.Words.{Request, On_input, At_path, Big, usage}
-use Rattle.dnspush.specs.declared.tasks.Task.{Task}
-use Rattle.dnspush.specs.declared.tasks.Task.TheVariants.{Replay, Check}
+use Rattle.dnspush.specs.declared.script_command.ScriptCommand.{ScriptCommand}
+use Rattle.dnspush.specs.declared.script_command.ScriptCommand.TheVariants.{Replay, Check}
 
 -- what is answered to a task on a script of these octets
-abbrev pub RepliedTo : Task → Type 0 → Option (List ℕ) → Option (List ℕ) → Outcome → List ℕ → Type 0
+abbrev pub RepliedTo : ScriptCommand → Type 0 → Option (List ℕ) → Option (List ℕ) → Outcome → List ℕ → Type 0
 RepliedTo task cause taken taken_now result octets = Took taken taken_now (Answers cause (task_reply by_notices task (front_read octets)) (status_of result))
 
 -- where the task is known
-pub replied_to : (task known : Task) (cause : Type 0) (left taken taken_now : Option (List ℕ)) (result : Outcome) → task ≡ known
+pub replied_to : (task known : ScriptCommand) (cause : Type 0) (left taken taken_now : Option (List ℕ)) (result : Outcome) → task ≡ known
     → Replied (task_reply by_notices known) cause left taken taken_now result → Replied (task_reply by_notices task) cause left taken taken_now result
-replied_to task known cause left taken taken_now result is h = subst (λ (t : Task). Replied (task_reply by_notices t) cause left taken taken_now result) (sym is) h
+replied_to task known cause left taken taken_now result is h = subst (λ (t : ScriptCommand). Replied (task_reply by_notices t) cause left taken taken_now result) (sym is) h
 
 -- where one more was added at its end, a list isn't what it was, and the added one is known
 pub one_added : (before now : List Used) (u : Used) (octets : List ℕ) → now ≡ before ++ u ∷ [] → MayHaveGiven (Some before) (Some now) octets → u.gave ++ u.left ≡ octets
@@ -52,7 +54,7 @@ all_had left (Some start) gave rest fresh h =
     h.1 ∙ ap (λ l. Some (l ++ rest)) (sym (is ∙ ap (λ l. l ++ h.0) fresh))
 
 -- a source that was opened, used and taken back
-pub replied_back : (task : Task) (cause wider : Type 0) (left left_now given given_now taken taken_now : Option (List ℕ)) (before now : Option (List Used)) (result : Outcome)
+pub replied_back : (task : ScriptCommand) (cause wider : Type 0) (left left_now given given_now taken taken_now : Option (List ℕ)) (before now : Option (List Used)) (result : Outcome)
     → (cause → wider) → IsFresh given → Gave left left_now given given_now → Replied (task_reply by_notices task) cause left taken taken_now result → AddsUse before now given_now left_now
     → (octets : List ℕ) → MayHaveGiven before now octets → RepliedTo task wider taken taken_now result octets
 replied_back task cause wider left left_now given given_now taken taken_now None now result brings fresh moved replied adds octets may = absurd may
@@ -99,12 +101,12 @@ usage_answered input_rose outside_rose request octets taken taken_now result cod
     )
 
 -- told from the notices it is what is told from the history
-as_history : RepliesAreOne → (task : Task) (cause : Type 0) (taken taken_now : Option (List ℕ)) (octets : List ℕ) (result : Outcome)
+as_history : RepliesAreOne → (task : ScriptCommand) (cause : Type 0) (taken taken_now : Option (List ℕ)) (octets : List ℕ) (result : Outcome)
     → RepliedTo task cause taken taken_now result octets → Took taken taken_now (Answers cause (task_reply by_history task (front_read octets)) (status_of result))
 as_history one Replay cause taken taken_now octets result h = subst (λ r. Took taken taken_now (Answers cause r (status_of result))) (one (front_read octets)) h
 as_history one Check cause taken taken_now octets result h = h
 
-pub input_answered : RepliesAreOne → (input_rose outside_rose : Type 0) (request : Option Request) (task : Task) (input taken taken_now : Option (List ℕ)) (before now : Option (List Used)) (octets : List ℕ) (result : Outcome) (code : ℕ)
+pub input_answered : RepliesAreOne → (input_rose outside_rose : Type 0) (request : Option Request) (task : ScriptCommand) (input taken taken_now : Option (List ℕ)) (before now : Option (List Used)) (octets : List ℕ) (result : Outcome) (code : ℕ)
     → Some (On_input task) ≡ request → code ≡ status_of result → Replied (task_reply by_notices task) input_rose input taken taken_now result → MayBeOctets request input before now octets
     → Took taken taken_now (Answers (SourceRose request input_rose outside_rose) (reply_to request octets) code)
 input_answered one input_rose outside_rose request task input taken taken_now before now octets result code is code_is replied may =
@@ -112,7 +114,7 @@ input_answered one input_rose outside_rose request task input taken taken_now be
     answers_by (λ r. SourceRose r input_rose outside_rose) request (Some (On_input task)) octets taken taken_now result code is code_is
     (as_history one task input_rose taken taken_now octets result (subst (λ i. Replied (task_reply by_notices task) input_rose i taken taken_now result) told replied))
 
-pub path_answered : RepliesAreOne → (input_rose outside_rose : Type 0) (request : Option Request) (task : Task) (path : List ℕ) (input taken taken_now : Option (List ℕ)) (before now : Option (List Used)) (octets : List ℕ) (result : Outcome) (code : ℕ)
+pub path_answered : RepliesAreOne → (input_rose outside_rose : Type 0) (request : Option Request) (task : ScriptCommand) (path : List ℕ) (input taken taken_now : Option (List ℕ)) (before now : Option (List Used)) (octets : List ℕ) (result : Outcome) (code : ℕ)
     → Some (At_path task path) ≡ request → code ≡ status_of result → (MayHaveGiven before now octets → RepliedTo task outside_rose taken taken_now result octets) → MayBeOctets request input before now octets
     → Took taken taken_now (Answers (SourceRose request input_rose outside_rose) (reply_to request octets) code)
 path_answered one input_rose outside_rose request task path input taken taken_now before now octets result code is code_is replied may =

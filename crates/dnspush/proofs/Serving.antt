@@ -24,17 +24,17 @@ use Rattle.push_outside.specs.declared.outside.OpenFault.{OpenFault}
 use Rattle.push_outside.specs.declared.outside.OpenFault.TheVariants.{Failed, NoMemory}
 use Rattle.scripts.specs.Lines.{Word}
 use Rattle.scripts.specs.Sources.{front_read}
-use Rattle.scripts.specs.Words.{spaced}
-use Rattle.replay.specs.declared.outcome.Outcome.{Outcome}
-use Rattle.replay.specs.declared.outcome.Outcome.TheVariants as outcomes
-use Rattle.replay.specs.Outcomes.{status_of}
-use Rattle.replay.specs.Reply.{IsFrontOf, Took, line}
+use Rattle.scripts.specs.Words.{spaced, line}
+use Rattle.scripts.specs.declared.outcome.Outcome.{Outcome}
+use Rattle.scripts.specs.declared.outcome.Outcome.TheVariants as outcomes
+use Rattle.scripts.specs.Outcomes.{status_of}
+use Rattle.push_base.specs.Written.{IsFrontOf, Took}
 use Rattle.configurations.specs.Configurations.{Serving, serving_of}
 use Rattle.configurations.specs.Kept.{fed_links, serving_kept}
-use Rattle.configurations.specs.declared.serving.FedLink.{FedLink}
-use Rattle.configurations.specs.declared.serving.ServeConfiguration.{ServeConfiguration}
-use Rattle.serving.specs.declared.ends.ServeEnd.{ServeEnd}
-use Rattle.serving.specs.declared.ends.ServeEnd.TheVariants as ends
+use Rattle.configurations.specs.declared.server_config.FedLink.{FedLink}
+use Rattle.configurations.specs.declared.server_config.ServeConfiguration.{ServeConfiguration}
+use Rattle.serving.specs.declared.serve_end.ServeEnd.{ServeEnd}
+use Rattle.serving.specs.declared.serve_end.ServeEnd.TheVariants as ends
 use Rattle.serving.specs.Jobs.{jobs_of}
 use Rattle.serving.specs.Serving.{Accepts, CountsBy, CountsFault, Starts, has_fault, is_full_run}
 use Rattle.serving.specs.declared.setup.Fed.{Fed}

@@ -1,5 +1,5 @@
 pub mod Words
-pub mod Tasks
+pub mod ScriptCommands
 pub mod Runs
 pub mod Status
 pub mod Command

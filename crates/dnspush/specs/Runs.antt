@@ -9,19 +9,20 @@ use Rattle.std.specs.declared.option.Option.{Option}
 use Rattle.push_base.specs.Causes.{Rose}
 use Rattle.scripts.specs.Lines.{ScriptLine}
 use Rattle.scripts.specs.Scripts.{script_of}
-use Rattle.replay.specs.Reply.{Reply, Answers, Took}
+use Rattle.scripts.specs.Reply.{Reply, Answers}
+use Rattle.push_base.specs.Written.{Took}
 use Rattle.replay.specs.TextWords.{by_history}
 use Rattle.scripts.specs.Sources.{front_read, left_behind, LeftBehind}
-use Rattle.replay.specs.Outcomes.{HasRead}
+use Rattle.scripts.specs.Outcomes.{HasRead}
 use Rattle.replay.specs.Serving.{Asked, AsksFirst}
 use Rattle.replay.specs.ScriptPieces.{SentInPieces, SendsPieces}
 use Rattle.replay.specs.FedLines.{Fed, FeedsLone}
 use Rattle.script_laws.specs.Sending.{Asks, AsksAnywhere}
 use Rattle.big_scripts.specs.Replies.{reply_to_number}
 use Rattle.push_outside.specs.Outside.{Telling, Used, Adds}
-use Rattle.dnspush.specs.Tasks.{task_reply}
+use Rattle.dnspush.specs.ScriptCommands.{task_reply}
 use Rattle.dnspush.specs.Words.{Request, On_input, At_path, Big, Serve, Subscribe, usage}
-use Rattle.dnspush.specs.declared.tasks.Task.TheVariants.{Replay}
+use Rattle.dnspush.specs.declared.script_command.ScriptCommand.TheVariants.{Replay}
 
 -- what is answered, given the octets of the source that the request names; a server and a subscriber aren't answered by them alone (`Serving`, `Subscribing`)
 abbrev pub reply_to : Option Request → List ℕ → Reply

@@ -13,14 +13,14 @@ use Rattle.push_base.specs.declared.role.Role.{Role}
 use Rattle.push_outside.specs.Outside.{Telling, Adds, AddsTold}
 use Rattle.scripts.specs.Lines.{Word}
 use Rattle.scripts.specs.Sources.{front_read}
-use Rattle.scripts.specs.Words.{spaced}
-use Rattle.replay.specs.declared.outcome.Outcome.TheVariants as outcomes
-use Rattle.replay.specs.Outcomes.{status_of}
-use Rattle.replay.specs.Reply.{IsFrontOf, Took, line}
+use Rattle.scripts.specs.Words.{spaced, line}
+use Rattle.scripts.specs.declared.outcome.Outcome.TheVariants as outcomes
+use Rattle.scripts.specs.Outcomes.{status_of}
+use Rattle.push_base.specs.Written.{IsFrontOf, Took}
 use Rattle.replay.specs.Text.{outside_text}
 use Rattle.configurations.specs.Configurations.{Serving, serving_of}
-use Rattle.serving.specs.declared.ends.ServeEnd.{ServeEnd}
-use Rattle.serving.specs.declared.ends.ServeEnd.TheVariants as ends
+use Rattle.serving.specs.declared.serve_end.ServeEnd.{ServeEnd}
+use Rattle.serving.specs.declared.serve_end.ServeEnd.TheVariants as ends
 use Rattle.serving.specs.Jobs.{AreSeats, jobs_of}
 use Rattle.serving.specs.Serving.{is_full_run}
 use Rattle.dnspush.specs.Observed.{Observed, IsTold}

@@ -9,10 +9,11 @@ use Rattle.push_base.specs.Causes.{Rose}
 use Rattle.push_base.specs.Line.{Read}
 use Rattle.push_outside.specs.Outside.{Telling, Adds, AddsTold}
 use Rattle.scripts.specs.Sources.{front_read}
-use Rattle.replay.specs.declared.outcome.Outcome.{Outcome}
-use Rattle.replay.specs.declared.outcome.Outcome.TheVariants as outcomes
-use Rattle.replay.specs.Outcomes.{status_of}
-use Rattle.replay.specs.Reply.{Took, line}
+use Rattle.scripts.specs.declared.outcome.Outcome.{Outcome}
+use Rattle.scripts.specs.declared.outcome.Outcome.TheVariants as outcomes
+use Rattle.scripts.specs.Outcomes.{status_of}
+use Rattle.push_base.specs.Written.{Took}
+use Rattle.scripts.specs.Words.{line}
 use Rattle.replay.specs.Text.{outside_text}
 use Rattle.configurations.specs.Configurations.{Subscribing, subscribing_of}
 use Rattle.subscriber.specs.Said.{saying}

@@ -8,16 +8,16 @@ use Rattle.std.specs.declared.string.String.{String}
 use Rattle.std.specs.Str.{bytes_eq}
 use Rattle.push_base.specs.Optional.{◌>>=◌}
 use Rattle.scripts.specs.Lines.{number32}
-use Rattle.replay.specs.Reply.{line}
-use Rattle.dnspush.specs.declared.tasks.Task.{Task}
-use Rattle.dnspush.specs.declared.tasks.Task.TheVariants.{Replay, Check}
-use Rattle.dnspush.specs.declared.words.TheConstants as words
+use Rattle.scripts.specs.Words.{line}
+use Rattle.dnspush.specs.declared.script_command.ScriptCommand.{ScriptCommand}
+use Rattle.dnspush.specs.declared.script_command.ScriptCommand.TheVariants.{Replay, Check}
+use Rattle.dnspush.specs.declared.command_line.TheConstants as words
 
 -- the commands: a task on the script that the input gives, and on the one at a path; the scripts of a number; a server and a subscriber by the
 -- configuration at a path
 pub data Request : Type 0 where
-  On_input : (task : Task) → Request
-  At_path : (task : Task) → (path : List ℕ) → Request
+  On_input : (task : ScriptCommand) → Request
+  At_path : (task : ScriptCommand) → (path : List ℕ) → Request
   Big : (number : ℕ) → Request
   Serve : (path : List ℕ) → Request
   Subscribe : (path : List ℕ) → Request
@@ -28,7 +28,7 @@ is_path [] = false
 is_path (octet ∷ octets) = not (octet == 45)
 
 -- the task on the script of the input, or on the one at a path
-abbrev pub on_script : Task → List ℕ → Option Request
+abbrev pub on_script : ScriptCommand → List ℕ → Option Request
 on_script task place = if bytes_eq place (codes "-") then Some (On_input task) else if is_path place then Some (At_path task place) else None
 
 -- the greatest number from which scripts are made

@@ -10,8 +10,7 @@ ghost use Rattle.dnspush.specs.Observed.{TellsNumber};
 
 use push_base::{NoMemory, Sink};
 use push_outside::{OpenFault, Outside};
-use replay::{NO_MEMORY, Outcome, tell};
-use scripts::{ReadError, read_script};
+use scripts::{NO_MEMORY, Outcome, ReadError, read_script, tell};
 use std::alloc::Global;
 
 /// The octets at a path, whose source is handed back.

@@ -1,17 +1,17 @@
 //! Serves DNS Push, follows a server as a subscriber, and replays scripts of DNS Push sessions and checks them.
 #![tactic(auto)]
 
+mod command_line;
 mod configured;
-mod listening;
 mod program;
+mod script_command;
+mod serve_command;
 #[cfg(test)]
 mod serve_tests;
 mod status;
-mod subscribing;
-mod tasks;
+mod subscribe_command;
 #[cfg(test)]
 mod tests;
-mod words;
 
 use push_outside::{Origin, Reading, System, Writing};
 use std::env;

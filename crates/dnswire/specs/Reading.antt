@@ -14,7 +14,7 @@ use Rattle.rrset.specs.declared.record.Rr.{Rr}
 use Rattle.rrset.specs.declared.record.Question.{Question}
 use Rattle.rrset.specs.declared.record.HeardRr.{HeardRr}
 use Rattle.rrset.specs.declared.record.Hearing.{Hearing}
-use Rattle.dnswire.specs.declared.hearing.TheConstants as hearing
+use Rattle.dnswire.specs.declared.mdns.TheConstants as hearing
 use Rattle.dnswire.specs.declared.section.Sections.{Sections}
 use Rattle.dnswire.specs.declared.message.Update.{Update}
 use Rattle.dnswire.specs.declared.message.WireFault.{WireFault}

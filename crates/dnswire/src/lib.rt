@@ -3,8 +3,8 @@
 
 mod field;
 mod header;
-mod hearing;
 pub mod laws;
+mod mdns;
 pub mod message;
 mod record;
 mod section;
@@ -18,7 +18,7 @@ ghost use Rattle.dnswire.specs.Reading.{update_of, hearing_of};
 ghost use Rattle.rrset.specs.Header.{answer_octets};
 
 pub use header::write_answer;
-pub use hearing::read_hearing;
+pub use mdns::read_hearing;
 pub use message::{HearFault, Update, WireFault};
 pub use update::read_update;
 

@@ -6,6 +6,7 @@ ghost use Rattle.dnswire.specs.declared.message.WireFault.TheVariants as faults;
 use dnsname::name::NameFault;
 use rrset::record::{Questions, Rrs};
 use std::alloc::{AllocError, AllocFailed};
+use thiserror::Error;
 
 /// An update (RFC 2136, 2).
 #[derive(Debug, Drop)]
@@ -21,17 +22,22 @@ pub struct Update {
 }
 
 /// Why octets are no message, with the place.
-#[derive(Clone, Copy, Debug, PartialEq, Eq)]
+#[derive(Clone, Copy, Debug, PartialEq, Eq, Error)]
 pub enum WireFault {
     /// The message ends too early.
+    #[error("the message ends at octet {0}")]
     Short(usize),
     /// Octets follow the message.
+    #[error("octets behind the message at octet {0}")]
     Trailing(usize),
     /// A name is outside the grammar.
+    #[error("{0}")]
     Name(NameFault),
     /// Rdata doesn't have the shape of its kind.
+    #[error("malformed RDATA at octet {0}")]
     Rdata(usize),
     /// Memory ran out.
+    #[error("out of memory")]
     NoMemory,
 }
 
@@ -52,18 +58,24 @@ impl<T: Drop> From<AllocFailed<T>> for WireFault {
 }
 
 /// Why a datagram is no hearing.
-#[derive(Clone, Copy, Debug, PartialEq, Eq)]
+#[derive(Clone, Copy, Debug, PartialEq, Eq, Error)]
 pub enum HearFault {
     /// More than 9,000 octets (RFC 6762, 17).
+    #[error("a datagram of more than 9,000 octets")]
     Long,
     /// Fewer octets than a header has.
+    #[error("a datagram shorter than a header")]
     Short,
     /// It is no response (RFC 6762, 18.2).
+    #[error("no response")]
     Query,
     /// Its OPCODE or its RCODE is not 0 (RFC 6762, 18.3 and 18.11).
+    #[error("an OPCODE or an RCODE other than 0")]
     Coded,
     /// An entry that its counts tell is outside the grammar.
+    #[error("{0}")]
     Wire(WireFault),
     /// Memory ran out.
+    #[error("out of memory")]
     NoMemory,
 }

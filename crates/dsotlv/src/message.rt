@@ -10,6 +10,7 @@ use dnsname::name::{Name, Octets};
 use rrset::record::Rr;
 use std::alloc::{AllocError, Global};
 use std::marker::Model;
+use thiserror::Error;
 
 /// A TLV (RFC 8490, 5.4.4).
 #[derive(Debug, Drop)]
@@ -178,17 +179,22 @@ impl Notices {
 }
 
 /// Why octets are no DSO message (RFC 8490, 5.4).
-#[derive(Clone, Copy, Debug, PartialEq, Eq)]
+#[derive(Clone, Copy, Debug, PartialEq, Eq, Error)]
 pub enum DsoFault {
     /// Fewer octets than a header has.
+    #[error("a message shorter than a header")]
     Short,
     /// Another OPCODE than that of DSO.
+    #[error("an OPCODE other than DSO")]
     Opcode,
     /// A count that is not 0.
+    #[error("a count that is not 0")]
     Counts,
     /// The TLV that begins there is cut off.
+    #[error("the TLV at octet {0} is cut off")]
     Tlv(usize),
     /// Memory ran out.
+    #[error("out of memory")]
     NoMemory,
 }
 
@@ -201,11 +207,13 @@ impl From<AllocError> for DsoFault {
 }
 
 /// Why octets are no data of a PUSH, with the place.
-#[derive(Clone, Copy, Debug, PartialEq, Eq)]
+#[derive(Clone, Copy, Debug, PartialEq, Eq, Error)]
 pub enum PushFault {
     /// What stands there is no record of a PUSH.
+    #[error("no record of a PUSH at octet {0}")]
     Data(usize),
     /// Memory ran out.
+    #[error("out of memory")]
     NoMemory,
 }
 
@@ -218,11 +226,13 @@ impl From<AllocError> for PushFault {
 }
 
 /// Why a DSO message could not be written.
-#[derive(Clone, Copy, Debug, PartialEq, Eq)]
+#[derive(Clone, Copy, Debug, PartialEq, Eq, Error)]
 pub enum WriteDsoFault {
     /// It takes more than 65,535 octets, which no frame holds.
+    #[error("a message of more than 65,535 octets")]
     Long,
     /// Memory ran out.
+    #[error("out of memory")]
     NoMemory,
 }
 

@@ -14,8 +14,8 @@ use Rattle.dsosession.specs.Timing.{Clocks, restarted}
 use Rattle.dsosession.specs.declared.session.Timers.{Timers}
 use Rattle.history.specs.States.{State}
 use Rattle.history.specs.declared.entry.Entry.{Entry}
-use Rattle.pushsession.specs.declared.standing.Standing.{Standing}
-use Rattle.pushsession.specs.declared.standing.Standing.TheVariants.{Live, AskedToStop, Stopped, Ended}
+use Rattle.pushsession.specs.declared.session_status.SessionStatus.{SessionStatus}
+use Rattle.pushsession.specs.declared.session_status.SessionStatus.TheVariants.{Live, AskedToStop, Stopped, Ended}
 use Rattle.pushsession.specs.Sessions.{is_open, without_first}
 use Rattle.pushserver.specs.Giving.{give}
 use Rattle.pushserver.specs.Hubs.{now, session_of}
@@ -116,14 +116,14 @@ module _ (quiet : QuietGivesLeaveIt) (reactions : ReactionsLeaveIt) (can_tell : 
     waits : (is_empty session.output ≡ false) ⊎ ReactsToNone session.standing session → Behind
     waits w = quiet hub number room told session client c up_wire down_wire there w stop (can_tell.packed hub number session sound there) i
 
-    none : (standing : Standing) → session.standing ≡ standing → ReactsToNone standing session → Behind
-    none standing is h = waits (inr (subst (λ (s : Standing). ReactsToNone s session) (sym is) h))
+    none : (standing : SessionStatus) → session.standing ≡ standing → ReactsToNone standing session → Behind
+    none standing is h = waits (inr (subst (λ (s : SessionStatus). ReactsToNone s session) (sym is) h))
 
     by_first : (o : Option (List ℕ × List ℕ)) → first_message session.input ≡ o → session.standing ≡ Live → session.output ≡ [] → Behind
     by_first None first live silent = none Live live first
     by_first (Some found) first live silent = reacting-leaves hub number room told session client c up_wire down_wire found sound there live silent first i
 
-    by_standing : (standing : Standing) → session.standing ≡ standing → session.output ≡ [] → Behind
+    by_standing : (standing : SessionStatus) → session.standing ≡ standing → session.output ≡ [] → Behind
     by_standing Live is silent = by_first (first_message session.input) refl is silent
     by_standing (AskedToStop rcode delay) is silent = none (AskedToStop rcode delay) is tt
     by_standing (Stopped since) is silent = none (Stopped since) is tt

@@ -1,7 +1,7 @@
 -- An entry is made; the session is asked to stop, or ends.
 use Rattle.std.proofs.Common.{◌≡◌, ℕ, Bool, true, false, cond, List, sym, subst, refl, true≢false}
 use Rattle.dsosession.specs.declared.session.EndReason.{EndReason}
-use Rattle.pushsession.specs.declared.standing.Standing.TheVariants.{AskedToStop}
+use Rattle.pushsession.specs.declared.session_status.SessionStatus.TheVariants.{AskedToStop}
 use Rattle.pushsession.specs.Sessions.{is_open, ended_with}
 use Rattle.pushserver.specs.Hubs.{keeps_now}
 use Rattle.pushserver.specs.PlainHubs.{Session, Hub}

@@ -32,9 +32,9 @@ use Rattle.pushserver.proofs.Walks.{AnyMessage, bring_any, Step, restarts, react
 use Rattle.pushserver.proofs.hub_steps.Cases.{itself_as}
 use Rattle.pushserver.proofs.hub_steps.Pairs.{all-weaken}
 use Rattle.pushsession.specs.Reactions.{reacts_itself, by_itself}
-use Rattle.pushsession.specs.Sessions.{new_session, takes, is_open, asked_to_stop, ended_with, due, ended_where, timed, says, answers, says_stop, without_first}
+use Rattle.pushsession.specs.Sessions.{new_session, with_piece, is_open, asked_to_stop, ended_with, due, ended_where, timed, with_frame, answers, says_stop, without_first}
 use Rattle.pushsession.specs.Subscribing.{Verdict, says_notices, subscribed, says_first_answer, first_answer_size, decided, answered}
-use Rattle.pushsession.specs.declared.standing.Standing.TheVariants.{AskedToStop}
+use Rattle.pushsession.specs.declared.session_status.SessionStatus.TheVariants.{AskedToStop}
 use Rattle.pushtelling.proofs.Tells.{by_entry}
 use Rattle.rrset.proofs.Places.{all_filter}
 use Rattle.rrset.specs.Header.{id_of}
@@ -82,13 +82,13 @@ ends-more made more old subscriptions h active while = record {
 }
 
 module _ (point t : ℕ) where
-  ends-says : (keepalive : Bool) (message : List ℕ) (queue : Queue) (session : Session) → Ends session → Ends (says (plain_keeps point) keepalive t message queue session)
-  ends-says keepalive message queue session h =
+  ends-with_frame : (keepalive : Bool) (message : List ℕ) (queue : Queue) (session : Session) → Ends session → Ends (with_frame (plain_keeps point) keepalive t message queue session)
+  ends-with_frame keepalive message queue session h =
       let more : List Made = (record { message = message; note = record { queue = queue; newest = point }; subscribed = session.subscriptions }) ∷ [] in
       ends-more session.made more session.subscriptions session.subscriptions h (longer-each session.made more session.subscriptions h.active) (refl, tt)
 
   ends-answers : (keepalive : Bool) (message : List ℕ) (session : Session) → Ends session → Ends (answers (plain_keeps point) keepalive t message session)
-  ends-answers keepalive message session h = ends-says keepalive message session.queue session h
+  ends-answers keepalive message session h = ends-with_frame keepalive message session.queue session h
 
   ends-notices : (notices : List Notice) (session : Session) → Ends session → Ends (says_notices (plain_keeps point) t notices session)
   ends-notices [] session h = h
@@ -210,7 +210,7 @@ ends_kept = record {
   changes = λ hub number f step h. in-ends hub number f (λ s e. ends-step hub step s e) h;
   enters = λ hub entry by h. each-changed Ends Ends (λ n. by_entry hub.start hub.history entry) (λ n s e. e) hub.sessions h;
   times = λ hub point t h. each-changed Ends Ends (λ n. timed (plain_keeps point) t) (λ n. ends-timed point t) hub.sessions h;
-  takes_in = λ hub number piece any h. in-ends hub number (takes piece) (λ s e. e) h;
+  takes_in = λ hub number piece any h. in-ends hub number (with_piece piece) (λ s e. e) h;
   asks_stop = λ hub number rcode delay h. in-ends hub number (asked_to_stop rcode delay) (ends-asked rcode delay) h;
   makes = λ hub h. each-append (λ (e : ℕ × Session). Ends e.1) hub.sessions ((hub.numbers_given, new_session (keeps_now hub) (now hub)) ∷ []) h (record { active = tt; before = tt }, tt);
   drops = λ hub number h. all_filter (λ (e : ℕ × Session). Ends e.1) (λ (e : ℕ × Session). not (e.0 == number)) hub.sessions h;

@@ -14,8 +14,8 @@ use Rattle.rrset.specs.declared.record.Key.{Key}
 use Rattle.history.specs.States.{State, state_at, accepts, reconfirm_key, entry_size, journal_has_room}
 use Rattle.history.specs.declared.entry.Entry.{Entry}
 use Rattle.history.specs.declared.entry.Entry.TheVariants as entries
-use Rattle.pushsession.specs.declared.standing.Standing.{Standing}
-use Rattle.pushsession.specs.declared.standing.Standing.TheVariants.{Live}
+use Rattle.pushsession.specs.declared.session_status.SessionStatus.{SessionStatus}
+use Rattle.pushsession.specs.declared.session_status.SessionStatus.TheVariants.{Live}
 use Rattle.pushsession.specs.Sessions.{without_first, copied, noted, answers}
 use Rattle.pushsession.specs.Subscribing.{subscribed, says_first_answer}
 use Rattle.pushserver.specs.declared.given.Given.TheVariants.{Bytes, Worked}
@@ -239,11 +239,11 @@ gives-so hub number room session m rest met =
     let is = after-is hub m s in
     let reaches : give hub number room ≡ after_reaction number room (reacted (message_octets m) number taken_out) =
     ap (give_as hub number room) met.there ∙ ap (λ (l : List ℕ). output_as hub number room session (is_empty l)) met.silent
-    ∙ ap (λ (standing : Standing). by_standing standing number room session hub) met.live ∙ ap (works_as hub number room) met.first in
+    ∙ ap (λ (standing : SessionStatus). by_standing standing number room session hub) met.live ∙ ap (works_as hub number room) met.first in
     let asked : Hub = asks_hub m number r.between in
     let has = asked-so hub r.between number later (since-taken hub r.between number rest later r.reacts) m in
     let live : later.standing ≡ Live = is.standing ∙ met.live in
     let whole : give hub number room ≡ copies_or Worked number room later asked =
-    reaches ∙ ap (after_reaction number room) r.asks ∙ ap (found_as asked number room Worked given_after) has.session ∙ ap (λ (standing : Standing). copies_or (given_after standing) number room later asked) live in
+    reaches ∙ ap (after_reaction number room) r.asks ∙ ap (found_as asked number room Worked given_after) has.session ∙ ap (λ (standing : SessionStatus). copies_or (given_after standing) number room later asked) live in
     let h = subst (λ (g : Giving). HandsOut hub asked (asks_hub m number hub).history number room later has g) (sym whole) (hands-out hub asked (asks_hub m number hub).history number room later has) in
     record { octets = h.octets; given = h.given; leaves = h.hub_after }

@@ -6,10 +6,10 @@ use Rattle.push_base.specs.Cases.{is_empty}
 use Rattle.dsotlv.specs.Messages.{first_message}
 use Rattle.dsotlv.specs.declared.message.Notice.{Notice}
 use Rattle.dsosession.specs.declared.session.CloseReason.{CloseReason}
-use Rattle.pushsession.specs.declared.standing.Standing.{Standing}
-use Rattle.pushsession.specs.declared.standing.Standing.TheVariants.{Live}
+use Rattle.pushsession.specs.declared.session_status.SessionStatus.{SessionStatus}
+use Rattle.pushsession.specs.declared.session_status.SessionStatus.TheVariants.{Live}
 use Rattle.pushsession.specs.Sessions.{is_open, copied, without_first}
-use Rattle.pushsession.specs.Subscribing.{packs, says_notices}
+use Rattle.pushsession.specs.Subscribing.{with_next_push, says_notices}
 use Rattle.pushserver.specs.declared.given.Given.TheVariants.{Nothing}
 use Rattle.pushserver.specs.Giving.{did, copies, copies_or, by_standing, give}
 use Rattle.pushserver.specs.Hubs.{now, keeps_now, tells_now, session_of, in_session}
@@ -55,7 +55,7 @@ module _ (number room : ℕ) where
   module _ (hub : Hub) (told : List (ℕ × ℕ)) (session : Session) (client : Client) (c : Connection) (up_wire down_wire : List ℕ)
       (there : session_of hub number ≡ Some session) (live : session.standing ≡ Live) (i : IsUnderWay hub told session client c up_wire down_wire) where
     -- a PUSH leaves it live
-    packs-live : (packs (keeps_now hub) (tells_now hub) (now hub) session).standing ≡ Live
+    packs-live : (with_next_push (keeps_now hub) (tells_now hub) (now hub) session).standing ≡ Live
     packs-live = by ((tells_now hub).packed session.subscriptions session.queue).0
       where
         by : (notices : List Notice) → (says_notices (keeps_now hub) (now hub) notices (record session { queue = ((tells_now hub).packed session.subscriptions session.queue).1 })).standing ≡ Live
@@ -64,7 +64,7 @@ module _ (number room : ℕ) where
 
     by_first : (o : Option (List ℕ × List ℕ)) → first_message session.input ≡ o → session.output ≡ [] → On (works_as hub number room o)
     by_first None none silent =
-        let pack : Session → Session = packs (keeps_now hub) (tells_now hub) (now hub) in
+        let pack : Session → Session = with_next_push (keeps_now hub) (tells_now hub) (now hub) in
         let packed : Hub = in_session number pack hub in
         let there_later : session_of packed number ≡ Some (pack session) = found-in number pack hub.sessions ∙ ap (option_map pack) there in
         subst (λ (o : Option Session). On (found_as packed number room Nothing (λ _. Nothing) o)) (sym there_later) (nothing-or packed (pack session) there_later packs-live)
@@ -75,7 +75,7 @@ module _ (number room : ℕ) where
         let gave = gives-so hub number room session m found.1 one.met in
         let reaches : give hub number room ≡ works_as hub number room (Some found) =
         ap (give_as hub number room) there ∙ ap (λ (l : List ℕ). output_as hub number room session (is_empty l)) silent
-        ∙ ap (λ (standing : Standing). by_standing standing number room session hub) live ∙ ap (works_as hub number room) first in
+        ∙ ap (λ (standing : SessionStatus). by_standing standing number room session hub) live ∙ ap (works_as hub number room) first in
         subst On reaches (record {
           later = _;
           there = gave.leaves.session;
@@ -85,7 +85,7 @@ module _ (number room : ℕ) where
 
     by_output : (output : List ℕ) → session.output ≡ output → On (output_as hub number room session (is_empty output))
     by_output (o ∷ os) some = copies-on hub session there live
-    by_output [] silent = subst (λ (standing : Standing). On (by_standing standing number room session hub)) (sym live)
+    by_output [] silent = subst (λ (standing : SessionStatus). On (by_standing standing number room session hub)) (sym live)
         (by_first (first_message session.input) refl silent)
 
     goes-on : On (give hub number room)

@@ -3,7 +3,7 @@
 use Rattle.std.proofs.Common.{◌≡◌, ℕ, ◌≤◌, List, ◌++◌, length, take, drop, min, Option, Some, None, sym, ap, ◌∙◌, refl, arith, length-take, take-take}
 use Rattle.std.specs.Prelude.{option_map}
 use Rattle.std.proofs.lemmas.List.{take_min}
-use Rattle.pushsession.specs.Sessions.{room_of as session_room, takes}
+use Rattle.pushsession.specs.Sessions.{room_of as session_room, with_piece}
 use Rattle.pushserver.specs.Hubs.{session_of, taken_by, take_octets}
 use Rattle.pushserver.specs.PlainHubs.{Session}
 use Rattle.pushserver.proofs.SessionLists.{found-in}
@@ -51,7 +51,7 @@ sessions-take hub number n told session client c up_wire down_wire there before 
           whole_up = λ going. sym (middle_moves session.input up_wire c.output k) ∙ before.whole_up going;
           fit = before.fit;
         } in (
-          found-in number (takes piece) hub.sessions ∙ ap (option_map (takes piece)) there ∙ ap (λ os. Some (record session { input = session.input ++ os })) front,
+          found-in number (with_piece piece) hub.sessions ∙ ap (option_map (with_piece piece)) there ∙ ap (λ os. Some (record session { input = session.input ++ os })) front,
           after,
           record { taken = refl; flying = refl; ups = refl },
         )

@@ -1,32 +1,24 @@
 -- The other calls of the hub leave what is under way between a session and its client.
 --     other-calls-leave      each of them
-use Rattle.std.proofs.Common.{◌≡◌, ℕ, ◌+◌, Bool, true, false, not, ◌&&◌, cond, List, [], ◌∷◌, ◌++◌, Option, Some, None, Result, Ok, Err, ◌⊎◌, inl, inr, sym, ap, ◌∙◌, subst, refl, true≢false}
+use Rattle.std.proofs.Common.{◌≡◌, ℕ, ◌+◌, Bool, true, false, ◌&&◌, cond, List, [], ◌∷◌, ◌++◌, Option, Some, None, ◌⊎◌, inl, inr, sym, ap, ◌∙◌, subst, refl, true≢false}
 use Rattle.std.specs.Prelude.{option_map, nat_lt, length, ◌==◌, if◌then◌else◌}
 use Rattle.std.specs.Option.{option_or}
 use Rattle.std.proofs.lemmas.Bool.{eqb-true, eq-eqb}
 use Rattle.push_base.specs.Limits.{max_number}
-use Rattle.rrset.specs.Rcodes.{noerror, servfail}
 use Rattle.rrset.specs.RecordSet.{changes}
-use Rattle.rrset.specs.declared.record.Hearing.{Hearing}
-use Rattle.dnswire.specs.Reading.{hearing_of}
-use Rattle.dnswire.specs.declared.message.HearFault.{HearFault}
-use Rattle.dnswire.specs.declared.message.Update.{Update}
 use Rattle.dsosession.specs.declared.session.EndReason.{EndReason}
 use Rattle.dsosession.specs.declared.session.Timers.{Timers}
-use Rattle.history.specs.States.{State, verdict, accepts}
+use Rattle.history.specs.States.{State}
 use Rattle.history.specs.declared.entry.Entry.{Entry}
-use Rattle.history.specs.declared.entry.Entry.TheVariants as entries
-use Rattle.pushsession.specs.declared.standing.Standing.TheVariants.{AskedToStop}
-use Rattle.pushsession.specs.Sessions.{is_open, new_session, takes as takes_piece, asked_to_stop, due, ended_where, timed, noted}
-use Rattle.pushserver.specs.declared.given.Heard.{Heard}
-use Rattle.pushserver.specs.declared.given.Heard.TheVariants.{Entered, Ignored}
-use Rattle.pushserver.specs.declared.given.Why.TheVariants as whys
+use Rattle.pushsession.specs.declared.session_status.SessionStatus.TheVariants.{AskedToStop}
+use Rattle.pushsession.specs.Sessions.{is_open, new_session, with_piece, asked_to_stop, due, ended_where, timed, noted}
 use Rattle.pushserver.specs.Calls.{HubCall, updates, hears, moves, connects, takes, gives, stops, ends, called}
 use Rattle.pushserver.specs.Giving.{give, is_served_at}
-use Rattle.pushserver.specs.Hubs.{newest, now, state_now, records_now, keeps_now, session_of, each_session, in_session, entered, can_enter, moment, connect, disconnect, why_not, max_sessions}
+use Rattle.pushserver.specs.Hubs.{newest, now, records_now, keeps_now, session_of, each_session, in_session, entered, connect, disconnect, max_sessions}
 use Rattle.pushserver.specs.Laws.{LeavesSession}
 use Rattle.pushserver.specs.PlainHubs.{Session, Hub}
 use Rattle.pushserver.proofs.OtherSessions.{give_changes_one_session}
+use Rattle.pushserver.proofs.Walks.{AnyMessage, holds-update, holds-hear, holds-moment}
 use Rattle.pushserver.proofs.SessionLists.{found-all, found-elsewhere, found-in, found-last, found-left}
 use Rattle.pushclient.specs.Clients.{Client, Connection}
 use Rattle.inflight.specs.Ends.{ends_of, going_up, going_down}
@@ -58,35 +50,6 @@ module _ (number : ℕ) (told : List (ℕ × ℕ)) (client : Client) (c : Connec
           found-all note number hub.sessions ∙ ap (option_map note) there,
           entries-leave hub entry (changes (records_now hub) (records_now later)) (records_now hub) (newest hub) told session client c up_wire down_wire i,
         )
-
-    -- an update is judged
-    abbrev judged : Result Update ℕ → ℕ × Hub
-    judged (Err code) = (code, hub)
-    judged (Ok u) = if can_enter hub (entries.Update u) then (noerror, entered (entries.Update u) hub) else (servfail, hub)
-
-    behind-update : (r : Result Update ℕ) → Stays hub → Stays (judged r).1
-    behind-update (Err code) s = s
-    behind-update (Ok u) s = by (can_enter hub (entries.Update u))
-      where
-        by : (b : Bool) → let r : ℕ × Hub = if b then (noerror, entered (entries.Update u) hub) else (servfail, hub) in Stays r.1
-        by true = behind-entry (entries.Update u) s
-        by false = s
-
-    -- a datagram is heard
-    abbrev told_of : ℕ → Result Hearing HearFault → Option Heard × Hub
-    told_of link (Err fault) = (Some (Ignored (why_not fault)), hub)
-    told_of link (Ok hearing) = (let entry = entries.Heard link hearing in
-        if not (accepts (state_now hub) entry) then (Some (Ignored whys.Nothing), hub)
-        else if can_enter hub entry then (Some Entered, entered entry hub) else (None, hub))
-
-    behind-datagram : (link : ℕ) (r : Result Hearing HearFault) → Stays hub → Stays (told_of link r).1
-    behind-datagram link (Err fault) s = s
-    behind-datagram link (Ok hearing) s = by (accepts (state_now hub) (entries.Heard link hearing)) (can_enter hub (entries.Heard link hearing))
-      where
-        by : (a b : Bool) → let r : Option Heard × Hub = if not a then (Some (Ignored whys.Nothing), hub) else if b then (Some Entered, entered (entries.Heard link hearing) hub) else (None, hub) in Stays r.1
-        by false b = s
-        by true true = behind-entry (entries.Heard link hearing) s
-        by true false = s
 
     -- sessions end by their timers
     behind-timers : (t : ℕ) → Stays hub → Stays (each_session (timed (keeps_now hub) t) hub)
@@ -147,21 +110,12 @@ module _ (number : ℕ) (told : List (ℕ × ℕ)) (client : Client) (c : Connec
         by (inl same) = left-alone hub (give hub other room).hub same s
         by (inr (entry, same)) = left-alone (entered entry hub) (give hub other room).hub same (behind-entry entry s)
 
-  -- a moment comes: the entry is made first
-  behind-moment : (hub : Hub) (t : ℕ) → Stays hub → Stays (moment hub t).1
-  behind-moment hub t s = by (nat_lt (now hub) t) (can_enter hub (entries.Moment t))
-    where
-      by : (a b : Bool) → let r : Bool × Hub = if not a then (false, hub) else if b then (false, each_session (timed (keeps_now hub) t) (entered (entries.Moment t) hub)) else (true, hub) in Stays r.1
-      by false b = s
-      by true true = behind-timers (entered (entries.Moment t) hub) t (behind-entry hub (entries.Moment t) s)
-      by true false = s
-
   by-call : (hub : Hub) (call : HubCall) → IsOfOthers number call → Stays hub → Stays (called call hub)
-  by-call hub (updates message) apart s = behind-update hub (verdict (state_now hub) message) s
-  by-call hub (hears link datagram) apart s = behind-datagram hub link (hearing_of datagram) s
-  by-call hub (moves t) apart s = behind-moment hub t s
+  by-call hub (updates message) apart s = holds-update AnyMessage Stays hub (λ entry by. behind-entry hub entry s) s message tt
+  by-call hub (hears link datagram) apart s = holds-hear AnyMessage Stays hub (λ entry by. behind-entry hub entry s) s link datagram tt
+  by-call hub (moves t) apart s = holds-moment AnyMessage Stays hub (λ entry by. behind-entry hub entry s) s (λ later point at stays. behind-timers later at stays) t
   by-call hub connects apart s = behind-connection hub s
-  by-call hub (takes other piece) apart s = elsewhere hub other (takes_piece piece) apart s
+  by-call hub (takes other piece) apart s = elsewhere hub other (with_piece piece) apart s
   by-call hub (gives other room) apart s = behind-give hub other room apart s
   by-call hub (stops other rcode delay) apart s = behind-stop hub other rcode delay s
   by-call hub (ends other) apart s = behind-end hub other apart s

@@ -13,10 +13,10 @@ use Rattle.coalesce.specs.Net.{net, packed_behind}
 use Rattle.dsosession.specs.declared.session.EndReason.TheVariants as ends
 use Rattle.history.specs.States.{State, records_at}
 use Rattle.history.specs.declared.entry.Entry.{Entry}
-use Rattle.pushsession.specs.declared.standing.Standing.{Standing}
-use Rattle.pushsession.specs.declared.standing.Standing.TheVariants.{Live, AskedToStop, Stopped, Ended}
+use Rattle.pushsession.specs.declared.session_status.SessionStatus.{SessionStatus}
+use Rattle.pushsession.specs.declared.session_status.SessionStatus.TheVariants.{Live, AskedToStop, Stopped, Ended}
 use Rattle.pushsession.specs.Sessions.{is_open, copied, stopped, says_stop, ended_with}
-use Rattle.pushsession.specs.Subscribing.{packs, says_notices}
+use Rattle.pushsession.specs.Subscribing.{with_next_push, says_notices}
 use Rattle.pushserver.specs.declared.given.Given.{Given}
 use Rattle.pushserver.specs.declared.given.Given.TheVariants.{Nothing, Worked, Ending, End}
 use Rattle.pushserver.specs.Hubs.{newest, now, keeps_now, tells_now, session_of, in_session}
@@ -111,7 +111,7 @@ module _ (hub : Hub) (told : List (ℕ × ℕ)) (session : Session) (client : Cl
         said-under-way f later refl refl refl (said-comes-down ends_now (ends_of hub told later client c) i.taken i.flying (f ∷ []) i.ups (going_up session c up_wire) (going_down session c down_wire)
         i.made i.whole_down refl refl i.whole_up fits)
 
-    packed-leaves : CanBeTold hub.timers (notices_packed hub session) → IsUnderWay hub told (packs (keeps_now hub) (tells_now hub) (now hub) session) client c up_wire down_wire
+    packed-leaves : CanBeTold hub.timers (notices_packed hub session) → IsUnderWay hub told (with_next_push (keeps_now hub) (tells_now hub) (now hub) session) client c up_wire down_wire
     packed-leaves read = by-notices (notices_packed hub session) refl read
 
   -- ---- a stop
@@ -186,16 +186,16 @@ module _ (number room : ℕ) (told : List (ℕ × ℕ)) (client : Client) (c : C
     -- by the first message
     abbrev by_message : Option (List ℕ × List ℕ) → Giving
     by_message (Some found) = after_reaction number room (reacted found.0 number (in_session number (λ s. record s { input = found.1 }) hub))
-    by_message None = after_packing number room (in_session number (packs (keeps_now hub) (tells_now hub) (now hub)) hub)
+    by_message None = after_packing number room (in_session number (with_next_push (keeps_now hub) (tells_now hub) (now hub)) hub)
 
     live : IsTrue (is_open session.standing) → first_message session.input ≡ None → Behind (works number room session hub)
     live going none =
-        let later : Session = packs (keeps_now hub) (tells_now hub) (now hub) session in
-        let there_later = found-in number (packs (keeps_now hub) (tells_now hub) (now hub)) hub.sessions ∙ ap (option_map (packs (keeps_now hub) (tells_now hub) (now hub))) there in
+        let later : Session = with_next_push (keeps_now hub) (tells_now hub) (now hub) session in
+        let there_later = found-in number (with_next_push (keeps_now hub) (tells_now hub) (now hub)) hub.sessions ∙ ap (option_map (with_next_push (keeps_now hub) (tells_now hub) (now hub))) there in
         subst (λ o. Behind (by_message o)) (sym none)
-        (behind-packing (in_session number (packs (keeps_now hub) (tells_now hub) (now hub)) hub) later there_later (packs-leave hub told session client c up_wire down_wire going read i))
+        (behind-packing (in_session number (with_next_push (keeps_now hub) (tells_now hub) (now hub)) hub) later there_later (packs-leave hub told session client c up_wire down_wire going read i))
 
-    by-standing : (standing : Standing) → session.standing ≡ standing → ReactsToNone standing session → StopFits standing → Behind (by_standing standing number room session hub)
+    by-standing : (standing : SessionStatus) → session.standing ≡ standing → ReactsToNone standing session → StopFits standing → Behind (by_standing standing number room session hub)
     by-standing Live is none fits = live (ap is_open is) none
     by-standing (AskedToStop rcode delay) is none fits =
         let stop : Session → Session = stopped (keeps_now hub) rcode delay (now hub) in

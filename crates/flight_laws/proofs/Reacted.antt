@@ -11,7 +11,7 @@ use Rattle.dsotlv.specs.Messages.{frame}
 use Rattle.dsotlv.specs.declared.message.Notice.{Notice}
 use Rattle.dsosession.specs.Timing.{Clocks}
 use Rattle.pushsession.specs.Sessions.{is_open, answers}
-use Rattle.pushsession.specs.Subscribing.{accepts, subscribed, says_first_answer, first_answer_size}
+use Rattle.pushsession.specs.Subscribing.{with_accepted, subscribed, says_first_answer, first_answer_size}
 use Rattle.pushserver.specs.Hubs.{newest, now, state_now, keeps_now, tells_now}
 use Rattle.pushserver.specs.Giving.{is_served_at}
 use Rattle.pushserver.specs.PlainHubs.{Session, Subscription, Note, Hub, first_answer, leaves_queue, note_of, written}
@@ -129,7 +129,7 @@ module _ (hub : Hub) (told : List (ℕ × ℕ)) (session : Session) (client : Cl
 
     -- by whether the question is served
     abbrev decided : ℕ → Question → Bool → Session
-    decided id question b = if b then accepts (keeps_now hub) (tells_now hub) (now hub) id question before else answers (keeps_now hub) false (now hub) (refusal_to id notauth) before
+    decided id question b = if b then with_accepted (keeps_now hub) (tells_now hub) (now hub) id question before else answers (keeps_now hub) false (now hub) (refusal_to id notauth) before
 
     by-kind : (m : ClientMessage) → Needs hub m before → FitsTogether ends_now i.taken i.flying (m ∷ others) → IsUnderWay hub (remembers (reaction hub m before).subscriptions told) (reaction hub m before) client c up_wire down_wire
     by-kind (requests_keepalive id) needs fit = told-too (reaction hub (requests_keepalive id) before) (keepalive id fit)

@@ -24,7 +24,7 @@ use Rattle.dsosession.specs.declared.session.EndReason.TheVariants as ends
 use Rattle.dsosession.specs.declared.session.Reaction.{Reaction}
 use Rattle.dsosession.specs.declared.session.Reaction.TheVariants as reactions
 use Rattle.pushsession.specs.Sessions.{answers}
-use Rattle.pushsession.specs.Subscribing.{Verdict, Refuse, Abort, Accept, verdict_on, is_served, may_be_served, decided, answered, accepts}
+use Rattle.pushsession.specs.Subscribing.{Verdict, Refuse, Abort, Accept, verdict_on, is_served, may_be_served, decided, answered, with_accepted}
 use Rattle.pushsession.specs.Reactions.{restarted_by, request_in, request_for, reacts_itself, by_itself, granted, unsubscribed}
 use Rattle.pushsession.specs.declared.request.Request.{Request}
 use Rattle.pushsession.specs.declared.request.Request.TheVariants as requests
@@ -230,7 +230,7 @@ module _ (hub : Hub) (number : ℕ) (m : ClientMessage) (session : Session) (the
 -- a verdict that is no end
 decides : (hub : Hub) (id : ℕ) (question : Question) (s : Session) (served : Bool)
     → decided (keeps_now hub) (tells_now hub) (now hub) id (served_or_not question served) s
-    ≡ (if served then accepts (keeps_now hub) (tells_now hub) (now hub) id question s else answers (keeps_now hub) false (now hub) (refusal_to id notauth) s)
+    ≡ (if served then with_accepted (keeps_now hub) (tells_now hub) (now hub) id question s else answers (keeps_now hub) false (now hub) (refusal_to id notauth) s)
 decides hub id question s true = refl
 decides hub id question s false = refl
 

@@ -4,7 +4,7 @@
 --     GivesLeaveIt      any call
 use Rattle.std.specs.Prelude.{◌≡◌, ℕ, List, [], Some}
 use Rattle.dsotlv.specs.Messages.{first_message}
-use Rattle.pushsession.specs.declared.standing.Standing.TheVariants.{Live}
+use Rattle.pushsession.specs.declared.session_status.SessionStatus.TheVariants.{Live}
 use Rattle.pushserver.specs.Hubs.{session_of}
 use Rattle.pushserver.specs.Giving.{give}
 use Rattle.pushserver.specs.PlainHubs.{Session, Hub}

@@ -24,7 +24,7 @@ use Rattle.dsosession.specs.Timing.{restarted}
 use Rattle.history.specs.declared.entry.Entry.{Entry}
 use Rattle.pushsession.specs.declared.request.Request.{Request}
 use Rattle.pushsession.specs.declared.request.Request.TheVariants as requests
-use Rattle.pushsession.specs.declared.standing.Standing.TheVariants.{Live}
+use Rattle.pushsession.specs.declared.session_status.SessionStatus.TheVariants.{Live}
 use Rattle.pushsession.specs.Sessions.{without_first}
 use Rattle.pushsession.specs.Subscribing.{Refuse, Accept, verdict_on, may_be_served, first_answer_size}
 use Rattle.pushsession.specs.Reactions.{request_in}

@@ -15,11 +15,11 @@ use Rattle.dsotlv.specs.Messages.{frame, first_message}
 use Rattle.dsotlv.specs.declared.message.Notice.{Notice}
 use Rattle.dsosession.specs.Timing.{Clocks}
 use Rattle.dsosession.specs.declared.session.Timers.{Timers}
-use Rattle.pushsession.specs.declared.standing.Standing.{Standing}
-use Rattle.pushsession.specs.declared.standing.Standing.TheVariants.{Live, AskedToStop}
+use Rattle.pushsession.specs.declared.session_status.SessionStatus.{SessionStatus}
+use Rattle.pushsession.specs.declared.session_status.SessionStatus.TheVariants.{Live, AskedToStop}
 use Rattle.pushsession.specs.Reactions.{granted, unsubscribed}
 use Rattle.pushsession.specs.Sessions.{is_open, answers, stopped}
-use Rattle.pushsession.specs.Subscribing.{accepts, packs}
+use Rattle.pushsession.specs.Subscribing.{with_accepted, with_next_push}
 use Rattle.pushserver.specs.Hubs.{now, state_now, keeps_now, tells_now, session_of}
 use Rattle.pushserver.specs.Giving.{is_served_at, give}
 use Rattle.pushserver.specs.PlainHubs.{Session, Hub, Giving, first_answer}
@@ -56,7 +56,7 @@ pub record PushesCanBeTold : Type 0 where
 abbrev pub PacksLeaveIt : Type 0
 PacksLeaveIt = (hub : Hub) (told : List (ℕ × ℕ)) (session : Session) (client : Client) (c : Connection) (up_wire down_wire : List ℕ)
     → IsTrue (is_open session.standing) → CanBeTold hub.timers (notices_packed hub session) → IsUnderWay hub told session client c up_wire down_wire
-    → IsUnderWay hub told (packs (keeps_now hub) (tells_now hub) (now hub) session) client c up_wire down_wire
+    → IsUnderWay hub told (with_next_push (keeps_now hub) (tells_now hub) (now hub) session) client c up_wire down_wire
 
 -- the Retry Delay of an established session, and the end of any other (RFC 8490, 6.6.1)
 abbrev pub StopsLeaveIt : Type 0
@@ -71,7 +71,7 @@ StopsLeaveIt = (hub : Hub) (rcode delay : ℕ) (told : List (ℕ × ℕ)) (sessi
 -- the session; a Keepalive is granted (RFC 8765, 6.2, 6.4 and 6.5; RFC 8490, 7.1).
 abbrev pub reaction : Hub → ClientMessage → Session → Session
 reaction hub (subscribes id question) session =
-    if is_served_at (state_now hub) question then accepts (keeps_now hub) (tells_now hub) (now hub) id question session
+    if is_served_at (state_now hub) question then with_accepted (keeps_now hub) (tells_now hub) (now hub) id question session
     else answers (keeps_now hub) false (now hub) (refusal_to id notauth) session
 reaction hub (unsubscribes id) session = unsubscribed (keeps_now hub) id session
 reaction hub (reconfirms rr) session = session
@@ -100,12 +100,12 @@ pub record BehindGiving (g : Giving) (number : ℕ) (told : List (ℕ × ℕ)) (
   pub flight : IsUnderWay g.hub (remembers later.subscriptions told) later client c up_wire (down_wire ++ g.octets)
 
 -- a live session in which no whole message waits, and any that isn't live
-abbrev pub ReactsToNone : Standing → Session → Type 0
+abbrev pub ReactsToNone : SessionStatus → Session → Type 0
 ReactsToNone Live session = first_message session.input ≡ None
 ReactsToNone _ session = Unit {0}
 
 -- the numbers of a stop that was asked for fit their fields (RFC 8490, 6.6.1)
-abbrev pub StopFits : Standing → Type 0
+abbrev pub StopFits : SessionStatus → Type 0
 StopFits (AskedToStop rcode delay) = (rcode < 16) × (delay < 2 ^ 32)
 StopFits _ = Unit {0}
 

@@ -5,7 +5,7 @@ use Rattle.std.proofs.lemmas.List.Sums.{fold-append}
 use Rattle.rrset.specs.RecordSet.{RecordSet, at_name, matching, union}
 use Rattle.rrset.specs.declared.record.Rr.{Rr}
 use Rattle.rrset.specs.declared.record.Question.{Question}
-use Rattle.zoneupdate.specs.Keeping.{ZoneKept}
+use Rattle.zoneupdate.specs.KeptZones.{ZoneKept}
 use Rattle.zoneupdate.specs.Zones.{ZoneState}
 use Rattle.linkcache.specs.Links.{LinkState, LinkKept}
 use Rattle.linkcache.specs.Rows.{shown_rows}

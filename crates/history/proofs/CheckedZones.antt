@@ -8,7 +8,7 @@ use Rattle.dnsname.specs.Names.{Labels, same_name}
 use Rattle.dnswire.specs.declared.message.Update.{Update}
 use Rattle.rrset.specs.RecordSet.{RecordSet}
 use Rattle.rrset.specs.declared.record.Changed.{Changed}
-use Rattle.zoneupdate.specs.Keeping.{ZoneKept, lies_under, IsUnder, Judges, HasRoom, Leads}
+use Rattle.zoneupdate.specs.KeptZones.{ZoneKept, lies_under, IsUnder, Judges, HasRoom, Leads}
 use Rattle.zoneupdate.specs.Updates.{judged}
 use Rattle.zoneupdate.specs.Zones.{ZoneState}
 use Rattle.zoneupdate.specs.declared.plan.Verdict.{Verdict}

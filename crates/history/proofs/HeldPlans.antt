@@ -1,22 +1,20 @@
 -- Plans of entries: what is told, what is held, and the state that it leads to.
-use Rattle.std.proofs.Common.{◌≡◌, ℕ, zero, suc, Bool, true, false, cond, not, List, [], ◌∷◌, Option, Some, None, Result, Ok, Err, refl, sym, ap, subst, ◌∙◌}
+use Rattle.std.proofs.Common.{◌≡◌, ℕ, zero, suc, Bool, true, false, cond, List, [], ◌∷◌, Option, Some, None, Result, Ok, Err, refl, sym, ap, subst, ◌∙◌}
 use Rattle.std.specs.Prelude.{is_ok, slice_get, option_map, IfOk}
-use Rattle.push_base.specs.Cases.{changed_at, is_empty}
+use Rattle.push_base.specs.Cases.{changed_at}
 use Rattle.dnswire.specs.declared.message.Update.{Update}
 use Rattle.rrset.specs.RecordSet.{changes}
 use Rattle.rrset.specs.declared.record.Changed.{Changed}
-use Rattle.rrset.specs.declared.record.HeardRr.{HeardRr}
-use Rattle.rrset.specs.declared.record.Hearing.{Hearing}
-use Rattle.rrset.specs.declared.record.Key.{Key}
 use Rattle.linkcache.specs.Links.{LinkState}
 use Rattle.linkcache.specs.Plans.{LinkPlan}
-use Rattle.linkcache.specs.Rows.{LinkRows, has_key, heard, reconfirmed, usable_of}
+use Rattle.linkcache.specs.Rows.{LinkRows}
+use Rattle.history.specs.Entries.{a_link, concern, is_taken, rows_after}
 use Rattle.history.specs.Kept.{HomesKept, at_moment, held_for, told_plan}
-use Rattle.history.specs.Plans.{Plan, refuse, idle, accept, planned}
+use Rattle.history.specs.Plans.{Plan, refuse, idle, accept, planned, planned_by}
 use Rattle.history.specs.AtHome.{AreAtHome}
 use Rattle.history.specs.LinkSteps.{StepsTo, told_of}
 use Rattle.history.specs.HeldPlans.{Checks, led_to, link_changed}
-use Rattle.history.specs.States.{State, updated, accepts, after, records, link_meets}
+use Rattle.history.specs.States.{State, updated, accepts, accepts_by, after, after_by, link_after, records, link_meets}
 use Rattle.history.specs.declared.entry.Entry.{Entry}
 use Rattle.history.specs.declared.entry.Entry.TheVariants as entries
 use Rattle.history.specs.declared.plan.Planned.{Planned}
@@ -72,19 +70,7 @@ told-accepted state update i changed checks = sym (ap told_plan checks.0)
 pub held-accepted : (state : State) (update : Update) (i : ℕ) (changed : List Changed) → Checks state update (results.Accept i changed) → Some (led_to state (plans.Zone i changed)) ≡ held_for state (entries.Update update)
 held-accepted state update i changed checks = held-made state (entries.Update update) (led_to state (plans.Zone i changed)) (accepts-accepted state update changed checks.0) (sym checks.1)
 
--- ---- an entry that changes one link
-
--- the entry is made where there is such a link and the step is taken up, and changes that link's rows
-pub record ChangesLink (state : State) (entry : Entry) (i : ℕ) (taken : LinkState → Bool) (later : LinkState → LinkRows) : Type 0 where
-  pub accepted : accepts state entry ≡ link_meets taken state i
-  pub plan : planned state entry ≡ cond (accepts state entry) (accept (changes (records state) (records (after state entry)))) idle
-  pub made : after state entry ≡ record state { links = changed_at i (λ l. record l { rows = later l }) state.links }
-
-pub heard-changes : (state : State) (i : ℕ) (hearing : Hearing) → ChangesLink state (entries.Heard i hearing) i (λ l. not (is_empty (usable_of l.domain hearing.rrs))) (λ l. heard l.domain l.rows state.now hearing.rrs)
-heard-changes state i hearing = record { accepted = refl; plan = refl; made = refl }
-
-pub reconfirm-changes : (state : State) (i : ℕ) (key : Key) → ChangesLink state (entries.Reconfirm i key) i (λ l. has_key key l.rows) (λ l. reconfirmed l.rows key state.now)
-reconfirm-changes state i key = record { accepted = refl; plan = refl; made = refl }
+-- ---- an entry that concerns one link
 
 -- two changes of an element that come to the same
 pub changed-same : {X : Type 0} (f g : X → X) (xs : List X) (i : ℕ) (x : X) → slice_get xs i ≡ Some x → f x ≡ g x → changed_at i f xs ≡ changed_at i g xs
@@ -95,74 +81,64 @@ changed-same {X} f g (y ∷ xs) zero x at same = ap (λ z. z ∷ xs) (subst (λ 
     back a b e = cc
 changed-same f g (y ∷ xs) (suc i) x at same = ap (λ l. y ∷ l) (changed-same f g xs i x at same)
 
-module _ (state : State) (entry : Entry) (i : ℕ) (taken : LinkState → Bool) (later : LinkState → LinkRows) (is : ChangesLink state entry i taken later) where
-  untaken : (o : Option LinkState) → slice_get state.links i ≡ o → StepsTo taken later o None → accepts state entry ≡ false
-  untaken o at steps = is.accepted ∙ ap (λ p. elim p as (λ _. Bool) [ None ↦ false | Some l ↦ taken l ]) at ∙ by o steps
+module _ (state : State) (entry : Entry) (i : ℕ) (one : concern entry ≡ a_link i) where
+  accepted : accepts state entry ≡ link_meets (is_taken entry) state i
+  accepted = ap (accepts_by entry state) one
+
+  plan-is : planned state entry ≡ cond (accepts state entry) (accept (changes (records state) (records (after state entry)))) idle
+  plan-is = ap (planned_by entry state) one ∙ ap (λ homes. cond (accepts_by entry state homes) (accept (changes (records state) (records (after_by entry state homes)))) idle) (sym one)
+
+  untaken : (o : Option LinkState) → slice_get state.links i ≡ o → StepsTo entry state.now o None → accepts state entry ≡ false
+  untaken o at steps = accepted ∙ ap (λ p. elim p as (λ _. Bool) [ None ↦ false | Some l ↦ is_taken entry l ]) at ∙ by o steps
     where
-      by : (o : Option LinkState) → StepsTo taken later o None → elim o as (λ _. Bool) [ None ↦ false | Some l ↦ taken l ] ≡ false
+      by : (o : Option LinkState) → StepsTo entry state.now o None → elim o as (λ _. Bool) [ None ↦ false | Some l ↦ is_taken entry l ] ≡ false
       by None steps = refl
       by (Some l) steps = steps
 
-  taken_up : (l : LinkState) → slice_get state.links i ≡ Some l → taken l ≡ true → accepts state entry ≡ true
-  taken_up l at e = is.accepted ∙ ap (λ p. elim p as (λ _. Bool) [ None ↦ false | Some l ↦ taken l ]) at ∙ e
+  taken_up : (l : LinkState) → slice_get state.links i ≡ Some l → is_taken entry l ≡ true → accepts state entry ≡ true
+  taken_up l at e = accepted ∙ ap (λ p. elim p as (λ _. Bool) [ None ↦ false | Some l ↦ is_taken entry l ]) at ∙ e
 
-  made-at : (l : LinkState) (rows : LinkRows) → slice_get state.links i ≡ Some l → rows ≡ later l → after state entry ≡ record state { links = changed_at i (λ k. record k { rows = rows }) state.links }
-  made-at l rows at same = is.made ∙ (λ j. record state { links = changed-same (λ k. record k { rows = later k }) (λ k. record k { rows = rows }) state.links i l at (λ n. record l { rows = sym same n }) j })
+  made-at : (l : LinkState) (rows : LinkRows) → slice_get state.links i ≡ Some l → rows ≡ rows_after entry state.now l → after state entry ≡ record state { links = changed_at i (λ k. record k { rows = rows }) state.links }
+  made-at l rows at same =
+      ap (after_by entry state) one ∙ (λ j. record state { links = changed-same (link_after entry state.now) (λ k. record k { rows = rows }) state.links i l at (λ n. record l { rows = sym same n }) j })
 
-  pub told-step : (plan : Option LinkPlan) → AreAtHome state → StepsTo taken later (slice_get state.links i) plan → told_of plan ≡ told_plan (planned state entry)
+  pub told-step : (plan : Option LinkPlan) → AreAtHome state → StepsTo entry state.now (slice_get state.links i) plan → told_of plan ≡ told_plan (planned state entry)
   told-step plan home steps = by (slice_get state.links i) refl plan steps
     where
       idle_plan : accepts state entry ≡ false → told.Idle ≡ told_plan (planned state entry)
-      idle_plan e = sym (ap told_plan (is.plan ∙ ap (λ b. cond b (accept (changes (records state) (records (after state entry)))) idle) e))
+      idle_plan e = sym (ap told_plan (plan-is ∙ ap (λ b. cond b (accept (changes (records state) (records (after state entry)))) idle) e))
 
-      by : (o : Option LinkState) → slice_get state.links i ≡ o → (plan : Option LinkPlan) → StepsTo taken later o plan → told_of plan ≡ told_plan (planned state entry)
+      by : (o : Option LinkState) → slice_get state.links i ≡ o → (plan : Option LinkPlan) → StepsTo entry state.now o plan → told_of plan ≡ told_plan (planned state entry)
       by None at None steps = idle_plan (untaken None at refl)
       by None at (Some plan) steps = cc
       by (Some l) at None steps = idle_plan (untaken (Some l) at steps)
       by (Some l) at (Some plan) steps =
+          let later = rows_after entry state.now l in
           let shown : plan.changed ≡ changes (records state) (records (after state entry)) =
-          steps.1.shown ∙ sym (link_changes-at state i l (later l) home at steps.1.sound) ∙ ap (λ s. changes (records state) (records s)) (sym (made-at l (later l) at refl)) in
-          ap (λ c. told.Accept c) shown ∙ sym (ap told_plan (is.plan ∙ ap (λ b. cond b (accept (changes (records state) (records (after state entry)))) idle) (taken_up l at steps.0)))
+          steps.1.shown ∙ sym (link_changes-at state i l later home at steps.1.sound) ∙ ap (λ s. changes (records state) (records s)) (sym (made-at l later at refl)) in
+          ap (λ c. told.Accept c) shown ∙ sym (ap told_plan (plan-is ∙ ap (λ b. cond b (accept (changes (records state) (records (after state entry)))) idle) (taken_up l at steps.0)))
 
-  pub held-step : (plan : Option LinkPlan) → StepsTo taken later (slice_get state.links i) plan → option_map (led_to state) (option_map (λ p. plans.Link i p) plan) ≡ held_for state entry
+  pub held-step : (plan : Option LinkPlan) → StepsTo entry state.now (slice_get state.links i) plan → option_map (led_to state) (option_map (λ p. plans.Link i p) plan) ≡ held_for state entry
   held-step plan steps = by (slice_get state.links i) refl plan steps
     where
-      by : (o : Option LinkState) → slice_get state.links i ≡ o → (plan : Option LinkPlan) → StepsTo taken later o plan → option_map (led_to state) (option_map (λ p. plans.Link i p) plan) ≡ held_for state entry
+      by : (o : Option LinkState) → slice_get state.links i ≡ o → (plan : Option LinkPlan) → StepsTo entry state.now o plan → option_map (led_to state) (option_map (λ p. plans.Link i p) plan) ≡ held_for state entry
       by None at None steps = held-idle state entry (untaken None at refl)
       by None at (Some plan) steps = cc
       by (Some l) at None steps = held-idle state entry (untaken (Some l) at steps)
       by (Some l) at (Some plan) steps =
+          let later = rows_after entry state.now l in
           held-made state entry (led_to state (plans.Link i plan)) (taken_up l at steps.0)
-          ((λ j. record state { links = changed-same (link_changed plan) (λ k. record k { rows = later l }) state.links i l at (λ n. record l { rows = steps.1.reached n }) j }) ∙ sym (made-at l (later l) at refl))
+          ((λ j. record state { links = changed-same (link_changed plan) (λ k. record k { rows = later }) state.links i l at (λ n. record l { rows = steps.1.reached n }) j }) ∙ sym (made-at l later at refl))
 
--- ---- what is told and held of a hearing, and of a reconfirmation
+-- ---- what is told and held of it
 
-module _ {E : Type 0} (homes : HomesKept) (t i : ℕ) (plan : Option LinkPlan) (r : Result (Planned × Option HeldPlan) E) where
+module _ {E : Type 0} (homes : HomesKept) (t i : ℕ) (entry : Entry) (one : concern entry ≡ a_link i) (plan : Option LinkPlan) (r : Result (Planned × Option HeldPlan) E) where
   abbrev state : State
   state = at_moment homes t
 
-  pub told-heard : (hearing : Hearing) (rrs : List HeardRr) → AreAtHome state → rrs ≡ hearing.rrs → StepsTo (λ l. not (is_empty (usable_of l.domain rrs))) (λ l. heard l.domain l.rows t rrs) (slice_get state.links i) plan
-      → IfOk r (λ both. both.0 ≡ told_of plan) → IfOk r (λ both. both.0 ≡ told_plan (planned state (entries.Heard i hearing)))
-  told-heard hearing rrs home same steps told =
-      let here = subst (λ rs. StepsTo (λ l. not (is_empty (usable_of l.domain rs))) (λ l. heard l.domain l.rows t rs) (slice_get state.links i) plan) same steps in
-      let is = told-step state (entries.Heard i hearing) i (λ l. not (is_empty (usable_of l.domain hearing.rrs))) (λ l. heard l.domain l.rows t hearing.rrs) (heard-changes state i hearing) plan home here in
-      ok-as (λ both. both.0 ≡ told_of plan) (λ both. both.0 ≡ told_plan (planned state (entries.Heard i hearing))) (λ both e. e ∙ is) r told
+  pub told-one : AreAtHome state → StepsTo entry t (slice_get state.links i) plan → IfOk r (λ both. both.0 ≡ told_of plan) → IfOk r (λ both. both.0 ≡ told_plan (planned state entry))
+  told-one home steps told = ok-as (λ both. both.0 ≡ told_of plan) (λ both. both.0 ≡ told_plan (planned state entry)) (λ both e. e ∙ told-step state entry i one plan home steps) r told
 
-  pub held-heard : (hearing : Hearing) (rrs : List HeardRr) → rrs ≡ hearing.rrs → StepsTo (λ l. not (is_empty (usable_of l.domain rrs))) (λ l. heard l.domain l.rows t rrs) (slice_get state.links i) plan
-      → IfOk r (λ both. both.1 ≡ option_map (λ p. plans.Link i p) plan) → IfOk r (λ both. option_map (led_to state) both.1 ≡ held_for state (entries.Heard i hearing))
-  held-heard hearing rrs same steps held =
-      let here = subst (λ rs. StepsTo (λ l. not (is_empty (usable_of l.domain rs))) (λ l. heard l.domain l.rows t rs) (slice_get state.links i) plan) same steps in
-      let is = held-step state (entries.Heard i hearing) i (λ l. not (is_empty (usable_of l.domain hearing.rrs))) (λ l. heard l.domain l.rows t hearing.rrs) (heard-changes state i hearing) plan here in
-      ok-as (λ both. both.1 ≡ option_map (λ p. plans.Link i p) plan) (λ both. option_map (led_to state) both.1 ≡ held_for state (entries.Heard i hearing)) (λ both e. ap (option_map (led_to state)) e ∙ is) r held
-
-  pub told-reconfirmed : (key : Key) → AreAtHome state → StepsTo (λ l. has_key key l.rows) (λ l. reconfirmed l.rows key t) (slice_get state.links i) plan
-      → IfOk r (λ both. both.0 ≡ told_of plan) → IfOk r (λ both. both.0 ≡ told_plan (planned state (entries.Reconfirm i key)))
-  told-reconfirmed key home steps told =
-      let is = told-step state (entries.Reconfirm i key) i (λ l. has_key key l.rows) (λ l. reconfirmed l.rows key t) (reconfirm-changes state i key) plan home steps in
-      ok-as (λ both. both.0 ≡ told_of plan) (λ both. both.0 ≡ told_plan (planned state (entries.Reconfirm i key))) (λ both e. e ∙ is) r told
-
-  pub held-reconfirmed : (key : Key) → StepsTo (λ l. has_key key l.rows) (λ l. reconfirmed l.rows key t) (slice_get state.links i) plan
-      → IfOk r (λ both. both.1 ≡ option_map (λ p. plans.Link i p) plan) → IfOk r (λ both. option_map (led_to state) both.1 ≡ held_for state (entries.Reconfirm i key))
-  held-reconfirmed key steps held =
-      let is = held-step state (entries.Reconfirm i key) i (λ l. has_key key l.rows) (λ l. reconfirmed l.rows key t) (reconfirm-changes state i key) plan steps in
-      ok-as (λ both. both.1 ≡ option_map (λ p. plans.Link i p) plan) (λ both. option_map (led_to state) both.1 ≡ held_for state (entries.Reconfirm i key)) (λ both e. ap (option_map (led_to state)) e ∙ is) r held
+  pub held-one : StepsTo entry t (slice_get state.links i) plan → IfOk r (λ both. both.1 ≡ option_map (λ p. plans.Link i p) plan) → IfOk r (λ both. option_map (led_to state) both.1 ≡ held_for state entry)
+  held-one steps held =
+      ok-as (λ both. both.1 ≡ option_map (λ p. plans.Link i p) plan) (λ both. option_map (led_to state) both.1 ≡ held_for state entry) (λ both e. ap (option_map (led_to state)) e ∙ held-step state entry i one plan steps) r held

@@ -4,7 +4,7 @@ use Rattle.std.specs.Prelude.{position, slice_get, option_map}
 use Rattle.std.specs.List.{list_all, AllByRecursion, IsDistinct}
 use Rattle.std.proofs.lemmas.List.{map-append}
 use Rattle.dnsname.specs.Names.{Labels, same_name, home}
-use Rattle.zoneupdate.specs.Keeping.{ZoneKept}
+use Rattle.zoneupdate.specs.KeptZones.{ZoneKept}
 use Rattle.zoneupdate.specs.Zones.{ZoneState}
 use Rattle.zoneupdate.proofs.Owners.{same_name-itself}
 use Rattle.linkcache.specs.Links.{LinkKept}

@@ -7,10 +7,10 @@ use Rattle.dnswire.specs.declared.message.Update.{Update}
 use Rattle.rrset.specs.RecordSet.{RecordSet}
 use Rattle.zoneupdate.specs.Updates.{judged}
 use Rattle.zoneupdate.specs.Zones.{ZoneState}
-use Rattle.linkcache.specs.Rows.{reconfirmed}
+use Rattle.history.specs.Entries.{Concern, a_zone, a_link, all_links, concern}
 use Rattle.history.specs.AtHome.{AreAtHome}
 use Rattle.history.specs.Laws.{EntriesKeepHomes}
-use Rattle.history.specs.States.{State, LinkState, home_names, home_of, zone_of, zone_asked, with_rows, updated, after, link_heard, link_at_moment}
+use Rattle.history.specs.States.{State, LinkState, home_names, home_of, zone_of, zone_asked, with_rows, updated, after, after_by, link_after, link_at_moment}
 use Rattle.history.specs.declared.entry.Entry.{Entry}
 use Rattle.history.specs.declared.entry.Entry.TheVariants as entries
 use Rattle.history.specs.declared.entry.Home.{Home}
@@ -79,15 +79,17 @@ same-updated state update = steps
       ap (λ (x : Result State ℕ). domains (made state x).links) (updated-steps state update) ∙ names.1,
     )
 
-pub same_names-after : (state : State) (entry : Entry) → SameNames (after state entry) state
-same_names-after state (entries.Update update) = same-updated state update
-same_names-after state (entries.Heard link hearing) = (refl, map-changed_at (λ (l : LinkState). l.domain) (link_heard state.now hearing) (λ l. refl) link state.links)
-same_names-after state (entries.Reconfirm link key) = (refl, map-changed_at (λ (l : LinkState). l.domain) (λ (l : LinkState). record l { rows = reconfirmed l.rows key state.now }) (λ l. refl) link state.links)
-same_names-after state (entries.Moment t) = by (ltb state.now t)
+same_names-by : (entry : Entry) (state : State) (homes : Concern) → SameNames (after_by entry state homes) state
+same_names-by entry state (a_zone update) = same-updated state update
+same_names-by entry state (a_link link) = (refl, map-changed_at (λ (l : LinkState). l.domain) (link_after entry state.now) (λ l. refl) link state.links)
+same_names-by entry state (all_links t) = by (ltb state.now t)
   where
     by : (b : Bool) → SameNames (cond b (record state { now = t; links = map (link_at_moment t) state.links }) state) state
     by true = (refl, map-twice (link_at_moment t) (λ (l : LinkState). l.domain) state.links)
     by false = (refl, refl)
+
+pub same_names-after : (state : State) (entry : Entry) → SameNames (after state entry) state
+same_names-after state entry = same_names-by entry state (concern entry)
 
 pub home_of-after : (state : State) → AreAtHome state → (entry : Entry) (name : Labels) → home_of (after state entry) name ≡ home_of state name
 home_of-after state home entry name = let names = same_names-after state entry in home_of-same (after state entry) state names.0 names.1 name

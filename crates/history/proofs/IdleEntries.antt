@@ -1,22 +1,17 @@
 -- An entry that isn't accepted leaves the state; one that is leads where its plan does.
-use Rattle.std.proofs.Common.{◌≡◌, ℕ, zero, suc, ◌+◌, Bool, true, false, cond, not, ◌||◌, List, [], ◌∷◌, map, Option, Some, None, Result, Ok, Err, refl, sym, ap, ◌∙◌}
+use Rattle.std.proofs.Common.{◌≡◌, ℕ, zero, suc, Bool, true, false, cond, List, [], ◌∷◌, map, Option, Some, None, Result, Ok, Err, refl, sym, ap, ◌∙◌}
 use Rattle.std.specs.Prelude.{is_ok, slice_get, option_map}
-use Rattle.std.specs.List.{list_any}
-use Rattle.push_base.specs.Cases.{changed_at, is_empty}
-use Rattle.rrset.specs.Records.{same_key}
-use Rattle.rrset.specs.declared.record.HeardRr.{HeardRr}
-use Rattle.rrset.specs.declared.record.Hearing.{Hearing}
-use Rattle.rrset.specs.declared.record.Key.{Key}
+use Rattle.push_base.specs.Cases.{changed_at}
 use Rattle.linkcache.specs.Links.{LinkState}
-use Rattle.linkcache.specs.Rows.{LinkRows, ending_by, has_key, heard_beside, reconfirmation, reconfirmed, usable_of}
+use Rattle.history.specs.Entries.{Concern, a_zone, a_link, all_links, concern, is_taken}
 use Rattle.history.specs.Kept.{HomesKept, at_moment, held_for, state_of}
 use Rattle.history.specs.AtHome.{AreAtHome}
 use Rattle.history.specs.HeldPlans.{IsStateOf, led_by, led_to}
-use Rattle.history.specs.States.{State, accepts, after, link_at_moment, link_heard, updated}
+use Rattle.history.specs.States.{State, accepts, accepts_by, after, after_by, link_after, link_at_moment, updated}
 use Rattle.history.specs.declared.entry.Entry.{Entry}
-use Rattle.history.specs.declared.entry.Entry.TheVariants as entries
 use Rattle.history.specs.declared.planning.HeldPlan.{HeldPlan}
 use Rattle.history.proofs.Elements.{same_some}
+use Rattle.history.proofs.OneLink.{same-after}
 use Rattle.history.proofs.Present.{same_moment}
 use Rattle.history.proofs.StatesAtHome.{home-after}
 
@@ -36,28 +31,14 @@ same-element f (x ∷ xs) (suc i) same = ap (λ l. x ∷ l) (same-element f xs i
 unmet : (test : LinkState → Bool) (links : List LinkState) (i : ℕ) → elim (slice_get links i) as (λ _. Bool) [ None ↦ false | Some l ↦ test l ] ≡ false → (l : LinkState) → slice_get links i ≡ Some l → test l ≡ false
 unmet test links i e l at = sym (ap (λ o. elim o as (λ _. Bool) [ None ↦ false | Some l ↦ test l ]) at) ∙ e
 
-same-heard : (now : ℕ) (hearing : Hearing) (l : LinkState) → not (is_empty (usable_of l.domain hearing.rrs)) ≡ false → link_heard now hearing l ≡ l
-same-heard now hearing l e = λ i. record l { rows = heard_beside 0 l.domain l.rows now (none (usable_of l.domain hearing.rrs) e i) }
-  where
-    none : (hs : List HeardRr) → not (is_empty hs) ≡ false → hs ≡ []
-    none [] e = refl
-    none (h ∷ hs) e = cc
+idle-by : (entry : Entry) (state : State) (homes : Concern) → accepts_by entry state homes ≡ false → after_by entry state homes ≡ state
+idle-by entry state (a_zone update) e = same-updated state (updated state update) e
+idle-by entry state (a_link link) e =
+    λ i. record state { links = same-element (link_after entry state.now) state.links link (λ l at. λ j. record l { rows = same-after entry state.now l (unmet (is_taken entry) state.links link e l at) j }) i }
+idle-by entry state (all_links t) e = ap (λ b. cond b (record state { now = t; links = map (link_at_moment t) state.links }) state) e
 
-same-rows : (key : Key) (now : ℕ) (rows : LinkRows) → has_key key rows ≡ false → reconfirmed rows key now ≡ rows
-same-rows key now [] e = refl
-same-rows key now (row ∷ rows) e = by (same_key key row.0) e (same-rows key now rows)
-  where
-    by : (b : Bool) → (b || list_any (λ row. same_key key row.0) rows) ≡ false → (has_key key rows ≡ false → reconfirmed rows key now ≡ rows) → cond b (ending_by (now + reconfirmation) row) row ∷ reconfirmed rows key now ≡ row ∷ rows
-    by true e rest = cc
-    by false e rest = ap (λ l. row ∷ l) (rest e)
-
-pub after-idle : (state : State) (entry : Entry) → accepts state entry ≡ false → after state entry ≡ state
-after-idle state (entries.Update update) e = same-updated state (updated state update) e
-after-idle state (entries.Heard link hearing) e =
-    λ i. record state { links = same-element (link_heard state.now hearing) state.links link (λ l at. same-heard state.now hearing l (unmet (λ l. not (is_empty (usable_of l.domain hearing.rrs))) state.links link e l at)) i }
-after-idle state (entries.Moment t) e = ap (λ b. cond b (record state { now = t; links = map (link_at_moment t) state.links }) state) e
-after-idle state (entries.Reconfirm link key) e =
-    λ i. record state { links = same-element (λ l. record l { rows = reconfirmed l.rows key state.now }) state.links link (λ l at. λ j. record l { rows = same-rows key state.now l.rows (unmet (λ l. has_key key l.rows) state.links link e l at) j }) i }
+after-idle : (state : State) (entry : Entry) → accepts state entry ≡ false → after state entry ≡ state
+after-idle state entry e = idle-by entry state (concern entry) e
 
 -- ---- what is held, made
 

@@ -5,7 +5,7 @@ use Rattle.std.proofs.lemmas.List.{append-nil, length-map, map-append}
 use Rattle.std.proofs.lemmas.List.Elements.{filter-append}
 use Rattle.dnsname.specs.Names.{Labels}
 use Rattle.zoneupdate.specs.Zones.{ZoneState}
-use Rattle.zoneupdate.specs.Keeping.{ZoneKept}
+use Rattle.zoneupdate.specs.KeptZones.{ZoneKept}
 use Rattle.linkcache.specs.Links.{LinkState, LinkKept}
 use Rattle.linkcache.specs.Plans.{LinkPlan}
 use Rattle.history.specs.Homes.{NamedHome, home_fault}

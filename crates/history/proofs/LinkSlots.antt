@@ -1,15 +1,16 @@
 -- What steps get of links that are kept one behind another, and what plans make of them.
-use Rattle.std.proofs.Common.{◌≡◌, ℕ, zero, suc, ◌+◌, ◌<◌, ◌≤◌, List, [], ◌∷◌, ◌++◌, length, get_or, set, take, drop, map, Option, Some, None, Result, Ok, Err, refl, sym, ap, subst, ◌∙◌}
-use Rattle.std.specs.Prelude.{slice_get, IfOk}
+use Rattle.std.proofs.Common.{◌≡◌, ℕ, zero, suc, ◌+◌, ◌<◌, Bool, true, false, List, [], ◌∷◌, ◌++◌, length, get_or, set, take, drop, map, Option, Some, None, Result, Ok, Err, refl, sym, ap, subst, ◌∙◌}
+use Rattle.std.specs.Prelude.{slice_get, IfOk, IfSome}
 use Rattle.std.specs.List.{AllZip}
 use Rattle.push_base.specs.Cases.{changed_at}
-use Rattle.rrset.specs.declared.record.Key.{Key}
 use Rattle.rrset.specs.declared.record.HeardRr.{HeardRr}
+use Rattle.rrset.specs.declared.record.Hearing.{Hearing}
 use Rattle.linkcache.specs.Links.{LinkState, LinkKept, HasRoom}
-use Rattle.linkcache.specs.Plans.{LinkPlan, IsPlanOf, IsHeardPlan, IsMomentPlan, IsReconfirmPlan}
-use Rattle.linkcache.specs.Rows.{at_moment, heard, reconfirmed}
-use Rattle.history.specs.LinkSteps.{EndsBy}
+use Rattle.linkcache.specs.Plans.{LinkPlan, IsPlanOf, IsHeardPlan, IsMomentPlan, Leads}
+use Rattle.linkcache.specs.Rows.{LinkRows, at_moment}
+use Rattle.history.specs.LinkSteps.{EndsBy, StepsIn}
 use Rattle.history.specs.HeldPlans.{IsPlanIn, IsLinkReady, link_changed, links_changed}
+use Rattle.history.specs.declared.entry.Entry.TheVariants as entries
 use Rattle.history.proofs.Elements.{slice_get-set, slice_get-within, slice_get-map, element_here, ok-as, one_more, zip-more, zip-first}
 
 abbrev pub link_states : List LinkKept → List LinkState
@@ -24,17 +25,26 @@ ready-here links i old new (Err e) h same planned room = tt
 ready-here links i old new (Ok plan) h same planned room =
     subst (λ o. IsLinkReady o plan) (sym (slice_get-set links i new h)) (record { planned = subst (λ (s : LinkState). IsPlanOf s.domain s.rows plan) (sym same) planned; room = room })
 
-pub ready-heard : {E : Type 0} (links : List LinkKept) (i : ℕ) (old new : LinkKept) (now : ℕ) (hearing : List HeardRr) (r : Result LinkPlan E) → i < length links → new.state ≡ (get_or links i old).state
-    → IfOk r (IsHeardPlan (get_or links i old).state.domain (get_or links i old).state.rows now hearing) → IfOk r (λ plan. HasRoom plan.rows new) → IfOk r (IsLinkReady (slice_get (set links i new) i))
-ready-heard links i old new now hearing r h same planned room =
-    let s = (get_or links i old).state in
-    ready-here links i old new r h same (ok-as (IsHeardPlan s.domain s.rows now hearing) (IsPlanOf s.domain s.rows) (λ plan is. (heard s.domain s.rows now hearing, is.leads)) r planned) room
+-- a plan that leads somewhere, made of a link that was put back with room for it
+pub plan-in : (old new : LinkKept) (plan : LinkPlan) (later : LinkRows) → new.state ≡ old.state → Leads old.state.domain old.state.rows plan later → HasRoom plan.rows new → IsPlanIn new plan
+plan-in old new plan later same leads room = record { planned = subst (λ (s : LinkState). IsPlanOf s.domain s.rows plan) (sym same) (later, leads); room = room }
 
-pub ready-reconfirmed : {E : Type 0} (links : List LinkKept) (i : ℕ) (old new : LinkKept) (key : Key) (now : ℕ) (r : Result LinkPlan E) → i < length links → new.state ≡ (get_or links i old).state
-    → IfOk r (IsReconfirmPlan (get_or links i old).state.domain (get_or links i old).state.rows key now) → IfOk r (λ plan. HasRoom plan.rows new) → IfOk r (IsLinkReady (slice_get (set links i new) i))
-ready-reconfirmed links i old new key now r h same planned room =
-    let s = (get_or links i old).state in
-    ready-here links i old new r h same (ok-as (IsReconfirmPlan s.domain s.rows key now) (IsPlanOf s.domain s.rows) (λ plan is. (reconfirmed s.rows key now, is.leads)) r planned) room
+-- what a hearing gets: nothing where no record is usable
+module _ (l : LinkState) (now : ℕ) (hearing : Hearing) (rrs : List HeardRr) (plan : LinkPlan) (same : rrs ≡ hearing.rrs) (planned : IsHeardPlan l.domain l.rows now rrs plan) (usable : Bool) (usable_is : usable ≡ plan.usable) where
+  whole : IsHeardPlan l.domain l.rows now hearing.rrs plan
+  whole = subst (λ (rs : List HeardRr). IsHeardPlan l.domain l.rows now rs plan) same planned
+
+  pub heard-none : usable ≡ false → (i : ℕ) → StepsIn (entries.Heard i hearing) now l None
+  heard-none not_usable i = sym whole.usable ∙ sym usable_is ∙ not_usable
+
+  pub heard-some : usable ≡ true → (i : ℕ) → StepsIn (entries.Heard i hearing) now l (Some plan)
+  heard-some is_usable i = (sym whole.usable ∙ sym usable_is ∙ is_usable, whole.leads)
+
+-- the same of a plan that an entry got, if it got one
+pub ready-step : {E : Type 0} (links : List LinkKept) (i : ℕ) (new : LinkKept) (r : Result (Option LinkPlan) E) → i < length links → IfOk r (λ plan. IfSome plan (IsPlanIn new)) → IfOk r (λ plan. IfSome plan (IsLinkReady (slice_get (set links i new) i)))
+ready-step links i new (Err e) h ready = tt
+ready-step links i new (Ok None) h ready = tt
+ready-step links i new (Ok (Some plan)) h ready = subst (λ o. IsLinkReady o plan) (sym (slice_get-set links i new h)) ready
 
 pub ready-moment : {E : Type 0} (links : List LinkKept) (i : ℕ) (old new : LinkKept) (now : ℕ) (r : Result LinkPlan E) → i < length links → new.state ≡ (get_or links i old).state
     → IfOk r (IsMomentPlan (get_or links i old).state.domain (get_or links i old).state.rows now) → IfOk r (λ plan. HasRoom plan.rows new) → IfOk r (IsLinkReady (slice_get (set links i new) i))

@@ -3,7 +3,7 @@ use Rattle.std.proofs.Common.{◌≡◌, Bool, true, false, cond, not, ◌&&◌,
 use Rattle.std.specs.List.{list_all, list_any, AllByRecursion, IsDistinct}
 use Rattle.dnsname.specs.Names.{Labels, same_name, ends_in}
 use Rattle.rrset.specs.RecordSet.{RecordSet}
-use Rattle.zoneupdate.specs.Keeping.{lies_under}
+use Rattle.zoneupdate.specs.KeptZones.{lies_under}
 use Rattle.zoneupdate.specs.Zones.{is_inside}
 use Rattle.zoneupdate.proofs.Filters.{and-both, or-left, or-right}
 use Rattle.zoneupdate.proofs.Homes.{is_inside-under}

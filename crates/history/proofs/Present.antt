@@ -17,11 +17,11 @@ use Rattle.history.specs.Kept.{HomesKept, Past, PointsKept, IsHeld, at_moment, h
 use Rattle.zoneupdate.proofs.Filters.{filter_within, and-left, and-right}
 use Rattle.history.specs.Plans.{IsStart}
 use Rattle.history.specs.AtHome.{AreAtHome, homes_in}
-use Rattle.history.specs.HeldPlans.{AreKept, IsStateOf, IsPresent, IsReady, IsTimely, led_by, led_to}
-use Rattle.history.specs.Totals.{and_one, is_change, is_hearing, is_moment, totals}
-use Rattle.history.specs.States.{State, accepts, after, entry_size, journal_has_room, link_at_moment, records, records_at}
+use Rattle.history.specs.Entries.{Concern, a_zone, a_link, all_links, concern, Group, as_change, as_hearing, as_moment, group}
+use Rattle.history.specs.HeldPlans.{AreKept, IsInTime, IsStateOf, IsPresent, IsReady, IsTimely, led_by, led_to}
+use Rattle.history.specs.Totals.{and_one, and_one_of, in_changes, in_hearings, in_moments, is_change, is_hearing, is_moment, totals}
+use Rattle.history.specs.States.{State, accepts, accepts_by, after, after_by, entry_size, journal_has_room, link_at_moment, records, records_at}
 use Rattle.history.specs.declared.entry.Entry.{Entry}
-use Rattle.history.specs.declared.entry.Entry.TheVariants as entries
 use Rattle.history.specs.declared.entry.Totals.{Totals}
 use Rattle.history.specs.declared.planning.HeldPlan.{HeldPlan}
 use Rattle.history.specs.declared.planning.HeldPlan.TheVariants as plans
@@ -104,8 +104,8 @@ count-last p history entry = fold-last (λ a e. a + cond (p e) 1 0) history entr
 more_nothing : (n : ℕ) → n + 0 ≡ n
 more_nothing n = omega arith
 
-totals-last : (history : List Entry) (entry : Entry) → totals (history ++ entry ∷ []) ≡ and_one entry (totals history)
-totals-last history entry = (λ i. record { changes = count-last is_change history entry i; heard = count-last is_hearing history entry i; moments = count-last is_moment history entry i }) ∙ by entry
+pub totals-last : (history : List Entry) (entry : Entry) → totals (history ++ entry ∷ []) ≡ and_one entry (totals history)
+totals-last history entry = (λ i. record { changes = count-last is_change history entry i; heard = count-last is_hearing history entry i; moments = count-last is_moment history entry i }) ∙ by (group entry)
   where
     c : ℕ
     c = count_by is_change history
@@ -116,11 +116,10 @@ totals-last history entry = (λ i. record { changes = count-last is_change histo
     m : ℕ
     m = count_by is_moment history
 
-    by : (entry : Entry) → ◌≡◌ {A = Totals} (record { changes = c + cond (is_change entry) 1 0; heard = h + cond (is_hearing entry) 1 0; moments = m + cond (is_moment entry) 1 0 }) (and_one entry (totals history))
-    by (entries.Update update) = λ i. record { changes = c + 1; heard = more_nothing h i; moments = more_nothing m i }
-    by (entries.Reconfirm link key) = λ i. record { changes = c + 1; heard = more_nothing h i; moments = more_nothing m i }
-    by (entries.Heard link hearing) = λ i. record { changes = more_nothing c i; heard = h + 1; moments = more_nothing m i }
-    by (entries.Moment t) = λ i. record { changes = more_nothing c i; heard = more_nothing h i; moments = m + 1 }
+    by : (counted_in : Group) → ◌≡◌ {A = Totals} (record { changes = c + cond (in_changes counted_in) 1 0; heard = h + cond (in_hearings counted_in) 1 0; moments = m + cond (in_moments counted_in) 1 0 }) (and_one_of counted_in (totals history))
+    by as_change = λ i. record { changes = c + 1; heard = more_nothing h i; moments = more_nothing m i }
+    by as_hearing = λ i. record { changes = more_nothing c i; heard = h + 1; moments = more_nothing m i }
+    by as_moment = λ i. record { changes = more_nothing c i; heard = more_nothing h i; moments = m + 1 }
 
 -- the plan that is held leads to the state after the entry, and its moment is timely
 record Leading (homes : HomesKept) (moment : ℕ) (held : Option HeldPlan) (entry : Entry) : Type 0 where
@@ -148,15 +147,13 @@ leading homes moment (Some plan) entry h ready is some =
     by true e is = (e, same (led_to (at_moment homes moment) plan) (after (at_moment homes moment) entry) is)
     by false e is = cc
 
--- the moment after an accepted one
-after-now : (state : State) (t : ℕ) → accepts state (entries.Moment t) ≡ true → (after state (entries.Moment t)).now ≡ t
-after-now state t e = ap (λ b. (cond b (record state { now = t; links = map (link_at_moment t) state.links }) state).now) e
+timely-by : (entry : Entry) (state : State) (homes : Concern) → accepts_by entry state homes ≡ true → (after_by entry state homes).now ≤ max_moment → IsInTime homes
+timely-by entry state (a_zone update) e h = tt
+timely-by entry state (a_link link) e h = tt
+timely-by entry state (all_links t) e h = subst (λ n. n ≤ max_moment) (ap (λ b. (cond b (record state { now = t; links = map (link_at_moment t) state.links }) state).now) e) h
 
 timely-entry : (homes : HomesKept) (moment : ℕ) (held : Option HeldPlan) (entry : Entry) → Leading homes moment held entry → IsTimely entry
-timely-entry homes moment held (entries.Update update) is = tt
-timely-entry homes moment held (entries.Heard link hearing) is = tt
-timely-entry homes moment held (entries.Reconfirm link key) is = tt
-timely-entry homes moment held (entries.Moment t) is = subst (λ n. n ≤ max_moment) (ap (λ (s : State). s.now) is.led ∙ after-now (at_moment homes moment) t is.accepted) is.now
+timely-entry homes moment held entry is = timely-by entry (at_moment homes moment) (concern entry) is.accepted (subst (λ (s : State). s.now ≤ max_moment) is.led is.now)
 
 pub appended-present : (past : Past) (number : ℕ) (homes later : HomesKept) (moment now octets sum : ℕ) (counts all : Totals) (held : Option HeldPlan) (entry : Entry) (items : List Entry) → IsPresent past number homes moment octets counts held
     → option_map (led_to (at_moment homes moment)) held ≡ held_for (state_now past) entry → is_some (option_map (led_to (at_moment homes moment)) held) ≡ true

@@ -5,7 +5,7 @@ use Rattle.std.specs.List.{list_any, AllByRecursion}
 use Rattle.dnsname.specs.Names.{Labels, same_name, ends_in, is_name}
 use Rattle.dnsname.proofs.Decisions.{is_name-Decides}
 use Rattle.rrset.specs.KeyedRows.{is_rising}
-use Rattle.zoneupdate.specs.Keeping.{ZoneKept, lies_under}
+use Rattle.zoneupdate.specs.KeptZones.{ZoneKept, lies_under}
 use Rattle.zoneupdate.specs.Zones.{ZoneState, new_zone, first_soa, first_ns, is_inside}
 use Rattle.zoneupdate.proofs.Filters.{and-left, and-right, and-both, not-true, not_both, or-left, or-right}
 use Rattle.zoneupdate.proofs.Homes.{is_inside-under}

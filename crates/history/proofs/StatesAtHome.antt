@@ -1,30 +1,23 @@
 -- Each state of a history has its records at home, if the start has.
-use Rattle.std.proofs.Common.{◌≡◌, ℕ, zero, suc, ◌+◌, Bool, true, false, cond, ltb, nat_lt, List, [], ◌∷◌, ◌++◌, map, Option, Some, None, Result, Ok, Err, refl, sym, ap, subst, ◌∙◌}
+use Rattle.std.proofs.Common.{◌≡◌, ℕ, zero, suc, Bool, true, false, cond, ltb, List, [], ◌∷◌, ◌++◌, map, Option, Some, None, Result, Ok, Err, refl, sym, ap, subst, ◌∙◌}
 use Rattle.std.specs.Prelude.{position}
 use Rattle.std.specs.List.{AllByRecursion}
 use Rattle.push_base.specs.Cases.{◌>>=◌, changed_at}
 use Rattle.dnsname.specs.Names.{Labels}
 use Rattle.dnswire.specs.declared.message.Update.{Update}
 use Rattle.rrset.specs.Rcodes.{notauth}
-use Rattle.rrset.specs.Records.{same_key}
 use Rattle.rrset.specs.RecordSet.{RecordSet, changes}
-use Rattle.rrset.specs.declared.record.Hearing.{Hearing}
-use Rattle.rrset.specs.declared.record.Key.{Key}
 use Rattle.zoneupdate.specs.Updates.{judged}
 use Rattle.zoneupdate.specs.Zones.{ZoneState}
-use Rattle.zoneupdate.proofs.Filters.{holds, is_true}
 use Rattle.linkcache.specs.Links.{IsLink}
-use Rattle.linkcache.specs.Rows.{reconfirmed, reconfirmation}
-use Rattle.linkcache.proofs.KeyedParts.{rising-filter}
-use Rattle.linkcache.proofs.OwnerSizes.{within-heard, within-moment, within-reconfirmed}
-use Rattle.linkcache.proofs.SoundSteps.{sound-heard, sound-moment, sound-reconfirmed}
+use Rattle.history.specs.Entries.{Concern, a_zone, a_link, all_links, concern}
 use Rattle.history.specs.Homes.{NamedHome}
 use Rattle.history.specs.AtHome.{IsAtHome, AreAtHome, StandApart, named_zones, named_links}
-use Rattle.history.specs.States.{State, LinkState, home_names, zone_asked, with_rows, updated, after, link_heard, link_at_moment}
+use Rattle.history.specs.States.{State, LinkState, home_names, zone_asked, with_rows, updated, after, after_by, link_after, link_at_moment}
 use Rattle.history.specs.declared.entry.Entry.{Entry}
 use Rattle.history.specs.declared.entry.Entry.TheVariants as entries
 use Rattle.history.proofs.HomeSets.{map-twice}
-use Rattle.history.proofs.LinkOrder.{rising-ending, rising-heard}
+use Rattle.history.proofs.OneLink.{link-after, link-moment}
 use Rattle.history.proofs.Positions.{Found, found_from, map-changed_at}
 use Rattle.history.proofs.UpdateSteps.{named, asked_step, zone_step, updated-steps, updated-found, zone_of-none, accepted-found}
 
@@ -83,40 +76,17 @@ links-one f keeps i [] are = tt
 links-one f keeps zero (l ∷ links) are = (keeps l are.0, are.1)
 links-one f keeps (suc i) (l ∷ links) are = (are.0, links-one f keeps i links are.1)
 
-pub link-heard : (now : ℕ) (hearing : Hearing) (l : LinkState) → IsLink l → IsLink (link_heard now hearing l)
-link-heard now hearing l is = record {
-  name = is.name;
-  order = is_true _ (rising-heard l.domain now hearing.rrs l.rows (holds _ is.order));
-  sound = sound-heard l.domain now hearing.rrs l.rows is.sound;
-  within = within-heard l.domain now hearing.rrs l.rows (holds _ is.order) is.sound is.within;
-}
-
-pub link-moment : (t : ℕ) (l : LinkState) → IsLink l → IsLink (link_at_moment t l)
-link-moment t l is = record {
-  name = is.name;
-  order = is_true _ (rising-filter (λ row. nat_lt t row.1.ends) l.rows (holds _ is.order));
-  sound = sound-moment l.domain t l.rows is.sound;
-  within = within-moment l.domain t l.rows is.within;
-}
-
-pub link-reconfirmed : (key : Key) (now : ℕ) (l : LinkState) → IsLink l → IsLink (record l { rows = reconfirmed l.rows key now })
-link-reconfirmed key now l is = record {
-  name = is.name;
-  order = is_true _ (rising-ending (λ row. same_key key row.0) (now + reconfirmation) l.rows (holds _ is.order));
-  sound = sound-reconfirmed l.domain key now l.rows is.sound;
-  within = within-reconfirmed l.domain key now l.rows is.within;
-}
-
-pub home-after : (state : State) → AreAtHome state → (entry : Entry) → AreAtHome (after state entry)
-home-after state home (entries.Update update) = home-updated state home update
-home-after state home (entries.Heard link hearing) =
-    home-relinked state home (changed_at link (link_heard state.now hearing) state.links) state.now (map-changed_at (λ (l : LinkState). l.domain) (link_heard state.now hearing) (λ l. refl) link state.links)
-    (links-one (link_heard state.now hearing) (link-heard state.now hearing) link state.links home.links)
-home-after state home (entries.Reconfirm link key) =
-    home-relinked state home (changed_at link (λ l. record l { rows = reconfirmed l.rows key state.now }) state.links) state.now (map-changed_at (λ (l : LinkState). l.domain) (λ (l : LinkState). record l { rows = reconfirmed l.rows key state.now }) (λ l. refl) link state.links)
-    (links-one (λ l. record l { rows = reconfirmed l.rows key state.now }) (link-reconfirmed key state.now) link state.links home.links)
-home-after state home (entries.Moment t) = by (ltb state.now t)
+-- whatever homes the entry concerns
+home-by : (entry : Entry) (state : State) → AreAtHome state → (homes : Concern) → AreAtHome (after_by entry state homes)
+home-by entry state home (a_zone update) = home-updated state home update
+home-by entry state home (a_link link) =
+    home-relinked state home (changed_at link (link_after entry state.now) state.links) state.now (map-changed_at (λ (l : LinkState). l.domain) (link_after entry state.now) (λ l. refl) link state.links)
+    (links-one (link_after entry state.now) (link-after entry state.now) link state.links home.links)
+home-by entry state home (all_links t) = by (ltb state.now t)
   where
     by : (b : Bool) → AreAtHome (cond b (record state { now = t; links = map (link_at_moment t) state.links }) state)
     by true = home-relinked state home (map (link_at_moment t) state.links) t (map-twice (link_at_moment t) (λ (l : LinkState). l.domain) state.links) (links-each (link_at_moment t) (link-moment t) state.links home.links)
     by false = home
+
+pub home-after : (state : State) → AreAtHome state → (entry : Entry) → AreAtHome (after state entry)
+home-after state home entry = home-by entry state home (concern entry)

@@ -5,7 +5,7 @@ use Rattle.std.specs.List.{AllByRecursion}
 use Rattle.std.proofs.lemmas.List.{drop_more}
 use Rattle.dnsname.specs.Names.{Labels, is_name, IsName}
 use Rattle.dnsname.proofs.Decisions.{is_name-Decides}
-use Rattle.zoneupdate.specs.Keeping.{ZoneKept}
+use Rattle.zoneupdate.specs.KeptZones.{ZoneKept}
 use Rattle.linkcache.specs.Links.{LinkState, LinkKept}
 use Rattle.history.specs.Homes.{NamedHome}
 use Rattle.history.specs.Kept.{HomesKept, state_of}

@@ -9,7 +9,7 @@ use Rattle.rrset.specs.Rcodes.{notauth}
 use Rattle.rrset.specs.RecordSet.{RecordSet, changes, with_changes}
 use Rattle.rrset.specs.declared.record.Changed.{Changed}
 use Rattle.rrset.proofs.WithChanges.{with_changes-new}
-use Rattle.zoneupdate.specs.Keeping.{Leads}
+use Rattle.zoneupdate.specs.KeptZones.{Leads}
 use Rattle.zoneupdate.specs.Updates.{judged}
 use Rattle.zoneupdate.specs.Zones.{ZoneState}
 use Rattle.zoneupdate.proofs.RecordSets.{set-in_order}

@@ -6,7 +6,7 @@ use Rattle.rrset.specs.RecordSet.{RecordSet}
 use Rattle.rrset.specs.declared.record.Changed.{Changed}
 use Rattle.nametable.specs.Nodes.{HasRoomFor, keys_put}
 use Rattle.zoneupdate.specs.declared.plan.Verdict.{Verdict}
-use Rattle.zoneupdate.specs.Keeping.{ZoneKept, IsKept, IsPlanOf, HasRoom, Leads}
+use Rattle.zoneupdate.specs.KeptZones.{ZoneKept, IsKept, IsPlanOf, HasRoom, Leads}
 use Rattle.zoneupdate.proofs.Plans.{led}
 use Rattle.history.specs.HeldPlans.{IsZoneReady, zone_changed}
 use Rattle.history.proofs.Elements.{same_some, slice_get-read, get_or-same, slice_get-set, slice_get-within, map-changed}

@@ -15,11 +15,12 @@ use Rattle.rrset.specs.declared.record.Changed.{Changed}
 use Rattle.dnswire.specs.declared.message.Update.{Update}
 use Rattle.nametable.specs.Nodes.{HasRoomFor, keys_put}
 use Rattle.zoneupdate.specs.Zones.{ZoneState}
-use Rattle.zoneupdate.specs.Keeping.{ZoneKept, IsPlanOf}
+use Rattle.zoneupdate.specs.KeptZones.{ZoneKept, IsPlanOf}
 use Rattle.linkcache.specs.Links.{LinkKept, HasRoom}
 use Rattle.linkcache.specs.Plans as links
 use Rattle.linkcache.specs.Plans.{LinkPlan, with_row_changes}
 use Rattle.history.specs.Plans.{may_stand_together, planned, refuse, accept}
+use Rattle.history.specs.Entries.{Concern, all_links, concern}
 use Rattle.history.specs.States.{State, LinkState, after, entry_size, max_journal_entries, max_journal_octets}
 use Rattle.history.specs.Kept.{HomesKept, Past, at_moment, state_of, state_now}
 use Rattle.history.specs.AtHome.{AreNamesOf, AreAtHome}
@@ -97,10 +98,13 @@ IsCheckReady zones (results.Accept index changed) = IsZoneReady (slice_get zones
 
 -- ---- the past
 
--- its moment, if it is one, is no later than the last
+-- the moment at which it concerns all links, if it does, is no later than the last
+abbrev pub IsInTime : Concern → Type 0
+IsInTime (all_links t) = t ≤ max_moment
+IsInTime _ = Unit {0}
+
 abbrev pub IsTimely : Entry → Type 0
-IsTimely (entries.Moment t) = t ≤ max_moment
-IsTimely _ = Unit {0}
+IsTimely entry = IsInTime (concern entry)
 
 -- homes at a moment are this state, in which each record is at home
 pub record IsStateOf (homes : HomesKept) (moment : ℕ) (state : State) : Type 0 where

@@ -7,7 +7,7 @@
 --     GivesFault result fault      what adding a home answers
 use Rattle.std.specs.Prelude.{◌≡◌, ℕ, List, map, length, Option, Some, None, Result, Ok, Err, IsTrue, is_some, if◌then◌else◌}
 use Rattle.rrset.specs.RecordSet.{RecordSet}
-use Rattle.zoneupdate.specs.Keeping.{ZoneKept}
+use Rattle.zoneupdate.specs.KeptZones.{ZoneKept}
 use Rattle.linkcache.specs.Links.{LinkKept}
 use Rattle.history.specs.Homes.{NamedHome}
 use Rattle.history.specs.States.{State, state_at, records, accepts, after}

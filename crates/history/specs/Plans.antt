@@ -7,9 +7,9 @@ use Rattle.rrset.specs.RecordSet.{changes}
 use Rattle.rrset.specs.declared.record.Changed.{Changed}
 use Rattle.zoneupdate.specs.Zones.{new_zone}
 use Rattle.history.specs.Homes.{NamedHome, home_fault}
-use Rattle.history.specs.States.{State, updated, accepts, after, records}
+use Rattle.history.specs.Entries.{Concern, a_zone, concern}
+use Rattle.history.specs.States.{State, updated, accepts_by, after_by, records}
 use Rattle.history.specs.declared.entry.Entry.{Entry}
-use Rattle.history.specs.declared.entry.Entry.TheVariants as entries
 
 pub data Plan : Type 0 where
   refuse : ℕ → Plan
@@ -17,9 +17,12 @@ pub data Plan : Type 0 where
   accept : List Changed → Plan
 
 -- an update that is refused, another entry that isn't accepted, or all keys that will be shown otherwise
+abbrev pub planned_by : Entry → State → Concern → Plan
+planned_by entry state (a_zone update) = elim (updated state update) [ Err code ↦ refuse code | Ok later ↦ accept (changes (records state) (records later)) ]
+planned_by entry state homes = if accepts_by entry state homes then accept (changes (records state) (records (after_by entry state homes))) else idle
+
 abbrev pub planned : State → Entry → Plan
-planned state (entries.Update update) = elim (updated state update) [ Err code ↦ refuse code | Ok later ↦ accept (changes (records state) (records later)) ]
-planned state entry = if accepts state entry then accept (changes (records state) (records (after state entry))) else idle
+planned state entry = planned_by entry state (concern entry)
 
 -- homes, each of which was added to those before it without a fault
 abbrev pub were_added : List NamedHome → List NamedHome → Bool

@@ -1,31 +1,30 @@
 -- The state of all homes, what an entry makes of it, and the records that it shows.
 --     lacks_update_header, update_in      a message has no header of an update; the update that a message is
 --     verdict state message      what an update gets: the update that is entered, or an RCODE
---     accepts state entry, after state entry      whether the entry is made; the state after it
+--     accepts state entry, after state entry      whether the entry is made; the state after it, each by the homes that it concerns
 --     state_at, records_at      the state and the records after the first entries of a history
 use Rattle.std.specs.Prelude.{ℕ, ◌+◌, Bool, false, not, ◌&&◌, ◌||◌, cond, List, [], ◌∷◌, ◌++◌, map, length, take, fold, find, position, sum_by, Option, Some, None, Result, Ok, Err, is_ok, nat_lt, nat_le, ◌==◌, slice_get, option_map, option_and_then, if◌then◌else◌}
-use Rattle.push_base.specs.Cases.{◌>>=◌, fault_as, is_empty, changed_at}
+use Rattle.push_base.specs.Cases.{◌>>=◌, fault_as, changed_at}
 use Rattle.dnsname.specs.Names.{Labels, same_name, home}
 use Rattle.rrset.specs.Kinds.{in_class, soa_kind}
 use Rattle.rrset.specs.Rcodes.{formerr, notauth}
 use Rattle.rrset.specs.Header.{header_octets, max_message, flags_of, is_response, opcode_of, update_opcode}
-use Rattle.rrset.specs.Records.{key_of, rr_size}
+use Rattle.rrset.specs.Records.{key_of}
 use Rattle.rrset.specs.RecordSet.{RecordSet, union}
 use Rattle.rrset.specs.declared.record.Rr.{Rr}
 use Rattle.rrset.specs.declared.record.Key.{Key}
 use Rattle.rrset.specs.declared.record.Question.{Question}
-use Rattle.rrset.specs.declared.record.Hearing.{Hearing}
 use Rattle.dnswire.specs.declared.message.Update.{Update}
 use Rattle.dnswire.specs.Reading.{update_of}
 use Rattle.zoneupdate.specs.Zones.{ZoneState}
 use Rattle.zoneupdate.specs.Updates.{judged}
 use Rattle.linkmap.specs.Translation.{heard_as}
 pub use Rattle.linkcache.specs.Links.{LinkState}
-use Rattle.linkcache.specs.Rows.{heard, at_moment, reconfirmed, has_key, shown_rows, usable_of}
-use Rattle.history.specs.declared.entry.TheConstants as entry
+use Rattle.linkcache.specs.Rows.{at_moment, shown_rows}
+pub use Rattle.history.specs.Entries.{entry_octets, entry_size}
+use Rattle.history.specs.Entries.{Concern, a_zone, a_link, all_links, concern, is_taken, rows_after}
 use Rattle.history.specs.declared.points.TheConstants as points
 use Rattle.history.specs.declared.entry.Entry.{Entry}
-use Rattle.history.specs.declared.entry.Entry.TheVariants as entries
 use Rattle.history.specs.declared.entry.Home.{Home}
 use Rattle.history.specs.declared.entry.Home.TheVariants as homes
 
@@ -82,27 +81,32 @@ update_in message = if lacks_update_header message then Err formerr else fault_a
 abbrev pub verdict : State → List ℕ → Result Update ℕ
 verdict state message = update_in message >>= λ update. updated state update >>= λ _. Ok update
 
-abbrev pub link_heard : ℕ → Hearing → LinkState → LinkState
-link_heard now hearing link = record link { rows = heard link.domain link.rows now hearing.rrs }
+abbrev pub link_after : Entry → ℕ → LinkState → LinkState
+link_after entry now link = record link { rows = rows_after entry now link }
 
 abbrev pub link_at_moment : ℕ → LinkState → LinkState
 link_at_moment t link = record link { rows = at_moment link.rows t }
 
+-- the state after an entry that concerns these homes
+abbrev pub after_by : Entry → State → Concern → State
+after_by entry state (a_zone update) = elim (updated state update) [ Err code ↦ state | Ok later ↦ later ]
+after_by entry state (a_link link) = record state { links = changed_at link (link_after entry state.now) state.links }
+after_by entry state (all_links t) = if nat_lt state.now t then record state { now = t; links = map (link_at_moment t) state.links } else state
+
 abbrev pub after : State → Entry → State
-after state (entries.Update update) = elim (updated state update) [ Err code ↦ state | Ok later ↦ later ]
-after state (entries.Heard link hearing) = record state { links = changed_at link (link_heard state.now hearing) state.links }
-after state (entries.Moment t) = if nat_lt state.now t then record state { now = t; links = map (link_at_moment t) state.links } else state
-after state (entries.Reconfirm link key) = record state { links = changed_at link (λ l. record l { rows = reconfirmed l.rows key state.now }) state.links }
+after state entry = after_by entry state (concern entry)
 
 abbrev pub link_meets : (LinkState → Bool) → State → ℕ → Bool
 link_meets test state link = elim (slice_get state.links link) [ None ↦ false | Some l ↦ test l ]
 
+abbrev pub accepts_by : Entry → State → Concern → Bool
+accepts_by entry state (a_zone update) = is_ok (updated state update)
+accepts_by entry state (a_link link) = link_meets (is_taken entry) state link
+accepts_by entry state (all_links t) = nat_lt state.now t
+
 -- which events are entered (this project's own)
 abbrev pub accepts : State → Entry → Bool
-accepts state (entries.Update update) = is_ok (updated state update)
-accepts state (entries.Heard link hearing) = link_meets (λ l. not (is_empty (usable_of l.domain hearing.rrs))) state link
-accepts state (entries.Moment t) = nat_lt state.now t
-accepts state (entries.Reconfirm link key) = link_meets (λ l. has_key key l.rows) state link
+accepts state entry = accepts_by entry state (concern entry)
 
 abbrev pub records : State → RecordSet
 records state = fold union [] (map (λ z. z.rows) state.zones ++ map (λ l. shown_rows l.domain l.rows) state.links)
@@ -121,17 +125,6 @@ key_heard state rr _ = None
 
 abbrev pub reconfirm_key : State → Rr → Option (ℕ × Key)
 reconfirm_key state rr = key_heard state rr (home_of state rr.owner)
-
--- the octets that the journal counts for an entry beside its records
-abbrev pub entry_octets : ℕ
-entry_octets = entry.ENTRY_OCTETS
-
--- the journal's size of an entry
-abbrev pub entry_size : Entry → ℕ
-entry_size (entries.Update update) = entry_octets + sum_by rr_size update.prereqs + sum_by rr_size update.changes
-entry_size (entries.Heard link hearing) = entry_octets + sum_by (λ h. rr_size h.rr) hearing.rrs
-entry_size (entries.Moment t) = entry_octets
-entry_size (entries.Reconfirm link key) = entry_octets
 
 abbrev pub max_journal_entries : ℕ
 max_journal_entries = points.MAX_ENTRIES

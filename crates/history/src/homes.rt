@@ -1,14 +1,12 @@
 //! The homes of names (RFC 1034, 4.2; RFC 8766, 5.5).
 
-ghost use Rattle.std.specs.Prelude.{◌≡◌, ◌≤◌, ◌++◌, ◌∷◌, ℕ, [], not, map, None, Some, true, false, IfOk, IfSome, MatchOption, OnErr, OnOk, IsTrue, slice_get, option_map, option_and_then};
+ghost use Rattle.std.specs.Prelude.{◌≡◌, ◌≤◌, ◌++◌, ◌∷◌, ℕ, [], map, None, Some, true, false, IfOk, IfSome, MatchOption, OnErr, OnOk, IsTrue, slice_get, option_map, option_and_then};
 ghost use Rattle.std.specs.List.{AllByRecursion, AllZip};
-ghost use Rattle.push_base.specs.Cases.{is_empty};
 ghost use Rattle.push_base.specs.Limits.{max_moment};
 ghost use Rattle.dnsname.specs.Names.{is_name};
 ghost use Rattle.rrset.specs.RecordSet.{matching};
 ghost use Rattle.rrset.specs.Records.{key_of, rr_of};
 ghost use Rattle.linkmap.specs.Translation.{heard_as};
-ghost use Rattle.linkcache.specs.Rows.{has_key, heard, reconfirmed, usable_of};
 ghost use Rattle.history.specs.Homes.{home_fault};
 ghost use Rattle.history.specs.States.{home_of, records, reconfirm_key};
 ghost use Rattle.history.specs.Kept.{GivesFault, at_moment, state_of, states_at};
@@ -16,10 +14,10 @@ ghost use Rattle.history.specs.AtHome.{AreAtHome, homes_in};
 ghost use Rattle.history.specs.LinkSteps.{EndsBy, StepsTo};
 ghost use Rattle.history.specs.HeldPlans.{Checks, IsCheckReady, IsLinkReady, IsPlanIn, IsReady, led_to};
 
-use crate::entry::{Home, HomeFault};
+use crate::entry::{Entry, Home, HomeFault};
 use crate::link_lists::{
-    apply_link, apply_links, copies_of_links, hear, link_matching, longest_link, moments,
-    put_all_shown, reconfirm, tell_links,
+    apply_link, apply_links, copies_of_links, link_matching, longest_link, moments, put_all_shown,
+    step_of, tell_links,
 };
 use crate::naming::{NamedHome, copies_of, fault_of, put_behind};
 use crate::planning::HeldPlan;
@@ -31,7 +29,7 @@ use dnsname::Name;
 use dnswire::Update;
 use linkcache::{Cache, HearPlan};
 use linkmap::back;
-use rrset::{HeardRr, Key, NoMemory, Question, Rr, Rrs, Shown, Table};
+use rrset::{Key, NoMemory, Question, Rr, Rrs, Shown, Table};
 use std::alloc::Global;
 use std::marker::Model;
 use zoneupdate::Zone;
@@ -243,40 +241,22 @@ impl Homes {
         check_zones(alloc, &mut self.zones, &self.links, update)
     }
 
-    /// What a hearing will change in a link; nothing where there is no such link, or no record is usable. The rows stay,
-    /// and room is made for the plan.
-    pub(crate) fn hear(
+    /// What an entry will change in the one link that it concerns; nothing where there is no such link, or it doesn't take
+    /// the entry up. The rows stay, and room is made for the plan.
+    pub(crate) fn step(
         &mut self,
         alloc: Global,
         moment: u64,
         link: usize,
-        hearing: &[HeardRr],
+        entry: &Entry,
     ) -> Result<Option<HearPlan>, NoMemory>
         requires { moment ≤ max_moment }
-        ensures plan { IfOk result (λ plan. StepsTo (λ l. not (is_empty (usable_of l.domain hearing.now))) (λ l. heard l.domain l.rows moment hearing.now) (slice_get (state_of self.old).links link) plan) }
+        ensures plan { IfOk result (λ plan. StepsTo entry.now moment (slice_get (state_of self.old).links link) plan) }
         ensures state { state_of self.new ≡ state_of self.old }
         ensures names { self.new.names ≡ self.old.names }
         ensures room { IfOk result (λ plan. IfSome plan (IsLinkReady (slice_get self.new.links link))) }
     {
-        hear(alloc, &mut self.links, link, moment, hearing)
-    }
-
-    /// What a reconfirmation of a key will change in a link; nothing where there is no such link, or no row of the key. The
-    /// rows stay, and room is made for the plan.
-    pub(crate) fn reconfirm(
-        &mut self,
-        alloc: Global,
-        moment: u64,
-        link: usize,
-        key: &Key,
-    ) -> Result<Option<HearPlan>, NoMemory>
-        requires { moment ≤ max_moment }
-        ensures plan { IfOk result (λ plan. StepsTo (λ l. has_key key.now l.rows) (λ l. reconfirmed l.rows key.now moment) (slice_get (state_of self.old).links link) plan) }
-        ensures state { state_of self.new ≡ state_of self.old }
-        ensures names { self.new.names ≡ self.old.names }
-        ensures room { IfOk result (λ plan. IfSome plan (IsLinkReady (slice_get self.new.links link))) }
-    {
-        reconfirm(alloc, &mut self.links, link, moment, key)
+        step_of(alloc, &mut self.links, link, moment, entry)
     }
 
     /// What a moment will change in each link. The rows stay, and room is made for the plans.

@@ -3,6 +3,7 @@
 
 pub mod entry;
 mod homes;
+mod journal_replay;
 pub mod laws;
 mod link_lists;
 mod matching;
@@ -10,7 +11,7 @@ mod naming;
 mod plan;
 mod planning;
 mod points;
-mod replaying;
+mod steps;
 mod totals;
 mod updating;
 mod zone_lists;

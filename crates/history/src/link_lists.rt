@@ -1,24 +1,26 @@
 //! Links one behind another, in the order in which they were added.
 
-ghost use Rattle.std.specs.Prelude.{◌≡◌, ◌≤◌, ◌<◌, ◌+◌, ◌++◌, ℕ, List, Option, Some, not, map, fold, take, drop, length, IfOk, IfSome, OnOk, IsTrue, slice_get};
+ghost use Rattle.std.specs.Prelude.{◌≡◌, ◌≤◌, ◌<◌, ◌+◌, ◌++◌, ℕ, List, Option, Some, map, fold, take, drop, length, IfOk, IfSome, OnOk, IsTrue, slice_get};
 ghost use Rattle.std.specs.List.{AllByRecursion, AllZip};
-ghost use Rattle.push_base.specs.Cases.{changed_at, is_empty};
+ghost use Rattle.push_base.specs.Cases.{changed_at};
 ghost use Rattle.push_base.specs.Limits.{max_moment};
 ghost use Rattle.dnsname.specs.Names.{Labels, is_name};
 ghost use Rattle.rrset.specs.RecordSet.{matching, union};
 ghost use Rattle.rrset.specs.Records.{rr_of};
 ghost use Rattle.linkcache.specs.Links.{LinkKept};
-ghost use Rattle.linkcache.specs.Plans.{IsHeardPlan, IsMomentPlan, IsReconfirmPlan};
-ghost use Rattle.linkcache.specs.Rows.{has_key, heard, reconfirmed, shown_rows, usable_of};
+ghost use Rattle.linkcache.specs.Plans.{IsMomentPlan};
+ghost use Rattle.linkcache.specs.Rows.{shown_rows};
 ghost use Rattle.history.specs.AtHome.{IsHomeAt};
 ghost use Rattle.history.specs.Longest.{IsLongest, place_behind};
-ghost use Rattle.history.specs.LinkSteps.{EndsBy, StepsTo, has_row, link_rows};
+ghost use Rattle.history.specs.LinkSteps.{EndsBy, StepsIn, StepsTo, link_rows};
 ghost use Rattle.history.specs.HeldPlans.{IsLinkReady, IsPlanIn, link_changed, links_changed};
 
+use crate::entry::Entry;
 use crate::matching::table_matching;
+use crate::steps::step;
 use dnsname::Name;
 use linkcache::{Cache, HearPlan};
-use rrset::{HeardRr, Key, NoMemory, Question, Rrs, Table, put_all};
+use rrset::{NoMemory, Question, Rrs, Table, put_all};
 use std::alloc::Global;
 
 /// The link with the longest domain that a name ends in, of those of more octets than a number; nothing where there is
@@ -87,93 +89,41 @@ pub(crate) fn link_matching(
     }
 }
 
-/// What a hearing will change in one of some links.
-fn hear_at(
+/// What an entry will change in one of some links.
+fn step_at(
     alloc: Global,
     links: &mut [Cache],
     index: usize,
     now: u64,
-    hearing: &[HeardRr],
-) -> Result<HearPlan, NoMemory>
+    entry: &Entry,
+) -> Result<Option<HearPlan>, NoMemory>
     requires within { index < length links.old }
     requires moment { now ≤ max_moment }
-    ensures plan { IfOk result (λ plan. (link : LinkKept) → slice_get links.old index ≡ Some link → IsHeardPlan link.state.domain link.state.rows now hearing.now plan) }
+    ensures plan { IfOk result (λ plan. (link : LinkKept) → slice_get links.old index ≡ Some link → StepsIn entry.now now link.state plan) }
     ensures states { map (λ l. l.state) links.new ≡ map (λ l. l.state) links.old }
-    ensures room { IfOk result (IsLinkReady (slice_get links.new index)) }
+    ensures room { IfOk result (λ plan. IfSome plan (IsLinkReady (slice_get links.new index))) }
 {
-    links[index].hear(alloc, now, hearing)
+    step(alloc, &mut links[index], now, entry)
 }
 
-/// What a hearing will change in one of some links; nothing where there is no such link, or no record is usable. The rows
-/// stay, and room is made for the plan.
-pub(crate) fn hear(
+/// What an entry will change in one of some links; nothing where there is no such link, or it doesn't take the entry up.
+/// The rows stay, and room is made for the plan.
+pub(crate) fn step_of(
     alloc: Global,
     links: &mut [Cache],
     index: usize,
     now: u64,
-    hearing: &[HeardRr],
+    entry: &Entry,
 ) -> Result<Option<HearPlan>, NoMemory>
     requires { now ≤ max_moment }
-    ensures plan { IfOk result (λ plan. StepsTo (λ l. not (is_empty (usable_of l.domain hearing.now))) (λ l. heard l.domain l.rows now hearing.now) (slice_get (map (λ l. l.state) links.old) index) plan) }
+    ensures plan { IfOk result (λ plan. StepsTo entry.now now (slice_get (map (λ l. l.state) links.old) index) plan) }
     ensures states { map (λ l. l.state) links.new ≡ map (λ l. l.state) links.old }
     ensures room { IfOk result (λ plan. IfSome plan (IsLinkReady (slice_get links.new index))) }
 {
     if index >= links.len() {
         return Ok(None);
     }
-    let plan = hear_at(alloc, links, index, now, hearing)?;
-    if !plan.is_usable() {
-        return Ok(None);
-    }
-    Ok(Some(plan))
-}
-
-/// What a reconfirmation of a key will change in one of some links.
-fn reconfirm_at(
-    alloc: Global,
-    links: &mut [Cache],
-    index: usize,
-    now: u64,
-    key: &Key,
-) -> Result<HearPlan, NoMemory>
-    requires within { index < length links.old }
-    requires moment { now ≤ max_moment }
-    ensures plan { IfOk result (λ plan. (link : LinkKept) → slice_get links.old index ≡ Some link → IsReconfirmPlan link.state.domain link.state.rows key.now now plan) }
-    ensures states { map (λ l. l.state) links.new ≡ map (λ l. l.state) links.old }
-    ensures room { IfOk result (IsLinkReady (slice_get links.new index)) }
-{
-    links[index].reconfirm(alloc, key, now)
-}
-
-/// Whether there is such a link, with a row of a key.
-fn has_row(links: &[Cache], index: usize, key: &Key) -> bool
-    ensures { result ≡ has_row key.now (slice_get links.now index) }
-{
-    match links.get(index) {
-        Some(link) => link.has(key),
-        None => false,
-    }
-}
-
-/// What a reconfirmation of a key will change in one of some links; nothing where there is no such link, or no row of the
-/// key. The rows stay, and room is made for the plan.
-pub(crate) fn reconfirm(
-    alloc: Global,
-    links: &mut [Cache],
-    index: usize,
-    now: u64,
-    key: &Key,
-) -> Result<Option<HearPlan>, NoMemory>
-    requires { now ≤ max_moment }
-    ensures plan { IfOk result (λ plan. StepsTo (λ l. has_key key.now l.rows) (λ l. reconfirmed l.rows key.now now) (slice_get (map (λ l. l.state) links.old) index) plan) }
-    ensures states { map (λ l. l.state) links.new ≡ map (λ l. l.state) links.old }
-    ensures room { IfOk result (λ plan. IfSome plan (IsLinkReady (slice_get links.new index))) }
-{
-    if !has_row(links, index, key) {
-        return Ok(None);
-    }
-    let plan = reconfirm_at(alloc, links, index, now, key)?;
-    Ok(Some(plan))
+    step_at(alloc, links, index, now, entry)
 }
 
 /// What a moment will change in one of some links.

@@ -6,6 +6,7 @@ ghost use Rattle.history.specs.declared.plan.PastFault.TheVariants as faults;
 use rrset::{Changed, NoMemory, Shown};
 use std::alloc::{AllocError, AllocFailed, Global};
 use std::marker::Model;
+use thiserror::Error;
 
 /// Keys that will be shown otherwise, each with what is shown of it before and after, in key order.
 #[derive(Debug, Drop)]
@@ -91,11 +92,13 @@ pub enum Planned {
 }
 
 /// Why an entry is not appended.
-#[derive(Clone, Copy, Debug, PartialEq, Eq)]
+#[derive(Clone, Copy, Debug, PartialEq, Eq, Error)]
 pub enum PastFault {
     /// There are 65,536 entries, or their sizes with its own would pass 67,108,864 octets.
+    #[error("the journal is full")]
     Full,
     /// Memory ran out.
+    #[error("out of memory")]
     NoMemory,
 }
 

@@ -4,6 +4,7 @@ ghost use Rattle.std.specs.Prelude.{◌≡◌, ◌≤◌, ◌<◌, [], map, flat
 ghost use Rattle.std.specs.List.{AllByRecursion};
 ghost use Rattle.push_base.specs.Limits.{max_moment};
 ghost use Rattle.rrset.specs.Tables.{HasLowerOwner};
+ghost use Rattle.history.specs.Entries.{a_link, concern};
 ghost use Rattle.history.specs.Plans.{planned};
 ghost use Rattle.history.specs.declared.entry.Entry.TheVariants as entries;
 ghost use Rattle.history.specs.declared.planning.HeldPlan.TheVariants as plans;
@@ -19,7 +20,7 @@ use crate::plan::{ChangedKeys, Planned, copy_change};
 use crate::updating::Checked;
 use dnswire::Update;
 use linkcache::HearPlan;
-use rrset::{Changed, Hearing, Key, NoMemory, Table};
+use rrset::{Changed, Key, NoMemory, Table};
 use std::alloc::Global;
 use zoneupdate::ZonePlan;
 
@@ -76,44 +77,25 @@ fn told_and_held(
     }
 }
 
-/// What becomes of a hearing of a link, and the plan that is then held. The rows stay, and room is made for the plan.
-fn plan_of_hearing(
-    alloc: Global,
-    homes: &mut Homes,
-    moment: u64,
-    link: usize,
-    hearing: &Hearing,
-) -> Result<(Planned, Option<HeldPlan>), NoMemory>
-    requires home { AreAtHome (at_moment homes.old moment) }
-    requires moment { moment ≤ max_moment }
-    ensures planned { IfOk result (λ plan. plan.0 ≡ told_plan (planned (at_moment homes.old moment) (entries.Heard link hearing.now))) }
-    ensures held { IfOk result (λ plan. option_map (led_to (at_moment homes.old moment)) plan.1 ≡ held_for (at_moment homes.old moment) (entries.Heard link hearing.now)) }
-    ensures state { state_of homes.new ≡ state_of homes.old }
-    ensures names { homes.new.names ≡ homes.old.names }
-    ensures room { IfOk result (λ plan. IfSome plan.1 (IsReady homes.new)) }
-{
-    let plan = homes.hear(alloc, moment, link, hearing.rrs.as_slice())?;
-    told_and_held(alloc, link, plan)
-}
-
-/// What becomes of a reconfirmation of a link's key, and the plan that is then held. The rows stay, and room is made for
+/// What becomes of an entry that concerns one link, and the plan that is then held. The rows stay, and room is made for
 /// the plan.
-fn plan_of_reconfirmation(
+fn plan_of_step(
     alloc: Global,
     homes: &mut Homes,
     moment: u64,
     link: usize,
-    key: &Key,
+    entry: &Entry,
 ) -> Result<(Planned, Option<HeldPlan>), NoMemory>
     requires home { AreAtHome (at_moment homes.old moment) }
     requires moment { moment ≤ max_moment }
-    ensures planned { IfOk result (λ plan. plan.0 ≡ told_plan (planned (at_moment homes.old moment) (entries.Reconfirm link key.now))) }
-    ensures held { IfOk result (λ plan. option_map (led_to (at_moment homes.old moment)) plan.1 ≡ held_for (at_moment homes.old moment) (entries.Reconfirm link key.now)) }
+    requires concern { concern entry.now ≡ a_link link }
+    ensures planned { IfOk result (λ plan. plan.0 ≡ told_plan (planned (at_moment homes.old moment) entry.now)) }
+    ensures held { IfOk result (λ plan. option_map (led_to (at_moment homes.old moment)) plan.1 ≡ held_for (at_moment homes.old moment) entry.now) }
     ensures state { state_of homes.new ≡ state_of homes.old }
     ensures names { homes.new.names ≡ homes.old.names }
     ensures room { IfOk result (λ plan. IfSome plan.1 (IsReady homes.new)) }
 {
-    let plan = homes.reconfirm(alloc, moment, link, key)?;
+    let plan = homes.step(alloc, moment, link, entry)?;
     told_and_held(alloc, link, plan)
 }
 
@@ -196,14 +178,15 @@ pub(crate) fn plan_of(
 {
     match entry {
         Entry::Update(update) => plan_of_update(alloc, homes, moment, update),
-        Entry::Heard(link, hearing) => plan_of_hearing(alloc, homes, moment, *link, hearing),
         Entry::Moment(later) => plan_of_moment(alloc, homes, moment, *later),
-        Entry::Reconfirm(link, key) => plan_of_reconfirmation(alloc, homes, moment, *link, key),
+        Entry::Heard(link, _) | Entry::Reconfirm(link, _) => {
+            plan_of_step(alloc, homes, moment, *link, entry)
+        }
     }
 }
 
 /// Makes what a plan that is held makes of homes at a moment, and gives the moment afterwards. It takes no memory.
-pub(crate) fn make(homes: &mut Homes, moment: u64, held: Option<HeldPlan>) -> u64
+pub(crate) fn apply_held(homes: &mut Homes, moment: u64, held: Option<HeldPlan>) -> u64
     requires { IfSome held (IsReady homes.old) }
     ensures state { at_moment homes.new result ≡ led_by (at_moment homes.old moment) held }
     ensures names { homes.new.names ≡ homes.old.names }

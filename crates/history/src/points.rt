@@ -12,9 +12,9 @@ ghost use Rattle.history.specs.Kept.{state_of, state_now, records_now, held_for,
 
 use crate::entry::{Entry, Totals};
 use crate::homes::Homes;
+use crate::journal_replay::replayed;
 use crate::plan::{PastFault, Planned};
-use crate::planning::{HeldPlan, make, plan_of};
-use crate::replaying::replayed;
+use crate::planning::{HeldPlan, apply_held, plan_of};
 use rrset::{Key, NoMemory, Question, Rr, Rrs, Shown, Table};
 use std::alloc::Global;
 use std::marker::Model;
@@ -170,7 +170,7 @@ impl Points {
         self.past.entries.push(entry)?;
         self.octets += size;
         self.counts = counts;
-        self.moment = make(&mut self.homes, self.moment, self.held.take());
+        self.moment = apply_held(&mut self.homes, self.moment, self.held.take());
         Ok(())
     }
 

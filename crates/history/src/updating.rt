@@ -3,7 +3,7 @@
 ghost use Rattle.std.specs.Prelude.{◌≡◌, ◌<◌, ◌++◌, ℕ, List, map, filter, Some, Ok, Err, slice_get, length, IfOk, OnOk, MatchResult};
 ghost use Rattle.dnsname.specs.Names.{Labels};
 ghost use Rattle.zoneupdate.specs.Updates.{judged};
-ghost use Rattle.zoneupdate.specs.Keeping.{ZoneKept, lies_under, IsUnder, Judges, HasRoom};
+ghost use Rattle.zoneupdate.specs.KeptZones.{ZoneKept, lies_under, IsUnder, Judges, HasRoom};
 ghost use Rattle.history.specs.States.{zone_asked};
 ghost use Rattle.history.specs.Kept.{states_at};
 ghost use Rattle.history.specs.AtHome.{AreAtHome};
@@ -20,7 +20,7 @@ use std::alloc::Global;
 use zoneupdate::{Under, Verdict, Zone, ZonePlan};
 
 /// What an update of zones gets: the RCODE that refuses it, or the zone that it changes, counted from 0, and the plan.
-#[derive(Debug, Drop)]
+#[derive(Drop)]
 pub(crate) enum Checked {
     /// This RCODE refuses it.
     Refuse(u8),

@@ -7,8 +7,8 @@ use Rattle.std.specs.Io.KnownBytes.{append_known}
 use Rattle.push_base.specs.Causes.{next_count, CountsOne}
 use Rattle.push_base.specs.Told.{TellsMore}
 use Rattle.pushserver.specs.KeptHubs.{KeptHub}
-use Rattle.hublock.specs.declared.ends.LoopEnd.{LoopEnd}
-use Rattle.hublock.specs.declared.ends.LoopEnd.TheVariants as ends
+use Rattle.hublock.specs.declared.loop_end.LoopEnd.{LoopEnd}
+use Rattle.hublock.specs.declared.loop_end.LoopEnd.TheVariants as ends
 use Rattle.hublock.specs.Calls.{HubCall}
 use Rattle.hublock.specs.Gates.{GateState, DoesTurn, Answers, GoesOn, Leads, LeadsTo, RoseBy}
 use Rattle.hublock.specs.Loops.{Ran, CountsMore, UsesTurns, LeavesRest, LastWas}

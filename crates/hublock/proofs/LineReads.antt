@@ -6,12 +6,12 @@ use Rattle.std.specs.Io.KnownBytes.{append_known, IsAtEnd}
 use Rattle.std.proofs.lemmas.Grind.{flat_map-append}
 use Rattle.std.proofs.lemmas.List.{take-append-drop}
 use Rattle.push_base.specs.Causes.{CountsOne}
-use Rattle.hublock.specs.declared.ends.LoopEnd.{LoopEnd}
-use Rattle.hublock.specs.declared.ends.LoopEnd.TheVariants as ends
+use Rattle.hublock.specs.declared.loop_end.LoopEnd.{LoopEnd}
+use Rattle.hublock.specs.declared.loop_end.LoopEnd.TheVariants as ends
 use Rattle.hublock.specs.Calls.{HubCall, Took}
 use Rattle.hublock.specs.Gates.{GateState, DoesTurn, Answers, GoesOn, WasDone}
 use Rattle.hublock.specs.Loops.{Observed, CountsMore, UsesTurns, LeavesRest}
-use Rattle.hublock.specs.Reading.{IsTake, taken_in, octets_taken, HandsOn, MayLeave, IsStop, Offers, HandsAll, ReadRun, ReadCause, ReadsUntil, ReadsOn, max_read}
+use Rattle.hublock.specs.Reader.{IsTake, taken_in, octets_taken, HandsOn, MayLeave, IsStop, Offers, HandsAll, ReadRun, ReadCause, ReadsUntil, ReadsOn, max_read}
 use Rattle.hublock.proofs.Leading.{known_none, known_join, counts_none, counts_one, counts_join, answers_after, ran_none, ran_one, ran_join, uses_more, uses_join, leaves_none}
 
 -- ---- octets that are handed on

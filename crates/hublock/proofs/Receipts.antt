@@ -9,12 +9,12 @@ use Rattle.push_base.specs.Datagrams.{AreOver}
 use Rattle.pushserver.specs.declared.given.Heard.{Heard}
 use Rattle.pushserver.specs.declared.fault.HubFault.{HubFault}
 use Rattle.pushserver.specs.declared.fault.HubFault.TheVariants as faults
-use Rattle.hublock.specs.declared.ends.LoopEnd.{LoopEnd}
-use Rattle.hublock.specs.declared.ends.LoopEnd.TheVariants as ends
+use Rattle.hublock.specs.declared.loop_end.LoopEnd.{LoopEnd}
+use Rattle.hublock.specs.declared.loop_end.LoopEnd.TheVariants as ends
 use Rattle.hublock.specs.Calls.{HubCall, Received}
 use Rattle.hublock.specs.Gates.{GateState, DoesTurn, Answers, WasDone}
 use Rattle.hublock.specs.Loops.{Observed, CountsMore, LastWas}
-use Rattle.hublock.specs.Hearing.{IsReceipt, datagrams_in, datagrams_handed, HearRun, IsRefusedReceipt, HearCause, HearsUntil, HearsOn}
+use Rattle.hublock.specs.LinkReader.{IsReceipt, datagrams_in, datagrams_handed, HearRun, IsRefusedReceipt, HearCause, HearsUntil, HearsOn}
 use Rattle.hublock.proofs.Leading.{tells_none, tells_join, counts_none, counts_one, counts_join, ran_none, ran_one, ran_join, last_one, last_join, uses_join, leaves_none}
 
 abbrev Seen : Type 0

@@ -9,12 +9,12 @@ use Rattle.push_base.specs.Causes.{CountsOne}
 use Rattle.pushserver.specs.declared.given.Given.{Given}
 use Rattle.pushserver.specs.declared.fault.HubFault.{HubFault}
 use Rattle.pushserver.specs.declared.fault.HubFault.TheVariants as faults
-use Rattle.hublock.specs.declared.ends.LoopEnd.{LoopEnd}
-use Rattle.hublock.specs.declared.ends.LoopEnd.TheVariants as ends
+use Rattle.hublock.specs.declared.loop_end.LoopEnd.{LoopEnd}
+use Rattle.hublock.specs.declared.loop_end.LoopEnd.TheVariants as ends
 use Rattle.hublock.specs.Calls.{HubCall, Gave}
 use Rattle.hublock.specs.Gates.{GateState, DoesTurn, Answers, WasDone}
 use Rattle.hublock.specs.Loops.{Observed, CountsMore, UsesTurns, LeavesRest, LastWas, IsEndOf}
-use Rattle.hublock.specs.Writing.{IsGive, octets_of, given_in, octets_given, WriteRun, EndsWith, IsLastGive, IsStarvedGive, WriteCause, WritesUntil, WritesOn, TakesPiece}
+use Rattle.hublock.specs.Writer.{IsGive, octets_of, given_in, octets_given, WriteRun, EndsWith, IsLastGive, IsStarvedGive, WriteCause, WritesUntil, WritesOn, TakesPiece}
 use Rattle.hublock.proofs.Leading.{known_none, known_join, counts_none, counts_one, counts_join, answers_after, ran_none, ran_one, ran_join, last_one, last_join, uses_join, leaves_none}
 
 -- ---- writes of one piece

@@ -3,13 +3,14 @@
 --     each, added, less, IsBelow, HasAtLeast      counts of the three groups, one by one
 --     one_part, with_one_less, joined      a feed that is split off, what stays, and two together
 --     raised      after so many entries more
+--     LedgerNames      which four ledgers
 --     SeatState      the parts of the ledger of sessions, and how many were made
 use Rattle.std.specs.Prelude.{◌≡◌, ℕ, ◌+◌, ◌-◌, ◌≤◌, Result, Ok, Err}
 use Rattle.history.specs.declared.entry.Totals.{Totals}
 use Rattle.pushserver.specs.declared.given.Heard.{Heard}
 use Rattle.pushserver.specs.declared.given.Heard.TheVariants.{Entered, Ignored}
 use Rattle.pushserver.specs.declared.fault.HubFault.{HubFault}
-use Rattle.hublock.specs.declared.lock.TheConstants as lock
+use Rattle.hublock.specs.declared.books.TheConstants as books
 
 pub record FeedState : Type 0 where
   pub parts : Totals
@@ -64,13 +65,20 @@ RisesAsHeard (Ok Entered) feed now = now ≡ one_hearing_more feed
 RisesAsHeard (Ok (Ignored why)) feed now = now ≡ feed
 RisesAsHeard (Err fault) feed now = now ≡ feed
 
+-- the names of the ledgers of changes, hearings, moments and sessions
+pub record LedgerNames : Type 0 where
+  pub changes : ℕ
+  pub heard : ℕ
+  pub moments : ℕ
+  pub made : ℕ
+
 pub record SeatState : Type 0 where
   pub parts : ℕ
   pub made : ℕ
 
 -- the parts of each ledger
 abbrev pub parts_each : ℕ
-parts_each = lock.PARTS
+parts_each = books.PARTS
 
 -- every part, through which nothing was accepted yet
 abbrev pub all_parts : FeedState

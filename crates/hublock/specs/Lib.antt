@@ -1,11 +1,12 @@
 pub mod Feeds
+pub mod Ledgers
 pub mod Calls
 pub mod Gates
 pub mod Inside
 pub mod Sharing
 pub mod Loops
-pub mod Reading
-pub mod Writing
-pub mod Hearing
-pub mod Ticking
+pub mod Reader
+pub mod Writer
+pub mod LinkReader
+pub mod Ticker
 pub mod Jobs

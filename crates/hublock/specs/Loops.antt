@@ -8,8 +8,8 @@
 use Rattle.std.specs.Prelude.{◌≡◌, ◌⊎◌, ℕ, ◌≤◌, ⊤, List, [], ◌∷◌, ◌++◌, None, Some}
 use Rattle.std.specs.declared.option.Option.{Option}
 use Rattle.std.specs.List.{AllByRecursion}
-use Rattle.hublock.specs.declared.ends.LoopEnd.{LoopEnd}
-use Rattle.hublock.specs.declared.ends.LoopEnd.TheVariants as ends
+use Rattle.hublock.specs.declared.loop_end.LoopEnd.{LoopEnd}
+use Rattle.hublock.specs.declared.loop_end.LoopEnd.TheVariants as ends
 use Rattle.hublock.specs.Calls.{HubCall}
 use Rattle.hublock.specs.Gates.{GateState, LeadsTo, RoseBy}
 

@@ -1,22 +1,23 @@
 //! What was accepted through one thread.
 
 ghost use Rattle.std.specs.Prelude.{◌≡◌, ◌<◌, ◌≤◌, ◌+◌, ◌-◌};
-ghost use Rattle.hublock.specs.Feeds.{HasAtLeast, IsBelow, joined, one_part, raised, with_one_less};
+ghost use Rattle.hublock.specs.Feeds.{HasAtLeast, IsBelow, joined, one_part, parts_each, raised, with_one_less};
 
+use crate::books::{Books, Changes, Hearings, Moments};
 use history::entry::Totals;
 use std::marker::Model;
-use std::sync::ledger::{Book, Ledger, Share};
+use std::sync::ledger::{Book, Share};
 
 /// A share of the ledgers of changes, hearings and moments: so many entries were accepted through it. It has at least one
 /// part of each.
 #[derive(Drop)]
-pub struct Feed<C: Ledger, H: Ledger, M: Ledger> {
-    pub(crate) changes: Share<C>,
-    pub(crate) heard: Share<H>,
-    pub(crate) moments: Share<M>,
+pub struct Feed<B: Books> {
+    pub(crate) changes: Share<Changes<B>>,
+    pub(crate) heard: Share<Hearings<B>>,
+    pub(crate) moments: Share<Moments<B>>,
 }
 
-impl<C: Ledger, H: Ledger, M: Ledger> Model for Feed<C, H, M> {
+impl<B: Books> Model for Feed<B> {
     ghost use Rattle.hublock.specs.Feeds.{FeedState};
 
     ghost Value = { FeedState };
@@ -31,9 +32,9 @@ impl<C: Ledger, H: Ledger, M: Ledger> Model for Feed<C, H, M> {
     ghost invariant = { λ f. HasAtLeast 1 (record { changes = f.changes.parts; heard = f.heard.parts; moments = f.moments.parts }) };
 }
 
-impl<C: Ledger, H: Ledger, M: Ledger> Feed<C, H, M> {
+impl<B: Books> Feed<B> {
     /// A feed of one part of each ledger, through which nothing was accepted yet.
-    pub fn split(&mut self) -> Feed<C, H, M>
+    pub fn split(&mut self) -> Feed<B>
         requires { HasAtLeast 2 self.old.parts }
         ensures one { result ≡ one_part }
         ensures rest { self.new ≡ with_one_less self.old }
@@ -49,7 +50,7 @@ impl<C: Ledger, H: Ledger, M: Ledger> Feed<C, H, M> {
     }
 
     /// What was accepted through another counts as accepted through this one.
-    pub fn take_in(&mut self, other: Feed<C, H, M>)
+    pub fn take_in(&mut self, other: Feed<B>)
         ensures { self.new ≡ joined self.old other }
     {
         let Feed {
@@ -63,7 +64,7 @@ impl<C: Ledger, H: Ledger, M: Ledger> Feed<C, H, M> {
     }
 
     /// All that was accepted through both.
-    pub fn join(self, other: Feed<C, H, M>) -> Feed<C, H, M>
+    pub fn join(self, other: Feed<B>) -> Feed<B>
         ensures { result ≡ joined self other }
     {
         let mut both = self;
@@ -74,9 +75,9 @@ impl<C: Ledger, H: Ledger, M: Ledger> Feed<C, H, M> {
     /// As many were accepted as the counts rose.
     pub(crate) fn record(
         &mut self,
-        changes: &mut Book<C>,
-        heard: &mut Book<H>,
-        moments: &mut Book<M>,
+        changes: &mut Book<Changes<B>>,
+        heard: &mut Book<Hearings<B>>,
+        moments: &mut Book<Moments<B>>,
         before: Totals,
         after: Totals,
     )
@@ -94,15 +95,15 @@ impl<C: Ledger, H: Ledger, M: Ledger> Feed<C, H, M> {
     /// How what was accepted stands to the totals of the books.
     pub(crate) fn audit(
         &mut self,
-        changes: &mut Book<C>,
-        heard: &mut Book<H>,
-        moments: &mut Book<M>,
+        changes: &mut Book<Changes<B>>,
+        heard: &mut Book<Hearings<B>>,
+        moments: &mut Book<Moments<B>>,
     )
         ensures same { self.new ≡ self.old }
         ensures books { (changes.new.total ≡ changes.old.total) × (heard.new.total ≡ heard.old.total) × (moments.new.total ≡ moments.old.total) }
-        ensures changes { (self.old.sums.changes ≤ changes.old.total) × (self.old.parts.changes ≡ C.parts → self.old.sums.changes ≡ changes.old.total) }
-        ensures heard { (self.old.sums.heard ≤ heard.old.total) × (self.old.parts.heard ≡ H.parts → self.old.sums.heard ≡ heard.old.total) }
-        ensures moments { (self.old.sums.moments ≤ moments.old.total) × (self.old.parts.moments ≡ M.parts → self.old.sums.moments ≡ moments.old.total) }
+        ensures changes { (self.old.sums.changes ≤ changes.old.total) × (self.old.parts.changes ≡ parts_each → self.old.sums.changes ≡ changes.old.total) }
+        ensures heard { (self.old.sums.heard ≤ heard.old.total) × (self.old.parts.heard ≡ parts_each → self.old.sums.heard ≡ heard.old.total) }
+        ensures moments { (self.old.sums.moments ≤ moments.old.total) × (self.old.parts.moments ≡ parts_each → self.old.sums.moments ≡ moments.old.total) }
     {
         changes.audit(&mut self.changes);
         heard.audit(&mut self.heard);

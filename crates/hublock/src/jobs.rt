@@ -2,23 +2,23 @@
 
 ghost use Rattle.std.specs.Prelude.{◌≡◌, ◌<◌, IsSome, IsSomeAnd, None};
 ghost use Rattle.push_base.specs.declared.role.Role.TheVariants as roles;
-ghost use Rattle.hublock.specs.declared.ends.LoopEnd.TheVariants.{LinkFault};
+ghost use Rattle.hublock.specs.declared.loop_end.LoopEnd.TheVariants.{LinkFault};
 ghost use Rattle.hublock.specs.Feeds.{each};
 ghost use Rattle.hublock.specs.Jobs.{GivesBack, role_in};
 
-use crate::{Ended, Feed, Gate, LoopEnd, Shared, clock_loop, link_loop, read_loop, write_loop};
-use push_base::{Clock, Datagrams, Line, Role, Task};
-use push_outside::Wire;
+use crate::{
+    Books, Ended, Feed, Gate, LoopEnd, Shared, clock_loop, link_loop, read_loop, write_loop,
+};
+use push_base::{Clock, Datagrams, Line, Role, Task, Wire};
 use std::alloc::Global;
 use std::sync::Wait;
-use std::sync::ledger::Ledger;
 
 /// What a job answers: how its loop ended, its feed of one part of each ledger, and the datagrams of a link's job. After
 /// `LinkFault` they are there, with a count of faults above 0.
 #[derive(Drop)]
-pub struct JobEnd<D: Datagrams + Drop, C: Ledger, H: Ledger, M: Ledger> {
+pub struct JobEnd<D: Datagrams + Drop, B: Books> {
     pub end: Ended,
-    pub feed: Feed<C, H, M>,
+    pub feed: Feed<B>,
     pub links: Option<D>,
     pub ghost one: { feed.parts ≡ each 1 },
     pub ghost failed: { ∥ (end ≡ LinkFault → IsSomeAnd links (λ d. 0 < D.faults d)) ∥₁ },
@@ -45,13 +45,10 @@ pub struct Job<
     K: Wire + Drop,
     D: Datagrams + Drop,
     T: Clock + Drop,
-    C: Ledger,
-    H: Ledger,
-    M: Ledger,
-    S: Ledger,
+    B: Books,
 > {
     alloc: Global,
-    shared: Shared<R, C, H, M, S>,
+    shared: Shared<R, B>,
     work: Work<L, K, D, T>,
     turns: u64,
 }
@@ -62,19 +59,10 @@ impl<
     K: Wire + Drop,
     D: Datagrams + Drop,
     T: Clock + Drop,
-    C: Ledger,
-    H: Ledger,
-    M: Ledger,
-    S: Ledger,
-> Job<R, L, K, D, T, C, H, M, S> {
+    B: Books,
+> Job<R, L, K, D, T, B> {
     /// Reads the line of a session, which is marked as over at the end.
-    pub fn reader(
-        alloc: Global,
-        shared: Shared<R, C, H, M, S>,
-        session: u64,
-        line: L,
-        turns: u64,
-    ) -> Self
+    pub fn reader(alloc: Global, shared: Shared<R, B>, session: u64, line: L, turns: u64) -> Self
         requires { shared.role ≡ roles.Reader session }
         ensures { (role_in result.work ≡ roles.Reader session) × (result.turns ≡ turns) }
     {
@@ -88,13 +76,7 @@ impl<
 
     /// Writes what a session says to its wire. At the end the session goes, and is counted as ended, and last the wire is
     /// dropped.
-    pub fn writer(
-        alloc: Global,
-        shared: Shared<R, C, H, M, S>,
-        session: u64,
-        wire: K,
-        turns: u64,
-    ) -> Self
+    pub fn writer(alloc: Global, shared: Shared<R, B>, session: u64, wire: K, turns: u64) -> Self
         requires { shared.role ≡ roles.Writer session }
         ensures { (role_in result.work ≡ roles.Writer session) × (result.turns ≡ turns) }
     {
@@ -107,13 +89,7 @@ impl<
     }
 
     /// Hears the datagrams of a link, which are given back.
-    pub fn link(
-        alloc: Global,
-        shared: Shared<R, C, H, M, S>,
-        link: usize,
-        datagrams: D,
-        turns: u64,
-    ) -> Self
+    pub fn link(alloc: Global, shared: Shared<R, B>, link: usize, datagrams: D, turns: u64) -> Self
         requires { shared.role ≡ roles.Link link }
         ensures { (role_in result.work ≡ roles.Link link) × (result.turns ≡ turns) }
     {
@@ -126,7 +102,7 @@ impl<
     }
 
     /// Hands on the moments of a clock.
-    pub fn clock(alloc: Global, shared: Shared<R, C, H, M, S>, clock: T, turns: u64) -> Self
+    pub fn clock(alloc: Global, shared: Shared<R, B>, clock: T, turns: u64) -> Self
         requires { shared.role ≡ roles.Clock }
         ensures { (role_in result.work ≡ roles.Clock) × (result.turns ≡ turns) }
     {
@@ -140,10 +116,7 @@ impl<
 }
 
 /// The end of a job without datagrams.
-fn without_links<D: Datagrams + Drop, C: Ledger, H: Ledger, M: Ledger>(
-    end: LoopEnd,
-    feed: Feed<C, H, M>,
-) -> JobEnd<D, C, H, M>
+fn without_links<D: Datagrams + Drop, B: Books>(end: LoopEnd, feed: Feed<B>) -> JobEnd<D, B>
     requires feed { feed.parts ≡ each 1 }
     requires end { end ≡ LinkFault → ⊥ }
     ensures { result.links ≡ None }
@@ -156,21 +129,13 @@ fn without_links<D: Datagrams + Drop, C: Ledger, H: Ledger, M: Ledger>(
 }
 
 /// Reads a line to the end of its loop.
-fn read<
-    R: Wait + Copy,
-    L: Line + Drop,
-    D: Datagrams + Drop,
-    C: Ledger,
-    H: Ledger,
-    M: Ledger,
-    S: Ledger,
->(
+fn read<R: Wait + Copy, L: Line + Drop, D: Datagrams + Drop, B: Books>(
     alloc: Global,
-    mut shared: Shared<R, C, H, M, S>,
+    mut shared: Shared<R, B>,
     session: u64,
     mut line: L,
     turns: u64,
-) -> JobEnd<D, C, H, M>
+) -> JobEnd<D, B>
     ensures { result.links ≡ None }
 {
     let end = read_loop(alloc, &mut shared, session, &mut line, turns);
@@ -179,21 +144,13 @@ fn read<
 }
 
 /// Writes to a wire to the end of its loop, and lets go out what it has taken. The wire is dropped last.
-fn write<
-    R: Wait + Copy,
-    K: Wire + Drop,
-    D: Datagrams + Drop,
-    C: Ledger,
-    H: Ledger,
-    M: Ledger,
-    S: Ledger,
->(
+fn write<R: Wait + Copy, K: Wire + Drop, D: Datagrams + Drop, B: Books>(
     alloc: Global,
-    mut shared: Shared<R, C, H, M, S>,
+    mut shared: Shared<R, B>,
     session: u64,
     mut wire: K,
     turns: u64,
-) -> JobEnd<D, C, H, M>
+) -> JobEnd<D, B>
     ensures { result.links ≡ None }
 {
     let end = write_loop(alloc, &mut shared, session, &mut wire, turns);
@@ -206,13 +163,13 @@ fn write<
 }
 
 /// Hears datagrams to the end of their loop.
-fn hear<R: Wait + Copy, D: Datagrams + Drop, C: Ledger, H: Ledger, M: Ledger, S: Ledger>(
+fn hear<R: Wait + Copy, D: Datagrams + Drop, B: Books>(
     alloc: Global,
-    mut shared: Shared<R, C, H, M, S>,
+    mut shared: Shared<R, B>,
     link: usize,
     mut datagrams: D,
     turns: u64,
-) -> JobEnd<D, C, H, M>
+) -> JobEnd<D, B>
     ensures { IsSome result.links }
 {
     let end = link_loop(alloc, &mut shared, link, &mut datagrams, turns);
@@ -224,15 +181,11 @@ fn hear<R: Wait + Copy, D: Datagrams + Drop, C: Ledger, H: Ledger, M: Ledger, S:
 }
 
 /// Hands on moments to the end of the clock's loop.
-fn tick<
-    R: Wait + Copy,
-    T: Clock + Drop,
-    D: Datagrams + Drop,
-    C: Ledger,
-    H: Ledger,
-    M: Ledger,
-    S: Ledger,
->(mut shared: Shared<R, C, H, M, S>, mut clock: T, turns: u64) -> JobEnd<D, C, H, M>
+fn tick<R: Wait + Copy, T: Clock + Drop, D: Datagrams + Drop, B: Books>(
+    mut shared: Shared<R, B>,
+    mut clock: T,
+    turns: u64,
+) -> JobEnd<D, B>
     ensures { result.links ≡ None }
 {
     let end = clock_loop(&mut shared, &mut clock, turns);
@@ -245,12 +198,9 @@ impl<
     K: Wire + Drop,
     D: Datagrams + Drop + Send + 'static,
     T: Clock + Drop,
-    C: Ledger + Send + 'static,
-    H: Ledger + Send + 'static,
-    M: Ledger + Send + 'static,
-    S: Ledger,
-> Task for Job<R, L, K, D, T, C, H, M, S> {
-    type Out = JobEnd<D, C, H, M>;
+    B: Books + 'static,
+> Task for Job<R, L, K, D, T, B> {
+    type Out = JobEnd<D, B>;
 
     ghost role_of = { λ j. role_in j.work };
 
@@ -269,7 +219,7 @@ impl<
         self.turns
     }
 
-    fn run(self) -> JobEnd<D, C, H, M>
+    fn run(self) -> JobEnd<D, B>
         ensures links { GivesBack (role_in self.work) result.links }
     {
         let Job {

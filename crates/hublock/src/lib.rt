@@ -2,31 +2,35 @@
 #![tactic(auto)]
 
 mod alone;
-mod ends;
+mod blanks;
+mod books;
 mod feed;
 mod gate;
-mod hearing;
 mod jobs;
+mod link_reader;
 mod lock;
 mod locked;
+mod loop_end;
 mod marks;
-mod places;
-mod reading;
+mod reader;
 mod seats;
 mod shared;
-mod ticking;
-mod writing;
+mod ticker;
+mod wakeups;
+mod writer;
 
 pub use alone::Alone;
-pub use ends::{Ended, LoopEnd};
+pub use blanks::Blanks;
+pub use books::{Books, PARTS};
 pub use feed::Feed;
 pub use gate::Gate;
-pub use hearing::link_loop;
 pub use jobs::{Job, JobEnd};
-pub use lock::{Blanks, HubLock, PARTS, finish};
+pub use link_reader::link_loop;
+pub use lock::{HubLock, finish};
 pub use locked::Locked;
-pub use reading::{MAX_READ, read_loop};
+pub use loop_end::{Ended, LoopEnd};
+pub use reader::{MAX_READ, read_loop};
 pub use seats::Seats;
 pub use shared::Shared;
-pub use ticking::clock_loop;
-pub use writing::write_loop;
+pub use ticker::clock_loop;
+pub use writer::write_loop;

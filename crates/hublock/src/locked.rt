@@ -10,26 +10,27 @@ ghost use Rattle.pushserver.specs.KeptHubs.{StandsFor};
 ghost use Rattle.pushserver.specs.Counting.{octets_of};
 ghost use Rattle.pushserver.specs.Observing.{SaysWhy};
 ghost use Rattle.hublock.specs.Calls.{Connected, Does, Gave, Left, Passed, Received, Took, fault_of};
-ghost use Rattle.hublock.specs.Feeds.{IsBelow};
+ghost use Rattle.hublock.specs.Feeds.{IsBelow, each, parts_each};
 ghost use Rattle.hublock.specs.Inside.{AcceptsAsHeard, AcceptsNone, MayAcceptChange, MayAcceptMoment, counted, is_done, marked, with_hub, without_mark};
 
+use crate::books::{Books, Changes, Hearings, Moments, Sessions};
 use crate::marks::Marks;
-use crate::places::{Wakes, wakes_at_entry, wakes_at_give, wakes_at_take};
+use crate::wakeups::{Wakes, wakes_at_entry, wakes_at_give, wakes_at_take};
 use crate::{Feed, Seats};
 use history::entry::Totals;
 use push_base::Role;
 use pushserver::{ConnectFault, Given, Heard, Hub, HubFault};
 use std::marker::Model;
-use std::sync::ledger::{Book, Ledger};
+use std::sync::ledger::Book;
 
 /// The hub, with the books of what was accepted and of the sessions made, and what ends the loops.
 #[derive(Drop)]
-pub struct Locked<C: Ledger, H: Ledger, M: Ledger, S: Ledger> {
+pub struct Locked<B: Books> {
     hub: Hub,
-    changes: Book<C>,
-    heard: Book<H>,
-    moments: Book<M>,
-    made: Book<S>,
+    changes: Book<Changes<B>>,
+    heard: Book<Hearings<B>>,
+    moments: Book<Moments<B>>,
+    made: Book<Sessions<B>>,
     over: Marks,
     left: u64,
     quit: bool,
@@ -37,7 +38,7 @@ pub struct Locked<C: Ledger, H: Ledger, M: Ledger, S: Ledger> {
     wakes: Wakes,
 }
 
-impl<C: Ledger, H: Ledger, M: Ledger, S: Ledger> Model for Locked<C, H, M, S> {
+impl<B: Books> Model for Locked<B> {
     ghost use Rattle.hublock.specs.Inside.{Holds, LockedState};
 
     ghost Value = { LockedState };
@@ -47,13 +48,13 @@ impl<C: Ledger, H: Ledger, M: Ledger, S: Ledger> Model for Locked<C, H, M, S> {
     ghost invariant = { λ l. Holds l.hub (record { changes = l.changes.total; heard = l.heard.total; moments = l.moments.total }) l.made.total };
 }
 
-impl<C: Ledger, H: Ledger, M: Ledger, S: Ledger> Locked<C, H, M, S> {
+impl<B: Books> Locked<B> {
     pub(crate) fn new(
         hub: Hub,
-        changes: Book<C>,
-        heard: Book<H>,
-        moments: Book<M>,
-        made: Book<S>,
+        changes: Book<Changes<B>>,
+        heard: Book<Hearings<B>>,
+        moments: Book<Moments<B>>,
+        made: Book<Sessions<B>>,
         over: Marks,
     ) -> Self
         requires changes { changes.total ≡ (counted hub).changes }
@@ -100,7 +101,7 @@ impl<C: Ledger, H: Ledger, M: Ledger, S: Ledger> Locked<C, H, M, S> {
         &mut self,
         session: u64,
         buf: &mut [u8],
-        feed: &mut Feed<C, H, M>,
+        feed: &mut Feed<B>,
     ) -> Result<Given, HubFault>
         ensures call { Does self.old.hub (Gave session buf.old buf.new result) self.new.hub }
         ensures rest { self.new ≡ with_hub self.old self.new.hub }
@@ -129,7 +130,7 @@ impl<C: Ledger, H: Ledger, M: Ledger, S: Ledger> Locked<C, H, M, S> {
         &mut self,
         link: usize,
         datagram: &[u8],
-        feed: &mut Feed<C, H, M>,
+        feed: &mut Feed<B>,
     ) -> Result<Heard, HubFault>
         ensures call { Does self.old.hub (Received link datagram.now result) self.new.hub }
         ensures rest { self.new ≡ with_hub self.old self.new.hub }
@@ -151,7 +152,7 @@ impl<C: Ledger, H: Ledger, M: Ledger, S: Ledger> Locked<C, H, M, S> {
     }
 
     /// It is a moment.
-    pub fn moment(&mut self, at: u64, feed: &mut Feed<C, H, M>) -> Result<(), HubFault>
+    pub fn moment(&mut self, at: u64, feed: &mut Feed<B>) -> Result<(), HubFault>
         requires { at ≤ max_moment }
         ensures call { Does self.old.hub (Passed at (fault_of result)) self.new.hub }
         ensures rest { self.new ≡ with_hub self.old self.new.hub }
@@ -185,8 +186,8 @@ impl<C: Ledger, H: Ledger, M: Ledger, S: Ledger> Locked<C, H, M, S> {
     }
 
     /// A new session.
-    pub(crate) fn connect(&mut self, seats: &mut Seats<S>) -> Result<u64, ConnectFault>
-        requires { seats.old.parts ≡ S.parts }
+    pub(crate) fn connect(&mut self, seats: &mut Seats<B>) -> Result<u64, ConnectFault>
+        requires { seats.old.parts ≡ parts_each }
         ensures call { Does self.old.hub (Connected result) self.new.hub }
         ensures parts { seats.new.parts ≡ seats.old.parts }
         ensures made { seats.old.made ≡ self.old.hub.numbers_given }
@@ -203,8 +204,8 @@ impl<C: Ledger, H: Ledger, M: Ledger, S: Ledger> Locked<C, H, M, S> {
     }
 
     /// The journal's counts, which are the sums of a feed that has every part.
-    pub fn totals(&mut self, feed: &mut Feed<C, H, M>) -> Totals
-        requires { (feed.old.parts.changes ≡ C.parts) × (feed.old.parts.heard ≡ H.parts) × (feed.old.parts.moments ≡ M.parts) }
+    pub fn totals(&mut self, feed: &mut Feed<B>) -> Totals
+        requires { feed.old.parts ≡ each parts_each }
         ensures counts { result ≡ counted self.old.hub }
         ensures sums { result ≡ feed.old.sums }
         ensures same { (self.new ≡ self.old) × (feed.new ≡ feed.old) }
@@ -214,7 +215,7 @@ impl<C: Ledger, H: Ledger, M: Ledger, S: Ledger> Locked<C, H, M, S> {
     }
 
     /// Through a feed never more of a group was accepted than the journal counts.
-    pub fn finds(&mut self, feed: &mut Feed<C, H, M>)
+    pub fn finds(&mut self, feed: &mut Feed<B>)
         ensures bound { IsBelow feed.old.sums (counted self.old.hub) }
         ensures same { (self.new ≡ self.old) × (feed.new ≡ feed.old) }
     {

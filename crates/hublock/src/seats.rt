@@ -1,15 +1,16 @@
 //! How many sessions were made.
 
+use crate::books::{Books, Sessions};
 use std::marker::Model;
-use std::sync::ledger::{Ledger, Share};
+use std::sync::ledger::Share;
 
 /// Every part of the ledger of sessions: so many were made.
 #[derive(Drop)]
-pub struct Seats<S: Ledger> {
-    pub(crate) share: Share<S>,
+pub struct Seats<B: Books> {
+    pub(crate) share: Share<Sessions<B>>,
 }
 
-impl<S: Ledger> Model for Seats<S> {
+impl<B: Books> Model for Seats<B> {
     ghost use Rattle.hublock.specs.Feeds.{SeatState};
 
     ghost Value = { SeatState };

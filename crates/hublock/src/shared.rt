@@ -10,26 +10,25 @@ ghost use Rattle.hublock.specs.Feeds.{each, one_change_more, one_moment_more, Ri
 ghost use Rattle.hublock.specs.Gates.{DoesApart, DoesTurn};
 ghost use Rattle.hublock.specs.Sharing.{with_feed};
 
-use crate::places::Known;
-use crate::{Feed, Gate, HubLock};
+use crate::wakeups::LastSeen;
+use crate::{Books, Feed, Gate, HubLock};
 use push_base::{NoMemory, Role};
 use pushserver::{Given, Heard, HubFault};
 use std::marker::Model;
 use std::sync::Wait;
-use std::sync::ledger::Ledger;
 
 /// A hold of the hub behind its lock, for one role, with a feed of its own. It tells nothing of the hub.
 #[derive(Drop)]
-pub struct Shared<R: Wait + Copy, C: Ledger, H: Ledger, M: Ledger, S: Ledger> {
+pub struct Shared<R: Wait + Copy, B: Books> {
     rt: R,
-    lock: HubLock<C, H, M, S>,
-    feed: Feed<C, H, M>,
+    lock: HubLock<B>,
+    feed: Feed<B>,
     role: Role,
     // What it knows since it called the hub last. Contracts don't see it.
-    known: Known,
+    known: LastSeen,
 }
 
-impl<R: Wait + Copy, C: Ledger, H: Ledger, M: Ledger, S: Ledger> Model for Shared<R, C, H, M, S> {
+impl<R: Wait + Copy, B: Books> Model for Shared<R, B> {
     ghost use Rattle.std.specs.Prelude.{◌≡◌};
     ghost use Rattle.hublock.specs.Sharing.{SharedState};
     ghost use Rattle.hublock.specs.Feeds.{each};
@@ -41,14 +40,9 @@ impl<R: Wait + Copy, C: Ledger, H: Ledger, M: Ledger, S: Ledger> Model for Share
     ghost invariant = { λ s. s.feed.parts ≡ each 1 };
 }
 
-impl<R: Wait + Copy, C: Ledger, H: Ledger, M: Ledger, S: Ledger> Shared<R, C, H, M, S> {
+impl<R: Wait + Copy, B: Books> Shared<R, B> {
     /// A hold for a role, with a feed of one part of each ledger.
-    pub fn new(
-        rt: R,
-        lock: &HubLock<C, H, M, S>,
-        feed: Feed<C, H, M>,
-        role: Role,
-    ) -> Result<Self, NoMemory>
+    pub fn new(rt: R, lock: &HubLock<B>, feed: Feed<B>, role: Role) -> Result<Self, NoMemory>
         requires { feed.parts ≡ each 1 }
         ensures { IfOk result (λ shared. shared ≡ record { feed = feed; role = role }) }
     {
@@ -57,7 +51,7 @@ impl<R: Wait + Copy, C: Ledger, H: Ledger, M: Ledger, S: Ledger> Shared<R, C, H,
             lock: lock.again()?,
             feed,
             role,
-            known: Known::nothing(),
+            known: LastSeen::nothing(),
         })
     }
 
@@ -76,7 +70,7 @@ impl<R: Wait + Copy, C: Ledger, H: Ledger, M: Ledger, S: Ledger> Shared<R, C, H,
     }
 
     /// Its feed, of one part of each ledger.
-    pub fn into_feed(self) -> Feed<C, H, M>
+    pub fn into_feed(self) -> Feed<B>
         ensures feed { result ≡ self.feed }
         ensures one { result.parts ≡ each 1 }
     {
@@ -91,7 +85,7 @@ impl<R: Wait + Copy, C: Ledger, H: Ledger, M: Ledger, S: Ledger> Shared<R, C, H,
     }
 }
 
-impl<R: Wait + Copy, C: Ledger, H: Ledger, M: Ledger, S: Ledger> Gate for Shared<R, C, H, M, S> {
+impl<R: Wait + Copy, B: Books> Gate for Shared<R, B> {
     ghost state = { λ _. None };
 
     fn take(&mut self, session: u64, piece: &[u8]) -> usize
@@ -101,14 +95,7 @@ impl<R: Wait + Copy, C: Ledger, H: Ledger, M: Ledger, S: Ledger> Gate for Shared
     {
         let mut locked = self.lock.held.locked.lock(&self.rt);
         let count = locked.take(session, piece);
-        let wakes = locked.wakes();
-        self.known = self
-            .lock
-            .held
-            .places
-            .known(self.role, locked.is_done(self.role), wakes);
-        drop(locked);
-        self.lock.held.places.wake(wakes);
+        self.known = self.lock.held.leave(self.role, locked);
         count
     }
 
@@ -121,14 +108,7 @@ impl<R: Wait + Copy, C: Ledger, H: Ledger, M: Ledger, S: Ledger> Gate for Shared
     {
         let mut locked = self.lock.held.locked.lock(&self.rt);
         let answer = locked.give(session, buf, &mut self.feed);
-        let wakes = locked.wakes();
-        self.known = self
-            .lock
-            .held
-            .places
-            .known(self.role, locked.is_done(self.role), wakes);
-        drop(locked);
-        self.lock.held.places.wake(wakes);
+        self.known = self.lock.held.leave(self.role, locked);
         answer
     }
 
@@ -140,14 +120,7 @@ impl<R: Wait + Copy, C: Ledger, H: Ledger, M: Ledger, S: Ledger> Gate for Shared
     {
         let mut locked = self.lock.held.locked.lock(&self.rt);
         let answer = locked.hear(link, datagram, &mut self.feed);
-        let wakes = locked.wakes();
-        self.known = self
-            .lock
-            .held
-            .places
-            .known(self.role, locked.is_done(self.role), wakes);
-        drop(locked);
-        self.lock.held.places.wake(wakes);
+        self.known = self.lock.held.leave(self.role, locked);
         answer
     }
 
@@ -159,14 +132,7 @@ impl<R: Wait + Copy, C: Ledger, H: Ledger, M: Ledger, S: Ledger> Gate for Shared
     {
         let mut locked = self.lock.held.locked.lock(&self.rt);
         let answer = locked.moment(at, &mut self.feed);
-        let wakes = locked.wakes();
-        self.known = self
-            .lock
-            .held
-            .places
-            .known(self.role, locked.is_done(self.role), wakes);
-        drop(locked);
-        self.lock.held.places.wake(wakes);
+        self.known = self.lock.held.leave(self.role, locked);
         answer
     }
 
@@ -176,22 +142,19 @@ impl<R: Wait + Copy, C: Ledger, H: Ledger, M: Ledger, S: Ledger> Gate for Shared
     {
         let mut locked = self.lock.held.locked.lock(&self.rt);
         locked.end(session);
-        self.lock.held.places.count_ending();
-        let wakes = locked.wakes();
-        drop(locked);
-        self.lock.held.places.wake(wakes);
+        self.lock.held.leave_at_end(locked);
     }
 
     fn pause(&mut self)
         ensures feed { self.new ≡ self.old }
     {
-        self.lock.held.places.wait(&self.rt, self.role, self.known);
+        self.lock.held.wakeups.wait(&self.rt, self.role, self.known);
     }
 
     fn done(&mut self) -> bool
         ensures feed { self.new ≡ self.old }
     {
-        match self.known.is_done(&self.lock.held.places, self.role) {
+        match self.known.is_done(&self.lock.held.wakeups, self.role) {
             Some(is_done) => is_done,
             None => self.lock.held.locked.lock(&self.rt).is_done(self.role),
         }

@@ -10,7 +10,7 @@ ghost use Rattle.linkcache.specs.Links.{HasRoom, IsLink};
 ghost use Rattle.linkcache.specs.Plans.{IsHeardPlan, IsMomentPlan, IsPlanOf, IsReconfirmPlan, with_row_changes};
 ghost use Rattle.linkcache.specs.Rows.{has_key, next_end, shown_rows};
 
-use crate::applying::make_changes;
+use crate::apply_plan::make_changes;
 use crate::end_key::EndKey;
 use crate::plan::HearPlan;
 use crate::planning::{has_row, heard_plan, moment_plan, reconfirm_plan};
@@ -127,7 +127,7 @@ impl Cache {
         ensures kept { self.old.spare ≤ self.new.spare }
     {
         let plan = heard_plan(alloc, &self.domain, &mut self.rows, now, hearing)?;
-        self.make_room(plan.len())?;
+        self.make_room(plan.rows_at_most())?;
         Ok(plan)
     }
 
@@ -140,7 +140,7 @@ impl Cache {
         ensures kept { self.old.spare ≤ self.new.spare }
     {
         let plan = moment_plan(alloc, &self.domain, &self.rows, &self.ends, now)?;
-        self.make_room(plan.len())?;
+        self.make_room(plan.rows_at_most())?;
         Ok(plan)
     }
 
@@ -155,7 +155,7 @@ impl Cache {
         ensures kept { self.old.spare ≤ self.new.spare }
     {
         let plan = reconfirm_plan(alloc, &self.domain, &mut self.rows, key, now)?;
-        self.make_room(plan.len())?;
+        self.make_room(plan.rows_at_most())?;
         Ok(plan)
     }
 

@@ -75,7 +75,7 @@ impl HearPlan {
     }
 
     /// How many rows change at most.
-    pub(crate) fn len(&self) -> usize
+    pub(crate) fn rows_at_most(&self) -> usize
         ensures { result ≡ length self.now.rows }
     {
         self.rows.len()

@@ -12,7 +12,7 @@ ghost use Rattle.linkcache.specs.Plans.{IsHeardPlan, IsMomentPlan, IsReconfirmPl
 ghost use Rattle.linkcache.specs.Rows.{has_key};
 
 use crate::end_key::EndKey;
-use crate::hearing::{end_row, heard, some_usable};
+use crate::heard_rows::{end_row, heard, some_usable};
 use crate::moving::plan_between;
 use crate::plan::HearPlan;
 use crate::row::{HeardRow, RECONFIRMATION};

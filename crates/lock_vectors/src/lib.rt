@@ -1,9 +1,6 @@
-//! What a hub alone and one behind its lock answer, what the loops do, jobs in threads, and whole servers, as tests of
-//! public calls.
+//! What the loops do over a hub alone, and whole servers, whose jobs run in threads, as tests of public calls.
 #![tactic(auto)]
 
-#[cfg(test)]
-mod gates;
 #[cfg(test)]
 mod hubs;
 #[cfg(test)]

@@ -6,8 +6,9 @@ use crate::hubs::{HOST, SUBSCRIBE, SUBSCRIBED, connected_hub};
 use crate::rows::are_octets;
 use history::entry::Totals;
 use hublock::{Alone, LoopEnd, clock_loop, link_loop, read_loop, write_loop};
-use push_base::{Failed, Got, Line, MemClock, MemDatagrams, MemItem, MemSink, Sink, hex_octets};
-use push_outside::Wire;
+use push_base::{
+    Failed, Got, Line, MemClock, MemDatagrams, MemItem, MemSink, Sink, Wire, hex_octets,
+};
 use std::alloc::Global;
 use std::test::Fail;
 
@@ -89,7 +90,7 @@ impl Wire for Flushed {
 }
 
 /// The line of a client that sends `SUBSCRIBE`, one octet at a time.
-pub(crate) fn request_of_a_client(alloc: Global) -> Result<Drip, Fail> {
+fn request_of_a_client(alloc: Global) -> Result<Drip, Fail> {
     let mut octets = Vec::new(alloc);
     octets.extend_from_slice(hex_octets(alloc, SUBSCRIBE)?.as_slice())?;
     Ok(Drip::new(octets, 1))
@@ -102,12 +103,12 @@ pub(crate) fn heard(alloc: Global, text: &str) -> Result<MemDatagrams, Fail> {
 }
 
 /// Datagrams with `HOST` alone.
-pub(crate) fn host(alloc: Global) -> Result<MemDatagrams, Fail> {
+fn host(alloc: Global) -> Result<MemDatagrams, Fail> {
     heard(alloc, HOST)
 }
 
 /// Fails where a loop ended otherwise.
-pub(crate) fn is_end(end: LoopEnd, wanted: LoopEnd) -> Result<(), Fail> {
+fn is_end(end: LoopEnd, wanted: LoopEnd) -> Result<(), Fail> {
     if end == wanted {
         return Ok(());
     }
@@ -115,7 +116,7 @@ pub(crate) fn is_end(end: LoopEnd, wanted: LoopEnd) -> Result<(), Fail> {
 }
 
 /// Fails where other entries were made.
-pub(crate) fn are_counts(counts: Totals, wanted: Totals) -> Result<(), Fail> {
+fn are_counts(counts: Totals, wanted: Totals) -> Result<(), Fail> {
     if counts == wanted {
         return Ok(());
     }

@@ -3,7 +3,7 @@
 ghost use Rattle.std.specs.Prelude.{◌≡◌, []};
 ghost use Rattle.pushserver.specs.PlainHubs.{Hub as Plain};
 ghost use Rattle.pushserver.specs.KeptHubs.{StandsFor};
-ghost use Rattle.hublock.specs.Feeds.{parts_each};
+ghost use Rattle.hublock.specs.Ledgers.{AreNamed};
 
 use crate::hubs::{
     HOST, OF_THE_HOST, OF_THE_HOST_TOLD, OTHER_HOST, SUBSCRIBE, SUBSCRIBED, example_hub,
@@ -11,15 +11,13 @@ use crate::hubs::{
 use crate::loops::{Drip, heard};
 use crate::rows::are_octets;
 use crate::threads::{Apart, List, Listed};
-use crate::watched::{Hearings, Porter, Still, Until, Watch};
+use crate::watched::{Hearings, Porter, Still, Until, Watch, Watched};
 use history::entry::Totals;
-use hublock::Blanks;
-use push_base::{Clock, Datagrams, Doors, Line, hex_octets, hex_text};
-use push_outside::Wire;
+use hublock::{Blanks, Books};
+use push_base::{Surroundings, hex_octets, hex_text};
 use serving::{Fed, ServeEnd, Served, Setup, serve};
 use std::alloc::Global;
 use std::marker::Brand;
-use std::sync::ledger::Ledger;
 use std::sync::{Arc, Mutex, Wait};
 use std::test::Fail;
 use std::thread::Threads;
@@ -249,48 +247,31 @@ fn add_hearings<R: Wait + Copy>(
 /// Serves the sessions of doors. Gives how the server ends.
 fn end_of<
     R: Threads + Wait + Copy + Send + 'static,
-    L: Line + Drop + Send + 'static,
-    K: Wire + Drop + Send + 'static,
-    D: Doors<Line = L, Out = K>,
-    G: Datagrams + Drop + Send + 'static,
-    T: Clock + Drop + Send + 'static,
-    C: Ledger + Send + Sync + 'static,
-    H: Ledger + Send + Sync + 'static,
-    M: Ledger + Send + Sync + 'static,
-    S: Ledger + Send + Sync + 'static,
->(rt: R, alloc: Global, doors: &mut D, setup: Setup<G, T>, blanks: Blanks) -> ServeEnd
+    O: Surroundings<Starter = Apart>,
+    B: Books + Send + Sync + 'static,
+>(
+    rt: R,
+    alloc: Global,
+    doors: &mut O::Doors,
+    setup: Setup<O::Links, O::Clock>,
+    blanks: Blanks,
+) -> ServeEnd
     requires hub { (setup.hub.history ≡ []) × (setup.hub.numbers_given ≡ 0) }
     requires stands { (plain : Plain) × StandsFor setup.hub plain }
-    requires names { (blanks.changes.name ≡ C.name) × (blanks.heard.name ≡ H.name) × (blanks.moments.name ≡ M.name) × (blanks.made.name ≡ S.name) }
-    requires parts { (blanks.changes.parts ≡ C.parts) × (blanks.heard.parts ≡ H.parts) × (blanks.moments.parts ≡ M.parts) × (blanks.made.parts ≡ S.parts) }
-    requires all { (C.parts ≡ parts_each) × (H.parts ≡ parts_each) × (M.parts ≡ parts_each) × (S.parts ≡ parts_each) }
+    requires names { AreNamed blanks B.names }
 {
     let mut starter = Apart { faults: 0 };
-    let Served { end, .. } = serve::<R, Apart, L, K, D, G, T, C, H, M, S>(
-        rt,
-        alloc,
-        &mut starter,
-        doors,
-        setup,
-        blanks,
-    );
+    let Served { end, .. } = serve::<R, O, B>(rt, alloc, &mut starter, doors, setup, blanks);
     end
 }
 
 /// The same over the hub of one zone and two links.
-fn end_over_hub<
-    R: Threads + Wait + Copy + Send + 'static,
-    L: Line + Drop + Send + 'static,
-    K: Wire + Drop + Send + 'static,
-    D: Doors<Line = L, Out = K>,
-    G: Datagrams + Drop + Send + 'static,
-    T: Clock + Drop + Send + 'static,
->(
+fn end_over_hub<R: Threads + Wait + Copy + Send + 'static, O: Surroundings<Starter = Apart>>(
     rt: R,
     alloc: Global,
-    doors: &mut D,
-    links: Vec<Fed<G>>,
-    clock: T,
+    doors: &mut O::Doors,
+    links: Vec<Fed<O::Links>>,
+    clock: O::Clock,
     sessions: u16,
 ) -> Result<ServeEnd, Fail> {
     let hub = example_hub(alloc)?;
@@ -301,13 +282,7 @@ fn end_over_hub<
         sessions: u64::from(sessions),
         turns: TURNS,
     };
-    Ok(end_of::<R, L, K, D, G, T, Brand, Brand, Brand, Brand>(
-        rt,
-        alloc,
-        doors,
-        setup,
-        Blanks::new(),
-    ))
+    Ok(end_of::<R, O, Brand>(rt, alloc, doors, setup, Blanks::new()))
 }
 
 /// Fails where not all sessions were served, or other entries were made.
@@ -358,7 +333,7 @@ fn ends_so<R: Threads + Wait + Copy + Send + 'static>(
     };
     let mut links = Vec::new(alloc);
     add_hearings(alloc, &mut links, watch, case)?;
-    let end = end_over_hub(rt, alloc, doors, links, clock, case.sessions)?;
+    let end = end_over_hub::<R, Watched<R>>(rt, alloc, doors, links, clock, case.sessions)?;
     is_served(end, case.counts)
 }
 

@@ -3,11 +3,13 @@
 ghost use Rattle.std.specs.Prelude.{None};
 
 use crate::loops::Drip;
-use crate::threads::Listed;
-use push_base::{Clock, Datagrams, Doors, Failed, Got, Line, MemDatagrams, NoMemory, Sink};
-use push_outside::Wire;
+use crate::threads::{Apart, Listed};
+use push_base::{
+    Clock, Datagrams, Doors, Failed, Got, Line, MemDatagrams, NoMemory, Sink, Surroundings, Wire,
+};
 use std::alloc::Global;
 use std::collections::VecDeque;
+use std::marker::PhantomData;
 use std::sync::{Arc, Condvar, Mutex, Wait};
 
 /// What is done.
@@ -311,4 +313,23 @@ impl<R: Wait + Copy> Doors for Porter<R> {
             }
         }
     }
+}
+
+/// The kinds of all these.
+pub(crate) struct Watched<R> {
+    rt: PhantomData<R>,
+}
+
+impl<R: Wait + Copy + Send + 'static> Surroundings for Watched<R> {
+    type Line = Late<R>;
+
+    type Wire = Held<R>;
+
+    type Links = Hearings<R>;
+
+    type Doors = Porter<R>;
+
+    type Clock = Still<R>;
+
+    type Starter = Apart;
 }

@@ -4,7 +4,7 @@ ghost use Rattle.std.specs.Prelude.{◌≡◌, [], true, None, Some, position, I
 ghost use Rattle.mirror.specs.Held.{applied_to, begun, ended, has, is_of, set_of};
 
 use crate::NoMemory;
-use crate::applying::all_applied;
+use crate::notices::all_applied;
 use dsotlv::Notice;
 use rrset::record::Question;
 use rrset::{Table, same_question};

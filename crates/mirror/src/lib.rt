@@ -1,8 +1,8 @@
 //! What a client holds: questions, each with a record set (RFC 8765, 6.3).
 #![tactic(auto)]
 
-mod applying;
 mod holding;
+mod notices;
 
 ghost use Rattle.std.specs.Prelude.{◌≡◌, [], ◌∷◌, codes, None, Some};
 ghost use Rattle.dnsname.specs.Text.{name};

@@ -1,7 +1,7 @@
 //! What the adapters of the real outside do, over readers and writers in memory, and over the loopback.
 
 use push_base::{Clock, Datagrams, Failed, Got, Line, Sink, Source};
-use push_outside::{Hearing, OpenFault, Origin, Outside, Reading, System, Writing};
+use push_outside::{OpenFault, Origin, Outside, Reading, System, TcpLine, Writing};
 use std::test::Fail;
 
 // A source over two readers, of which the second is there, and a sink with room for two octets.
@@ -24,7 +24,7 @@ fn streams_in_memory(rt: HostRuntime) -> Result<(), Fail> {
 #[test]
 fn a_line_in_memory(rt: HostRuntime) -> Result<(), Fail> {
     let octets: &[u8] = b"abc";
-    let mut line = Hearing::new(octets);
+    let mut line = TcpLine::new(octets);
     let mut buf = [0; 2];
     assert_eq!(rt; line.recv(&mut buf), Ok(Got::Bytes(2)));
     assert_eq!(rt; line.recv(&mut buf), Ok(Got::Bytes(1)));

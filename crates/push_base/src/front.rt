@@ -1,4 +1,4 @@
-//! The front of a buffer.
+//! The front of octets, and of a buffer.
 
 ghost use Rattle.std.specs.Prelude.{◌≡◌, length, take, drop, min};
 
@@ -11,4 +11,11 @@ pub(crate) fn copy_front(octets: &[u8], buf: &mut [u8]) -> usize
     let count = octets.len().min(buf.len());
     buf[..count].copy_from_slice(&octets[..count]);
     count
+}
+
+/// The first so many octets, or all.
+pub fn front_of(octets: &[u8], count: usize) -> &[u8]
+    ensures { result.now ≡ take count octets.now }
+{
+    &octets[..count.min(octets.len())]
 }

@@ -11,6 +11,7 @@ use crate::{Pending, Role, Task};
 use std::alloc::Global;
 use std::sync::Wait;
 use std::thread::Threads;
+use thiserror::Error;
 
 /// Why a job wasn't started. The job is handed back.
 #[derive(Drop)]
@@ -22,11 +23,13 @@ pub enum StartFault<J> {
 }
 
 /// Why a starter takes no job.
-#[derive(Clone, Copy, Debug, PartialEq, Eq)]
+#[derive(Clone, Copy, Debug, PartialEq, Eq, Error)]
 pub enum Refusal {
     /// It failed, and its count of faults rose.
+    #[error("no thread could be had")]
     Failed,
     /// Memory ran out.
+    #[error("out of memory")]
     NoMemory,
 }
 

@@ -15,7 +15,7 @@ use crate::shelf::Shelf;
 use crate::stock::Stock;
 use crate::{MemObjects, OpenFault, Outside};
 use push_base::{
-    MemClock, MemDatagrams, MemDoors, MemLine, MemSink, MemSource, MemStarter, Octets,
+    MemClock, MemDatagrams, MemDoors, MemLine, MemSink, MemSource, MemStarter, Octets, Surroundings,
 };
 use std::alloc::Global;
 use std::collections::VecDeque;
@@ -206,11 +206,7 @@ impl MemOutside {
     }
 }
 
-impl Outside for MemOutside {
-    type In = MemSource;
-
-    type Out = MemSink;
-
+impl Surroundings for MemOutside {
     type Line = MemLine;
 
     type Wire = MemSink;
@@ -222,6 +218,12 @@ impl Outside for MemOutside {
     type Clock = MemClock;
 
     type Starter = MemStarter;
+}
+
+impl Outside for MemOutside {
+    type In = MemSource;
+
+    type Out = MemSink;
 
     ghost told = { telling_of };
 

@@ -3,15 +3,17 @@
 ghost use Rattle.std.specs.Prelude.{◌≡◌, ℕ, List, Option, IfOk};
 ghost use Rattle.push_outside.specs.Outside.{Telling, AddsTold, AddsUse, IsFresh, IsUnused, RaisedBy};
 
-use crate::Wire;
-use push_base::{Clock, Datagrams, Doors, Line, Sink, Source, Starter};
+use push_base::{Clock, Datagrams, Doors, Line, Sink, Source, Starter, Surroundings};
+use thiserror::Error;
 
 /// Why an object wasn't made.
-#[derive(Clone, Copy, Debug, PartialEq, Eq)]
+#[derive(Clone, Copy, Debug, PartialEq, Eq, Error)]
 pub enum OpenFault {
     /// The words name nothing that can be reached, and a count of the outside rose.
+    #[error("it cannot be reached")]
     Failed,
     /// Memory ran out.
+    #[error("out of memory")]
     NoMemory,
 }
 
@@ -20,30 +22,12 @@ pub enum OpenFault {
 /// An object that was just made has told nothing and has no faults. The outside has three counts of faults, which never
 /// fall. A call that takes an object back raises one of them exactly where the count of that object is above 0. What an
 /// outside tells is one record, of which each call changes one list.
-pub trait Outside {
+pub trait Outside: Surroundings {
     /// What it opens; the input of a run is one, too.
     type In: Source;
 
     /// What a run writes to.
     type Out: Sink;
-
-    /// What the other end of a connection says.
-    type Line: Line + Drop + Send + 'static;
-
-    /// Where what is said to the other end of a connection goes.
-    type Wire: Wire + Drop + Send + 'static;
-
-    /// The datagrams of a link.
-    type Links: Datagrams + Drop + Send + 'static;
-
-    /// Where sessions come from.
-    type Doors: Doors<Line = Self::Line, Out = Self::Wire>;
-
-    /// The clock.
-    type Clock: Clock + Drop + Send + 'static;
-
-    /// What decides how jobs are started. It is handed out, so that a start leaves all else of the outside as it is.
-    type Starter: Starter;
 
     ghost use Rattle.push_outside.specs.Opening.{CountsFailure, TellsWords};
 
@@ -111,7 +95,7 @@ pub trait Outside {
         ensures others { others self.new ≡ others self.old }
         ensures told { told self.new ≡ told self.old };
 
-    /// A starter. It can't fail.
+    /// A starter. It can't fail. It is handed out, so that a start leaves all else of the outside as it is.
     fn starter(&mut self) -> Self::Starter
         ensures faults { Self.Starter.faults result ≡ 0 }
         ensures fresh { IsFresh (Self.Starter.started result) }

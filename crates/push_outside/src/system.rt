@@ -7,16 +7,17 @@ ghost use Rattle.std.specs.Prelude.{◌≡◌, None, IfOk};
 ghost use Rattle.push_outside.specs.System.{nothing_told};
 
 use crate::counts::{counted, raised_by};
-use crate::hearing::Hearing;
 use crate::machine_clock::MachineClock;
 use crate::origin::Origin;
 use crate::reading::Reading;
-use crate::sending::Sending;
 use crate::tcp::{TcpDoors, TcpEnds, dial};
+use crate::tcp_line::TcpLine;
+use crate::tcp_wire::TcpWire;
 use crate::thread_starter::ThreadStarter;
 use crate::udp_links::UdpLinks;
 use crate::writing::Writing;
 use crate::{OpenFault, Outside};
+use push_base::Surroundings;
 use std::alloc::Global;
 use std::fs::{File, Files};
 use std::io::{ErrorKind, Stdin, Stdout};
@@ -69,6 +70,20 @@ fn file_at<R: Files>(files: &R, path: &str) -> Result<Reading<Origin<Stdin, R::F
     }
 }
 
+impl<R: time::Clock + Copy + Drop + Send + 'static> Surroundings for System<R> {
+    type Line = TcpLine<TcpStream>;
+
+    type Wire = TcpWire;
+
+    type Links = UdpLinks;
+
+    type Doors = TcpDoors;
+
+    type Clock = MachineClock<R>;
+
+    type Starter = ThreadStarter;
+}
+
 impl<R> Outside for System<R>
 where
     R: Files
@@ -82,18 +97,6 @@ where
     type In = Reading<Origin<Stdin, R::File>>;
 
     type Out = Writing<Stdout>;
-
-    type Line = Hearing<TcpStream>;
-
-    type Wire = Sending;
-
-    type Links = UdpLinks;
-
-    type Doors = TcpDoors;
-
-    type Clock = MachineClock<R>;
-
-    type Starter = ThreadStarter;
 
     ghost told = { λ _. nothing_told };
 
@@ -139,11 +142,11 @@ where
         self.reads = raised_by(source.faults(), self.reads);
     }
 
-    fn back_line(&mut self, line: Hearing<TcpStream>) {
+    fn back_line(&mut self, line: TcpLine<TcpStream>) {
         self.reads = raised_by(line.faults(), self.reads);
     }
 
-    fn back_wire(&mut self, wire: Sending) {
+    fn back_wire(&mut self, wire: TcpWire) {
         self.writes = raised_by(wire.faults(), self.writes);
     }
 

@@ -3,9 +3,9 @@
 ghost use Rattle.std.specs.Prelude.{◌≡◌, None, IfOk};
 
 use crate::OpenFault;
-use crate::hearing::Hearing;
-use crate::sending::Sending;
 use crate::system::fault_of;
+use crate::tcp_line::TcpLine;
+use crate::tcp_wire::TcpWire;
 use push_base::{Doors, Failed};
 use std::alloc::Global;
 use std::io::{self, ErrorKind};
@@ -28,7 +28,7 @@ const NONE_HELD: usize = 0;
 const MOST_TRIES: u32 = 1_000;
 
 /// The two ends of a connection.
-pub type TcpEnds = (Hearing<TcpStream>, Sending);
+pub type TcpEnds = (TcpLine<TcpStream>, TcpWire);
 
 /// The two handles of a stream, neither of which waits for its peer for ever, and whose writes go out at once.
 fn handles_of(stream: TcpStream) -> io::Result<(TcpStream, TcpStream)> {
@@ -45,7 +45,7 @@ fn ends_of(alloc: Global, most: usize, stream: TcpStream) -> io::Result<TcpEnds>
     ensures wire { IfOk result (λ ends. ends.1.writing.faults ≡ 0) }
 {
     let (reader, writer) = handles_of(stream)?;
-    Ok((Hearing::new(reader), Sending::new(alloc, most, writer)))
+    Ok((TcpLine::new(reader), TcpWire::new(alloc, most, writer)))
 }
 
 /// A connection to an address.
@@ -120,9 +120,9 @@ fn is_passing(kind: ErrorKind) -> bool {
 }
 
 impl Doors for TcpDoors {
-    type Line = Hearing<TcpStream>;
+    type Line = TcpLine<TcpStream>;
 
-    type Out = Sending;
+    type Out = TcpWire;
 
     ghost accepted = { λ _. None };
 

@@ -3,8 +3,8 @@
 ghost use Rattle.std.specs.Prelude.{◌≡◌, None, IfOk};
 
 use crate::OpenFault;
-use crate::hearing::is_quiet;
 use crate::system::fault_of;
+use crate::tcp_line::is_quiet;
 use push_base::{Datagrams, Failed, Got};
 use std::io;
 use std::net::{Net, UdpSocket};

@@ -29,7 +29,7 @@ use Rattle.pushclient.specs.Clients.{Client, Connection, Wish, RequestState, ans
 use Rattle.pushclient.specs.Rule.{KeptClient, StandsFor, BothAnswer, stood_wish, without_told}
 use Rattle.pushclient.specs.Steps.{adopts, answer_taken, by_reaction, closes_as, counts_as_keepalive, establishes, forgets, is_answered, is_keepalive_out, is_unanswered, keepalive_answered, notices_taken, push_taken, reacted, step, subscribe_answered, timers_of, with_standing}
 use Rattle.pushclient.specs.Kept.{kept_step, sets_after}
-use Rattle.pushclient.specs.Hearing.{IsUntold, adopted_on, answer_heard, closed_by, counts_on, heard, is_keepalive_of, kept_heard, other_answer_on, pushed, told_of, told_on, wish_answered, with_both}
+use Rattle.pushclient.specs.HeardMessages.{IsUntold, adopted_on, answer_heard, closed_by, counts_on, heard, is_keepalive_of, kept_heard, other_answer_on, pushed, told_of, told_on, wish_answered, with_both}
 use Rattle.pushclient.proofs.SoundWishes.{map_kept}
 use Rattle.pushclient.proofs.Standing.{filter_map}
 use Rattle.pushclient.proofs.Stepping.{step_stands}

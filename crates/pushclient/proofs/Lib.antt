@@ -19,4 +19,5 @@ pub mod EveryCut
 pub mod WrittenHeads
 pub mod Fitting
 pub mod Outputs
+pub mod OutputTurns
 pub mod Hears

@@ -22,7 +22,7 @@ use Rattle.dsosession.specs.declared.session.CloseReason.{CloseReason}
 use Rattle.pushclient.specs.declared.client.Step.{Step}
 use Rattle.pushclient.specs.declared.client.Step.TheVariants as steps
 use Rattle.pushclient.specs.Clients.{Client, Connection, Wish, in_connection, writes, without_wish, unsubscribe_message, open_connection, room_of, take_octets, output_of, give_octets}
-use Rattle.pushclient.specs.Pieces.{OnOctets, leaves, followed_by, steps_over, takes, on_pieces, sends_before, says_to, SaysTheSame}
+use Rattle.pushclient.specs.Pieces.{OnOctets, leaves, followed_by, steps_over, on_octets, on_pieces, sends_before, says_to, SaysTheSame}
 use Rattle.pushclient.specs.Steps.{step, request_of, subscribe_answered, timers_of, adopts, keepalive_answered, is_keepalive_out, answer_taken, push_taken, by_reaction, counts_as_keepalive, reacted}
 use Rattle.pushclient.proofs.MessageSteps.{over, unclosed_by, step_by}
 use Rattle.pushclient.proofs.PieceSteps.{offered, takes_by}
@@ -173,20 +173,20 @@ take-before y octets client = ap (λ (n : ℕ). in_connection (λ c. record c { 
     by None = refl
     by (Some c) = refl
 
-pub takes-before : (y : List ℕ) (turns times : ℕ) (octets : List ℕ) (client : Client) → takes turns times octets (sends_before y client) ≡ Before y (takes turns times octets client)
+pub takes-before : (y : List ℕ) (turns times : ℕ) (octets : List ℕ) (client : Client) → on_octets turns times octets (sends_before y client) ≡ Before y (on_octets turns times octets client)
 takes-before y turns zero octets client = refl
 takes-before y turns (suc times) octets client = ap (takes_by turns times octets (sends_before y client)) (open-before y client) ∙ by (takes-before y turns times) (open_connection client)
   where
     first-before : steps_over turns (take_octets octets (sends_before y client)) ≡ Before y (steps_over turns (take_octets octets client))
     first-before = ap (steps_over turns) (take-before y octets client) ∙ steps-before y turns (take_octets octets client)
 
-    by_left : ((more : List ℕ) (later : Client) → takes turns times more (sends_before y later) ≡ Before y (takes turns times more later)) → (left : List ℕ)
+    by_left : ((more : List ℕ) (later : Client) → on_octets turns times more (sends_before y later) ≡ Before y (on_octets turns times more later)) → (left : List ℕ)
         → offered turns times octets (sends_before y client) left ≡ Before y (offered turns times octets client left)
     by_left others [] = first-before
-    by_left others (o ∷ os) = ap (λ (first : OnOctets). followed_by first (takes turns times (o ∷ os) first.client)) first-before
+    by_left others (o ∷ os) = ap (λ (first : OnOctets). followed_by first (on_octets turns times (o ∷ os) first.client)) first-before
         ∙ ap (λ (s : OnOctets). followed_by (steps_over turns (take_octets octets client)) s) (others (o ∷ os) (steps_over turns (take_octets octets client)).client)
 
-    by : ((more : List ℕ) (later : Client) → takes turns times more (sends_before y later) ≡ Before y (takes turns times more later)) → (o : Option Connection)
+    by : ((more : List ℕ) (later : Client) → on_octets turns times more (sends_before y later) ≡ Before y (on_octets turns times more later)) → (o : Option Connection)
         → takes_by turns times octets (sends_before y client) (saying y o) ≡ Before y (takes_by turns times octets client o)
     by others None = refl
     by others (Some c) = ap (λ (n : ℕ). offered turns times octets (sends_before y client) (drop n octets)) (room-before y client) ∙ by_left others (drop (room_of client) octets)
@@ -197,7 +197,7 @@ pieces-before : (y : List ℕ) (turns : ℕ) (pieces : List (List ℕ)) (client 
 pieces-before y turns [] client = refl
 pieces-before y turns (p ∷ ps) client =
     ap (λ (first : OnOctets). followed_by first (on_pieces turns ps first.client)) (takes-before y turns turns p client)
-    ∙ ap (λ (s : OnOctets). followed_by (takes turns turns p client) s) (pieces-before y turns ps (takes turns turns p client).client)
+    ∙ ap (λ (s : OnOctets). followed_by (on_octets turns turns p client) s) (pieces-before y turns ps (on_octets turns turns p client).client)
 
 -- all that a client has to send is given away
 pub given-away : (client : Client) → client ≡ sends_before (output_of client) (give_octets (length (output_of client)) client)
@@ -224,7 +224,7 @@ before-none client = by client.connection
 pub says-the-same : SaysTheSame
 says-the-same turns [] client = ap (leaves []) (before-none client)
 says-the-same turns (p ∷ ps) client =
-    let first = takes turns turns p client in
+    let first = on_octets turns turns p client in
     let said = output_of first.client in
     let given = give_octets (length said) first.client in
     let later = says_to turns ps given in

@@ -11,7 +11,7 @@ use Rattle.dsotlv.proofs.FrameLaws.{Split}
 use Rattle.dsotlv.proofs.StreamLaws.{none_found, cut_anywhere}
 use Rattle.dsosession.specs.declared.session.CloseReason.{CloseReason}
 use Rattle.pushclient.specs.Clients.{Client, Connection, Wish, open_connection, room_of, take_octets}
-use Rattle.pushclient.specs.Pieces.{OnMessages, on_messages, OnOctets, leaves, followed_by, steps_over, takes, on_pieces}
+use Rattle.pushclient.specs.Pieces.{OnMessages, on_messages, OnOctets, leaves, followed_by, steps_over, on_octets, on_pieces}
 use Rattle.pushclient.proofs.Reactions.{at, with_octets}
 use Rattle.pushclient.proofs.MessageSteps.{bare, is-open, is-closed, on_messages-append, on_messages-closed, Ran, ran-waits, ran-steps}
 use Rattle.pushclient.proofs.Streams.{octets-front, octets-behind, octets-both, short-rest, length-rest, few-messages}
@@ -113,30 +113,30 @@ room-while-waiting ws now c unclosed none below = omega (arith, room-is ws now c
 
 abbrev pub offered : ℕ → ℕ → List ℕ → Client → List ℕ → OnOctets
 offered turns times octets client [] = steps_over turns (take_octets octets client)
-offered turns times octets client (o ∷ os) = (let first = steps_over turns (take_octets octets client) in followed_by first (takes turns times (o ∷ os) first.client))
+offered turns times octets client (o ∷ os) = (let first = steps_over turns (take_octets octets client) in followed_by first (on_octets turns times (o ∷ os) first.client))
 
 abbrev pub takes_by : ℕ → ℕ → List ℕ → Client → Option Connection → OnOctets
 takes_by turns times octets client None = leaves octets client
 takes_by turns times octets client (Some c) = offered turns times octets client (drop (room_of client) octets)
 
 pub takes-open : (turns times : ℕ) (octets : List ℕ) (ws : List Wish) (now : ℕ) (c : Connection) → c.closed ≡ None
-    → takes turns (suc times) octets (at ws now c) ≡ offered turns times octets (at ws now c) (drop (room_of (at ws now c)) octets)
+    → on_octets turns (suc times) octets (at ws now c) ≡ offered turns times octets (at ws now c) (drop (room_of (at ws now c)) octets)
 takes-open turns times octets ws now c unclosed = ap (takes_by turns times octets (at ws now c)) (is-open ws now c unclosed)
 
-pub takes-closed : (turns times : ℕ) (octets : List ℕ) (client : Client) → open_connection client ≡ None → takes turns times octets client ≡ leaves octets client
+pub takes-closed : (turns times : ℕ) (octets : List ℕ) (client : Client) → open_connection client ≡ None → on_octets turns times octets client ≡ leaves octets client
 takes-closed turns zero octets client closed = refl
 takes-closed turns (suc times) octets client closed = ap (takes_by turns times octets client) closed
 
 abbrev TakesFor : ℕ → ℕ → ℕ → Type 0
 TakesFor now turns times = (octets : List ℕ) (ws : List Wish) (c : Connection) → c.closed ≡ None → first_message c.input ≡ None → AreOctets (c.input ++ octets) → length octets < times → length (c.input ++ octets) ≤ turns
-    → Ran now (at ws now (bare c)) (c.input ++ octets) (takes turns times octets (at ws now c))
+    → Ran now (at ws now (bare c)) (c.input ++ octets) (on_octets turns times octets (at ws now c))
 
 -- a stream, of which the octets behind are offered again
 module _ (now turns times : ℕ) (again : TakesFor now turns times) (start : Client) (stream : List ℕ) (first : OnOctets) (a : Ran now start stream first) (octets : List ℕ) (below : AreOctets (stream ++ octets))
     (few : length octets < times) (enough : length (stream ++ octets) ≤ turns) where
-  go_on : (closed : Option CloseReason) → a.later.closed ≡ closed → Ran now start (stream ++ octets) (followed_by first (takes turns times octets first.client))
+  go_on : (closed : Option CloseReason) → a.later.closed ≡ closed → Ran now start (stream ++ octets) (followed_by first (on_octets turns times octets first.client))
   go_on (Some reason) closed =
-      let last : takes turns times octets first.client ≡ leaves octets first.client =
+      let last : on_octets turns times octets first.client ≡ leaves octets first.client =
       takes-closed turns times octets first.client (ap open_connection a.client ∙ is-closed a.wishes now (with_octets a.input a.later) reason closed) in
       subst (λ (s : OnOctets). Ran now start (stream ++ octets) (followed_by first s)) (sym last) (closed-followed now start stream octets first a reason closed (octets-behind stream octets below))
   go_on None unclosed =
@@ -146,8 +146,8 @@ module _ (now turns times : ℕ) (again : TakesFor now turns times) (start : Cli
       let short : length (a.input ++ octets) ≤ turns =
       omega (arith, enough, length-append stream octets, length-append a.input octets, ap (λ (l : List ℕ). length l) all.input, length-rest stream stream-below) in
       let later = again octets a.wishes (with_octets a.input a.later) unclosed all.waits (octets-both a.input octets input-below (octets-behind stream octets below)) few short in
-      open-followed now start stream octets first a unclosed (takes turns times octets first.client)
-      (subst (λ (client : Client). Ran now (at a.wishes now (bare a.later)) (a.input ++ octets) (takes turns times octets client)) (sym a.client) later)
+      open-followed now start stream octets first a unclosed (on_octets turns times octets first.client)
+      (subst (λ (client : Client). Ran now (at a.wishes now (bare a.later)) (a.input ++ octets) (on_octets turns times octets client)) (sym a.client) later)
 
 -- what goes in, and what is left
 module _ (now turns times : ℕ) (again : TakesFor now turns times) (octets : List ℕ) (ws : List Wish) (c : Connection) (unclosed : c.closed ≡ None) (none : first_message c.input ≡ None)
@@ -178,7 +178,7 @@ module _ (now turns times : ℕ) (again : TakesFor now turns times) (octets : Li
       go_on now turns times again (at ws now (bare c)) front first front-ran (o ∷ os) (subst AreOctets (sym is) below)
       (omega (arith, few, size, wide, some)) (omega (arith, enough, ap (λ (l : List ℕ). length l) is)) front-ran.later.closed refl
 
-  takes-one : Ran now (at ws now (bare c)) (c.input ++ octets) (takes turns (suc times) octets (at ws now c))
+  takes-one : Ran now (at ws now (bare c)) (c.input ++ octets) (on_octets turns (suc times) octets (at ws now c))
   takes-one = subst (Ran now (at ws now (bare c)) (c.input ++ octets)) (sym (takes-open turns times octets ws now c unclosed))
       (subst (λ (stream : List ℕ). Ran now (at ws now (bare c)) stream (offered turns times octets (at ws now c) (drop room octets))) whole (by_left (drop room octets) refl))
 
@@ -227,4 +227,4 @@ ran-pieces now turns (p ∷ ps) ws c unclosed none below enough =
     let few : length (c.input ++ p) < turns = omega (arith, size, length-append (c.input ++ p) (concat ps)) in
     let first = ran-takes now turns turns p ws c unclosed none (octets-front (c.input ++ p) (concat ps) all) (omega (arith, few, length-append c.input p)) (omega (arith, few)) in
     subst (λ (stream : List ℕ). Ran now (at ws now (bare c)) stream (on_pieces turns (p ∷ ps) (at ws now c))) is
-    (pieces-behind now turns ps (ran-pieces now turns ps) (at ws now (bare c)) (c.input ++ p) (takes turns turns p (at ws now c)) first all size first.later.closed (refl {a = first.later.closed}))
+    (pieces-behind now turns ps (ran-pieces now turns ps) (at ws now (bare c)) (c.input ++ p) (on_octets turns turns p (at ws now c)) first all size first.later.closed (refl {a = first.later.closed}))

@@ -1,6 +1,6 @@
 -- What a client does with octets that come in pieces, and with the whole messages in them (RFC 7766, 8; RFC 8490, 5.4).
 --     on_messages messages client      its steps over whole messages, one after the other, until it has closed
---     takes, on_pieces      its steps over octets, as many as have room at a time; over pieces of them, one after the other
+--     on_octets, on_pieces      its steps over octets, as many as have room at a time; over pieces of them, one after the other
 --     AnswersAsMessages      the steps over pieces are those over the messages in its input and all pieces, and no octet is lost
 --     AnswersEveryCut, SameForEveryCut      so it is for every list of pieces; all pieces of the same octets give the same steps and client
 --     SaysTheSame      so it is where what the client has to send is given away between the pieces
@@ -57,19 +57,19 @@ steps_over (suc turns) client = (let one = step client in elim one.0 [
 ])
 
 -- Octets that have room go in, and the client steps; then those that had none, at most so many times. One that has closed takes none.
-abbrev pub takes : ℕ → ℕ → List ℕ → Client → OnOctets
-takes turns zero octets client = leaves octets client
-takes turns (suc times) octets client = elim (open_connection client) [
+abbrev pub on_octets : ℕ → ℕ → List ℕ → Client → OnOctets
+on_octets turns zero octets client = leaves octets client
+on_octets turns (suc times) octets client = elim (open_connection client) [
   | None ↦ leaves octets client
   | Some c ↦ (let first = steps_over turns (take_octets octets client) in elim (drop (room_of client) octets) [
     | [] ↦ first
-    | o ∷ os ↦ followed_by first (takes turns times (o ∷ os) first.client)
+    | o ∷ os ↦ followed_by first (on_octets turns times (o ∷ os) first.client)
   ])
 ]
 
 abbrev pub on_pieces : ℕ → List (List ℕ) → Client → OnOctets
 on_pieces turns [] client = leaves [] client
-on_pieces turns (piece ∷ pieces) client = (let first = takes turns turns piece client in followed_by first (on_pieces turns pieces first.client))
+on_pieces turns (piece ∷ pieces) client = (let first = on_octets turns turns piece client in followed_by first (on_pieces turns pieces first.client))
 
 -- a connection that hasn't closed, and no whole message in its input
 pub record WaitsForOctets (client : Client) (c : Connection) : Type 0 where
@@ -115,7 +115,7 @@ sends_before octets client = in_connection (λ c. record c { output = octets ++ 
 abbrev pub says_to : ℕ → List (List ℕ) → Client → List ℕ × OnOctets
 says_to turns [] client = ([], leaves [] client)
 says_to turns (piece ∷ pieces) client = (
-    let first = takes turns turns piece client in
+    let first = on_octets turns turns piece client in
     let said = output_of first.client in
     let later = says_to turns pieces (give_octets (length said) first.client) in
     (said ++ later.0, followed_by first later.1))

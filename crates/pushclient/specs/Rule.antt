@@ -12,13 +12,13 @@ use Rattle.rrset.specs.RecordSet.{RecordSet}
 use Rattle.rrset.specs.declared.record.Question.{Question}
 use Rattle.dsotlv.specs.Notices.{applied_all}
 use Rattle.mirror.specs.Held.{Held as Sets, is_of}
-use Rattle.pushclient.specs.declared.wish.Standing.{Standing}
-use Rattle.pushclient.specs.declared.wish.Standing.TheVariants as standings
+use Rattle.pushclient.specs.declared.wish.WishStatus.{WishStatus}
+use Rattle.pushclient.specs.declared.wish.WishStatus.TheVariants as standings
 use Rattle.pushclient.specs.Clients.{Client, Connection, Wish, RequestState, not_asked, unanswered, refused, answered}
 use Rattle.pushclient.specs.Steps.{is_answered}
 use Rattle.pushclient.specs.SoundClients.{IsSound}
 
-abbrev pub standing_of : Standing → RequestState
+abbrev pub standing_of : WishStatus → RequestState
 standing_of standings.NotAsked = not_asked
 standing_of (standings.Unanswered id) = unanswered id
 standing_of (standings.Refused rcode) = refused rcode

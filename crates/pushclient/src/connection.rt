@@ -10,13 +10,13 @@ ghost use Rattle.dsotlv.specs.Answers.{answer_to};
 ghost use Rattle.dsotlv.specs.Messages.{first_message};
 ghost use Rattle.dsosession.specs.Reactions.{client_reaction, is_keepalive};
 ghost use Rattle.dsosession.specs.Timing.{client_due, restarted};
-ghost use Rattle.pushclient.specs.Hearing.{adopted_on, closed_by, heard, is_keepalive_of, other_answer_on, taken_up};
+ghost use Rattle.pushclient.specs.HeardMessages.{adopted_on, closed_by, heard, is_keepalive_of, other_answer_on, taken_up};
 ghost use Rattle.pushclient.specs.Kept.{done_on};
 ghost use Rattle.pushclient.specs.Steps.{is_active, keepalive_message};
 
 use crate::NoMemory;
 use crate::client::Step;
-use crate::octets::{
+use crate::client_messages::{
     append_keepalive, append_reconfirm, append_subscribe, append_typeless, append_unsubscribe,
 };
 use crate::told::{Answer, Told, told_of};

@@ -2,11 +2,12 @@
 #![tactic(auto)]
 
 pub mod client;
+mod client_messages;
+mod client_state;
 mod connection;
-mod keeping;
+mod hand_out;
 pub mod laws;
 pub mod laws_of_steps;
-mod octets;
 mod opened;
 mod reacting;
 mod told;
@@ -20,6 +21,7 @@ ghost use Rattle.pushclient.specs.Clients.{closed_as, output_of};
 
 pub use client::Client;
 use dsosession::session::CloseReason;
+pub use hand_out::hand_out_over;
 pub use rrset::NoMemory;
 
 /// Examples of what a client sends.

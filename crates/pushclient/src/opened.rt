@@ -6,7 +6,7 @@ ghost use Rattle.pushclient.specs.Rule.{standing_of};
 
 use crate::NoMemory;
 use crate::connection::Connection;
-use crate::wish::{Standing, Wish};
+use crate::wish::{Wish, WishStatus};
 use rrset::record::{Question, Rr};
 
 /// Asks a question where the connection is open.
@@ -15,19 +15,19 @@ pub(crate) fn ask(
     wishes: &[Wish],
     question: &Question,
     now: u64,
-) -> Result<Standing, NoMemory>
+) -> Result<WishStatus, NoMemory>
     ensures standing { IfOk result (λ standing. standing_of standing ≡ (asked_on wishes.now question.now now connection.old).0) }
     ensures ok { OnOk result (connection.new ≡ (asked_on wishes.now question.now now connection.old).1) }
     ensures err { OnErr result (connection.new ≡ connection.old) }
 {
     let Some(open) = connection else {
-        return Ok(Standing::NotAsked);
+        return Ok(WishStatus::NotAsked);
     };
     if open.closed.is_some() {
-        return Ok(Standing::NotAsked);
+        return Ok(WishStatus::NotAsked);
     }
     let id = open.ask(wishes, question, now)?;
-    Ok(Standing::Unanswered(id))
+    Ok(WishStatus::Unanswered(id))
 }
 
 /// Ends a subscription where the connection is open.

@@ -3,12 +3,12 @@
 ghost use Rattle.std.specs.Prelude.{◌≡◌, Some, IfOk, IsSome, OnOk, OnErr};
 ghost use Rattle.dsotlv.specs.Messages.{first_message};
 ghost use Rattle.pushclient.specs.Clients.{without_wish};
-ghost use Rattle.pushclient.specs.Hearing.{answer_heard, dropped_on, kept_heard, taken_up, told_on, wanted_on, wanted_sets, wanted_wishes};
+ghost use Rattle.pushclient.specs.HeardMessages.{answer_heard, dropped_on, kept_heard, taken_up, told_on, wanted_on, wanted_sets, wanted_wishes};
 
 use crate::client::Step;
 use crate::connection::Connection;
 use crate::told::{Answer, Told};
-use crate::wish::{Standing, Wish};
+use crate::wish::{Wish, WishStatus};
 use crate::{NoMemory, wishes};
 use dsosession::ClientSession;
 use mirror::Mirror;
@@ -34,12 +34,12 @@ fn answer_wanted(
     ensures same_sets { OnErr result (mirror.new ≡ mirror.old) }
 {
     if answer.rcode != NOERROR {
-        wishes::stand(wishes, question, Standing::Refused(answer.rcode));
+        wishes::stand(wishes, question, WishStatus::Refused(answer.rcode));
         connection.take_up(session);
         return Ok(());
     }
     mirror.begin(question.copy()?)?;
-    wishes::stand(wishes, question, Standing::Answered(answer.id));
+    wishes::stand(wishes, question, WishStatus::Answered(answer.id));
     connection.establish(session);
     Ok(())
 }

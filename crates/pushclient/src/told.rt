@@ -6,7 +6,7 @@ ghost use Rattle.rrset.specs.Header.{header_octets, flags_of, id_of, rcode_of};
 ghost use Rattle.dsotlv.specs.Messages.{head_of, primary_data};
 ghost use Rattle.dsotlv.specs.TlvKinds.{keepalive_size, retry_delay_size};
 ghost use Rattle.dsosession.specs.Reactions.{client_reaction};
-ghost use Rattle.pushclient.specs.Hearing.{pushed, told_of};
+ghost use Rattle.pushclient.specs.HeardMessages.{pushed, told_of};
 ghost use Rattle.pushclient.specs.Steps.{timers_of};
 
 use crate::NoMemory;
@@ -16,7 +16,7 @@ use dsotlv::{DsoHead, Notices, PushFault, primary_data, read_push};
 use std::alloc::Global;
 
 /// The answer to a request.
-#[derive(Clone, Copy, Debug)]
+#[derive(Clone, Copy)]
 pub(crate) struct Answer {
     /// The ID of the request (RFC 8490, 5.4.1).
     pub id: u16,
@@ -27,7 +27,7 @@ pub(crate) struct Answer {
 }
 
 /// What a message tells a client.
-#[derive(Debug, Drop)]
+#[derive(Drop)]
 pub(crate) enum Told {
     /// A request is answered.
     Answered(Answer),

@@ -11,7 +11,7 @@ use std::marker::Model;
 
 /// How a wish stands on this connection.
 #[derive(Clone, Copy, Debug, PartialEq, Eq)]
-pub enum Standing {
+pub enum WishStatus {
     /// It is not asked.
     NotAsked,
     /// It is asked with this ID, and has no answer yet.
@@ -27,7 +27,7 @@ pub enum Standing {
 pub(crate) struct Wish {
     pub question: Question,
     pub wanted: bool,
-    pub standing: Standing,
+    pub standing: WishStatus,
 }
 
 impl Model for Wish {
@@ -40,14 +40,14 @@ impl Model for Wish {
     ghost view = { λ w. record { question = w.question; wanted = w.wanted; standing = standing_of w.standing; notices = [] } };
 }
 
-impl Standing {
+impl WishStatus {
     /// Whether it uses this ID.
     pub(crate) fn uses(self, id: u16) -> bool
         ensures { result ≡ list_any (λ u. u == id) (id_in_use (standing_of self)) }
     {
         match self {
-            Standing::Unanswered(used) | Standing::Answered(used) => used == id,
-            Standing::NotAsked | Standing::Refused(_) => false,
+            WishStatus::Unanswered(used) | WishStatus::Answered(used) => used == id,
+            WishStatus::NotAsked | WishStatus::Refused(_) => false,
         }
     }
 
@@ -56,8 +56,8 @@ impl Standing {
         ensures { result ≡ id_asked (standing_of self) }
     {
         match self {
-            Standing::Unanswered(id) | Standing::Answered(id) => Some(id),
-            Standing::NotAsked | Standing::Refused(_) => None,
+            WishStatus::Unanswered(id) | WishStatus::Answered(id) => Some(id),
+            WishStatus::NotAsked | WishStatus::Refused(_) => None,
         }
     }
 
@@ -66,8 +66,8 @@ impl Standing {
         ensures { result ≡ is_unanswered id (standing_of self) }
     {
         match self {
-            Standing::Unanswered(asked) => id == asked,
-            Standing::NotAsked | Standing::Refused(_) | Standing::Answered(_) => false,
+            WishStatus::Unanswered(asked) => id == asked,
+            WishStatus::NotAsked | WishStatus::Refused(_) | WishStatus::Answered(_) => false,
         }
     }
 
@@ -76,8 +76,8 @@ impl Standing {
         ensures { result ≡ is_active (standing_of self) }
     {
         match self {
-            Standing::Unanswered(_) | Standing::Answered(_) => true,
-            Standing::NotAsked | Standing::Refused(_) => false,
+            WishStatus::Unanswered(_) | WishStatus::Answered(_) => true,
+            WishStatus::NotAsked | WishStatus::Refused(_) => false,
         }
     }
 }

@@ -9,7 +9,7 @@ ghost use Rattle.pushclient.specs.Rule.{standing_of, dropped_wish, stood_wish};
 ghost use Rattle.pushclient.specs.Steps.{is_active, is_unanswered};
 
 use crate::NoMemory;
-use crate::wish::{Standing, Wish};
+use crate::wish::{Wish, WishStatus};
 use rrset::record::Question;
 use rrset::same_question;
 
@@ -94,7 +94,7 @@ fn unask(wish: &mut Wish)
     ensures { wish.new ≡ unasked wish.old.question }
 {
     wish.wanted = true;
-    wish.standing = Standing::NotAsked;
+    wish.standing = WishStatus::NotAsked;
 }
 
 /// No wish is asked, and all are wanted.
@@ -133,7 +133,7 @@ pub(crate) fn drop_wish(wishes: &mut [Wish], question: &Question)
 }
 
 /// Lets a wish stand otherwise if it is for a question.
-fn stand_one(wish: &mut Wish, question: &Question, standing: Standing)
+fn stand_one(wish: &mut Wish, question: &Question, standing: WishStatus)
     ensures { wish.new ≡ stood_wish question.now (standing_of standing) wish.old }
 {
     if same_question(&wish.question, question) {
@@ -142,7 +142,7 @@ fn stand_one(wish: &mut Wish, question: &Question, standing: Standing)
 }
 
 /// The wish for a question stands otherwise.
-pub(crate) fn stand(wishes: &mut [Wish], question: &Question, standing: Standing)
+pub(crate) fn stand(wishes: &mut [Wish], question: &Question, standing: WishStatus)
     ensures { wishes.new ≡ map (stood_wish question.now (standing_of standing)) wishes.old }
 {
     'wishes: for place in 0..wishes.len() {

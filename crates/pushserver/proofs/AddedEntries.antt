@@ -2,13 +2,10 @@
 --     give-adds, hear-adds, moment-adds      at most one change; one hearing where the datagram was entered; at most one moment
 --     give-within      no more octets than there is room for
 --     connect-counts, connect-many      one session is made; where no seat is free, as many were made
-use Rattle.std.proofs.Common.{◌≡◌, ℕ, suc, ◌+◌, ◌<◌, ◌≤◌, Bool, true, false, cond, not, ◌&&◌, ◌||◌, List, [], ◌∷◌, ◌++◌, map, length, Option, Some, None, Result, Ok, Err, T, inl, inr, refl, sym, ap, subst, ◌∙◌, arith}
-use Rattle.std.specs.Prelude.{◌==◌, filter, nat_lt}
-use Rattle.std.specs.List.{count_by, list_any, AllByRecursion, IsDistinct}
+use Rattle.std.proofs.Common.{◌≡◌, ℕ, suc, ◌+◌, ◌<◌, ◌≤◌, Bool, true, false, cond, not, ◌&&◌, ◌||◌, List, [], ◌∷◌, map, length, Option, Some, None, Result, Ok, Err, T, inl, inr, refl, sym, ap, subst, arith}
+use Rattle.std.specs.Prelude.{◌==◌, nat_lt}
+use Rattle.std.specs.List.{list_any, AllByRecursion, IsDistinct}
 use Rattle.std.proofs.Math.Dec.{eqb, nltb→le}
-use Rattle.std.proofs.lemmas.List.{length-append}
-use Rattle.std.proofs.lemmas.List.Elements.{filter-append}
-use Rattle.std.proofs.lemmas.List.Sums.{length-filter}
 use Rattle.std.proofs.lemmas.Map.Steps.{length-le_from_distinct_below}
 use Rattle.push_base.specs.Cases.{is_empty}
 use Rattle.push_base.specs.Limits.{max_number}
@@ -20,16 +17,14 @@ use Rattle.dnswire.specs.declared.message.HearFault.{HearFault}
 use Rattle.dnswire.specs.declared.message.Update.{Update}
 use Rattle.dsotlv.specs.Messages.{first_message}
 use Rattle.history.specs.States.{accepts, reconfirm_key, verdict}
-use Rattle.history.specs.Totals.{is_change, is_hearing, is_moment, totals}
-use Rattle.history.specs.declared.entry.Entry.{Entry}
 use Rattle.history.specs.declared.entry.Entry.TheVariants as entries
 use Rattle.pushsession.specs.Kept.{KeptSession}
 use Rattle.pushsession.specs.Reactions.{request_in}
 use Rattle.pushsession.specs.Sessions.{SessionOf}
 use Rattle.pushsession.specs.declared.request.Request.{Request}
 use Rattle.pushsession.specs.declared.request.Request.TheVariants as requests
-use Rattle.pushsession.specs.declared.standing.Standing.{Standing}
-use Rattle.pushsession.specs.declared.standing.Standing.TheVariants.{Live, AskedToStop, Stopped, Ended}
+use Rattle.pushsession.specs.declared.session_status.SessionStatus.{SessionStatus}
+use Rattle.pushsession.specs.declared.session_status.SessionStatus.TheVariants.{Live, AskedToStop, Stopped, Ended}
 use Rattle.pushserver.specs.Counting.{AddsHearing, MayAddChange, MayAddMoment, octets_of}
 use Rattle.pushserver.specs.Giving.{reconfirms, by_request, reacted, after_reaction, by_standing, given_after, give}
 use Rattle.pushserver.specs.Hubs.{Numbered, SessionKind, HubOf, now, state_now, session_of, entered, can_enter, update, why_not, hear, moment, connect, max_sessions}
@@ -41,34 +36,14 @@ use Rattle.pushserver.specs.declared.given.Heard.{Heard}
 use Rattle.pushserver.specs.declared.given.Heard.TheVariants.{Entered, Ignored}
 use Rattle.pushserver.specs.declared.given.Why.{Why}
 use Rattle.pushserver.specs.declared.given.Why.TheVariants as whys
+use Rattle.history.proofs.Present.{totals-last}
 use Rattle.pushserver.proofs.SessionLists.{same-number}
 use Rattle.pushserver.proofs.Walks.{with_new}
 use Rattle.pushserver.proofs.hub_steps.Cases.{enters_update, update_as, enters_hearing, hear_as, enters_moment, moment_as, key_as, session_as, copies_as, found_as, works_as, output_as, give_as}
 
--- ---- one entry more
-
-last-filter : (p : Entry → Bool) (h : List Entry) (e : Entry) → count_by p (h ++ e ∷ []) ≡ count_by p h + length (filter p (e ∷ []))
-last-filter p h e =
-    sym (length-filter p (h ++ e ∷ [])) ∙ ap length (filter-append p h (e ∷ [])) ∙ length-append (filter p h) (filter p (e ∷ [])) ∙ ap (λ n. n + length (filter p (e ∷ []))) (length-filter p h)
-
-one_more : (p : Entry → Bool) (h : List Entry) (e : Entry) → p e ≡ true → count_by p (h ++ e ∷ []) ≡ count_by p h + 1
-one_more p h e is = last-filter p h e ∙ ap (λ b. count_by p h + length (cond b (e ∷ []) [])) is
-
-none_more : (p : Entry → Bool) (h : List Entry) (e : Entry) → p e ≡ false → count_by p (h ++ e ∷ []) ≡ count_by p h
-none_more p h e is = let sum = last-filter p h e ∙ ap (λ b. count_by p h + length (cond b (e ∷ []) [])) is in omega (arith, sum)
-
-more_change : (h : List Entry) (e : Entry) → is_change e ≡ true → is_hearing e ≡ false → is_moment e ≡ false → totals (h ++ e ∷ []) ≡ record (totals h) { changes = (totals h).changes + 1 }
-more_change h e change hearing moment = λ i. record { changes = one_more is_change h e change i; heard = none_more is_hearing h e hearing i; moments = none_more is_moment h e moment i }
-
-more_moment : (h : List Entry) (t : ℕ) → totals (h ++ entries.Moment t ∷ []) ≡ record (totals h) { moments = (totals h).moments + 1 }
-more_moment h t = λ i. record { changes = none_more is_change h (entries.Moment t) refl i; heard = none_more is_hearing h (entries.Moment t) refl i; moments = one_more is_moment h (entries.Moment t) refl i }
-
-more_hearing : (h : List Entry) (link : ℕ) (hearing : Hearing) → totals (h ++ entries.Heard link hearing ∷ []) ≡ record (totals h) { heard = (totals h).heard + 1 }
-more_hearing h link hearing = let e = entries.Heard link hearing in λ i. record { changes = none_more is_change h e refl i; heard = one_more is_hearing h e refl i; moments = none_more is_moment h e refl i }
-
 -- ---- `give`, a datagram and a moment
 
-ends_without : (s : Standing) → octets_of (given_after s) ≡ 0
+ends_without : (s : SessionStatus) → octets_of (given_after s) ≡ 0
 ends_without (Ended reason) = refl
 ends_without (Stopped since) = refl
 ends_without Live = refl
@@ -79,7 +54,7 @@ module _ {A Q M : Type 0} {kind : SessionKind A Q M} (number room : ℕ) where
   adds-update hub message = by (verdict (state_now hub) message)
     where
       by_room : (u : Update) (b : Bool) → MayAddChange hub (enters_update hub u b).1
-      by_room u true = (refl, inr (more_change hub.history (entries.Update u) refl refl refl))
+      by_room u true = (refl, inr (totals-last hub.history (entries.Update u)))
       by_room u false = (refl, inl refl)
 
       by : (r : Result Update ℕ) → MayAddChange hub (update_as hub r).1
@@ -90,7 +65,7 @@ module _ {A Q M : Type 0} {kind : SessionKind A Q M} (number room : ℕ) where
   adds-reconfirm hub = by
     where
       by_room : (found : ℕ × Key) (b : Bool) → MayAddChange hub (cond b (entered (entries.Reconfirm found.0 found.1) hub) hub)
-      by_room found true = (refl, inr (more_change hub.history (entries.Reconfirm found.0 found.1) refl refl refl))
+      by_room found true = (refl, inr (totals-last hub.history (entries.Reconfirm found.0 found.1)))
       by_room found false = (refl, inl refl)
 
       by_key : (o : Option (ℕ × Key)) → MayAddChange hub (key_as hub o)
@@ -115,7 +90,7 @@ module _ {A Q M : Type 0} {kind : SessionKind A Q M} (number room : ℕ) where
       by (Some session) = adds-request _ message (request_in message session.established)
 
   -- octets that are handed on add nothing
-  adds-found : (hub later : HubOf kind) (none : Given) (given : Standing → Given) (o : Option (SessionOf A Q M)) → MayAddChange hub later → MayAddChange hub (found_as later number room none given o).hub
+  adds-found : (hub later : HubOf kind) (none : Given) (given : SessionStatus → Given) (o : Option (SessionOf A Q M)) → MayAddChange hub later → MayAddChange hub (found_as later number room none given o).hub
   adds-found hub later none given None adds = adds
   adds-found hub later none given (Some session) adds = by (is_empty session.output)
     where
@@ -130,7 +105,7 @@ module _ {A Q M : Type 0} {kind : SessionKind A Q M} (number room : ℕ) where
   adds-works hub None = adds-found hub _ Nothing (λ standing. Nothing) _ (refl, inl refl)
   adds-works hub (Some found) = adds-after hub _ (adds-message _ found.0)
 
-  adds-standing : (hub : HubOf kind) (session : SessionOf A Q M) (standing : Standing) → MayAddChange hub (by_standing standing number room session hub).hub
+  adds-standing : (hub : HubOf kind) (session : SessionOf A Q M) (standing : SessionStatus) → MayAddChange hub (by_standing standing number room session hub).hub
   adds-standing hub session (Ended reason) = (refl, inl refl)
   adds-standing hub session (Stopped since) = (refl, inl refl)
   adds-standing hub session Live = adds-works hub (first_message session.input)
@@ -149,7 +124,7 @@ module _ {A Q M : Type 0} {kind : SessionKind A Q M} (number room : ℕ) where
 
   -- ---- no more octets than there is room for
 
-  within-found : (later : HubOf kind) (none : Given) (given : Standing → Given) → octets_of none ≡ 0 → ((s : Standing) → octets_of (given s) ≡ 0) → (o : Option (SessionOf A Q M)) → octets_of (found_as later number room none given o).given ≤ room
+  within-found : (later : HubOf kind) (none : Given) (given : SessionStatus → Given) → octets_of none ≡ 0 → ((s : SessionStatus) → octets_of (given s) ≡ 0) → (o : Option (SessionOf A Q M)) → octets_of (found_as later number room none given o).given ≤ room
   within-found later none given nothing given_nothing None = omega (arith, nothing)
   within-found later none given nothing given_nothing (Some session) = by (is_empty session.output)
     where
@@ -160,7 +135,7 @@ module _ {A Q M : Type 0} {kind : SessionKind A Q M} (number room : ℕ) where
   within-after : (later : HubOf kind) → octets_of (after_reaction number room later).given ≤ room
   within-after later = within-found later Worked given_after refl ends_without (session_of later number)
 
-  within-standing : (hub : HubOf kind) (session : SessionOf A Q M) (standing : Standing) → octets_of (by_standing standing number room session hub).given ≤ room
+  within-standing : (hub : HubOf kind) (session : SessionOf A Q M) (standing : SessionStatus) → octets_of (by_standing standing number room session hub).given ≤ room
   within-standing hub session (Ended reason) = omega arith
   within-standing hub session (Stopped since) = omega arith
   within-standing hub session Live = by (first_message session.input)
@@ -193,7 +168,7 @@ hear-adds hub link datagram heard = by (hearing_of datagram)
     by_room : (hearing : Hearing) (a b : Bool) → (enters_hearing hub link hearing a b).0 ≡ Some heard → AddsHearing (Ok heard) hub (enters_hearing hub link hearing a b).1
     by_room hearing false b e = ignored whys.Nothing e
     by_room hearing true false e = cc
-    by_room hearing true true e = subst (λ (h : Heard). AddsHearing (Ok h) hub (entered (entries.Heard link hearing) hub)) (same_heard Entered e) (refl, more_hearing hub.history link hearing)
+    by_room hearing true true e = subst (λ (h : Heard). AddsHearing (Ok h) hub (entered (entries.Heard link hearing) hub)) (same_heard Entered e) (refl, totals-last hub.history (entries.Heard link hearing))
 
     by : (r : Result Hearing HearFault) → (hear_as hub link r).0 ≡ Some heard → AddsHearing (Ok heard) hub (hear_as hub link r).1
     by (Err fault) e = ignored (why_not fault) e
@@ -203,7 +178,7 @@ pub moment-adds : {A Q M : Type 0} {kind : SessionKind A Q M} (hub : HubOf kind)
 moment-adds hub t = by (not (nat_lt (now hub) t))
   where
     by_room : (b : Bool) → MayAddMoment hub (enters_moment hub t b).1
-    by_room true = (refl, inr (more_moment hub.history t))
+    by_room true = (refl, inr (totals-last hub.history (entries.Moment t)))
     by_room false = (refl, inl refl)
 
     by : (b : Bool) → MayAddMoment hub (moment_as hub t b).1

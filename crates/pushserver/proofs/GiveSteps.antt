@@ -11,10 +11,10 @@ use Rattle.pushserver.specs.Laws.{WantsMemoryFor, MayWantMemory}
 use Rattle.pushserver.specs.Hubs.{Numbered, session_in, in_sessions, taken_by}
 use Rattle.pushserver.specs.Giving.{give}
 use Rattle.pushserver.specs.KeptHubs.{KeptHub}
-use Rattle.pushserver.specs.Keeping.{kept_of, IsSound, IsSeated, IsToJudge, IsToReconfirm, Gave, Turns}
+use Rattle.pushserver.specs.HubState.{kept_of, IsSound, IsSeated, IsToJudge, IsToReconfirm, Gave, Turns}
 use Rattle.pushserver.specs.NumberedSessions.{AreApart}
 use Rattle.pushserver.specs.declared.given.Given.{Given}
-use Rattle.pushserver.specs.declared.keeping.Keeping.{Keeping}
+use Rattle.pushserver.specs.declared.hub_state.HubState.{HubState}
 use Rattle.pushserver.specs.declared.turning.Turn.{Turn}
 use Rattle.pushserver.specs.declared.turning.Turn.TheVariants as turnings
 use Rattle.pushserver.proofs.NumberedSessions.{alike, itself}
@@ -29,7 +29,7 @@ on_each_err (Err e) p = p
 
 -- ---- the session in its seat
 
-pub seat-of : (keeping : Keeping) (number : ℕ) (s : KeptSession) → IsSound keeping → session_in number keeping.sessions ≡ Some s → AreApart keeping.sessions → IsSeated (kept_of keeping) number s keeping.points.past keeping.timers keeping.index.rows
+pub seat-of : (keeping : HubState) (number : ℕ) (s : KeptSession) → IsSound keeping → session_in number keeping.sessions ≡ Some s → AreApart keeping.sessions → IsSeated (kept_of keeping) number s keeping.points.past keeping.timers keeping.index.rows
 seat-of keeping number s sound there apart = record { there = there; apart = apart; past_is = refl; timers_is = refl; rows_is = sound.index }
 
 -- a session that is as it was stands as before
@@ -38,7 +38,7 @@ as_before number xs ys s t there apart same lent = lent ∙ ap (λ (x : KeptSess
 
 -- ---- what the turn came to
 
-pub did-gave : (keeping : Keeping) (number : ℕ) (s t : KeptSession) (turn : Turn) (given : Given) (old new : List ℕ) (ys : Numbered KeptSession) → turn ≡ turnings.Did given → ys ≡ in_sessions number (λ _. t) keeping.sessions
+pub did-gave : (keeping : HubState) (number : ℕ) (s t : KeptSession) (turn : Turn) (given : Given) (old new : List ℕ) (ys : Numbered KeptSession) → turn ≡ turnings.Did given → ys ≡ in_sessions number (λ _. t) keeping.sessions
     → Turns (kept_of keeping) number turn old new s t → Gave (give (kept_of keeping) number (length old)) given old new (record (kept_of keeping) { sessions = ys })
 did-gave keeping number s t turn given old new ys is lent came =
     subst (λ (xs : Numbered KeptSession). Gave (give (kept_of keeping) number (length old)) given old new (record (kept_of keeping) { sessions = xs })) (sym lent)
@@ -53,13 +53,13 @@ pub record ComesTo (old new : List ℕ) (xs ys : Numbered KeptSession) (Ready : 
 comes-to : {Ready : Type 0} (number : ℕ) (xs ys : Numbered KeptSession) (s t : KeptSession) (old new : List ℕ) → session_in number xs ≡ Some s → AreApart xs → ys ≡ in_sessions number (λ _. t) xs → (new ≡ old) × (t ≡ s) × Ready → ComesTo old new xs ys Ready
 comes-to number xs ys s t old new there apart lent (octets, same, ready) = record { octets = octets; sessions = as_before number xs ys s t there apart same lent; ready = ready }
 
-pub to-judge : (keeping : Keeping) (number : ℕ) (s t : KeptSession) (turn : Turn) (found : Option Update) (old new : List ℕ) (ys : Numbered KeptSession) → IsSound keeping → session_in number keeping.sessions ≡ Some s → AreApart keeping.sessions
+pub to-judge : (keeping : HubState) (number : ℕ) (s t : KeptSession) (turn : Turn) (found : Option Update) (old new : List ℕ) (ys : Numbered KeptSession) → IsSound keeping → session_in number keeping.sessions ≡ Some s → AreApart keeping.sessions
     → turn ≡ turnings.Judge found → ys ≡ in_sessions number (λ _. t) keeping.sessions
     → ((kept : KeptHub) (number : ℕ) → IsSeated kept number s keeping.points.past keeping.timers keeping.index.rows → Turns kept number turn old new s t) → ComesTo old new keeping.sessions ys (IsToJudge number found keeping.sessions)
 to-judge keeping number s t turn found old new ys sound there apart is lent came =
     comes-to number keeping.sessions ys s t old new there apart lent (subst (λ (u : Turn). Turns (kept_of keeping) number u old new s t) is (came (kept_of keeping) number (seat-of keeping number s sound there apart)))
 
-pub to-reconfirm : (keeping : Keeping) (number : ℕ) (s t : KeptSession) (turn : Turn) (rr : Rr) (old new : List ℕ) (ys : Numbered KeptSession) → IsSound keeping → session_in number keeping.sessions ≡ Some s → AreApart keeping.sessions
+pub to-reconfirm : (keeping : HubState) (number : ℕ) (s t : KeptSession) (turn : Turn) (rr : Rr) (old new : List ℕ) (ys : Numbered KeptSession) → IsSound keeping → session_in number keeping.sessions ≡ Some s → AreApart keeping.sessions
     → turn ≡ turnings.Reconfirm rr → ys ≡ in_sessions number (λ _. t) keeping.sessions
     → ((kept : KeptHub) (number : ℕ) → IsSeated kept number s keeping.points.past keeping.timers keeping.index.rows → Turns kept number turn old new s t) → ComesTo old new keeping.sessions ys (IsToReconfirm number rr keeping.sessions)
 to-reconfirm keeping number s t turn rr old new ys sound there apart is lent came =

@@ -4,14 +4,14 @@
 use Rattle.std.proofs.Common.{◌≡◌, ℕ, Bool, List, ◌++◌, length, drop, Option, sym, ap, subst, ◌∙◌}
 use Rattle.pushserver.specs.declared.given.Given.{Given}
 use Rattle.pushserver.specs.declared.given.Heard.{Heard}
-use Rattle.pushserver.specs.declared.keeping.Keeping.{Keeping}
+use Rattle.pushserver.specs.declared.hub_state.HubState.{HubState}
 use Rattle.pushserver.specs.PlainHubs.{Hub}
 use Rattle.pushserver.specs.Hubs.{records_now, update, hear, moment, connect, taken_by, take_octets, stop, disconnect}
 use Rattle.pushserver.specs.Giving.{give}
 use Rattle.pushserver.specs.KeptHubs.{KeptHub, StandsFor}
 use Rattle.dsotlv.specs.Laws.{AreOctets}
 use Rattle.pushserver.specs.Simulation.{BothAnswer}
-use Rattle.pushserver.specs.Keeping.{Gave, IsHub, kept_of}
+use Rattle.pushserver.specs.HubState.{Gave, IsHub, kept_of}
 use Rattle.pushserver.proofs.hub_steps.Calls.{updates_stand, hears_stand, moments_stand, connects_stand, takes_stand, stops_stand, ends_stand}
 use Rattle.pushserver.proofs.hub_steps.Giving.{gives_stand}
 
@@ -24,10 +24,10 @@ pub seen : (k now : KeptHub) → k ≡ now → (hub : Hub) → StandsFor now hub
 seen k now view hub stands = stays now k view hub stands
 
 -- what was kept stood for a plain hub; what is kept then does so, too
-pub keeps-hub : (keeping later : Keeping) (step : Hub → Hub) → later.index.rows ≡ records_now (kept_of later) → ((hub : Hub) → StandsFor (kept_of keeping) hub → StandsFor (kept_of later) (step hub)) → IsHub keeping → IsHub later
+pub keeps-hub : (keeping later : HubState) (step : Hub → Hub) → later.index.rows ≡ records_now (kept_of later) → ((hub : Hub) → StandsFor (kept_of keeping) hub → StandsFor (kept_of later) (step hub)) → IsHub keeping → IsHub later
 keeps-hub keeping later step index stands is = record { index = index; hub = step is.hub; stands = stands is.hub is.stands }
 
-pub same-hub : (keeping later : Keeping) → later.index.rows ≡ records_now (kept_of later) → kept_of later ≡ kept_of keeping → IsHub keeping → IsHub later
+pub same-hub : (keeping later : HubState) → later.index.rows ≡ records_now (kept_of later) → kept_of later ≡ kept_of keeping → IsHub keeping → IsHub later
 same-hub keeping later index same is = keeps-hub keeping later (λ hub. hub) index (stays (kept_of keeping) (kept_of later) same) is
 
 -- an answer, and what is kept then

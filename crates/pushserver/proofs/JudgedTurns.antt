@@ -18,11 +18,11 @@ use Rattle.pushsession.specs.Kept.{KeptSession, keeping}
 use Rattle.pushsession.specs.Requests.{message_of, request_of, updated}
 use Rattle.pushsession.specs.Reactions.{restarted_by}
 use Rattle.pushsession.specs.declared.request.Request.TheVariants as requests
-use Rattle.pushsession.specs.declared.standing.Standing.TheVariants.{Live}
+use Rattle.pushsession.specs.declared.session_status.SessionStatus.TheVariants.{Live}
 use Rattle.pushserver.specs.Hubs.{Numbered, session_in, in_sessions, all_sessions, newest, now, state_now, records_now, in_session, entry_changes, entered, can_enter, update}
 use Rattle.pushserver.specs.Giving.{given_after, after_reaction, copies_or, updates, give}
 use Rattle.pushserver.specs.KeptHubs.{KeptHub}
-use Rattle.pushserver.specs.Keeping.{Gave}
+use Rattle.pushserver.specs.HubState.{Gave}
 use Rattle.pushserver.specs.NumberedSessions.{AreApart}
 use Rattle.pushserver.specs.declared.given.Given.{Given}
 use Rattle.pushserver.proofs.SessionLists.{found-all, in-fused}

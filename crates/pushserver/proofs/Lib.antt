@@ -16,7 +16,7 @@ pub mod SessionTurns
 pub mod JudgedTurns
 pub mod ReconfirmTurns
 pub mod EntrySteps
-pub mod PlannedEntries
+pub mod Offering
 pub mod GiveSteps
 pub mod Soundness
 pub mod HubSteps

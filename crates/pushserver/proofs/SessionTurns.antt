@@ -17,19 +17,19 @@ use Rattle.dsosession.specs.declared.session.EndReason.TheVariants as ends
 use Rattle.dsosession.specs.declared.session.Timers.{Timers}
 use Rattle.history.specs.Kept.{Past, state_now as past_state}
 use Rattle.pushsession.specs.Sessions.{copied, ended_with, laid_over, stopped, without_first}
-use Rattle.pushsession.specs.Subscribing.{answered, packs}
+use Rattle.pushsession.specs.Subscribing.{answered, with_next_push}
 use Rattle.pushsession.specs.Reactions.{restarted_by, request_in, reacts_itself}
 use Rattle.pushsession.specs.Kept.{KeptSession, keeping, telling}
 use Rattle.pushsession.specs.Requests.{CanBeTold, message_of, taken_up, request_of, reacted, subscribed_by, reconfirmed}
 use Rattle.pushsession.specs.declared.request.Request.{Request}
 use Rattle.pushsession.specs.declared.request.Request.TheVariants as requests
-use Rattle.pushsession.specs.declared.standing.Standing.{Standing}
-use Rattle.pushsession.specs.declared.standing.Standing.TheVariants.{Live, AskedToStop, Stopped, Ended}
+use Rattle.pushsession.specs.declared.session_status.SessionStatus.{SessionStatus}
+use Rattle.pushsession.specs.declared.session_status.SessionStatus.TheVariants.{Live, AskedToStop, Stopped, Ended}
 use Rattle.pushserver.specs.Hubs.{Numbered, session_in, past_of, now, records_now, in_session}
 use Rattle.pushserver.specs.Giving as giving
 use Rattle.pushserver.specs.Giving.{has_home, by_request, bytes_of, given_of, did, copies, copies_or, given_after, after_reaction, after_packing, give}
 use Rattle.pushserver.specs.KeptHubs.{KeptHub, KeptGiving}
-use Rattle.pushserver.specs.Keeping.{Gave}
+use Rattle.pushserver.specs.HubState.{Gave}
 use Rattle.pushserver.specs.Rows.{AreTold}
 use Rattle.pushserver.specs.NumberedSessions.{AreApart}
 use Rattle.pushserver.specs.declared.given.Given.{Given}
@@ -137,7 +137,7 @@ module _ (number : ℕ) (k : KeptHub) (s : KeptSession) (there : session_in numb
   give-output : (room : ℕ) (b : Bool) → is_empty s.output ≡ b → give k number room ≡ output_as k number room s b
   give-output room b output = ap (give_as k number room) there ∙ ap (output_as k number room s) output
 
-  give-standing : (room : ℕ) (standing : Standing) → is_empty s.output ≡ true → s.standing ≡ standing → give k number room ≡ giving.by_standing standing number room s k
+  give-standing : (room : ℕ) (standing : SessionStatus) → is_empty s.output ≡ true → s.standing ≡ standing → give k number room ≡ giving.by_standing standing number room s k
   give-standing room standing output is = give-output room true output ∙ ap (λ t. giving.by_standing t number room s k) is
 
   pub output-gave : (r : Given) (old new : List ℕ) (s_now : KeptSession) → is_empty s.output ≡ false → r ≡ bytes_of (length old) s → new ≡ laid_over s.output old → s_now ≡ copied (length old) s
@@ -181,11 +181,11 @@ module _ (number : ℕ) (k : KeptHub) (s : KeptSession) (there : session_in numb
         by None e = refl
         by (Some f) e = cc
 
-    pub packed-gave : (rows : RecordSet) (t : ℕ) (r : Given) (old new : List ℕ) (mid s_now : KeptSession) → request_of s ≡ None → rows ≡ records_now k → t ≡ now k → mid ≡ packs keeping (telling rows) t s → HandsOn mid Nothing r old new s_now → Gave (give k number (length old)) r old new (becomes s_now)
+    pub packed-gave : (rows : RecordSet) (t : ℕ) (r : Given) (old new : List ℕ) (mid s_now : KeptSession) → request_of s ≡ None → rows ≡ records_now k → t ≡ now k → mid ≡ with_next_push keeping (telling rows) t s → HandsOn mid Nothing r old new s_now → Gave (give k number (length old)) r old new (becomes s_now)
     packed-gave rows t r old new mid s_now none shown moment step on =
-        let f = packs keeping (telling (records_now k)) (now k) in
+        let f = with_next_push keeping (telling (records_now k)) (now k) in
         gave-as (give k number (length old)) (copies_or Nothing number (length old) mid (becomes mid)) r old new (becomes s_now)
-        (give-live (length old) None (no_message none) ∙ ap (after_packing number (length old)) (one f ∙ ap becomes ((λ i. packs keeping (telling (sym shown i)) (sym moment i) s) ∙ sym step)) ∙ packing-is (length old) mid)
+        (give-live (length old) None (no_message none) ∙ ap (after_packing number (length old)) (one f ∙ ap becomes ((λ i. with_next_push keeping (telling (sym shown i)) (sym moment i) s) ∙ sym step)) ∙ packing-is (length old) mid)
         (hands Nothing r mid s_now old new on)
 
     -- ---- the message that it takes up

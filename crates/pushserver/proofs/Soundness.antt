@@ -13,8 +13,8 @@ use Rattle.pushserver.specs.Hubs.{Numbered, newest, state_now}
 use Rattle.pushserver.specs.Rows.{AreTold}
 use Rattle.pushserver.specs.KeptHubs.{KeptHub, StandsFor}
 use Rattle.pushserver.specs.NumberedSessions.{AreApart, AreBelow, WaitBefore}
-use Rattle.pushserver.specs.Keeping.{IsHub, IsSound, kept_of}
-use Rattle.pushserver.specs.declared.keeping.Keeping.{Keeping}
+use Rattle.pushserver.specs.HubState.{IsHub, IsSound, kept_of}
+use Rattle.pushserver.specs.declared.hub_state.HubState.{HubState}
 use Rattle.pushserver.specs.SoundHubs.{ArePast}
 use Rattle.pushserver.proofs.session_steps.Parts.{SessionFits}
 use Rattle.pushserver.proofs.hub_steps.Standing.{fitting}
@@ -49,7 +49,7 @@ wait_before hub (k ∷ ks) (p ∷ ps) zip = (waiting-past (newest hub) k.1.queue
 same_state : (k : KeptHub) (hub : Hub) → StandsFor k hub → state_now hub ≡ state_now k
 same_state k hub stands = λ i. state_at (sym stands.start i) (sym stands.history i) (length (sym stands.history i))
 
-pub sound : (keeping : Keeping) → IsHub keeping → IsSound keeping
+pub sound : (keeping : HubState) → IsHub keeping → IsSound keeping
 sound keeping is =
     let k = kept_of keeping in
     let told = hubs_tell (kept_of keeping) is.hub is.stands in

@@ -18,7 +18,7 @@ use Rattle.coalesce.specs.Net.{push_frame}
 use Rattle.dsosession.specs.declared.session.EndReason.{EndReason}
 use Rattle.dsosession.specs.declared.session.EndReason.TheVariants as ends
 use Rattle.pushsession.specs.Sessions.{SessionOf, Keeps}
-use Rattle.pushsession.specs.Subscribing.{Verdict, Refuse, Abort, Accept, verdict_on, is_served, subscribed, says_first_answer, first_answer_size, accepts, decided, answered}
+use Rattle.pushsession.specs.Subscribing.{Verdict, Refuse, Abort, Accept, verdict_on, is_served, subscribed, says_first_answer, first_answer_size, with_accepted, decided, answered}
 use Rattle.pushsession.specs.Reactions.{restarted_by}
 use Rattle.pushsession.specs.declared.request.Request.{Request}
 use Rattle.pushserver.specs.PlainHubs.{Hub, Session, first_answer}
@@ -78,7 +78,7 @@ module _ (message : List ℕ) (number : ℕ) (hub : Hub) (session : Session) (qu
       ap (session_as hub number message) has
       ∙ ap (λ (q : Request). by_request q number message hub_heard) a.request
 
-  pub found_accepted : session_of hub number ≡ Some session → session_of (reacted message number hub) number ≡ Some (accepts (keeps_now hub) (tells_now hub) (now hub) (id_of message) question listening)
+  pub found_accepted : session_of hub number ≡ Some session → session_of (reacted message number hub) number ≡ Some (with_accepted (keeps_now hub) (tells_now hub) (now hub) (id_of message) question listening)
   found_accepted has =
       ap (λ (h : Hub). session_of h number) (reaction has)
       ∙ found-in number (answering (Some question)) hub_heard.sessions

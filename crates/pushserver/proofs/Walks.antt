@@ -1,17 +1,17 @@
 -- One walk through the calls, for each property of hubs that the few steps keep of which the calls are made.
 --     Step Good hub f      a step of one session, where the messages that it is for are good
---     Entering Good hub entry      an entry that may be made
---     holds-update, holds-hear, holds-moment, holds-connect      what holds with an entry and without
+--     Entering Good hub entry, has_room      an entry that may be made, and for which the journal has room
+--     holds-offered, holds-update, holds-hear, holds-reconfirm, holds-moment, holds-connect      what holds with an entry and without
 --     Reacts Good number P R      the steps that hand nothing out keep P, and what is P before an entry is R behind it
 --     reacts-give      so `give` leads from P to R, but for the octets that it hands out (Gives)
 --     Walks Good number P R      and all steps do
 --     walks-give      so `give` leads from P to R
 --     IsKept Good P      all steps keep P
 --     keeps-called, keeps-calls      so each call keeps it, and any calls do
-use Rattle.std.proofs.Common.{◌≡◌, ℕ, ◌+◌, Bool, true, false, cond, not, ◌&&◌, List, [], ◌∷◌, ◌++◌, length, Option, Some, None, Ok, Err, Result, sym, ◌∙◌, subst, refl}
+use Rattle.std.proofs.Common.{◌≡◌, ℕ, ◌+◌, Bool, true, false, cond, not, ◌&&◌, List, [], ◌∷◌, ◌++◌, length, Option, Some, None, Ok, Err, Result, sym, ap, ◌∙◌, subst, refl}
 use Rattle.std.specs.Prelude.{nat_lt}
 use Rattle.std.specs.List.{AllByRecursion}
-use Rattle.push_base.specs.Cases.{is_empty}
+use Rattle.push_base.specs.Cases.{is_empty, fault_as}
 use Rattle.push_base.specs.Limits.{max_number}
 use Rattle.rrset.specs.Header.{id_of}
 use Rattle.rrset.specs.declared.record.Key.{Key}
@@ -29,21 +29,29 @@ use Rattle.dsosession.specs.declared.session.EndReason.{EndReason}
 use Rattle.dsosession.specs.declared.session.EndReason.TheVariants as ends
 use Rattle.dsosession.specs.declared.session.Reaction.{Reaction}
 use Rattle.dsosession.specs.declared.session.Reaction.TheVariants as reactions
+use Rattle.history.specs.Entries.{a_link, brought, concern}
+use Rattle.history.specs.Kept.{told_plan}
+use Rattle.history.specs.Plans.{Plan, refuse, idle, accept, planned}
 use Rattle.history.specs.States.{verdict, accepts, reconfirm_key}
 use Rattle.history.specs.declared.entry.Entry.{Entry}
 use Rattle.history.specs.declared.entry.Entry.TheVariants as entries
 use Rattle.dsotlv.specs.Answers.{answer_to_update}
+use Rattle.history.proofs.ToldPlans.{accepted-told}
 use Rattle.pushsession.specs.Sessions.{SessionOf, new_session, copied, timed, ended_with, answers, stopped, without_first}
-use Rattle.pushsession.specs.Subscribing.{answered, packs}
+use Rattle.pushsession.specs.Subscribing.{answered, with_next_push}
 use Rattle.pushsession.specs.Reactions.{restarted_by, request_for, reacts_itself}
 use Rattle.pushsession.specs.declared.request.Request.TheVariants as requests
-use Rattle.pushsession.specs.declared.standing.Standing.{Standing}
-use Rattle.pushsession.specs.declared.standing.Standing.TheVariants.{Live, AskedToStop, Stopped, Ended}
+use Rattle.pushsession.specs.declared.session_status.SessionStatus.{SessionStatus}
+use Rattle.pushsession.specs.declared.session_status.SessionStatus.TheVariants.{Live, AskedToStop, Stopped, Ended}
 use Rattle.pushserver.specs.declared.given.Given.{Given}
 use Rattle.pushserver.specs.declared.given.Given.TheVariants.{Worked, Nothing}
-use Rattle.pushserver.specs.Hubs.{SessionKind, HubOf, newest, now, state_now, keeps_now, tells_now, session_of, each_session, in_session, entered, can_enter, update, hear, moment, max_sessions, connect, take_octets, stop, disconnect}
-use Rattle.pushserver.specs.Giving.{GivingOf, has_home, reconfirms, by_request, reacted, did, copies, copies_or, given_after, after_reaction, after_packing, by_standing, give}
-use Rattle.pushserver.proofs.hub_steps.Cases.{enters_update, update_as, enters_moment, enters_hearing, hear_as, key_as, session_as, request_as, copies_as, found_as, works_as, output_as, give_as}
+use Rattle.pushserver.specs.declared.given.Heard.{Heard}
+use Rattle.pushserver.specs.Offering.{offered_by, offered}
+use Rattle.pushserver.specs.Hubs.{SessionKind, HubOf, newest, now, state_now, keeps_now, tells_now, session_of, each_session, in_session, entered, can_enter, update, hear, why_not, moment, max_sessions, connect, take_octets, stop, disconnect}
+use Rattle.pushserver.specs.Giving.{GivingOf, has_home, reconfirm, reconfirms, by_request, reacted, did, copies, copies_or, given_after, after_reaction, after_packing, by_standing, give}
+use Rattle.pushserver.proofs.Offering.{by_room, hear-offered, reconfirm-offered, unread-is}
+use Rattle.pushserver.proofs.hub_steps.Cases.{enters_update, update_as, enters_moment, key_as, session_as, request_as, copies_as, found_as, works_as, output_as, give_as}
+use Rattle.pushserver.proofs.told_rows.HeardRows.{Brought, brings_nothing, brings_read}
 use Rattle.pushserver.specs.Calls.{HubCall, updates as updating, hears, moves, connects, takes, gives, stops, ends as ending, called, after_calls}
 
 -- ---- the steps
@@ -59,7 +67,7 @@ pub data Step {A Q M : Type 0} {kind : SessionKind A Q M} (Good : List ℕ → T
   answers_subscribe : (message : List ℕ) → Good message
       → Step Good hub (answered (keeps_now hub) (tells_now hub) (now hub) (id_of message) (question_of (primary_data message)) (has_home hub (question_of (primary_data message))))
   answers_update : (before : HubOf kind) (message : List ℕ) → Step Good hub (answers (keeps_now hub) false (now hub) (answer_to_update (id_of message) (update before message).0))
-  packs_names : Step Good hub (packs (keeps_now hub) (tells_now hub) (now hub))
+  packs_names : Step Good hub (with_next_push (keeps_now hub) (tells_now hub) (now hub))
   comes_to_stop : (rcode delay : ℕ) → Step Good hub (stopped (keeps_now hub) rcode delay (now hub))
   ends_with : (reason : EndReason) → Step Good hub (ended_with (keeps_now hub) reason)
   copies_front : (room : ℕ) → Step Good hub (copied room)
@@ -69,12 +77,16 @@ abbrev pub HandsNothing : {A Q M : Type 0} {kind : SessionKind A Q M} {Good : Li
 HandsNothing (copies_front room) = ⊥
 HandsNothing _ = Unit {0}
 
--- why an entry is made
+-- why an entry is made, for which the journal has room
 pub data Entering {A Q M : Type 0} {kind : SessionKind A Q M} (Good : List ℕ → Type 0) (hub : HubOf kind) : Entry → Type 0 where
-  by_update : (message : List ℕ) (u : Update) → Good message → verdict (state_now hub) message ≡ Ok u → Entering Good hub (entries.Update u)
-  by_hearing : (link : ℕ) (datagram : List ℕ) (hearing : Hearing) → Good datagram → hearing_of datagram ≡ Ok hearing → accepts (state_now hub) (entries.Heard link hearing) ≡ true → Entering Good hub (entries.Heard link hearing)
-  by_moment : (t : ℕ) → Entering Good hub (entries.Moment t)
-  by_reconfirm : (link : ℕ) (key : Key) → accepts (state_now hub) (entries.Reconfirm link key) ≡ true → Entering Good hub (entries.Reconfirm link key)
+  by_update : (message : List ℕ) (u : Update) → Good message → verdict (state_now hub) message ≡ Ok u → can_enter hub (entries.Update u) ≡ true → Entering Good hub (entries.Update u)
+  by_moment : (t : ℕ) → can_enter hub (entries.Moment t) ≡ true → Entering Good hub (entries.Moment t)
+  by_link : (entry : Entry) (link : ℕ) → concern entry ≡ a_link link → Brought Good (brought entry) → accepts (state_now hub) entry ≡ true → can_enter hub entry ≡ true → Entering Good hub entry
+
+pub has_room : {A Q M : Type 0} {kind : SessionKind A Q M} {Good : List ℕ → Type 0} {hub : HubOf kind} {entry : Entry} → Entering Good hub entry → can_enter hub entry ≡ true
+has_room (by_update message u good is room) = room
+has_room (by_moment t room) = room
+has_room (by_link entry link one brings is room) = room
 
 -- ---- the calls that make entries
 
@@ -86,33 +98,53 @@ module _ {A Q M : Type 0} {kind : SessionKind A Q M} (Good : List ℕ → Type 0
   pub holds-update : (message : List ℕ) → Good message → R (update hub message).1
   holds-update message good = by (verdict (state_now hub) message) refl
     where
-      entering : (u : Update) → verdict (state_now hub) message ≡ Ok u → (b : Bool) → R (enters_update hub u b).1
-      entering u is true = enters (entries.Update u) (by_update message u good is)
-      entering u is false = stays
+      entering : (u : Update) → verdict (state_now hub) message ≡ Ok u → (b : Bool) → can_enter hub (entries.Update u) ≡ b → R (enters_update hub u b).1
+      entering u is true room = enters (entries.Update u) (by_update message u good is room)
+      entering u is false room = stays
 
       by : (r : Result Update ℕ) → verdict (state_now hub) message ≡ r → R (update_as hub r).1
       by (Err code) is = stays
-      by (Ok u) is = entering u is (can_enter hub (entries.Update u))
+      by (Ok u) is = entering u is (can_enter hub (entries.Update u)) refl
+
+  -- whatever entry is offered
+  pub holds-offered : (entry : Entry) → (accepts (state_now hub) entry ≡ true → can_enter hub entry ≡ true → Entering Good hub entry) → R (offered entry hub).1
+  holds-offered entry may = by (planned (state_now hub) entry) refl
+    where
+      entering : (b : Bool) → can_enter hub entry ≡ b → accepts (state_now hub) entry ≡ true → R (by_room hub entry b).1
+      entering true room is = enters entry (may is room)
+      entering false room is = stays
+
+      by : (plan : Plan) → planned (state_now hub) entry ≡ plan → R (offered_by plan entry hub).1
+      by (refuse code) is = stays
+      by idle is = stays
+      by (accept changed) is = entering (can_enter hub entry) refl (accepted-told (state_now hub) entry changed (sym (ap told_plan is)))
 
   pub holds-hear : (link : ℕ) (datagram : List ℕ) → Good datagram → R (hear hub link datagram).1
   holds-hear link datagram good = by (hearing_of datagram) refl
     where
-      entering : (hearing : Hearing) → hearing_of datagram ≡ Ok hearing → (a : Bool) → accepts (state_now hub) (entries.Heard link hearing) ≡ a → (b : Bool) → R (enters_hearing hub link hearing a b).1
-      entering hearing reads false is b = stays
-      entering hearing reads true is true = enters (entries.Heard link hearing) (by_hearing link datagram hearing good reads is)
-      entering hearing reads true is false = stays
+      by : (r : Result Hearing HearFault) → hearing_of datagram ≡ r → R (hear hub link datagram).1
+      by (Err fault) reads = subst (λ (o : Option Heard × HubOf kind). R o.1) (sym (unread-is hub link datagram (why_not fault) (ap (fault_as why_not) reads))) stays
+      by (Ok hearing) reads =
+          let entry = entries.Heard link hearing in
+          subst (λ (o : Option Heard × HubOf kind). R o.1) (sym (hear-offered hub link datagram hearing reads))
+          (holds-offered entry (λ is room. by_link entry link refl (brings_read datagram hearing good reads) is room))
 
-      by : (r : Result Hearing HearFault) → hearing_of datagram ≡ r → R (hear_as hub link r).1
-      by (Err fault) reads = stays
-      by (Ok hearing) reads = entering hearing reads (accepts (state_now hub) (entries.Heard link hearing)) refl (can_enter hub (entries.Heard link hearing))
+  pub holds-reconfirm : (rr : Rr) → R (reconfirm hub rr)
+  holds-reconfirm rr = by (reconfirm_key (state_now hub) rr) refl
+    where
+      by : (o : Option (ℕ × Key)) → reconfirm_key (state_now hub) rr ≡ o → R (reconfirm hub rr)
+      by None found = subst R (sym (ap (key_as hub) found)) stays
+      by (Some key) found =
+          let entry = entries.Reconfirm key.0 key.1 in
+          subst R (sym (reconfirm-offered hub rr key.0 key.1 found)) (holds-offered entry (λ is room. by_link entry key.0 refl brings_nothing is room))
 
   pub holds-moment : ((later : HubOf kind) (point t : ℕ) → R later → R (each_session (timed (kind.keeps point) t) later)) → (t : ℕ) → R (moment hub t).1
-  holds-moment times t = by (nat_lt (now hub) t) (can_enter hub (entries.Moment t))
+  holds-moment times t = by (nat_lt (now hub) t) (can_enter hub (entries.Moment t)) refl
     where
-      by : (later room : Bool) → R (cond (not later) (false, hub) (enters_moment hub t room)).1
-      by false room = stays
-      by true true = times (entered (entries.Moment t) hub) (newest hub) t (enters (entries.Moment t) (by_moment t))
-      by true false = stays
+      by : (later room : Bool) → can_enter hub (entries.Moment t) ≡ room → R (cond (not later) (false, hub) (enters_moment hub t room)).1
+      by false room is = stays
+      by true true is = times (entered (entries.Moment t) hub) (newest hub) t (enters (entries.Moment t) (by_moment t is))
+      by true false is = stays
 
 -- ---- a session comes
 
@@ -159,18 +191,9 @@ module _ {A Q M : Type 0} {kind : SessionKind A Q M} (Good : List ℕ → Type 0
   reacts-reconfirms : (hub : HubOf kind) (rr : Option Rr) → P hub → R (reconfirms rr number hub)
   reacts-reconfirms hub rr h = by rr
     where
-      by_room : (found : ℕ × Key) (a : Bool) → accepts (state_now hub) (entries.Reconfirm found.0 found.1) ≡ a → (b : Bool) → R (cond (a && b) (entered (entries.Reconfirm found.0 found.1) hub) hub)
-      by_room found true is true = w.enters hub (entries.Reconfirm found.0 found.1) (by_reconfirm found.0 found.1 is) h
-      by_room found true is false = w.enters_none hub h
-      by_room found false is b = w.enters_none hub h
-
-      by_key : (o : Option (ℕ × Key)) → R (key_as hub o)
-      by_key None = w.enters_none hub h
-      by_key (Some found) = by_room found (accepts (state_now hub) (entries.Reconfirm found.0 found.1)) refl (can_enter hub (entries.Reconfirm found.0 found.1))
-
       by : (o : Option Rr) → R (reconfirms o number hub)
       by None = steps hub (ended_with (keeps_now hub) (ends.BadData reconfirm_tlv)) (ends_with (ends.BadData reconfirm_tlv)) tt h
-      by (Some rr) = by_key (reconfirm_key (state_now hub) rr)
+      by (Some rr) = holds-reconfirm Good R hub (λ entry by. w.enters hub entry by h) (w.enters_none hub h) rr
 
   itself : (hub : HubOf kind) (message : List ℕ) → P hub → R (by_request requests.Itself number message hub)
   itself hub message h = steps hub (reacts_itself (keeps_now hub) hub.timers (now hub) message) (reacts message) tt h
@@ -212,7 +235,7 @@ module _ {A Q M : Type 0} {kind : SessionKind A Q M} (Good : List ℕ → Type 0
       by true = hands_nothing given hub h
       by false = hands_front room session hub there h
 
-  gives-found : (room : ℕ) (none : Given) (given : Standing → Given) (hub : HubOf kind) → R hub → (o : Option (SessionOf A Q M)) → session_of hub number ≡ o → Gives number R (found_as hub number room none given o)
+  gives-found : (room : ℕ) (none : Given) (given : SessionStatus → Given) (hub : HubOf kind) → R hub → (o : Option (SessionOf A Q M)) → session_of hub number ≡ o → Gives number R (found_as hub number room none given o)
   gives-found room none given hub h None there = hands_nothing none hub h
   gives-found room none given hub h (Some session) there = gives-copies_or (given session.standing) room session hub there h
 
@@ -240,17 +263,17 @@ module _ {A Q M : Type 0} {kind : SessionKind A Q M} (Good : List ℕ → Type 0
           let taken = some session found (record { there = there; live = live; silent = silent; first = is }) in
           gives-after_reaction room (reacted found.0 number later) (reacts-reacted later found.0 taken.0 taken.1)
       by_message live silent None is =
-          let f = packs (keeps_now hub) (tells_now hub) (now hub) in
+          let f = with_next_push (keeps_now hub) (tells_now hub) (now hub) in
           gives-after_packing room (in_session number f hub) (steps hub f packs_names tt (none nothing))
         where
           nothing : (s : SessionOf A Q M) (found : List ℕ × List ℕ) → TakesUp hub number s found → ⊥
           nothing s found up = let both : None ≡ Some found = sym is ∙ (ours s found up).first in absurd cc
 
       -- no message is taken up in another standing
-      resting : (standing : Standing) → session.standing ≡ standing → (standing ≡ Live → ⊥) → P hub
+      resting : (standing : SessionStatus) → session.standing ≡ standing → (standing ≡ Live → ⊥) → P hub
       resting standing is other = none (λ s found up. other (sym is ∙ (ours s found up).live))
 
-      by_state : session.output ≡ [] → (standing : Standing) → session.standing ≡ standing → Gives number R (by_standing standing number room session hub)
+      by_state : session.output ≡ [] → (standing : SessionStatus) → session.standing ≡ standing → Gives number R (by_standing standing number room session hub)
       by_state silent (Ended reason) is = hands_nothing _ hub (w.enters_none hub (resting (Ended reason) is (λ e. absurd cc)))
       by_state silent (Stopped since) is = hands_nothing _ hub (w.enters_none hub (resting (Stopped since) is (λ e. absurd cc)))
       by_state silent Live is = by_message is silent (first_message session.input) refl

@@ -12,10 +12,10 @@ use Rattle.history.specs.States.{State, home_of, reconfirm_key, accepts}
 use Rattle.history.specs.declared.entry.Entry.TheVariants as entries
 use Rattle.pushsession.specs.declared.request.Request.{Request}
 use Rattle.pushsession.specs.declared.request.Request.TheVariants as requests
-use Rattle.pushsession.specs.declared.standing.Standing.{Standing}
-use Rattle.pushsession.specs.declared.standing.Standing.TheVariants.{Live, AskedToStop, Stopped, Ended}
+use Rattle.pushsession.specs.declared.session_status.SessionStatus.{SessionStatus}
+use Rattle.pushsession.specs.declared.session_status.SessionStatus.TheVariants.{Live, AskedToStop, Stopped, Ended}
 use Rattle.pushsession.specs.Sessions.{SessionOf, copied, stopped, without_first}
-use Rattle.pushsession.specs.Subscribing.{may_be_served, packs}
+use Rattle.pushsession.specs.Subscribing.{may_be_served, with_next_push}
 use Rattle.pushsession.specs.Reactions.{restarted_by, request_in, reacts_itself, answers_subscribe, takes_reconfirm, answers_update}
 use Rattle.pushserver.specs.declared.given.Given.{Given}
 use Rattle.pushserver.specs.declared.given.Given.TheVariants.{Bytes, Worked, Nothing, Ending, End}
@@ -98,7 +98,7 @@ abbrev pub copies_or : {A Q M : Type 0} {kind : SessionKind A Q M} → Given →
 copies_or given number room session hub = if is_empty session.output then did given hub else copies number room session hub
 
 -- what was done where the output is empty
-abbrev pub given_after : Standing → Given
+abbrev pub given_after : SessionStatus → Given
 given_after (Ended reason) = End reason
 given_after _ = Worked
 
@@ -112,10 +112,10 @@ after_packing number room hub = elim (session_of hub number) [ None ↦ did Noth
 abbrev pub works : {A Q M : Type 0} {kind : SessionKind A Q M} → ℕ → ℕ → SessionOf A Q M → HubOf kind → GivingOf kind
 works number room session hub = elim (first_message session.input) [
   | Some found ↦ after_reaction number room (reacted found.0 number (in_session number (without_first found.1) hub))
-  | None ↦ after_packing number room (in_session number (packs (keeps_now hub) (tells_now hub) (now hub)) hub)
+  | None ↦ after_packing number room (in_session number (with_next_push (keeps_now hub) (tells_now hub) (now hub)) hub)
 ]
 
-abbrev pub by_standing : {A Q M : Type 0} {kind : SessionKind A Q M} → Standing → ℕ → ℕ → SessionOf A Q M → HubOf kind → GivingOf kind
+abbrev pub by_standing : {A Q M : Type 0} {kind : SessionKind A Q M} → SessionStatus → ℕ → ℕ → SessionOf A Q M → HubOf kind → GivingOf kind
 by_standing (Ended reason) number room session hub = did (End reason) hub
 by_standing (AskedToStop rcode delay) number room session hub = after_reaction number room (in_session number (stopped (keeps_now hub) rcode delay (now hub)) hub)
 by_standing (Stopped since) number room session hub = did Ending hub

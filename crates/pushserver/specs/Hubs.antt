@@ -22,9 +22,9 @@ use Rattle.history.specs.Kept.{Past}
 use Rattle.history.specs.States.{State, verdict, accepts, entry_size, journal_has_room}
 use Rattle.history.specs.declared.entry.Entry.{Entry}
 use Rattle.history.specs.declared.entry.Entry.TheVariants as entries
-use Rattle.pushsession.specs.Sessions.{SessionOf, Keeps, new_session, room_of, takes, asked_to_stop, timed, noted}
+use Rattle.pushsession.specs.Sessions.{SessionOf, Keeps, new_session, room_of, with_piece, asked_to_stop, timed, noted}
 use Rattle.pushsession.specs.Subscribing.{Tells}
-use Rattle.pushserver.specs.declared.sessions.TheConstants as sessions
+use Rattle.pushserver.specs.declared.numbered_sessions.TheConstants as sessions
 use Rattle.pushserver.specs.declared.given.Why.{Why}
 use Rattle.pushserver.specs.declared.given.Why.TheVariants as whys
 use Rattle.pushserver.specs.declared.given.Heard.{Heard}
@@ -168,7 +168,7 @@ abbrev pub taken_by : {A Q M : Type 0} {kind : SessionKind A Q M} → HubOf kind
 taken_by hub number piece = elim (session_of hub number) [ None ↦ 0 | Some session ↦ min (length piece) (room_of session) ]
 
 abbrev pub take_octets : {A Q M : Type 0} {kind : SessionKind A Q M} → HubOf kind → ℕ → List ℕ → HubOf kind
-take_octets hub number piece = in_session number (takes piece) hub
+take_octets hub number piece = in_session number (with_piece piece) hub
 
 abbrev pub stop : {A Q M : Type 0} {kind : SessionKind A Q M} → HubOf kind → ℕ → ℕ → ℕ → HubOf kind
 stop hub number rcode delay = in_session number (asked_to_stop rcode delay) hub

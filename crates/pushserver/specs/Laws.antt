@@ -14,7 +14,7 @@ use Rattle.dsotlv.specs.Messages.{first_message}
 use Rattle.dsotlv.specs.Answers.{answer_to}
 use Rattle.history.specs.declared.entry.Entry.{Entry}
 use Rattle.pushserver.specs.declared.given.Given.TheVariants.{Nothing}
-use Rattle.pushsession.specs.declared.standing.Standing.TheVariants.{Live}
+use Rattle.pushsession.specs.declared.session_status.SessionStatus.TheVariants.{Live}
 use Rattle.pushsession.specs.Sessions.{SessionOf}
 use Rattle.pushsession.specs.Reactions.{TakesMemory, request_in}
 use Rattle.pushsession.specs.Requests.{request_of}

@@ -6,7 +6,7 @@ use Rattle.std.specs.Borrow.{LendsSo, MutBor, Fml}
 use Rattle.pushsession.specs.Kept.{KeptSession}
 use Rattle.pushsession.specs.contracts.session.PushSession.{the_row as session_row}
 use Rattle.pushserver.specs.Hubs.{Numbered, in_sessions}
-use Rattle.pushserver.specs.contracts.sessions.Sessions.{the_row}
+use Rattle.pushserver.specs.contracts.numbered_sessions.Sessions.{the_row}
 
 -- without a session of this number the list stays
 abbrev pub LendsSession : MutBor (Numbered KeptSession) → ℕ → Option (MutBor KeptSession) → Fml

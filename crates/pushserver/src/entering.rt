@@ -1,16 +1,55 @@
 //! Entries of the history, and what they make of all that is kept.
 
-ghost use Rattle.std.specs.Prelude.{◌≡◌, ◌++◌, ◌∷◌, [], true, OnOk, OnErr};
+ghost use Rattle.std.specs.Prelude.{◌≡◌, ◌++◌, ◌∷◌, [], true, IfOk, OnOk, OnErr};
+ghost use Rattle.history.specs.HeldPlans.{IsTimely};
 ghost use Rattle.history.specs.Kept.{IsHeld};
 ghost use Rattle.history.specs.States.{entry_size, journal_has_room};
 ghost use Rattle.pushserver.specs.Hubs.{can_enter, entered, entry_changes, records_now};
-ghost use Rattle.pushserver.specs.Keeping.{IsSound, kept_of};
+ghost use Rattle.pushserver.specs.HubState.{IsSound, kept_of};
+ghost use Rattle.pushserver.specs.Offering.{code_of, heard_of, offered};
 
-use crate::keeping::Keeping;
+use crate::given::{Heard, Why};
+use crate::hub_state::HubState;
 use history::entry::Entry;
-use history::{ChangedKeys, PastFault, Points};
+use history::{ChangedKeys, PastFault, Planned, Points};
 use pushsession::NoMemory;
+use rrset::rcodes::{NOERROR, SERVFAIL};
 use zoneupdate::make_changes;
+
+/// What became of an entry that was offered.
+#[derive(Clone, Copy, Debug)]
+pub(crate) enum Offered {
+    /// It is an update, which this RCODE refuses.
+    Refused(u8),
+    /// It is another entry, which isn't accepted.
+    Idle,
+    /// The journal has no room for it.
+    Full,
+    /// It was entered.
+    Made,
+}
+
+/// The RCODE of an update that was offered, which is never idle: SERVFAIL where the journal has no room (RFC 2136, 2.2).
+pub(crate) fn code_of(offered: Offered) -> u8
+    ensures { result ≡ code_of offered }
+{
+    match offered {
+        Offered::Refused(code) => code,
+        Offered::Idle | Offered::Full => SERVFAIL,
+        Offered::Made => NOERROR,
+    }
+}
+
+/// What became of a hearing that was offered, which is never refused; nothing where the journal has no room.
+pub(crate) fn heard_of(offered: Offered) -> Option<Heard>
+    ensures { result ≡ heard_of offered }
+{
+    match offered {
+        Offered::Idle => Some(Heard::Ignored(Why::Nothing)),
+        Offered::Refused(_) | Offered::Full => None,
+        Offered::Made => Some(Heard::Entered),
+    }
+}
 
 /// Appends the entry whose plan is held, and for which the journal has room.
 fn append(points: &mut Points, entry: Entry) -> Result<(), NoMemory>
@@ -26,7 +65,7 @@ fn append(points: &mut Points, entry: Entry) -> Result<(), NoMemory>
     }
 }
 
-impl Keeping {
+impl HubState {
     /// Whether the journal has room for an entry.
     pub(crate) fn can_enter(&self, entry: &Entry) -> bool
         ensures { result ≡ can_enter (kept_of self.now) entry.now }
@@ -54,5 +93,27 @@ impl Keeping {
         }
         make_changes(&mut self.index, changed.into_vec());
         Ok(())
+    }
+    /// Enters an entry where it is accepted and the journal has room for it. Where memory runs out nothing changes.
+    pub(crate) fn offer(&mut self, entry: Entry) -> Result<Offered, NoMemory>
+        requires sound { IsSound self.old }
+        requires timely { IsTimely entry }
+        ensures offered { IfOk result (λ o. o ≡ (offered entry (kept_of self.old)).0) }
+        ensures hub { IfOk result (λ o. kept_of self.new ≡ (offered entry (kept_of self.old)).1) }
+        ensures err { OnErr result (kept_of self.new ≡ kept_of self.old) }
+        ensures index { self.new.index.rows ≡ records_now (kept_of self.new) }
+    {
+        let alloc = self.allocator();
+        match self.points.plan(alloc, &entry)? {
+            Planned::Refuse(code) => Ok(Offered::Refused(code)),
+            Planned::Idle => Ok(Offered::Idle),
+            Planned::Accept(changed) => {
+                if !self.can_enter(&entry) {
+                    return Ok(Offered::Full);
+                }
+                self.enter(entry, changed)?;
+                Ok(Offered::Made)
+            }
+        }
     }
 }

@@ -5,13 +5,16 @@ ghost use Rattle.pushserver.specs.declared.fault.HubFault.TheVariants as faults;
 ghost use Rattle.pushserver.specs.declared.fault.ConnectFault.TheVariants as connects;
 
 use std::alloc::{AllocError, AllocFailed};
+use thiserror::Error;
 
 /// Why the hub enters nothing.
-#[derive(Clone, Copy, Debug, PartialEq, Eq)]
+#[derive(Clone, Copy, Debug, PartialEq, Eq, Error)]
 pub enum HubFault {
     /// Memory ran out.
+    #[error("out of memory")]
     NoMemory,
     /// The journal has no room for one more entry.
+    #[error("the journal is full")]
     Full,
 }
 
@@ -24,11 +27,13 @@ impl From<AllocError> for HubFault {
 }
 
 /// Why no session is connected.
-#[derive(Clone, Copy, Debug, PartialEq, Eq)]
+#[derive(Clone, Copy, Debug, PartialEq, Eq, Error)]
 pub enum ConnectFault {
     /// There are as many sessions as there may be, or all numbers were given out.
+    #[error("no seat for a further session")]
     NoSeat,
     /// Memory ran out.
+    #[error("out of memory")]
     NoMemory,
 }
 

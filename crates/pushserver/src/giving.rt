@@ -3,18 +3,18 @@
 ghost use Rattle.std.specs.Prelude.{◌≡◌, length, IfOk, OnErr};
 ghost use Rattle.pushserver.specs.Hubs.{records_now};
 ghost use Rattle.pushserver.specs.Giving.{give};
-ghost use Rattle.pushserver.specs.Keeping.{Gave, IsSound, IsToJudge, IsToReconfirm, kept_of};
+ghost use Rattle.pushserver.specs.HubState.{Gave, IsSound, IsToJudge, IsToReconfirm, kept_of};
 ghost use Rattle.pushserver.specs.Laws.{MayWantMemory};
 
 use crate::given::Given;
-use crate::keeping::Keeping;
+use crate::hub_state::HubState;
 use crate::turning::{Turn, after_reaction, take_turn};
 use dnswire::Update;
 use dsosession::session::EndReason;
 use pushsession::NoMemory;
 use rrset::Rr;
 
-impl Keeping {
+impl HubState {
     /// Judges the update that a session's first message is, if it is one, and answers with its RCODE (RFC 2136, 3.8).
     fn answer_update(
         &mut self,

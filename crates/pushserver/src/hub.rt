@@ -15,7 +15,7 @@ ghost use Rattle.pushserver.specs.PlainHubs.{Hub as Plain, new_hub};
 
 use crate::fault::{ConnectFault, HubFault};
 use crate::given::{Given, Heard};
-use crate::keeping::Keeping;
+use crate::hub_state::HubState;
 use dsosession::session::Timers;
 use history::Homes;
 use pushsession::NoMemory;
@@ -25,11 +25,11 @@ use std::marker::Model;
 /// keeps nothing that the history tells. All moments are milliseconds of one clock.
 #[derive(Debug, Drop)]
 pub struct Hub {
-    pub(crate) keeping: Keeping,
+    pub(crate) keeping: HubState,
 }
 
 impl Model for Hub {
-    ghost use Rattle.pushserver.specs.Keeping.{IsHub, kept_of};
+    ghost use Rattle.pushserver.specs.HubState.{IsHub, kept_of};
     ghost use Rattle.pushserver.specs.KeptHubs.{KeptHub};
 
     ghost Value = { KeptHub };
@@ -47,7 +47,7 @@ impl Hub {
         ensures stands { IfOk result (λ hub. StandsFor hub (new_hub (state_of homes) timers)) }
         ensures kept { IfOk result (λ hub. hub ≡ empty_hub kept (state_of homes) timers) }
     {
-        let keeping = Keeping::new(homes, timers)?;
+        let keeping = HubState::new(homes, timers)?;
         Ok(Hub { keeping })
     }
 

@@ -5,24 +5,24 @@ ghost use Rattle.coalesce.specs.Waiting.{CanBePacked};
 ghost use Rattle.pushsession.specs.Sessions.{copied, laid_over};
 ghost use Rattle.pushserver.specs.Giving.{given_after, given_of, has_home};
 ghost use Rattle.pushserver.specs.Hubs.{past_of};
-ghost use Rattle.pushserver.specs.Keeping.{IsSeated, Turns};
+ghost use Rattle.pushserver.specs.HubState.{IsSeated, Turns};
 ghost use Rattle.pushserver.specs.Laws.{WantsMemoryFor};
 ghost use Rattle.pushserver.specs.Rows.{AreTold};
 ghost use Rattle.pushserver.specs.KeptHubs.{KeptHub};
-ghost use Rattle.pushsession.specs.declared.standing.Standing.TheVariants.{Live};
+ghost use Rattle.pushsession.specs.declared.session_status.SessionStatus.TheVariants.{Live};
 
+use crate::decode::read_message;
 use crate::given::Given;
-use crate::reading::read_message;
 use dnswire::Update;
 use dsosession::session::Timers;
 use history::Points;
 use nametable::NameTable;
-use pushsession::{NoMemory, PushSession, Request, Standing};
+use pushsession::{NoMemory, PushSession, Request, SessionStatus};
 use rrset::{Question, Rr};
 use std::alloc::Global;
 
 /// What a session's turn came to.
-#[derive(Debug, Drop)]
+#[derive(Drop)]
 pub(crate) enum Turn {
     /// This was done.
     Did(Given),
@@ -33,7 +33,7 @@ pub(crate) enum Turn {
 }
 
 /// Hands on the front of a session's output that fits; where there is none, `otherwise` was done.
-pub(crate) fn hand_on(session: &mut PushSession, buf: &mut [u8], otherwise: Given) -> Given
+pub(crate) fn copy_output(session: &mut PushSession, buf: &mut [u8], otherwise: Given) -> Given
     ensures given { result ≡ given_of otherwise (length buf.old) session.old }
     ensures octets { buf.new ≡ laid_over session.old.output buf.old }
     ensures session { session.new ≡ copied (length buf.old) session.old }
@@ -48,12 +48,13 @@ pub(crate) fn hand_on(session: &mut PushSession, buf: &mut [u8], otherwise: Give
 }
 
 /// What was done where a session reacted without octets.
-fn given_after(standing: Standing) -> Given
+fn given_after(standing: SessionStatus) -> Given
     ensures { result ≡ given_after standing }
 {
     match standing {
-        Standing::Ended(reason) => Given::End(reason),
-        Standing::Live | Standing::AskedToStop(_, _) | Standing::Stopped(_) => Given::Worked,
+        SessionStatus::Ended(reason) => Given::End(reason),
+        SessionStatus::Live | SessionStatus::AskedToStop(_, _) | SessionStatus::Stopped(_) =>
+            Given::Worked,
     }
 }
 
@@ -64,7 +65,7 @@ pub(crate) fn after_reaction(session: &mut PushSession, buf: &mut [u8]) -> Given
     ensures session { session.new ≡ copied (length buf.old) session.old }
 {
     let otherwise = given_after(session.standing());
-    hand_on(session, buf, otherwise)
+    copy_output(session, buf, otherwise)
 }
 
 /// Whether the name of a question has a home.
@@ -98,7 +99,7 @@ fn work(
     let now = points.now();
     let Some(request) = session.request(alloc)? else {
         session.pack(index, now);
-        return Ok(Turn::Did(hand_on(session, buf, Given::Nothing)));
+        return Ok(Turn::Did(copy_output(session, buf, Given::Nothing)));
     };
     match request {
         Request::Update => return Ok(Turn::Judge(read_message(alloc, session.message())?)),
@@ -133,12 +134,12 @@ pub(crate) fn take_turn(
         return Ok(Turn::Did(Given::Bytes(session.copy(buf))));
     }
     match session.standing() {
-        Standing::Ended(reason) => Ok(Turn::Did(Given::End(reason))),
-        Standing::Stopped(_) => Ok(Turn::Did(Given::Ending)),
-        Standing::AskedToStop(rcode, delay) => {
+        SessionStatus::Ended(reason) => Ok(Turn::Did(Given::End(reason))),
+        SessionStatus::Stopped(_) => Ok(Turn::Did(Given::Ending)),
+        SessionStatus::AskedToStop(rcode, delay) => {
             session.carry_out_stop(rcode, delay, points.now());
             Ok(Turn::Did(after_reaction(session, buf)))
         }
-        Standing::Live => work(session, alloc, points, index, timers, buf),
+        SessionStatus::Live => work(session, alloc, points, index, timers, buf),
     }
 }

@@ -11,7 +11,7 @@ use Rattle.dsotlv.specs.declared.message.Notice.{Notice}
 use Rattle.coalesce.specs.Net.{push_frame}
 use Rattle.coalesce.specs.Waiting.{without_name}
 use Rattle.dsosession.specs.Timing.{restarted}
-use Rattle.pushsession.specs.Subscribing.{accepts, first_answer_octets, first_answer_size, says_first_answer, subscribed}
+use Rattle.pushsession.specs.Subscribing.{with_accepted, first_answer_octets, first_answer_size, says_first_answer, subscribed}
 use Rattle.pushsession.specs.Kept.{KeptSession, keeping, telling}
 use Rattle.pushsession.specs.Requests.{taken_up}
 
@@ -69,7 +69,7 @@ told_later now id question [] session = refl
 told_later now id question (n ∷ ns) session = refl
 
 pub accepts_later : (rows : RecordSet) (now id : ℕ) (question : Question) (session held : KeptSession)
-    → held ≡ record (accepts keeping (telling rows) 0 id question session) { clocks = session.clocks; established = session.established }
-    → record (taken_up now held) { clocks = restarted false now (taken_up now held).clocks; established = true } ≡ accepts keeping (telling rows) now id question (taken_up now session)
+    → held ≡ record (with_accepted keeping (telling rows) 0 id question session) { clocks = session.clocks; established = session.established }
+    → record (taken_up now held) { clocks = restarted false now (taken_up now held).clocks; established = true } ≡ with_accepted keeping (telling rows) now id question (taken_up now session)
 accepts_later rows now id question session held is =
     ap (λ (h : KeptSession). wrote now (taken_up now h)) is ∙ told_later now id question ((telling rows).first_notices question session.subscriptions session.queue) session

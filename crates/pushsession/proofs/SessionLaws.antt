@@ -9,7 +9,7 @@ use Rattle.push_base.specs.Limits.{max_input}
 use Rattle.dnsname.specs.Names.{Labels}
 use Rattle.rrset.specs.RecordSet.{RecordSet}
 use Rattle.coalesce.specs.Waiting.{WaitingName, with_copy, waits, before_point}
-use Rattle.pushsession.specs.Sessions.{SessionOf, is_open, takes, touched}
+use Rattle.pushsession.specs.Sessions.{SessionOf, is_open, with_piece, touched}
 use Rattle.pushsession.specs.Kept.{Filled, filled_of, keeping}
 use Rattle.pushsession.specs.Laws.{NotesGoBack, PiecesAreOne, EachQuestionHasItsEnd}
 
@@ -66,7 +66,7 @@ pieces_in true input first second = pieces_fit max_input input first second
 pieces_in false input first second = append-nil (input ++ [])
 
 -- whatever a session keeps
-pub pieces_join : {A Q M : Type 0} (first second : List ℕ) (session : SessionOf A Q M) → takes second (takes first session) ≡ takes (first ++ second) session
+pub pieces_join : {A Q M : Type 0} (first second : List ℕ) (session : SessionOf A Q M) → with_piece second (with_piece first session) ≡ with_piece (first ++ second) session
 pieces_join first second session = ap (λ (i : List ℕ). record session { input = i }) (pieces_in (is_open session.standing) session.input first second)
 
 pub pieces_are_one : PiecesAreOne

@@ -7,7 +7,7 @@ use Rattle.std.specs.List.{AllByRecursion}
 use Rattle.rrset.specs.RecordSet.{RecordSet}
 use Rattle.rrset.specs.declared.record.Changed.{Changed}
 use Rattle.subscr.specs.Asked.{Asked, has}
-use Rattle.pushsession.specs.Sessions.{noted, takes}
+use Rattle.pushsession.specs.Sessions.{noted, with_piece}
 use Rattle.pushsession.specs.Kept.{KeptSession, Filled, HasEnds, filled_of, keeping, taken_back}
 
 -- the names that are noted at a point go when it is taken back, where all others wait since before it
@@ -17,7 +17,7 @@ NotesGoBack = (changed : List Changed) (rows : RecordSet) (point : ℕ) (session
 
 -- two pieces are taken as one (RFC 7766, 8)
 abbrev pub PiecesAreOne : Type 0
-PiecesAreOne = (first second : List ℕ) (session : KeptSession) → takes second (takes first session) ≡ takes (first ++ second) session
+PiecesAreOne = (first second : List ℕ) (session : KeptSession) → with_piece second (with_piece first session) ≡ with_piece (first ++ second) session
 
 abbrev pub EachQuestionHasItsEnd : Type 0
 EachQuestionHasItsEnd = (id : ℕ) (asked : Asked) (filled : Filled) → HasEnds asked filled → is_some (filled_of id filled) ≡ has id asked

@@ -3,10 +3,10 @@
 --     SessionOf      a session
 --     Keeps      what the rules ask of what a session keeps
 --     least_of numbers      the least of them
---     new_session, room_of, takes, without_first, laid_over, copied, establishes      connected; octets come in; the first message leaves; octets of the output are handed on; established
+--     new_session, room_of, with_piece, without_first, laid_over, copied, establishes      connected; octets come in; the first message leaves; octets of the output are handed on; established
 --     asked_to_stop, due, timed, ended_with      how a session comes to its end
 --     touched, noted      an entry changes keys, and their names wait
---     says, answers      a message is written; with the names that wait then
+--     with_frame, answers      a message is written; with the names that wait then
 --     says_stop, stopped      the Retry Delay; what a session does that was asked to stop
 use Rattle.std.specs.Prelude.{ℕ, ◌-◌, Bool, true, false, cond, List, [], ◌∷◌, ◌++◌, map, length, take, drop, filter, fold, min, Option, Some, None, if◌then◌else◌}
 use Rattle.push_base.specs.Limits.{max_input}
@@ -20,8 +20,8 @@ use Rattle.dsotlv.specs.Answers.{stop_message}
 use Rattle.dsosession.specs.Timing.{Clocks, new_clocks, restarted, server_ends, has_passed, stop_time}
 use Rattle.dsosession.specs.declared.session.EndReason.{EndReason}
 use Rattle.dsosession.specs.declared.session.EndReason.TheVariants as ends
-use Rattle.pushsession.specs.declared.standing.Standing.{Standing}
-use Rattle.pushsession.specs.declared.standing.Standing.TheVariants.{Live, AskedToStop, Stopped, Ended}
+use Rattle.pushsession.specs.declared.session_status.SessionStatus.{SessionStatus}
+use Rattle.pushsession.specs.declared.session_status.SessionStatus.TheVariants.{Live, AskedToStop, Stopped, Ended}
 
 -- its questions, the names that wait, its timers, whether it is established (RFC 8490, 5.1) and goes on, the octets that came and
 -- those that wait to go, and the messages that it made
@@ -30,7 +30,7 @@ pub record SessionOf (Asked Queue Messages : Type 0) : Type 0 where
   pub queue : Queue
   pub clocks : Clocks
   pub established : Bool
-  pub standing : Standing
+  pub standing : SessionStatus
   pub input : List ℕ
   pub output : List ℕ
   pub made : Messages
@@ -76,7 +76,7 @@ new_session keeps now = record {
 }
 
 -- an ended or stopped session takes nothing more
-abbrev pub is_open : Standing → Bool
+abbrev pub is_open : SessionStatus → Bool
 is_open Live = true
 is_open (AskedToStop rcode delay) = true
 is_open (Stopped since) = false
@@ -86,8 +86,8 @@ is_open (Ended reason) = false
 abbrev pub room_of : {A Q M : Type 0} → SessionOf A Q M → ℕ
 room_of session = cond (is_open session.standing) (max_input - length session.input) 0
 
-abbrev pub takes : {A Q M : Type 0} → List ℕ → SessionOf A Q M → SessionOf A Q M
-takes piece session = record session { input = session.input ++ take (room_of session) piece }
+abbrev pub with_piece : {A Q M : Type 0} → List ℕ → SessionOf A Q M → SessionOf A Q M
+with_piece piece session = record session { input = session.input ++ take (room_of session) piece }
 
 -- its first message is taken up, and this is what stood behind it
 abbrev pub without_first : {A Q M : Type 0} → List ℕ → SessionOf A Q M → SessionOf A Q M
@@ -112,7 +112,7 @@ abbrev pub asked_to_stop : {A Q M : Type 0} → ℕ → ℕ → SessionOf A Q M 
 asked_to_stop rcode delay session = cond (is_open session.standing) (record session { standing = AskedToStop rcode delay }) session
 
 -- it asks for nothing more, and no name waits
-abbrev pub cleared : {A Q M : Type 0} → Keeps A Q M → Standing → SessionOf A Q M → SessionOf A Q M
+abbrev pub cleared : {A Q M : Type 0} → Keeps A Q M → SessionStatus → SessionOf A Q M → SessionOf A Q M
 cleared keeps standing session = record session { subscriptions = keeps.no_questions; queue = keeps.no_names; standing = standing }
 
 abbrev pub ended_with : {A Q M : Type 0} → Keeps A Q M → EndReason → SessionOf A Q M → SessionOf A Q M
@@ -123,7 +123,7 @@ ended_where keeps None session = session
 ended_where keeps (Some reason) session = ended_with keeps reason session
 
 -- why a session with so many questions ends at a moment: a stopped one after 5,000 milliseconds (RFC 8490, 6.6.1), and one that goes on by its timers (RFC 8490, 6.4 and 6.5)
-abbrev pub due_as : Standing → Clocks → ℕ → ℕ → Option EndReason
+abbrev pub due_as : SessionStatus → Clocks → ℕ → ℕ → Option EndReason
 due_as (Ended reason) clocks questions t = None
 due_as (Stopped since) clocks questions t = if has_passed stop_time since t then Some ends.Stopped else None
 due_as _ clocks questions t = server_ends clocks t questions
@@ -147,8 +147,8 @@ noted keeps changed rows point session = record session { queue = fold (keeps.wi
 -- ---- messages are written
 
 -- a message behind its length goes behind the output, and restarts the timers (RFC 7766, 8; RFC 8490, 6.3); it is made while these names wait
-abbrev pub says : {A Q M : Type 0} → Keeps A Q M → Bool → ℕ → List ℕ → Q → SessionOf A Q M → SessionOf A Q M
-says keeps is_keepalive now message waiting session = record session {
+abbrev pub with_frame : {A Q M : Type 0} → Keeps A Q M → Bool → ℕ → List ℕ → Q → SessionOf A Q M → SessionOf A Q M
+with_frame keeps is_keepalive now message waiting session = record session {
   output = session.output ++ frame message;
   made = keeps.with_message message waiting session.subscriptions session.made;
   clocks = restarted is_keepalive now session.clocks;
@@ -156,7 +156,7 @@ says keeps is_keepalive now message waiting session = record session {
 
 -- a message made while the names wait that do so now
 abbrev pub answers : {A Q M : Type 0} → Keeps A Q M → Bool → ℕ → List ℕ → SessionOf A Q M → SessionOf A Q M
-answers keeps is_keepalive now message session = says keeps is_keepalive now message session.queue session
+answers keeps is_keepalive now message session = with_frame keeps is_keepalive now message session.queue session
 
 -- the Retry Delay is written, and the session waits for its end
 abbrev pub says_stop : {A Q M : Type 0} → Keeps A Q M → ℕ → ℕ → ℕ → SessionOf A Q M → SessionOf A Q M

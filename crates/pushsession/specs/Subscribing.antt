@@ -2,7 +2,7 @@
 --     Tells      what is to be told: after the answer to a SUBSCRIBE, and of the names that wait
 --     may_be_served      whether a question is one that the server may answer
 --     Verdict, verdict_on      the tests of a SUBSCRIBE in their order
---     accepts, decided, answered      NOERROR and the first answer; what each verdict does; a SUBSCRIBE is answered
+--     with_accepted, decided, answered      NOERROR and the first answer; what each verdict does; a SUBSCRIBE is answered
 --     packs      one PUSH of the names that fit
 use Rattle.std.specs.Prelude.{ℕ, Bool, false, not, ◌&&◌, ◌||◌, ◌==◌, List, [], ◌∷◌, ◌++◌, length, Option, Some, None, nat_le, if◌then◌else◌}
 use Rattle.push_base.specs.Cases.{is_empty}
@@ -16,7 +16,7 @@ use Rattle.dsotlv.specs.declared.message.Notice.{Notice}
 use Rattle.coalesce.specs.Net.{push_frame}
 use Rattle.dsosession.specs.declared.session.EndReason.{EndReason}
 use Rattle.dsosession.specs.declared.session.EndReason.TheVariants as ends
-use Rattle.pushsession.specs.Sessions.{SessionOf, Keeps, establishes, says, answers, ended_with}
+use Rattle.pushsession.specs.Sessions.{SessionOf, Keeps, establishes, with_frame, answers, ended_with}
 
 -- the notices that follow the answer to a question, where these questions were asked and these names wait;
 -- the notices of one PUSH, and the names that still wait behind it
@@ -30,8 +30,8 @@ says_notices keeps now [] session = session
 says_notices keeps now (n ∷ ns) session = answers keeps false now (push_message (n ∷ ns)) session
 
 -- one PUSH of the names that fit; names without a net leave unsent; how much fits is this project's own (RFC 8765, 6.3)
-abbrev pub packs : {A Q M : Type 0} → Keeps A Q M → Tells A Q → ℕ → SessionOf A Q M → SessionOf A Q M
-packs keeps tells now session =
+abbrev pub with_next_push : {A Q M : Type 0} → Keeps A Q M → Tells A Q → ℕ → SessionOf A Q M → SessionOf A Q M
+with_next_push keeps tells now session =
     let pack = tells.packed session.subscriptions session.queue in
     says_notices keeps now pack.0 (record session { queue = pack.1 })
 
@@ -72,7 +72,7 @@ subscribed keeps id question end session = establishes (record session {
 
 -- the answer, and a PUSH where there are notices; an answer alone is made while the names wait that do so behind it, one that a PUSH follows while those wait that did so before
 abbrev pub says_first_answer : {A Q M : Type 0} → Keeps A Q M → ℕ → List ℕ → List Notice → Q → SessionOf A Q M → SessionOf A Q M
-says_first_answer keeps now answer notices before session = says_notices keeps now notices (says keeps false now answer (if is_empty notices then session.queue else before) session)
+says_first_answer keeps now answer notices before session = says_notices keeps now notices (with_frame keeps false now answer (if is_empty notices then session.queue else before) session)
 
 -- the octets of both: the answer's frame, and behind it the PUSH, only where there are notices
 abbrev pub first_answer_octets : List ℕ → List Notice → List ℕ
@@ -82,8 +82,8 @@ abbrev pub first_answer_size : List ℕ → List Notice → ℕ
 first_answer_size answer notices = length (first_answer_octets answer notices)
 
 -- NOERROR, and the PUSH that follows it (RFC 8765, 6.2.2 and 6.3); the first answer ends behind all that was written before
-abbrev pub accepts : {A Q M : Type 0} → Keeps A Q M → Tells A Q → ℕ → ℕ → Question → SessionOf A Q M → SessionOf A Q M
-accepts keeps tells now id question session =
+abbrev pub with_accepted : {A Q M : Type 0} → Keeps A Q M → Tells A Q → ℕ → ℕ → Question → SessionOf A Q M → SessionOf A Q M
+with_accepted keeps tells now id question session =
     let notices = tells.first_notices question session.subscriptions session.queue in
     let answer = answer_to id noerror in
     says_first_answer keeps now answer notices session.queue (subscribed keeps id question (keeps.end_behind (first_answer_size answer notices) session.made) session)
@@ -91,7 +91,7 @@ accepts keeps tells now id question session =
 abbrev pub decided : {A Q M : Type 0} → Keeps A Q M → Tells A Q → ℕ → ℕ → Verdict → SessionOf A Q M → SessionOf A Q M
 decided keeps tells now id (Refuse rcode) session = answers keeps false now (refusal_to id rcode) session
 decided keeps tells now id (Abort reason) session = ended_with keeps reason session
-decided keeps tells now id (Accept question) session = accepts keeps tells now id question session
+decided keeps tells now id (Accept question) session = with_accepted keeps tells now id question session
 
 -- a SUBSCRIBE with this ID and question is answered, whose name has a home of the server or not
 abbrev pub answered : {A Q M : Type 0} → Keeps A Q M → Tells A Q → ℕ → ℕ → Option Question → Bool → SessionOf A Q M → SessionOf A Q M

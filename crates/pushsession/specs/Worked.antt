@@ -9,7 +9,7 @@ use Rattle.rrset.specs.declared.record.Rr.{Rr}
 use Rattle.rrset.specs.declared.record.Question.{Question}
 use Rattle.rrset.specs.declared.record.Changed.{Changed}
 use Rattle.dsosession.specs.declared.session.Timers.{Timers}
-use Rattle.pushsession.specs.Sessions.{new_session, takes, copied}
+use Rattle.pushsession.specs.Sessions.{new_session, with_piece, copied}
 use Rattle.pushsession.specs.Kept.{KeptSession, keeping}
 use Rattle.pushsession.specs.Requests.{subscribed_by}
 
@@ -35,7 +35,7 @@ timers = record { inactivity = 20000; keepalive = 30000 }
 
 -- a session that asks for the addresses, whose output was handed on
 abbrev pub asking : KeptSession
-asking = copied 100 (subscribed_by (Some question) true rows 5 (takes (subscribe 1) (new_session keeping 0)))
+asking = copied 100 (subscribed_by (Some question) true rows 5 (with_piece (subscribe 1) (new_session keeping 0)))
 
 -- the address goes
 abbrev pub gone : List Changed

@@ -6,7 +6,7 @@ ghost use Rattle.pushsession.specs.Sessions.{asked_to_stop, cleared, due, ended_
 ghost use Rattle.pushsession.specs.Kept.{keeping};
 
 use crate::session::PushSession;
-use crate::standing::Standing;
+use crate::session_status::SessionStatus;
 use coalesce::Queue;
 use dsosession::session::EndReason;
 use dsosession::times::STOP_TIME;
@@ -21,7 +21,7 @@ fn has_passed(span: u64, since: u64, now: u64) -> bool
 
 impl PushSession {
     /// Lets go of all questions and of all names that wait.
-    pub(crate) fn clear(&mut self, standing: Standing)
+    pub(crate) fn clear(&mut self, standing: SessionStatus)
         ensures { self.new ≡ cleared keeping standing self.old }
     {
         let alloc = *self.filled.allocator();
@@ -37,7 +37,7 @@ impl PushSession {
         ensures { self.new ≡ asked_to_stop rcode delay self.old }
     {
         if self.standing.is_open() {
-            self.standing = Standing::AskedToStop(rcode, delay);
+            self.standing = SessionStatus::AskedToStop(rcode, delay);
         }
     }
 
@@ -45,7 +45,7 @@ impl PushSession {
     pub fn end(&mut self, reason: EndReason)
         ensures { self.new ≡ ended_with keeping reason self.old }
     {
-        self.clear(Standing::Ended(reason));
+        self.clear(SessionStatus::Ended(reason));
     }
 
     /// Does what was asked for by a stop: it writes its Retry Delay, or ends where it isn't established (RFC 8490,
@@ -66,15 +66,15 @@ impl PushSession {
         ensures { result ≡ due keeping now self.now }
     {
         match self.standing {
-            Standing::Ended(_) => None,
-            Standing::Stopped(since) => {
+            SessionStatus::Ended(_) => None,
+            SessionStatus::Stopped(since) => {
                 if has_passed(STOP_TIME, since, now) {
                     Some(EndReason::Stopped)
                 } else {
                     None
                 }
             }
-            Standing::Live | Standing::AskedToStop(_, _) => {
+            SessionStatus::Live | SessionStatus::AskedToStop(_, _) => {
                 self.state.moment(now, self.subscriptions.len())
             }
         }

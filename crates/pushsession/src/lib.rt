@@ -1,24 +1,24 @@
 //! One session of the server: what it asks, what has changed for it, its timers, and its octets (RFC 8490, RFC 8765).
 #![tactic(auto)]
 
+mod buffers;
 mod ending;
 pub mod laws;
 mod noting;
-mod octets;
 mod reacting;
 pub mod request;
 mod saying;
 mod session;
-pub mod standing;
-mod streams;
-mod subscribing;
+pub mod session_status;
+mod short_messages;
+mod subscribe;
 mod taking;
 
 ghost use Rattle.std.specs.Prelude.{◌≡◌, ◌++◌, [], ◌∷◌, true, false, codes, None, Some};
 ghost use Rattle.push_base.specs.Hexadecimal.{hex};
 ghost use Rattle.coalesce.specs.Waiting.{since};
-ghost use Rattle.pushsession.specs.Sessions.{new_session, noted, stopped, takes, timed};
-ghost use Rattle.pushsession.specs.Subscribing.{packs};
+ghost use Rattle.pushsession.specs.Sessions.{new_session, noted, stopped, with_piece, timed};
+ghost use Rattle.pushsession.specs.Subscribing.{with_next_push};
 ghost use Rattle.pushsession.specs.Kept.{filled_of, keeping, telling};
 ghost use Rattle.pushsession.specs.Requests.{reacted, request_of, subscribed_by};
 ghost use Rattle.pushsession.specs.Worked.{asking, gone, keepalive, question, rows, subscribe, timers};
@@ -27,22 +27,22 @@ use dsosession::session::EndReason;
 pub use request::Request;
 pub use rrset::NoMemory;
 pub use session::PushSession;
-pub use standing::Standing;
+pub use session_status::SessionStatus;
 
 /// Examples of sessions.
 pub fn worked_rows()
-    ensures cut { request_of (takes (hex (codes "0017000130")) (new_session keeping 0)) ≡ None }
-    ensures whole { request_of (takes (subscribe 1) (new_session keeping 0)) ≡ Some (Request.Subscribe (Some question)) }
-    ensures told { (subscribed_by (Some question) true rows 5 (takes (subscribe 1) (new_session keeping 0))).output ≡ hex (codes "000c0001b0000000000000000000") ++ hex (codes "00210000300000000000000000000041001101780000010001") ++ hex (codes "0000003c000401020304") }
+    ensures cut { request_of (with_piece (hex (codes "0017000130")) (new_session keeping 0)) ≡ None }
+    ensures whole { request_of (with_piece (subscribe 1) (new_session keeping 0)) ≡ Some (Request.Subscribe (Some question)) }
+    ensures told { (subscribed_by (Some question) true rows 5 (with_piece (subscribe 1) (new_session keeping 0))).output ≡ hex (codes "000c0001b0000000000000000000") ++ hex (codes "00210000300000000000000000000041001101780000010001") ++ hex (codes "0000003c000401020304") }
     ensures filled { filled_of 1 asking.subscriptions.filled ≡ Some 49 }
-    ensures refused { (subscribed_by (Some question) false rows 5 (takes (subscribe 1) (new_session keeping 0))).output ≡ hex (codes "00140001b009000000000000000000020004000493e0") }
-    ensures in_use { (subscribed_by (Some question) true rows 6 (takes (subscribe 1) asking)).standing ≡ Standing.Ended (EndReason.IdInUse 1) }
-    ensures twice { (subscribed_by (Some question) true rows 6 (takes (subscribe 2) asking)).standing ≡ Standing.Ended (EndReason.Twice 1) }
-    ensures granted { (reacted timers 7 (takes keepalive (new_session keeping 0))).clocks ≡ record { timers = timers; last_message = 7; last_other = 0 } }
-    ensures established { (reacted timers 7 (takes keepalive (new_session keeping 0))).established ≡ true }
-    ensures short { (reacted timers 7 (takes (0 ∷ 1 ∷ 0 ∷ []) (new_session keeping 0))).standing ≡ Standing.Ended EndReason.Short }
+    ensures refused { (subscribed_by (Some question) false rows 5 (with_piece (subscribe 1) (new_session keeping 0))).output ≡ hex (codes "00140001b009000000000000000000020004000493e0") }
+    ensures in_use { (subscribed_by (Some question) true rows 6 (with_piece (subscribe 1) asking)).standing ≡ SessionStatus.Ended (EndReason.IdInUse 1) }
+    ensures twice { (subscribed_by (Some question) true rows 6 (with_piece (subscribe 2) asking)).standing ≡ SessionStatus.Ended (EndReason.Twice 1) }
+    ensures granted { (reacted timers 7 (with_piece keepalive (new_session keeping 0))).clocks ≡ record { timers = timers; last_message = 7; last_other = 0 } }
+    ensures established { (reacted timers 7 (with_piece keepalive (new_session keeping 0))).established ≡ true }
+    ensures short { (reacted timers 7 (with_piece (0 ∷ 1 ∷ 0 ∷ []) (new_session keeping 0))).standing ≡ SessionStatus.Ended EndReason.Short }
     ensures waiting { since (noted keeping gone rows 3 asking).queue question.name ≡ Some 3 }
-    ensures removed { (packs keeping (telling []) 8 (noted keeping gone rows 3 asking)).output ≡ hex (codes "001d000030000000000000000000004100") ++ hex (codes "0d01780000010001fffffffe0000") }
+    ensures removed { (with_next_push keeping (telling []) 8 (noted keeping gone rows 3 asking)).output ≡ hex (codes "001d000030000000000000000000004100") ++ hex (codes "0d01780000010001fffffffe0000") }
     ensures stop { (stopped keeping 0 7000 9 asking).output ≡ hex (codes "001400003000000000000000000000020004") ++ hex (codes "00001b58") }
-    ensures stopped { (timed keeping 5009 (stopped keeping 0 7000 9 asking)).standing ≡ Standing.Ended EndReason.Stopped }
+    ensures stopped { (timed keeping 5009 (stopped keeping 0 7000 9 asking)).standing ≡ SessionStatus.Ended EndReason.Stopped }
 {}

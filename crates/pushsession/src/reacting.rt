@@ -10,8 +10,8 @@ ghost use Rattle.pushsession.specs.Reactions.{granted, unsubscribed};
 ghost use Rattle.pushsession.specs.Requests.{reacted, reconfirmed, request_of, updated};
 ghost use Rattle.pushsession.specs.declared.request.Request.TheVariants as requests;
 
-use crate::octets::{answer, header, keepalive};
 use crate::session::PushSession;
+use crate::short_messages::{answer, header, keepalive};
 use crate::taking::Taken;
 use dsosession::session::{EndReason, Reaction, Timers};
 use dsotlv::kinds::RECONFIRM;

@@ -6,12 +6,12 @@ ghost use Rattle.coalesce.specs.Sides.{frame_octets};
 ghost use Rattle.coalesce.specs.Waiting.{CanBePacked};
 ghost use Rattle.dsosession.specs.Timing.{restarted};
 ghost use Rattle.pushsession.specs.Sessions.{answers, says_stop};
-ghost use Rattle.pushsession.specs.Subscribing.{packs};
+ghost use Rattle.pushsession.specs.Subscribing.{with_next_push};
 ghost use Rattle.pushsession.specs.Kept.{keeping, telling};
 
-use crate::octets::{append_message, header, retry_delay};
 use crate::session::PushSession;
-use crate::standing::Standing;
+use crate::session_status::SessionStatus;
+use crate::short_messages::{append_message, header, retry_delay};
 use dsotlv::LENGTH;
 use dsotlv::flags::REQUEST;
 use nametable::NameTable;
@@ -43,7 +43,7 @@ impl PushSession {
     {
         let header = header(0, REQUEST + u16::from(rcode));
         self.say(false, now, &header, &retry_delay(delay));
-        self.clear(Standing::Stopped(now));
+        self.clear(SessionStatus::Stopped(now));
     }
 
     /// Writes one PUSH of the names that fit, as the questions ask for their records (RFC 8765, 6.3). The names in
@@ -51,7 +51,7 @@ impl PushSession {
     pub fn pack(&mut self, index: &NameTable, now: u64)
         requires output { self.old.output ≡ [] }
         requires sides { CanBePacked index.now.rows self.old.queue }
-        ensures { self.new ≡ packs keeping (telling index.now.rows) now self.old }
+        ensures { self.new ≡ with_next_push keeping (telling index.now.rows) now self.old }
     {
         let size = self
             .queue

@@ -7,7 +7,7 @@ ghost use Rattle.pushsession.specs.Sessions.{new_session};
 ghost use Rattle.pushsession.specs.Kept.{HasEnds, filled_of, keeping};
 
 use crate::NoMemory;
-use crate::standing::Standing;
+use crate::session_status::SessionStatus;
 use coalesce::{Frame, Queue};
 use dnsname::Name;
 use dsosession::ServerSession;
@@ -25,7 +25,7 @@ pub struct PushSession {
     pub(crate) filled: Vec<(u16, u64)>,
     pub(crate) queue: Queue,
     pub(crate) state: ServerSession,
-    pub(crate) standing: Standing,
+    pub(crate) standing: SessionStatus,
     pub(crate) input: Framer,
     pub(crate) output: Frame,
     pub(crate) written: u64,
@@ -61,7 +61,7 @@ impl PushSession {
             filled: Vec::new(alloc),
             queue: Queue::new(alloc),
             state: ServerSession::new(now),
-            standing: Standing::Live,
+            standing: SessionStatus::Live,
             input,
             output,
             written: 0,
@@ -69,7 +69,7 @@ impl PushSession {
     }
 
     /// Whether it goes on.
-    pub fn standing(&self) -> Standing
+    pub fn standing(&self) -> SessionStatus
         ensures { result ≡ self.now.standing }
     {
         self.standing

@@ -51,7 +51,7 @@ fn request_in(alloc: Global, message: &[u8], established: bool) -> Result<Reques
 }
 
 /// A message that was taken up.
-#[derive(Clone, Copy, Debug)]
+#[derive(Clone, Copy)]
 pub(crate) struct Taken {
     pub head: DsoHead,
     pub reaction: Reaction,

@@ -15,8 +15,8 @@ use Rattle.coalesce.specs.Net.{push_frame}
 use Rattle.history.specs.States.{State}
 use Rattle.history.specs.declared.entry.Entry.{Entry}
 use Rattle.coalesce.proofs.ReadBack.{each-append}
-use Rattle.pushsession.specs.Sessions.{says, answers}
-use Rattle.pushsession.specs.Subscribing.{subscribed, says_first_answer, first_answer_size, accepts}
+use Rattle.pushsession.specs.Sessions.{with_frame, answers}
+use Rattle.pushsession.specs.Subscribing.{subscribed, says_first_answer, first_answer_size, with_accepted}
 use Rattle.pushserver.specs.PlainHubs.{Hub, Session, Subscription, Made, note_of, size_of_made, written, first_answer, plain_keeps}
 use Rattle.pushserver.specs.Hubs.{newest, now, keeps_now, tells_now}
 use Rattle.rrset.proofs.Distinct.{or_false, distinct_push}
@@ -26,7 +26,7 @@ use Rattle.pushserver.specs.ToldMessages.{set_after, notices_in}
 use Rattle.pushserver.proofs.told_rows.HubTells.{StatesTell}
 use Rattle.pushtelling.proofs.Messages.{LeadsTo, LeadsIfFilled, noted_records, each_right-append, set_after-append, set_after-quiet, set_after-answer, size_of_made-append}
 use Rattle.pushtelling.proofs.Notes.{told-left, notes-says}
-use Rattle.pushtelling.proofs.Tells.{Tells, Almost, almost-left, tells-says, made_now, IsReadBack}
+use Rattle.pushtelling.proofs.Tells.{Tells, Almost, almost-left, tells-with_frame, made_now, IsReadBack}
 use Rattle.pushtelling.proofs.Quiet.{answer-itself, answer-other, other_flags}
 use Rattle.pushtelling.proofs.Leading.{before, after, stays, stays-alike, leads, leads-itself, IsAmong, all_among}
 
@@ -84,7 +84,7 @@ module _ (hub : Hub) (session : Session) (id : ℕ) (question : Question) where
 
   -- the session behind an answer that a PUSH follows
   abbrev pub behind : List Notice → Session
-  behind notices = says (keeps_now hub) false (now hub) answer session.queue (taken notices)
+  behind notices = with_frame (keeps_now hub) false (now hub) answer session.queue (taken notices)
 
   module _ (states : StatesTell hub) (small : id < 65536)
       (fresh_id : list_any (λ s. s.id == id) session.subscriptions ≡ false)
@@ -111,7 +111,7 @@ module _ (hub : Hub) (session : Session) (id : ℕ) (question : Question) where
     -- the answer alone
     pub tells-alone : first_answer hub session question ≡ [] → Tells hub.start hub.history (answers (keeps_now hub) false (now hub) answer (taken []))
     tells-alone none =
-        tells-says hub.start hub.history (taken []) false (now hub) answer (almost-taken []) h.octets
+        tells-with_frame hub.start hub.history (taken []) false (now hub) answer (almost-taken []) h.octets
         (each-append (λ (s : Subscription). s.filled ≤ written session + length (frame answer)) session.subscriptions (new_for [] ∷ [])
         (all-weaken (λ (s : Subscription). s.filled ≤ written session) (λ (s : Subscription). s.filled ≤ written session + length (frame answer)) (λ s low. omega (arith, low)) session.subscriptions h.whole) (omega arith, tt))
         (each-append (LeadsTo hub.start hub.history (session.made ++ m ∷ []) (after hub session question)) session.subscriptions (new_for [] ∷ [])
@@ -155,7 +155,7 @@ module _ (hub : Hub) (session : Session) (id : ℕ) (question : Question) where
     pub tells-followed : (n : Notice) (ns : List Notice) → first_answer hub session question ≡ n ∷ ns → IsReadBack (n ∷ ns)
         → Tells hub.start hub.history (answers (keeps_now hub) false (now hub) (push_message (n ∷ ns)) (behind (n ∷ ns)))
     tells-followed n ns some read =
-        tells-says hub.start hub.history (behind (n ∷ ns)) false (now hub) (push_message (n ∷ ns)) (almost-behind n ns) h.octets
+        tells-with_frame hub.start hub.history (behind (n ∷ ns)) false (now hub) (push_message (n ∷ ns)) (almost-behind n ns) h.octets
         (each-append (λ (s : Subscription). s.filled ≤ written (behind (n ∷ ns)) + size_of_push (n ∷ ns)) session.subscriptions (new_for (n ∷ ns) ∷ [])
         (all-weaken (λ (s : Subscription). s.filled ≤ written session) (λ (s : Subscription). s.filled ≤ written (behind (n ∷ ns)) + size_of_push (n ∷ ns)) (λ s low. subst (λ k. s.filled ≤ k + size_of_push (n ∷ ns)) (sym grown) (omega (arith, low))) session.subscriptions h.whole) (
           subst (λ f. f ≤ written (behind (n ∷ ns)) + size_of_push (n ∷ ns)) (sym (filled_at (n ∷ ns)))
@@ -179,9 +179,9 @@ module _ (hub : Hub) (session : Session) (id : ℕ) (question : Question) where
         pushed s = set_after-append (session.made ++ answered (n ∷ ns) ∷ []) m s (other_flags (push_message (n ∷ ns)) s.id refl) ∙ ap (λ all. applied_all all s.question (set_after (session.made ++ answered (n ∷ ns) ∷ []) s)) (read ∙ sym some)
 
     -- A session that takes a subscription tells the history, where the notices of its first answer are read back from their message.
-    pub tells-accepts : ((n : Notice) (ns : List Notice) → first_answer hub session question ≡ n ∷ ns → IsReadBack (n ∷ ns))
-        → Tells hub.start hub.history (accepts (keeps_now hub) (tells_now hub) (now hub) id question session)
-    tells-accepts read = by (first_answer hub session question) refl
+    pub tells-with_accepted : ((n : Notice) (ns : List Notice) → first_answer hub session question ≡ n ∷ ns → IsReadBack (n ∷ ns))
+        → Tells hub.start hub.history (with_accepted (keeps_now hub) (tells_now hub) (now hub) id question session)
+    tells-with_accepted read = by (first_answer hub session question) refl
       where
         by : (notices : List Notice) → first_answer hub session question ≡ notices
             → Tells hub.start hub.history (says_first_answer (keeps_now hub) (now hub) answer notices session.queue (taken notices))

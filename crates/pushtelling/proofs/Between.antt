@@ -33,9 +33,9 @@ use Rattle.pushserver.proofs.hub_steps.Cases.{itself_as}
 use Rattle.pushserver.proofs.hub_steps.Pairs.{all-map, all-weaken}
 use Rattle.pushserver.proofs.hub_steps.Queued.{points-fold}
 use Rattle.pushsession.specs.Reactions.{reacts_itself, by_itself}
-use Rattle.pushsession.specs.Sessions.{takes, is_open, asked_to_stop, ended_with, due, ended_where, timed, says, answers, says_stop, without_first}
+use Rattle.pushsession.specs.Sessions.{with_piece, is_open, asked_to_stop, ended_with, due, ended_where, timed, with_frame, answers, says_stop, without_first}
 use Rattle.pushsession.specs.Subscribing.{Verdict, says_notices, subscribed, says_first_answer, first_answer_size, decided, answered}
-use Rattle.pushsession.specs.declared.standing.Standing.TheVariants.{AskedToStop}
+use Rattle.pushsession.specs.declared.session_status.SessionStatus.TheVariants.{AskedToStop}
 use Rattle.rrset.proofs.Places.{all_filter}
 use Rattle.rrset.specs.Header.{id_of}
 use Rattle.rrset.specs.Rcodes.{noerror, formerr, refused, notauth}
@@ -85,15 +85,15 @@ module _ (low : ℕ) (hub : Hub) (order : low ≤ newest hub) where
   abbrev IsBetween : Session → Type 0
   IsBetween session = Between low (newest hub) session
 
-  between-says : (keepalive : Bool) (message : List ℕ) (waiting : Queue) (session : Session) → AreBetween low (newest hub) waiting → IsBetween session → IsBetween (says (keeps_now hub) keepalive (now hub) message waiting session)
-  between-says keepalive message waiting session names h = record {
+  between-with_frame : (keepalive : Bool) (message : List ℕ) (waiting : Queue) (session : Session) → AreBetween low (newest hub) waiting → IsBetween session → IsBetween (with_frame (keeps_now hub) keepalive (now hub) message waiting session)
+  between-with_frame keepalive message waiting session names h = record {
     notes = each-append (λ (m : Made). LiesBetween low (newest hub) m.note) session.made ((record { message = message; note = record { queue = waiting; newest = newest hub }; subscribed = session.subscriptions }) ∷ []) h.notes
         (told-between low (newest hub) order waiting names, tt);
     names = h.names;
   }
 
   between-answers : (keepalive : Bool) (message : List ℕ) (session : Session) → IsBetween session → IsBetween (answers (keeps_now hub) keepalive (now hub) message session)
-  between-answers keepalive message session h = between-says keepalive message session.queue session h.names h
+  between-answers keepalive message session h = between-with_frame keepalive message session.queue session h.names h
 
   between-notices : (notices : List Notice) (session : Session) → IsBetween session → IsBetween (says_notices (keeps_now hub) (now hub) notices session)
   between-notices [] session h = h
@@ -103,8 +103,8 @@ module _ (low : ℕ) (hub : Hub) (order : low ≤ newest hub) where
       → IsBetween (says_first_answer (keeps_now hub) (now hub) answer notices before session)
   between-first answer [] before session names h = between-answers false answer session h
   between-first answer (n ∷ ns) before session names h =
-      let said = says (keeps_now hub) false (now hub) answer before session in
-      between-answers false (push_message (n ∷ ns)) said (between-says false answer before session names h)
+      let said = with_frame (keeps_now hub) false (now hub) answer before session in
+      between-answers false (push_message (n ∷ ns)) said (between-with_frame false answer before session names h)
 
   between-ended : (reason : EndReason) (session : Session) → IsBetween session → IsBetween (ended_with (keeps_now hub) reason session)
   between-ended reason session h = record { notes = h.notes; names = tt }
@@ -203,7 +203,7 @@ module _ (low number : ℕ) where
       one = one-changed number (Between low (newest hub)) (Between low (newest (entered entry hub))) (λ n. by_entry hub.start hub.history entry) (between-entered low hub entry h.order) hub.sessions h.one;
     };
     times = λ hub point t h. record { order = h.order; one = one-changed number (Between low (newest hub)) (Between low (newest hub)) (λ n. timed (plain_keeps point) t) (between-timed low (newest hub) point t) hub.sessions h.one };
-    takes_in = λ hub other piece any h. in-lies hub other (takes piece) (λ s b. b) h;
+    takes_in = λ hub other piece any h. in-lies hub other (with_piece piece) (λ s b. b) h;
     asks_stop = λ hub other rcode delay h. in-lies hub other (asked_to_stop rcode delay) (between-asked low (newest hub) rcode delay) h;
     makes = λ hub h. record { order = h.order; one = one-last number (Between low (newest hub)) hub.sessions _ (λ is. record { notes = tt; names = tt }) h.one };
     drops = λ hub gone h. record { order = h.order; one = one-left number (Between low (newest hub)) gone hub.sessions h.one };

@@ -5,9 +5,9 @@ use Rattle.std.proofs.Common.{◌≡◌, ℕ, ◌-◌, ◌<◌, Bool, true, fals
 use Rattle.std.specs.Prelude.{◌==◌, ◌&&◌}
 use Rattle.push_base.specs.Cases.{is_empty}
 use Rattle.push_base.specs.Limits.{max_input}
-use Rattle.pushsession.specs.Sessions.{room_of, takes, is_open, asked_to_stop, timed, without_first}
-use Rattle.pushsession.specs.declared.standing.Standing.{Standing}
-use Rattle.pushsession.specs.declared.standing.Standing.TheVariants.{Live, AskedToStop, Stopped, Ended}
+use Rattle.pushsession.specs.Sessions.{room_of, with_piece, is_open, asked_to_stop, timed, without_first}
+use Rattle.pushsession.specs.declared.session_status.SessionStatus.{SessionStatus}
+use Rattle.pushsession.specs.declared.session_status.SessionStatus.TheVariants.{Live, AskedToStop, Stopped, Ended}
 use Rattle.pushserver.specs.Calls.{HubCall, updates, hears, moves, connects, takes as taking, gives, stops, ends as ending, called}
 use Rattle.pushserver.specs.Hubs.{session_of, in_session, taken_by}
 use Rattle.pushserver.specs.PlainHubs.{Hub, Session, plain_keeps}
@@ -53,7 +53,7 @@ module _ (number : ℕ) where
     changes = λ hub other f step h. in-rests hub other f (λ s c. closed-step hub step s c) h;
     enters = λ hub entry by h. record { given = h.given; one = one-changed number IsClosed IsClosed (λ n. by_entry hub.start hub.history entry) (λ s c. c) hub.sessions h.one };
     times = λ hub point t h. record { given = h.given; one = one-changed number IsClosed IsClosed (λ n. timed (plain_keeps point) t) (closed-timed point t) hub.sessions h.one };
-    takes_in = λ hub other piece any h. in-rests hub other (takes piece) (λ s c. c) h;
+    takes_in = λ hub other piece any h. in-rests hub other (with_piece piece) (λ s c. c) h;
     asks_stop = λ hub other rcode delay h. in-rests hub other (asked_to_stop rcode delay) (closed-asked rcode delay) h;
     makes = λ hub h. record {
       given = let low = h.given in omega (arith, low);
@@ -88,7 +88,7 @@ module _ (number : ℕ) where
   nothing_up : (hub : Hub) (call : HubCall) → Rests hub → reacts_to number hub call ≡ []
   nothing_up hub (gives other room) h = by (number == other) refl
     where
-      own-standing : (standing : Standing) (silent : Bool) (heads : List (List ℕ)) → is_open standing ≡ false → cond (is_live standing && silent) heads [] ≡ []
+      own-standing : (standing : SessionStatus) (silent : Bool) (heads : List (List ℕ)) → is_open standing ≡ false → cond (is_live standing && silent) heads [] ≡ []
       own-standing Live silent heads closed = absurd (true≢false closed)
       own-standing (AskedToStop rcode delay) silent heads closed = refl
       own-standing (Stopped since) silent heads closed = refl

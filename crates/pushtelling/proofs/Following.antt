@@ -6,7 +6,7 @@ use Rattle.std.specs.Prelude.{option_map, ◌==◌}
 use Rattle.std.specs.Option.{option_or}
 use Rattle.std.proofs.lemmas.List.{append-nil, append_assoc}
 use Rattle.history.specs.declared.entry.Entry.{Entry}
-use Rattle.pushsession.specs.Sessions.{new_session, takes, copied, asked_to_stop, timed, without_first}
+use Rattle.pushsession.specs.Sessions.{new_session, with_piece, copied, asked_to_stop, timed, without_first}
 use Rattle.pushserver.specs.PlainHubs.{Hub, Session, plain_keeps}
 use Rattle.pushserver.specs.Hubs.{session_in, now, keeps_now, session_of, each_session, in_session, disconnect}
 use Rattle.pushserver.proofs.SessionLists.{found-changed, found-last, found-left, other-number}
@@ -110,7 +110,7 @@ module _ (hub : Hub) where
     changes = λ later number f step h. one-grows later number f (grows-step later step) h;
     enters = λ later entry by h. changed (λ n. by_entry later.start later.history entry) (λ n s. grows-none s (by_entry later.start later.history entry s) refl) later (later.history ++ entry ∷ []) h;
     times = λ later point t h. each-grows later (timed (plain_keeps point) t) (λ s. grown (said-timed point t s)) h;
-    takes_in = λ later number piece any h. one-grows later number (takes piece) (λ s. grows-none s (takes piece s) refl) h;
+    takes_in = λ later number piece any h. one-grows later number (with_piece piece) (λ s. grows-none s (with_piece piece s) refl) h;
     asks_stop = λ later number rcode delay h.
         one-grows later number (asked_to_stop rcode delay) (λ s. grown (said-asked rcode delay s)) h;
     makes = makes;

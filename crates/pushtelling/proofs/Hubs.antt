@@ -7,17 +7,17 @@ use Rattle.std.proofs.lemmas.List.Elements.{All-append, All-take}
 use Rattle.coalesce.proofs.ReadBack.{each-append}
 use Rattle.dsotlv.specs.Messages.{first_message}
 use Rattle.history.specs.declared.entry.Entry.{Entry}
-use Rattle.pushsession.specs.Sessions.{new_session, room_of, takes, is_open, asked_to_stop, timed, without_first}
-use Rattle.pushsession.specs.declared.standing.Standing.TheVariants.{AskedToStop}
+use Rattle.pushsession.specs.Sessions.{new_session, room_of, with_piece, is_open, asked_to_stop, timed, without_first}
+use Rattle.pushsession.specs.declared.session_status.SessionStatus.TheVariants.{AskedToStop}
 use Rattle.pushserver.specs.PlainHubs.{Hub, Session, plain_keeps}
 use Rattle.pushserver.specs.Hubs.{newest, now, keeps_now, session_of, each_session, in_session, entered, stop}
 use Rattle.pushserver.proofs.SessionLists.{found-one, each-changed}
-use Rattle.pushserver.proofs.Walks.{Entering, by_update, by_hearing, by_moment, by_reconfirm, IsKept}
+use Rattle.pushserver.proofs.Walks.{Entering, by_update, by_moment, by_link, IsKept}
 use Rattle.rrset.proofs.Places.{all_filter}
 use Rattle.dsotlv.specs.Laws.{AreOctets}
 use Rattle.pushserver.proofs.session_steps.Octets.{first_octets, rest_octets}
 use Rattle.pushserver.proofs.told_rows.HubTells.{StatesTell}
-use Rattle.pushserver.proofs.told_rows.Hubs.{update_tells, hearing_tells, moment_tells, reconfirm_tells}
+use Rattle.pushserver.proofs.told_rows.Hubs.{update_tells, moment_tells, link_tells}
 use Rattle.pushtelling.proofs.Steps.{tells-step, tells-timed}
 use Rattle.pushtelling.proofs.Tells.{Tells, by_entry, tells-entered, tells-new, tells-input}
 
@@ -59,10 +59,9 @@ hub-entered hub entry states h = record {
 }
 
 hub-enters : (hub : Hub) {entry : Entry} → Entering AreOctets hub entry → HubTells hub → HubTells (entered entry hub)
-hub-enters hub (by_update message u octets is) h = hub-entered hub _ (update_tells hub message u h.states octets is) h
-hub-enters hub (by_moment t) h = hub-entered hub _ (moment_tells hub t h.states) h
-hub-enters hub (by_hearing link datagram hearing octets read is) h = hub-entered hub _ (hearing_tells hub link datagram hearing h.states octets read) h
-hub-enters hub (by_reconfirm link key is) h = hub-entered hub _ (reconfirm_tells hub link key h.states) h
+hub-enters hub (by_update message u octets is room) h = hub-entered hub _ (update_tells hub message u h.states octets is) h
+hub-enters hub (by_moment t room) h = hub-entered hub _ (moment_tells hub t h.states) h
+hub-enters hub (by_link entry link one brings is room) h = hub-entered hub entry (link_tells hub entry link one brings h.states) h
 
 -- ---- the calls
 
@@ -80,7 +79,7 @@ hub_keeps = record {
   changes = λ hub number f step h. hub-in_session hub number f (λ s t. tells-step hub h.states step s t) h;
   enters = λ hub entry by h. hub-enters hub by h;
   times = λ hub point t h. hub-each hub (timed (plain_keeps point) t) (λ s tells. tells-timed hub.start hub.history point t s tells) h;
-  takes_in = λ hub number piece octets h. hub-in_session hub number (takes piece)
+  takes_in = λ hub number piece octets h. hub-in_session hub number (with_piece piece)
       (λ s t. tells-input hub.start hub.history s (s.input ++ take (room_of s) piece) (All-append (λ o. o < 256) s.input (take (room_of s) piece) t.octets (All-take (λ o. o < 256) (room_of s) piece octets)) t) h;
   asks_stop = hub-asks_stop;
   makes = λ hub h. record {

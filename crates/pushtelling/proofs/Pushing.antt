@@ -18,7 +18,7 @@ use Rattle.coalesce.proofs.NetSizes.{net_fits_one_message}
 use Rattle.coalesce.proofs.Packing.{packed_fits_one_message}
 use Rattle.coalesce.proofs.PackedNames.{packed_leads, packed_is_read_back}
 use Rattle.history.specs.States.{records_at}
-use Rattle.pushsession.specs.Subscribing.{says_notices, packs}
+use Rattle.pushsession.specs.Subscribing.{says_notices, with_next_push}
 use Rattle.pushserver.specs.PlainHubs.{Hub, Session, Subscription, Queue, Note, told, note_of, point_in, asks_for, wanted, written, sent, stays_queued}
 use Rattle.pushserver.specs.PlainHubs.{nets_of as nets_from}
 use Rattle.pushserver.specs.Hubs.{newest, now, keeps_now, tells_now, records_now}
@@ -33,7 +33,7 @@ use Rattle.pushserver.proofs.told_rows.HubTells.{StatesTell}
 use Rattle.pushtelling.proofs.Messages.{LeadsTo, noted_records, set_after-append}
 use Rattle.pushtelling.proofs.Notes.{AnswersAlike, left_by, point_in-left, told-below}
 use Rattle.pushtelling.proofs.Leading.{side-at}
-use Rattle.pushtelling.proofs.Tells.{Tells, Almost, almost-left, tells-says, made_now, IsReadBack}
+use Rattle.pushtelling.proofs.Tells.{Tells, Almost, almost-left, tells-with_frame, made_now, IsReadBack}
 use Rattle.pushtelling.proofs.Reading.{push_read}
 use Rattle.pushtelling.proofs.Quiet.{other_flags}
 
@@ -169,8 +169,8 @@ module _ (hub : Hub) (session : Session) where
   lighter = record session { queue = stays_queued pack.1 session.queue }
 
   -- a session that packs a PUSH tells the history
-  pub tells-packs : StatesTell hub → Tells hub.start hub.history session → Tells hub.start hub.history (packs (keeps_now hub) (tells_now hub) (now hub) session)
-  tells-packs states h = by pack.0 refl
+  pub tells-with_next_push : StatesTell hub → Tells hub.start hub.history session → Tells hub.start hub.history (with_next_push (keeps_now hub) (tells_now hub) (now hub) session)
+  tells-with_next_push states h = by pack.0 refl
     where
       base : Almost hub.start hub.history lighter
       base = almost-left hub.start hub.history session stays stays-alike h.most
@@ -190,7 +190,7 @@ module _ (hub : Hub) (session : Session) where
         octets = h.octets;
       }
       by (n ∷ ns) some =
-          tells-says hub.start hub.history lighter false (now hub) (push_message (n ∷ ns)) base h.octets
+          tells-with_frame hub.start hub.history lighter false (now hub) (push_message (n ∷ ns)) base h.octets
           (all-weaken (λ (s : Subscription). s.filled ≤ written session) (λ (s : Subscription). s.filled ≤ written session + length (frame (push_message (n ∷ ns)))) (λ s low. omega (arith, low)) session.subscriptions h.whole)
           (all-weaken (λ (s : Subscription). applied_all pack.0 s.question (set_after session.made s) ≡ noted_records hub.start hub.history after s.question)
           (LeadsTo hub.start hub.history (session.made ++ made_now hub.start hub.history lighter (push_message (n ∷ ns)) ∷ []) after) (λ s e. pushed s n ns some ∙ e)

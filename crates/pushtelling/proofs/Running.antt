@@ -16,9 +16,9 @@ use Rattle.dsotlv.specs.Messages.{first_message, frame, messages_in}
 use Rattle.dsotlv.proofs.FrameLaws.{frames_found}
 use Rattle.dsotlv.proofs.StreamLaws.{one_by_one}
 use Rattle.history.specs.declared.entry.Entry.{Entry}
-use Rattle.pushsession.specs.Sessions.{new_session, room_of, takes, copied, asked_to_stop, timed, without_first}
-use Rattle.pushsession.specs.declared.standing.Standing.{Standing}
-use Rattle.pushsession.specs.declared.standing.Standing.TheVariants.{Live, AskedToStop, Stopped, Ended}
+use Rattle.pushsession.specs.Sessions.{new_session, room_of, with_piece, copied, asked_to_stop, timed, without_first}
+use Rattle.pushsession.specs.declared.session_status.SessionStatus.{SessionStatus}
+use Rattle.pushsession.specs.declared.session_status.SessionStatus.TheVariants.{Live, AskedToStop, Stopped, Ended}
 use Rattle.pushserver.specs.PlainHubs.{Hub, Giving, Session, Made, frame_of, plain_keeps}
 use Rattle.pushserver.specs.Hubs.{now, keeps_now, session_of, each_session, in_session, entered, taken_by, take_octets, disconnect}
 use Rattle.pushserver.specs.Giving.{by_standing, give, reacted, after_reaction}
@@ -54,7 +54,7 @@ none_up hub number none = by (session_of hub number) refl
     by_output s there live [] silent = by_first s there live silent (first_message s.input) refl
     by_output s there live (o ∷ os) silent = refl
 
-    by_state : (s : Session) → session_of hub number ≡ Some s → (standing : Standing) → s.standing ≡ standing
+    by_state : (s : Session) → session_of hub number ≡ Some s → (standing : SessionStatus) → s.standing ≡ standing
         → cond (is_live standing && is_empty s.output) (heads (first_message s.input)) [] ≡ []
     by_state s there Live is = by_output s there is s.output refl
     by_state s there (AskedToStop rcode delay) is = refl
@@ -120,7 +120,7 @@ module _ (Octets : Type 0) (number : ℕ) (first : Session) where
   }
 
   ran-taken : (handed taken : List ℕ) (reacted : List (List ℕ)) (s : Session) (piece : List ℕ) → (Octets → AreOctets piece) → RanTo handed taken reacted s
-      → RanTo handed (taken ++ take (room_of s) piece) reacted (takes piece s)
+      → RanTo handed (taken ++ take (room_of s) piece) reacted (with_piece piece s)
   ran-taken handed taken reacted s piece good r = record {
     more = r.more;
     made_is = r.made_is;
@@ -216,17 +216,17 @@ module _ (Octets : Type 0) (number : ℕ) (first : Session) where
     -- octets come in
     takes-own : (hub : Hub) (piece : List ℕ) → (Octets → AreOctets piece) → Runs handed taken reacted hub → Runs handed (taken ++ take (taken_by hub number piece) piece) reacted (take_octets hub number piece)
     takes-own hub piece good r = record {
-      each = λ s there. by s (session_of hub number) refl (sym (found-in number (takes piece) hub.sessions) ∙ there);
+      each = λ s there. by s (session_of hub number) refl (sym (found-in number (with_piece piece) hub.sessions) ∙ there);
       fresh = λ low. (
-        found-in number (takes piece) hub.sessions ∙ ap (option_map (takes piece)) (r.fresh low).0,
+        found-in number (with_piece piece) hub.sessions ∙ ap (option_map (with_piece piece)) (r.fresh low).0,
         subst (λ t. Ran handed t reacted [] [] []) (sym (append-nil taken) ∙ ap (λ (o : Option Session). taken ++ take (room_for piece o) piece) (sym (r.fresh low).0)) (r.fresh low).1,
       );
     }
       where
-        by : (s : Session) (o : Option Session) → session_of hub number ≡ o → option_map (takes piece) o ≡ Some s → RanTo handed (taken ++ take (taken_by hub number piece) piece) reacted s
+        by : (s : Session) (o : Option Session) → session_of hub number ≡ o → option_map (with_piece piece) o ≡ Some s → RanTo handed (taken ++ take (taken_by hub number piece) piece) reacted s
         by s None there is = absurd cc
         by s (Some t) there is =
-            let same : takes piece t ≡ s = cc in
+            let same : with_piece piece t ≡ s = cc in
             let size : take (taken_by hub number piece) piece ≡ take (room_of t) piece = ap (λ (o : Option Session). take (room_for piece o) piece) there ∙ take-fewer (room_of t) piece in
             subst (λ os. RanTo handed (taken ++ os) reacted s) (sym size) (subst (RanTo handed (taken ++ take (room_of t) piece) reacted) same (ran-taken handed taken reacted t piece good (r.each t there)))
 
@@ -292,7 +292,7 @@ module _ (Octets : Type 0) (number : ℕ) (first : Session) where
   runs-takes handed taken reacted hub other piece good r = by (number == other) refl
     where
       by : (b : Bool) → (number == other) ≡ b → Runs (handed ++ []) (taken ++ cond b (take (taken_by hub other piece) piece) []) (reacted ++ []) (take_octets hub other piece)
-      by false apart = still handed taken reacted (take_octets hub other piece) (other-changed handed taken reacted hub other (takes piece) apart r)
+      by false apart = still handed taken reacted (take_octets hub other piece) (other-changed handed taken reacted hub other (with_piece piece) apart r)
       by true is =
           subst (λ h. Runs h (taken ++ take (taken_by hub other piece) piece) (reacted ++ []) (take_octets hub other piece)) (sym (append-nil handed))
           (subst (λ m. Runs handed (taken ++ take (taken_by hub other piece) piece) m (take_octets hub other piece)) (sym (append-nil reacted))
@@ -391,12 +391,12 @@ give_reacts hub number room session message there is = by_state session.standing
       first ∙ ap (λ m. Some (m, rest)) same,
       ap (give_as hub number room) there
           ∙ ap (λ (os : List ℕ). output_as hub number room session (is_empty os)) silent
-          ∙ ap (λ (s : Standing). by_standing s number room session hub) live
+          ∙ ap (λ (s : SessionStatus). by_standing s number room session hub) live
           ∙ ap (works_as hub number room) first
           ∙ ap (λ m. after_reaction number room (reacted m number (in_session number (without_first rest) hub))) same,
     )
 
-    by_state : (s : Standing) → session.standing ≡ s → (os : List ℕ) → session.output ≡ os → (o : Option (List ℕ × List ℕ)) → first_message session.input ≡ o
+    by_state : (s : SessionStatus) → session.standing ≡ s → (os : List ℕ) → session.output ≡ os → (o : Option (List ℕ × List ℕ)) → first_message session.input ≡ o
         → cond (is_live s && is_empty os) (heads o) [] ≡ message ∷ [] → ReactsTo hub number room session message
     by_state Live live [] silent (Some (m, rest)) first e = found-so live silent m rest first (same m e)
       where

@@ -19,10 +19,10 @@ use Rattle.dsosession.specs.declared.session.EndReason.{EndReason}
 use Rattle.dsosession.specs.declared.session.EndReason.TheVariants as ends
 use Rattle.dsosession.specs.declared.session.Reaction.{Reaction}
 use Rattle.dsosession.specs.declared.session.Reaction.TheVariants.{Answer, Grant, Abort, Subscribe, Unsubscribe, Reconfirm, Update, NotImplemented}
-use Rattle.pushsession.specs.Sessions.{is_open, asked_to_stop, ended_with, due, ended_where, timed, says, answers, says_stop}
+use Rattle.pushsession.specs.Sessions.{is_open, asked_to_stop, ended_with, due, ended_where, timed, with_frame, answers, says_stop}
 use Rattle.pushsession.specs.Subscribing.{Verdict, says_notices, subscribed, says_first_answer, first_answer_size, decided, answered}
 use Rattle.pushsession.specs.Reactions.{restarted_by, reacts_itself, by_itself}
-use Rattle.pushsession.specs.declared.standing.Standing.TheVariants.{AskedToStop}
+use Rattle.pushsession.specs.declared.session_status.SessionStatus.TheVariants.{AskedToStop}
 use Rattle.pushserver.specs.PlainHubs.{Hub, Session, Made, Queue, frame_of, plain_keeps}
 use Rattle.pushserver.specs.Hubs.{newest, now, keeps_now, tells_now, update}
 use Rattle.pushserver.specs.Giving.{has_home}
@@ -51,8 +51,8 @@ said-then a b c first second = record {
 -- ---- messages
 
 module _ (point t : ℕ) where
-  said-says : (keepalive : Bool) (message : List ℕ) (queue : Queue) (session : Session) → Said session (says (plain_keeps point) keepalive t message queue session)
-  said-says keepalive message queue session = record {
+  said-with_frame : (keepalive : Bool) (message : List ℕ) (queue : Queue) (session : Session) → Said session (with_frame (plain_keeps point) keepalive t message queue session)
+  said-with_frame keepalive message queue session = record {
     more = (record { message = message; note = record { queue = queue; newest = point }; subscribed = session.subscriptions }) ∷ [];
     made = refl;
     output = ap (λ os. session.output ++ os) (sym (append-nil (frame message)));
@@ -61,13 +61,13 @@ module _ (point t : ℕ) where
 
   said-notices : (notices : List Notice) (session : Session) → Said session (says_notices (plain_keeps point) t notices session)
   said-notices [] session = said-none session session refl refl refl
-  said-notices (n ∷ ns) session = said-says false (push_message (n ∷ ns)) session.queue session
+  said-notices (n ∷ ns) session = said-with_frame false (push_message (n ∷ ns)) session.queue session
 
   said-first : (answer : List ℕ) (notices : List Notice) (before : Queue) (session : Session) → Said session (says_first_answer (plain_keeps point) t answer notices before session)
-  said-first answer [] before session = said-says false answer session.queue session
+  said-first answer [] before session = said-with_frame false answer session.queue session
   said-first answer (n ∷ ns) before session =
-      let said = says (plain_keeps point) false t answer before session in
-      said-then session said (answers (plain_keeps point) false t (push_message (n ∷ ns)) said) (said-says false answer before session) (said-says false (push_message (n ∷ ns)) said.queue said)
+      let said = with_frame (plain_keeps point) false t answer before session in
+      said-then session said (answers (plain_keeps point) false t (push_message (n ∷ ns)) said) (said-with_frame false answer before session) (said-with_frame false (push_message (n ∷ ns)) said.queue said)
 
 -- ---- the steps of a session
 
@@ -75,15 +75,15 @@ said-ended : (hub : Hub) (reason : EndReason) (session : Session) → Said sessi
 said-ended hub reason session = said-none session (ended_with (keeps_now hub) reason session) refl refl refl
 
 said-by_itself : (hub : Hub) (reaction : Reaction) (message : List ℕ) (session : Session) → Said session (by_itself (keeps_now hub) reaction hub.timers (now hub) message session)
-said-by_itself hub (Answer rcode) message session = said-says (newest hub) (now hub) false (answer_to (id_of message) rcode) session.queue session
+said-by_itself hub (Answer rcode) message session = said-with_frame (newest hub) (now hub) false (answer_to (id_of message) rcode) session.queue session
 said-by_itself hub Grant message session =
-    let said = says (keeps_now hub) true (now hub) (grant_to (id_of message) hub.timers.inactivity hub.timers.keepalive) session.queue session in
+    let said = with_frame (keeps_now hub) true (now hub) (grant_to (id_of message) hub.timers.inactivity hub.timers.keepalive) session.queue session in
     said-then session said (by_itself (keeps_now hub) Grant hub.timers (now hub) message session)
-    (said-says (newest hub) (now hub) true (grant_to (id_of message) hub.timers.inactivity hub.timers.keepalive) session.queue session)
+    (said-with_frame (newest hub) (now hub) true (grant_to (id_of message) hub.timers.inactivity hub.timers.keepalive) session.queue session)
     (said-none said (by_itself (keeps_now hub) Grant hub.timers (now hub) message session) refl refl refl)
 said-by_itself hub (Abort reason) message session = said-ended hub reason session
 said-by_itself hub Unsubscribe message session = said-none session (by_itself (keeps_now hub) Unsubscribe hub.timers (now hub) message session) refl refl refl
-said-by_itself hub NotImplemented message session = said-says (newest hub) (now hub) false (not_implemented message) session.queue session
+said-by_itself hub NotImplemented message session = said-with_frame (newest hub) (now hub) false (not_implemented message) session.queue session
 said-by_itself hub Subscribe message session = said-none session session refl refl refl
 said-by_itself hub Reconfirm message session = said-none session session refl refl refl
 said-by_itself hub Update message session = said-none session session refl refl refl
@@ -103,7 +103,7 @@ said-answered hub id question session =
     (λ q read new_id new_question. accepting q)
   where
     refusing : (rcode : ℕ) → Said session (answers (keeps_now hub) false (now hub) (refusal_to id rcode) session)
-    refusing rcode = said-says (newest hub) (now hub) false (refusal_to id rcode) session.queue session
+    refusing rcode = said-with_frame (newest hub) (now hub) false (refusal_to id rcode) session.queue session
 
     notices : Question → List Notice
     notices q = (tells_now hub).first_notices q session.subscriptions session.queue
@@ -120,7 +120,7 @@ pub said-step : (hub : Hub) {f : Session → Session} (step : Step AnyMessage hu
 said-step hub (restarts message) out session = said-none session (restarted_by message (now hub) session) refl refl refl
 said-step hub (reacts message) out session = said-itself hub message session
 said-step hub (answers_subscribe message any) out session = said-answered hub (id_of message) (question_of (primary_data message)) session
-said-step hub (answers_update before message) out session = said-says (newest hub) (now hub) false (answer_to_update (id_of message) (update before message).0) session.queue session
+said-step hub (answers_update before message) out session = said-with_frame (newest hub) (now hub) false (answer_to_update (id_of message) (update before message).0) session.queue session
 said-step hub packs_names out session =
     let pack = (tells_now hub).packed session.subscriptions session.queue in
     let left : Session = record session { queue = pack.1 } in
@@ -132,7 +132,7 @@ said-step hub (comes_to_stop rcode delay) out session = by session.established
 
     by : (b : Bool) → Said session (cond b (says_stop (keeps_now hub) rcode delay (now hub) session) (ended_with (keeps_now hub) ends.Stopped session))
     by true =
-        said-then session said (says_stop (keeps_now hub) rcode delay (now hub) session) (said-says (newest hub) (now hub) false (stop_message rcode delay) session.queue session)
+        said-then session said (says_stop (keeps_now hub) rcode delay (now hub) session) (said-with_frame (newest hub) (now hub) false (stop_message rcode delay) session.queue session)
         (said-none said (says_stop (keeps_now hub) rcode delay (now hub) session) refl refl refl)
     by false = said-ended hub ends.Stopped session
 said-step hub (ends_with reason) out session = said-ended hub reason session

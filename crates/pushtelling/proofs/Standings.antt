@@ -16,8 +16,8 @@ use Rattle.dsotlv.specs.declared.message.Notice.{Notice}
 use Rattle.pushsession.specs.Reactions.{reacts_itself, by_itself}
 use Rattle.pushsession.specs.Sessions.{ended_with, due, ended_where, timed, says_stop}
 use Rattle.pushsession.specs.Subscribing.{Verdict, says_notices, subscribed, says_first_answer, first_answer_size, decided, answered}
-use Rattle.pushsession.specs.declared.standing.Standing.{Standing}
-use Rattle.pushsession.specs.declared.standing.Standing.TheVariants.{Stopped, Ended}
+use Rattle.pushsession.specs.declared.session_status.SessionStatus.{SessionStatus}
+use Rattle.pushsession.specs.declared.session_status.SessionStatus.TheVariants.{Stopped, Ended}
 use Rattle.pushserver.specs.Giving.{has_home}
 use Rattle.pushserver.specs.Hubs.{now, keeps_now, tells_now}
 use Rattle.pushserver.specs.PlainHubs.{Hub, Session, Queue, plain_keeps}
@@ -28,10 +28,10 @@ use Rattle.rrset.specs.Header.{id_of}
 use Rattle.rrset.specs.Rcodes.{noerror}
 use Rattle.rrset.specs.declared.record.Question.{Question}
 
-abbrev pub Has : (Standing → Type 0) → Session → Type 0
+abbrev pub Has : (SessionStatus → Type 0) → Session → Type 0
 Has Q session = Q session.standing
 
-module _ (Q : Standing → Type 0) (ended : (reason : EndReason) → Q (Ended reason)) (waits : (since : ℕ) → Q (Stopped since)) where
+module _ (Q : SessionStatus → Type 0) (ended : (reason : EndReason) → Q (Ended reason)) (waits : (since : ℕ) → Q (Stopped since)) where
   has-notices : (point t : ℕ) (notices : List Notice) (session : Session) → Has Q session → Has Q (says_notices (plain_keeps point) t notices session)
   has-notices point t [] session h = h
   has-notices point t (n ∷ ns) session h = h

@@ -27,7 +27,7 @@ use Rattle.history.specs.declared.entry.Entry.{Entry}
 use Rattle.pushsession.specs.Sessions.{answers, due, ended_with, ended_where, says_stop, timed}
 use Rattle.pushsession.specs.Subscribing.{Verdict, decided, answered}
 use Rattle.pushsession.specs.Reactions.{reacts_itself, by_itself}
-use Rattle.pushsession.specs.declared.standing.Standing.TheVariants.{Stopped, Ended}
+use Rattle.pushsession.specs.declared.session_status.SessionStatus.TheVariants.{Stopped, Ended}
 use Rattle.pushserver.specs.PlainHubs.{Hub, Session, Subscription, subscription_for, plain_keeps}
 use Rattle.pushserver.specs.Hubs.{now, keeps_now, tells_now, update}
 use Rattle.pushserver.specs.Giving.{has_home}
@@ -43,8 +43,8 @@ use Rattle.pushserver.proofs.told_rows.HubTells.{StatesTell}
 use Rattle.pushtelling.proofs.Tells.{Tells, IsQuiet, tells-says_quiet, tells-fewer, tells-cleared}
 use Rattle.pushtelling.proofs.Quiet.{quiet-formerr, quiet-dsotypeni, quiet-refusal_formerr, quiet-refusal_refused, quiet-refusal_notauth, quiet-grant, quiet-stop, quiet-update, quiet-not_implemented}
 use Rattle.pushtelling.proofs.Leading.{first_is_read}
-use Rattle.pushtelling.proofs.Accepting.{tells-accepts}
-use Rattle.pushtelling.proofs.Pushing.{tells-packs}
+use Rattle.pushtelling.proofs.Accepting.{tells-with_accepted}
+use Rattle.pushtelling.proofs.Pushing.{tells-with_next_push}
 use Rattle.pushtelling.proofs.Codes.{codes_are_small}
 
 -- ---- which answers a reaction gives
@@ -159,7 +159,7 @@ module _ (hub : Hub) where
         (tells-answers false (refusal_to id notauth) (quiet-refusal_notauth id) session t)
         (tells-answers false (refusal_to id refused) (quiet-refusal_refused id) session t)
         (λ reason. tells-cleared hub.start hub.history session 0 (Ended reason) t)
-        (λ q read new_id new_question. tells-accepts hub session id q states (two_below message 0 octets)
+        (λ q read new_id new_question. tells-with_accepted hub session id q states (two_below message 0 octets)
         (sym (some-find (λ (s : Subscription). s.id == id) session.subscriptions) ∙ new_id)
         (any_found (λ (s : Subscription). same_question s.question q) session.subscriptions (unfound (subscription_for session.subscriptions q) new_question))
         t (λ n ns e. first_is_read hub session q states t.most.points (named q read) n ns e))
@@ -184,7 +184,7 @@ module _ (hub : Hub) where
     tells-step (answers_update before message) session t =
         let code = (update before message).0 in
         tells-answers false (answer_to_update (id_of message) code) (quiet-update (id_of message) code (codes_are_small before message)) session t
-    tells-step packs_names session t = tells-packs hub session states t
+    tells-step packs_names session t = tells-with_next_push hub session states t
     tells-step (comes_to_stop rcode delay) session t = by session.established
       where
         by : (b : Bool) → TellsNow (cond b (says_stop (keeps_now hub) rcode delay (now hub) session) (ended_with (keeps_now hub) ends.Stopped session))

@@ -17,7 +17,7 @@ use Rattle.dsotlv.specs.Messages.{frame}
 use Rattle.dsotlv.specs.declared.message.Notice.{Notice}
 use Rattle.history.specs.States.{State, records_at}
 use Rattle.history.specs.declared.entry.Entry.{Entry}
-use Rattle.pushsession.specs.declared.standing.Standing.{Standing}
+use Rattle.pushsession.specs.declared.session_status.SessionStatus.{SessionStatus}
 use Rattle.rrset.proofs.Distinct.{distinct_filter}
 use Rattle.rrset.proofs.Places.{all_filter}
 use Rattle.pushsession.specs.Sessions.{noted, new_session, cleared, answers}
@@ -111,11 +111,11 @@ abbrev pub made_now : State → List Entry → Session → List ℕ → Made
 made_now start history session message = record { message = message; note = note_of (length history) session; subscribed = session.subscriptions }
 
 -- A message that leads each subscription to what is noted now, after all but that.
-pub tells-says : (start : State) (history : List Entry) (session : Session) (keepalive : Bool) (t : ℕ) (message : List ℕ) → Almost start history session → AreOctets session.input
+pub tells-with_frame : (start : State) (history : List Entry) (session : Session) (keepalive : Bool) (t : ℕ) (message : List ℕ) → Almost start history session → AreOctets session.input
     → AllByRecursion (λ s. s.filled ≤ written session + length (frame message)) session.subscriptions
     → AllByRecursion (LeadsTo start history (session.made ++ made_now start history session message ∷ []) (note_of (length history) session)) session.subscriptions
     → Tells start history (answers (plain_keeps (length history)) keepalive t message session)
-tells-says start history session keepalive t message h octets filled leads =
+tells-with_frame start history session keepalive t message h octets filled leads =
     let new = made_now start history session message in
     let made = session.made ++ new ∷ [] in
     let now = note_of (length history) session in
@@ -145,7 +145,7 @@ IsQuiet message = (notices_in message ≡ []) × ((id : ℕ) → bytes_eq messag
 pub tells-says_quiet : (start : State) (history : List Entry) (session : Session) (keepalive : Bool) (t : ℕ) (message : List ℕ) → IsQuiet message → Tells start history session
     → Tells start history (answers (plain_keeps (length history)) keepalive t message session)
 tells-says_quiet start history session keepalive t message quiet h =
-    tells-says start history session keepalive t message h.most h.octets
+    tells-with_frame start history session keepalive t message h.most h.octets
     (all-weaken (λ (s : Subscription). s.filled ≤ written session) (λ (s : Subscription). s.filled ≤ written session + length (frame message)) (λ s low. omega (arith, low)) session.subscriptions h.whole)
     (all-weaken (LeadsTo start history session.made (note_of (length history) session))
     (LeadsTo start history (session.made ++ made_now start history session message ∷ []) (note_of (length history) session))
@@ -191,7 +191,7 @@ unfolding IsDistinct
 none_asked = record { ids = tt; id_sizes = tt; questions = tt }
 
 -- all of the subscriptions and of the queue go
-pub tells-cleared : (start : State) (history : List Entry) (session : Session) (point : ℕ) (standing : Standing) → Tells start history session
+pub tells-cleared : (start : State) (history : List Entry) (session : Session) (point : ℕ) (standing : SessionStatus) → Tells start history session
     → Tells start history (cleared (plain_keeps point) standing session)
 unfolding IsDistinct
 tells-cleared start history session point standing h = record {

@@ -12,8 +12,8 @@ use Rattle.dnsname.specs.Names.{Labels}
 use Rattle.dsotlv.specs.Laws.{AreOctets}
 use Rattle.dsotlv.specs.Messages.{first_message, frame}
 use Rattle.pushsession.specs.Sessions.{is_open, without_first}
-use Rattle.pushsession.specs.declared.standing.Standing.{Standing}
-use Rattle.pushsession.specs.declared.standing.Standing.TheVariants.{Live}
+use Rattle.pushsession.specs.declared.session_status.SessionStatus.{SessionStatus}
+use Rattle.pushsession.specs.declared.session_status.SessionStatus.TheVariants.{Live}
 use Rattle.pushserver.specs.PlainHubs.{Hub, Session, Made, Note, told, note_of, frame_of}
 use Rattle.pushserver.specs.Hubs.{newest, session_of, in_session, taken_by}
 use Rattle.pushserver.specs.Giving.{give, reacted, after_reaction}
@@ -32,7 +32,7 @@ abbrev pub takes_in : ℕ → Hub → HubCall → List ℕ
 takes_in number hub (takes other piece) = if number == other then take (taken_by hub other piece) piece else []
 takes_in number hub _ = []
 
-abbrev pub is_live : Standing → Bool
+abbrev pub is_live : SessionStatus → Bool
 is_live Live = true
 is_live _ = false
 

@@ -11,11 +11,7 @@ use std::test::Fail;
 use subscr::{MAX_QUESTIONS, Subscriptions};
 
 /// Adds a question where it and its ID are new and there is room, and says whether it did.
-pub(crate) fn add_new(
-    asked: &mut Subscriptions,
-    id: u16,
-    question: Question,
-) -> Result<bool, NoMemory> {
+fn add_new(asked: &mut Subscriptions, id: u16, question: Question) -> Result<bool, NoMemory> {
     if asked.len() >= MAX_QUESTIONS {
         return Ok(false);
     }

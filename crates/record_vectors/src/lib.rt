@@ -1,5 +1,5 @@
-//! What the public calls over records give, as tests of them: tables and their changes, what is asked and what is held of
-//! it, the nets of names, and the queue.
+//! What the public calls over records give, as tests of them: tables and their changes, and what is asked and what is held
+//! of it.
 #![tactic(auto)]
 
 #[cfg(test)]
@@ -8,11 +8,5 @@ mod asked;
 mod made;
 #[cfg(test)]
 mod name_tables;
-#[cfg(test)]
-mod nets;
-#[cfg(test)]
-mod queues;
-#[cfg(test)]
-mod sides;
 #[cfg(test)]
 mod tables;

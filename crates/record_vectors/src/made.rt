@@ -51,11 +51,3 @@ pub(crate) fn holds(shows: &str, test: bool) -> Result<(), Fail> {
     }
     Err(Fail::new(format_args!("{shows}: not so")))
 }
-
-/// Fails where a text isn't the one that is wanted.
-pub(crate) fn is_text(shows: &str, text: &str, wanted: &str) -> Result<(), Fail> {
-    if text == wanted {
-        return Ok(());
-    }
-    Err(Fail::new(format_args!("{shows}: {text}")))
-}

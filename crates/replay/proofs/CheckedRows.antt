@@ -1,8 +1,8 @@
 -- Worked scripts that are only read, by computation.
 use Rattle.std.proofs.Common.{◌≡◌, ℕ, List, [], ◌∷◌, ◌++◌, codes, refl}
 use Rattle.std.specs.Fmt.{digits}
-use Rattle.replay.specs.Reply.{Reply, line}
-use Rattle.replay.specs.Text.{ended_lines}
+use Rattle.scripts.specs.Reply.{Reply}
+use Rattle.scripts.specs.Words.{line, ended_lines}
 use Rattle.replay.specs.Checks.{checked}
 
 -- the octets are a script: this is written, with status 0

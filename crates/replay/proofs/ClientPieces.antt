@@ -14,7 +14,7 @@ use Rattle.pushclient.specs.declared.client.Step.TheVariants as steps
 use Rattle.pushclient.specs.Clients as clients
 use Rattle.pushclient.specs.Clients.{Client, Connection, Wish, open_connection, room_of, output_of, give_octets}
 use Rattle.pushclient.specs.Steps.{step}
-use Rattle.pushclient.specs.Pieces.{OnOctets, leaves, followed_by, steps_over, takes, on_pieces, says_to}
+use Rattle.pushclient.specs.Pieces.{OnOctets, leaves, followed_by, steps_over, on_octets, on_pieces, says_to}
 use Rattle.pushclient.proofs.EveryCut.{is-at}
 use Rattle.pushclient.proofs.MessageSteps.{bare, is-closed, over, Ran, ran-steps, step-closed}
 use Rattle.pushclient.proofs.PieceSteps.{all-taken, offered, takes-open, takes-closed, room-while-waiting, pieces-closed, ran-takes}
@@ -90,14 +90,14 @@ delivers-closed (suc times) octets ws now c reason count closed =
 
 abbrev DeliversFor : ℕ → ℕ → Type 0
 DeliversFor now times = (octets : List ℕ) (ws : List Wish) (c : Connection) (count : ℕ) (left : List ℕ) → c.closed ≡ None → first_message c.input ≡ None → AreOctets (c.input ++ octets) → length octets < times → length (c.input ++ octets) ≤ enough
-    → IsDelivered (takes enough times octets (at ws now c)) (delivered times octets (begins (at ws now c) count left))
+    → IsDelivered (on_octets enough times octets (at ws now c)) (delivered times octets (begins (at ws now c) count left))
 
 -- octets that are offered again
 module _ (now times : ℕ) (again : DeliversFor now times) (start : Client) (stream : List ℕ) (first : OnOctets) (a : Ran now start stream first) (octets : List ℕ) (below : AreOctets (stream ++ octets))
     (few : length octets < times) (short : length (stream ++ octets) ≤ enough) (count : ℕ) where
-  go_on : (closed : Option CloseReason) → a.later.closed ≡ closed → IsDelivered (takes enough times octets first.client) (delivered times octets (begins first.client count octets))
+  go_on : (closed : Option CloseReason) → a.later.closed ≡ closed → IsDelivered (on_octets enough times octets first.client) (delivered times octets (begins first.client count octets))
   go_on (Some reason) closed =
-      let last : takes enough times octets first.client ≡ leaves octets first.client =
+      let last : on_octets enough times octets first.client ≡ leaves octets first.client =
       takes-closed enough times octets first.client (ap open_connection a.client ∙ is-closed a.wishes now (with_octets a.input a.later) reason closed) in
       let done = delivers-closed times octets a.wishes now (with_octets a.input a.later) reason count closed in
       subst (λ (s : OnOctets). IsDelivered s (delivered times octets (begins first.client count octets))) (sym last)
@@ -108,7 +108,7 @@ module _ (now times : ℕ) (again : DeliversFor now times) (start : Client) (str
       let size : length (a.input ++ octets) ≤ enough =
       omega (arith, short, length-append stream octets, length-append a.input octets, ap (λ (l : List ℕ). length l) all.input, length-rest stream (octets-front stream octets below)) in
       let later = again octets a.wishes (with_octets a.input a.later) count octets unclosed all.waits (octets-both a.input octets input-below (octets-behind stream octets below)) few size in
-      subst (λ (client : Client). IsDelivered (takes enough times octets client) (delivered times octets (begins client count octets))) (sym a.client) later
+      subst (λ (client : Client). IsDelivered (on_octets enough times octets client) (delivered times octets (begins client count octets))) (sym a.client) later
 
 module _ (now times : ℕ) (again : DeliversFor now times) (octets : List ℕ) (ws : List Wish) (c : Connection) (count : ℕ) (left : List ℕ) (unclosed : c.closed ≡ None) (none : first_message c.input ≡ None)
     (below : AreOctets (c.input ++ octets)) (few : length octets < suc times) (short : length (c.input ++ octets) ≤ enough) where
@@ -131,13 +131,13 @@ module _ (now times : ℕ) (again : DeliversFor now times) (octets : List ℕ) (
   goes_in : (k : ℕ) → take room (take k octets) ≡ take room octets → (later_of octets so_far k).client ≡ first.client
   goes_in k same = ap (λ (l : List ℕ). stepped enough (at ws now (with_octets (c.input ++ l) c))) same ∙ (steps-end enough (at ws now (with_octets front c))).0
 
-  all_in : length octets ≤ room → IsDelivered (takes enough (suc times) octets here) (delivered (suc times) octets so_far)
+  all_in : length octets ≤ room → IsDelivered (on_octets enough (suc times) octets here) (delivered (suc times) octets so_far)
   all_in fits =
       let k : min (length octets) room ≡ length octets = omega (arith, fits) in
       let test : stops_at octets (length octets) ≡ true = grind (arith, nat_tests) in
       let one = one-delivered times octets so_far (length octets) true k test in
       let gone : drop room octets ≡ [] = drop_all room octets fits in
-      let taken : takes enough (suc times) octets here ≡ first = takes-open enough times octets ws now c unclosed ∙ ap (offered enough times octets here) gone in (
+      let taken : on_octets enough (suc times) octets here ≡ first = takes-open enough times octets ws now c unclosed ∙ ap (offered enough times octets here) gone in (
         ap (λ (d : Delivered). d.client) one ∙ goes_in (length octets) (ap (take room) (take_all (length octets) octets (omega arith))) ∙ ap (λ (s : OnOctets). s.client) (sym taken),
         ap (λ (d : Delivered). d.left) one ∙ drop_all (length octets) octets (omega arith) ∙ sym (steps-end enough (at ws now (with_octets front c))).1 ∙ ap (λ (s : OnOctets). s.left) (sym taken),
       )
@@ -151,7 +151,7 @@ module _ (now times : ℕ) (again : DeliversFor now times) (octets : List ℕ) (
       ran-steps now enough ws c front unclosed octets-there
       (omega (arith, few-messages front octets-there, ap (λ (l : List ℕ). length l) whole, length-append front (drop room octets), short))
 
-  part_in : room < length octets → (rest : List ℕ) → drop room octets ≡ rest → IsDelivered (takes enough (suc times) octets here) (delivered (suc times) octets so_far)
+  part_in : room < length octets → (rest : List ℕ) → drop room octets ≡ rest → IsDelivered (on_octets enough (suc times) octets here) (delivered (suc times) octets so_far)
   part_in more [] e = absurd (omega (arith, more, ap (λ (l : List ℕ). length l) e, length-drop room octets))
   part_in more (o ∷ os) e =
       let rest : List ℕ = o ∷ os in
@@ -166,12 +166,12 @@ module _ (now times : ℕ) (again : DeliversFor now times) (octets : List ℕ) (
       front-ran.later.closed (refl {a = front-ran.later.closed}) in
       let same : delivered (suc times) octets so_far ≡ delivered times rest (begins first.client (count + room) rest) =
       one ∙ λ i. delivered times (e i) (begins (client i) (count + room) (e i)) in
-      let taken : takes enough (suc times) octets here ≡ followed_by first (takes enough times rest first.client) = takes-open enough times octets ws now c unclosed ∙ ap (offered enough times octets here) e in (
+      let taken : on_octets enough (suc times) octets here ≡ followed_by first (on_octets enough times rest first.client) = takes-open enough times octets ws now c unclosed ∙ ap (offered enough times octets here) e in (
         ap (λ (d : Delivered). d.client) same ∙ next.0 ∙ ap (λ (s : OnOctets). s.client) (sym taken),
-        ap (λ (d : Delivered). d.left) same ∙ next.1 ∙ ap (λ (l : List ℕ). l ++ (takes enough times rest first.client).left) (sym (steps-end enough (at ws now (with_octets front c))).1) ∙ ap (λ (s : OnOctets). s.left) (sym taken),
+        ap (λ (d : Delivered). d.left) same ∙ next.1 ∙ ap (λ (l : List ℕ). l ++ (on_octets enough times rest first.client).left) (sym (steps-end enough (at ws now (with_octets front c))).1) ∙ ap (λ (s : OnOctets). s.left) (sym taken),
       )
 
-  delivers-one : IsDelivered (takes enough (suc times) octets here) (delivered (suc times) octets so_far)
+  delivers-one : IsDelivered (on_octets enough (suc times) octets here) (delivered (suc times) octets so_far)
   delivers-one = elim (cases_lt room (length octets)) [
     | inl more ↦ part_in more (drop room octets) refl
     | inr fits ↦ all_in fits
@@ -223,7 +223,7 @@ delivers-all now (p ∷ ps) ws c unclosed none below short =
     let below-first : AreOctets (c.input ++ p) = octets-front (c.input ++ p) (concat ps) all in
     let short-first : length p < enough = omega (arith, few, length-append c.input p) in
     let most : length (c.input ++ p) ≤ enough = omega (arith, few) in
-    let first = takes enough enough p (at ws now c) in
+    let first = on_octets enough enough p (at ws now c) in
     let one = delivers now enough p ws c 0 p unclosed none below-first short-first most in
     let ran = ran-takes now enough enough p ws c unclosed none below-first short-first most in
     let rest = all-behind now ps (delivers-all now ps) (at ws now (bare c)) (c.input ++ p) first ran all size ran.later.closed (refl {a = ran.later.closed}) in
@@ -259,7 +259,7 @@ feeds-closed : (pieces : List (List ℕ)) (ws : List Wish) (now : ℕ) (c : Conn
 feeds-closed [] ws now c reason closed = refl
 feeds-closed (p ∷ ps) ws now c reason closed =
     let one = delivers-closed enough p ws now c reason 0 closed in
-    let first : takes enough enough p (at ws now c) ≡ leaves p (at ws now c) = takes-closed enough enough p (at ws now c) (is-closed ws now c reason closed) in
+    let first : on_octets enough enough p (at ws now c) ≡ leaves p (at ws now c) = takes-closed enough enough p (at ws now c) (is-closed ws now c reason closed) in
     (λ i. fed_behind ps (one.0 i) (one.1 i))
     ∙ ap (λ (later : Told). (c.output ++ later.0, later.1, p ++ later.2)) (feeds-closed ps ws now (given (length c.output) c) reason closed)
     ∙ sym (ap (λ (s : OnOctets). told (said_behind ps s)) first)
@@ -292,7 +292,7 @@ feeds-all now (p ∷ ps) ws c unclosed none below short =
     let below-first : AreOctets (c.input ++ p) = octets-front (c.input ++ p) (concat ps) all in
     let short-first : length p < enough = omega (arith, few, length-append c.input p) in
     let most : length (c.input ++ p) ≤ enough = omega (arith, few) in
-    let first = takes enough enough p (at ws now c) in
+    let first = on_octets enough enough p (at ws now c) in
     let said = output_of first.client in
     let one = delivers now enough p ws c 0 p unclosed none below-first short-first most in
     let ran = ran-takes now enough enough p ws c unclosed none below-first short-first most in

@@ -14,8 +14,8 @@ use Rattle.dsosession.specs.declared.session.EndReason.TheVariants.{Gone}
 use Rattle.history.specs.States.{records_at}
 use Rattle.history.specs.Worked.{start, added_address}
 use Rattle.history.specs.declared.entry.Entry.TheVariants.{Moment}
-use Rattle.pushsession.specs.declared.standing.Standing.{Standing}
-use Rattle.pushsession.specs.declared.standing.Standing.TheVariants.{Live, Stopped, Ended}
+use Rattle.pushsession.specs.declared.session_status.SessionStatus.{SessionStatus}
+use Rattle.pushsession.specs.declared.session_status.SessionStatus.TheVariants.{Live, Stopped, Ended}
 use Rattle.pushsession.specs.Sessions.{new_session}
 use Rattle.pushserver.specs.PlainHubs.{Session, plain_keeps, Made, Subscription, Queue, frame_of, size_of_made, Hub, new_hub}
 use Rattle.pushclient.specs.Clients.{Wish, not_asked, unanswered, refused, answered, new_client, new_connection}
@@ -28,7 +28,7 @@ use Rattle.pushclient.specs.ServerMessages.{accepts, refuses, grants, tells, del
 -- a client and its session: what each knows, and the messages that were taken, that come down, and that go up
 pub record Scene : Type 0 where
   pub hub : Hub
-  pub standing : Standing
+  pub standing : SessionStatus
   pub established : Bool
   pub subscriptions : List Subscription
   pub queue : Queue

@@ -1,3 +1,2 @@
 -- What a script is answered, and what is written of it.
-pub mod Written
 pub mod ScriptReplies

@@ -2,6 +2,8 @@
 pub mod OneWorld
 pub mod Happening
 pub mod FedSeats
+pub mod SeatLines
+pub mod LinesDoing
 pub mod Keeping
 pub mod PassedWorlds
 pub mod KeptByLines
@@ -15,7 +17,6 @@ pub mod BetweenLines
 pub mod Seats
 pub mod SeatsFound
 pub mod TimedSeats
-pub mod SeatLines
 pub mod SeatWords
 pub mod Doing
 pub mod HearDoing

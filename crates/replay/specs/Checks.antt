@@ -1,9 +1,10 @@
 -- What is told of a script that is read and not run.
 --     checked octets      the status and the text for the octets that were read
 use Rattle.std.specs.Prelude.{ℕ, List, ◌++◌, length, Ok, Err, codes, decimal}
-use Rattle.replay.specs.declared.outcome.Outcome.TheVariants as outcomes
-use Rattle.replay.specs.Outcomes.{status_of}
-use Rattle.replay.specs.Reply.{Reply, line}
+use Rattle.scripts.specs.declared.outcome.Outcome.TheVariants as outcomes
+use Rattle.scripts.specs.Outcomes.{status_of}
+use Rattle.scripts.specs.Reply.{Reply}
+use Rattle.scripts.specs.Words.{line}
 use Rattle.scripts.specs.Scripts.{lines_in, script_of}
 use Rattle.replay.specs.Text.{outside_text}
 

@@ -7,7 +7,8 @@ use Rattle.std.specs.List.{concat}
 use Rattle.dsotlv.specs.Laws.{AreOctets}
 use Rattle.pushclient.specs.Clients.{Client, Connection, output_of}
 use Rattle.pushclient.specs.Pieces.{on_pieces, says_to, WaitsForOctets}
-use Rattle.replay.specs.PassedOctets.{to_client, without_output, enough}
+use Rattle.replay.specs.PassedOctets.{to_client, enough}
+use Rattle.pushclient.specs.HandedOut.{without_output}
 
 abbrev pub delivered_all : List (List ℕ) → Client → Client × List ℕ
 delivered_all [] client = (client, [])

@@ -9,7 +9,10 @@ use Rattle.rrset.specs.Records.{same_question}
 use Rattle.rrset.specs.declared.record.Question.{Question}
 use Rattle.pushserver.specs.PlainHubs.{Note, told}
 use Rattle.pushclient.specs.Clients.{Held, set_held, held, is_connected}
-use Rattle.scripts.specs.Lines.{Word, ScriptLine, silent, settle, point, show}
+use Rattle.scripts.specs.Lines.{Word, ScriptLine, silent, hub_event, client_passing, client_event, settle}
+use Rattle.scripts.specs.declared.line.HubEvent.TheVariants as hub_events
+use Rattle.scripts.specs.declared.line.Way.TheVariants as ways
+use Rattle.scripts.specs.declared.line.ClientEvent.TheVariants as client_events
 use Rattle.replay.specs.World.{Seat, World, seat_of, start_world}
 use Rattle.replay.specs.TextWords.{by_history, note_in, is_filling}
 use Rattle.replay.specs.Text.{line_does}
@@ -26,7 +29,7 @@ abbrev pub point_at : World → Word → Question → Option ℕ
 point_at world w question = elim (seat_of world w) [ None ↦ None | Some seat ↦ point_of_held (held seat.client question) world seat question ]
 
 abbrev pub is_show_of : Word → Question → ScriptLine → Bool
-is_show_of w question (show v q written) = bytes_eq w v && same_question question q
+is_show_of w question (client_event v (client_events.Show q written)) = bytes_eq w v && same_question question q
 is_show_of w question _ = false
 
 abbrev pub held_points_from : Word → Question → List ScriptLine → World → List ℕ
@@ -43,13 +46,13 @@ NeverEarlier script w question = IsNonDecreasing (held_points script w question)
 
 -- a settle of the connected client that printed its line alone
 abbrev pub settles_alone : Word → ScriptLine → World → Bool
-settles_alone w (settle v) world = bytes_eq w v && length (line_does by_history (settle v) world).1 == 1 && (elim (seat_of world v) [ None ↦ false | Some seat ↦ not seat.is_lone && is_connected seat.client ])
+settles_alone w (client_passing v ways.Settle) world = bytes_eq w v && length (line_does by_history (settle v) world).1 == 1 && (elim (seat_of world v) [ None ↦ false | Some seat ↦ not seat.is_lone && is_connected seat.client ])
 settles_alone w _ world = false
 
 abbrev pub leaves_settled : ScriptLine → Bool
 leaves_settled silent = true
-leaves_settled point = true
-leaves_settled (show v q written) = true
+leaves_settled (hub_event hub_events.Point) = true
+leaves_settled (client_event v (client_events.Show question written)) = true
 leaves_settled _ = false
 
 abbrev pub settled_from : Word → Bool → List ScriptLine → World → Bool

@@ -8,8 +8,8 @@ use Rattle.replay.specs.World.{start_world}
 use Rattle.replay.specs.TextWords.{by_notices}
 use Rattle.replay.specs.Text.{world_after}
 use Rattle.replay.specs.Promises.{EndsStandFor}
-use Rattle.replay.specs.declared.outcome.Outcome.{Outcome}
-use Rattle.replay.specs.declared.outcome.Outcome.TheVariants.{Done}
+use Rattle.scripts.specs.declared.outcome.Outcome.{Outcome}
+use Rattle.scripts.specs.declared.outcome.Outcome.TheVariants.{Done}
 use Rattle.replay.specs.declared.ends.Ends.{Ends}
 
 -- they stand for those of the world behind the script's last line

@@ -11,7 +11,8 @@ use Rattle.scripts.specs.Lines.{Word}
 use Rattle.replay.specs.World.{Seat, with_client, is_over, cut_if, hub_cut_if}
 use Rattle.replay.specs.PassedOctets.{reached_by, fed_client}
 use Rattle.replay.specs.TextWords.{bytes_line}
-use Rattle.replay.specs.Text.{close_lines, ended_lines}
+use Rattle.replay.specs.Text.{close_lines}
+use Rattle.scripts.specs.Words.{ended_lines}
 
 -- where the client has closed, its connection is cut
 abbrev pub fed_seat : List ℕ → Option CloseReason → Seat → Seat

@@ -1,21 +1,19 @@
 -- Octets between a client and its session in the hub, as they are kept.
 --     HasPassed, Passes passing      what one passing did, in every world that is stood for
 --     Turns number      one round
---     passing_of way, passes_way way      the passing of a way, with a session and without
---     way_words way w count, way_text way w count, way_does way w      its line, and what that does
+--     way_text way w count      the line of a way
 --     HasMoved, Moves passing      how many octets passed, how it ended, and the hub behind it
 --     HasEnded, EndsSo, EndsAt      a passing and what follows its end, of a client and of the one at a place
-use Rattle.std.specs.Prelude.{◌≡◌, ◌++◌, ◌∷◌, [], List, not, ℕ, Bool, Option, None, codes, decimal}
+use Rattle.std.specs.Prelude.{◌≡◌, ◌++◌, ◌∷◌, [], List, not, ℕ, Bool, Option, codes, decimal}
 use Rattle.dsosession.specs.declared.session.EndReason.{EndReason}
 use Rattle.dsosession.specs.declared.session.CloseReason.{CloseReason}
 use Rattle.pushserver.specs.KeptHubs.{KeptHub, StandsFor}
 use Rattle.pushclient.specs.Clients.{closed_as}
 use Rattle.scripts.specs.Lines.{Word}
 use Rattle.replay.specs.World.{World, Seat, is_over, cut_if, hub_cut_if}
-use Rattle.replay.specs.PassedOctets.{Passed, say, up, emit, down, is_still, round, settled, enough, by_session}
-use Rattle.replay.specs.Text.{Printed, by_seat, finished}
-use Rattle.replay.specs.declared.settling.Way.{Way}
-use Rattle.replay.specs.declared.settling.Way.TheVariants as ways
+use Rattle.replay.specs.PassedOctets.{Passed, is_still, round}
+use Rattle.scripts.specs.declared.line.Way.{Way}
+use Rattle.scripts.specs.declared.line.Way.TheVariants as ways
 use Rattle.replay.specs.KeptWorlds.{KeptSeat, Seated, StandsForSeat}
 use Rattle.replay.specs.KeptSeats.{Makes, Calls}
 
@@ -46,26 +44,6 @@ Turns number hub before moves over hub_later after = (after.word ≡ before.word
 
 -- ---- ways
 
--- the passing of a way, by the number of the session
-abbrev pub passing_of : Way → ℕ → World → Seat → Passed
-passing_of (ways.Say n) = λ number. say n
-passing_of (ways.Up n) = λ number. up number n
-passing_of (ways.Emit n) = λ number. emit number n
-passing_of (ways.Down n) = λ number. down n
-passing_of ways.Settle = λ number world seat. settled enough number world seat None
-
--- without a session nothing passes
-abbrev pub passes_way : Way → World → Seat → Passed
-passes_way way world seat = by_session (passing_of way) world seat
-
--- the words of its line, where so many octets passed
-abbrev pub way_words : Way → Word → ℕ → List (List ℕ)
-way_words (ways.Say n) w count = codes "say" ∷ w ∷ decimal count ∷ []
-way_words (ways.Up n) w count = codes "up" ∷ w ∷ decimal count ∷ []
-way_words (ways.Emit n) w count = codes "emit" ∷ w ∷ decimal count ∷ []
-way_words (ways.Down n) w count = codes "down" ∷ w ∷ decimal count ∷ []
-way_words ways.Settle w count = codes "settle" ∷ w ∷ []
-
 -- the line itself
 abbrev pub way_text : Way → Word → ℕ → List ℕ
 way_text (ways.Say n) w count = codes "say " ++ (w ++ 32 ∷ (decimal count ++ 10 ∷ []))
@@ -73,10 +51,6 @@ way_text (ways.Up n) w count = codes "up " ++ (w ++ 32 ∷ (decimal count ++ 10 
 way_text (ways.Emit n) w count = codes "emit " ++ (w ++ 32 ∷ (decimal count ++ 10 ∷ []))
 way_text (ways.Down n) w count = codes "down " ++ (w ++ 32 ∷ (decimal count ++ 10 ∷ []))
 way_text ways.Settle w count = codes "settle " ++ (w ++ 10 ∷ [])
-
--- what the line of a way does and prints
-abbrev pub way_does : Way → Word → World → Printed
-way_does way w world = by_seat (λ seat there. (let p = passes_way way there seat in finished (way_words way w p.count) p)) w world
 
 -- a passing moved so many octets and ended so, and what is kept behind it stands for the hub and the seat
 pub record HasMoved (p : Passed) (hub : KeptHub) (after : KeptSeat) (count : ℕ) (over : Option EndReason) : Type 0 where

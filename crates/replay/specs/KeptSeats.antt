@@ -17,7 +17,8 @@ use Rattle.pushclient.specs.Clients.{Client, closed_as, is_connected}
 use Rattle.pushclient.specs.Steps.{moment}
 use Rattle.scripts.specs.Lines.{Word}
 use Rattle.replay.specs.World.{World, Seat, with_client, is_over, cut_if, hub_without, hub_cut_if}
-use Rattle.replay.specs.Text.{close_lines, ended_lines, timed}
+use Rattle.replay.specs.Text.{close_lines, timed}
+use Rattle.scripts.specs.Words.{ended_lines}
 use Rattle.replay.specs.KeptWorlds.{KeptSeat, Seated, Parties, StandsForSeat, StandForSeats, words_in}
 use Rattle.scripts.specs.Scripts.{AreDistinct}
 

@@ -1,14 +1,13 @@
--- Octets into a client, and out of it.
+-- Octets into a client, and its steps.
 --     ends_steps step      whether no step follows: the client waits, or has closed
 --     Steps kept later      steps until the client waits or has closed
 --     IsDelivered d later went_in, Delivers kept octets later went_in      octets went into a client
---     IsHandedOut plain octets later, HandsOut kept octets later      all that a client has to send was handed out
 use Rattle.std.specs.Prelude.{◌≡◌, ℕ, Bool, true, false, List}
 use Rattle.pushclient.specs.declared.client.Step.{Step}
 use Rattle.pushclient.specs.declared.client.Step.TheVariants.{Waiting, Closed}
-use Rattle.pushclient.specs.Clients.{Client, output_of}
+use Rattle.pushclient.specs.Clients.{Client}
 use Rattle.pushclient.specs.Rule.{KeptClient, StandsFor}
-use Rattle.replay.specs.PassedOctets.{Delivered, to_client, without_output, stepped, enough}
+use Rattle.replay.specs.PassedOctets.{Delivered, to_client, stepped, enough}
 
 -- whether no step follows one: the client waits, or has closed
 abbrev pub ends_steps : Step → Bool
@@ -27,11 +26,3 @@ pub record IsDelivered (d : Delivered) (later : KeptClient) (went_in : ℕ) : Ty
 
 unfoldable pub Delivers : KeptClient → List ℕ → KeptClient → ℕ → Type 0
 Delivers kept octets later went_in = (plain : Client) → StandsFor kept plain → IsDelivered (to_client octets plain) later went_in
-
--- these octets are all that the client had to send
-pub record IsHandedOut (plain : Client) (octets : List ℕ) (later : KeptClient) : Type 0 where
-  pub all : octets ≡ output_of plain
-  pub stands : StandsFor later (without_output plain)
-
-unfoldable pub HandsOut : KeptClient → List ℕ → KeptClient → Type 0
-HandsOut kept octets later = (plain : Client) → StandsFor kept plain → IsHandedOut plain octets later

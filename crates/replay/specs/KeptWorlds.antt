@@ -17,7 +17,8 @@ use Rattle.scripts.specs.Lines.{Word}
 use Rattle.scripts.specs.KeptLines.{words_of}
 use Rattle.scripts.specs.Scripts.{AreDistinct}
 use Rattle.replay.specs.World.{Seat, World}
-use Rattle.replay.specs.Text.{Printed, ended_lines}
+use Rattle.replay.specs.Text.{Printed}
+use Rattle.scripts.specs.Words.{ended_lines}
 use Rattle.replay.specs.declared.world.Peer.{Peer}
 use Rattle.replay.specs.declared.seats.Seat as program_seats
 use Rattle.replay.specs.declared.world.World as program

@@ -1,7 +1,7 @@
 -- What the lines do to a world: octets pass, both ends react.
 --     emitted, delivered, settled, exchanged      give until a count; octets to a client; both ends until nothing moves; octets to a peer's session and back
---     reached_by octets client, without_output client, fed_client octets client      the client behind octets, without what it had to send, and behind both
---     by_session passing world seat, settling world seat      a passing where the seat has a session, and rounds until one moves nothing
+--     reached_by octets client, fed_client octets client      the client behind octets, and then without what it had to send
+--     by_session passing world seat      a passing where the seat has a session
 use Rattle.std.specs.Prelude.{ℕ, zero, suc, ◌+◌, ◌-◌, ◌^◌, Bool, true, false, not, ◌&&◌, ◌||◌, List, [], ◌++◌, length, take, drop, min, Option, Some, None, is_some, nat_lt, ◌==◌, if◌then◌else◌}
 use Rattle.dsosession.specs.declared.session.EndReason.{EndReason}
 use Rattle.pushserver.specs.declared.given.Given.TheVariants.{Bytes, Worked, Nothing, Ending, End}
@@ -12,6 +12,7 @@ use Rattle.pushclient.specs.declared.client.Step.TheVariants.{Waiting, Closed}
 use Rattle.pushclient.specs.Clients as clients
 use Rattle.pushclient.specs.Clients.{Client, output_of, give_octets, room_of}
 use Rattle.pushclient.specs.Steps.{step}
+use Rattle.pushclient.specs.HandedOut.{without_output}
 use Rattle.scripts.specs.Lines.{max_octets_passed}
 use Rattle.replay.specs.World.{Seat, World}
 use Rattle.inflight.specs.Ends.{remembers}
@@ -114,10 +115,6 @@ to_client octets client = delivered enough octets (record { client = client; cou
 abbrev pub reached_by : List ℕ → Client → Client
 reached_by octets client = (to_client octets client).client
 
--- one that has handed out all that it had to send
-abbrev pub without_output : Client → Client
-without_output client = give_octets (length (output_of client)) client
-
 -- one behind octets that has then handed out all
 abbrev pub fed_client : List ℕ → Client → Client
 fed_client octets client = without_output (reached_by octets client)
@@ -150,9 +147,6 @@ settled (suc turns) number world seat over =
 -- without a session nothing passes
 abbrev pub by_session : (ℕ → World → Seat → Passed) → World → Seat → Passed
 by_session passing world seat = elim seat.session as (λ _. Passed) [ None ↦ passed world seat 0 | Some number ↦ passing number world seat ]
-
-abbrev pub settling : World → Seat → Passed
-settling world seat = by_session (λ number there client. settled enough number there client None) world seat
 
 -- all octets that have room go in, and give is called until it answers Nothing, Ending or End; again, until none is left or none was taken
 pub record Exchanged : Type 0 where

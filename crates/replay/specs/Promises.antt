@@ -19,8 +19,8 @@ use Rattle.dsosession.specs.declared.session.EndReason.{EndReason}
 use Rattle.dsosession.specs.declared.session.EndReason.TheVariants as ends
 use Rattle.dsosession.specs.declared.session.CloseReason.{CloseReason}
 use Rattle.dsosession.specs.declared.session.CloseReason.TheVariants as closes
-use Rattle.pushsession.specs.declared.standing.Standing.{Standing}
-use Rattle.pushsession.specs.declared.standing.Standing.TheVariants.{Ended}
+use Rattle.pushsession.specs.declared.session_status.SessionStatus.{SessionStatus}
+use Rattle.pushsession.specs.declared.session_status.SessionStatus.TheVariants.{Ended}
 use Rattle.pushsession.specs.Sessions.{is_open}
 use Rattle.pushserver.specs.PlainHubs.{Session, Made, size_of_made, Hub, told, note_of, sent}
 use Rattle.pushserver.specs.Hubs.{newest, state_now, records_now, session_of}
@@ -97,7 +97,7 @@ is_end_by_itself (ends.Behind point) = true
 is_end_by_itself _ = false
 
 -- if it has ended, then for such a reason
-abbrev pub EndedByItself : Standing → Type 0
+abbrev pub EndedByItself : SessionStatus → Type 0
 EndedByItself (Ended reason) = IsTrue (is_end_by_itself reason)
 EndedByItself _ = Unit {0}
 

@@ -1,5 +1,6 @@
 -- What a script tells of the pieces in which a peer sends its octets, as long as no entry is made.
 --     SentInPieces      a peer's word, the pieces that it sends in lines with those of others between them, its session, and the lines before and behind
+--     sent_between sent      these lines between the others
 --     SendsPieces script sent      these are the lines of the script, no entry is made, and the session goes on, or ends with the last piece
 --     TellsInTurn sent told      what is told of each piece answers the messages that it completes
 --     pieces_reply records sent told      the status and the text, where this is told
@@ -10,26 +11,23 @@ use Rattle.std.specs.List.{concat, list_all, AllByRecursion}
 use Rattle.std.specs.Str.{bytes_eq}
 use Rattle.dsosession.specs.declared.session.EndReason.{EndReason}
 use Rattle.dsotlv.specs.Messages.{messages_in}
-use Rattle.pushsession.specs.declared.standing.Standing.{Standing}
-use Rattle.pushsession.specs.declared.standing.Standing.TheVariants.{Live, Ended}
+use Rattle.pushsession.specs.declared.session_status.SessionStatus.{SessionStatus}
+use Rattle.pushsession.specs.declared.session_status.SessionStatus.TheVariants.{Live, Ended}
 use Rattle.pushsession.specs.Sessions.{without_first}
 use Rattle.pushserver.specs.PlainHubs.{Session, Hub}
 use Rattle.pushserver.specs.Hubs.{session_of}
-use Rattle.scripts.specs.Lines.{Word, ScriptLine, cut, send, stop}
+use Rattle.scripts.specs.Lines.{Word, ScriptLine, session_event, send}
 use Rattle.scripts.specs.Scripts.{script_of}
-use Rattle.replay.specs.World.{World, start_world, session_number}
+use Rattle.replay.specs.World.{World, session_number}
 use Rattle.replay.specs.TextWords.{bytes_line, HeldRecords, by_history}
-use Rattle.replay.specs.Text.{end_lines, ended_lines, placed, line_does, printed_by, world_after}
+use Rattle.replay.specs.Text.{end_lines, placed, line_does, printed_by, world_after}
 use Rattle.replay.specs.SessionPieces.{IsAtRest, ArePassable, answers_to, standing_of}
-use Rattle.replay.specs.declared.outcome.Outcome.TheVariants as outcomes
-use Rattle.replay.specs.Outcomes.{status_of}
-use Rattle.replay.specs.Reply.{Reply}
+use Rattle.scripts.specs.Reply.{Reply}
+use Rattle.replay.specs.Between.{Between, lines_of, world_then, world_behind, reply_between}
 
 -- whether a line neither sends a peer's octets, nor stops its session, nor cuts its connection
 abbrev pub is_of_others : Word → ScriptLine → Bool
-is_of_others w (send v octets) = not (bytes_eq v w)
-is_of_others w (stop v rcode delay) = not (bytes_eq v w)
-is_of_others w (cut v) = not (bytes_eq v w)
+is_of_others w (session_event v event) = not (bytes_eq v w)
 is_of_others w _ = true
 
 -- a piece, and the lines of others behind it
@@ -55,18 +53,9 @@ pieces_of sent = map (λ t. t.0) sent.turns
 abbrev pub lines_sent : SentInPieces → List ScriptLine
 lines_sent sent = flat_map (λ t. send sent.word t.0 ∷ t.1) sent.turns
 
-abbrev pub lines_of : SentInPieces → List ScriptLine
-lines_of sent = sent.before ++ (lines_sent sent ++ sent.behind)
-
--- the world before the peer's lines, and the one behind them
-abbrev pub world_start : SentInPieces → World
-world_start sent = start_world (lines_of sent)
-
-abbrev pub world_then : SentInPieces → World
-world_then sent = world_after sent.before (world_start sent)
-
-abbrev pub world_behind : SentInPieces → World
-world_behind sent = world_after (lines_sent sent) (world_then sent)
+-- these lines, between the others
+abbrev pub sent_between : SentInPieces → Between
+sent_between sent = record { before = sent.before; lines = lines_sent sent; behind = sent.behind }
 
 -- what the session answers to the whole messages in its input and the first pieces, and the hub after them
 abbrev pub answered_to_first : ℕ → SentInPieces → List ℕ × Hub
@@ -81,19 +70,19 @@ abbrev pub answered_to_all : SentInPieces → List ℕ × Hub
 answered_to_all sent = answers_to sent.number (messages_sent sent).0 sent.world.hub
 
 -- a session that goes on, and one that has ended
-abbrev pub standing_with : Option EndReason → Standing
+abbrev pub standing_with : Option EndReason → SessionStatus
 standing_with None = Live
 standing_with (Some reason) = Ended reason
 
 -- The peer's session is at rest; the lines between are of others; no entry is made until the last of them is done; and behind the
 -- whole messages in its input and all pieces the session goes on, or has ended so, and not before the last piece.
 pub record SendsPieces (script : List ℕ) (sent : SentInPieces) : Type 0 where
-  pub read : script_of script ≡ Ok (lines_of sent)
-  pub place : placed sent.word (world_then sent) ≡ Some (sent.number, sent.world)
+  pub read : script_of script ≡ Ok (lines_of (sent_between sent))
+  pub place : placed sent.word (world_then (sent_between sent)) ≡ Some (sent.number, sent.world)
   pub rest : IsAtRest sent.world.hub sent.number sent.session
   pub passable : ArePassable (concat (pieces_of sent))
   pub others : AllByRecursion (λ t. list_all (is_of_others sent.word) t.1 ≡ true) sent.turns
-  pub no_entry : (world_behind sent).hub.history ≡ sent.world.hub.history
+  pub no_entry : (world_behind (sent_between sent)).hub.history ≡ sent.world.hub.history
   pub over : standing_of (answered_to_all sent).1 sent.number ≡ Some (standing_with sent.over)
   pub not_before : IsSome sent.over → standing_of (answered_to_first (length sent.turns - 1) sent).1 sent.number ≡ Some Live
 
@@ -115,20 +104,15 @@ printed_turns records w over (turn ∷ turns) (octets ∷ told) world =
     let later = (line_does by_history (send w turn.0) world).0 in
     bytes_line w octets ∷ (end_lines w (end_behind turns over) ++ (printed_by records turn.1 later ++ printed_turns records w over turns told (world_after turn.1 later)))
 
--- those lines alone stand between what the lines before print and what those behind do
 abbrev pub pieces_reply : HeldRecords → SentInPieces → List (List ℕ) → Reply
-pieces_reply records sent told = record {
-  status = status_of outcomes.Done;
-  text = ended_lines (printed_by records sent.before (world_start sent))
-      ++ (ended_lines (printed_turns records sent.word sent.over sent.turns told (world_then sent)) ++ ended_lines (printed_by records sent.behind (world_behind sent)));
-}
+pieces_reply records sent told = reply_between records (sent_between sent) (printed_turns records sent.word sent.over sent.turns told (world_then (sent_between sent)))
 
 -- Behind its lines the peer has the session that has answered all messages, with the octets behind them in its input; or, where that
 -- has ended, it has none, and the session is gone.
 abbrev pub LeavesPeer : SentInPieces → Option EndReason → Type 0
-LeavesPeer sent None = (session_number (world_behind sent) sent.word ≡ Some sent.number)
-    × (session_of (world_behind sent).hub sent.number ≡ option_map (without_first (messages_sent sent).1) (session_of (answered_to_all sent).1 sent.number))
-LeavesPeer sent (Some reason) = (session_number (world_behind sent) sent.word ≡ None) × (session_of (world_behind sent).hub sent.number ≡ None)
+LeavesPeer sent None = (session_number (world_behind (sent_between sent)) sent.word ≡ Some sent.number)
+    × (session_of (world_behind (sent_between sent)).hub sent.number ≡ option_map (without_first (messages_sent sent).1) (session_of (answered_to_all sent).1 sent.number))
+LeavesPeer sent (Some reason) = (session_number (world_behind (sent_between sent)) sent.word ≡ None) × (session_of (world_behind (sent_between sent)).hub sent.number ≡ None)
 
 abbrev pub PiecesLeavePeers : Type 0
 PiecesLeavePeers = (script : List ℕ) (sent : SentInPieces) → SendsPieces script sent → 1 ≤ length sent.turns → LeavesPeer sent sent.over
@@ -147,7 +131,7 @@ pub record SendTheSame (first second : SentInPieces) : Type 0 where
 pub record TellTheSame (first second : SentInPieces) (told others : List (List ℕ)) : Type 0 where
   pub octets : concat told ≡ concat others
   pub over : first.over ≡ second.over
-  pub session : session_of (world_behind first).hub first.number ≡ session_of (world_behind second).hub second.number
+  pub session : session_of (world_behind (sent_between first)).hub first.number ≡ session_of (world_behind (sent_between second)).hub second.number
 
 abbrev pub OneTextForEveryCut : Type 0
 OneTextForEveryCut = (script other : List ℕ) (first second : SentInPieces) (told others : List (List ℕ)) → SendsPieces script first → SendsPieces other second → SendTheSame first second

@@ -7,8 +7,8 @@
 use Rattle.std.specs.Prelude.{◌≡◌, ℕ, ◌<◌, ◌≤◌, List, [], ◌∷◌, ◌++◌, length, All, Option, Some, None, option_map, Ok}
 use Rattle.std.specs.List.{concat}
 use Rattle.dsotlv.specs.Messages.{first_message, messages_in}
-use Rattle.pushsession.specs.declared.standing.Standing.{Standing}
-use Rattle.pushsession.specs.declared.standing.Standing.TheVariants.{Live}
+use Rattle.pushsession.specs.declared.session_status.SessionStatus.{SessionStatus}
+use Rattle.pushsession.specs.declared.session_status.SessionStatus.TheVariants.{Live}
 use Rattle.pushserver.specs.declared.given.Given.TheVariants.{End}
 use Rattle.pushserver.specs.PlainHubs.{Session, Hub}
 use Rattle.pushserver.specs.Hubs.{session_of, connect}
@@ -48,7 +48,7 @@ pub record IsAtRest (hub : Hub) (number : ℕ) (session : Session) : Type 0 wher
 abbrev pub ArePassable : List ℕ → Type 0
 ArePassable octets = All (λ o. o < 256) octets × (length octets ≤ enough)
 
-abbrev pub standing_of : Hub → ℕ → Option Standing
+abbrev pub standing_of : Hub → ℕ → Option SessionStatus
 standing_of hub number = option_map (λ s. s.standing) (session_of hub number)
 
 -- The octets given are those answered, and the session is left alike: it lives, or has ended for the same reason; and where it lives, the octets behind the last whole message wait in its input.

@@ -1,9 +1,12 @@
 -- The text of a script.
 --     by_seat act w world      what is done and printed of the client of a word
---     line_does line world      the world after a line, and the lines that it prints
+--     passing_of way, passes_way way      the passing of a way, with a session and without
+--     link_call event w, link_words event w      the call of the hub that an event on a link is, and what is printed of it
+--     hub_does event, link_does event w, client_does records event w, session_does event w      what happens at the hub, on a link, to a client and to a session
+--     line_does records line world      the world after a line, and the lines that it prints
 --     text_by records script      the text of a script
 --     text_with records text, text_of text      what is written for the octets of a script
-use Rattle.std.specs.Prelude.{ℕ, Bool, true, false, cond, List, [], ◌∷◌, ◌++◌, flat_map, fold, position, Option, Some, None, Ok, Err, option_map, codes, decimal, unwrap_or, if◌then◌else◌}
+use Rattle.std.specs.Prelude.{ℕ, Bool, cond, List, [], ◌∷◌, ◌++◌, fold, position, Option, Some, None, Ok, Err, option_map, codes, decimal, unwrap_or, if◌then◌else◌}
 use Rattle.std.specs.Str.{bytes_eq}
 use Rattle.rrset.specs.declared.record.Question.{Question}
 use Rattle.rrset.specs.declared.record.Rr.{Rr}
@@ -13,20 +16,33 @@ use Rattle.pushserver.specs.declared.given.Heard.{Heard}
 use Rattle.pushserver.specs.declared.given.Heard.TheVariants.{Entered, Ignored}
 use Rattle.pushserver.specs.Hubs as hubs
 use Rattle.pushserver.specs.Hubs.{newest, now, connect}
+use Rattle.pushserver.specs.Calls as hub_calls
+use Rattle.pushserver.specs.Calls.{HubCall}
 use Rattle.pushclient.specs.declared.client.Asked.{Asked}
 use Rattle.pushclient.specs.declared.client.Asked.TheVariants as asked
 use Rattle.pushclient.specs.Clients as clients
 use Rattle.pushclient.specs.Clients.{Client, is_connected, output_of, closed_as, connected}
 use Rattle.pushclient.specs.Steps as steps
-use Rattle.scripts.specs.Lines.{Word, ScriptLine, client, lone, at_moment, update, hear, ask, drop_question, reconfirm, open_connection, cut, say, up, emit, down, settle, send, feed, stop, point, show}
-use Rattle.replay.specs.declared.outcome.Outcome.TheVariants as outcomes
-use Rattle.replay.specs.Outcomes.{status_of}
-use Rattle.replay.specs.Reply.{line}
+use Rattle.scripts.specs.Lines.{Word, ScriptLine, joining, hub_event, link_event, client_call, client_passing, client_event, session_event}
+use Rattle.scripts.specs.declared.line.HubEvent.{HubEvent}
+use Rattle.scripts.specs.declared.line.HubEvent.TheVariants as hub_events
+use Rattle.scripts.specs.declared.line.LinkEvent.{LinkEvent}
+use Rattle.scripts.specs.declared.line.LinkEvent.TheVariants as link_events
+use Rattle.scripts.specs.declared.line.Call.{Call}
+use Rattle.scripts.specs.declared.line.Call.TheVariants as calls
+use Rattle.scripts.specs.declared.line.Way.{Way}
+use Rattle.scripts.specs.declared.line.Way.TheVariants as ways
+use Rattle.scripts.specs.declared.line.ClientEvent.{ClientEvent}
+use Rattle.scripts.specs.declared.line.ClientEvent.TheVariants as client_events
+use Rattle.scripts.specs.declared.line.SessionEvent.{SessionEvent}
+use Rattle.scripts.specs.declared.line.SessionEvent.TheVariants as session_events
+use Rattle.scripts.specs.declared.outcome.Outcome.TheVariants as outcomes
+use Rattle.scripts.specs.Outcomes.{status_of}
+use Rattle.scripts.specs.Words.{line, spaced, ended_lines}
 use Rattle.scripts.specs.Scripts.{script_of}
 use Rattle.replay.specs.World.{Seat, World, new_seat, start_world, seat_of, with_seat, session_number, with_client, joined, stopped_hub, cut_connection, cut_peer, is_over, world_cut_if}
 use Rattle.replay.specs.PassedOctets as running
-use Rattle.replay.specs.PassedOctets.{Passed, passed, by_session, settling, enough, exchanged, reached_by, fed_client}
-use Rattle.scripts.specs.Words.{spaced}
+use Rattle.replay.specs.PassedOctets.{Passed, passed, by_session, enough, exchanged, settled, reached_by, fed_client}
 use Rattle.replay.specs.TextWords.{why_words, bytes_words, bytes_line, open_words, noseat_words, end_line, closed_line, shown_lines, HeldRecords, by_history, by_notices, show_at}
 
 -- a world, and the lines that were printed on the way to it
@@ -64,21 +80,40 @@ finished words p =
     let closing = closed_as p.seat.client in
     (world_cut_if (is_over p.over closing) p.seat (with_seat p.seat p.world), spaced words ∷ (end_lines p.seat.word p.over ++ close_lines p.seat.word closing))
 
--- on a client that isn't connected, and on a lone one, nothing passes
-abbrev pub passes : List ℕ → Word → (ℕ → World → Seat → Passed) → World → Printed
-passes verb w passing world = by_seat (λ seat there. (let p = by_session passing there seat in finished (verb ∷ w ∷ decimal p.count ∷ []) p)) w world
+-- the passing of a way, by the number of the session
+abbrev pub passing_of : Way → ℕ → World → Seat → Passed
+passing_of (ways.Say n) = λ number. running.say n
+passing_of (ways.Up n) = λ number. running.up number n
+passing_of (ways.Emit n) = λ number. running.emit number n
+passing_of (ways.Down n) = λ number. running.down n
+passing_of ways.Settle = λ number world seat. settled enough number world seat None
 
-abbrev pub settles : Word → World → Printed
-settles w world = by_seat (λ seat there. finished (codes "settle" ∷ w ∷ []) (settling there seat)) w world
+-- on a client that isn't connected, and on a lone one, nothing passes
+abbrev pub passes_way : Way → World → Seat → Passed
+passes_way way world seat = by_session (passing_of way) world seat
+
+-- the words of its line, where so many octets passed
+abbrev pub way_words : Way → Word → ℕ → List (List ℕ)
+way_words (ways.Say n) w count = codes "say" ∷ w ∷ decimal count ∷ []
+way_words (ways.Up n) w count = codes "up" ∷ w ∷ decimal count ∷ []
+way_words (ways.Emit n) w count = codes "emit" ∷ w ∷ decimal count ∷ []
+way_words (ways.Down n) w count = codes "down" ∷ w ∷ decimal count ∷ []
+way_words ways.Settle w count = codes "settle" ∷ w ∷ []
+
+-- octets of a client pass
+abbrev pub passes : Way → Word → World → Printed
+passes way w world = by_seat (λ seat there. (let p = passes_way way there seat in finished (way_words way w p.count) p)) w world
 
 abbrev pub asked_words : Asked → List ℕ
 asked_words asked.New = codes "new"
 asked_words asked.Already = codes "already"
 asked_words asked.Many = codes "many"
 
--- a call of the client that answers a word
-abbrev pub asks : List ℕ → Word → (Client → List ℕ × Client) → World → Printed
-asks verb w call world = by_seat (λ seat there. printing (verb ∷ w ∷ (call seat.client).0 ∷ []) (with_seat (with_client (λ c. (call c).1) seat) there)) w world
+-- the word of a client's call, and what the client answers to it
+abbrev pub call_word : Call → List ℕ
+call_word (calls.Ask question) = codes "asked"
+call_word (calls.Drop question) = codes "dropped"
+call_word (calls.Reconfirm rr) = codes "reconfirm"
 
 abbrev pub subscribing : Question → Client → List ℕ × Client
 subscribing question c = (let r = clients.subscribe c question in (asked_words r.0, r.1))
@@ -89,13 +124,30 @@ unsubscribing question c = (let r = clients.unsubscribe c question in (yes_or_no
 abbrev pub reconfirming : Rr → Client → List ℕ × Client
 reconfirming rr c = (let r = clients.reconfirm c rr in (yes_or_no r.0, r.1))
 
+abbrev pub called : Call → Client → List ℕ × Client
+called (calls.Ask question) c = subscribing question c
+called (calls.Drop question) c = unsubscribing question c
+called (calls.Reconfirm rr) c = reconfirming rr c
+
+-- a call of the client, which answers a word
+abbrev pub asks : Call → Word → World → Printed
+asks call w world = by_seat (λ seat there. printing (call_word call ∷ w ∷ (called call seat.client).0 ∷ []) (with_seat (with_client (λ c. (called call c).1) seat) there)) w world
+
 abbrev pub heard_words : Option Heard → List ℕ
 heard_words None = codes "full"
 heard_words (Some Entered) = codes "heard"
 heard_words (Some (Ignored why)) = spaced (codes "ignored" ∷ why_words why ∷ [])
 
-abbrev pub hears : Word → List ℕ → World → Printed
-hears w datagram world = (let r = hubs.hear world.hub (number_or_zero (position (bytes_eq w) world.links)) datagram in printing (heard_words r.0 ∷ []) (record world { hub = r.1 }))
+-- the number of a link, by its word
+abbrev pub link_number : Word → World → ℕ
+link_number w world = number_or_zero (position (bytes_eq w) world.links)
+
+-- the call of the hub that an event on a link is, and what is printed of it
+abbrev pub link_call : LinkEvent → Word → World → HubCall
+link_call (link_events.Hear datagram) w world = hub_calls.hears (link_number w world) datagram
+
+abbrev pub link_words : LinkEvent → Word → World → List (List ℕ)
+link_words (link_events.Hear datagram) w world = heard_words (hubs.hear world.hub (link_number w world) datagram).0 ∷ []
 
 abbrev pub updates : List ℕ → World → Printed
 updates message world = (let r = hubs.update world.hub message in printing (codes "update" ∷ decimal r.0 ∷ []) (record world { hub = r.1 }))
@@ -171,28 +223,40 @@ shows records w question written world = by_seat (λ seat there. (there, shown_l
 abbrev pub seated : Word → Bool → World → Printed
 seated w is_lone world = quietly (record world { seats = world.seats ++ new_seat w is_lone ∷ [] })
 
+-- what happens at the hub
+abbrev pub hub_does : HubEvent → World → Printed
+hub_does (hub_events.At t) world = moments t world
+hub_does (hub_events.Update message) world = updates message world
+hub_does hub_events.Point world = printing (codes "point" ∷ decimal (newest world.hub) ∷ decimal (now world.hub) ∷ []) world
+
+-- on a link
+abbrev pub link_does : LinkEvent → Word → World → Printed
+link_does event w world = printing (link_words event w world) (record world { hub = hub_calls.called (link_call event w world) world.hub })
+
+abbrev pub hears : Word → List ℕ → World → Printed
+hears w datagram world = link_does (link_events.Hear datagram) w world
+
+-- to a client
+abbrev pub client_does : HeldRecords → ClientEvent → Word → World → Printed
+client_does records client_events.Open w world = opens w world
+client_does records (client_events.Feed octets) w world = feeds w octets world
+client_does records (client_events.Show question written) w world = shows records w question written world
+
+-- to the session of a peer, or of a client
+abbrev pub session_does : SessionEvent → Word → World → Printed
+session_does (session_events.Send octets) w world = sends w octets world
+session_does (session_events.Stop rcode delay) w world = stops w rcode delay world
+session_does session_events.Cut w world = cuts w world
+
 -- what each line does and prints
 abbrev pub line_does : HeldRecords → ScriptLine → World → Printed
-line_does records (client w) world = seated w false world
-line_does records (lone w) world = seated w true world
-line_does records (at_moment t) world = moments t world
-line_does records (update message) world = updates message world
-line_does records (hear w datagram) world = hears w datagram world
-line_does records (ask w question) world = asks (codes "asked") w (subscribing question) world
-line_does records (drop_question w question) world = asks (codes "dropped") w (unsubscribing question) world
-line_does records (reconfirm w rr) world = asks (codes "reconfirm") w (reconfirming rr) world
-line_does records (open_connection w) world = opens w world
-line_does records (cut w) world = cuts w world
-line_does records (say w n) world = passes (codes "say") w (λ number. running.say n) world
-line_does records (up w n) world = passes (codes "up") w (λ number. running.up number n) world
-line_does records (emit w n) world = passes (codes "emit") w (λ number. running.emit number n) world
-line_does records (down w n) world = passes (codes "down") w (λ number. running.down n) world
-line_does records (settle w) world = settles w world
-line_does records (send w octets) world = sends w octets world
-line_does records (feed w octets) world = feeds w octets world
-line_does records (stop w rcode delay) world = stops w rcode delay world
-line_does records point world = printing (codes "point" ∷ decimal (newest world.hub) ∷ decimal (now world.hub) ∷ []) world
-line_does records (show w question written) world = shows records w question written world
+line_does records (joining w is_lone) world = seated w is_lone world
+line_does records (hub_event event) world = hub_does event world
+line_does records (link_event w event) world = link_does event w world
+line_does records (client_call w call) world = asks call w world
+line_does records (client_passing w way) world = passes way w world
+line_does records (client_event w event) world = client_does records event w world
+line_does records (session_event w event) world = session_does event w world
 line_does records _ world = quietly world
 
 -- the world after some lines of a script
@@ -204,10 +268,6 @@ world_after (line ∷ lines) world = world_after lines (line_does by_history lin
 abbrev pub printed_by : HeldRecords → List ScriptLine → World → List (List ℕ)
 printed_by records [] world = []
 printed_by records (line ∷ lines) world = (let one = line_does records line world in one.1 ++ printed_by records lines one.0)
-
--- each line ends with a line feed
-abbrev pub ended_lines : List (List ℕ) → List ℕ
-ended_lines lines = flat_map (λ l. line l) lines
 
 abbrev pub text_by : HeldRecords → List ScriptLine → List ℕ
 text_by records script = ended_lines (printed_by records script (start_world script))

@@ -10,13 +10,12 @@ use Rattle.rrset.specs.RecordSet.{same_rows, matching}
 use Rattle.rrset.specs.declared.record.Question.{Question}
 use Rattle.dsotlv.specs.Messages.{messages_in, first_message}
 use Rattle.pushserver.specs.PlainHubs.{Session, Made, Note, told, note_of, size_of_made, written, Hub, sent}
-use Rattle.pushserver.specs.Hubs.{newest, session_of}
+use Rattle.pushserver.specs.Hubs.{newest, session_of, state_now, records_now}
 use Rattle.pushserver.specs.declared.given.Given.TheVariants.{Nothing}
 use Rattle.pushserver.specs.Giving.{is_served_at, give}
 use Rattle.pushserver.specs.ToldMessages.{set_after, records_noted}
 use Rattle.pushclient.specs.Clients.{Connection, is_connected}
 use Rattle.pushsession.specs.Sessions.{is_open}
-use Rattle.pushserver.specs.Hubs.{state_now, records_now}
 use Rattle.dsosession.specs.declared.session.Timers.{Timers}
 use Rattle.dsosession.specs.declared.session.EndReason.{EndReason}
 use Rattle.dsosession.specs.declared.session.EndReason.TheVariants as ends
@@ -25,7 +24,10 @@ use Rattle.dsosession.specs.declared.session.CloseReason.TheVariants as closes
 use Rattle.inflight.specs.Messages.{flying_octets}
 use Rattle.inflight.specs.Ends.{ends_of, going_up, going_down}
 use Rattle.inflight.specs.Worked.{client_message, server_message, flying_of, unmet, unmet_together, unmet_of_wishes, count_together, none_twice, first_answers_end}
-use Rattle.scripts.specs.Lines.{Word, ScriptLine, ask, settle, show, open_connection}
+use Rattle.scripts.specs.Lines.{Word, ScriptLine, client_call, client_passing, client_event, settle}
+use Rattle.scripts.specs.declared.line.Call.TheVariants as calls
+use Rattle.scripts.specs.declared.line.Way.TheVariants as ways
+use Rattle.scripts.specs.declared.line.ClientEvent.TheVariants as client_events
 use Rattle.replay.specs.HeldPoints.{held_points, point_at, settles_alone, leaves_settled}
 use Rattle.replay.specs.Promises.{is_wanted, numbers_of, point_taken, is_end_by_itself, is_close_by_itself}
 use Rattle.replay.specs.World.{seat_of, Seat, World, start_world, whole_within}
@@ -73,8 +75,8 @@ abbrev pub connecting : Word → World → List (Word × ℕ)
 connecting w world = elim (seat_of world w) [ None ↦ [] | Some seat ↦ if is_connected seat.client then [] else (w, newest world.hub) ∷ [] ]
 
 abbrev pub observed_line : ScriptLine → World → Observed → Observed
-observed_line (show w question written) world so_far = record so_far { points = so_far.points ++ point_shown w question (point_at world w question) }
-observed_line (open_connection w) world so_far = record so_far { starts = connecting w world ++ so_far.starts }
+observed_line (client_event w (client_events.Show question written)) world so_far = record so_far { points = so_far.points ++ point_shown w question (point_at world w question) }
+observed_line (client_event w client_events.Open) world so_far = record so_far { starts = connecting w world ++ so_far.starts }
 observed_line _ world so_far = so_far
 
 -- each point of a client that was shown is at most this one of its question
@@ -157,7 +159,7 @@ tells_one_text text = elim (script_of text) [ Err n ↦ false | Ok script ↦ by
 -- the clients and questions of a script
 abbrev pub asked_in : List ScriptLine → List (Word × Question)
 asked_in [] = []
-asked_in (ask w q ∷ lines) = (w, q) ∷ asked_in lines
+asked_in (client_call w (calls.Ask q) ∷ lines) = (w, q) ∷ asked_in lines
 asked_in (line ∷ lines) = asked_in lines
 
 abbrev pub rises : List ℕ → Bool
@@ -199,7 +201,7 @@ abbrev pub quiet_at : World → Word → Bool
 quiet_at world w = elim (seat_of world w) [ None ↦ true | Some seat ↦ is_quiet world.hub seat ]
 
 abbrev pub quiet_behind : ScriptLine → World → World → Bool
-quiet_behind (settle w) before after = not (settles_alone w (settle w) before) || quiet_at after w
+quiet_behind (client_passing w ways.Settle) before after = not (settles_alone w (settle w) before) || quiet_at after w
 quiet_behind line before after = true
 
 -- each settle that prints its line alone leaves nothing under way

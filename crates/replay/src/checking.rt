@@ -3,17 +3,18 @@
 ghost use Rattle.std.specs.Prelude.{◌≡◌, ◌⊎◌, ◌+◌, ◌≤◌, IfOk, IfSome, string_bytes};
 ghost use Rattle.push_base.specs.Causes.{Rose};
 ghost use Rattle.scripts.specs.Scripts.{max_script};
-ghost use Rattle.replay.specs.Reply.{Answers, Took, reply_of};
+ghost use Rattle.scripts.specs.Reply.{Answers};
+ghost use Rattle.push_base.specs.Written.{Took};
+ghost use Rattle.replay.specs.ScriptReplies.{reply_of};
 ghost use Rattle.scripts.specs.Sources.{Gave, LeftBehind, LostAtMost, front_read};
-ghost use Rattle.replay.specs.Outcomes.{HasRead, status_of};
+ghost use Rattle.scripts.specs.Outcomes.{HasRead, status_of};
 ghost use Rattle.replay.specs.Checks.{checked, good_text};
 
-use crate::outcome::Outcome;
-use crate::replaying::{NO_MEMORY, READ_FAULT};
 use crate::reply::{Reply, line_text};
-use crate::write::tell;
 use push_base::{NoMemory, Sink, Source};
-use scripts::{ReadError, ReadScript, read_script, read_script_lines};
+use scripts::{
+    NO_MEMORY, Outcome, READ_FAULT, ReadError, ReadScript, read_script, read_script_lines, tell,
+};
 use std::alloc::Global;
 
 /// Reads a script as `replay` does, runs nothing, and writes how many lines it has, or the number of the first line outside.

@@ -1,27 +1,24 @@
 //! The lines that events of clients print.
 
-ghost use Rattle.std.specs.Prelude.{◌≡◌, ◌<◌, codes, length, position, Some, IfOk, string_bytes};
+ghost use Rattle.std.specs.Prelude.{◌≡◌, ◌<◌, length, position, Some, IfOk, string_bytes};
 ghost use Rattle.replay.specs.World.{new_seat};
-ghost use Rattle.replay.specs.Text.{asks, opens, opens_hub, opens_lone, reconfirming, seated as takes_seat, subscribing, unsubscribing, by_seat};
+ghost use Rattle.replay.specs.Text.{asks, opens, opens_hub, opens_lone, seated as takes_seat, by_seat};
 ghost use Rattle.replay.specs.KeptWorlds.{Does, StandsForSeat, seat_kept, seated};
 ghost use Rattle.replay.specs.KeptSeats.{Times, has_word};
 
-use crate::printed::{
-    already_text, asked_line, closing_line, dropped_line, noseat_text, open_text, reconfirmed_line,
-};
+use crate::printed::{already_text, call_text, closing_line, noseat_text, open_text};
 use crate::seats::{
-    Seat, ask_at, drop_at, is_connected_at, is_lone_at, join_at, moment_at, open_at, place_of,
-    reconfirm_at,
+    Seat, call_at, is_connected_at, is_lone_at, join_at, moment_at, open_at, place_of,
 };
 use crate::world::World;
 use push_base::NoMemory;
 use pushclient::Client;
 use pushserver::{ConnectFault, Hub};
-use rrset::record::{Question, Rr};
+use scripts::line::Call;
 use std::alloc::Global;
 
 /// There is one client more.
-pub(crate) fn client_line(
+pub(crate) fn joining_line(
     alloc: Global,
     world: &mut World,
     word: &str,
@@ -51,56 +48,20 @@ fn new_seat(alloc: Global, word: &str, is_lone: bool) -> Result<Seat, NoMemory>
     })
 }
 
-/// A client asks a question.
-pub(crate) fn ask_line(
+/// A call of a client, and what it answers.
+pub(crate) fn call_line(
     alloc: Global,
     world: &mut World,
     word: &str,
-    question: &Question,
+    call: &Call,
 ) -> Result<String, NoMemory>
-    ensures { IfOk result (λ text. Does (asks (codes "asked") word.now (subscribing question.now)) world.old (string_bytes text) world.new) }
+    ensures { IfOk result (λ text. Does (asks call.now word.now) world.old (string_bytes text) world.new) }
 {
     match place_of(&world.seats, word) {
         None => Ok(String::new(alloc)),
         Some(place) => {
-            let asked = ask_at(&mut world.seats, place, question)?;
-            asked_line(alloc, word, asked)
-        }
-    }
-}
-
-/// A client drops a question.
-pub(crate) fn drop_line(
-    alloc: Global,
-    world: &mut World,
-    word: &str,
-    question: &Question,
-) -> Result<String, NoMemory>
-    ensures { IfOk result (λ text. Does (asks (codes "dropped") word.now (unsubscribing question.now)) world.old (string_bytes text) world.new) }
-{
-    match place_of(&world.seats, word) {
-        None => Ok(String::new(alloc)),
-        Some(place) => {
-            let wanted = drop_at(&mut world.seats, place, question)?;
-            dropped_line(alloc, word, wanted)
-        }
-    }
-}
-
-/// A client says that a record may be out of date (RFC 8765, 6.5).
-pub(crate) fn reconfirm_line(
-    alloc: Global,
-    world: &mut World,
-    word: &str,
-    rr: &Rr,
-) -> Result<String, NoMemory>
-    ensures { IfOk result (λ text. Does (asks (codes "reconfirm") word.now (reconfirming rr.now)) world.old (string_bytes text) world.new) }
-{
-    match place_of(&world.seats, word) {
-        None => Ok(String::new(alloc)),
-        Some(place) => {
-            let said = reconfirm_at(&mut world.seats, place, rr)?;
-            reconfirmed_line(alloc, word, said)
+            let answer = call_at(alloc, &mut world.seats, place, call)?;
+            call_text(alloc, call, word, answer.as_str())
         }
     }
 }

@@ -3,7 +3,7 @@
 ghost use Rattle.push_base.specs.Limits.{max_moment};
 ghost use Rattle.std.specs.Prelude.{◌≡◌, ◌≤◌, ◌++◌, ◌∷◌, [], codes, decimal, IfOk, string_bytes};
 ghost use Rattle.replay.specs.TextWords.{by_notices, end_words};
-ghost use Rattle.replay.specs.Text.{cuts, exchanges, line_does, moments, printing, sends, session_of_word, stops, updates};
+ghost use Rattle.replay.specs.Text.{client_does, cuts, exchanges, hub_does, line_does, link_does, moments, printing, sends, session_does, session_of_word, stops, updates};
 ghost use Rattle.pushserver.specs.Hubs.{newest, now};
 ghost use Rattle.pushserver.specs.KeptHubs.{StandsFor};
 ghost use Rattle.pushserver.specs.PlainHubs.{Hub as PlainHub};
@@ -12,9 +12,7 @@ ghost use Rattle.replay.specs.KeptWorlds.{Does, IsWorld, parties_of};
 ghost use Rattle.replay.specs.KeptSeats.{TimesWorld};
 ghost use Rattle.replay.specs.World.{World as Plain, stopped_hub};
 
-use crate::client_lines::{
-    ask_line, client_line, drop_line, open_line, reconfirm_line, timed_lines,
-};
+use crate::client_lines::{call_line, joining_line, open_line, timed_lines};
 use crate::exchanging::{Exchanged, exchange};
 use crate::feed_lines::feed_lines;
 use crate::hear_lines::hear_line;
@@ -24,13 +22,12 @@ use crate::printed::{
     update_text,
 };
 use crate::seats::{cut_at, place_of, session_at};
-use crate::settling::Way;
 use crate::show_lines::show_lines;
 use crate::world::{Peer, World};
 use dsosession::session::EndReason;
 use push_base::NoMemory;
 use pushserver::{ConnectFault, Hub, HubFault};
-use scripts::line::Event;
+use scripts::line::{ClientEvent, Event, HubEvent, LinkEvent, SessionEvent};
 use std::alloc::Global;
 
 /// What an event prints, each line with its end.
@@ -38,33 +35,72 @@ pub fn event_line(alloc: Global, world: &mut World, event: &Event) -> Result<Str
     ensures { IfOk result (λ text. Does (line_does by_notices (event_said event.now)) world.old (string_bytes text) world.new) }
 {
     match event {
-        Event::Update(message) => update_line(alloc, world, message.as_slice()),
-        Event::Send(sent) => {
-            send_lines(alloc, world, sent.word.as_str(), sent.octets.as_slice())
+        Event::Joining { word, is_lone } => joining_line(alloc, world, word.as_str(), *is_lone),
+        Event::Hub(event) => hub_line(alloc, world, event),
+        Event::Link { word, event } => link_line(alloc, world, word.as_str(), event),
+        Event::Call { word, call } => call_line(alloc, world, word.as_str(), call),
+        Event::Passing { word, way } => passing_line(alloc, world, *way, word.as_str()),
+        Event::Client { word, event } => client_line(alloc, world, word.as_str(), event),
+        Event::Session { word, event } => session_line(alloc, world, word.as_str(), event),
+    }
+}
+
+// What happens at the hub.
+fn hub_line(alloc: Global, world: &mut World, event: &HubEvent) -> Result<String, NoMemory>
+    ensures { IfOk result (λ text. Does (hub_does event.now) world.old (string_bytes text) world.new) }
+{
+    match event {
+        HubEvent::At(moment) => moment_lines(alloc, world, moment.millis()),
+        HubEvent::Update(message) => update_line(alloc, world, message.as_slice()),
+        HubEvent::Point => point_line(alloc, world),
+    }
+}
+
+// What happens on the link of a word.
+fn link_line(
+    alloc: Global,
+    world: &mut World,
+    word: &str,
+    event: &LinkEvent,
+) -> Result<String, NoMemory>
+    ensures { IfOk result (λ text. Does (link_does event.now word.now) world.old (string_bytes text) world.new) }
+{
+    match event {
+        LinkEvent::Hear(datagram) => hear_line(alloc, world, word, datagram.as_slice()),
+    }
+}
+
+// What happens to the client of a word.
+fn client_line(
+    alloc: Global,
+    world: &mut World,
+    word: &str,
+    event: &ClientEvent,
+) -> Result<String, NoMemory>
+    ensures { IfOk result (λ text. Does (client_does by_notices event.now word.now) world.old (string_bytes text) world.new) }
+{
+    match event {
+        ClientEvent::Open => open_line(alloc, world, word),
+        ClientEvent::Feed(octets) => feed_lines(alloc, world, word, octets.as_slice()),
+        ClientEvent::Show { question, written } => {
+            show_lines(alloc, world, word, question, written.as_str())
         }
-        Event::Point => point_line(alloc, world),
-        Event::At(moment) => moment_lines(alloc, world, moment.millis()),
-        Event::Stop(stopping) => {
-            let word = stopping.word.as_str();
-            stop_line(alloc, world, word, stopping.rcode, stopping.delay)
-        }
-        Event::Cut(cutting) => cut_line(alloc, world, cutting.word.as_str()),
-        Event::Client(joining) => client_line(alloc, world, joining.word.as_str(), false),
-        Event::Lone(lone) => client_line(alloc, world, lone.word.as_str(), true),
-        Event::Ask(asking) => ask_line(alloc, world, asking.word.as_str(), &asking.question),
-        Event::Drop(asking) => drop_line(alloc, world, asking.word.as_str(), &asking.question),
-        Event::Open(opening) => open_line(alloc, world, opening.word.as_str()),
-        Event::Feed(sent) => {
-            feed_lines(alloc, world, sent.word.as_str(), sent.octets.as_slice())
-        }
-        Event::Show(showing) => show_lines(alloc, world, showing),
-        Event::Say(said) => passing_line(alloc, world, Way::Say(said.most), said.word.as_str()),
-        Event::Up(risen) => passing_line(alloc, world, Way::Up(risen.most), risen.word.as_str()),
-        Event::Emit(made) => passing_line(alloc, world, Way::Emit(made.most), made.word.as_str()),
-        Event::Down(come) => passing_line(alloc, world, Way::Down(come.most), come.word.as_str()),
-        Event::Settle(settling) => passing_line(alloc, world, Way::Settle, settling.word.as_str()),
-        Event::Hear(sent) => hear_line(alloc, world, sent.word.as_str(), sent.octets.as_slice()),
-        Event::Reconfirm(doubt) => { reconfirm_line(alloc, world, doubt.word.as_str(), &doubt.rr) }
+    }
+}
+
+// What happens to the session of a word.
+fn session_line(
+    alloc: Global,
+    world: &mut World,
+    word: &str,
+    event: &SessionEvent,
+) -> Result<String, NoMemory>
+    ensures { IfOk result (λ text. Does (session_does event.now word.now) world.old (string_bytes text) world.new) }
+{
+    match event {
+        SessionEvent::Send(octets) => send_lines(alloc, world, word, octets.as_slice()),
+        SessionEvent::Stop { rcode, delay } => stop_line(alloc, world, word, *rcode, *delay),
+        SessionEvent::Cut => cut_line(alloc, world, word),
     }
 }
 

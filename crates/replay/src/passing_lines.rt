@@ -1,19 +1,21 @@
 //! The lines that are printed where octets of a client pass.
 
 ghost use Rattle.std.specs.Prelude.{◌≡◌, ◌<◌, ◌++◌, length, IfOk, string_bytes};
-ghost use Rattle.replay.specs.Text.{end_lines, ended_lines};
+ghost use Rattle.replay.specs.Text.{end_lines, passes, passes_way};
+ghost use Rattle.scripts.specs.Words.{ended_lines};
 ghost use Rattle.replay.specs.KeptWorlds.{Does, seat_kept, seated};
 ghost use Rattle.replay.specs.KeptSeats.{closing_text};
-ghost use Rattle.replay.specs.KeptPassings.{EndsSo, EndsAt, Moves, passes_way, way_does, way_text};
+ghost use Rattle.replay.specs.KeptPassings.{EndsSo, EndsAt, Moves, way_text};
 ghost use Rattle.replay.specs.PassedOctets.{max_wire};
 
 use crate::printed::{closing_line, end_line, way_text};
 use crate::seats::{Seat, finish, place_of};
-use crate::settling::{Passage, Way, pass};
+use crate::settling::{Passage, pass};
 use crate::world::World;
 use dsosession::session::{CloseReason, EndReason};
 use push_base::NoMemory;
 use pushserver::Hub;
+use scripts::line::Way;
 use scripts::line_words::MAX_WIRE;
 use std::alloc::Global;
 
@@ -37,7 +39,7 @@ pub(crate) fn passing_line(
     way: Way,
     word: &str,
 ) -> Result<String, NoMemory>
-    ensures { IfOk result (λ text. Does (way_does way word.now) world.old (string_bytes text) world.new) }
+    ensures { IfOk result (λ text. Does (passes way word.now) world.old (string_bytes text) world.new) }
 {
     match place_of(&world.seats, word) {
         None => Ok(String::new(alloc)),

@@ -1,17 +1,17 @@
 //! The lines that events print, and the words in them.
 
 ghost use Rattle.std.specs.Prelude.{◌≡◌, ◌++◌, ◌∷◌, [], codes, decimal, IfOk, Some, string_bytes};
-ghost use Rattle.scripts.specs.Words.{octets_text};
+ghost use Rattle.scripts.specs.Words.{octets_text, ended_lines};
 ghost use Rattle.replay.specs.TextWords.{end_words, why_words};
-ghost use Rattle.replay.specs.Text.{asked_words, end_lines, ended_lines, heard_words, yes_or_no};
+ghost use Rattle.replay.specs.Text.{asked_words, call_word, end_lines, heard_words, yes_or_no};
 ghost use Rattle.replay.specs.KeptSeats.{closing_text};
 ghost use Rattle.replay.specs.KeptPassings.{way_text};
 
-use crate::settling::Way;
 use dsosession::session::{CloseReason, EndReason};
 use push_base::NoMemory;
 use pushclient::client::Asked;
 use pushserver::given::{Heard, Why};
+use scripts::line::{Call, Way};
 use scripts::{close_words, octets_text};
 use std::alloc::Global;
 
@@ -118,16 +118,24 @@ pub(crate) fn noseat_text(alloc: Global, word: &str) -> Result<String, NoMemory>
     format!(in alloc; "noseat {word}\n")
 }
 
-/// The line of what became of a wish.
-pub(crate) fn asked_line(alloc: Global, word: &str, asked: Asked) -> Result<String, NoMemory>
-    ensures { IfOk result (λ text. string_bytes text ≡ codes "asked " ++ (word.now ++ 32 ∷ (asked_words asked ++ 10 ∷ []))) }
+/// The line of a client's call, with what the client answered.
+pub(crate) fn call_text(
+    alloc: Global,
+    call: &Call,
+    word: &str,
+    answer: &str,
+) -> Result<String, NoMemory>
+    ensures { IfOk result (λ text. string_bytes text ≡ (call_word call.now ++ 32 ∷ []) ++ (word.now ++ 32 ∷ (answer.now ++ 10 ∷ []))) }
 {
-    let words = asked_words(alloc, asked)?;
-    asked_text(alloc, word, words.as_str())
+    match call {
+        Call::Ask(_) => format!(in alloc; "asked {word} {answer}\n"),
+        Call::Drop(_) => format!(in alloc; "dropped {word} {answer}\n"),
+        Call::Reconfirm(_) => format!(in alloc; "reconfirm {word} {answer}\n"),
+    }
 }
 
-// What became of a wish.
-fn asked_words(alloc: Global, asked: Asked) -> Result<String, NoMemory>
+/// What became of a wish.
+pub(crate) fn asked_words(alloc: Global, asked: Asked) -> Result<String, NoMemory>
     ensures { IfOk result (λ text. string_bytes text ≡ asked_words asked) }
 {
     match asked {
@@ -137,49 +145,15 @@ fn asked_words(alloc: Global, asked: Asked) -> Result<String, NoMemory>
     }
 }
 
-fn asked_text(alloc: Global, word: &str, words: &str) -> Result<String, NoMemory>
-    ensures { IfOk result (λ text. string_bytes text ≡ codes "asked " ++ (word.now ++ 32 ∷ (words.now ++ 10 ∷ []))) }
+/// Yes or no.
+pub(crate) fn yes_or_no(alloc: Global, is_so: bool) -> Result<String, NoMemory>
+    ensures { IfOk result (λ text. string_bytes text ≡ yes_or_no is_so) }
 {
-    format!(in alloc; "asked {word} {words}\n")
-}
-
-/// Whether a question was wanted that was dropped.
-pub(crate) fn dropped_line(alloc: Global, word: &str, wanted: bool) -> Result<String, NoMemory>
-    ensures { IfOk result (λ text. string_bytes text ≡ codes "dropped " ++ (word.now ++ 32 ∷ (yes_or_no wanted ++ 10 ∷ []))) }
-{
-    let words = yes_or_no(alloc, wanted)?;
-    dropped_text(alloc, word, words.as_str())
-}
-
-/// The line of a client that says that a record may be out of date, with whether it did.
-pub(crate) fn reconfirmed_line(alloc: Global, word: &str, said: bool) -> Result<String, NoMemory>
-    ensures { IfOk result (λ text. string_bytes text ≡ codes "reconfirm " ++ (word.now ++ 32 ∷ (yes_or_no said ++ 10 ∷ []))) }
-{
-    let words = yes_or_no(alloc, said)?;
-    reconfirmed_text(alloc, word, words.as_str())
-}
-
-fn reconfirmed_text(alloc: Global, word: &str, words: &str) -> Result<String, NoMemory>
-    ensures { IfOk result (λ text. string_bytes text ≡ codes "reconfirm " ++ (word.now ++ 32 ∷ (words.now ++ 10 ∷ []))) }
-{
-    format!(in alloc; "reconfirm {word} {words}\n")
-}
-
-// Yes or no.
-fn yes_or_no(alloc: Global, wanted: bool) -> Result<String, NoMemory>
-    ensures { IfOk result (λ text. string_bytes text ≡ yes_or_no wanted) }
-{
-    if wanted {
+    if is_so {
         format!(in alloc; "yes")
     } else {
         format!(in alloc; "no")
     }
-}
-
-fn dropped_text(alloc: Global, word: &str, words: &str) -> Result<String, NoMemory>
-    ensures { IfOk result (λ text. string_bytes text ≡ codes "dropped " ++ (word.now ++ 32 ∷ (words.now ++ 10 ∷ []))) }
-{
-    format!(in alloc; "dropped {word} {words}\n")
 }
 
 /// The line of octets that passed one way, with their number, or of a settle.

@@ -3,26 +3,19 @@
 ghost use Rattle.std.specs.Prelude.{◌≡◌, ◌+◌, ◌≤◌, None, IfSome};
 ghost use Rattle.scripts.specs.Scripts.{max_script};
 ghost use Rattle.push_base.specs.Causes.{Rose};
-ghost use Rattle.replay.specs.Reply.{Answers, Took};
+ghost use Rattle.scripts.specs.Reply.{Answers};
+ghost use Rattle.push_base.specs.Written.{Took};
 ghost use Rattle.scripts.specs.Sources.{Gave, LeftBehind, LostAtMost, front_read};
-ghost use Rattle.replay.specs.Outcomes.{HasRead, status_of};
+ghost use Rattle.scripts.specs.Outcomes.{HasRead, status_of};
 ghost use Rattle.replay.specs.TextWords.{by_notices};
 ghost use Rattle.replay.specs.ScriptReplies.{reply_to_script};
 ghost use Rattle.replay.specs.KeptEnds.{AreEnds, EndsWhenDone, ends_with};
 
 use crate::ends::Ends;
-use crate::outcome::Outcome;
 use crate::reply::{Reply, reply_to};
-use crate::write::tell;
 use push_base::{NoMemory, Sink, Source};
-use scripts::{ReadError, read_script};
+use scripts::{NO_MEMORY, Outcome, READ_FAULT, ReadError, read_script, tell};
 use std::alloc::Global;
-
-/// What is written where a read of the source failed.
-pub const READ_FAULT: &[u8] = b"read fault\n";
-
-/// What is written, perhaps behind a front of the text, where memory ran out.
-pub const NO_MEMORY: &[u8] = b"no memory\n";
 
 /// How a replay ended, and what the script left.
 #[derive(Drop)]

@@ -3,15 +3,13 @@
 ghost use Rattle.std.specs.Prelude.{◌≡◌, ◌⊎◌, IfOk, IfSome, string_bytes};
 ghost use Rattle.replay.specs.Text.{outside_text};
 ghost use Rattle.replay.specs.TextWords.{by_notices};
-ghost use Rattle.replay.specs.ScriptReplies.{reply_to_script};
+ghost use Rattle.replay.specs.ScriptReplies.{reply_to_script, reply_of};
 ghost use Rattle.replay.specs.KeptEnds.{AreEnds, EndsWhenDone};
-ghost use Rattle.replay.specs.Reply.{reply_of};
 
 use crate::ends::{Ends, ends_of};
-use crate::outcome::Outcome;
 use crate::script_text::{Played, script_text};
 use push_base::NoMemory;
-use scripts::{ReadScript, read_script_lines};
+use scripts::{Outcome, ReadScript, read_script_lines};
 use std::alloc::Global;
 
 /// How a replay ends if all goes well, the text that is then written, and what the script leaves.

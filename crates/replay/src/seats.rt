@@ -1,19 +1,22 @@
 //! Clients, each where it stands.
 
-ghost use Rattle.std.specs.Prelude.{◌≡◌, ◌<◌, Some, length, position, get_or, IfOk, IfSome, OnOk};
+ghost use Rattle.std.specs.Prelude.{◌≡◌, ◌<◌, Some, length, position, get_or, IfOk, IfSome, OnOk, string_bytes};
 ghost use Rattle.pushserver.specs.KeptHubs.{StandsFor};
 ghost use Rattle.pushserver.specs.PlainHubs.{Hub as PlainHub};
-ghost use Rattle.pushclient.specs.Clients.{closed_as, connected, reconfirm, subscribe, unsubscribe};
+ghost use Rattle.pushclient.specs.Clients.{closed_as, connected};
+ghost use Rattle.replay.specs.Text.{called, reconfirming, subscribing, unsubscribing};
 ghost use Rattle.replay.specs.World.{cut_if, cut_seat, hub_without, is_over, joined, with_client};
 ghost use Rattle.replay.specs.KeptWorlds.{KeptSeat, seat_kept, seated};
 ghost use Rattle.replay.specs.KeptSeats.{Makes, Calls, Answers, HasCut, HasTimed, HasFinished, TellsConnected, has_word, timed_seat};
 
+use crate::printed::{asked_words, yes_or_no};
 use dsosession::session::{CloseReason, EndReason};
 use push_base::NoMemory;
 use pushclient::Client;
-use pushclient::client::Asked;
 use pushserver::Hub;
 use rrset::record::{Question, Rr};
+use scripts::line::Call;
+use std::alloc::Global;
 
 /// A client: its word, whether it is a lone one, and what there is of its connection: the number of its session in the
 /// hub, the octets on the wires to it and back, how many have reached the client, and where the first answers of its
@@ -65,29 +68,43 @@ fn copied(question: &Question) -> Result<Question, NoMemory>
     })
 }
 
-// A client asks a question.
-fn ask_one(seat: &mut Seat, question: &Question) -> Result<Asked, NoMemory>
-    ensures { IfOk result (λ asked. Makes (Answers (λ c. asked ≡ (subscribe c question.now).0)) (with_client (λ c. (subscribe c question.now).1)) (seat_kept seat.old) (seat_kept seat.new)) }
+// A client asks a question, and answers what became of the wish.
+fn ask_one(alloc: Global, seat: &mut Seat, question: &Question) -> Result<String, NoMemory>
+    ensures { IfOk result (λ answer. Makes (Answers (λ c. string_bytes answer ≡ (subscribing question.now c).0)) (with_client (λ c. (subscribing question.now c).1)) (seat_kept seat.old) (seat_kept seat.new)) }
 {
     let question = copied(question)?;
     let asked = seat.client.subscribe(question)?;
-    Ok(asked)
+    let answer = asked_words(alloc, asked)?;
+    Ok(answer)
 }
 
-// A client drops a question, and says whether it was wanted.
-fn drop_one(seat: &mut Seat, question: &Question) -> Result<bool, NoMemory>
-    ensures { IfOk result (λ wanted. Makes (Answers (λ c. wanted ≡ (unsubscribe c question.now).0)) (with_client (λ c. (unsubscribe c question.now).1)) (seat_kept seat.old) (seat_kept seat.new)) }
+// A client drops a question, and answers whether it was wanted.
+fn drop_one(alloc: Global, seat: &mut Seat, question: &Question) -> Result<String, NoMemory>
+    ensures { IfOk result (λ answer. Makes (Answers (λ c. string_bytes answer ≡ (unsubscribing question.now c).0)) (with_client (λ c. (unsubscribing question.now c).1)) (seat_kept seat.old) (seat_kept seat.new)) }
 {
     let wanted = seat.client.unsubscribe(question)?;
-    Ok(wanted)
+    let answer = yes_or_no(alloc, wanted)?;
+    Ok(answer)
 }
 
-// A client says that a record may be out of date, and whether it did.
-fn reconfirm_one(seat: &mut Seat, rr: &Rr) -> Result<bool, NoMemory>
-    ensures { IfOk result (λ said. Makes (Answers (λ c. said ≡ (reconfirm c rr.now).0)) (with_client (λ c. (reconfirm c rr.now).1)) (seat_kept seat.old) (seat_kept seat.new)) }
+// A client says that a record may be out of date, and answers whether it did.
+fn reconfirm_one(alloc: Global, seat: &mut Seat, rr: &Rr) -> Result<String, NoMemory>
+    ensures { IfOk result (λ answer. Makes (Answers (λ c. string_bytes answer ≡ (reconfirming rr.now c).0)) (with_client (λ c. (reconfirming rr.now c).1)) (seat_kept seat.old) (seat_kept seat.new)) }
 {
     let said = seat.client.reconfirm(rr)?;
-    Ok(said)
+    let answer = yes_or_no(alloc, said)?;
+    Ok(answer)
+}
+
+// A call of a client, and what it answers.
+fn call_one(alloc: Global, seat: &mut Seat, call: &Call) -> Result<String, NoMemory>
+    ensures { IfOk result (λ answer. Makes (Answers (λ c. string_bytes answer ≡ (called call.now c).0)) (with_client (λ c. (called call.now c).1)) (seat_kept seat.old) (seat_kept seat.new)) }
+{
+    match call {
+        Call::Ask(question) => ask_one(alloc, seat, question),
+        Call::Drop(question) => drop_one(alloc, seat, question),
+        Call::Reconfirm(rr) => reconfirm_one(alloc, seat, rr),
+    }
 }
 
 // A client has a new connection.
@@ -187,39 +204,18 @@ pub(crate) fn session_at(seats: &[Seat], place: usize) -> Option<u64>
     seats[place].session
 }
 
-/// The client at a place asks a question.
-pub(crate) fn ask_at(
+/// A call of the client at a place, and what it answers.
+pub(crate) fn call_at(
+    alloc: Global,
     seats: &mut [Seat],
     place: usize,
-    question: &Question,
-) -> Result<Asked, NoMemory>
+    call: &Call,
+) -> Result<String, NoMemory>
     requires { place < length seats.old }
-    ensures { IfOk result (λ asked. Calls (Answers (λ c. asked ≡ (subscribe c question.now).0)) (with_client (λ c. (subscribe c question.now).1)) (seated seats.old) place (seated seats.new)) }
+    ensures { IfOk result (λ answer. Calls (Answers (λ c. string_bytes answer ≡ (called call.now c).0)) (with_client (λ c. (called call.now c).1)) (seated seats.old) place (seated seats.new)) }
 {
-    let asked = ask_one(&mut seats[place], question)?;
-    Ok(asked)
-}
-
-/// The client at a place drops a question, and says whether it was wanted.
-pub(crate) fn drop_at(
-    seats: &mut [Seat],
-    place: usize,
-    question: &Question,
-) -> Result<bool, NoMemory>
-    requires { place < length seats.old }
-    ensures { IfOk result (λ wanted. Calls (Answers (λ c. wanted ≡ (unsubscribe c question.now).0)) (with_client (λ c. (unsubscribe c question.now).1)) (seated seats.old) place (seated seats.new)) }
-{
-    let wanted = drop_one(&mut seats[place], question)?;
-    Ok(wanted)
-}
-
-/// The client at a place says that a record may be out of date, and whether it did.
-pub(crate) fn reconfirm_at(seats: &mut [Seat], place: usize, rr: &Rr) -> Result<bool, NoMemory>
-    requires { place < length seats.old }
-    ensures { IfOk result (λ said. Calls (Answers (λ c. said ≡ (reconfirm c rr.now).0)) (with_client (λ c. (reconfirm c rr.now).1)) (seated seats.old) place (seated seats.new)) }
-{
-    let said = reconfirm_one(&mut seats[place], rr)?;
-    Ok(said)
+    let answer = call_one(alloc, &mut seats[place], call)?;
+    Ok(answer)
 }
 
 /// The client at a place has a new connection.

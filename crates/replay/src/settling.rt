@@ -8,31 +8,18 @@ ghost use Rattle.replay.specs.World.{World as Plain, Seat as PlainSeat};
 ghost use Rattle.replay.specs.PassedOctets as passing;
 ghost use Rattle.replay.specs.PassedOctets.{max_wire, settled, enough};
 ghost use Rattle.replay.specs.KeptWorlds.{seat_kept};
-ghost use Rattle.replay.specs.KeptPassings.{Moves, Passes, Turns, passing_of};
+ghost use Rattle.replay.specs.KeptPassings.{Moves, Passes, Turns};
+ghost use Rattle.replay.specs.Text.{passing_of};
 
 use crate::exchanging::{Emission, emit};
 use crate::seats::Seat;
-use crate::stepping::{deliver, front_of};
+use crate::stepping::deliver;
 use dsosession::session::EndReason;
-use push_base::NoMemory;
+use push_base::{NoMemory, front_of};
 use pushclient::Client;
 use pushserver::Hub;
+use scripts::line::Way;
 use scripts::line_words::MAX_WIRE;
-
-/// Which way octets of a client pass, and at most how many of them.
-#[derive(Clone, Copy)]
-pub enum Way {
-    /// From the client onto the wire to its session.
-    Say(usize),
-    /// From that wire into the session.
-    Up(usize),
-    /// From the session onto the wire to the client.
-    Emit(usize),
-    /// From that wire to the client.
-    Down(usize),
-    /// Each way in turn, until nothing moves.
-    Settle,
-}
 
 /// How many octets passed one way, none where a client settles, and the end of the session, if it was told.
 #[derive(Clone, Copy)]

@@ -6,7 +6,7 @@ ghost use Rattle.replay.specs.TextWords.{by_notices, with_records};
 ghost use Rattle.scripts.specs.Words.{spaced};
 ghost use Rattle.replay.specs.Text.{shows};
 ghost use Rattle.replay.specs.KeptWorlds.{Does, seat_kept};
-ghost use Rattle.replay.specs.KeptShows.{IsFilling, ShowsSeat, ShowsSet, record_lines, showing_text};
+ghost use Rattle.replay.specs.KeptShows.{IsFilling, ShowsSeat, ShowsSet, record_lines, showing_of, showing_text};
 
 use crate::seats::{Seat, place_of};
 use crate::world::World;
@@ -14,33 +14,40 @@ use push_base::NoMemory;
 use pushclient::client::Held;
 use rrset::Table;
 use rrset::record::{Key, Question, Shown};
-use scripts::line::Showing;
 use scripts::octets_text;
 use std::alloc::Global;
 
-/// What a client knows of a question, and where it holds a set its records, each in a line.
+/// What a client knows of a question, whose name is written so, and where it holds a set its records, each in a line.
 pub(crate) fn show_lines(
     alloc: Global,
     world: &World,
-    showing: &Showing,
+    word: &str,
+    question: &Question,
+    written: &str,
 ) -> Result<String, NoMemory>
-    ensures { IfOk result (λ text. Does (shows by_notices (string_bytes showing.now.word) showing.now.question (string_bytes showing.now.written)) world.now (string_bytes text) world.now) }
+    ensures { IfOk result (λ text. Does (shows by_notices word.now question.now written.now) world.now (string_bytes text) world.now) }
 {
-    match place_of(&world.seats, showing.word.as_str()) {
+    match place_of(&world.seats, word) {
         None => Ok(String::new(alloc)),
-        Some(place) => seat_lines(alloc, &world.seats[place], showing),
+        Some(place) => seat_lines(alloc, &world.seats[place], word, question, written),
     }
 }
 
 // What a client knows of a question.
-fn seat_lines(alloc: Global, seat: &Seat, showing: &Showing) -> Result<String, NoMemory>
-    ensures { IfOk result (λ text. ShowsSeat (seat_kept seat.now) showing.now (string_bytes text)) }
+fn seat_lines(
+    alloc: Global,
+    seat: &Seat,
+    word: &str,
+    question: &Question,
+    written: &str,
+) -> Result<String, NoMemory>
+    ensures { IfOk result (λ text. ShowsSeat (seat_kept seat.now) (showing_of word.now question.now written.now) (string_bytes text)) }
 {
-    match seat.client.mirror(&showing.question) {
-        Held::Off => state_lines(alloc, showing, "off"),
-        Held::Asked => state_lines(alloc, showing, "asked"),
-        Held::Refused(rcode) => refused_lines(alloc, showing, rcode),
-        Held::Answered(set) => held_lines(alloc, seat, showing, set),
+    match seat.client.mirror(question) {
+        Held::Off => state_lines(alloc, word, question, written, "off"),
+        Held::Asked => state_lines(alloc, word, question, written, "asked"),
+        Held::Refused(rcode) => refused_lines(alloc, word, question, written, rcode),
+        Held::Answered(set) => held_lines(alloc, seat, word, question, written, set),
     }
 }
 
@@ -48,18 +55,20 @@ fn seat_lines(alloc: Global, seat: &Seat, showing: &Showing) -> Result<String, N
 fn held_lines(
     alloc: Global,
     seat: &Seat,
-    showing: &Showing,
+    word: &str,
+    question: &Question,
+    written: &str,
     set: &Table,
 ) -> Result<String, NoMemory>
-    ensures { IfOk result (λ text. ShowsSet (seat_kept seat.now) showing.now set.now.rows (string_bytes text)) }
+    ensures { IfOk result (λ text. ShowsSet (seat_kept seat.now) (showing_of word.now question.now written.now) set.now.rows (string_bytes text)) }
 {
     if seat.is_lone {
-        return set_lines(alloc, showing, "answered", set);
+        return set_lines(alloc, word, question, written, "answered", set);
     }
-    if is_filling(seat, &showing.question) {
-        return state_lines(alloc, showing, "filling");
+    if is_filling(seat, question) {
+        return state_lines(alloc, word, question, written, "filling");
     }
-    set_lines(alloc, showing, "held", set)
+    set_lines(alloc, word, question, written, "held", set)
 }
 
 // Whether the first answer to a question hasn't arrived whole.
@@ -88,11 +97,17 @@ fn told_end(filled: &[(u16, u64)], id: u16) -> Option<u64>
 }
 
 // The line of a question that was refused.
-fn refused_lines(alloc: Global, showing: &Showing, rcode: u8) -> Result<String, NoMemory>
-    ensures { IfOk result (λ text. string_bytes text ≡ showing_text showing.now (spaced (codes "refused" ∷ decimal rcode ∷ []), [])) }
+fn refused_lines(
+    alloc: Global,
+    word: &str,
+    question: &Question,
+    written: &str,
+    rcode: u8,
+) -> Result<String, NoMemory>
+    ensures { IfOk result (λ text. string_bytes text ≡ showing_text (showing_of word.now question.now written.now) (spaced (codes "refused" ∷ decimal rcode ∷ []), [])) }
 {
     let words = refused_text(alloc, rcode)?;
-    state_lines(alloc, showing, words.as_str())
+    state_lines(alloc, word, question, written, words.as_str())
 }
 
 fn refused_text(alloc: Global, rcode: u8) -> Result<String, NoMemory>
@@ -102,13 +117,16 @@ fn refused_text(alloc: Global, rcode: u8) -> Result<String, NoMemory>
 }
 
 // The line of a state that has no records.
-fn state_lines(alloc: Global, showing: &Showing, state: &str) -> Result<String, NoMemory>
-    ensures { IfOk result (λ text. string_bytes text ≡ showing_text showing.now (state.now, [])) }
+fn state_lines(
+    alloc: Global,
+    word: &str,
+    question: &Question,
+    written: &str,
+    state: &str,
+) -> Result<String, NoMemory>
+    ensures { IfOk result (λ text. string_bytes text ≡ showing_text (showing_of word.now question.now written.now) (state.now, [])) }
 {
-    let kind = showing.question.kind;
-    let class = showing.question.class;
-    let word = showing.word.as_str();
-    state_text(alloc, word, showing.written.as_str(), kind, class, state)
+    state_text(alloc, word, written, question.kind, question.class, state)
 }
 
 fn state_text(
@@ -125,11 +143,18 @@ fn state_text(
 }
 
 // The line of a state with its records, and a line for each of them.
-fn set_lines(alloc: Global, showing: &Showing, state: &str, set: &Table) -> Result<String, NoMemory>
-    ensures { IfOk result (λ text. string_bytes text ≡ showing_text showing.now (with_records state.now set.now.rows)) }
+fn set_lines(
+    alloc: Global,
+    word: &str,
+    question: &Question,
+    written: &str,
+    state: &str,
+    set: &Table,
+) -> Result<String, NoMemory>
+    ensures { IfOk result (λ text. string_bytes text ≡ showing_text (showing_of word.now question.now written.now) (with_records state.now set.now.rows)) }
 {
     let counted = count_text(alloc, state, set.len())?;
-    let text = state_lines(alloc, showing, counted.as_str())?;
+    let text = state_lines(alloc, word, question, written, counted.as_str())?;
     with_record_lines(alloc, text, set.entries())
 }
 

@@ -1,13 +1,14 @@
 //! Octets to a client, which steps until it waits, and what it has to send.
 
-ghost use Rattle.std.specs.Prelude.{◌≡◌, ◌==◌, ◌||◌, ◌≤◌, drop, length, take, IfOk, OnOk};
+ghost use Rattle.std.specs.Prelude.{◌≡◌, ◌==◌, ◌||◌, ◌≤◌, drop, length, IfOk, OnOk};
 ghost use Rattle.push_base.specs.Cases.{is_empty};
-ghost use Rattle.replay.specs.KeptSteps.{ends_steps, Delivers, HandsOut, Steps};
+ghost use Rattle.replay.specs.KeptSteps.{ends_steps, Delivers, Steps};
+ghost use Rattle.pushclient.specs.HandedOut.{HandsOut};
 
 use coalesce::MAX_FRAME;
 use push_base::NoMemory;
-use pushclient::Client;
 use pushclient::client::Step;
+use pushclient::{Client, hand_out_over};
 use std::alloc::Global;
 
 /// Octets go into a client as far as there is room, and it steps until it waits or has closed; again, until none are
@@ -84,30 +85,4 @@ pub(crate) fn hand_out(alloc: Global, client: &mut Client) -> Result<Vec<u8>, No
 {
     let mut buffer = vec![in alloc; 0; MAX_FRAME]?;
     hand_out_over(alloc, client, buffer.as_mut_slice())
-}
-
-/// All that a client has to send is handed out, over a buffer that has room for an octet.
-pub fn hand_out_over(
-    alloc: Global,
-    client: &mut Client,
-    buffer: &mut [u8],
-) -> Result<Vec<u8>, NoMemory>
-    requires { 1 ≤ length buffer.old }
-    ensures { IfOk result (λ octets. HandsOut client.old octets.items client.new) }
-{
-    let mut octets = Vec::new(alloc);
-    'pieces: loop {
-        let count = client.give(buffer);
-        if count == 0 {
-            return Ok(octets);
-        }
-        octets.extend_from_slice(front_of(buffer, count))?;
-    }
-}
-
-/// The first so many octets, or all.
-pub(crate) fn front_of(octets: &[u8], count: usize) -> &[u8]
-    ensures { result.now ≡ take count octets.now }
-{
-    &octets[..count.min(octets.len())]
 }

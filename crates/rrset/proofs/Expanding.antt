@@ -5,8 +5,8 @@ use Rattle.dnsname.specs.Reading.{name_up_to}
 use Rattle.rrset.specs.Rdata.{Field, fields_from, with_field, field_octets}
 use Rattle.rrset.specs.Parts.{NameReader, part_of, field_at}
 use Rattle.rrset.specs.ReadParts.{GivesRdata, read_at, octets_read, all_read, read_from, onto}
-use Rattle.rrset.specs.declared.reading.RdataFault.{RdataFault}
-use Rattle.rrset.specs.declared.reading.RdataFault.TheVariants.{Shape, NoMemory}
+use Rattle.rrset.specs.declared.rdata_reader.RdataFault.{RdataFault}
+use Rattle.rrset.specs.declared.rdata_reader.RdataFault.TheVariants.{Shape, NoMemory}
 use Rattle.rrset.specs.declared.shape.ShapePart.{ShapePart}
 use Rattle.rrset.proofs.Shapes.{fields-first, onto_field}
 

@@ -7,8 +7,8 @@ use Rattle.dnsname.specs.Reading.{name_up_to}
 use Rattle.rrset.specs.Rdata.{Field, field_octets, fields_from}
 use Rattle.rrset.specs.Parts.{part_of, field_at}
 use Rattle.rrset.specs.declared.shape.ShapePart.{ShapePart}
-use Rattle.rrset.specs.declared.reading.RdataFault.{RdataFault}
-use Rattle.rrset.specs.declared.reading.RdataFault.TheVariants.{Shape, NoMemory}
+use Rattle.rrset.specs.declared.rdata_reader.RdataFault.{RdataFault}
+use Rattle.rrset.specs.declared.rdata_reader.RdataFault.TheVariants.{Shape, NoMemory}
 
 -- a call gives what reading gives, unless memory ran out
 abbrev pub GivesRdata : {X : Type 0} → Result X RdataFault → Result X ℕ → Type 0

@@ -10,7 +10,7 @@ mod lists;
 mod matching;
 mod order;
 pub mod rcodes;
-mod reading;
+mod rdata_reader;
 pub mod record;
 mod renaming;
 pub mod shape;
@@ -28,7 +28,7 @@ pub use comparing::{changes, put_all, same_key, same_keys, same_rows, same_shown
 pub use copying::Copied;
 pub use matching::{FIXED_FIELDS, matches, rr_size, same_question};
 pub use order::{compare_keys, compare_with_lower};
-pub use reading::{RdataFault, read_rdata};
+pub use rdata_reader::{RdataFault, read_rdata};
 pub use record::{
     Changed, HeardRr, HeardRrs, Hearing, Key, NoMemory, Question, Questions, Rr, Rrs, Shown,
 };

@@ -10,3 +10,4 @@ pub mod Scripts
 pub mod sizes
 pub mod turns
 pub mod calls
+pub mod Reading

@@ -1,14 +1,14 @@
 -- The laws of whole scripts, put together.
 --     all-laws      the laws of each step
---     stands-after, holds-after      after each line
---     tell-one-text, never-go-back, no-message-ends      what is printed
+--     stands-after, lines-hold, holds-after      after each line
+--     lines-tell, tell-one-text, never-go-back, lines-end, no-message-ends      what is printed
 --     turns-are-enough      each settle comes to its end
---     settles-empty, keep-promises      what is so behind it
+--     lines-settle, settles-empty, lines-keep, keep-promises      what is so behind it
 use Rattle.replay.specs.Promises.{HoldsAfterEachLine, EveryScriptTellsOneText, EverySettleEmptiesBothWays, EveryScriptKeepsPromises, NoMessageEnds}
-use Rattle.script_laws.specs.Settling.{TurnsSuffice}
+use Rattle.script_laws.specs.Settling.{TurnsSuffice, SettlesOfLines}
 use Rattle.script_laws.specs.Replies.{RepliesAreOne}
 use Rattle.script_laws.specs.Turns.{work_left, LowersAlways}
-use Rattle.script_laws.specs.Whole.{StandsAfterEachLine, ScriptsNeverGoBack, OnlyLoneOnesAreFed}
+use Rattle.script_laws.specs.Whole.{StandsAfterEachLine, ScriptsNeverGoBack, OnlyLoneOnesAreFed, LinesKeepPromises, LinesTellOneText, LinesHold, NoMessageEndsLines}
 use Rattle.script_laws.specs.Walk.{Keeps, OfUps, OfEmits, OfDowns, RoundsPass, SettlesPass}
 use Rattle.script_laws.proofs.hubs.Reaching.{reached-go-on, begun-go-on, points-rise}
 use Rattle.script_laws.proofs.hubs.Sound.{reached-sound}
@@ -33,7 +33,7 @@ use Rattle.script_laws.proofs.settles.Settling.{turns-suffice, settles-of-zones}
 use Rattle.script_laws.proofs.sizes.EachLine.{sized-after-lines, work-is-little}
 use Rattle.script_laws.proofs.sizes.Histories.{histories-are-short}
 use Rattle.script_laws.proofs.sizes.Queues.{queues-are-short}
-use Rattle.script_laws.proofs.sizes.Scripts.{scripts-are-short}
+use Rattle.script_laws.proofs.Reading.{are-lines}
 use Rattle.script_laws.proofs.turns.Rounds.{emits-lower, downs-lower, rounds-fall}
 use Rattle.script_laws.proofs.newest.Promises.{keeps-promises}
 use Rattle.script_laws.proofs.texts.Shows.{shown-taken}
@@ -90,17 +90,26 @@ all-laws = record {
 pub stands-after : StandsAfterEachLine
 stands-after = stands-after-each-line all-laws shown-taken
 
+pub lines-hold : LinesHold
+lines-hold = holds-after-each-line all-laws stands-after
+
 pub holds-after : HoldsAfterEachLine
-holds-after = holds-after-each-line all-laws stands-after
+holds-after text script before after read split = lines-hold script before after (are-lines text script read) split
+
+pub lines-tell : LinesTellOneText
+lines-tell = one-text reached-sessions stands-after
 
 pub tell-one-text : EveryScriptTellsOneText
-tell-one-text = one-text reached-sessions stands-after
+tell-one-text text script read = lines-tell script (are-lines text script read)
 
 pub never-go-back : ScriptsNeverGoBack
 never-go-back = never-back reached-sessions stands-after
 
+pub lines-end : NoMessageEndsLines
+lines-end = no-ends all-laws
+
 pub no-message-ends : NoMessageEnds
-no-message-ends = no-ends all-laws
+no-message-ends text script before after line w seat read split found joins = lines-end script before after line w seat (are-lines text script read) split found joins
 
 pub only-lone-fed : OnlyLoneOnesAreFed
 only-lone-fed = only-lone all-laws
@@ -118,10 +127,16 @@ downward-lower = downs-lower reached-sessions
 pub turns-are-enough : TurnsSuffice
 turns-are-enough =
     turns-suffice reached-go-on rounds stands-after work_left (rounds-fall reached-go-on says-pass ups emitting emitting-lower downward-lower)
-    (work-is-little reached-sound stands-after (sized-after-lines all-laws shown-taken emitting-lower downward-lower) queues-are-short histories-are-short scripts-are-short)
+    (work-is-little reached-sound stands-after (sized-after-lines all-laws shown-taken emitting-lower downward-lower) queues-are-short histories-are-short)
+
+pub lines-settle : SettlesOfLines
+lines-settle = settles-of-zones reached-go-on rounds (quiet-at-last reached-go-on stopped-said-so says-pass ups emitting) stands-after turns-are-enough
 
 pub settles-empty : EverySettleEmptiesBothWays
-settles-empty = settles-of-zones reached-go-on rounds (quiet-at-last reached-go-on stopped-said-so says-pass ups emitting) stands-after turns-are-enough
+settles-empty text script before after w seat read are alone = lines-settle script before after w seat (are-lines text script read) are alone
+
+pub lines-keep : LinesKeepPromises
+lines-keep = keeps-promises reached-sessions reached-sound settling stands-after never-go-back lines-settle
 
 pub keep-promises : EveryScriptKeepsPromises
-keep-promises = keeps-promises reached-sessions reached-sound settling stands-after never-go-back settles-empty
+keep-promises text script read = lines-keep script (are-lines text script read)

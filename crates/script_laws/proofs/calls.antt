@@ -7,6 +7,7 @@ pub mod InTurn
 pub mod GivesOn
 pub mod Exchanging
 pub mod Exchanges
+pub mod EachCall
 pub mod Others
 pub mod Served
 pub mod Fits

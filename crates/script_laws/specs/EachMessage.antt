@@ -25,8 +25,8 @@ use Rattle.dsosession.specs.declared.session.Reaction.TheVariants as reactions
 use Rattle.history.specs.declared.entry.Entry.{Entry}
 use Rattle.pushsession.specs.Sessions.{without_first}
 use Rattle.pushsession.specs.Subscribing.{Verdict, Refuse, Abort, Accept, verdict_on, first_answer_octets}
-use Rattle.pushsession.specs.declared.standing.Standing.{Standing}
-use Rattle.pushsession.specs.declared.standing.Standing.TheVariants.{Live, Ended}
+use Rattle.pushsession.specs.declared.session_status.SessionStatus.{SessionStatus}
+use Rattle.pushsession.specs.declared.session_status.SessionStatus.TheVariants.{Live, Ended}
 use Rattle.pushserver.specs.PlainHubs.{Hub, Session, frame_of, asked_of, first_answer}
 use Rattle.pushserver.specs.Hubs.{keeps_now, session_of, in_session, update}
 use Rattle.pushserver.specs.Giving.{has_home, reconfirm, give, reacted, after_reaction}
@@ -84,8 +84,8 @@ pub record Effect : Type 0 where
   pub history : List Entry
 
 -- messages alone
-abbrev pub says : Hub → Session → List (List ℕ) → Effect
-says hub session messages = record { messages = messages; ended = None; established = session.established; asks = asked_of session.subscriptions; history = hub.history }
+abbrev pub effect_of_messages : Hub → Session → List (List ℕ) → Effect
+effect_of_messages hub session messages = record { messages = messages; ended = None; established = session.established; asks = asked_of session.subscriptions; history = hub.history }
 
 -- a session that has ended asks for nothing
 abbrev pub ends_by : Hub → Session → EndReason → Effect
@@ -101,10 +101,10 @@ first_messages hub session message question = answer_to (id_of message) noerror 
 
 -- by the tests of a SUBSCRIBE (RFC 8765, 6.2)
 abbrev pub effect_by_verdict : Hub → Session → List ℕ → Verdict → Effect
-effect_by_verdict hub session message (Refuse rcode) = says hub session (refusal_to (id_of message) rcode ∷ [])
+effect_by_verdict hub session message (Refuse rcode) = effect_of_messages hub session (refusal_to (id_of message) rcode ∷ [])
 effect_by_verdict hub session message (Abort reason) = ends_by hub session reason
 effect_by_verdict hub session message (Accept question) =
-    record (says hub session (first_messages hub session message question)) { established = true; asks = asked_of session.subscriptions ++ (id_of message, question) ∷ [] }
+    record (effect_of_messages hub session (first_messages hub session message question)) { established = true; asks = asked_of session.subscriptions ++ (id_of message, question) ∷ [] }
 
 abbrev pub effect_of_subscribe : Hub → Session → List ℕ → Option Question → Effect
 effect_of_subscribe hub session message question = effect_by_verdict hub session message (verdict_on (keeps_now hub) (id_of message) question (has_home hub question) session.subscriptions)
@@ -112,7 +112,7 @@ effect_of_subscribe hub session message question = effect_by_verdict hub session
 -- a RECONFIRM is not answered, and may make an entry; data that is no record ends the session (RFC 8765, 6.5)
 abbrev pub effect_of_reconfirm : Hub → Session → Option Rr → Effect
 effect_of_reconfirm hub session None = ends_by hub session (ends.BadData reconfirm_tlv)
-effect_of_reconfirm hub session (Some rr) = record (says hub session []) { history = (reconfirm hub rr).history }
+effect_of_reconfirm hub session (Some rr) = record (effect_of_messages hub session []) { history = (reconfirm hub rr).history }
 
 -- the ID of an UNSUBSCRIBE goes with its question (RFC 8765, 6.4)
 abbrev pub without_asked : List ℕ → Session → List (ℕ × Question)
@@ -120,12 +120,12 @@ without_asked message session = asked_of (filter (λ s. not (s.id == from_be_byt
 
 -- by the line of the server's table that fits the message
 abbrev pub effect_by : Hub → Session → List ℕ → Reaction → Effect
-effect_by hub session message (reactions.Answer rcode) = says hub session (answer_to (id_of message) rcode ∷ [])
-effect_by hub session message reactions.Grant = record (says hub session (grant_to (id_of message) hub.timers.inactivity hub.timers.keepalive ∷ [])) { established = true }
+effect_by hub session message (reactions.Answer rcode) = effect_of_messages hub session (answer_to (id_of message) rcode ∷ [])
+effect_by hub session message reactions.Grant = record (effect_of_messages hub session (grant_to (id_of message) hub.timers.inactivity hub.timers.keepalive ∷ [])) { established = true }
 effect_by hub session message (reactions.Abort reason) = ends_by hub session reason
-effect_by hub session message reactions.Unsubscribe = record (says hub session []) { asks = without_asked message session }
-effect_by hub session message reactions.NotImplemented = says hub session (not_implemented message ∷ [])
-effect_by hub session message reactions.Update = (let judged = update hub message in record (says hub session (answer_to_update (id_of message) judged.0 ∷ [])) { history = judged.1.history })
+effect_by hub session message reactions.Unsubscribe = record (effect_of_messages hub session []) { asks = without_asked message session }
+effect_by hub session message reactions.NotImplemented = effect_of_messages hub session (not_implemented message ∷ [])
+effect_by hub session message reactions.Update = (let judged = update hub message in record (effect_of_messages hub session (answer_to_update (id_of message) judged.0 ∷ [])) { history = judged.1.history })
 effect_by hub session message reactions.Reconfirm = effect_of_reconfirm hub session (reconfirm_of (primary_data message))
 effect_by hub session message reactions.Subscribe = effect_of_subscribe hub session message (question_of (primary_data message))
 
@@ -137,7 +137,7 @@ effect_of hub session message = elim (head_of message) [ None ↦ ends_by hub se
 abbrev pub messages_of : Session → List (List ℕ)
 messages_of session = map (λ m. m.message) session.made
 
-abbrev pub standing_after : Standing → Option EndReason → Standing
+abbrev pub standing_after : SessionStatus → Option EndReason → SessionStatus
 standing_after standing None = standing
 standing_after standing (Some reason) = Ended reason
 

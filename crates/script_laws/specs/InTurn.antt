@@ -8,8 +8,8 @@ use Rattle.std.specs.Prelude.{◌≡◌, ℕ, ◌<◌, List, [], ◌∷◌, ◌+
 use Rattle.push_base.specs.Cases.{is_empty}
 use Rattle.coalesce.specs.Net.{packed}
 use Rattle.dsotlv.specs.Answers.{stop_message}
-use Rattle.pushsession.specs.declared.standing.Standing.{Standing}
-use Rattle.pushsession.specs.declared.standing.Standing.TheVariants.{Live, AskedToStop, Stopped, Ended}
+use Rattle.pushsession.specs.declared.session_status.SessionStatus.{SessionStatus}
+use Rattle.pushsession.specs.declared.session_status.SessionStatus.TheVariants.{Live, AskedToStop, Stopped, Ended}
 use Rattle.pushserver.specs.PlainHubs.{Hub, Session, nets_of}
 use Rattle.pushserver.specs.Hubs.{session_of}
 use Rattle.pushserver.specs.Calls.{HubCall, gives, after_calls}
@@ -17,7 +17,7 @@ use Rattle.pushtelling.specs.Runs.{first_of, in_calls}
 use Rattle.script_laws.specs.EachMessage.{pushes, effect_of, messages_of}
 
 -- one PUSH of the nets of names that wait, as far as they fit, where there are any; or the Retry Delay that was asked for, where the session is established
-abbrev pub says_itself : Standing → Hub → Session → List (List ℕ)
+abbrev pub says_itself : SessionStatus → Hub → Session → List (List ℕ)
 says_itself Live hub session = pushes (packed (nets_of hub.start hub.history session.subscriptions session.queue)).0
 says_itself (AskedToStop rcode delay) hub session = if session.established then stop_message rcode delay ∷ [] else []
 says_itself (Stopped since) hub session = []

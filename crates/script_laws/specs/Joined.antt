@@ -12,7 +12,7 @@ use Rattle.dsotlv.specs.Messages.{first_message}
 use Rattle.dsosession.specs.declared.session.EndReason.{EndReason}
 use Rattle.dsosession.specs.declared.session.CloseReason.{CloseReason}
 use Rattle.dsosession.specs.declared.session.CloseReason.TheVariants.{Delay}
-use Rattle.pushsession.specs.declared.standing.Standing.{Standing}
+use Rattle.pushsession.specs.declared.session_status.SessionStatus.{SessionStatus}
 use Rattle.pushsession.specs.Sessions.{is_open}
 use Rattle.pushserver.specs.PlainHubs.{Hub, Session, size_of_made}
 use Rattle.pushserver.specs.Hubs.{session_of}
@@ -26,7 +26,7 @@ use Rattle.replay.specs.Promises.{EndedByItself, ShownPoints, ShowsNoLater, poin
 use Rattle.script_laws.specs.Reached.{FitCalls, IsReached, Began, AreFor}
 
 -- if it has closed, then by a Retry Delay, behind which the session doesn't go on (RFC 8490, 6.6.1)
-abbrev pub ClosedByDelay : Standing → Option CloseReason → Type 0
+abbrev pub ClosedByDelay : SessionStatus → Option CloseReason → Type 0
 ClosedByDelay standing None = Unit {0}
 ClosedByDelay standing (Some (Delay ms rcode)) = is_open standing ≡ false
 ClosedByDelay standing (Some _) = ⊥

@@ -2,24 +2,33 @@
 --     emit_calls turns number budget hub      octets are asked for until so many came
 --     exchange_calls turns number octets hub      octets go into a session and out of it
 --     settle_calls turns number world seat      rounds between a client and its session
+--     hub_calls event, link_calls event w, way_calls way, client_calls event w, session_calls event w      what each class of lines does to the hub
 --     line_calls line world, script_calls lines world      what a line does to the hub, and what lines do
 --     LinesAreCalls, ScriptsAreCalls      the hub behind them is that behind these calls
 --     AreFirst calls script      a script begins with these calls
-use Rattle.std.specs.Prelude.{◌≡◌, ℕ, zero, suc, ◌-◌, true, false, ◌||◌, cond, List, [], ◌∷◌, ◌++◌, take, drop, length, min, flat_map, position, Option, Some, None, ◌==◌}
-use Rattle.std.specs.Str.{bytes_eq}
+use Rattle.std.specs.Prelude.{◌≡◌, ℕ, zero, suc, ◌-◌, true, false, ◌||◌, cond, List, [], ◌∷◌, ◌++◌, take, drop, length, min, flat_map, Option, Some, None, ◌==◌}
 use Rattle.pushserver.specs.declared.given.Given.TheVariants.{Bytes, Worked, Nothing, Ending, End}
 use Rattle.pushserver.specs.PlainHubs.{Hub}
 use Rattle.pushserver.specs.Hubs.{now, connect, moment, taken_by, take_octets}
 use Rattle.pushserver.specs.Giving.{give}
-use Rattle.pushserver.specs.Calls.{HubCall, updates, hears, moves, connects, takes, gives, stops, ends, after_calls}
+use Rattle.pushserver.specs.Calls.{HubCall, updates, moves, connects, takes, gives, stops, ends, after_calls}
 use Rattle.pushclient.specs.Clients.{closed_as, is_connected}
 use Rattle.pushclient.specs.Steps as steps
-use Rattle.scripts.specs.Lines.{Word, ScriptLine, at_moment, update, hear, open_connection, cut, say, up, emit, down, settle, send, feed, stop}
+use Rattle.scripts.specs.Lines.{Word, ScriptLine, hub_event, link_event, client_passing, client_event, session_event}
+use Rattle.scripts.specs.declared.line.HubEvent.{HubEvent}
+use Rattle.scripts.specs.declared.line.HubEvent.TheVariants as hub_events
+use Rattle.scripts.specs.declared.line.LinkEvent.{LinkEvent}
+use Rattle.scripts.specs.declared.line.Way.{Way}
+use Rattle.scripts.specs.declared.line.Way.TheVariants as ways
+use Rattle.scripts.specs.declared.line.ClientEvent.{ClientEvent}
+use Rattle.scripts.specs.declared.line.ClientEvent.TheVariants as client_events
+use Rattle.scripts.specs.declared.line.SessionEvent.{SessionEvent}
+use Rattle.scripts.specs.declared.line.SessionEvent.TheVariants as session_events
 use Rattle.replay.specs.World.{World, Seat, start_world, seat_of, session_number, is_over}
 use Rattle.replay.specs.PassedOctets as passing
 use Rattle.replay.specs.PassedOctets.{Passed, enough, max_wire, round, settled, is_still, exchanged, fed_client}
 use Rattle.replay.specs.TextWords.{by_history}
-use Rattle.replay.specs.Text.{placed, number_or_zero, session_of_word, line_does, world_after}
+use Rattle.replay.specs.Text.{placed, passing_of, session_of_word, link_call, line_does, world_after}
 
 -- ---- octets go in and out
 
@@ -121,20 +130,38 @@ stop_calls (Some number) rcode delay = stops number rcode delay ∷ []
 
 -- ---- lines
 
+abbrev pub hub_calls : HubEvent → World → List HubCall
+hub_calls (hub_events.At t) world = moves t ∷ flat_map (timed_calls (now (moment world.hub t).1)) world.seats
+hub_calls (hub_events.Update message) world = updates message ∷ []
+hub_calls hub_events.Point world = []
+
+abbrev pub link_calls : LinkEvent → Word → World → List HubCall
+link_calls event w world = link_call event w world ∷ []
+
+-- octets of a client with a session pass
+abbrev pub way_calls : Way → ℕ → World → Seat → List HubCall
+way_calls (ways.Say n) number world seat = []
+way_calls (ways.Up n) number world seat = up_calls number n world seat
+way_calls (ways.Emit n) number world seat = out_calls number n world seat
+way_calls (ways.Down n) number world seat = []
+way_calls ways.Settle number world seat = settle_calls enough number world seat
+
+abbrev pub client_calls : ClientEvent → Word → World → List HubCall
+client_calls client_events.Open w world = of_seat open_calls w world
+client_calls (client_events.Feed octets) w world = of_seat (feed_calls octets) w world
+client_calls (client_events.Show question written) w world = []
+
+abbrev pub session_calls : SessionEvent → Word → World → List HubCall
+session_calls (session_events.Send octets) w world = send_calls w octets world
+session_calls (session_events.Stop rcode delay) w world = stop_calls (session_of_word world w) rcode delay
+session_calls session_events.Cut w world = elim (seat_of world w) [ None ↦ end_calls (session_number world w) | Some seat ↦ end_calls seat.session ]
+
 abbrev pub line_calls : ScriptLine → World → List HubCall
-line_calls (at_moment t) world = moves t ∷ flat_map (timed_calls (now (moment world.hub t).1)) world.seats
-line_calls (update message) world = updates message ∷ []
-line_calls (hear w datagram) world = hears (number_or_zero (position (bytes_eq w) world.links)) datagram ∷ []
-line_calls (open_connection w) world = of_seat open_calls w world
-line_calls (cut w) world = elim (seat_of world w) [ None ↦ end_calls (session_number world w) | Some seat ↦ end_calls seat.session ]
-line_calls (say w n) world = of_seat (passing_calls (λ number there seat. []) (λ number. passing.say n)) w world
-line_calls (up w n) world = of_seat (passing_calls (λ number. up_calls number n) (λ number. passing.up number n)) w world
-line_calls (emit w n) world = of_seat (passing_calls (λ number. out_calls number n) (λ number. passing.emit number n)) w world
-line_calls (down w n) world = of_seat (passing_calls (λ number there seat. []) (λ number. passing.down n)) w world
-line_calls (settle w) world = of_seat (passing_calls (settle_calls enough) (λ number there client. settled enough number there client None)) w world
-line_calls (send w octets) world = send_calls w octets world
-line_calls (feed w octets) world = of_seat (feed_calls octets) w world
-line_calls (stop w rcode delay) world = stop_calls (session_of_word world w) rcode delay
+line_calls (hub_event event) world = hub_calls event world
+line_calls (link_event w event) world = link_calls event w world
+line_calls (client_passing w way) world = of_seat (passing_calls (way_calls way) (passing_of way)) w world
+line_calls (client_event w event) world = client_calls event w world
+line_calls (session_event w event) world = session_calls event w world
 line_calls _ world = []
 
 abbrev pub script_calls : List ScriptLine → World → List HubCall

@@ -16,8 +16,8 @@ use Rattle.dsotlv.specs.Messages.{first_message, messages_in, frame}
 use Rattle.dsosession.specs.declared.session.EndReason.{EndReason}
 use Rattle.pushsession.specs.Sessions.{is_open}
 use Rattle.pushsession.specs.Subscribing.{first_answer_octets}
-use Rattle.pushsession.specs.declared.standing.Standing.{Standing}
-use Rattle.pushsession.specs.declared.standing.Standing.TheVariants.{Live, AskedToStop, Stopped, Ended}
+use Rattle.pushsession.specs.declared.session_status.SessionStatus.{SessionStatus}
+use Rattle.pushsession.specs.declared.session_status.SessionStatus.TheVariants.{Live, AskedToStop, Stopped, Ended}
 use Rattle.pushserver.specs.PlainHubs.{Hub, Session, Made, frame_of, first_answer}
 use Rattle.pushserver.specs.Hubs.{session_of}
 use Rattle.pushserver.specs.Giving.{give}
@@ -29,12 +29,14 @@ use Rattle.scripts.specs.Scripts.{script_of}
 use Rattle.replay.specs.World.{World, start_world}
 use Rattle.replay.specs.PassedOctets.{Exchanged, exchanged, enough}
 use Rattle.replay.specs.TextWords.{bytes_line, by_history, HeldRecords}
-use Rattle.replay.specs.Text.{placed, end_lines, line_does, printed_by, ended_lines, world_after}
-use Rattle.replay.specs.declared.outcome.Outcome.TheVariants as outcomes
-use Rattle.replay.specs.Outcomes.{status_of}
-use Rattle.replay.specs.Reply.{Reply}
+use Rattle.replay.specs.Text.{placed, end_lines, line_does, printed_by, world_after}
+use Rattle.scripts.specs.Words.{ended_lines}
+use Rattle.scripts.specs.declared.outcome.Outcome.TheVariants as outcomes
+use Rattle.scripts.specs.Outcomes.{status_of}
+use Rattle.scripts.specs.Reply.{Reply}
 use Rattle.replay.specs.ScriptReplies.{reply_to_script}
-use Rattle.replay.specs.Serving.{Asked, world_then, connected_then, AsksFirst}
+use Rattle.replay.specs.Between.{world_then}
+use Rattle.replay.specs.Serving.{Asked, asked_between, connected_then, AsksFirst}
 use Rattle.script_laws.specs.LineCalls.{exchange_calls}
 use Rattle.script_laws.specs.EachMessage.{HasItsTurn, TurnHasEffect}
 use Rattle.script_laws.specs.InTurn.{made_in}
@@ -42,7 +44,7 @@ use Rattle.script_laws.specs.InTurn.{made_in}
 -- ---- a session between two exchanges
 
 -- one that goes on has no whole message in its input, and the end of one that has ended was told
-abbrev pub IsDone : Standing → Session → Option EndReason → Type 0
+abbrev pub IsDone : SessionStatus → Session → Option EndReason → Type 0
 IsDone Live session over = (over ≡ None) × (first_message session.input ≡ None)
 IsDone (AskedToStop rcode delay) session over = ⊥
 IsDone (Stopped since) session over = over ≡ None
@@ -187,7 +189,7 @@ first_as asked number = record {
   octets = asked.octets;
   behind = asked.behind;
   number = number;
-  world = record (world_then asked) { hub = connected_then asked; peers = (world_then asked).peers ++ (asked.word, number) ∷ [] };
+  world = record (world_then (asked_between asked)) { hub = connected_then asked; peers = (world_then (asked_between asked)).peers ++ (asked.word, number) ∷ [] };
   front = [];
   message = asked.message;
   question = asked.question;

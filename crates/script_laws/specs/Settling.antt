@@ -4,20 +4,22 @@
 --     RoundsFall, FewRoundsEnd      what falls in each other round; so rounds come to an end
 --     SettlesEmpty      rounds that come to one that is still
 --     TurnsSuffice, IsLittleAtSettles      each settle of a script does, by a number that falls
-use Rattle.std.specs.Prelude.{◌≡◌, ℕ, zero, suc, ◌<◌, Bool, true, false, not, ◌&&◌, List, ◌∷◌, ◌++◌, Option, Some, None, Ok, ◌==◌}
+--     SettlesOfLines      where it has printed its line alone nothing is under way behind it
+use Rattle.std.specs.Prelude.{◌≡◌, ℕ, zero, suc, ◌<◌, Bool, true, false, List, [], ◌∷◌, ◌++◌, Option, Some, None, IsTrue}
 use Rattle.dsotlv.specs.Answers.{stop_message}
-use Rattle.pushsession.specs.declared.standing.Standing.{Standing}
-use Rattle.pushsession.specs.declared.standing.Standing.TheVariants.{Stopped}
+use Rattle.pushsession.specs.declared.session_status.SessionStatus.{SessionStatus}
+use Rattle.pushsession.specs.declared.session_status.SessionStatus.TheVariants.{Stopped}
 use Rattle.pushserver.specs.PlainHubs.{Hub, Session, Made}
 use Rattle.pushserver.specs.Hubs.{session_of}
 use Rattle.pushclient.specs.Clients.{Connection, closed_as}
 use Rattle.dsosession.specs.declared.session.EndReason.{EndReason}
 use Rattle.scripts.specs.Lines.{Word, ScriptLine, settle}
-use Rattle.scripts.specs.Scripts.{script_of}
 use Rattle.replay.specs.Text.{world_after}
 use Rattle.replay.specs.World.{World, Seat, seat_of, start_world}
-use Rattle.replay.specs.PassedOctets.{is_still, Passed, enough, round, settled}
-use Rattle.replay.specs.Promises.{ShownPoints, IsQuiet}
+use Rattle.replay.specs.PassedOctets.{is_still, enough, round, settled}
+use Rattle.replay.specs.Promises.{ShownPoints, IsQuiet, SeatIsQuiet}
+use Rattle.replay.specs.HeldPoints.{settles_alone}
+use Rattle.script_laws.specs.Lines.{AreLines}
 use Rattle.script_laws.specs.Reached.{IsReached}
 use Rattle.script_laws.specs.Joined.{IsJoined, Waits}
 
@@ -31,7 +33,7 @@ pub record SaysStop (made : List Made) : Type 0 where
   pub delay : ℕ
   pub says : one.message ≡ stop_message rcode delay
 
-abbrev pub is_stopped : Standing → Bool
+abbrev pub is_stopped : SessionStatus → Bool
 is_stopped (Stopped since) = true
 is_stopped _ = false
 
@@ -77,12 +79,19 @@ SettlesEmpty = (turns number : ℕ) (over : Option EndReason) (world : World) (s
 
 -- of each settle of a client with a session
 abbrev pub TurnsSuffice : Type 0
-TurnsSuffice = (text : List ℕ) (script before after : List ScriptLine) (w : Word) (seat : Seat) (number : ℕ) → script_of text ≡ Ok script → script ≡ before ++ settle w ∷ after
+TurnsSuffice = (script before after : List ScriptLine) (w : Word) (seat : Seat) (number : ℕ) → AreLines script → script ≡ before ++ settle w ∷ after
     → let world = world_after before (start_world script) in
     seat_of world w ≡ Some seat → seat.session ≡ Some number → ends_still enough number world seat ≡ true
 
 -- a number that falls is less than the turns there
 abbrev pub IsLittleAtSettles : (ℕ → World → Seat → ℕ) → Type 0
-IsLittleAtSettles size = (text : List ℕ) (script before after : List ScriptLine) (w : Word) (seat : Seat) (number : ℕ) → script_of text ≡ Ok script → script ≡ before ++ settle w ∷ after
+IsLittleAtSettles size = (script before after : List ScriptLine) (w : Word) (seat : Seat) (number : ℕ) → AreLines script → script ≡ before ++ settle w ∷ after
     → let world = world_after before (start_world script) in
     seat_of world w ≡ Some seat → seat.session ≡ Some number → size number world seat < enough
+
+-- a settle that has printed its line alone leaves nothing under way
+abbrev pub SettlesOfLines : Type 0
+SettlesOfLines = (script before after : List ScriptLine) (w : Word) (seat : Seat) → AreLines script → script ≡ before ++ settle w ∷ after
+    → IsTrue (settles_alone w (settle w) (world_after before (start_world script)))
+    → let world = world_after (before ++ settle w ∷ []) (start_world script) in
+    seat_of world w ≡ Some seat → SeatIsQuiet world.hub seat

@@ -8,8 +8,8 @@ use Rattle.std.specs.Prelude.{◌≡◌, ℕ, ◌+◌, ◌*◌, ◌<◌, ◌≤�
 use Rattle.std.specs.List.{AllByRecursion}
 use Rattle.push_base.specs.Limits.{max_questions}
 use Rattle.history.specs.States.{max_journal_entries}
-use Rattle.pushsession.specs.declared.standing.Standing.{Standing}
-use Rattle.pushsession.specs.declared.standing.Standing.TheVariants.{AskedToStop}
+use Rattle.pushsession.specs.declared.session_status.SessionStatus.{SessionStatus}
+use Rattle.pushsession.specs.declared.session_status.SessionStatus.TheVariants.{AskedToStop}
 use Rattle.pushserver.specs.PlainHubs.{Hub, Session}
 use Rattle.pushserver.specs.Hubs.{newest, session_of}
 use Rattle.pushclient.specs.Clients.{Client, Connection, output_of}
@@ -19,6 +19,7 @@ use Rattle.replay.specs.World.{World, Seat, start_world}
 use Rattle.replay.specs.PassedOctets.{Passed}
 use Rattle.replay.specs.Text.{world_after}
 use Rattle.replay.specs.Promises.{ShownPoints}
+use Rattle.script_laws.specs.Lines.{AreLines}
 use Rattle.script_laws.specs.Reached.{IsReached}
 use Rattle.script_laws.specs.Joined.{IsJoined}
 
@@ -29,7 +30,7 @@ abbrev pub reaction_cost : ℕ
 reaction_cost = 131075
 
 -- a stop that was asked for and isn't said yet
-abbrev pub asked_stops : Standing → ℕ
+abbrev pub asked_stops : SessionStatus → ℕ
 asked_stops (AskedToStop rcode delay) = 1
 asked_stops _ = 0
 
@@ -81,5 +82,5 @@ abbrev pub IsSized : ℕ → Seat → Type 0
 IsSized lines seat = seat.is_lone ≡ false → owes seat.client ≤ most_owed lines
 
 abbrev pub SizedAfterLines : Type 0
-SizedAfterLines = (text : List ℕ) (script before after : List ScriptLine) → script_of text ≡ Ok script → script ≡ before ++ after
+SizedAfterLines = (script before after : List ScriptLine) → AreLines script → script ≡ before ++ after
     → AllByRecursion (IsSized (length before)) (world_after before (start_world script)).seats

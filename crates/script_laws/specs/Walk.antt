@@ -4,9 +4,6 @@
 --     AsksStay, MomentsStay      a client that is joined is asked for something, or comes to a moment
 --     OthersLeaveSeats      calls that aren't for a seat's session leave it as it stands
 use Rattle.std.specs.Prelude.{◌≡◌, ℕ, ◌≤◌, false, List, Option, Some, None, IsTrue}
-use Rattle.dnsname.specs.Names.{is_name}
-use Rattle.rrset.specs.declared.record.Question.{Question}
-use Rattle.rrset.specs.declared.record.Rr.{Rr}
 use Rattle.dsotlv.specs.Laws.{AreOctets}
 use Rattle.dsosession.specs.declared.session.EndReason.{EndReason}
 use Rattle.dsosession.specs.declared.session.CloseReason.{CloseReason}
@@ -14,13 +11,15 @@ use Rattle.dsosession.specs.declared.session.CloseReason.TheVariants as closes
 use Rattle.pushserver.specs.PlainHubs.{Hub, Session}
 use Rattle.pushserver.specs.Hubs.{newest, now, connect}
 use Rattle.pushserver.specs.Calls.{HubCall, after_calls}
-use Rattle.pushclient.specs.Clients.{Client, Connection, subscribe, unsubscribe, reconfirm, connected, closed_as}
+use Rattle.pushclient.specs.Clients.{Client, Connection, connected, closed_as}
 use Rattle.pushclient.specs.Steps as steps
-use Rattle.inflight.specs.Ends.{is_question}
 use Rattle.inflight.specs.Flight.{AreSoundWishes}
+use Rattle.scripts.specs.declared.line.Call.{Call}
 use Rattle.replay.specs.World.{World, Seat, cut_seat}
 use Rattle.replay.specs.PassedOctets.{Passed, Exchanged, say, up, emit, down, round, settled, exchanged}
+use Rattle.replay.specs.Text.{called}
 use Rattle.replay.specs.Promises.{ShownPoints, is_end_by_itself, IsUnconnected}
+use Rattle.script_laws.specs.Lines.{IsCallWithin}
 use Rattle.script_laws.specs.Reached.{FitCalls, IsReached, AreFor, Avoids}
 use Rattle.script_laws.specs.Joined.{IsJoined, SeatStands, StandsWith, PassesSo, Waits}
 
@@ -80,11 +79,8 @@ KeepsJoined next = (hub : Hub) (shown : ShownPoints) (seat : Seat) (number : ℕ
     → IsReached hub → IsJoined hub shown seat number session c → c.closed ≡ None → StaysJoined hub shown seat number session c (next seat.client)
 
 pub record AsksStay : Type 0 where
-  pub asked : (question : Question) → IsTrue (is_question question) → KeepsJoined (λ client. (subscribe client question).1)
-  pub dropped : (question : Question) → KeepsJoined (λ client. (unsubscribe client question).1)
-  pub reconfirmed : (rr : Rr) → IsTrue (is_name rr.owner) → AreOctets rr.rdata → KeepsJoined (λ client. (reconfirm client rr).1)
-  pub unclosed : (client : Client) (c : Connection) (question : Question) (rr : Rr) → client.connection ≡ Some c → c.closed ≡ None
-      → (closed_as (subscribe client question).1 ≡ None) × (closed_as (unsubscribe client question).1 ≡ None) × (closed_as (reconfirm client rr).1 ≡ None)
+  pub joined : (call : Call) → IsCallWithin call → KeepsJoined (λ client. (called call client).1)
+  pub unclosed : (call : Call) (client : Client) (c : Connection) → client.connection ≡ Some c → c.closed ≡ None → closed_as (called call client).1 ≡ None
 
 -- at a moment it may close, by its own timer alone (RFC 8490, 6.4)
 pub record MomentsStay : Type 0 where
@@ -95,10 +91,9 @@ pub record MomentsStay : Type 0 where
 
 -- without a connection the questions stay few, different and within bounds, whatever the client is asked for, and at any moment
 pub record WishesStaySound : Type 0 where
-  pub asked : (client : Client) (question : Question) → client.connection ≡ None → IsTrue (is_question question) → AreSoundWishes client.wishes → AreSoundWishes (subscribe client question).1.wishes
-  pub dropped : (client : Client) (question : Question) → client.connection ≡ None → AreSoundWishes client.wishes → AreSoundWishes (unsubscribe client question).1.wishes
-  pub unconnected : (client : Client) (question : Question) (rr : Rr) (t : ℕ) → client.connection ≡ None
-      → ((subscribe client question).1.connection ≡ None) × ((unsubscribe client question).1.connection ≡ None) × ((reconfirm client rr).1 ≡ client) × ((steps.moment client t).connection ≡ None) × ((steps.moment client t).wishes ≡ client.wishes)
+  pub asked : (call : Call) (client : Client) → client.connection ≡ None → IsCallWithin call → AreSoundWishes client.wishes → AreSoundWishes (called call client).1.wishes
+  pub unconnected : (call : Call) (client : Client) → client.connection ≡ None → (called call client).1.connection ≡ None
+  pub timed : (t : ℕ) (client : Client) → client.connection ≡ None → ((steps.moment client t).connection ≡ None) × ((steps.moment client t).wishes ≡ client.wishes)
 
 -- a client without a connection is joined to a new session of the hub
 abbrev pub NewOnesAreJoined : Type 0

@@ -4,7 +4,8 @@ use Rattle.push_base.specs.Hexadecimal.{hex}
 use Rattle.dnsname.specs.Text.{name}
 use Rattle.dsotlv.specs.Messages.{frame}
 use Rattle.pushserver.specs.Worked.{named, subscribe}
-use Rattle.scripts.specs.Lines.{Word, ScriptLine, zone, update, send}
+use Rattle.scripts.specs.Lines.{Word, zone, ScriptLine, head_line, hub_event, send}
+use Rattle.scripts.specs.declared.line.HubEvent.TheVariants as hub_events
 use Rattle.replay.specs.World.{World, start_world}
 use Rattle.replay.specs.TextWords.{by_history}
 use Rattle.replay.specs.Text.{line_does, world_after}
@@ -24,7 +25,7 @@ abbrev pub second_sent : List ℕ
 second_sent = frame (subscribe 2 (named (codes "example.com.")) 6)
 
 abbrev pub lines_before : List ScriptLine
-lines_before = zone (name (codes "example.com.")) 1 true ∷ send peer first_sent ∷ update address ∷ []
+lines_before = head_line (zone (name (codes "example.com.")) 1 true) ∷ send peer first_sent ∷ hub_event (hub_events.Update address) ∷ []
 
 abbrev pub world_before : World
 world_before = world_after lines_before (start_world (lines_before ++ send peer second_sent ∷ []))

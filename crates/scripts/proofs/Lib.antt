@@ -1,2 +1,3 @@
-pub mod ReadAndWritten
+pub mod ReadPieces
+pub mod Written
 pub mod lines

@@ -3,7 +3,7 @@ pub mod SameWords
 pub mod ClientLines
 pub mod Joined
 pub mod Lines
-pub mod LineKinds
+pub mod Readers
 pub mod LineWords
 pub mod Splits
 pub mod MoreLines

@@ -6,7 +6,7 @@
 --     client_added line      the client that a line adds
 --     head_taken taken, known_of taken      the head that the lines so far have made, and what is known behind them
 --     may_stand all known line      whether a line may stand there
---     GrowsBy taken line later      the head and the events with a further line
+--     HeadGrowsBy taken line later, GrowsBy taken line later      the head, and the head and the events with a further line
 --     TakesLine all draft line later taken      the line is taken where it may stand there
 --     client_in line, is_any_word w words      the client that a line names, and whether a word is among others
 use Rattle.std.specs.Prelude.{◌≡◌, ℕ, Bool, true, false, ◌==◌, List, [], ◌∷◌, ◌++◌, map, length, Option, Some, None, is_some, unwrap_or, string_bytes}
@@ -20,11 +20,13 @@ use Rattle.dsosession.specs.Timing.{default_timers}
 use Rattle.zoneupdate.specs.Zones.{ZoneState, new_zone}
 use Rattle.history.specs.States.{State, LinkState}
 use Rattle.history.specs.Kept.{HomesKept, state_of}
-use Rattle.scripts.specs.Lines.{Word, ScriptLine, client, lone, line_of}
+use Rattle.scripts.specs.Lines.{Word, ScriptLine, joining, line_of}
 use Rattle.scripts.specs.Scripts.{Known, nothing_known, fits, client_word}
 use Rattle.scripts.specs.Heads.{Head}
 use Rattle.scripts.specs.declared.line.ZoneLine.{ZoneLine}
 use Rattle.scripts.specs.declared.line.LinkLine.{LinkLine}
+use Rattle.scripts.specs.declared.line.HeadLine.{HeadLine}
+use Rattle.scripts.specs.declared.line.HeadLine.TheVariants as heads
 use Rattle.scripts.specs.declared.line.Event.{Event}
 use Rattle.scripts.specs.declared.line.Line.{Line}
 use Rattle.scripts.specs.declared.line.Line.TheVariants as lines
@@ -44,8 +46,7 @@ known_by links clients = record nothing_known { links = links; clients = clients
 
 -- the client that a line adds
 abbrev pub client_added : ScriptLine → List (Word × Bool)
-client_added (client w) = (w, false) ∷ []
-client_added (lone w) = (w, true) ∷ []
+client_added (joining w is_lone) = (w, is_lone) ∷ []
 client_added _ = []
 
 -- ---- a line that is taken
@@ -100,12 +101,16 @@ pub record HasLink (homes : HomesKept) (line : LinkLine) (homes_then : HomesKept
   pub state : state_of homes_then ≡ with_link (state_of homes) (record { domain = line.domain; rows = [] })
   pub named : homes_then.names ≡ homes.names ++ (line.domain, true) ∷ []
 
+-- the head with a further line of its own
+abbrev pub HeadGrowsBy : Taken → HeadLine → Taken → Type 0
+HeadGrowsBy taken (heads.Timers t) later = later ≡ record taken { timers = Some t }
+HeadGrowsBy taken (heads.Zone z) later = HasZone taken.homes z later.homes × (later ≡ record taken { homes = later.homes })
+HeadGrowsBy taken (heads.Link l) later = HasLink taken.homes l later.homes × (later ≡ record taken { homes = later.homes; links = taken.links ++ string_bytes l.word ∷ [] })
+
 -- the head and the events with a further line
 abbrev pub GrowsBy : Taken → Line → Taken → Type 0
 GrowsBy taken lines.Silent later = later ≡ taken
-GrowsBy taken (lines.Timers t) later = later ≡ record taken { timers = Some t }
-GrowsBy taken (lines.Zone z) later = HasZone taken.homes z later.homes × (later ≡ record taken { homes = later.homes })
-GrowsBy taken (lines.Link l) later = HasLink taken.homes l later.homes × (later ≡ record taken { homes = later.homes; links = taken.links ++ string_bytes l.word ∷ [] })
+GrowsBy taken (lines.Head h) later = HeadGrowsBy taken h later
 GrowsBy taken (lines.Event e) later = later ≡ record taken { events = taken.events ++ e ∷ []; clients = taken.clients ++ client_added (event_said e) }
 
 -- the line was taken, which may stand there, or wasn't, which may not

@@ -1,12 +1,12 @@
 -- What the head lines of a script make.
---     with_head_line head line      the head with a further line
+--     with_head head line, with_head_line head line      the head with a further line of its own, and with any line
 --     head_behind head lines      the head with further lines
 use Rattle.std.specs.Prelude.{List, [], ◌∷◌, ◌++◌, fold}
 use Rattle.zoneupdate.specs.Zones.{new_zone}
 use Rattle.dsosession.specs.declared.session.Timers.{Timers}
 use Rattle.dsosession.specs.Timing.{default_timers}
 use Rattle.history.specs.States.{State}
-use Rattle.scripts.specs.Lines.{Word, ScriptLine, timers, zone, link}
+use Rattle.scripts.specs.Lines.{Word, HeadLine, timers, zone, link, ScriptLine, head_line}
 
 -- what head lines make: timers, the start state and the links' words
 pub record Head : Type 0 where
@@ -17,10 +17,14 @@ pub record Head : Type 0 where
 abbrev pub empty_head : Head
 empty_head = record { timers = default_timers; start = record { zones = []; links = []; now = 0 }; links = [] }
 
+-- with a further line of the head
+abbrev pub with_head : Head → HeadLine → Head
+with_head head (timers i k) = record head { timers = record { inactivity = i; keepalive = k } }
+with_head head (zone apex serial mode) = record head { start = record head.start { zones = head.start.zones ++ new_zone apex serial mode ∷ [] } }
+with_head head (link w domain) = record head { start = record head.start { links = head.start.links ++ (record { domain = domain; rows = [] }) ∷ [] }; links = head.links ++ w ∷ [] }
+
 abbrev pub with_head_line : Head → ScriptLine → Head
-with_head_line head (timers i k) = record head { timers = record { inactivity = i; keepalive = k } }
-with_head_line head (zone apex serial mode) = record head { start = record head.start { zones = head.start.zones ++ new_zone apex serial mode ∷ [] } }
-with_head_line head (link w domain) = record head { start = record head.start { links = head.start.links ++ (record { domain = domain; rows = [] }) ∷ [] }; links = head.links ++ w ∷ [] }
+with_head_line head (head_line line) = with_head head line
 with_head_line head _ = head
 
 -- what lines make of a head

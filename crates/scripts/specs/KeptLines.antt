@@ -6,10 +6,10 @@
 use Rattle.std.specs.Prelude.{ℕ, Bool, true, List, [], ◌∷◌, Option, Some, None, ◌==◌, map, string_bytes}
 use Rattle.std.specs.declared.alloc.Global.{Global}
 use Rattle.std.specs.declared.string.String.{String}
-use Rattle.dsosession.specs.declared.session.Timers.{Timers}
-use Rattle.scripts.specs.Lines.{Word, ScriptLine, silent, timers, zone, link, lone, at_moment, update, hear, ask, drop_question, reconfirm, open_connection, cut, send, feed, stop, point, show, client, settle, say, up, emit, down}
-use Rattle.scripts.specs.declared.line.ZoneLine.{ZoneLine}
-use Rattle.scripts.specs.declared.line.LinkLine.{LinkLine}
+use Rattle.scripts.specs.Lines as plain
+use Rattle.scripts.specs.Lines.{Word, ScriptLine, silent, head_line, joining, hub_event, link_event, client_call, client_passing, client_event, session_event}
+use Rattle.scripts.specs.declared.line.HeadLine.{HeadLine}
+use Rattle.scripts.specs.declared.line.HeadLine.TheVariants as heads
 use Rattle.scripts.specs.declared.line.Event.{Event}
 use Rattle.scripts.specs.declared.line.Event.TheVariants as events
 use Rattle.scripts.specs.declared.line.Line.{Line}
@@ -19,47 +19,26 @@ use Rattle.scripts.specs.declared.line.Line.TheVariants as lines
 abbrev pub words_of : List (String Global) → List Word
 words_of words = map (λ w. string_bytes w) words
 
--- what a line of timers says
-abbrev pub timers_said : Timers → ScriptLine
-timers_said t = timers t.inactivity t.keepalive
-
--- what a zone line says
-abbrev pub zone_said : ZoneLine → ScriptLine
-zone_said z = zone z.apex z.serial z.writable
-
--- what a link line says
-abbrev pub link_said : LinkLine → ScriptLine
-link_said l = link (string_bytes l.word) l.domain
+-- what a line of the head says
+abbrev pub head_said : HeadLine → plain.HeadLine
+head_said (heads.Timers t) = plain.timers t.inactivity t.keepalive
+head_said (heads.Zone z) = plain.zone z.apex z.serial z.writable
+head_said (heads.Link l) = plain.link (string_bytes l.word) l.domain
 
 -- what an event line says
 abbrev pub event_said : Event → ScriptLine
-event_said (events.Update octets) = update octets
-event_said (events.Send s) = send (string_bytes s.word) s.octets
-event_said events.Point = point
-event_said (events.At t) = at_moment t
-event_said (events.Stop s) = stop (string_bytes s.word) s.rcode s.delay
-event_said (events.Cut c) = cut (string_bytes c.word)
-event_said (events.Client j) = client (string_bytes j.word)
-event_said (events.Lone l) = lone (string_bytes l.word)
-event_said (events.Ask a) = ask (string_bytes a.word) a.question
-event_said (events.Drop a) = drop_question (string_bytes a.word) a.question
-event_said (events.Open o) = open_connection (string_bytes o.word)
-event_said (events.Feed s) = feed (string_bytes s.word) s.octets
-event_said (events.Show s) = show (string_bytes s.word) s.question (string_bytes s.written)
-event_said (events.Say p) = say (string_bytes p.word) p.most
-event_said (events.Up p) = up (string_bytes p.word) p.most
-event_said (events.Emit p) = emit (string_bytes p.word) p.most
-event_said (events.Down p) = down (string_bytes p.word) p.most
-event_said (events.Settle s) = settle (string_bytes s.word)
-event_said (events.Hear s) = hear (string_bytes s.word) s.octets
-event_said (events.Reconfirm r) = reconfirm (string_bytes r.word) r.rr
+event_said (events.Joining word is_lone) = joining (string_bytes word) is_lone
+event_said (events.Hub event) = hub_event event
+event_said (events.Link word event) = link_event (string_bytes word) event
+event_said (events.Call word call) = client_call (string_bytes word) call
+event_said (events.Passing word way) = client_passing (string_bytes word) way
+event_said (events.Client word event) = client_event (string_bytes word) event
+event_said (events.Session word event) = session_event (string_bytes word) event
 
 -- what a line that was read says
 abbrev pub said : Line → ScriptLine
 said lines.Silent = silent
-said (lines.Timers t) = timers_said t
-said (lines.Zone z) = zone_said z
-said (lines.Link l) = link_said l
+said (lines.Head h) = head_line (head_said h)
 said (lines.Event e) = event_said e
 
 -- whether a text is that of no line that speaks: it is empty or begins with #

@@ -2,6 +2,8 @@ pub mod Lines
 pub mod Scripts
 pub mod Heads
 pub mod Words
+pub mod Outcomes
+pub mod Reply
 pub mod Sources
 pub mod KeptLines
 pub mod Drafts

@@ -13,8 +13,19 @@ use Rattle.push_base.specs.Hexadecimal.{hex_octets}
 use Rattle.dsosession.specs.Timing.{least_keepalive}
 use Rattle.dnsname.specs.Names.{Labels}
 use Rattle.dnsname.specs.Text.{name_of_text}
-use Rattle.rrset.specs.declared.record.Rr.{Rr}
 use Rattle.rrset.specs.declared.record.Question.{Question}
+use Rattle.scripts.specs.declared.line.HubEvent.{HubEvent}
+use Rattle.scripts.specs.declared.line.HubEvent.TheVariants as hub_events
+use Rattle.scripts.specs.declared.line.LinkEvent.{LinkEvent}
+use Rattle.scripts.specs.declared.line.LinkEvent.TheVariants as link_events
+use Rattle.scripts.specs.declared.line.Call.{Call}
+use Rattle.scripts.specs.declared.line.Call.TheVariants as calls
+use Rattle.scripts.specs.declared.line.Way.{Way}
+use Rattle.scripts.specs.declared.line.Way.TheVariants as ways
+use Rattle.scripts.specs.declared.line.ClientEvent.{ClientEvent}
+use Rattle.scripts.specs.declared.line.ClientEvent.TheVariants as client_events
+use Rattle.scripts.specs.declared.line.SessionEvent.{SessionEvent}
+use Rattle.scripts.specs.declared.line.SessionEvent.TheVariants as session_events
 use Rattle.scripts.specs.declared.line.Kind.{Kind}
 use Rattle.scripts.specs.declared.line.Kind.TheVariants as kinds
 use Rattle.scripts.specs.declared.line_words.TheConstants as words
@@ -22,35 +33,46 @@ use Rattle.scripts.specs.declared.line_words.TheConstants as words
 abbrev pub Word : Type 0
 Word = List ℕ
 
+-- what a line before all events says of the server
+pub data HeadLine : Type 0 where
+  timers : ℕ → ℕ → HeadLine
+  zone : Labels → ℕ → Bool → HeadLine
+  link : Word → Labels → HeadLine
+
 pub data ScriptLine : Type 0 where
   -- an empty line or one that begins with #
   silent : ScriptLine
-  -- head lines
-  timers : ℕ → ℕ → ScriptLine
-  zone : Labels → ℕ → Bool → ScriptLine
-  link : Word → Labels → ScriptLine
-  -- event lines
-  client : Word → ScriptLine
-  lone : Word → ScriptLine
-  at_moment : ℕ → ScriptLine
-  update : List ℕ → ScriptLine
-  hear : Word → List ℕ → ScriptLine
-  ask : Word → Question → ScriptLine
-  drop_question : Word → Question → ScriptLine
-  reconfirm : Word → Rr → ScriptLine
-  open_connection : Word → ScriptLine
-  cut : Word → ScriptLine
-  say : Word → ℕ → ScriptLine
-  up : Word → ℕ → ScriptLine
-  emit : Word → ℕ → ScriptLine
-  down : Word → ℕ → ScriptLine
-  settle : Word → ScriptLine
-  send : Word → List ℕ → ScriptLine
-  feed : Word → List ℕ → ScriptLine
-  stop : Word → ℕ → ℕ → ScriptLine
-  point : ScriptLine
-  -- the question, and its name as it is written
-  show : Word → Question → List ℕ → ScriptLine
+  head_line : HeadLine → ScriptLine
+  -- there is one client more; whether it is a lone one
+  joining : Word → Bool → ScriptLine
+  -- what happens: at the hub, on the link of a word, by a call of a client, as octets of a client pass, to a client, and to
+  -- the session of a peer or of a client
+  hub_event : HubEvent → ScriptLine
+  link_event : Word → LinkEvent → ScriptLine
+  client_call : Word → Call → ScriptLine
+  client_passing : Word → Way → ScriptLine
+  client_event : Word → ClientEvent → ScriptLine
+  session_event : Word → SessionEvent → ScriptLine
+
+-- lines by their first words
+abbrev pub ask : Word → Question → ScriptLine
+ask w question = client_call w (calls.Ask question)
+
+abbrev pub open_connection : Word → ScriptLine
+open_connection w = client_event w client_events.Open
+
+abbrev pub feed : Word → List ℕ → ScriptLine
+feed w octets = client_event w (client_events.Feed octets)
+
+-- the question, and its name as it is written
+abbrev pub show : Word → Question → List ℕ → ScriptLine
+show w question written = client_event w (client_events.Show question written)
+
+abbrev pub settle : Word → ScriptLine
+settle w = client_passing w ways.Settle
+
+abbrev pub send : Word → List ℕ → ScriptLine
+send w octets = session_event w (session_events.Send octets)
 
 abbrev pub max_u16 : ℕ
 max_u16 = words.MAX_U16
@@ -150,7 +172,7 @@ of_word_and_question line (w ∷ n ∷ k ∷ c ∷ []) = word w >>= λ p. questi
 of_word_and_question line _ = None
 
 abbrev pub timers_line : List Word → Option ScriptLine
-timers_line (i ∷ k ∷ []) = number32 i >>= λ inactivity. number32 k >>= λ keepalive. if nat_le least_keepalive keepalive then Some (timers inactivity keepalive) else None
+timers_line (i ∷ k ∷ []) = number32 i >>= λ inactivity. number32 k >>= λ keepalive. if nat_le least_keepalive keepalive then Some (head_line (timers inactivity keepalive)) else None
 timers_line _ = None
 
 -- whether a zone may be written
@@ -158,66 +180,90 @@ abbrev pub writable_of : Word → Option Bool
 writable_of w = if is w (codes "open") then Some true else if is w (codes "shut") then Some false else None
 
 abbrev pub zone_line : List Word → Option ScriptLine
-zone_line (n ∷ s ∷ mode ∷ []) = name_of_text n >>= λ apex. number32 s >>= λ serial. option_map (λ writable. zone apex serial writable) (writable_of mode)
+zone_line (n ∷ s ∷ mode ∷ []) = name_of_text n >>= λ apex. number32 s >>= λ serial. option_map (λ writable. head_line (zone apex serial writable)) (writable_of mode)
 zone_line _ = None
 
 abbrev pub link_line : List Word → Option ScriptLine
-link_line (w ∷ n ∷ []) = word w >>= λ l. name_of_text n >>= λ domain. Some (link l domain)
+link_line (w ∷ n ∷ []) = word w >>= λ l. name_of_text n >>= λ domain. Some (head_line (link l domain))
 link_line _ = None
 
 abbrev pub at_line : List Word → Option ScriptLine
-at_line (t ∷ []) = option_map (λ n. at_moment n) (number max_moment t)
+at_line (t ∷ []) = option_map (λ n. hub_event (hub_events.At n)) (number max_moment t)
 at_line _ = None
 
 abbrev pub reconfirm_line : List Word → Option ScriptLine
 reconfirm_line (w ∷ n ∷ k ∷ c ∷ h ∷ []) = word w >>= λ p. question n k c >>= λ q. octets_written h >>= λ rdata.
-    Some (reconfirm p (record { owner = q.name; class = q.class; kind = q.kind; ttl = 0; rdata = rdata }))
+    Some (client_call p (calls.Reconfirm (record { owner = q.name; class = q.class; kind = q.kind; ttl = 0; rdata = rdata })))
 reconfirm_line _ = None
 
 abbrev pub stop_line : List Word → Option ScriptLine
-stop_line (w ∷ r ∷ d ∷ []) = word w >>= λ p. number max_rcode r >>= λ rcode. number32 d >>= λ delay. Some (stop p rcode delay)
+stop_line (w ∷ r ∷ d ∷ []) = word w >>= λ p. number max_rcode r >>= λ rcode. number32 d >>= λ delay. Some (session_event p (session_events.Stop rcode delay))
 stop_line _ = None
 
 abbrev pub show_line : List Word → Option ScriptLine
 show_line (w ∷ n ∷ k ∷ c ∷ []) = word w >>= λ p. question n k c >>= λ q. Some (show p q n)
 show_line _ = None
 
--- the kinds of lines on what the server serves and on its peers, by their first words
-abbrev pub server_kinds : Word → List (Bool × Kind)
-server_kinds w =
+-- the kinds of lines of each class, by their first words
+abbrev pub head_kinds : Word → List (Bool × Kind)
+head_kinds w =
     (is w (codes "timers"), kinds.Timers)
     ∷ (is w (codes "zone"), kinds.Zone)
     ∷ (is w (codes "link"), kinds.Link)
-    ∷ (is w (codes "at"), kinds.At)
+    ∷ []
+
+abbrev pub hub_kinds : Word → List (Bool × Kind)
+hub_kinds w =
+    (is w (codes "at"), kinds.At)
     ∷ (is w (codes "update"), kinds.Update)
-    ∷ (is w (codes "hear"), kinds.Hear)
-    ∷ (is w (codes "send"), kinds.Send)
-    ∷ (is w (codes "stop"), kinds.Stop)
-    ∷ (is w (codes "cut"), kinds.Cut)
     ∷ (is w (codes "point"), kinds.Point)
     ∷ []
 
--- the kinds of lines on clients, by their first words
-abbrev pub client_kinds : Word → List (Bool × Kind)
-client_kinds w =
+abbrev pub link_kinds : Word → List (Bool × Kind)
+link_kinds w = (is w (codes "hear"), kinds.Hear) ∷ []
+
+abbrev pub session_kinds : Word → List (Bool × Kind)
+session_kinds w =
+    (is w (codes "send"), kinds.Send)
+    ∷ (is w (codes "stop"), kinds.Stop)
+    ∷ (is w (codes "cut"), kinds.Cut)
+    ∷ []
+
+abbrev pub joining_kinds : Word → List (Bool × Kind)
+joining_kinds w =
     (is w (codes "client"), kinds.Client)
     ∷ (is w (codes "lone"), kinds.Lone)
-    ∷ (is w (codes "open"), kinds.Open)
-    ∷ (is w (codes "ask"), kinds.Ask)
+    ∷ []
+
+abbrev pub call_kinds : Word → List (Bool × Kind)
+call_kinds w =
+    (is w (codes "ask"), kinds.Ask)
     ∷ (is w (codes "drop"), kinds.Drop)
     ∷ (is w (codes "reconfirm"), kinds.Reconfirm)
-    ∷ (is w (codes "say"), kinds.Say)
+    ∷ []
+
+abbrev pub way_kinds : Word → List (Bool × Kind)
+way_kinds w =
+    (is w (codes "say"), kinds.Say)
     ∷ (is w (codes "up"), kinds.Up)
     ∷ (is w (codes "emit"), kinds.Emit)
     ∷ (is w (codes "down"), kinds.Down)
     ∷ (is w (codes "settle"), kinds.Settle)
+    ∷ []
+
+abbrev pub client_kinds : Word → List (Bool × Kind)
+client_kinds w =
+    (is w (codes "open"), kinds.Open)
     ∷ (is w (codes "feed"), kinds.Feed)
     ∷ (is w (codes "show"), kinds.Show)
     ∷ []
 
--- the kind of a line by its first word
+-- the kind of a line by its first word: of one that makes a client or is on clients, and of any line
+abbrev pub client_kind : Word → Kind
+client_kind w = chosen (joining_kinds w) (chosen (call_kinds w) (chosen (way_kinds w) (chosen (client_kinds w) kinds.Other)))
+
 abbrev pub kind_of : Word → Kind
-kind_of w = chosen (server_kinds w) (chosen (client_kinds w) kinds.Other)
+kind_of w = chosen (head_kinds w) (chosen (hub_kinds w) (chosen (link_kinds w) (chosen (session_kinds w) (client_kind w))))
 
 -- what a line of a kind says, by the words behind its first
 abbrev pub line_behind : Kind → List Word → Option ScriptLine
@@ -225,23 +271,23 @@ line_behind kinds.Timers ws = timers_line ws
 line_behind kinds.Zone ws = zone_line ws
 line_behind kinds.Link ws = link_line ws
 line_behind kinds.At ws = at_line ws
-line_behind kinds.Update ws = of_octets update ws
-line_behind kinds.Hear ws = of_word_and_octets hear ws
+line_behind kinds.Update ws = of_octets (λ o. hub_event (hub_events.Update o)) ws
+line_behind kinds.Point ws = alone (hub_event hub_events.Point) ws
+line_behind kinds.Hear ws = of_word_and_octets (λ w o. link_event w (link_events.Hear o)) ws
 line_behind kinds.Send ws = of_word_and_octets send ws
 line_behind kinds.Stop ws = stop_line ws
-line_behind kinds.Cut ws = of_word cut ws
-line_behind kinds.Point ws = alone point ws
-line_behind kinds.Client ws = of_word client ws
-line_behind kinds.Lone ws = of_word lone ws
-line_behind kinds.Open ws = of_word open_connection ws
+line_behind kinds.Cut ws = of_word (λ w. session_event w session_events.Cut) ws
+line_behind kinds.Client ws = of_word (λ w. joining w false) ws
+line_behind kinds.Lone ws = of_word (λ w. joining w true) ws
 line_behind kinds.Ask ws = of_word_and_question ask ws
-line_behind kinds.Drop ws = of_word_and_question drop_question ws
+line_behind kinds.Drop ws = of_word_and_question (λ w q. client_call w (calls.Drop q)) ws
 line_behind kinds.Reconfirm ws = reconfirm_line ws
-line_behind kinds.Say ws = of_word_and_number say ws
-line_behind kinds.Up ws = of_word_and_number up ws
-line_behind kinds.Emit ws = of_word_and_number emit ws
-line_behind kinds.Down ws = of_word_and_number down ws
+line_behind kinds.Say ws = of_word_and_number (λ w n. client_passing w (ways.Say n)) ws
+line_behind kinds.Up ws = of_word_and_number (λ w n. client_passing w (ways.Up n)) ws
+line_behind kinds.Emit ws = of_word_and_number (λ w n. client_passing w (ways.Emit n)) ws
+line_behind kinds.Down ws = of_word_and_number (λ w n. client_passing w (ways.Down n)) ws
 line_behind kinds.Settle ws = of_word settle ws
+line_behind kinds.Open ws = of_word open_connection ws
 line_behind kinds.Feed ws = of_word_and_octets feed ws
 line_behind kinds.Show ws = show_line ws
 line_behind kinds.Other ws = None

@@ -11,7 +11,11 @@ use Rattle.std.specs.Str.{bytes_eq}
 use Rattle.push_base.specs.Optional.{◌>>=◌}
 use Rattle.history.specs.Homes.{NamedHome, home_fault}
 use Rattle.scripts.specs.declared.read.TheConstants as read
-use Rattle.scripts.specs.Lines.{Word, ScriptLine, silent, timers, zone, link, client, lone, at_moment, update, hear, ask, drop_question, reconfirm, open_connection, cut, say, up, emit, down, settle, send, feed, stop, point, show, line_of}
+use Rattle.scripts.specs.Lines.{Word, HeadLine, timers, zone, link, ScriptLine, silent, head_line, joining, hub_event, link_event, client_call, client_passing, client_event, session_event, line_of}
+use Rattle.scripts.specs.declared.line.ClientEvent.{ClientEvent}
+use Rattle.scripts.specs.declared.line.ClientEvent.TheVariants as client_events
+use Rattle.scripts.specs.declared.line.SessionEvent.{SessionEvent}
+use Rattle.scripts.specs.declared.line.SessionEvent.TheVariants as session_events
 
 -- a line feed ends a line, and any other octet begins the first one
 abbrev pub onto_line : ℕ → List (List ℕ) → List (List ℕ)
@@ -37,9 +41,12 @@ nothing_known = record { in_head = true; has_timers = false; homes = []; links =
 abbrev pub is_among : List Word → Word → Bool
 is_among words w = list_any (bytes_eq w) words
 
--- whether the client of a word is a lone one, whether it is one of the hub, and whether it is a lone one
+-- whether the client of a word is a lone one, whether there is one, whether it is one of the hub, and whether it is a lone one
 abbrev pub lone_in : List (Word × Bool) → Word → Option Bool
 lone_in clients w = option_map (λ e. e.1) (find (λ e. bytes_eq w e.0) clients)
+
+abbrev pub is_client_in : List (Word × Bool) → Word → Bool
+is_client_in clients w = is_some (lone_in clients w)
 
 abbrev pub is_hub_client_in : List (Word × Bool) → Word → Bool
 is_hub_client_in clients w = elim (lone_in clients w) [ None ↦ false | Some is_lone ↦ not is_lone ]
@@ -52,8 +59,7 @@ lone_of known w = lone_in known.clients w
 
 -- the words of all clients of a script
 abbrev pub client_word : ScriptLine → Option Word
-client_word (client w) = Some w
-client_word (lone w) = Some w
+client_word (joining w is_lone) = Some w
 client_word _ = None
 
 abbrev pub client_words : List (Option ScriptLine) → List Word
@@ -62,9 +68,7 @@ client_words lines = filter_map (λ line. line >>= client_word) lines
 -- whether a line may stand before all events
 abbrev pub is_head : ScriptLine → Bool
 is_head silent = true
-is_head (timers i k) = true
-is_head (zone apex serial mode) = true
-is_head (link w domain) = true
+is_head (head_line line) = true
 is_head _ = false
 
 -- the others
@@ -82,7 +86,7 @@ abbrev pub is_peer : List Word → Word → Bool
 is_peer all_clients w = not (is_among all_clients w)
 
 abbrev pub is_client : Known → Word → Bool
-is_client known w = is_some (lone_of known w)
+is_client known w = is_client_in known.clients w
 
 abbrev pub is_hub_client : Known → Word → Bool
 is_hub_client known w = is_hub_client_in known.clients w
@@ -96,41 +100,47 @@ with_home home known = record known { homes = known.homes ++ home ∷ [] }
 abbrev pub with_client : Word → Bool → Known → Known
 with_client w is_lone known = record known { in_head = false; clients = known.clients ++ (w, is_lone) ∷ [] }
 
+-- whether a further line of the head may stand there
+abbrev pub may_head : Known → HeadLine → Bool
+may_head known (timers i k) = not known.has_timers
+may_head known (zone apex serial mode) = is_none (home_fault known.homes (apex, false))
+may_head known (link w domain) = not (is_among known.links w) && is_none (home_fault known.homes (domain, true))
+
+-- octets come to lone clients alone
+abbrev pub may_happen_to : List (Word × Bool) → Word → ClientEvent → Bool
+may_happen_to clients w client_events.Open = is_client_in clients w
+may_happen_to clients w (client_events.Feed octets) = is_lone_client_in clients w
+may_happen_to clients w (client_events.Show question written) = is_client_in clients w
+
+-- a peer alone sends octets as they are, and a lone client has no session
+abbrev pub may_meet : List Word → List (Word × Bool) → Word → SessionEvent → Bool
+may_meet all clients w (session_events.Send octets) = is_peer all w
+may_meet all clients w (session_events.Stop rcode delay) = is_hub_client_in clients w || is_peer all w
+may_meet all clients w session_events.Cut = is_client_in clients w || is_peer all w
+
 -- whether a line may stand there, where these are the words of all clients of the script
 abbrev pub may_follow : List Word → Known → ScriptLine → Bool
 may_follow all known silent = true
-may_follow all known (timers i k) = known.in_head && not known.has_timers
-may_follow all known (zone apex serial mode) = known.in_head && is_none (home_fault known.homes (apex, false))
-may_follow all known (link w domain) = known.in_head && not (is_among known.links w) && is_none (home_fault known.homes (domain, true))
-may_follow all known (client w) = not (is_client known w)
-may_follow all known (lone w) = not (is_client known w)
-may_follow all known (at_moment t) = true
-may_follow all known (update o) = true
-may_follow all known (hear w o) = is_among known.links w
-may_follow all known (ask w q) = is_client known w
-may_follow all known (drop_question w q) = is_client known w
-may_follow all known (reconfirm w rr) = is_client known w
-may_follow all known (open_connection w) = is_client known w
-may_follow all known (cut w) = is_client known w || is_peer all w
-may_follow all known (say w n) = is_client known w
-may_follow all known (up w n) = is_client known w
-may_follow all known (emit w n) = is_client known w
-may_follow all known (down w n) = is_client known w
-may_follow all known (settle w) = is_client known w
-may_follow all known (send w o) = is_peer all w
-may_follow all known (feed w o) = is_lone_client known w
-may_follow all known (stop w r d) = is_hub_client known w || is_peer all w
-may_follow all known point = true
-may_follow all known (show w q n) = is_client known w
+may_follow all known (head_line line) = known.in_head && may_head known line
+may_follow all known (joining w is_lone) = not (is_client known w)
+may_follow all known (hub_event event) = true
+may_follow all known (link_event w event) = is_among known.links w
+may_follow all known (client_call w call) = is_client known w
+may_follow all known (client_passing w way) = is_client known w
+may_follow all known (client_event w event) = may_happen_to known.clients w event
+may_follow all known (session_event w event) = may_meet all known.clients w event
+
+-- what is known behind a line of the head
+abbrev pub known_in_head : Known → HeadLine → Known
+known_in_head known (timers i k) = record known { has_timers = true }
+known_in_head known (zone apex serial mode) = with_home (apex, false) known
+known_in_head known (link w domain) = with_home (domain, true) (record known { links = known.links ++ w ∷ [] })
 
 -- what is known behind it
 abbrev pub known_behind : Known → ScriptLine → Known
 known_behind known silent = known
-known_behind known (timers i k) = record known { has_timers = true }
-known_behind known (zone apex serial mode) = with_home (apex, false) known
-known_behind known (link w domain) = with_home (domain, true) (record known { links = known.links ++ w ∷ [] })
-known_behind known (client w) = with_client w false known
-known_behind known (lone w) = with_client w true known
+known_behind known (head_line line) = known_in_head known line
+known_behind known (joining w is_lone) = with_client w is_lone known
 known_behind known _ = in_events known
 
 -- what is known behind a line, or nothing where the line may not stand there

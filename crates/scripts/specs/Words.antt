@@ -1,8 +1,9 @@
 -- Words that several programs print.
 --     spaced words      words with a space between each two
+--     line words, ended_lines lines      a line of text, and lines, each with its line feed
 --     close_words reason      why a connection was closed
 --     octets_text octets      octets in hexadecimal
-use Rattle.std.specs.Prelude.{ℕ, List, [], ◌∷◌, codes, decimal, if◌then◌else◌}
+use Rattle.std.specs.Prelude.{ℕ, List, [], ◌∷◌, ◌++◌, flat_map, codes, decimal, if◌then◌else◌}
 use Rattle.std.specs.List.{join_with_byte}
 use Rattle.push_base.specs.Hexadecimal.{hex_text}
 use Rattle.push_base.specs.Cases.{is_empty}
@@ -11,6 +12,14 @@ use Rattle.dsosession.specs.declared.session.CloseReason.TheVariants as closes
 
 abbrev pub spaced : List (List ℕ) → List ℕ
 spaced words = join_with_byte 32 words
+
+-- words as a line of text
+abbrev pub line : List ℕ → List ℕ
+line words = words ++ 10 ∷ []
+
+-- each line ends with a line feed
+abbrev pub ended_lines : List (List ℕ) → List ℕ
+ended_lines lines = flat_map (λ l. line l) lines
 
 abbrev pub close_words : CloseReason → List ℕ
 close_words closes.Short = codes "short"

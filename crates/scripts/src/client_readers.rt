@@ -1,12 +1,12 @@
 //! What the lines of clients say, by what follows their first word.
 
-ghost use Rattle.std.specs.Prelude.{◌≡◌, IfOk, option_map, string_bytes, ℕ};
-ghost use Rattle.scripts.specs.Lines.{words_in, Word, ScriptLine, lone, ask, drop_question, open_connection, feed, reconfirm_line, show_line, of_word, of_word_and_octets, of_word_and_question, of_word_and_number, question, client, settle, say, up, emit, down};
+ghost use Rattle.std.specs.Prelude.{◌≡◌, false, true, IfOk, option_map, string_bytes, ℕ};
+ghost use Rattle.scripts.specs.Lines.{words_in, Word, ScriptLine, joining, client_call, client_passing, client_event, reconfirm_line, show_line, of_word, of_word_and_octets, of_word_and_question, of_word_and_number, question};
 ghost use Rattle.scripts.specs.KeptLines.{said};
 
 use crate::line::{
-    Alone, Asking, Event, Joining, Line, Opening, Passing, Reconfirming, Settling, Showing,
-    five_words, four_words, two_words, word_alone, word_and_octets,
+    Call, ClientEvent, Event, Line, Way, five_words, four_words, two_words, word_alone,
+    word_and_octets,
 };
 use crate::line_words::{
     count_of_word, name_of_word, octets_of_word, plain_word, short_number_of_word, text_of_word,
@@ -18,112 +18,123 @@ use std::alloc::Global;
 
 /// What follows the first word of a line of a client of the hub: its word.
 pub(crate) fn client_line(alloc: Global, text: &[u8]) -> Result<Option<Line>, NoMemory>
-    ensures exact { IfOk result (λ found. option_map (λ l. said l) found ≡ of_word client (words_in text.now)) }
+    ensures exact { IfOk result (λ found. option_map (λ l. said l) found ≡ of_word (λ w. joining w false) (words_in text.now)) }
 {
     let Some(word) = word_alone(alloc, text)? else {
         return Ok(None);
     };
-    Ok(Some(Line::Event(Event::Client(Joining { word }))))
+    let is_lone = false;
+    Ok(Some(Line::Event(Event::Joining { word, is_lone })))
 }
 
 /// What follows the first word of a line of a lone client: its word.
 pub(crate) fn lone_line(alloc: Global, text: &[u8]) -> Result<Option<Line>, NoMemory>
-    ensures exact { IfOk result (λ found. option_map (λ l. said l) found ≡ of_word lone (words_in text.now)) }
+    ensures exact { IfOk result (λ found. option_map (λ l. said l) found ≡ of_word (λ w. joining w true) (words_in text.now)) }
 {
     let Some(word) = word_alone(alloc, text)? else {
         return Ok(None);
     };
-    Ok(Some(Line::Event(Event::Lone(Alone { word }))))
+    let is_lone = true;
+    Ok(Some(Line::Event(Event::Joining { word, is_lone })))
 }
 
 /// What follows the first word of a line that opens a connection: the client's word.
 pub(crate) fn open_line(alloc: Global, text: &[u8]) -> Result<Option<Line>, NoMemory>
-    ensures exact { IfOk result (λ found. option_map (λ l. said l) found ≡ of_word open_connection (words_in text.now)) }
+    ensures exact { IfOk result (λ found. option_map (λ l. said l) found ≡ of_word (λ w. client_event w ClientEvent.Open) (words_in text.now)) }
 {
     let Some(word) = word_alone(alloc, text)? else {
         return Ok(None);
     };
-    Ok(Some(Line::Event(Event::Open(Opening { word }))))
+    let event = ClientEvent::Open;
+    Ok(Some(Line::Event(Event::Client { word, event })))
 }
 
 /// What follows the first word of a line that lets octets go from a client onto the wire: the client's word, and how many.
 pub(crate) fn say_line(alloc: Global, text: &[u8]) -> Result<Option<Line>, NoMemory>
-    ensures exact { IfOk result (λ found. option_map (λ l. said l) found ≡ of_word_and_number say (words_in text.now)) }
+    ensures exact { IfOk result (λ found. option_map (λ l. said l) found ≡ of_word_and_number (λ w n. client_passing w (Way.Say n)) (words_in text.now)) }
 {
-    let Some(passing) = word_and_number(alloc, text)? else {
+    let Some((word, most)) = word_and_number(alloc, text)? else {
         return Ok(None);
     };
-    Ok(Some(Line::Event(Event::Say(passing))))
+    let way = Way::Say(most);
+    Ok(Some(Line::Event(Event::Passing { word, way })))
 }
 
 /// What follows the first word of a line that lets octets go from the wire into a session: the client's word, and how many.
 pub(crate) fn up_line(alloc: Global, text: &[u8]) -> Result<Option<Line>, NoMemory>
-    ensures exact { IfOk result (λ found. option_map (λ l. said l) found ≡ of_word_and_number up (words_in text.now)) }
+    ensures exact { IfOk result (λ found. option_map (λ l. said l) found ≡ of_word_and_number (λ w n. client_passing w (Way.Up n)) (words_in text.now)) }
 {
-    let Some(passing) = word_and_number(alloc, text)? else {
+    let Some((word, most)) = word_and_number(alloc, text)? else {
         return Ok(None);
     };
-    Ok(Some(Line::Event(Event::Up(passing))))
+    let way = Way::Up(most);
+    Ok(Some(Line::Event(Event::Passing { word, way })))
 }
 
 /// What follows the first word of a line that lets octets go from a session onto the wire: the client's word, and how many.
 pub(crate) fn emit_line(alloc: Global, text: &[u8]) -> Result<Option<Line>, NoMemory>
-    ensures exact { IfOk result (λ found. option_map (λ l. said l) found ≡ of_word_and_number emit (words_in text.now)) }
+    ensures exact { IfOk result (λ found. option_map (λ l. said l) found ≡ of_word_and_number (λ w n. client_passing w (Way.Emit n)) (words_in text.now)) }
 {
-    let Some(passing) = word_and_number(alloc, text)? else {
+    let Some((word, most)) = word_and_number(alloc, text)? else {
         return Ok(None);
     };
-    Ok(Some(Line::Event(Event::Emit(passing))))
+    let way = Way::Emit(most);
+    Ok(Some(Line::Event(Event::Passing { word, way })))
 }
 
 /// What follows the first word of a line that lets octets go from the wire to a client: the client's word, and how many.
 pub(crate) fn down_line(alloc: Global, text: &[u8]) -> Result<Option<Line>, NoMemory>
-    ensures exact { IfOk result (λ found. option_map (λ l. said l) found ≡ of_word_and_number down (words_in text.now)) }
+    ensures exact { IfOk result (λ found. option_map (λ l. said l) found ≡ of_word_and_number (λ w n. client_passing w (Way.Down n)) (words_in text.now)) }
 {
-    let Some(passing) = word_and_number(alloc, text)? else {
+    let Some((word, most)) = word_and_number(alloc, text)? else {
         return Ok(None);
     };
-    Ok(Some(Line::Event(Event::Down(passing))))
+    let way = Way::Down(most);
+    Ok(Some(Line::Event(Event::Passing { word, way })))
 }
 
 /// What follows the first word of a line that settles: the client's word.
 pub(crate) fn settle_line(alloc: Global, text: &[u8]) -> Result<Option<Line>, NoMemory>
-    ensures exact { IfOk result (λ found. option_map (λ l. said l) found ≡ of_word settle (words_in text.now)) }
+    ensures exact { IfOk result (λ found. option_map (λ l. said l) found ≡ of_word (λ w. client_passing w Way.Settle) (words_in text.now)) }
 {
     let Some(word) = word_alone(alloc, text)? else {
         return Ok(None);
     };
-    Ok(Some(Line::Event(Event::Settle(Settling { word }))))
+    let way = Way::Settle;
+    Ok(Some(Line::Event(Event::Passing { word, way })))
 }
 
 /// What follows the first word of a line that asks: the client's word, and the question.
 pub(crate) fn ask_line(alloc: Global, text: &[u8]) -> Result<Option<Line>, NoMemory>
-    ensures exact { IfOk result (λ found. option_map (λ l. said l) found ≡ of_word_and_question ask (words_in text.now)) }
+    ensures exact { IfOk result (λ found. option_map (λ l. said l) found ≡ of_word_and_question (λ w q. client_call w (Call.Ask q)) (words_in text.now)) }
 {
-    let Some(asking) = word_and_question(alloc, text)? else {
+    let Some((word, question)) = word_and_question(alloc, text)? else {
         return Ok(None);
     };
-    Ok(Some(Line::Event(Event::Ask(asking))))
+    let call = Call::Ask(question);
+    Ok(Some(Line::Event(Event::Call { word, call })))
 }
 
 /// What follows the first word of a line that drops a question: the client's word, and the question.
 pub(crate) fn drop_line(alloc: Global, text: &[u8]) -> Result<Option<Line>, NoMemory>
-    ensures exact { IfOk result (λ found. option_map (λ l. said l) found ≡ of_word_and_question drop_question (words_in text.now)) }
+    ensures exact { IfOk result (λ found. option_map (λ l. said l) found ≡ of_word_and_question (λ w q. client_call w (Call.Drop q)) (words_in text.now)) }
 {
-    let Some(asking) = word_and_question(alloc, text)? else {
+    let Some((word, question)) = word_and_question(alloc, text)? else {
         return Ok(None);
     };
-    Ok(Some(Line::Event(Event::Drop(asking))))
+    let call = Call::Drop(question);
+    Ok(Some(Line::Event(Event::Call { word, call })))
 }
 
 /// What follows the first word of a feed line: the client's word, and the octets.
 pub(crate) fn feed_line(alloc: Global, text: &[u8]) -> Result<Option<Line>, NoMemory>
-    ensures exact { IfOk result (λ found. option_map (λ l. said l) found ≡ of_word_and_octets feed (words_in text.now)) }
+    ensures exact { IfOk result (λ found. option_map (λ l. said l) found ≡ of_word_and_octets (λ w o. client_event w (ClientEvent.Feed o)) (words_in text.now)) }
 {
-    let Some(sent) = word_and_octets(alloc, text)? else {
+    let Some((word, octets)) = word_and_octets(alloc, text)? else {
         return Ok(None);
     };
-    Ok(Some(Line::Event(Event::Feed(sent))))
+    let event = ClientEvent::Feed(octets);
+    Ok(Some(Line::Event(Event::Client { word, event })))
 }
 
 /// What follows the first word of a line that doubts a record: the client's word, the record's name, TYPE and CLASS, and
@@ -143,8 +154,8 @@ pub(crate) fn reconfirm_line(alloc: Global, text: &[u8]) -> Result<Option<Line>,
     let Some(rdata) = octets_of_word(alloc, rdata)? else {
         return Ok(None);
     };
-    let rr = record_of(question, rdata);
-    Ok(Some(Line::Event(Event::Reconfirm(Reconfirming { word, rr }))))
+    let call = Call::Reconfirm(record_of(question, rdata));
+    Ok(Some(Line::Event(Event::Call { word, call })))
 }
 
 // The record that a question names, with that RDATA and a TTL of 0.
@@ -177,16 +188,13 @@ pub(crate) fn show_line(alloc: Global, text: &[u8]) -> Result<Option<Line>, NoMe
     let Some(written) = text_of_word(alloc, name)? else {
         return Ok(None);
     };
-    Ok(Some(Line::Event(Event::Show(Showing {
-        word,
-        question,
-        written,
-    }))))
+    let event = ClientEvent::Show { question, written };
+    Ok(Some(Line::Event(Event::Client { word, event })))
 }
 
 // What follows the first word of a line that names a word, and then a number of octets.
-fn word_and_number(alloc: Global, text: &[u8]) -> Result<Option<Passing>, NoMemory>
-    ensures exact { IfOk result (λ found. (line : Word → ℕ → ScriptLine) → option_map (λ p. line (string_bytes p.word) p.most) found ≡ of_word_and_number line (words_in text.now)) }
+fn word_and_number(alloc: Global, text: &[u8]) -> Result<Option<(String, usize)>, NoMemory>
+    ensures exact { IfOk result (λ found. (line : Word → ℕ → ScriptLine) → option_map (λ p. line (string_bytes p.0) p.1) found ≡ of_word_and_number line (words_in text.now)) }
 {
     let Some((word, most)) = two_words(text) else {
         return Ok(None);
@@ -197,12 +205,12 @@ fn word_and_number(alloc: Global, text: &[u8]) -> Result<Option<Passing>, NoMemo
     let Some(most) = count_of_word(most) else {
         return Ok(None);
     };
-    Ok(Some(Passing { word, most }))
+    Ok(Some((word, most)))
 }
 
 // What follows the first word of a line that names a word, and then a question.
-fn word_and_question(alloc: Global, text: &[u8]) -> Result<Option<Asking>, NoMemory>
-    ensures exact { IfOk result (λ found. (line : Word → Question → ScriptLine) → option_map (λ a. line (string_bytes a.word) a.question) found ≡ of_word_and_question line (words_in text.now)) }
+fn word_and_question(alloc: Global, text: &[u8]) -> Result<Option<(String, Question)>, NoMemory>
+    ensures exact { IfOk result (λ found. (line : Word → Question → ScriptLine) → option_map (λ a. line (string_bytes a.0) a.1) found ≡ of_word_and_question line (words_in text.now)) }
 {
     let Some((word, name, kind, class)) = four_words(text) else {
         return Ok(None);
@@ -213,7 +221,7 @@ fn word_and_question(alloc: Global, text: &[u8]) -> Result<Option<Asking>, NoMem
     let Some(question) = question_of(alloc, name, kind, class)? else {
         return Ok(None);
     };
-    Ok(Some(Asking { word, question }))
+    Ok(Some((word, question)))
 }
 
 /// The question that three words are: its name, its TYPE and its CLASS.

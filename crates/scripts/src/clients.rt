@@ -1,12 +1,12 @@
 //! The words of a script's clients, which its peers do not have, and of its links.
 
-ghost use Rattle.std.specs.Prelude.{◌≡◌, ◌++◌, ◌∷◌, [], ◌||◌, Some, false, is_some, map, option_map, option_to_list, position, IfOk, OnOk, string_bytes};
+ghost use Rattle.std.specs.Prelude.{◌≡◌, ◌++◌, ◌∷◌, [], ◌||◌, Some, false, map, option_map, option_to_list, position, IfOk, OnOk, string_bytes};
 ghost use Rattle.std.specs.Str.{bytes_eq};
-ghost use Rattle.scripts.specs.Scripts.{client_words, lines_read, is_among, is_peer, lone_in, is_hub_client_in, is_lone_client_in, may_follow};
+ghost use Rattle.scripts.specs.Scripts.{client_words, lines_read, is_among, is_peer, lone_in, is_client_in, is_hub_client_in, is_lone_client_in, may_follow, may_happen_to, may_meet};
 ghost use Rattle.scripts.specs.KeptLines.{event_said, words_of};
 ghost use Rattle.scripts.specs.Drafts.{client_in, client_added, known_clients, known_by, is_any_word, is_word};
 
-use crate::line::Event;
+use crate::line::{ClientEvent, Event, SessionEvent};
 use crate::line_words::plain_word;
 use crate::text_lines::{is_outside, is_too_long, split_line};
 use push_base::NoMemory;
@@ -77,30 +77,41 @@ pub(crate) fn may_happen(
     ensures { result ≡ may_follow (map (λ w. string_bytes w) all.now) (known_by (map (λ w. string_bytes w) links.now) (known_clients clients.now)) (event_said event.now) }
 {
     match event {
-        Event::Update(_) | Event::Point | Event::At(_) => true,
-        Event::Send(sent) => !is_among(all, sent.word.as_bytes()),
-        Event::Stop(stopping) => may_be_stopped(all, clients, stopping.word.as_bytes()),
-        Event::Cut(cutting) => may_be_cut(all, clients, cutting.word.as_bytes()),
-        Event::Client(joining) => !is_known(clients, joining.word.as_bytes()),
-        Event::Lone(lone) => !is_known(clients, lone.word.as_bytes()),
-        Event::Ask(asking) => is_known(clients, asking.word.as_bytes()),
-        Event::Drop(asking) => is_known(clients, asking.word.as_bytes()),
-        Event::Open(opening) => is_known(clients, opening.word.as_bytes()),
-        Event::Say(passing) => is_known(clients, passing.word.as_bytes()),
-        Event::Up(passing) => is_known(clients, passing.word.as_bytes()),
-        Event::Emit(passing) => is_known(clients, passing.word.as_bytes()),
-        Event::Down(passing) => is_known(clients, passing.word.as_bytes()),
-        Event::Settle(settling) => is_known(clients, settling.word.as_bytes()),
-        Event::Feed(sent) => is_lone_client(clients, sent.word.as_bytes()),
-        Event::Show(showing) => is_known(clients, showing.word.as_bytes()),
-        Event::Hear(sent) => is_among(links, sent.word.as_bytes()),
-        Event::Reconfirm(doubt) => is_known(clients, doubt.word.as_bytes()),
+        Event::Joining { word, is_lone: _ } => !is_known(clients, word.as_bytes()),
+        Event::Hub(_) => true,
+        Event::Link { word, event: _ } => is_among(links, word.as_bytes()),
+        Event::Call { word, call: _ } => is_known(clients, word.as_bytes()),
+        Event::Passing { word, way: _ } => is_known(clients, word.as_bytes()),
+        Event::Client { word, event } => may_happen_to(clients, word.as_bytes(), event),
+        Event::Session { word, event } => may_meet(all, clients, word.as_bytes(), event),
+    }
+}
+
+// Whether that may happen to the client of a word: octets come to lone clients alone.
+fn may_happen_to(clients: &[KnownClient], word: &[u8], event: &ClientEvent) -> bool
+    ensures { result ≡ may_happen_to (known_clients clients.now) word.now event.now }
+{
+    match event {
+        ClientEvent::Open => is_known(clients, word),
+        ClientEvent::Feed(_) => is_lone_client(clients, word),
+        ClientEvent::Show { .. } => is_known(clients, word),
+    }
+}
+
+// Whether that may happen to the session of a word.
+fn may_meet(all: &[String], clients: &[KnownClient], word: &[u8], event: &SessionEvent) -> bool
+    ensures { result ≡ may_meet (map (λ w. string_bytes w) all.now) (known_clients clients.now) word.now event.now }
+{
+    match event {
+        SessionEvent::Send(_) => !is_among(all, word),
+        SessionEvent::Stop { .. } => may_be_stopped(all, clients, word),
+        SessionEvent::Cut => may_be_cut(all, clients, word),
     }
 }
 
 // Whether a word is that of a client that there is, or of a peer.
 fn may_be_cut(all: &[String], clients: &[KnownClient], word: &[u8]) -> bool
-    ensures { result ≡ (is_some (lone_in (known_clients clients.now) word.now) || is_peer (map (λ w. string_bytes w) all.now) word.now) }
+    ensures { result ≡ (is_client_in (known_clients clients.now) word.now || is_peer (map (λ w. string_bytes w) all.now) word.now) }
 {
     is_known(clients, word) || !is_among(all, word)
 }
@@ -114,7 +125,7 @@ fn may_be_stopped(all: &[String], clients: &[KnownClient], word: &[u8]) -> bool
 
 // Whether a word is that of a client that there is.
 fn is_known(clients: &[KnownClient], word: &[u8]) -> bool
-    ensures { result ≡ is_some (lone_in (known_clients clients.now) word.now) }
+    ensures { result ≡ is_client_in (known_clients clients.now) word.now }
 {
     lone_of(clients, word).is_some()
 }
@@ -160,14 +171,9 @@ pub(crate) fn add_seat(
     ensures { OnOk result (known_clients clients.new.items ≡ known_clients clients.old.items ++ client_added (event_said event.now)) }
 {
     match event {
-        Event::Client(joining) => push_client(alloc, joining.word.as_str(), false, clients),
-        Event::Lone(lone) => push_client(alloc, lone.word.as_str(), true, clients),
-        Event::Update(_) | Event::Point | Event::At(_) => Ok(()),
-        Event::Send(_) | Event::Stop(_) | Event::Cut(_) => Ok(()),
-        Event::Ask(_) | Event::Drop(_) | Event::Open(_) | Event::Settle(_) => Ok(()),
-        Event::Say(_) | Event::Up(_) | Event::Emit(_) | Event::Down(_) => Ok(()),
-        Event::Feed(_) | Event::Show(_) => Ok(()),
-        Event::Hear(_) | Event::Reconfirm(_) => Ok(()),
+        Event::Joining { word, is_lone } => push_client(alloc, word.as_str(), *is_lone, clients),
+        Event::Hub(_) | Event::Link { .. } | Event::Call { .. } => Ok(()),
+        Event::Passing { .. } | Event::Client { .. } | Event::Session { .. } => Ok(()),
     }
 }
 

@@ -1,18 +1,22 @@
-//! The grammar of scripts, and how they are read: octets of a source, lines, and the script that they make.
+//! The grammar of scripts, and how they are read: octets of a source, lines, and the script that they make; and how a program that was given one ends.
 #![tactic(auto)]
 
 mod client_readers;
 mod clients;
+mod last_text;
 pub mod line;
 pub mod line_words;
+mod outcome;
 mod read;
 mod script;
 mod text_lines;
 mod words;
 
 pub use client_readers::question_of;
+pub use last_text::{NO_MEMORY, READ_FAULT, tell};
 pub use line::{Line, one_word, read_line, split_word, three_words, two_words};
 pub use line_words::{number_of_word, number_up_to, plain_word};
+pub use outcome::Outcome;
 pub use read::{ReadError, read_script};
 pub use script::{Draft, ReadScript, Script, read_script_lines};
 pub use text_lines::{is_outside, is_too_long, split_line};

@@ -1,8 +1,7 @@
 //! The lines of a script.
 
 ghost use Rattle.std.specs.Prelude.{◌≡◌, false, ◌∷◌, [], IfOk, IfSome, IfNone, None, position, ◌==◌, ◌<◌, option_map, length, string_bytes, List, ℕ};
-ghost use Rattle.push_base.specs.Cases.{chosen};
-ghost use Rattle.scripts.specs.Lines.{words_in, Word, ScriptLine, cut, hear, send, update, timers_line, zone_line, link_line, at_line, stop_line, of_word, of_octets, of_word_and_octets, line_of, kind_of, client_kinds, line_behind};
+ghost use Rattle.scripts.specs.Lines.{words_in, Word, ScriptLine, hub_event, link_event, session_event, timers_line, zone_line, link_line, at_line, stop_line, of_word, of_octets, of_word_and_octets, line_of, kind_of, client_kind, line_behind};
 ghost use Rattle.scripts.specs.KeptLines.{said, one_in, two_in, three_in, four_in, five_in, begins_silent};
 
 use crate::client_readers::{
@@ -10,7 +9,7 @@ use crate::client_readers::{
     reconfirm_line, say_line, settle_line, show_line, up_line,
 };
 use crate::line_words::{
-    Moment, moment_of_word, name_of_word, number_of_word, octets_of_word, plain_word,
+    Moment, Written, moment_of_word, name_of_word, number_of_word, octets_of_word, plain_word,
     rcode_of_word, writable_of_word,
 };
 use dnsname::name::{Name, Octets};
@@ -40,143 +39,104 @@ pub struct LinkLine {
     pub domain: Name,
 }
 
-/// Octets, and the word of the peer that sends them, of the lone client that gets them, or of the link on which they come.
+/// What a line before all events says of the server.
 #[derive(Debug, Drop)]
-pub struct Sent {
-    /// The peer's word, the client's, or the link's.
-    pub word: String,
-    /// What is sent: messages behind their lengths, or any part of that (RFC 7766, 8); or a datagram (RFC 6762, 18).
-    pub octets: Octets,
+pub enum HeadLine {
+    /// What the server grants to a Keepalive (RFC 8490, 7.1).
+    Timers(Timers),
+    /// A zone.
+    Zone(ZoneLine),
+    /// A link.
+    Link(LinkLine),
 }
 
-/// The word of a peer, or of a client of the hub, whose session is asked to stop, the RCODE that it is told, and for how
-/// long it is to stay away, in milliseconds (RFC 8490, 6.6.1).
+/// What happens at the hub.
 #[derive(Debug, Drop)]
-pub struct Stopping {
-    /// The peer's word, or the client's.
-    pub word: String,
-    /// The RCODE that it is told, at most 15.
-    pub rcode: u8,
-    /// The Retry Delay, in milliseconds.
-    pub delay: u32,
-}
-
-/// The word of a peer, or of a client, whose connection is cut.
-#[derive(Debug, Drop)]
-pub struct Cutting {
-    /// The peer's word, or the client's.
-    pub word: String,
-}
-
-/// The word of a client that there is from now on, whose connections lead to the hub.
-#[derive(Debug, Drop)]
-pub struct Joining {
-    /// The client's word.
-    pub word: String,
-}
-
-/// The word of a lone client that there is from now on.
-#[derive(Debug, Drop)]
-pub struct Alone {
-    /// The client's word.
-    pub word: String,
-}
-
-/// The word of a client, and a question that it asks or drops.
-#[derive(Debug, Drop)]
-pub struct Asking {
-    /// The client's word.
-    pub word: String,
-    /// The question.
-    pub question: Question,
-}
-
-/// The word of a client, and a question of which it is shown what the client knows.
-#[derive(Debug, Drop)]
-pub struct Showing {
-    /// The client's word.
-    pub word: String,
-    /// The question.
-    pub question: Question,
-    /// The question's name as it is written.
-    pub written: String,
-}
-
-/// The word of a client that opens a connection.
-#[derive(Debug, Drop)]
-pub struct Opening {
-    /// The client's word.
-    pub word: String,
-}
-
-/// The word of a client whose octets go to its session and back until nothing moves.
-#[derive(Debug, Drop)]
-pub struct Settling {
-    /// The client's word.
-    pub word: String,
-}
-
-/// The word of a client, and a record that may be out of date.
-#[derive(Debug, Drop)]
-pub struct Reconfirming {
-    /// The client's word.
-    pub word: String,
-    /// The record, with a TTL of 0.
-    pub rr: Rr,
-}
-
-/// The word of a client, and how many of its octets pass one way, at most.
-#[derive(Debug, Drop)]
-pub struct Passing {
-    /// The client's word.
-    pub word: String,
-    /// How many octets, at most.
-    pub most: usize,
-}
-
-/// What happens.
-#[derive(Debug, Drop)]
-pub enum Event {
-    /// An update message comes (RFC 2136, 2).
-    Update(Octets),
-    /// A peer sends octets.
-    Send(Sent),
-    /// The newest point and the moment are asked for.
-    Point,
+pub enum HubEvent {
     /// It is a moment, in milliseconds since the start.
     At(Moment),
-    /// The session of a peer, or of a client of the hub, is asked to stop (RFC 8490, 6.6.1).
-    Stop(Stopping),
-    /// A peer's connection is cut, or a client's.
-    Cut(Cutting),
-    /// There is one client more, whose connections lead to the hub.
-    Client(Joining),
-    /// There is one client more, whose connections lead to no hub.
-    Lone(Alone),
-    /// A client asks a question (RFC 8765, 6.2).
-    Ask(Asking),
-    /// A client drops a question (RFC 8765, 6.4).
-    Drop(Asking),
-    /// A client opens a connection.
-    Open(Opening),
-    /// A lone client gets octets.
-    Feed(Sent),
-    /// What a client knows of a question is shown.
-    Show(Showing),
-    /// Octets go from a client onto the wire to its session.
-    Say(Passing),
-    /// Octets go from that wire into the session.
-    Up(Passing),
-    /// Octets go from a client's session onto the wire to the client.
-    Emit(Passing),
-    /// Octets go from that wire to the client.
-    Down(Passing),
-    /// A client's octets go to its session and back until nothing moves.
-    Settle(Settling),
-    /// A datagram comes on a link (RFC 6762, 18).
-    Hear(Sent),
-    /// A client says that a record may be out of date (RFC 8765, 6.5).
-    Reconfirm(Reconfirming),
+    /// An update message comes (RFC 2136, 2).
+    Update(Octets),
+    /// The newest point and the moment are asked for.
+    Point,
+}
+
+/// What happens on a link.
+#[derive(Debug, Drop)]
+pub enum LinkEvent {
+    /// A datagram comes (RFC 6762, 18).
+    Hear(Octets),
+}
+
+/// A call of a client that answers a word.
+#[derive(Debug, Drop)]
+pub enum Call {
+    /// It asks a question (RFC 8765, 6.2).
+    Ask(Question),
+    /// It drops a question (RFC 8765, 6.4).
+    Drop(Question),
+    /// It says that a record, which has a TTL of 0, may be out of date (RFC 8765, 6.5).
+    Reconfirm(Rr),
+}
+
+/// Which way octets of a client pass, and at most how many of them.
+#[derive(Debug, Clone, Copy)]
+pub enum Way {
+    /// From the client onto the wire to its session.
+    Say(usize),
+    /// From that wire into the session.
+    Up(usize),
+    /// From the session onto the wire to the client.
+    Emit(usize),
+    /// From that wire to the client.
+    Down(usize),
+    /// Each way in turn, until nothing moves.
+    Settle,
+}
+
+/// What else happens to a client.
+#[derive(Debug, Drop)]
+pub enum ClientEvent {
+    /// It opens a connection.
+    Open,
+    /// Octets come to it, which is a lone one.
+    Feed(Octets),
+    /// It is shown what it knows of a question, and how the question's name is written.
+    Show {
+        question: Question,
+        written: Written,
+    },
+}
+
+/// What happens to the session of a peer, or to a client's.
+#[derive(Debug, Drop)]
+pub enum SessionEvent {
+    /// The peer sends octets: messages behind their lengths, or any part of that (RFC 7766, 8).
+    Send(Octets),
+    /// The session is asked to stop: the RCODE that it is told, at most 15, and for how long it is to stay away, in
+    /// milliseconds (RFC 8490, 6.6.1).
+    Stop { rcode: u8, delay: u32 },
+    /// The connection is cut.
+    Cut,
+}
+
+/// What happens, and to whom, by a word.
+#[derive(Debug, Drop)]
+pub enum Event {
+    /// There is one client more; whether its connections lead to no hub.
+    Joining { word: String, is_lone: bool },
+    /// At the hub.
+    Hub(HubEvent),
+    /// On the link of a word.
+    Link { word: String, event: LinkEvent },
+    /// A call of the client of a word.
+    Call { word: String, call: Call },
+    /// Octets of the client of a word pass.
+    Passing { word: String, way: Way },
+    /// To the client of a word.
+    Client { word: String, event: ClientEvent },
+    /// To the session of a word: a client's, or else a peer's.
+    Session { word: String, event: SessionEvent },
 }
 
 /// A line of a script.
@@ -184,12 +144,8 @@ pub enum Event {
 pub enum Line {
     /// It says nothing.
     Silent,
-    /// What the server grants to a Keepalive (RFC 8490, 7.1).
-    Timers(Timers),
-    /// A zone.
-    Zone(ZoneLine),
-    /// A link.
-    Link(LinkLine),
+    /// It says what the server is.
+    Head(HeadLine),
     /// Something happens.
     Event(Event),
 }
@@ -202,14 +158,13 @@ enum Kind {
     Link,
     At,
     Update,
+    Point,
     Hear,
     Send,
     Stop,
     Cut,
-    Point,
     Client,
     Lone,
-    Open,
     Ask,
     Drop,
     Reconfirm,
@@ -218,6 +173,7 @@ enum Kind {
     Emit,
     Down,
     Settle,
+    Open,
     Feed,
     Show,
     Other,
@@ -269,6 +225,8 @@ fn kind_of(word: &[u8]) -> Kind
         Kind::At
     } else if word == b"update".as_slice() {
         Kind::Update
+    } else if word == b"point".as_slice() {
+        Kind::Point
     } else if word == b"hear".as_slice() {
         Kind::Hear
     } else if word == b"send".as_slice() {
@@ -277,8 +235,6 @@ fn kind_of(word: &[u8]) -> Kind
         Kind::Stop
     } else if word == b"cut".as_slice() {
         Kind::Cut
-    } else if word == b"point".as_slice() {
-        Kind::Point
     } else {
         client_kind(word)
     }
@@ -286,14 +242,12 @@ fn kind_of(word: &[u8]) -> Kind
 
 // The kind of a line whose first word is none on what the server serves or on its peers.
 fn client_kind(word: &[u8]) -> Kind
-    ensures { result ≡ chosen (client_kinds word.now) Kind.Other }
+    ensures { result ≡ client_kind word.now }
 {
     if word == b"client".as_slice() {
         Kind::Client
     } else if word == b"lone".as_slice() {
         Kind::Lone
-    } else if word == b"open".as_slice() {
-        Kind::Open
     } else if word == b"ask".as_slice() {
         Kind::Ask
     } else if word == b"drop".as_slice() {
@@ -310,6 +264,8 @@ fn client_kind(word: &[u8]) -> Kind
         Kind::Down
     } else if word == b"settle".as_slice() {
         Kind::Settle
+    } else if word == b"open".as_slice() {
+        Kind::Open
     } else if word == b"feed".as_slice() {
         Kind::Feed
     } else if word == b"show".as_slice() {
@@ -324,7 +280,7 @@ fn single_word(kind: Kind) -> Option<Line>
     ensures exact { option_map (λ l. said l) result ≡ line_behind kind [] }
 {
     match kind {
-        Kind::Point => Some(Line::Event(Event::Point)),
+        Kind::Point => Some(Line::Event(Event::Hub(HubEvent::Point))),
         Kind::Timers | Kind::Zone | Kind::Link | Kind::At | Kind::Update | Kind::Hear => None,
         Kind::Send | Kind::Stop | Kind::Cut => None,
         Kind::Client | Kind::Lone | Kind::Open | Kind::Ask | Kind::Drop | Kind::Reconfirm => None,
@@ -375,10 +331,10 @@ fn timers_line(text: &[u8]) -> Option<Line>
     if keepalive < LEAST_KEEPALIVE {
         return None;
     }
-    Some(Line::Timers(Timers {
+    Some(Line::Head(HeadLine::Timers(Timers {
         inactivity,
         keepalive,
-    }))
+    })))
 }
 
 // What follows the first word of a zone line: the apex, the serial, and `open` or `shut`.
@@ -397,11 +353,11 @@ fn zone_line(alloc: Global, text: &[u8]) -> Result<Option<Line>, NoMemory>
     let Some(writable) = writable_of_word(mode) else {
         return Ok(None);
     };
-    Ok(Some(Line::Zone(ZoneLine {
+    Ok(Some(Line::Head(HeadLine::Zone(ZoneLine {
         apex,
         serial,
         writable,
-    })))
+    }))))
 }
 
 // What follows the first word of a link line: its word, and its domain.
@@ -417,7 +373,7 @@ fn link_line(alloc: Global, text: &[u8]) -> Result<Option<Line>, NoMemory>
     let Some(domain) = name_of_word(alloc, domain)? else {
         return Ok(None);
     };
-    Ok(Some(Line::Link(LinkLine { word, domain })))
+    Ok(Some(Line::Head(HeadLine::Link(LinkLine { word, domain }))))
 }
 
 // What follows the first word of a line with a moment: the moment, in milliseconds.
@@ -425,12 +381,12 @@ fn at_line(text: &[u8]) -> Option<Line>
     ensures exact { option_map (λ l. said l) result ≡ at_line (words_in text.now) }
 {
     let moment = moment_of_word(one_word(text)?)?;
-    Some(Line::Event(Event::At(moment)))
+    Some(Line::Event(Event::Hub(HubEvent::At(moment))))
 }
 
 // What follows the first word of an update line: the octets of the message.
 fn update_line(alloc: Global, text: &[u8]) -> Result<Option<Line>, NoMemory>
-    ensures exact { IfOk result (λ found. option_map (λ l. said l) found ≡ of_octets update (words_in text.now)) }
+    ensures exact { IfOk result (λ found. option_map (λ l. said l) found ≡ of_octets (λ o. hub_event (HubEvent.Update o)) (words_in text.now)) }
 {
     let Some(octets) = one_word(text) else {
         return Ok(None);
@@ -438,7 +394,7 @@ fn update_line(alloc: Global, text: &[u8]) -> Result<Option<Line>, NoMemory>
     let Some(octets) = octets_of_word(alloc, octets)? else {
         return Ok(None);
     };
-    Ok(Some(Line::Event(Event::Update(octets))))
+    Ok(Some(Line::Event(Event::Hub(HubEvent::Update(octets)))))
 }
 
 /// What follows the first word of a line that names one more word alone.
@@ -452,8 +408,11 @@ pub(crate) fn word_alone(alloc: Global, text: &[u8]) -> Result<Option<String>, N
 }
 
 /// What follows the first word of a line that names a word, and then octets.
-pub(crate) fn word_and_octets(alloc: Global, text: &[u8]) -> Result<Option<Sent>, NoMemory>
-    ensures exact { IfOk result (λ found. (line : Word → List ℕ → ScriptLine) → option_map (λ s. line (string_bytes s.word) s.octets) found ≡ of_word_and_octets line (words_in text.now)) }
+pub(crate) fn word_and_octets(
+    alloc: Global,
+    text: &[u8],
+) -> Result<Option<(String, Octets)>, NoMemory>
+    ensures exact { IfOk result (λ found. (line : Word → List ℕ → ScriptLine) → option_map (λ s. line (string_bytes s.0) s.1) found ≡ of_word_and_octets line (words_in text.now)) }
 {
     let Some((word, octets)) = two_words(text) else {
         return Ok(None);
@@ -464,27 +423,29 @@ pub(crate) fn word_and_octets(alloc: Global, text: &[u8]) -> Result<Option<Sent>
     let Some(octets) = octets_of_word(alloc, octets)? else {
         return Ok(None);
     };
-    Ok(Some(Sent { word, octets }))
+    Ok(Some((word, octets)))
 }
 
 // What follows the first word of a line that cuts a connection: the word of the peer or of the client.
 fn cut_line(alloc: Global, text: &[u8]) -> Result<Option<Line>, NoMemory>
-    ensures exact { IfOk result (λ found. option_map (λ l. said l) found ≡ of_word cut (words_in text.now)) }
+    ensures exact { IfOk result (λ found. option_map (λ l. said l) found ≡ of_word (λ w. session_event w SessionEvent.Cut) (words_in text.now)) }
 {
     let Some(word) = word_alone(alloc, text)? else {
         return Ok(None);
     };
-    Ok(Some(Line::Event(Event::Cut(Cutting { word }))))
+    let event = SessionEvent::Cut;
+    Ok(Some(Line::Event(Event::Session { word, event })))
 }
 
 // What follows the first word of a send line: the peer's word, and the octets.
 fn send_line(alloc: Global, text: &[u8]) -> Result<Option<Line>, NoMemory>
-    ensures exact { IfOk result (λ found. option_map (λ l. said l) found ≡ of_word_and_octets send (words_in text.now)) }
+    ensures exact { IfOk result (λ found. option_map (λ l. said l) found ≡ of_word_and_octets (λ w o. session_event w (SessionEvent.Send o)) (words_in text.now)) }
 {
-    let Some(sent) = word_and_octets(alloc, text)? else {
+    let Some((word, octets)) = word_and_octets(alloc, text)? else {
         return Ok(None);
     };
-    Ok(Some(Line::Event(Event::Send(sent))))
+    let event = SessionEvent::Send(octets);
+    Ok(Some(Line::Event(Event::Session { word, event })))
 }
 
 // What follows the first word of a line that stops a session: the word of the peer or of the client, the RCODE, and the
@@ -504,17 +465,19 @@ fn stop_line(alloc: Global, text: &[u8]) -> Result<Option<Line>, NoMemory>
     let Some(delay) = number_of_word(delay) else {
         return Ok(None);
     };
-    Ok(Some(Line::Event(Event::Stop(Stopping { word, rcode, delay }))))
+    let event = SessionEvent::Stop { rcode, delay };
+    Ok(Some(Line::Event(Event::Session { word, event })))
 }
 
 // What follows the first word of a line with a datagram: the link's word, and the octets.
 fn hear_line(alloc: Global, text: &[u8]) -> Result<Option<Line>, NoMemory>
-    ensures exact { IfOk result (λ found. option_map (λ l. said l) found ≡ of_word_and_octets hear (words_in text.now)) }
+    ensures exact { IfOk result (λ found. option_map (λ l. said l) found ≡ of_word_and_octets (λ w o. link_event w (LinkEvent.Hear o)) (words_in text.now)) }
 {
-    let Some(sent) = word_and_octets(alloc, text)? else {
+    let Some((word, octets)) = word_and_octets(alloc, text)? else {
         return Ok(None);
     };
-    Ok(Some(Line::Event(Event::Hear(sent))))
+    let event = LinkEvent::Hear(octets);
+    Ok(Some(Line::Event(Event::Link { word, event })))
 }
 
 /// The words of a text that has five.

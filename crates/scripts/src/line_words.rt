@@ -47,15 +47,39 @@ pub(crate) fn name_of_word(alloc: Global, text: &[u8]) -> Result<Option<Name>, N
     }
 }
 
-/// A word as text, where it is UTF-8, as each name's is.
-pub(crate) fn text_of_word(alloc: Global, text: &[u8]) -> Result<Option<String>, NoMemory>
-    ensures text { IfOk result (λ found. IfSome found (λ copy. string_bytes copy ≡ text.now)) }
+/// A word as it is written.
+#[derive(Debug, Drop)]
+pub struct Written {
+    text: String,
+}
+
+impl Model for Written {
+    ghost use Rattle.std.specs.Prelude.{ℕ, List, string_bytes};
+
+    ghost Value = { List ℕ };
+
+    ghost view = { λ w. string_bytes w.text };
+}
+
+impl Written {
+    /// Its text.
+    pub fn as_str(&self) -> &str
+        ensures { result.now ≡ self.now }
+    {
+        self.text.as_str()
+    }
+}
+
+/// A word as it is written, where it is UTF-8, as each name's is.
+pub(crate) fn text_of_word(alloc: Global, text: &[u8]) -> Result<Option<Written>, NoMemory>
+    ensures text { IfOk result (λ found. IfSome found (λ copy. copy ≡ text.now)) }
     ensures none { IfOk result (λ found. IfNone found (name_of_text text.now ≡ None)) }
 {
     let Ok(text) = str::from_utf8(text) else {
         return Ok(None);
     };
-    Ok(Some(String::from_str(alloc, text)?))
+    let text = String::from_str(alloc, text)?;
+    Ok(Some(Written { text }))
 }
 
 /// The octets that a word stands for: two hexadecimal digits for each, or `-` for none.

@@ -8,6 +8,7 @@ ghost use Rattle.scripts.specs.declared.read.ReadError.TheVariants.{Failed as Re
 
 use push_base::{Failed, NoMemory, Source};
 use std::alloc::Global;
+use thiserror::Error;
 
 /// A script has at most so many octets.
 pub const MOST_OCTETS: usize = 16_777_216;
@@ -16,11 +17,13 @@ pub const MOST_OCTETS: usize = 16_777_216;
 const CHUNK: usize = 4096;
 
 /// Why a script wasn't read.
-#[derive(Clone, Copy, Debug, PartialEq, Eq)]
+#[derive(Clone, Copy, Debug, PartialEq, Eq, Error)]
 pub enum ReadError {
     /// A read of the source failed.
+    #[error("a read failed")]
     Failed,
     /// Memory ran out.
+    #[error("out of memory")]
     NoMemory,
 }
 

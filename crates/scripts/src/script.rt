@@ -4,13 +4,14 @@ ghost use Rattle.std.specs.Prelude.{◌≡◌, ◌==◌, List, length, ◌++◌,
 ghost use Rattle.std.specs.Str.{bytes_eq};
 ghost use Rattle.dsosession.specs.Timing.{default_timers};
 ghost use Rattle.scripts.specs.Lines.{Word};
+ghost use Rattle.scripts.specs.declared.line.HeadLine.TheVariants as heads;
 ghost use Rattle.scripts.specs.declared.line.Line.TheVariants as lines;
 ghost use Rattle.scripts.specs.KeptScripts.{ReadsAs};
 ghost use Rattle.scripts.specs.KeptLines.{words_of};
 ghost use Rattle.scripts.specs.Drafts.{TakesLine, taken_of, nothing_taken};
 
 use crate::clients::{KnownClient, add_seat, client_words, is_among, may_happen, place_among};
-use crate::line::{Event, Line, LinkLine, ZoneLine, read_line};
+use crate::line::{Event, HeadLine, Line, LinkLine, ZoneLine, read_line};
 use crate::text_lines::{is_outside, is_too_long, split_line};
 use dsosession::session::Timers;
 use dsosession::times::DEFAULT_TIMER;
@@ -102,20 +103,30 @@ impl Draft {
     {
         match line {
             Line::Silent => Ok(true),
-            Line::Timers(timers) => Ok(self.take_timers(timers)),
-            Line::Zone(zone) => self.take_zone(alloc, zone),
-            Line::Link(link) => self.take_link(link),
+            Line::Head(line) => self.take_head(alloc, line),
             Line::Event(event) => self.take_event(alloc, event, clients),
         }
     }
 
-    // Takes the timers: before all events, and once.
-    fn take_timers(&mut self, timers: Timers) -> bool
-        ensures { (all : List Word) → TakesLine all self.old (lines.Timers timers) self.new result }
+    // Takes a further line of the head: before all events, and where it may stand beside those before it.
+    fn take_head(&mut self, alloc: Global, line: HeadLine) -> Result<bool, NoMemory>
+        ensures { (all : List Word) → IfOk result (λ taken. TakesLine all self.old (lines.Head line) self.new taken) }
     {
         if !self.is_in_head() {
-            return false;
+            return Ok(false);
         }
+        match line {
+            HeadLine::Timers(timers) => Ok(self.take_timers(timers)),
+            HeadLine::Zone(zone) => self.take_zone(alloc, zone),
+            HeadLine::Link(link) => self.take_link(link),
+        }
+    }
+
+    // Takes the timers, once.
+    fn take_timers(&mut self, timers: Timers) -> bool
+        requires { length self.old.events.items ≡ 0 }
+        ensures { (all : List Word) → TakesLine all self.old (lines.Head (heads.Timers timers)) self.new result }
+    {
         if self.timers.is_some() {
             return false;
         }
@@ -123,13 +134,11 @@ impl Draft {
         true
     }
 
-    // Takes a further zone: before all events, and where it may stand beside the homes before it.
+    // Takes a further zone, where it may stand beside the homes before it.
     fn take_zone(&mut self, alloc: Global, line: ZoneLine) -> Result<bool, NoMemory>
-        ensures { (all : List Word) → IfOk result (λ taken. TakesLine all self.old (lines.Zone line) self.new taken) }
+        requires { length self.old.events.items ≡ 0 }
+        ensures { (all : List Word) → IfOk result (λ taken. TakesLine all self.old (lines.Head (heads.Zone line)) self.new taken) }
     {
-        if !self.is_in_head() {
-            return Ok(false);
-        }
         let zone = match Zone::new(alloc, line.apex, line.serial, line.writable) {
             Ok(zone) => zone,
             Err(ZoneFault::TooLong) => return Ok(false),
@@ -143,14 +152,11 @@ impl Draft {
         }
     }
 
-    // Takes a further link: before all events, with a word that no link has, and where it may stand beside the homes before
-    // it.
+    // Takes a further link, with a word that no link has, where it may stand beside the homes before it.
     fn take_link(&mut self, line: LinkLine) -> Result<bool, NoMemory>
-        ensures { (all : List Word) → IfOk result (λ taken. TakesLine all self.old (lines.Link line) self.new taken) }
+        requires { length self.old.events.items ≡ 0 }
+        ensures { (all : List Word) → IfOk result (λ taken. TakesLine all self.old (lines.Head (heads.Link line)) self.new taken) }
     {
-        if !self.is_in_head() {
-            return Ok(false);
-        }
         let LinkLine { word, domain } = line;
         if is_among(&self.links, word.as_bytes()) {
             return Ok(false);

@@ -7,15 +7,15 @@ use Rattle.std.proofs.lemmas.List.Folds.{list_any-append}
 use Rattle.history.specs.declared.entry.Totals.{Totals}
 use Rattle.push_base.specs.Starter.{Jobs}
 use Rattle.hublock.specs.Feeds.{FeedState, added, each, parts_each}
-use Rattle.hublock.specs.declared.ends.LoopEnd.{LoopEnd}
-use Rattle.hublock.specs.declared.ends.LoopEnd.TheVariants as loops
+use Rattle.hublock.specs.declared.loop_end.LoopEnd.{LoopEnd}
+use Rattle.hublock.specs.declared.loop_end.LoopEnd.TheVariants as loops
 use Rattle.serving.specs.declared.setup.Fed.{Fed}
-use Rattle.serving.specs.declared.ends.Cause.{Cause}
-use Rattle.serving.specs.declared.ends.Cause.TheVariants as causes
-use Rattle.serving.specs.declared.ends.Fault.{Fault}
-use Rattle.serving.specs.declared.ends.Fault.TheVariants as faults
-use Rattle.serving.specs.declared.ends.ServeEnd.{ServeEnd}
-use Rattle.serving.specs.declared.ends.ServeEnd.TheVariants as ends
+use Rattle.serving.specs.declared.serve_end.Cause.{Cause}
+use Rattle.serving.specs.declared.serve_end.Cause.TheVariants as causes
+use Rattle.serving.specs.declared.serve_end.Fault.{Fault}
+use Rattle.serving.specs.declared.serve_end.Fault.TheVariants as faults
+use Rattle.serving.specs.declared.serve_end.ServeEnd.{ServeEnd}
+use Rattle.serving.specs.declared.serve_end.ServeEnd.TheVariants as ends
 use Rattle.serving.specs.Ends.{CountsAs, CountsEnds, EndsAs, EndsFor, cause_of, end_for, fails_outside, is_full, is_link_fault, is_starved, lacks_memory, tells_fault, worst_cause}
 use Rattle.serving.specs.Serving.{Finishes, StartsAll, StartsAllUnless, has_fault, is_full_run, numbers_of}
 

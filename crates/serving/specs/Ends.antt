@@ -11,14 +11,14 @@ use Rattle.std.specs.declared.option.Option.{Option}
 use Rattle.std.specs.List.{list_any}
 use Rattle.history.specs.declared.entry.Totals.{Totals}
 use Rattle.hublock.specs.Feeds.{FeedState}
-use Rattle.hublock.specs.declared.ends.LoopEnd.{LoopEnd}
-use Rattle.hublock.specs.declared.ends.LoopEnd.TheVariants as loops
-use Rattle.serving.specs.declared.ends.ServeEnd.{ServeEnd}
-use Rattle.serving.specs.declared.ends.ServeEnd.TheVariants as ends
-use Rattle.serving.specs.declared.ends.Fault.{Fault}
-use Rattle.serving.specs.declared.ends.Fault.TheVariants as faults
-use Rattle.serving.specs.declared.ends.Cause.{Cause}
-use Rattle.serving.specs.declared.ends.Cause.TheVariants as causes
+use Rattle.hublock.specs.declared.loop_end.LoopEnd.{LoopEnd}
+use Rattle.hublock.specs.declared.loop_end.LoopEnd.TheVariants as loops
+use Rattle.serving.specs.declared.serve_end.ServeEnd.{ServeEnd}
+use Rattle.serving.specs.declared.serve_end.ServeEnd.TheVariants as ends
+use Rattle.serving.specs.declared.serve_end.Fault.{Fault}
+use Rattle.serving.specs.declared.serve_end.Fault.TheVariants as faults
+use Rattle.serving.specs.declared.serve_end.Cause.{Cause}
+use Rattle.serving.specs.declared.serve_end.Cause.TheVariants as causes
 
 -- memory ran out for a loop
 abbrev pub is_starved : LoopEnd → Bool

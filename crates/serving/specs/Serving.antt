@@ -13,8 +13,8 @@ use Rattle.push_base.specs.Causes.{Rose}
 use Rattle.push_base.specs.Starter.{Jobs}
 use Rattle.push_base.specs.Told.{TellsMore}
 use Rattle.serving.specs.declared.setup.Fed.{Fed}
-use Rattle.serving.specs.declared.ends.ServeEnd.{ServeEnd}
-use Rattle.serving.specs.declared.ends.ServeEnd.TheVariants as ends
+use Rattle.serving.specs.declared.serve_end.ServeEnd.{ServeEnd}
+use Rattle.serving.specs.declared.serve_end.ServeEnd.TheVariants as ends
 use Rattle.serving.specs.Jobs.{AreSeats, HandsFront, jobs_of}
 
 abbrev pub numbers_of : {G : Type 0} → List (Fed G) → List ℕ

@@ -3,22 +3,20 @@
 ghost use Rattle.std.specs.Prelude.{◌≡◌, ◌⊎◌, ◌<◌, ◌≤◌, ◌+◌, ◌++◌, ◌∷◌, [], None, Some, true, false, List, map, length, vec_len, vec_capacity, OnOk, IsErrOf};
 ghost use Rattle.std.specs.List.{insert, list_any};
 ghost use Rattle.hublock.specs.Feeds.{added, each, parts_each};
-ghost use Rattle.serving.specs.declared.ends.Cause.TheVariants as causes;
+ghost use Rattle.serving.specs.declared.serve_end.Cause.TheVariants as causes;
 ghost use Rattle.serving.specs.Ends.{CountsAs, CountsEnds, EndsAs, EndsFor, end_for, is_link_fault, tells_fault};
 ghost use Rattle.serving.specs.Servers.{IsWhole};
 ghost use Rattle.serving.specs.Serving.{has_fault, numbers_of};
 
-use crate::ends::{Cause, Fault, cause_of};
 use crate::link_job::LinkJob;
 use crate::other_job::OtherJob;
-use crate::running::Running;
-use crate::server::{Hearing, Server};
+use crate::running_jobs::Running;
+use crate::serve_end::{Cause, Fault, cause_of};
+use crate::server::{RunningLink, Server};
 use crate::{Fed, ServeEnd, Served};
-use hublock::{Ended, Feed, HubLock, finish};
-use push_base::{Clock, Datagrams, Line, Pending};
-use push_outside::Wire;
+use hublock::{Books, Ended, Feed, HubLock, finish};
+use push_base::{Datagrams, Pending, Surroundings};
 use std::sync::Wait;
-use std::sync::ledger::Ledger;
 use std::thread::Threads;
 
 /// How the loops of the jobs that are over ended, and whether memory ran out for this list.
@@ -49,21 +47,15 @@ fn note_over(noted: &mut Noted, ends: Vec<Ended>)
 /// Finishes the job of a link. Gives how its loop ended, the feed with the job's, and its datagrams.
 fn finish_link<
     R: Threads + Wait + Copy + Send + 'static,
-    L: Line + Drop + Send + 'static,
-    K: Wire + Drop + Send + 'static,
-    G: Datagrams + Drop + Send + 'static,
-    T: Clock + Drop + Send + 'static,
-    C: Ledger + Send + Sync + 'static,
-    H: Ledger + Send + Sync + 'static,
-    M: Ledger + Send + Sync + 'static,
-    S: Ledger + Send + Sync + 'static,
+    O: Surroundings,
+    B: Books + Send + Sync + 'static,
 >(
     rt: R,
-    job: Pending<LinkJob<R, L, K, G, T, C, H, M, S>>,
-    feed: Feed<C, H, M>,
-) -> (Ended, Feed<C, H, M>, G)
+    job: Pending<LinkJob<R, O::Line, O::Wire, O::Links, O::Clock, B>>,
+    feed: Feed<B>,
+) -> (Ended, Feed<B>, O::Links)
     ensures parts { result.1.parts ≡ added feed.parts (each 1) }
-    ensures failed { tells_fault result.0 (G.faults result.2) ≡ true }
+    ensures failed { tells_fault result.0 (O.Links.faults result.2) ≡ true }
 {
     let over = job.finish(&rt);
     (over.end, feed.join(over.feed), over.datagrams)
@@ -87,33 +79,27 @@ fn put_back<G: Drop>(links: &mut Vec<Fed<G>>, place: usize, fed: Fed<G>)
 /// back before those that no job has.
 fn finish_links<
     R: Threads + Wait + Copy + Send + 'static,
-    L: Line + Drop + Send + 'static,
-    K: Wire + Drop + Send + 'static,
-    G: Datagrams + Drop + Send + 'static,
-    T: Clock + Drop + Send + 'static,
-    C: Ledger + Send + Sync + 'static,
-    H: Ledger + Send + Sync + 'static,
-    M: Ledger + Send + Sync + 'static,
-    S: Ledger + Send + Sync + 'static,
+    O: Surroundings,
+    B: Books + Send + Sync + 'static,
 >(
     rt: R,
-    hearings: Vec<Hearing<R, L, K, G, T, C, H, M, S>>,
-    feed: Feed<C, H, M>,
+    hearings: Vec<RunningLink<R, O, B>>,
+    feed: Feed<B>,
     noted: &mut Noted,
-    links: &mut Vec<Fed<G>>,
-) -> Feed<C, H, M>
+    links: &mut Vec<Fed<O::Links>>,
+) -> Feed<B>
     requires none { noted.old.ends.items ≡ [] }
     requires room { vec_len links.old + vec_len hearings ≤ vec_capacity links.old }
     ensures parts { result.parts ≡ added feed.parts (each (vec_len hearings)) }
     ensures count { noted.new.starved ≡ false → length noted.new.ends.items ≡ vec_len hearings }
-    ensures failed { noted.new.starved ≡ false → list_any is_link_fault noted.new.ends.items ≡ true → has_fault G.faults links.new.items ≡ true }
+    ensures failed { noted.new.starved ≡ false → list_any is_link_fault noted.new.ends.items ≡ true → has_fault O.Links.faults links.new.items ≡ true }
     ensures links { numbers_of links.new.items ≡ map (λ h. h.link) hearings.items ++ numbers_of links.old.items }
 {
     let mut feed = feed;
     let mut place = 0;
     'hearings: for hearing in hearings {
-        let Hearing { link, job } = hearing;
-        let (end, joined, datagrams) = finish_link::<R, L, K, G, T, C, H, M, S>(rt, job, feed);
+        let RunningLink { link, job } = hearing;
+        let (end, joined, datagrams) = finish_link::<R, O, B>(rt, job, feed);
         feed = joined;
         note(noted, end);
         put_back(links, place, Fed { link, datagrams });
@@ -125,19 +111,13 @@ fn finish_links<
 /// Finishes a job that isn't a link's. Gives how its loop ended, and the feed with the job's.
 fn finish_job<
     R: Threads + Wait + Copy + Send + 'static,
-    L: Line + Drop + Send + 'static,
-    K: Wire + Drop + Send + 'static,
-    G: Datagrams + Drop + Send + 'static,
-    T: Clock + Drop + Send + 'static,
-    C: Ledger + Send + Sync + 'static,
-    H: Ledger + Send + Sync + 'static,
-    M: Ledger + Send + Sync + 'static,
-    S: Ledger + Send + Sync + 'static,
+    O: Surroundings,
+    B: Books + Send + Sync + 'static,
 >(
     rt: R,
-    job: Pending<OtherJob<R, L, K, G, T, C, H, M, S>>,
-    feed: Feed<C, H, M>,
-) -> (Ended, Feed<C, H, M>)
+    job: Pending<OtherJob<R, O::Line, O::Wire, O::Links, O::Clock, B>>,
+    feed: Feed<B>,
+) -> (Ended, Feed<B>)
     ensures parts { result.1.parts ≡ added feed.parts (each 1) }
     ensures linkless { is_link_fault result.0 ≡ false }
 {
@@ -148,20 +128,9 @@ fn finish_job<
 /// Finishes all jobs that aren't links', in the order of their starts, and notes how their loops ended.
 fn finish_jobs<
     R: Threads + Wait + Copy + Send + 'static,
-    L: Line + Drop + Send + 'static,
-    K: Wire + Drop + Send + 'static,
-    G: Datagrams + Drop + Send + 'static,
-    T: Clock + Drop + Send + 'static,
-    C: Ledger + Send + Sync + 'static,
-    H: Ledger + Send + Sync + 'static,
-    M: Ledger + Send + Sync + 'static,
-    S: Ledger + Send + Sync + 'static,
->(
-    rt: R,
-    jobs: Vec<Running<R, L, K, G, T, C, H, M, S>>,
-    feed: Feed<C, H, M>,
-    noted: &mut Noted,
-) -> Feed<C, H, M>
+    O: Surroundings,
+    B: Books + Send + Sync + 'static,
+>(rt: R, jobs: Vec<Running<R, O, B>>, feed: Feed<B>, noted: &mut Noted) -> Feed<B>
     ensures parts { result.parts ≡ added feed.parts (each (vec_len jobs)) }
     ensures starved { noted.new.starved ≡ false → noted.old.starved ≡ false }
     ensures count { noted.new.starved ≡ false → length noted.new.ends.items ≡ length noted.old.ends.items + vec_len jobs }
@@ -170,7 +139,7 @@ fn finish_jobs<
     let mut feed = feed;
     'jobs: for job in jobs {
         let Running { job, over: _ } = job;
-        let (end, joined) = finish_job::<R, L, K, G, T, C, H, M, S>(rt, job, feed);
+        let (end, joined) = finish_job::<R, O, B>(rt, job, feed);
         feed = joined;
         note(noted, end);
     }
@@ -179,13 +148,13 @@ fn finish_jobs<
 
 /// How a server ends: with the journal's counts, which are the sums of the feed that has every part, unless there is a
 /// cause to end otherwise.
-fn end_of<R: Wait, C: Ledger, H: Ledger, M: Ledger, S: Ledger>(
+fn end_of<R: Wait, B: Books>(
     rt: &R,
-    lock: &HubLock<C, H, M, S>,
+    lock: &HubLock<B>,
     cause: Option<Cause>,
-    feed: &mut Feed<C, H, M>,
+    feed: &mut Feed<B>,
 ) -> ServeEnd
-    requires { cause ≡ None → (feed.old.parts.changes ≡ C.parts) × (feed.old.parts.heard ≡ H.parts) × (feed.old.parts.moments ≡ M.parts) }
+    requires { cause ≡ None → feed.old.parts ≡ each parts_each }
     ensures end { result ≡ end_for cause feed.old.sums }
     ensures same { feed.new ≡ feed.old }
 {
@@ -201,27 +170,20 @@ fn end_of<R: Wait, C: Ledger, H: Ledger, M: Ledger, S: Ledger>(
 /// stop.
 pub(crate) fn close<
     R: Threads + Wait + Copy + Send + 'static,
-    L: Line + Drop + Send + 'static,
-    K: Wire + Drop + Send + 'static,
-    G: Datagrams + Drop + Send + 'static,
-    T: Clock + Drop + Send + 'static,
-    C: Ledger + Send + Sync + 'static,
-    H: Ledger + Send + Sync + 'static,
-    M: Ledger + Send + Sync + 'static,
-    S: Ledger + Send + Sync + 'static,
+    O: Surroundings,
+    B: Books + Send + Sync + 'static,
 >(
-    server: Server<R, L, K, G, T, C, H, M, S>,
+    server: Server<R, O, B>,
     opened: Result<(), Fault>,
-    links: Vec<Fed<G>>,
-) -> Served<G, C, H, M>
+    links: Vec<Fed<O::Links>>,
+) -> Served<O::Links, B>
     requires whole { OnOk opened (IsWhole server) }
     requires room { vec_len links + length server.links ≤ vec_capacity links }
-    requires all { (C.parts ≡ parts_each) × (H.parts ≡ parts_each) × (M.parts ≡ parts_each) }
     ensures end { EndsAs opened result.end }
-    ensures counts { CountsAs (record { changes = C.parts; heard = H.parts; moments = M.parts }) result.end result.feed }
+    ensures counts { CountsAs (each parts_each) result.end result.feed }
     ensures ended { EndsFor result.end result.ends.items (IsErrOf opened Fault.Outside) }
     ensures finished { CountsEnds result.end (length result.ends.items) (length server.links + server.jobs) }
-    ensures outside { result.end ≡ ServeEnd.OutsideFault → IsErrOf opened Fault.Outside ⊎ (has_fault G.faults result.links.items ≡ true) }
+    ensures outside { result.end ≡ ServeEnd.OutsideFault → IsErrOf opened Fault.Outside ⊎ (has_fault O.Links.faults result.links.items ≡ true) }
     ensures links { numbers_of result.links.items ≡ server.links ++ numbers_of links.items }
 {
     if opened.is_err() {
@@ -242,11 +204,9 @@ pub(crate) fn close<
         ends: Vec::new(alloc),
         starved: false,
     };
-    let feed = finish_links::<R, L, K, G, T, C, H, M, S>(
-        rt, hearings, feed, &mut noted, &mut links,
-    );
+    let feed = finish_links::<R, O, B>(rt, hearings, feed, &mut noted, &mut links);
     note_over(&mut noted, ends);
-    let mut feed = finish_jobs::<R, L, K, G, T, C, H, M, S>(rt, jobs, feed, &mut noted);
+    let mut feed = finish_jobs::<R, O, B>(rt, jobs, feed, &mut noted);
     let cause = cause_of(opened, noted.starved, noted.ends.as_slice());
     let end = end_of(&rt, &lock, cause, &mut feed);
     Served {

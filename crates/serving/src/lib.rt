@@ -2,14 +2,14 @@
 #![tactic(auto)]
 
 mod closing;
-mod ends;
 mod link_job;
 mod other_job;
-mod running;
+mod running_jobs;
+mod serve_end;
 mod server;
 mod sessions;
 mod setup;
 
-pub use ends::ServeEnd;
+pub use serve_end::ServeEnd;
 pub use sessions::serve;
 pub use setup::{Fed, Served, Setup};

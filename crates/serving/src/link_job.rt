@@ -6,19 +6,17 @@ ghost use Rattle.hublock.specs.Feeds.{each};
 ghost use Rattle.hublock.specs.Jobs.{role_in};
 ghost use Rattle.serving.specs.Ends.{tells_fault};
 
-use hublock::{Ended, Feed, Job, JobEnd, Shared};
-use push_base::{Clock, Datagrams, Line, Role, Task};
-use push_outside::Wire;
+use hublock::{Books, Ended, Feed, Job, JobEnd, Shared};
+use push_base::{Clock, Datagrams, Line, Role, Task, Wire};
 use std::alloc::Global;
 use std::sync::Wait;
-use std::sync::ledger::Ledger;
 
 /// What a link's job answers: how its loop ended, its feed of one part of each ledger, and the datagrams, whose count of
 /// faults is above 0 after `LinkFault`.
 #[derive(Drop)]
-pub(crate) struct LinkEnd<G: Datagrams + Drop, C: Ledger, H: Ledger, M: Ledger> {
+pub(crate) struct LinkEnd<G: Datagrams + Drop, B: Books> {
     pub(crate) end: Ended,
-    pub(crate) feed: Feed<C, H, M>,
+    pub(crate) feed: Feed<B>,
     pub(crate) datagrams: G,
     pub(crate) ghost one: { feed.parts ≡ each 1 },
     pub(crate) ghost failed: { tells_fault end (G.faults datagrams) ≡ true },
@@ -32,13 +30,10 @@ pub(crate) struct LinkJob<
     K: Wire + Drop,
     G: Datagrams + Drop,
     T: Clock + Drop,
-    C: Ledger,
-    H: Ledger,
-    M: Ledger,
-    S: Ledger,
+    B: Books,
 > {
     link: usize,
-    job: Job<R, L, K, G, T, C, H, M, S>,
+    job: Job<R, L, K, G, T, B>,
     ghost hears: { role_in job.work ≡ roles.Link link },
 }
 
@@ -48,15 +43,12 @@ impl<
     K: Wire + Drop,
     G: Datagrams + Drop,
     T: Clock + Drop,
-    C: Ledger,
-    H: Ledger,
-    M: Ledger,
-    S: Ledger,
-> LinkJob<R, L, K, G, T, C, H, M, S> {
+    B: Books,
+> LinkJob<R, L, K, G, T, B> {
     /// Hears the datagrams of a link.
     pub(crate) fn new(
         alloc: Global,
-        shared: Shared<R, C, H, M, S>,
+        shared: Shared<R, B>,
         link: usize,
         datagrams: G,
         turns: u64,
@@ -77,12 +69,9 @@ impl<
     K: Wire + Drop,
     G: Datagrams + Drop + Send + 'static,
     T: Clock + Drop,
-    C: Ledger + Send + 'static,
-    H: Ledger + Send + 'static,
-    M: Ledger + Send + 'static,
-    S: Ledger,
-> Task for LinkJob<R, L, K, G, T, C, H, M, S> {
-    type Out = LinkEnd<G, C, H, M>;
+    B: Books + 'static,
+> Task for LinkJob<R, L, K, G, T, B> {
+    type Out = LinkEnd<G, B>;
 
     ghost role_of = { λ j. role_in j.job.work };
 
@@ -96,7 +85,7 @@ impl<
         self.job.turns()
     }
 
-    fn run(self) -> LinkEnd<G, C, H, M> {
+    fn run(self) -> LinkEnd<G, B> {
         let LinkJob { link: _, job } = self;
         let JobEnd { end, feed, links } = job.run();
         match links {

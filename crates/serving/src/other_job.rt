@@ -6,19 +6,17 @@ ghost use Rattle.hublock.specs.Jobs.{role_in};
 ghost use Rattle.serving.specs.Ends.{is_link_fault};
 ghost use Rattle.serving.specs.Jobs.{is_link};
 
-use hublock::{Ended, Feed, Job, JobEnd};
-use push_base::{Clock, Datagrams, Line, Role, Task};
-use push_outside::Wire;
+use hublock::{Books, Ended, Feed, Job, JobEnd};
+use push_base::{Clock, Datagrams, Line, Role, Task, Wire};
 use std::sync::atomic::{AtomicBool, Ordering};
-use std::sync::ledger::Ledger;
 use std::sync::{Arc, Wait};
 
 /// What the job of a session or of the clock answers: how its loop ended, which is never as `LinkFault`, and its feed of one
 /// part of each ledger.
 #[derive(Drop)]
-pub(crate) struct OtherEnd<C: Ledger, H: Ledger, M: Ledger> {
+pub(crate) struct OtherEnd<B: Books> {
     pub(crate) end: Ended,
-    pub(crate) feed: Feed<C, H, M>,
+    pub(crate) feed: Feed<B>,
     pub(crate) ghost one: { feed.parts ≡ each 1 },
     pub(crate) ghost linkless: { is_link_fault end ≡ false },
 }
@@ -31,12 +29,9 @@ pub(crate) struct OtherJob<
     K: Wire + Drop,
     G: Datagrams + Drop,
     T: Clock + Drop,
-    C: Ledger,
-    H: Ledger,
-    M: Ledger,
-    S: Ledger,
+    B: Books,
 > {
-    job: Job<R, L, K, G, T, C, H, M, S>,
+    job: Job<R, L, K, G, T, B>,
     over: Arc<AtomicBool>,
     ghost other: { is_link (role_in job.work) ≡ false },
 }
@@ -47,13 +42,10 @@ impl<
     K: Wire + Drop,
     G: Datagrams + Drop,
     T: Clock + Drop,
-    C: Ledger,
-    H: Ledger,
-    M: Ledger,
-    S: Ledger,
-> OtherJob<R, L, K, G, T, C, H, M, S> {
+    B: Books,
+> OtherJob<R, L, K, G, T, B> {
     /// That job, and where it tells that it is over.
-    pub(crate) fn new(job: Job<R, L, K, G, T, C, H, M, S>, over: Arc<AtomicBool>) -> Self
+    pub(crate) fn new(job: Job<R, L, K, G, T, B>, over: Arc<AtomicBool>) -> Self
         requires { is_link (role_in job.work) ≡ false }
         ensures { result.job ≡ job }
     {
@@ -67,12 +59,9 @@ impl<
     K: Wire + Drop,
     G: Datagrams + Drop + Send + 'static,
     T: Clock + Drop,
-    C: Ledger + Send + 'static,
-    H: Ledger + Send + 'static,
-    M: Ledger + Send + 'static,
-    S: Ledger,
-> Task for OtherJob<R, L, K, G, T, C, H, M, S> {
-    type Out = OtherEnd<C, H, M>;
+    B: Books + 'static,
+> Task for OtherJob<R, L, K, G, T, B> {
+    type Out = OtherEnd<B>;
 
     ghost role_of = { λ j. role_in j.job.work };
 
@@ -86,7 +75,7 @@ impl<
         self.job.turns()
     }
 
-    fn run(self) -> OtherEnd<C, H, M> {
+    fn run(self) -> OtherEnd<B> {
         let OtherJob { job, over } = self;
         let JobEnd { end, feed, links } = job.run();
         over.store(true, Ordering::SeqCst);

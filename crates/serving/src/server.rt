@@ -10,87 +10,53 @@ ghost use Rattle.serving.specs.Servers.{IsWhole, SeatsAll, SeatsOne, StartsFirst
 ghost use Rattle.serving.specs.Serving.{Accepts, Returns, Starts, StartsAll, numbers_of};
 
 use crate::Fed;
-use crate::ends::Fault;
 use crate::link_job::LinkJob;
 use crate::other_job::OtherJob;
-use crate::running::{Running, finish_over, flags};
-use hublock::{Ended, Feed, HubLock, Job, PARTS, Seats, Shared};
-use push_base::{
-    Clock, Datagrams, Doors, Line, NoMemory, Pending, Role, StartFault, Starter, Task, start,
-};
-use push_outside::Wire;
+use crate::running_jobs::{Running, finish_over, flags};
+use crate::serve_end::Fault;
+use hublock::{Books, Ended, Feed, HubLock, Job, PARTS, Seats, Shared};
+use push_base::{Doors, NoMemory, Pending, Role, StartFault, Starter, Surroundings, Task, start};
 use pushserver::ConnectFault;
 use std::alloc::Global;
 use std::marker::Model;
 use std::sync::Wait;
-use std::sync::ledger::Ledger;
 use std::thread::Threads;
 
 /// The job of a link that was started.
 #[derive(Drop)]
-pub(crate) struct Hearing<
-    R: Wait + Copy + 'static,
-    L: Line + Drop + 'static,
-    K: Wire + Drop + 'static,
-    G: Datagrams + Drop + Send + 'static,
-    T: Clock + Drop + 'static,
-    C: Ledger + Send + 'static,
-    H: Ledger + Send + 'static,
-    M: Ledger + Send + 'static,
-    S: Ledger + 'static,
-> {
+pub(crate) struct RunningLink<R: Wait + Copy + 'static, O: Surroundings, B: Books + 'static> {
     pub(crate) link: usize,
-    pub(crate) job: Pending<LinkJob<R, L, K, G, T, C, H, M, S>>,
+    pub(crate) job: Pending<LinkJob<R, O::Line, O::Wire, O::Links, O::Clock, B>>,
 }
 
 /// The jobs that were started, and what is left for those that are still to be: a feed, the seats, the lock and the turns.
 #[derive(Drop)]
-pub(crate) struct Server<
-    R: Wait + Copy + 'static,
-    L: Line + Drop + 'static,
-    K: Wire + Drop + 'static,
-    G: Datagrams + Drop + Send + 'static,
-    T: Clock + Drop + 'static,
-    C: Ledger + Send + 'static,
-    H: Ledger + Send + 'static,
-    M: Ledger + Send + 'static,
-    S: Ledger + 'static,
-> {
+pub(crate) struct Server<R: Wait + Copy + 'static, O: Surroundings, B: Books + 'static> {
     pub(crate) rt: R,
     pub(crate) alloc: Global,
-    pub(crate) lock: HubLock<C, H, M, S>,
-    pub(crate) feed: Feed<C, H, M>,
-    seats: Seats<S>,
-    pub(crate) hearings: Vec<Hearing<R, L, K, G, T, C, H, M, S>>,
-    pub(crate) jobs: Vec<Running<R, L, K, G, T, C, H, M, S>>,
+    pub(crate) lock: HubLock<B>,
+    pub(crate) feed: Feed<B>,
+    seats: Seats<B>,
+    pub(crate) hearings: Vec<RunningLink<R, O, B>>,
+    pub(crate) jobs: Vec<Running<R, O, B>>,
     // How the loops ended of those jobs that are over already.
     pub(crate) ends: Vec<Ended>,
     turns: u64,
     left: u64,
 }
 
-impl<
-    R: Wait + Copy + 'static,
-    L: Line + Drop + 'static,
-    K: Wire + Drop + 'static,
-    G: Datagrams + Drop + Send + 'static,
-    T: Clock + Drop + 'static,
-    C: Ledger + Send + 'static,
-    H: Ledger + Send + 'static,
-    M: Ledger + Send + 'static,
-    S: Ledger + 'static,
-> Model for Server<R, L, K, G, T, C, H, M, S> {
+impl<R: Wait + Copy + 'static, O: Surroundings, B: Books + 'static> Model for Server<R, O, B> {
     ghost use Rattle.std.specs.Prelude.{◌≡◌, ◌≤◌, ◌+◌, ◌-◌, map, vec_len, false};
     ghost use Rattle.std.specs.List.{list_any};
     ghost use Rattle.serving.specs.Ends.{is_link_fault};
-    ghost use Rattle.hublock.specs.Feeds.{each};
+    ghost use Rattle.hublock.specs.Feeds.{each, parts_each};
     ghost use Rattle.serving.specs.Servers.{ServerState};
 
     ghost Value = { ServerState };
 
     ghost view = { λ s. record { parts = s.feed.parts.changes - vec_len s.ends; made = s.seats.made; links = map (λ h. h.link) s.hearings.items; jobs = vec_len s.jobs + vec_len s.ends; turns = s.turns } };
 
-    ghost invariant = { λ s. (s.feed.parts ≡ each s.feed.parts.changes) × (s.seats.parts ≡ S.parts) × (s.left + vec_len s.ends ≤ s.feed.parts.changes) × (list_any is_link_fault s.ends.items ≡ false) };
+    ghost invariant = { λ s. (s.feed.parts ≡ each s.feed.parts.changes) × (s.seats.parts ≡ parts_each) × (s.left + vec_len s.ends ≤ s.feed.parts.changes) × (list_any is_link_fault s.ends.items ≡ false) };
 }
 
 /// Hands a job to the starter. One that couldn't be started is dropped.
@@ -124,27 +90,20 @@ fn first_link<G>(links: &[Fed<G>]) -> usize
 
 impl<
     R: Threads + Wait + Copy + Send + 'static,
-    L: Line + Drop + Send + 'static,
-    K: Wire + Drop + Send + 'static,
-    G: Datagrams + Drop + Send + 'static,
-    T: Clock + Drop + Send + 'static,
-    C: Ledger + Send + Sync + 'static,
-    H: Ledger + Send + Sync + 'static,
-    M: Ledger + Send + Sync + 'static,
-    S: Ledger + Send + Sync + 'static,
-> Server<R, L, K, G, T, C, H, M, S> {
+    O: Surroundings,
+    B: Books + Send + Sync + 'static,
+> Server<R, O, B> {
     /// A server that has started no job.
     pub(crate) fn new(
         rt: R,
         alloc: Global,
-        lock: HubLock<C, H, M, S>,
-        feed: Feed<C, H, M>,
-        seats: Seats<S>,
+        lock: HubLock<B>,
+        feed: Feed<B>,
+        seats: Seats<B>,
         turns: u64,
     ) -> Self
         requires feed { feed ≡ all_parts }
         requires seats { seats ≡ whole_seats }
-        requires all { S.parts ≡ parts_each }
         ensures { result ≡ new_server turns }
     {
         Server {
@@ -162,7 +121,7 @@ impl<
     }
 
     /// A hold of the hub for one job, while the feed has a part for it. Where it has none left, there is no room for the job.
-    fn hold(&mut self, role: Role) -> Result<Shared<R, C, H, M, S>, NoMemory>
+    fn hold(&mut self, role: Role) -> Result<Shared<R, B>, NoMemory>
         ensures role { IfOk result (λ shared. shared.role ≡ role) }
         ensures state { OnOk result (self.new ≡ with_part_less self.old) }
         ensures enough { OnOk result (2 ≤ self.old.parts) }
@@ -177,18 +136,18 @@ impl<
     }
 
     /// Starts a job of a session, or the clock's.
-    fn start<A: Starter>(
+    fn start(
         &mut self,
-        starter: &mut A,
-        job: Job<R, L, K, G, T, C, H, M, S>,
+        starter: &mut O::Starter,
+        job: Job<R, O::Line, O::Wire, O::Links, O::Clock, B>,
     ) -> Result<(), Fault>
         requires { is_link (role_in job.work) ≡ false }
-        ensures started { HandsOver ((role_in job.work, job.turns) ∷ []) (A.started starter.old) (A.started starter.new) result }
+        ensures started { HandsOver ((role_in job.work, job.turns) ∷ []) (O.Starter.started starter.old) (O.Starter.started starter.new) result }
         ensures ok { OnOk result (self.new ≡ with_job self.old) }
         ensures err { OnErr result (self.new ≡ self.old) }
         ensures links { self.new.links ≡ self.old.links }
-        ensures later { A.faults starter.old ≤ A.faults starter.new }
-        ensures cause { IsErrOf result Fault.Outside → Rose (A.faults starter.old) (A.faults starter.new) }
+        ensures later { O.Starter.faults starter.old ≤ O.Starter.faults starter.new }
+        ensures cause { IsErrOf result Fault.Outside → Rose (O.Starter.faults starter.old) (O.Starter.faults starter.new) }
     {
         let (over, tells) = flags(self.alloc)?;
         self.jobs.reserve(1)?;
@@ -198,18 +157,18 @@ impl<
     }
 
     /// Starts the job of the first of these links.
-    fn start_link<A: Starter>(
+    fn start_link(
         &mut self,
-        starter: &mut A,
-        links: &mut Vec<Fed<G>>,
+        starter: &mut O::Starter,
+        links: &mut Vec<Fed<O::Links>>,
     ) -> Result<(), Fault>
         requires some { 0 < vec_len links.old }
-        ensures started { StartsFirst (numbers_of links.old.items) (numbers_of links.new.items) (A.started starter.old) (A.started starter.new) self.old self.new result }
+        ensures started { StartsFirst (numbers_of links.old.items) (numbers_of links.new.items) (O.Starter.started starter.old) (O.Starter.started starter.new) self.old self.new result }
         ensures len { OnOk result (vec_len links.new + 1 ≡ vec_len links.old) }
         ensures fewer { vec_len links.new ≤ vec_len links.old }
         ensures room { vec_capacity links.new ≡ vec_capacity links.old }
-        ensures later { A.faults starter.old ≤ A.faults starter.new }
-        ensures cause { IsErrOf result Fault.Outside → Rose (A.faults starter.old) (A.faults starter.new) }
+        ensures later { O.Starter.faults starter.old ≤ O.Starter.faults starter.new }
+        ensures cause { IsErrOf result Fault.Outside → Rose (O.Starter.faults starter.old) (O.Starter.faults starter.new) }
     {
         let link = first_link(links.as_slice());
         let shared = self.hold(Role::Link(link))?;
@@ -217,24 +176,24 @@ impl<
         let Fed { link: _, datagrams } = links.remove(0);
         let job = LinkJob::new(self.alloc, shared, link, datagrams, self.turns);
         let job = hand(self.rt, self.alloc, starter, job)?;
-        self.hearings.push_reserved(Hearing { link, job });
+        self.hearings.push_reserved(RunningLink { link, job });
         Ok(())
     }
 
     /// Starts the jobs of all links, in order.
-    fn start_links<A: Starter>(
+    fn start_links(
         &mut self,
-        starter: &mut A,
-        links: &mut Vec<Fed<G>>,
+        starter: &mut O::Starter,
+        links: &mut Vec<Fed<O::Links>>,
     ) -> Result<(), Fault>
         requires new { self.old ≡ new_server self.old.turns }
-        ensures started { HandsOver (link_jobs self.old.turns (numbers_of links.old.items)) (A.started starter.old) (A.started starter.new) result }
+        ensures started { HandsOver (link_jobs self.old.turns (numbers_of links.old.items)) (O.Starter.started starter.old) (O.Starter.started starter.new) result }
         ensures ok { OnOk result ((IsWhole self.new) × (self.new.made ≡ 0) × (self.new.jobs ≡ 0) × (self.new.turns ≡ self.old.turns)) }
         ensures all { OnOk result (self.new.links ≡ numbers_of links.old.items) }
         ensures links { Returns (is_ok result) (numbers_of links.old.items) (self.new.links ++ numbers_of links.new.items) }
         ensures room { vec_len links.new + length self.new.links ≤ vec_capacity links.new }
-        ensures later { A.faults starter.old ≤ A.faults starter.new }
-        ensures cause { IsErrOf result Fault.Outside → Rose (A.faults starter.old) (A.faults starter.new) }
+        ensures later { O.Starter.faults starter.old ≤ O.Starter.faults starter.new }
+        ensures cause { IsErrOf result Fault.Outside → Rose (O.Starter.faults starter.old) (O.Starter.faults starter.new) }
     {
         'links: while !links.is_empty() {
             self.start_link(starter, links)?;
@@ -243,13 +202,13 @@ impl<
     }
 
     /// Starts the clock's job.
-    fn start_clock<A: Starter>(&mut self, starter: &mut A, clock: T) -> Result<(), Fault>
-        ensures started { HandsOver ((roles.Clock, self.old.turns) ∷ []) (A.started starter.old) (A.started starter.new) result }
+    fn start_clock(&mut self, starter: &mut O::Starter, clock: O::Clock) -> Result<(), Fault>
+        ensures started { HandsOver ((roles.Clock, self.old.turns) ∷ []) (O.Starter.started starter.old) (O.Starter.started starter.new) result }
         ensures ok { OnOk result (self.new ≡ with_jobs 1 self.old) }
         ensures enough { OnOk result (2 ≤ self.old.parts) }
         ensures links { self.new.links ≡ self.old.links }
-        ensures later { A.faults starter.old ≤ A.faults starter.new }
-        ensures cause { IsErrOf result Fault.Outside → Rose (A.faults starter.old) (A.faults starter.new) }
+        ensures later { O.Starter.faults starter.old ≤ O.Starter.faults starter.new }
+        ensures cause { IsErrOf result Fault.Outside → Rose (O.Starter.faults starter.old) (O.Starter.faults starter.new) }
     {
         let shared = self.hold(Role::Clock)?;
         let job = Job::clock(self.alloc, shared, clock, self.turns);
@@ -257,18 +216,18 @@ impl<
     }
 
     /// Starts the job that reads a session's line.
-    fn start_reader<A: Starter>(
+    fn start_reader(
         &mut self,
-        starter: &mut A,
+        starter: &mut O::Starter,
         session: u64,
-        line: L,
+        line: O::Line,
     ) -> Result<(), Fault>
-        ensures started { HandsOver ((roles.Reader session, self.old.turns) ∷ []) (A.started starter.old) (A.started starter.new) result }
+        ensures started { HandsOver ((roles.Reader session, self.old.turns) ∷ []) (O.Starter.started starter.old) (O.Starter.started starter.new) result }
         ensures ok { OnOk result (self.new ≡ with_jobs 1 self.old) }
         ensures enough { OnOk result (2 ≤ self.old.parts) }
         ensures links { self.new.links ≡ self.old.links }
-        ensures later { A.faults starter.old ≤ A.faults starter.new }
-        ensures cause { IsErrOf result Fault.Outside → Rose (A.faults starter.old) (A.faults starter.new) }
+        ensures later { O.Starter.faults starter.old ≤ O.Starter.faults starter.new }
+        ensures cause { IsErrOf result Fault.Outside → Rose (O.Starter.faults starter.old) (O.Starter.faults starter.new) }
     {
         let shared = self.hold(Role::Reader(session))?;
         let job = Job::reader(self.alloc, shared, session, line, self.turns);
@@ -276,18 +235,18 @@ impl<
     }
 
     /// Starts the job that writes to a session's wire.
-    fn start_writer<A: Starter>(
+    fn start_writer(
         &mut self,
-        starter: &mut A,
+        starter: &mut O::Starter,
         session: u64,
-        wire: K,
+        wire: O::Wire,
     ) -> Result<(), Fault>
-        ensures started { HandsOver ((roles.Writer session, self.old.turns) ∷ []) (A.started starter.old) (A.started starter.new) result }
+        ensures started { HandsOver ((roles.Writer session, self.old.turns) ∷ []) (O.Starter.started starter.old) (O.Starter.started starter.new) result }
         ensures ok { OnOk result (self.new ≡ with_jobs 1 self.old) }
         ensures enough { OnOk result (2 ≤ self.old.parts) }
         ensures links { self.new.links ≡ self.old.links }
-        ensures later { A.faults starter.old ≤ A.faults starter.new }
-        ensures cause { IsErrOf result Fault.Outside → Rose (A.faults starter.old) (A.faults starter.new) }
+        ensures later { O.Starter.faults starter.old ≤ O.Starter.faults starter.new }
+        ensures cause { IsErrOf result Fault.Outside → Rose (O.Starter.faults starter.old) (O.Starter.faults starter.new) }
     {
         let shared = self.hold(Role::Writer(session))?;
         let job = Job::writer(self.alloc, shared, session, wire, self.turns);
@@ -295,30 +254,30 @@ impl<
     }
 
     /// Starts the jobs of a session.
-    fn start_session<A: Starter>(
+    fn start_session(
         &mut self,
-        starter: &mut A,
+        starter: &mut O::Starter,
         session: u64,
-        line: L,
-        wire: K,
+        line: O::Line,
+        wire: O::Wire,
     ) -> Result<(), Fault>
-        ensures started { HandsOver (pair_of self.old.turns session) (A.started starter.old) (A.started starter.new) result }
+        ensures started { HandsOver (pair_of self.old.turns session) (O.Starter.started starter.old) (O.Starter.started starter.new) result }
         ensures ok { OnOk result (self.new ≡ with_jobs 2 self.old) }
         ensures enough { OnOk result (3 ≤ self.old.parts) }
         ensures links { self.new.links ≡ self.old.links }
-        ensures later { A.faults starter.old ≤ A.faults starter.new }
-        ensures cause { IsErrOf result Fault.Outside → Rose (A.faults starter.old) (A.faults starter.new) }
+        ensures later { O.Starter.faults starter.old ≤ O.Starter.faults starter.new }
+        ensures cause { IsErrOf result Fault.Outside → Rose (O.Starter.faults starter.old) (O.Starter.faults starter.new) }
     {
         self.start_reader(starter, session, line)?;
         self.start_writer(starter, session, wire)
     }
 
     /// A session takes a seat, and its jobs are started. One that gets none counts as ended at once.
-    fn seat<A: Starter>(&mut self, starter: &mut A, line: L, wire: K) -> Result<(), Fault>
-        ensures started { SeatsOne (A.started starter.old) (A.started starter.new) self.old self.new result }
+    fn seat(&mut self, starter: &mut O::Starter, line: O::Line, wire: O::Wire) -> Result<(), Fault>
+        ensures started { SeatsOne (O.Starter.started starter.old) (O.Starter.started starter.new) self.old self.new result }
         ensures links { self.new.links ≡ self.old.links }
-        ensures later { A.faults starter.old ≤ A.faults starter.new }
-        ensures cause { IsErrOf result Fault.Outside → Rose (A.faults starter.old) (A.faults starter.new) }
+        ensures later { O.Starter.faults starter.old ≤ O.Starter.faults starter.new }
+        ensures cause { IsErrOf result Fault.Outside → Rose (O.Starter.faults starter.old) (O.Starter.faults starter.new) }
     {
         match self.lock.connect(&self.rt, &mut self.seats) {
             Ok(session) => self.start_session(starter, session, line, wire),
@@ -336,25 +295,16 @@ impl<
     fn finish_over(&mut self)
         ensures { self.new ≡ self.old }
     {
-        finish_over::<R, L, K, G, T, C, H, M, S>(
-            self.rt,
-            &mut self.jobs,
-            &mut self.feed,
-            &mut self.ends,
-        );
+        finish_over::<R, O, B>(self.rt, &mut self.jobs, &mut self.feed, &mut self.ends);
     }
 
     /// Accepts one session. The jobs that are over then are finished.
-    fn open_session<A: Starter, D: Doors<Line = L, Out = K>>(
-        &mut self,
-        starter: &mut A,
-        doors: &mut D,
-    ) -> Result<(), Fault>
-        ensures started { SeatsOne (A.started starter.old) (A.started starter.new) self.old self.new result }
-        ensures accepted { Accepts (is_ok result) 1 (D.accepted doors.old) (D.accepted doors.new) }
+    fn open_session(&mut self, starter: &mut O::Starter, doors: &mut O::Doors) -> Result<(), Fault>
+        ensures started { SeatsOne (O.Starter.started starter.old) (O.Starter.started starter.new) self.old self.new result }
+        ensures accepted { Accepts (is_ok result) 1 (O.Doors.accepted doors.old) (O.Doors.accepted doors.new) }
         ensures links { self.new.links ≡ self.old.links }
-        ensures later { (A.faults starter.old ≤ A.faults starter.new) × (D.faults doors.old ≤ D.faults doors.new) }
-        ensures cause { IsErrOf result Fault.Outside → Rose (A.faults starter.old) (A.faults starter.new) ⊎ Rose (D.faults doors.old) (D.faults doors.new) }
+        ensures later { (O.Starter.faults starter.old ≤ O.Starter.faults starter.new) × (O.Doors.faults doors.old ≤ O.Doors.faults doors.new) }
+        ensures cause { IsErrOf result Fault.Outside → Rose (O.Starter.faults starter.old) (O.Starter.faults starter.new) ⊎ Rose (O.Doors.faults doors.old) (O.Doors.faults doors.new) }
     {
         let Ok((line, wire)) = doors.accept() else {
             return Err(Fault::Outside);
@@ -364,20 +314,20 @@ impl<
     }
 
     /// Accepts so many sessions.
-    fn open_sessions<A: Starter, D: Doors<Line = L, Out = K>>(
+    fn open_sessions(
         &mut self,
-        starter: &mut A,
-        doors: &mut D,
+        starter: &mut O::Starter,
+        doors: &mut O::Doors,
         sessions: u64,
     ) -> Result<(), Fault>
         requires made { self.old.made ≡ 0 }
         requires whole { IsWhole self.old }
-        ensures started { SeatsAll self.old.turns sessions (A.started starter.old) (A.started starter.new) self.old self.new result }
-        ensures accepted { Accepts (is_ok result) sessions (D.accepted doors.old) (D.accepted doors.new) }
+        ensures started { SeatsAll self.old.turns sessions (O.Starter.started starter.old) (O.Starter.started starter.new) self.old self.new result }
+        ensures accepted { Accepts (is_ok result) sessions (O.Doors.accepted doors.old) (O.Doors.accepted doors.new) }
         ensures whole { OnOk result (IsWhole self.new) }
         ensures links { self.new.links ≡ self.old.links }
-        ensures later { (A.faults starter.old ≤ A.faults starter.new) × (D.faults doors.old ≤ D.faults doors.new) }
-        ensures cause { IsErrOf result Fault.Outside → Rose (A.faults starter.old) (A.faults starter.new) ⊎ Rose (D.faults doors.old) (D.faults doors.new) }
+        ensures later { (O.Starter.faults starter.old ≤ O.Starter.faults starter.new) × (O.Doors.faults doors.old ≤ O.Doors.faults doors.new) }
+        ensures cause { IsErrOf result Fault.Outside → Rose (O.Starter.faults starter.old) (O.Starter.faults starter.new) ⊎ Rose (O.Doors.faults doors.old) (O.Doors.faults doors.new) }
     {
         'sessions: for session in 0..sessions {
             self.open_session(starter, doors)?;
@@ -387,22 +337,22 @@ impl<
 
     /// Starts all jobs: those of the links, the clock's, and those of so many sessions that are accepted. Where that fails,
     /// the server is to be given up.
-    pub(crate) fn open<A: Starter, D: Doors<Line = L, Out = K>>(
+    pub(crate) fn open(
         &mut self,
-        starter: &mut A,
-        doors: &mut D,
-        links: &mut Vec<Fed<G>>,
-        clock: T,
+        starter: &mut O::Starter,
+        doors: &mut O::Doors,
+        links: &mut Vec<Fed<O::Links>>,
+        clock: O::Clock,
         sessions: u64,
     ) -> Result<(), Fault>
         requires new { self.old ≡ new_server self.old.turns }
-        ensures started { Starts (is_ok result) self.old.turns (numbers_of links.old.items) sessions (A.started starter.old) (A.started starter.new) }
-        ensures accepted { Accepts (is_ok result) sessions (D.accepted doors.old) (D.accepted doors.new) }
-        ensures all { OnOk result (StartsAll self.old.turns (numbers_of links.old.items) sessions (A.started starter.old) (A.started starter.new) (length self.new.links + self.new.jobs)) }
+        ensures started { Starts (is_ok result) self.old.turns (numbers_of links.old.items) sessions (O.Starter.started starter.old) (O.Starter.started starter.new) }
+        ensures accepted { Accepts (is_ok result) sessions (O.Doors.accepted doors.old) (O.Doors.accepted doors.new) }
+        ensures all { OnOk result (StartsAll self.old.turns (numbers_of links.old.items) sessions (O.Starter.started starter.old) (O.Starter.started starter.new) (length self.new.links + self.new.jobs)) }
         ensures whole { OnOk result (IsWhole self.new) }
         ensures links { Returns (is_ok result) (numbers_of links.old.items) (self.new.links ++ numbers_of links.new.items) }
         ensures room { vec_len links.new + length self.new.links ≤ vec_capacity links.new }
-        ensures cause { IsErrOf result Fault.Outside → Rose (A.faults starter.old) (A.faults starter.new) ⊎ Rose (D.faults doors.old) (D.faults doors.new) }
+        ensures cause { IsErrOf result Fault.Outside → Rose (O.Starter.faults starter.old) (O.Starter.faults starter.new) ⊎ Rose (O.Doors.faults doors.old) (O.Doors.faults doors.new) }
     {
         self.start_links(starter, links)?;
         self.start_clock(starter, clock)?;

@@ -1,9 +1,8 @@
 //! What a server is given, and what it gives back.
 
 use crate::ServeEnd;
-use hublock::{Ended, Feed};
+use hublock::{Books, Ended, Feed};
 use pushserver::Hub;
-use std::sync::ledger::Ledger;
 
 /// The datagrams that a link is fed with, and the link's number.
 #[derive(Drop)]
@@ -27,9 +26,9 @@ pub struct Setup<G, T> {
 /// first, then those of the jobs that were over while others were started, and then the others', and a feed into which those
 /// of all jobs were joined. There is none where memory ran out before there was one.
 #[derive(Drop)]
-pub struct Served<G, C: Ledger, H: Ledger, M: Ledger> {
+pub struct Served<G, B: Books> {
     pub end: ServeEnd,
     pub links: Vec<Fed<G>>,
     pub ends: Vec<Ended>,
-    pub feed: Option<Feed<C, H, M>>,
+    pub feed: Option<Feed<B>>,
 }

@@ -9,11 +9,3 @@ pub(crate) fn holds(row: usize, test: bool) -> Result<(), Fail> {
     }
     Err(Fail::new(format_args!("not so in row {row}")))
 }
-
-/// Fails where what a row tells isn't the text that is wanted.
-pub(crate) fn is_text(row: usize, text: &str, wanted: &str) -> Result<(), Fail> {
-    if text == wanted {
-        return Ok(());
-    }
-    Err(Fail::new(format_args!("row {row}: {text}")))
-}

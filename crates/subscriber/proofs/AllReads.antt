@@ -9,8 +9,8 @@ use Rattle.std.proofs.lemmas.List.Sums.{fold-append}
 use Rattle.push_base.specs.Line.{Read}
 use Rattle.push_base.specs.Told.{TellsMore}
 use Rattle.pushclient.specs.Rule.{KeptClient}
-use Rattle.replay.specs.Reply.{Took, IsFrontOf}
-use Rattle.replay.specs.Text.{ended_lines}
+use Rattle.push_base.specs.Written.{Took, IsFrontOf}
+use Rattle.scripts.specs.Words.{ended_lines}
 use Rattle.subscriber.specs.declared.fault.Fault.{Fault}
 use Rattle.subscriber.specs.declared.fault.Fault.TheVariants as faults
 use Rattle.subscriber.specs.Said.{Saying, text_of, ends_with, is_used_up, takes_read, at_moment, ends_without_turns, spends_turn, turn, paired}

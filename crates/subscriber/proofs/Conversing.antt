@@ -7,11 +7,11 @@ use Rattle.std.specs.Io.KnownBytes.{append_known}
 use Rattle.push_base.specs.Line.{Read}
 use Rattle.push_base.specs.Told.{TellsMore}
 use Rattle.pushclient.specs.Rule.{KeptClient}
-use Rattle.replay.specs.Reply.{Took, IsFrontOf, line}
-use Rattle.replay.specs.Text.{ended_lines}
-use Rattle.replay.specs.declared.outcome.Outcome.{Outcome}
-use Rattle.replay.specs.declared.outcome.Outcome.TheVariants as outcomes
-use Rattle.scripts.proofs.ReadAndWritten.{append_twice}
+use Rattle.push_base.specs.Written.{Took, IsFrontOf}
+use Rattle.scripts.specs.Words.{line, ended_lines}
+use Rattle.scripts.specs.declared.outcome.Outcome.{Outcome}
+use Rattle.scripts.specs.declared.outcome.Outcome.TheVariants as outcomes
+use Rattle.push_base.proofs.Written.{append_twice}
 use Rattle.configurations.specs.Configurations.{Subscribing}
 use Rattle.subscriber.specs.declared.fault.Fault.{Fault}
 use Rattle.subscriber.specs.declared.fault.Fault.TheVariants as faults

@@ -11,8 +11,8 @@ use Rattle.dsosession.specs.declared.session.CloseReason.{CloseReason}
 use Rattle.pushclient.specs.declared.client.Step.{Step}
 use Rattle.pushclient.specs.Clients.{Client, Connection, open_connection, output_of, closed_as}
 use Rattle.pushclient.specs.Steps.{reacted, moment}
-use Rattle.replay.specs.Reply.{IsFrontOf, line}
-use Rattle.replay.specs.Text.{ended_lines}
+use Rattle.push_base.specs.Written.{IsFrontOf}
+use Rattle.scripts.specs.Words.{line, ended_lines}
 use Rattle.subscriber.specs.Said.{Saying, text_of, ends_with, is_used_up, ends_at, is_closed, step_lines, closed_line, after_step, takes_message, takes_messages, takes_read, writes_out, closed_by_moment, capped, at_moment, ends_without_turns, spends_turn}
 use Rattle.subscriber.specs.Turning.{Grows}
 use Rattle.subscriber.proofs.MessageTurns.{further, closed_says, open_says, ends-at}

@@ -16,7 +16,7 @@ use Rattle.pushclient.proofs.EveryCut.{is-at}
 use Rattle.pushclient.proofs.Streams.{few-messages}
 use Rattle.pushclient.proofs.MessageSteps.{bare, is-open}
 use Rattle.pushclient.proofs.Reactions.{at, with_octets, Told}
-use Rattle.replay.specs.Text.{ended_lines}
+use Rattle.scripts.specs.Words.{ended_lines}
 use Rattle.subscriber.specs.Said.{Saying, text_of, is_used_up, ends_with, ends_at, one_less, counted, is_waiting, is_closed, step_lines, after_step, takes_messages, reacts_to}
 use Rattle.subscriber.specs.Standing.{StandsAs, IsSaid, Reacts}
 use Rattle.subscriber.proofs.Steps.{StepsAs, Waited, Took, one-step, over-stays, said-more}

@@ -20,8 +20,7 @@ use Rattle.pushclient.specs.Steps.{moment, does, is_active, keepalive_message, a
 use Rattle.pushclient.proofs.EveryCut.{IsAt, is-at}
 use Rattle.pushclient.proofs.MessageSteps.{bare, is-open}
 use Rattle.pushclient.proofs.Reactions.{at, with_octets}
-use Rattle.replay.specs.PassedOctets.{without_output}
-use Rattle.replay.specs.KeptSteps.{HandsOut}
+use Rattle.pushclient.specs.HandedOut.{without_output, HandsOut}
 use Rattle.configurations.specs.Configurations.{Subscribing}
 use Rattle.subscriber.specs.Said.{Saying, text_of, closed_line, ends_with, writes_out, closed_by_moment, capped, at_moment, asking}
 use Rattle.subscriber.specs.Standing.{Waits, IsPassed, Passes, IsClosing, Begins}

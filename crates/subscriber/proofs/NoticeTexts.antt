@@ -2,8 +2,7 @@
 use Rattle.std.proofs.Common.{◌≡◌, ℕ, ◌+◌, ◌<◌, List, [], ◌∷◌, ◌++◌, length, drop, get_or, map, sym, ◌∙◌, ap, append_assoc, append-nil}
 use Rattle.std.proofs.lemmas.List.{at_drop_more}
 use Rattle.dsotlv.specs.declared.message.Notice.{Notice}
-use Rattle.replay.specs.Reply.{line}
-use Rattle.replay.specs.Text.{ended_lines}
+use Rattle.scripts.specs.Words.{line, ended_lines}
 use Rattle.subscriber.specs.Said.{notice_line}
 
 abbrev pub notices_text : List Notice → List ℕ

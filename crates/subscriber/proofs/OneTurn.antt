@@ -6,8 +6,8 @@ use Rattle.std.specs.Io.KnownBytes.{append_known}
 use Rattle.push_base.specs.Line.{Read}
 use Rattle.push_base.specs.Told.{TellsMore}
 use Rattle.pushclient.specs.Rule.{KeptClient}
-use Rattle.replay.specs.Reply.{IsFrontOf, Took}
-use Rattle.scripts.proofs.ReadAndWritten.{append_twice}
+use Rattle.push_base.specs.Written.{IsFrontOf, Took}
+use Rattle.push_base.proofs.Written.{append_twice}
 use Rattle.subscriber.specs.declared.fault.Fault.{Fault}
 use Rattle.subscriber.specs.declared.fault.Fault.TheVariants as faults
 use Rattle.subscriber.specs.Said.{Saying, text_of, takes_read, at_moment}

@@ -14,7 +14,7 @@ use Rattle.pushclient.proofs.EveryCut.{IsAt, is-at}
 use Rattle.pushclient.proofs.PieceSteps.{room-while-waiting}
 use Rattle.pushclient.proofs.Reactions.{at, with_octets}
 use Rattle.pushclient.proofs.Streams.{octets-both}
-use Rattle.replay.specs.Text.{ended_lines}
+use Rattle.scripts.specs.Words.{ended_lines}
 use Rattle.subscriber.specs.Said.{Saying, text_of}
 use Rattle.subscriber.specs.Standing.{StandsAs, Waits, Reacts, Hears}
 use Rattle.subscriber.proofs.Steps.{said-more}

@@ -16,8 +16,7 @@ use Rattle.pushclient.proofs.EveryCut.{IsAt, is-at}
 use Rattle.pushclient.proofs.MessageSteps.{bare, step-first, step-waits}
 use Rattle.pushclient.proofs.Reactions.{at, with_octets, Told, does-reacted}
 use Rattle.pushclient.proofs.Streams.{behind-first}
-use Rattle.replay.specs.Reply.{line}
-use Rattle.replay.specs.Text.{ended_lines}
+use Rattle.scripts.specs.Words.{line, ended_lines}
 use Rattle.subscriber.specs.Said.{Saying, after_step, takes_message, takes_messages}
 use Rattle.subscriber.specs.Standing.{StandsAs}
 

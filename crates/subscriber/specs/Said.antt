@@ -16,8 +16,7 @@ use Rattle.pushclient.specs.declared.client.Step.{Step}
 use Rattle.pushclient.specs.declared.client.Step.TheVariants as steps
 use Rattle.pushclient.specs.Clients.{Client, new_client, subscribe, connected, open_connection, output_of, give_octets, closed_as}
 use Rattle.pushclient.specs.Steps.{reacted, moment}
-use Rattle.scripts.specs.Words.{spaced, close_words, octets_text}
-use Rattle.replay.specs.Text.{ended_lines}
+use Rattle.scripts.specs.Words.{spaced, close_words, octets_text, ended_lines}
 use Rattle.configurations.specs.Configurations.{Subscribing}
 
 -- ---- lines

@@ -12,7 +12,7 @@ use Rattle.pushclient.specs.Clients.{Connection, open_connection}
 use Rattle.pushclient.specs.Pieces.{with_input}
 use Rattle.pushclient.specs.Rule.{KeptClient, StandsFor}
 use Rattle.dsosession.specs.declared.session.CloseReason.{CloseReason}
-use Rattle.replay.specs.Text.{ended_lines}
+use Rattle.scripts.specs.Words.{ended_lines}
 use Rattle.configurations.specs.Configurations.{Subscribing}
 use Rattle.subscriber.specs.declared.reacting.TheConstants as reading
 use Rattle.subscriber.specs.Said.{Saying, text_of, closed_line, reacts_to, takes_read, at_moment, writes_out, connected_at}

@@ -6,9 +6,10 @@
 use Rattle.std.specs.Prelude.{◌≡◌, ◌⊎◌, ℕ, true, false, List, [], ◌∷◌, ◌++◌, Option, Result, codes}
 use Rattle.push_base.specs.Line.{Read}
 use Rattle.push_base.specs.Told.{TellsMore}
-use Rattle.replay.specs.Reply.{IsFrontOf, Took, line}
-use Rattle.replay.specs.declared.outcome.Outcome.{Outcome}
-use Rattle.replay.specs.declared.outcome.Outcome.TheVariants as outcomes
+use Rattle.push_base.specs.Written.{IsFrontOf, Took}
+use Rattle.scripts.specs.Words.{line}
+use Rattle.scripts.specs.declared.outcome.Outcome.{Outcome}
+use Rattle.scripts.specs.declared.outcome.Outcome.TheVariants as outcomes
 use Rattle.configurations.specs.Configurations.{Subscribing}
 use Rattle.subscriber.specs.declared.fault.Fault.{Fault}
 use Rattle.subscriber.specs.Said.{Saying, text_of, saying}

@@ -3,7 +3,7 @@
 use push_base::NoMemory;
 
 /// Why a subscriber stopped before an ending was said.
-#[derive(Clone, Copy, Debug, PartialEq, Eq)]
+#[derive(Clone, Copy, PartialEq, Eq)]
 pub(crate) enum Fault {
     /// A read of the line failed.
     Read,

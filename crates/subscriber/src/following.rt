@@ -3,16 +3,15 @@
 ghost use Rattle.std.specs.Prelude.{◌≡◌, ◌⊎◌, ◌≤◌, length, IsErrOf, OnOk, OnErr};
 ghost use Rattle.std.specs.Io.KnownBytes.{append_known};
 ghost use Rattle.push_base.specs.Causes.{Rose};
-ghost use Rattle.replay.specs.Reply.{IsFrontOf, Took};
+ghost use Rattle.push_base.specs.Written.{IsFrontOf, Took};
 ghost use Rattle.subscriber.specs.Standing.{most_read};
 ghost use Rattle.subscriber.specs.Turning.{Follows, Turns};
 
 use crate::fault::Fault;
 use crate::passing::pass;
 use crate::reacting::hear;
-use push_base::{Clock, Failed, Line, Sink};
+use push_base::{Clock, Failed, Line, Sink, write_all};
 use pushclient::Client;
-use replay::write_all;
 use std::alloc::Global;
 
 /// A client that is connected, and how many messages may still come, where they are counted.

@@ -13,8 +13,7 @@ use configurations::SubscribeConfiguration;
 use dsosession::session::CloseReason;
 use push_base::NoMemory;
 use push_base::limits::MAX_MOMENT;
-use pushclient::Client;
-use replay::hand_out_over;
+use pushclient::{Client, hand_out_over};
 use rrset::record::Question;
 use std::alloc::Global;
 

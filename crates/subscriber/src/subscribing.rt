@@ -12,7 +12,7 @@ use crate::passing::begin;
 use crate::reacting::{MOST_READ, is_used_up};
 use configurations::SubscribeConfiguration;
 use push_base::{Clock, Line, Sink};
-use replay::{NO_MEMORY, Outcome, READ_FAULT, tell};
+use scripts::{NO_MEMORY, Outcome, READ_FAULT, tell};
 use std::alloc::Global;
 
 /// Asks a server that was dialled, and says what it answers and pushes, until an ending: it closed, the line is at its end,

@@ -1,7 +1,7 @@
 //! The lines that a subscriber says.
 
 ghost use Rattle.std.specs.Prelude.{◌≡◌, ◌++◌, ◌∷◌, [], codes, decimal, map, IfOk, string_bytes};
-ghost use Rattle.replay.specs.Text.{ended_lines};
+ghost use Rattle.scripts.specs.Words.{ended_lines};
 ghost use Rattle.dnsname.specs.Text.{name_text};
 ghost use Rattle.subscriber.specs.Said.{added_line, closed_line, notice_line, removed_line, step_lines};
 

@@ -3,29 +3,15 @@
 #![tactic(auto)]
 
 #[cfg(test)]
-mod deadlines;
-#[cfg(test)]
-mod hearings;
-#[cfg(test)]
-mod jobs;
-#[cfg(test)]
-mod lines;
-#[cfg(test)]
 mod names;
 #[cfg(test)]
 mod notices;
-#[cfg(test)]
-mod outside;
 #[cfg(test)]
 mod rdata;
 #[cfg(test)]
 mod session_messages;
 #[cfg(test)]
 mod shown;
-#[cfg(test)]
-mod streams;
-#[cfg(test)]
-mod translations;
 #[cfg(test)]
 mod updates;
 

@@ -3,7 +3,7 @@ use Rattle.std.proofs.Common.{◌≡◌, ℕ, ◌+◌, ◌≤◌, ◌⊎◌, inl
 use Rattle.std.specs.List.{list_all, list_any}
 use Rattle.dnsname.specs.Names.{Labels, same_name, ends_in, longest}
 use Rattle.zoneupdate.specs.Zones.{is_inside}
-use Rattle.zoneupdate.specs.Keeping.{lies_under, IsUnder}
+use Rattle.zoneupdate.specs.KeptZones.{lies_under, IsUnder}
 use Rattle.zoneupdate.proofs.Filters.{same_truth, and-left, and-right, and-both, not-true, not_both}
 use Rattle.zoneupdate.proofs.SomeAndAll.{all-filter, any_filter, any_more, none_all, all_itself}
 use Rattle.zoneupdate.proofs.Owners.{same_lower}

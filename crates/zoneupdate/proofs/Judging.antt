@@ -15,7 +15,7 @@ use Rattle.dnswire.specs.declared.message.Update.{Update}
 use Rattle.zoneupdate.specs.declared.plan.Verdict.TheVariants.{Accept}
 use Rattle.zoneupdate.specs.Zones.{ZoneState}
 use Rattle.zoneupdate.specs.Updates.{with_counted_ttl, changed_by, with_risen_serial, rows_after, is_within_limits, max_zone_records, accepted_or, refused_first, judged}
-use Rattle.zoneupdate.specs.Keeping.{Judges}
+use Rattle.zoneupdate.specs.KeptZones.{Judges}
 use Rattle.zoneupdate.specs.Touched.{is_touched, part_of, part_after}
 use Rattle.zoneupdate.specs.Checking.{is_within, Plans}
 use Rattle.zoneupdate.proofs.Filters.{filter_same, and-left}

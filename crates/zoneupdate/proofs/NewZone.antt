@@ -15,7 +15,7 @@ use Rattle.rrset.specs.declared.record.Changed.{Changed}
 use Rattle.rrset.proofs.Sizes.{size_if, size_of-only-put, length-put-le}
 use Rattle.zoneupdate.specs.Zones.{ZoneState, first_soa, first_ns, new_zone, serial_of, is_zone}
 use Rattle.zoneupdate.specs.Updates.{is_within_limits}
-use Rattle.zoneupdate.specs.Keeping.{IsKept, Leads}
+use Rattle.zoneupdate.specs.KeptZones.{IsKept, Leads}
 use Rattle.zoneupdate.proofs.Filters.{and-both}
 use Rattle.zoneupdate.proofs.Owners.{same_name-itself}
 use Rattle.zoneupdate.proofs.RecordSets.{all-put, set-put_rrs}

@@ -17,7 +17,7 @@ use Rattle.nametable.specs.Nodes.{rows_after, HaveRisingKeys}
 use Rattle.zoneupdate.specs.Zones.{ZoneState}
 use Rattle.zoneupdate.specs.Updates.{rows_after as rows_after_changes}
 use Rattle.zoneupdate.specs.Checking.{Plans}
-use Rattle.zoneupdate.specs.Keeping.{IsKept, Leads, IsPlanOf}
+use Rattle.zoneupdate.specs.KeptZones.{IsKept, Leads, IsPlanOf}
 use Rattle.zoneupdate.proofs.Filters.{and-left, and-right, is_true}
 use Rattle.zoneupdate.proofs.SomeAndAll.{all-filter}
 use Rattle.zoneupdate.proofs.RecordSets.{IsSet, all-put, set-in_order, lower_owners}

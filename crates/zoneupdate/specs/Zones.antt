@@ -11,7 +11,7 @@ use Rattle.dnsname.specs.Names.{Labels, octets, same_name, home}
 use Rattle.rrset.specs.Kinds.{in_class, ns_kind, soa_kind}
 use Rattle.rrset.specs.Rdata.{Field, raw, named, rdata_fields}
 use Rattle.rrset.specs.RecordSet.{RecordSet, is_of_rrset, only, set_of, is_record_set}
-use Rattle.zoneupdate.specs.declared.records.TheConstants as records
+use Rattle.zoneupdate.specs.declared.initial_records.TheConstants as records
 use Rattle.rrset.specs.declared.record.Rr.{Rr}
 use Rattle.rrset.specs.declared.record.Shown.{Shown}
 

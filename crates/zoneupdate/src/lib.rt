@@ -4,15 +4,15 @@
 mod agreeing;
 mod applying;
 mod changing;
-mod checking;
+mod initial_records;
 mod plan;
 mod planning;
 mod prerequisites;
 mod prescan;
-mod records;
 mod refusing;
 mod serial;
 mod sets;
+mod update_check;
 mod zone;
 
 ghost use Rattle.std.specs.Prelude.{◌≡◌, [], ◌∷◌, ℕ, List, true, false, codes, map, Some, None, Ok, Err, option_map, option_and_then};

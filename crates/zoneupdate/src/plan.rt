@@ -7,6 +7,7 @@ use dnsname::Name;
 use rrset::Changed;
 use std::alloc::AllocError;
 use std::marker::Model;
+use thiserror::Error;
 
 /// The homes that lie under a zone's apex, whose names the zone is not the home of.
 #[derive(Debug, Drop)]
@@ -66,11 +67,13 @@ pub enum Verdict {
 }
 
 /// Why there is no such zone.
-#[derive(Clone, Copy, Debug, PartialEq, Eq)]
+#[derive(Clone, Copy, Debug, PartialEq, Eq, Error)]
 pub enum ZoneFault {
     /// The apex has more than 200 octets.
+    #[error("an apex of more than 200 octets")]
     TooLong,
     /// Memory ran out.
+    #[error("out of memory")]
     NoMemory,
 }
 

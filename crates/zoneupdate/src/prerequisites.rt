@@ -8,7 +8,7 @@ ghost use Rattle.rrset.specs.RecordSet.{at_name};
 ghost use Rattle.zoneupdate.specs.Zones.{set_at};
 ghost use Rattle.zoneupdate.specs.Checking.{is_of_kind};
 ghost use Rattle.zoneupdate.specs.Updates.{prerequisite_refusal, with_counted_ttl};
-ghost use Rattle.zoneupdate.specs.Keeping.{IsUnder};
+ghost use Rattle.zoneupdate.specs.KeptZones.{IsUnder};
 
 use crate::agreeing::is_of_kind;
 use crate::changing::counted_ttl;

@@ -5,7 +5,7 @@ ghost use Rattle.push_base.specs.Cases.{first_refused};
 ghost use Rattle.dnsname.specs.Names.{Labels};
 ghost use Rattle.rrset.specs.RecordSet.{RecordSet};
 ghost use Rattle.zoneupdate.specs.Updates.{change_refusal, with_counted_ttl};
-ghost use Rattle.zoneupdate.specs.Keeping.{IsUnder};
+ghost use Rattle.zoneupdate.specs.KeptZones.{IsUnder};
 
 use crate::changing::counted_ttl;
 use crate::plan::Under;

@@ -5,7 +5,7 @@ ghost use Rattle.push_base.specs.Cases.{first_refusal, is_empty};
 ghost use Rattle.dnsname.specs.Names.{Labels};
 ghost use Rattle.zoneupdate.specs.Zones.{is_inside};
 ghost use Rattle.zoneupdate.specs.Checking.{runs_into};
-ghost use Rattle.zoneupdate.specs.Keeping.{IsUnder};
+ghost use Rattle.zoneupdate.specs.KeptZones.{IsUnder};
 
 use crate::plan::Under;
 use dnsname::Name;

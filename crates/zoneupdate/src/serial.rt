@@ -6,7 +6,7 @@ ghost use Rattle.zoneupdate.specs.Zones.{serial_of, with_serial, serial_is_great
 ghost use Rattle.zoneupdate.specs.Updates.{risen_soa, with_risen_serial};
 ghost use Rattle.zoneupdate.specs.Changing.{numbers_place, serial_at, risen_rdata};
 
-use crate::records::put_record;
+use crate::initial_records::put_record;
 use crate::sets::{copied_rrset, first_of_rrset, take_set};
 use dnsname::name::Octets;
 use dnsname::{Name, plain_name_end};

@@ -7,13 +7,13 @@ ghost use Rattle.rrset.specs.RecordSet.{RecordSet};
 ghost use Rattle.nametable.specs.Nodes.{HasRoomFor, keys_put, room_at};
 ghost use Rattle.zoneupdate.specs.Zones.{new_zone, serial_of_zone};
 ghost use Rattle.zoneupdate.specs.Updates.{judged};
-ghost use Rattle.zoneupdate.specs.Keeping.{IsKept, IsUnder, Judges, HasRoom, Leads, IsPlanOf};
+ghost use Rattle.zoneupdate.specs.KeptZones.{IsKept, IsUnder, Judges, HasRoom, Leads, IsPlanOf};
 
 use crate::applying::make_changes;
-use crate::checking::{planned, refused_first};
+use crate::initial_records::first_records;
 use crate::plan::{Under, Verdict, ZoneFault, ZonePlan};
-use crate::records::first_records;
 use crate::serial::serial_at;
+use crate::update_check::{planned, refused_first};
 use dnsname::Name;
 use dnswire::Update;
 use nametable::NameTable;
@@ -32,7 +32,7 @@ pub struct Zone {
 }
 
 impl Model for Zone {
-    ghost use Rattle.zoneupdate.specs.Keeping.{ZoneKept, IsKept};
+    ghost use Rattle.zoneupdate.specs.KeptZones.{ZoneKept, IsKept};
 
     ghost Value = { ZoneKept };
 

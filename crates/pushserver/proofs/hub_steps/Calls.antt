@@ -1,7 +1,7 @@
 -- The calls beside `give`, on the hub that is kept and on the plain one.
---     entry-stands      an entry
+--     entry-stands, offered-stands      an entry; one that is offered
 --     updates_stand, hears_stand, moments_stand, connects_stand, takes_stand, stops_stand, ends_stand
-use Rattle.std.proofs.Common.{◌≡◌, ℕ, ◌+◌, ◌-◌, ◌<◌, Bool, true, false, cond, not, ◌&&◌, ◌||◌, List, [], ◌∷◌, ◌++◌, length, Option, Some, None, Result, Ok, Err, ap, subst, refl, arith}
+use Rattle.std.proofs.Common.{◌≡◌, ℕ, ◌+◌, ◌-◌, ◌<◌, Bool, true, false, cond, not, ◌&&◌, ◌||◌, List, [], ◌∷◌, ◌++◌, length, Option, Some, None, Result, Ok, Err, sym, ap, subst, refl, arith}
 use Rattle.std.proofs.lemmas.Bool.{ltb-true}
 use Rattle.std.proofs.lemmas.List.{length-append}
 use Rattle.std.proofs.lemmas.List.Sums.{length-filter, count_by-le-length}
@@ -14,27 +14,31 @@ use Rattle.rrset.specs.declared.record.Hearing.{Hearing}
 use Rattle.dnswire.specs.Reading.{hearing_of}
 use Rattle.dnswire.specs.declared.message.HearFault.{HearFault}
 use Rattle.dnswire.specs.declared.message.Update.{Update}
-use Rattle.history.specs.States.{verdict, accepts}
+use Rattle.history.specs.Plans.{Plan, refuse, idle, accept, planned}
+use Rattle.history.specs.States.{verdict}
 use Rattle.history.specs.declared.entry.Entry.{Entry}
 use Rattle.history.specs.declared.entry.Entry.TheVariants as entries
 use Rattle.pushsession.specs.Kept.{KeptSession, keeping}
-use Rattle.pushsession.specs.Sessions.{is_open, room_of, new_session, takes, asked_to_stop, timed}
+use Rattle.pushsession.specs.Sessions.{is_open, room_of, new_session, with_piece, asked_to_stop, timed}
 use Rattle.pushserver.specs.PlainHubs.{Hub, Session, plain_keeps}
 use Rattle.pushserver.specs.Hubs.{Numbered, session_in, without_session, newest, now, state_now, entered, can_enter, update, hear, moment, connect, take_octets, stop, disconnect, max_sessions}
+use Rattle.pushserver.specs.Offering.{offered_by, offered, heard_of}
 use Rattle.pushserver.specs.Rows.{IsTellable}
 use Rattle.pushserver.specs.KeptHubs.{KeptHub, StandsFor}
 use Rattle.pushserver.specs.SoundHubs.{IsSoundSession}
 use Rattle.dsotlv.specs.Laws.{AreOctets}
 use Rattle.pushserver.specs.Simulation.{BothAnswer, UpdatesStand, HearsStand, MomentsStand, ConnectsStand, TakesStand, StopsStand, EndsStand}
 use Rattle.pushserver.proofs.session_steps.Parts.{SessionFits, of_parts, asks_nothing, none_waits, reads_nothing, writes_nothing}
-use Rattle.pushserver.proofs.session_steps.Standing.{takes-keeps, asked-keeps, timed-keeps}
+use Rattle.pushserver.proofs.session_steps.Standing.{with_piece-keeps, asked-keeps, timed-keeps}
 use Rattle.pushserver.proofs.told_rows.Updated.{update-tellable, moment-tellable}
 use Rattle.pushserver.proofs.told_rows.Histories.{state_at-last}
 use Rattle.pushserver.proofs.told_rows.HubTells.{StatesTell}
-use Rattle.pushserver.proofs.told_rows.Hubs.{hearing_tells}
+use Rattle.pushserver.proofs.told_rows.HeardRows.{brings_read}
+use Rattle.pushserver.proofs.told_rows.Hubs.{link_tells}
 use Rattle.pushserver.proofs.hub_steps.Pairs.{zip-all, zip-push, zip-filter}
 use Rattle.pushserver.proofs.hub_steps.Standing.{kept_of, Stands, with_kept, fitting, fits-stand, fits-sound, with_sessions-stands, each-stands, in-stands, session-moved, FoundBoth, both_found}
-use Rattle.pushserver.proofs.hub_steps.Cases.{enters_update, update_as, enters_hearing, hear_as, enters_moment, moment_as}
+use Rattle.pushserver.proofs.hub_steps.Cases.{enters_update, update_as, hear_as, enters_moment, moment_as}
+use Rattle.pushserver.proofs.Offering.{as_hearing, by_room, hearing-offered}
 use Rattle.pushserver.proofs.hub_steps.Entering.{entered-stands}
 
 pub tells-now : (hub : Hub) (ks : Numbered KeptSession) → Stands hub ks → IsTellable (state_now hub)
@@ -43,6 +47,19 @@ tells-now hub ks h = h.sound.states (newest hub) (omega arith)
 -- any entry stands behind which each state can be told
 pub entry-stands : (hub : Hub) (ks : Numbered KeptSession) (entry : Entry) → StatesTell (entered entry hub) → Stands hub ks → StandsFor (entered entry (kept_of hub ks)) (entered entry hub)
 entry-stands hub ks entry states h = entered-stands hub ks entry (subst IsTellable (state_at-last hub.start hub.history entry) (states (newest (entered entry hub)) (omega arith))) h
+
+-- whatever entry is offered
+pub offered-stands : (hub : Hub) (ks : Numbered KeptSession) (entry : Entry) → StatesTell (entered entry hub) → Stands hub ks → BothAnswer (offered entry (kept_of hub ks)) (offered entry hub)
+offered-stands hub ks entry states h = by (planned (state_now hub) entry)
+  where
+    room_stands : (b : Bool) → BothAnswer (by_room (kept_of hub ks) entry b) (by_room hub entry b)
+    room_stands true = (refl, entry-stands hub ks entry states h)
+    room_stands false = (refl, h)
+
+    by : (plan : Plan) → BothAnswer (offered_by plan entry (kept_of hub ks)) (offered_by plan entry hub)
+    by (refuse code) = (refl, h)
+    by idle = (refl, h)
+    by (accept changed) = room_stands (can_enter hub entry)
 
 -- ---- `update`
 
@@ -65,14 +82,17 @@ updates_stand k hub message h octets = with_kept (λ k. BothAnswer (update k mes
 pub hear-stands : (hub : Hub) (ks : Numbered KeptSession) (link : ℕ) (datagram : List ℕ) → AreOctets datagram → Stands hub ks → BothAnswer (hear (kept_of hub ks) link datagram) (hear hub link datagram)
 hear-stands hub ks link datagram octets h = by (hearing_of datagram) refl
   where
-    by_room : (hearing : Hearing) → hearing_of datagram ≡ Ok hearing → (a b : Bool) → BothAnswer (enters_hearing (kept_of hub ks) link hearing a b) (enters_hearing hub link hearing a b)
-    by_room hearing reads false b = (refl, h)
-    by_room hearing reads true false = (refl, h)
-    by_room hearing reads true true = (refl, entry-stands hub ks (entries.Heard link hearing) (hearing_tells hub link datagram hearing h.sound.states octets reads) h)
+    heard_stands : (hearing : Hearing) → hearing_of datagram ≡ Ok hearing → BothAnswer (as_hearing (kept_of hub ks) (offered (entries.Heard link hearing) (kept_of hub ks))) (as_hearing hub (offered (entries.Heard link hearing) hub))
+    heard_stands hearing reads =
+        let entry = entries.Heard link hearing in
+        let both = offered-stands hub ks entry (link_tells hub entry link refl (brings_read datagram hearing octets reads) h.sound.states) h in
+        (ap heard_of both.0, both.1)
 
     by : (r : Result Hearing HearFault) → hearing_of datagram ≡ r → BothAnswer (hear_as (kept_of hub ks) link r) (hear_as hub link r)
     by (Err fault) reads = (refl, h)
-    by (Ok hearing) reads = by_room hearing reads (accepts (state_now hub) (entries.Heard link hearing)) (can_enter hub (entries.Heard link hearing))
+    by (Ok hearing) reads =
+        subst (λ k. BothAnswer k (hear_as hub link (Ok hearing))) (sym (hearing-offered (kept_of hub ks) link hearing))
+        (subst (λ p. BothAnswer (as_hearing (kept_of hub ks) (offered (entries.Heard link hearing) (kept_of hub ks))) p) (sym (hearing-offered hub link hearing)) (heard_stands hearing reads))
 
 pub hears_stand : HearsStand
 hears_stand k hub link datagram h octets = with_kept (λ k. BothAnswer (hear k link datagram) (hear hub link datagram)) k hub h (hear-stands hub k.sessions link datagram octets)
@@ -174,7 +194,7 @@ room-same hub number piece (Some k) (Some p) h = λ i. min (length piece) (cond 
 pub takes_stand : TakesStand
 takes_stand k hub number piece h octets = (
   room-same hub number piece (session_in number k.sessions) (session_in number hub.sessions) (both_found hub number k.sessions hub.sessions (fitting h)),
-  with_kept (λ k. StandsFor (take_octets k number piece) (take_octets hub number piece)) k hub h (in-stands hub k.sessions (takes piece) (takes piece) number (takes-keeps hub piece octets)),
+  with_kept (λ k. StandsFor (take_octets k number piece) (take_octets hub number piece)) k hub h (in-stands hub k.sessions (with_piece piece) (with_piece piece) number (with_piece-keeps hub piece octets)),
 )
 
 -- ---- `stop`, `disconnect`

@@ -20,9 +20,9 @@ use Rattle.dsosession.specs.declared.session.EndReason.{EndReason}
 use Rattle.dsosession.specs.declared.session.EndReason.TheVariants as ends
 use Rattle.history.specs.States.{accepts}
 use Rattle.history.specs.declared.entry.Entry.TheVariants as entries
-use Rattle.pushsession.specs.declared.standing.Standing.{Standing}
+use Rattle.pushsession.specs.declared.session_status.SessionStatus.{SessionStatus}
 use Rattle.pushsession.specs.Sessions.{SessionOf, Keeps, ended_with, timed, without_first}
-use Rattle.pushsession.specs.Subscribing.{packs}
+use Rattle.pushsession.specs.Subscribing.{with_next_push}
 use Rattle.pushsession.specs.Reactions.{restarted_by, request_in, request_for, by_itself, ends_short}
 use Rattle.pushsession.specs.declared.request.Request.{Request}
 use Rattle.pushsession.specs.declared.request.Request.TheVariants as requests
@@ -93,12 +93,12 @@ module _ {A Q M : Type 0} {kind : SessionKind A Q M} where
   copies_as hub number room session given silent = cond silent (did given hub) (copies number room session hub)
 
   -- what was done where the output is empty may depend on the standing
-  abbrev pub found_as : HubOf kind → ℕ → ℕ → Given → (Standing → Given) → Option (SessionOf A Q M) → GivingOf kind
+  abbrev pub found_as : HubOf kind → ℕ → ℕ → Given → (SessionStatus → Given) → Option (SessionOf A Q M) → GivingOf kind
   found_as hub number room none given None = did none hub
   found_as hub number room none given (Some session) = copies_or (given session.standing) number room session hub
 
   abbrev pub works_as : HubOf kind → ℕ → ℕ → Option (List ℕ × List ℕ) → GivingOf kind
-  works_as hub number room None = after_packing number room (in_session number (packs (keeps_now hub) (tells_now hub) (now hub)) hub)
+  works_as hub number room None = after_packing number room (in_session number (with_next_push (keeps_now hub) (tells_now hub) (now hub)) hub)
   works_as hub number room (Some found) = after_reaction number room (reacted found.0 number (in_session number (without_first found.1) hub))
 
   abbrev pub output_as : HubOf kind → ℕ → ℕ → SessionOf A Q M → Bool → GivingOf kind

@@ -6,9 +6,9 @@ use Rattle.push_base.specs.Cases.{is_empty}
 use Rattle.dsotlv.specs.Messages.{first_message}
 use Rattle.pushsession.specs.Kept.{KeptSession, keeping, telling}
 use Rattle.pushsession.specs.Sessions.{copied, stopped, without_first}
-use Rattle.pushsession.specs.Subscribing.{packs}
-use Rattle.pushsession.specs.declared.standing.Standing.{Standing}
-use Rattle.pushsession.specs.declared.standing.Standing.TheVariants.{Live, AskedToStop, Stopped, Ended}
+use Rattle.pushsession.specs.Subscribing.{with_next_push}
+use Rattle.pushsession.specs.declared.session_status.SessionStatus.{SessionStatus}
+use Rattle.pushsession.specs.declared.session_status.SessionStatus.TheVariants.{Live, AskedToStop, Stopped, Ended}
 use Rattle.pushserver.specs.declared.given.Given.{Given}
 use Rattle.pushserver.specs.declared.given.Given.TheVariants.{Bytes, Worked, Nothing}
 use Rattle.pushserver.specs.PlainHubs.{Hub, Session, plain_keeps, plain_tells}
@@ -21,7 +21,7 @@ use Rattle.pushserver.proofs.session_steps.Standing.{copied-keeps}
 use Rattle.pushserver.proofs.session_steps.Saying.{stops-keeps, without_first-keeps}
 use Rattle.pushserver.proofs.session_steps.Parts.{SessionFits}
 use Rattle.pushserver.proofs.session_steps.Octets.{first_octets}
-use Rattle.pushserver.proofs.session_steps.Packing.{packs-keeps}
+use Rattle.pushserver.proofs.session_steps.Packing.{with_next_push-keeps}
 use Rattle.pushserver.proofs.told_rows.HubTells.{session_packable}
 use Rattle.pushserver.proofs.hub_steps.Standing.{kept_of, Stands, with_kept, fitting, in-stands, found-stands, FoundBoth, both_found}
 use Rattle.pushserver.proofs.hub_steps.Cases.{copies_as, found_as, works_as, output_as, give_as}
@@ -48,12 +48,12 @@ module _ (number room : ℕ) (hub : Hub) (ks : Numbered KeptSession) (h : Stands
       by true = record { octets = refl; given = refl; hub = h }
       by false = copies-stands s p pair
 
-  found-gives : (none : Given) (given : Standing → Given) (k : Option KeptSession) (p : Option Session) → FoundBoth hub number k p → BothGive (found_as (kept_of hub ks) number room none given k) (found_as hub number room none given p)
+  found-gives : (none : Given) (given : SessionStatus → Given) (k : Option KeptSession) (p : Option Session) → FoundBoth hub number k p → BothGive (found_as (kept_of hub ks) number room none given k) (found_as hub number room none given p)
   found-gives none given None None both = record { octets = refl; given = refl; hub = h }
   found-gives none given None (Some p) both = absurd both
   found-gives none given (Some s) None both = absurd both
   found-gives none given (Some s) (Some p) both =
-      subst (λ (st : Standing). BothGive (copies_or (given s.standing) number room s (kept_of hub ks)) (copies_or (given st) number room p hub)) both.stands.standing (copies_or-stands (given s.standing) s p both)
+      subst (λ (st : SessionStatus). BothGive (copies_or (given s.standing) number room s (kept_of hub ks)) (copies_or (given st) number room p hub)) both.stands.standing (copies_or-stands (given s.standing) s p both)
 
   packing-gives : BothGive (after_packing number room (kept_of hub ks)) (after_packing number room hub)
   packing-gives = found-gives Nothing (λ standing. Nothing) (session_in number ks) (session_in number hub.sessions) (both_found hub number ks hub.sessions (fitting h))
@@ -75,10 +75,10 @@ module _ (number room : ℕ) (hub : Hub) (ks : Numbered KeptSession) (h : Stands
 
   packs-gives : BothGive (works_as (kept_of hub ks) number room None) (works_as hub number room None)
   packs-gives =
-      let f = packs keeping (telling (records_now hub)) (now hub) in
-      let g = packs (plain_keeps (newest hub)) (plain_tells hub.start hub.history) (now hub) in
+      let f = with_next_push keeping (telling (records_now hub)) (now hub) in
+      let g = with_next_push (plain_keeps (newest hub)) (plain_tells hub.start hub.history) (now hub) in
       packing-gives number room (in_session number g hub) (in_sessions number f ks)
-      (found-stands hub ks f g number (λ k q found t. packs-keeps hub k q t (newest hub) (now hub) (quiet q.1 found) (session_packable hub h.sound.states k q t)) h)
+      (found-stands hub ks f g number (λ k q found t. with_next_push-keeps hub k q t (newest hub) (now hub) (quiet q.1 found) (session_packable hub h.sound.states k q t)) h)
 
   message-gives : (found : List ℕ × List ℕ) → first_message p.input ≡ Some found → BothGive (works_as (kept_of hub ks) number room (Some found)) (works_as hub number room (Some found))
   message-gives found first =
@@ -98,7 +98,7 @@ module _ (number room : ℕ) (hub : Hub) (ks : Numbered KeptSession) (h : Stands
       by None first = packs-gives
       by (Some found) first = message-gives found first
 
-  standing-gives : (standing : Standing) → BothGive (by_standing standing number room s (kept_of hub ks)) (by_standing standing number room p hub)
+  standing-gives : (standing : SessionStatus) → BothGive (by_standing standing number room s (kept_of hub ks)) (by_standing standing number room p hub)
   standing-gives (Ended reason) = record { octets = refl; given = refl; hub = h }
   standing-gives (Stopped since) = record { octets = refl; given = refl; hub = h }
   standing-gives Live = works-gives
@@ -116,7 +116,7 @@ give-stands number room hub ks h = by (session_in number ks) (session_in number 
         → BothGive (output_as (kept_of hub ks) number room s b) (output_as hub number room p b)
     by_output s p is pair false some = copies-stands number room hub ks h s p pair
     by_output s p is pair true none =
-        subst (λ (st : Standing). BothGive (by_standing s.standing number room s (kept_of hub ks)) (by_standing st number room p hub)) pair.stands.standing
+        subst (λ (st : SessionStatus). BothGive (by_standing s.standing number room s (kept_of hub ks)) (by_standing st number room p hub)) pair.stands.standing
         (standing-gives number room hub ks h s p is pair (nothing_in p.output none) s.standing)
 
     by : (s : Option KeptSession) (p : Option Session) → session_of hub number ≡ p → FoundBoth hub number s p → BothGive (give_as (kept_of hub ks) number room s) (give_as hub number room p)

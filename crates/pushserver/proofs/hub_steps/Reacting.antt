@@ -1,7 +1,7 @@
 -- The reaction to a message, on the hub that is kept and on the plain one.
 --     IsQuiet number hub      nothing of the session waits to be written
 --     reacted-stands
-use Rattle.std.proofs.Common.{◌≡◌, ℕ, Bool, true, false, cond, ◌&&◌, List, [], Option, Some, None, Result, Ok, Err, sym, ◌∙◌, ap, subst, refl, arith}
+use Rattle.std.proofs.Common.{◌≡◌, ℕ, Bool, true, false, List, [], Option, Some, None, Result, Ok, Err, sym, ◌∙◌, ap, subst, refl, arith}
 use Rattle.std.specs.Prelude.{option_map}
 use Rattle.rrset.specs.Header.{id_of}
 use Rattle.rrset.specs.declared.record.Key.{Key}
@@ -17,7 +17,7 @@ use Rattle.dsosession.specs.declared.session.EndReason.{EndReason}
 use Rattle.dsosession.specs.declared.session.EndReason.TheVariants as ends
 use Rattle.dsosession.specs.declared.session.Reaction.{Reaction}
 use Rattle.dsosession.specs.declared.session.Reaction.TheVariants as reactions
-use Rattle.history.specs.States.{accepts, reconfirm_key, verdict}
+use Rattle.history.specs.States.{reconfirm_key, verdict}
 use Rattle.history.specs.declared.entry.Entry.{Entry}
 use Rattle.history.specs.declared.entry.Entry.TheVariants as entries
 use Rattle.pushsession.specs.Kept.{KeptSession, keeping, telling}
@@ -28,6 +28,7 @@ use Rattle.pushsession.specs.Reactions.{restarted_by, request_in, request_for, r
 use Rattle.pushsession.specs.declared.request.Request.TheVariants as requests
 use Rattle.pushserver.specs.PlainHubs.{Hub, Session, plain_keeps, plain_tells}
 use Rattle.pushserver.specs.Hubs.{Numbered, session_in, in_sessions, newest, now, state_now, records_now, session_of, in_session, entered, can_enter, update}
+use Rattle.pushserver.specs.Offering.{offered}
 use Rattle.pushserver.specs.Giving.{has_home, subscribes, reconfirms, updates, by_request, reacted}
 use Rattle.pushserver.specs.KeptHubs.{KeptHub, StandsFor}
 use Rattle.dsotlv.specs.Laws.{AreOctets}
@@ -39,11 +40,13 @@ use Rattle.pushserver.proofs.session_steps.Reactions.{itself-keeps}
 use Rattle.pushserver.proofs.session_steps.Octets.{question-named}
 use Rattle.pushserver.proofs.session_steps.Accepting.{answered-keeps}
 use Rattle.pushserver.proofs.told_rows.HubTells.{hub_told}
-use Rattle.pushserver.proofs.told_rows.Hubs.{reconfirm_tells}
+use Rattle.pushserver.proofs.told_rows.HeardRows.{brings_nothing}
+use Rattle.pushserver.proofs.told_rows.Hubs.{link_tells}
 use Rattle.pushserver.proofs.hub_steps.Standing.{kept_of, Stands, with_kept, fitting, in-stands, found-stands, FoundBoth, both_found}
 use Rattle.pushserver.proofs.hub_steps.Cases.{ends_as, enters_update, update_as, key_as, session_as, request_as}
 use Rattle.pushserver.proofs.hub_steps.Entering.{plain_noted}
-use Rattle.pushserver.proofs.hub_steps.Calls.{entry-stands, update-stands}
+use Rattle.pushserver.proofs.hub_steps.Calls.{offered-stands, update-stands}
+use Rattle.pushserver.proofs.Offering.{key-offered}
 
 -- ---- nothing waits to be written
 
@@ -99,13 +102,12 @@ module _ (number : ℕ) (hub : Hub) (ks : Numbered KeptSession) (h : Stands hub 
   reconfirms-stands None = ends-stands (ends.BadData reconfirm_tlv)
   reconfirms-stands (Some rr) = by (reconfirm_key (state_now hub) rr)
     where
-      by_room : (found : ℕ × Key) (b : Bool) → StandsFor (cond b (entered (entries.Reconfirm found.0 found.1) khub) khub) (cond b (entered (entries.Reconfirm found.0 found.1) hub) hub)
-      by_room found true = entry-stands hub ks (entries.Reconfirm found.0 found.1) (reconfirm_tells hub found.0 found.1 h.sound.states) h
-      by_room found false = h
-
       by : (o : Option (ℕ × Key)) → StandsFor (key_as khub o) (key_as hub o)
       by None = h
-      by (Some found) = by_room found (accepts (state_now hub) (entries.Reconfirm found.0 found.1) && can_enter hub (entries.Reconfirm found.0 found.1))
+      by (Some found) =
+          let entry = entries.Reconfirm found.0 found.1 in
+          subst (λ k. StandsFor k (key_as hub (Some found))) (sym (key-offered khub found.0 found.1))
+          (subst (λ p. StandsFor (offered entry khub).1 p) (sym (key-offered hub found.0 found.1)) (offered-stands hub ks entry (link_tells hub entry found.0 refl brings_nothing h.sound.states) h).1)
 
   module _ (quiet : IsQuiet number hub) where
     itself-stands : (message : List ℕ) → StandsFor (by_request requests.Itself number message khub) (by_request requests.Itself number message hub)

@@ -11,12 +11,12 @@ use Rattle.dsotlv.specs.declared.message.Notice.{Notice}
 use Rattle.dsotlv.specs.Answers.{push_message}
 use Rattle.coalesce.specs.Net.{packed}
 use Rattle.coalesce.proofs.Packing.{packs_nothing_of_nothing}
-use Rattle.pushsession.specs.declared.standing.Standing.{Standing}
-use Rattle.pushsession.specs.declared.standing.Standing.TheVariants.{Live, AskedToStop, Stopped, Ended}
+use Rattle.pushsession.specs.declared.session_status.SessionStatus.{SessionStatus}
+use Rattle.pushsession.specs.declared.session_status.SessionStatus.TheVariants.{Live, AskedToStop, Stopped, Ended}
 use Rattle.pushserver.specs.declared.given.Given.{Given}
 use Rattle.pushserver.specs.declared.given.Given.TheVariants.{Bytes, Worked, Nothing}
 use Rattle.pushsession.specs.Sessions.{stopped, without_first}
-use Rattle.pushsession.specs.Subscribing.{says_notices, packs}
+use Rattle.pushsession.specs.Subscribing.{says_notices, with_next_push}
 use Rattle.pushserver.specs.PlainHubs.{Hub, Session, Giving, nets_of, stays_queued}
 use Rattle.pushserver.specs.Hubs.{now, keeps_now, tells_now, session_of, in_session}
 use Rattle.pushserver.specs.Giving.{copies_or, given_after, after_reaction, after_packing, reacted, by_standing, give}
@@ -32,7 +32,7 @@ copies_or-other given number room session hub other is = by (is_empty session.ou
     by true is = other is
     by false is = cc
 
-given_after-other : (standing : Standing) → given_after standing ≡ Nothing → ⊥
+given_after-other : (standing : SessionStatus) → given_after standing ≡ Nothing → ⊥
 given_after-other (Ended reason) is = cc
 given_after-other (AskedToStop rcode delay) is = cc
 given_after-other (Stopped since) is = cc
@@ -73,7 +73,7 @@ IsQuiet hub session = (session.standing ≡ Live) × (session.output ≡ []) × 
 
 module _ (hub : Hub) (number room : ℕ) (session : Session) (has : session_of hub number ≡ Some session) where
   abbrev packing_names : Session → Session
-  packing_names s = packs (keeps_now hub) (tells_now hub) (now hub) s
+  packing_names s = with_next_push (keeps_now hub) (tells_now hub) (now hub) s
 
   abbrev later : Hub
   later = in_session number packing_names hub
@@ -103,7 +103,7 @@ module _ (hub : Hub) (number room : ℕ) (session : Session) (has : session_of h
 
   pub quiet-given : IsQuiet hub session → (give hub number room).given ≡ Nothing
   quiet-given (live, silent, none, empty) =
-      ap (λ (g : Giving). g.given) (give-is ∙ ap (λ (o : List ℕ). output_as hub number room session (is_empty o)) silent ∙ ap (λ (s : Standing). by_standing s number room session hub) live ∙ ap (works_as hub number room) none)
+      ap (λ (g : Giving). g.given) (give-is ∙ ap (λ (o : List ℕ). output_as hub number room session (is_empty o)) silent ∙ ap (λ (s : SessionStatus). by_standing s number room session hub) live ∙ ap (works_as hub number room) none)
       ∙ packing silent ∙ ap (λ (b : Bool). cond b Nothing written) empty
 
   from_nets : (b : Bool) → are_empty hub session ≡ b → cond b Nothing written ≡ Nothing → are_empty hub session ≡ true
@@ -114,7 +114,7 @@ module _ (hub : Hub) (number room : ℕ) (session : Session) (has : session_of h
   from_message silent live (Some found) e is = absurd (after_reaction-other number room (reacted found.0 number (in_session number (without_first found.1) hub)) is)
   from_message silent live None e is = (live, silent, e, from_nets (are_empty hub session) refl (sym (packing silent) ∙ is))
 
-  from_standing : session.output ≡ [] → (s : Standing) → session.standing ≡ s → (by_standing s number room session hub).given ≡ Nothing → IsQuiet hub session
+  from_standing : session.output ≡ [] → (s : SessionStatus) → session.standing ≡ s → (by_standing s number room session hub).given ≡ Nothing → IsQuiet hub session
   from_standing silent (Ended reason) e is = cc
   from_standing silent (AskedToStop rcode delay) e is = absurd (after_reaction-other number room (in_session number (stopped (keeps_now hub) rcode delay (now hub)) hub) is)
   from_standing silent (Stopped since) e is = cc

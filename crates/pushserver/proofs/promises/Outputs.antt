@@ -7,8 +7,8 @@ use Rattle.std.specs.Option.{option_or}
 use Rattle.dsosession.specs.declared.session.EndReason.{EndReason}
 use Rattle.history.specs.declared.entry.Entry.{Entry}
 use Rattle.rrset.specs.RecordSet.{changes}
-use Rattle.pushsession.specs.Sessions.{SessionOf, Keeps, new_session, noted, due, ended_where, timed, takes, is_open, asked_to_stop}
-use Rattle.pushsession.specs.declared.standing.Standing.TheVariants.{AskedToStop}
+use Rattle.pushsession.specs.Sessions.{SessionOf, Keeps, new_session, noted, due, ended_where, timed, with_piece, is_open, asked_to_stop}
+use Rattle.pushsession.specs.declared.session_status.SessionStatus.TheVariants.{AskedToStop}
 use Rattle.pushserver.specs.PlainHubs.{Session, Hub, plain_keeps}
 use Rattle.pushserver.specs.Hubs.{Numbered, session_in, newest, now, keeps_now, records_now, session_of, each_session, in_session, entered}
 use Rattle.pushserver.specs.Laws.{OtherCallsKeepOutputs}
@@ -80,7 +80,7 @@ other_calls_keep_outputs hub number other octets n m = (
   λ s was. holds-hear AnyMessage (HasOutput number s.output) hub (λ entry by. entered-keeps number s.output hub (has s was) entry) (has s was) n octets tt,
   λ s was. holds-moment AnyMessage (HasOutput number s.output) hub (λ entry by. entered-keeps number s.output hub (has s was) entry) (has s was) (timed-keeps number s.output) n,
   λ s was. holds-connect (HasOutput number s.output) hub (makes-keeps number s.output hub (has s was)) (has s was),
-  λ s was. in-keeps number s.output hub other (takes octets) (λ s. refl) (has s was),
+  λ s was. in-keeps number s.output hub other (with_piece octets) (λ s. refl) (has s was),
   λ s was. in-keeps number s.output hub other (asked_to_stop n m) (asked-leaves n m) (has s was),
   λ apart s was.
       ap (option_map (λ (s : Session). s.output)) (found-left other number hub.sessions)

@@ -28,7 +28,7 @@ use Rattle.coalesce.proofs.ReadBack.{each-append}
 use Rattle.history.proofs.Together.{same_name-turned}
 use Rattle.pushsession.specs.Kept.{KeptSession, Filled, keeping, telling}
 use Rattle.pushsession.specs.Subscribing as subscribing
-use Rattle.pushsession.specs.Subscribing.{Verdict, is_served, may_be_served, verdict_on, subscribed, says_first_answer, first_answer_size, accepts, decided, answered}
+use Rattle.pushsession.specs.Subscribing.{Verdict, is_served, may_be_served, verdict_on, subscribed, says_first_answer, first_answer_size, with_accepted, decided, answered}
 use Rattle.pushsession.proofs.Passing.{Passed, passed}
 use Rattle.pushserver.specs.PlainHubs.{Hub, Session, Subscription, Queue, size_of_made, asked_of, subscription_for, leaves_queue, plain_keeps, plain_tells}
 use Rattle.pushserver.specs.Hubs.{state_now, records_now}
@@ -39,7 +39,7 @@ use Rattle.pushserver.proofs.session_steps.Parts.{SessionFits, Asks, Waits, kept
 use Rattle.pushserver.proofs.session_steps.Lists.{filter-map, find-map, some-find}
 use Rattle.pushserver.specs.KeptHubs.{queue_of}
 use Rattle.pushserver.proofs.session_steps.Standing.{ended-keeps}
-use Rattle.pushserver.proofs.session_steps.Saying.{says-keeps, answers-keeps}
+use Rattle.pushserver.proofs.session_steps.Saying.{with_frame-keeps, answers-keeps}
 use Rattle.pushserver.proofs.session_steps.FirstAnswers.{first-alike}
 
 -- ---- the verdict
@@ -121,18 +121,18 @@ module _ (hub : Hub) (n t id : ℕ) (question : Question) where
       → SessionFits hub (k.0, says_first_answer keeping t (answer_to id noerror) notices waiting k.1) (p.0, says_first_answer (plain_keeps n) t (answer_to id noerror) notices queue p.1)
   said-keeps [] waiting queue k p silent fits s = answers-keeps hub n false t (answer_to id noerror) k p silent (omega arith) s
   said-keeps (x ∷ xs) waiting queue k p silent fits s =
-      says-keeps hub n false t (push_message (x ∷ xs)) k.1.queue p.1.queue _ _ (omega (arith, ap length silent, fits, length-append p.1.output (frame (answer_to id noerror))))
-      (says-keeps hub n false t (answer_to id noerror) waiting queue k p (omega (arith, ap length silent)) s)
+      with_frame-keeps hub n false t (push_message (x ∷ xs)) k.1.queue p.1.queue _ _ (omega (arith, ap length silent, fits, length-append p.1.output (frame (answer_to id noerror))))
+      (with_frame-keeps hub n false t (answer_to id noerror) waiting queue k p (omega (arith, ap length silent)) s)
 
   -- an accepted question, and what follows the answer to it
   abbrev plain_accepts : List Notice → Session → Session
   plain_accepts notices p = says_first_answer (plain_keeps n) t (answer_to id noerror) notices p.queue (subscribed (plain_keeps n) id question (size_of_made p.made + first_answer_size (answer_to id noerror) notices) p)
 
-  accepts-keeps : (k : ℕ × KeptSession) (p : ℕ × Session) → p.1.output ≡ [] → AreTold (records_now hub) → IsTrue (is_name question.name) → SessionFits hub k p
+  with_accepted-keeps : (k : ℕ × KeptSession) (p : ℕ × Session) → p.1.output ≡ [] → AreTold (records_now hub) → IsTrue (is_name question.name) → SessionFits hub k p
       → Passed (plain_keeps n) id question (has_home hub (Some question)) p.1.subscriptions
-      → SessionFits hub (k.0, accepts keeping (telling (records_now hub)) t id question k.1) (p.0, accepts (plain_keeps n) (plain_tells hub.start hub.history) t id question p.1)
-  accepts-keeps k p silent told named s new =
-      subst (λ (notices : List Notice). SessionFits hub (k.0, accepts keeping (telling (records_now hub)) t id question k.1) (p.0, plain_accepts notices p.1)) (first-alike hub k p s question)
+      → SessionFits hub (k.0, with_accepted keeping (telling (records_now hub)) t id question k.1) (p.0, with_accepted (plain_keeps n) (plain_tells hub.start hub.history) t id question p.1)
+  with_accepted-keeps k p silent told named s new =
+      subst (λ (notices : List Notice). SessionFits hub (k.0, with_accepted keeping (telling (records_now hub)) t id question k.1) (p.0, plain_accepts notices p.1)) (first-alike hub k p s question)
       (subst (λ (end : ℕ). SessionFits hub (k.0, says_first_answer keeping t (answer_to id noerror) notices k.1.queue (subscribed keeping id question end k.1)) (p.0, plain_accepts notices p.1))
       (sym (end_alike k.1.made (size_of_made p.1.made) (first_answer_size (answer_to id noerror) notices) s.stands.written))
       (said-keeps notices k.1.queue p.1.queue _ _ silent (first_fits_one_message question k.1.subscriptions.asked (records_now hub) (find (is_named question.name) k.1.queue) named (question.name, (told question.name).0) (told question.name).1)
@@ -157,4 +157,4 @@ answered-keeps hub n t id question k p silent told named s =
     by (subscribing.Abort reason) is = ended-keeps hub n reason k p s
     by (subscribing.Accept q) is =
         let both = passed (plain_keeps n) id (has_home hub question) p.1.subscriptions question q is in
-        accepts-keeps hub n t id q k p silent told (named q both.0) s (subst (λ (o : Option Question). Passed (plain_keeps n) id q (has_home hub o) p.1.subscriptions) both.0 both.1)
+        with_accepted-keeps hub n t id q k p silent told (named q both.0) s (subst (λ (o : Option Question). Passed (plain_keeps n) id q (has_home hub o) p.1.subscriptions) both.0 both.1)

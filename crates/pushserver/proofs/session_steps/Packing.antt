@@ -17,7 +17,7 @@ use Rattle.coalesce.proofs.NetSizes.{net_fits_one_message}
 use Rattle.coalesce.proofs.Packing.{packs_the_front, packed_fits_one_message}
 use Rattle.coalesce.proofs.Sides.{parts_stay_sides}
 use Rattle.pushsession.specs.Kept.{KeptSession, keeping, telling}
-use Rattle.pushsession.specs.Subscribing.{says_notices, packs}
+use Rattle.pushsession.specs.Subscribing.{says_notices, with_next_push}
 use Rattle.pushserver.specs.PlainHubs.{Hub, Session, Queue, stays_queued, plain_keeps, plain_tells}
 use Rattle.pushserver.specs.Hubs.{records_now}
 use Rattle.pushserver.specs.KeptHubs.{IsCopy}
@@ -108,9 +108,9 @@ module _ (hub : Hub) (k : ℕ × KeptSession) (p : ℕ × Session) (s : SessionF
         names = distinct_filter _ (λ e. list_any (same_name e.0) (packed_of k.1.subscriptions.asked rows k.1.queue).1) p.1.queue s.sound.names;
       }
 
-  pub packs-keeps : (n t : ℕ) → p.1.output ≡ [] → CanBePacked rows k.1.queue
-      → SessionFits hub (k.0, packs keeping (telling rows) t k.1) (p.0, packs (plain_keeps n) (plain_tells hub.start hub.history) t p.1)
-  packs-keeps n t silent can =
-      subst (λ (ns : Nets). SessionFits hub (k.0, packs keeping (telling rows) t k.1) (p.0, says_notices (plain_keeps n) t (packed ns).0 (record p.1 { queue = stays_queued (packed ns).1 p.1.queue })))
+  pub with_next_push-keeps : (n t : ℕ) → p.1.output ≡ [] → CanBePacked rows k.1.queue
+      → SessionFits hub (k.0, with_next_push keeping (telling rows) t k.1) (p.0, with_next_push (plain_keeps n) (plain_tells hub.start hub.history) t p.1)
+  with_next_push-keeps n t silent can =
+      subst (λ (ns : Nets). SessionFits hub (k.0, with_next_push keeping (telling rows) t k.1) (p.0, says_notices (plain_keeps n) t (packed ns).0 (record p.1 { queue = stays_queued (packed ns).1 p.1.queue })))
       (nets-alike hub k p s)
       (says_notices-keeps hub n t (packed_of k.1.subscriptions.asked rows k.1.queue).0 _ _ (omega (arith, ap length silent, packed_fits k.1.subscriptions.asked rows k.1.queue can)) left-keeps)

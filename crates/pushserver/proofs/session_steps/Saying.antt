@@ -17,7 +17,7 @@ use Rattle.subscr.specs.Asked.{AreAsked, is_id, without}
 use Rattle.subscr.proofs.Asking.{left}
 use Rattle.pushsession.specs.Kept.{KeptSession, keeping, without_filled}
 use Rattle.dsotlv.specs.Answers.{stop_message, push_message}
-use Rattle.pushsession.specs.Sessions.{SessionOf, Keeps, says, answers, ended_with, says_stop, stopped, without_first}
+use Rattle.pushsession.specs.Sessions.{SessionOf, Keeps, with_frame, answers, ended_with, says_stop, stopped, without_first}
 use Rattle.pushsession.specs.Subscribing.{says_notices}
 use Rattle.pushsession.specs.Reactions.{restarted_by, granted, unsubscribed}
 use Rattle.pushserver.specs.PlainHubs.{Hub, Session, Subscription, Queue, frame_of, size_of_made, asked_of, plain_keeps}
@@ -35,16 +35,16 @@ counted_more kept all more sum is added = omega (arith, is, added)
 -- ---- messages, where so many entries are made
 
 module _ (hub : Hub) (n : ℕ) where
-  pub says-keeps : (is_keepalive : Bool) (now : ℕ) (message : List ℕ) (waiting : List WaitingName) (queue : Queue) (k : ℕ × KeptSession) (p : ℕ × Session) → length p.1.output + length (frame message) ≤ frame_octets
-      → SessionFits hub k p → SessionFits hub (k.0, says keeping is_keepalive now message waiting k.1) (p.0, says (plain_keeps n) is_keepalive now message queue p.1)
-  says-keeps is_keepalive now message waiting queue k p fits s =
-      stands hub k p s (says keeping is_keepalive now message waiting k.1) (says (plain_keeps n) is_keepalive now message queue p.1) (asks hub k p s) (waits hub k p s) (reads hub k p s) more
+  pub with_frame-keeps : (is_keepalive : Bool) (now : ℕ) (message : List ℕ) (waiting : List WaitingName) (queue : Queue) (k : ℕ × KeptSession) (p : ℕ × Session) → length p.1.output + length (frame message) ≤ frame_octets
+      → SessionFits hub k p → SessionFits hub (k.0, with_frame keeping is_keepalive now message waiting k.1) (p.0, with_frame (plain_keeps n) is_keepalive now message queue p.1)
+  with_frame-keeps is_keepalive now message waiting queue k p fits s =
+      stands hub k p s (with_frame keeping is_keepalive now message waiting k.1) (with_frame (plain_keeps n) is_keepalive now message queue p.1) (asks hub k p s) (waits hub k p s) (reads hub k p s) more
       (ap (λ (c : Clocks). restarted is_keepalive now c) s.stands.clocks) s.stands.established s.stands.standing
     where
-      more : Writes (k.1.output ++ frame message) (p.1.output ++ frame message) (min (k.1.made + length (frame message)) (2 ^ 64 - 1)) (says (plain_keeps n) is_keepalive now message queue p.1).made
+      more : Writes (k.1.output ++ frame message) (p.1.output ++ frame message) (min (k.1.made + length (frame message)) (2 ^ 64 - 1)) (with_frame (plain_keeps n) is_keepalive now message queue p.1).made
       more = record {
         output = ap (λ o. o ++ frame message) s.stands.output;
-        counted = counted_more k.1.made (size_of_made p.1.made) (length (frame message)) (size_of_made (says (plain_keeps n) is_keepalive now message queue p.1).made) s.stands.written
+        counted = counted_more k.1.made (size_of_made p.1.made) (length (frame message)) (size_of_made (with_frame (plain_keeps n) is_keepalive now message queue p.1).made) s.stands.written
             (sum_by_push (λ m. length (frame_of m)) p.1.made (record { message = message; note = record { queue = queue; newest = n }; subscribed = p.1.subscriptions }));
         fits = omega (arith, fits, length-append p.1.output (frame message));
       }
@@ -52,13 +52,13 @@ module _ (hub : Hub) (n : ℕ) where
   -- a short answer where nothing waits to be written
   pub answers-keeps : (is_keepalive : Bool) (now : ℕ) (message : List ℕ) (k : ℕ × KeptSession) (p : ℕ × Session) → p.1.output ≡ [] → length message ≤ 65535
       → SessionFits hub k p → SessionFits hub (k.0, answers keeping is_keepalive now message k.1) (p.0, answers (plain_keeps n) is_keepalive now message p.1)
-  answers-keeps is_keepalive now message k p silent short s = says-keeps is_keepalive now message k.1.queue p.1.queue k p (omega (arith, ap length silent, short)) s
+  answers-keeps is_keepalive now message k p silent short s = with_frame-keeps is_keepalive now message k.1.queue p.1.queue k p (omega (arith, ap length silent, short)) s
 
   -- a PUSH where there are notices
   pub says_notices-keeps : (t : ℕ) (notices : List Notice) (k : ℕ × KeptSession) (p : ℕ × Session) → length p.1.output + length (frame (push_message notices)) ≤ frame_octets
       → SessionFits hub k p → SessionFits hub (k.0, says_notices keeping t notices k.1) (p.0, says_notices (plain_keeps n) t notices p.1)
   says_notices-keeps t [] k p fits s = s
-  says_notices-keeps t (x ∷ xs) k p fits s = says-keeps false t (push_message (x ∷ xs)) k.1.queue p.1.queue k p fits s
+  says_notices-keeps t (x ∷ xs) k p fits s = with_frame-keeps false t (push_message (x ∷ xs)) k.1.queue p.1.queue k p fits s
 
   -- a session that was asked to stop, by whether it is established
   abbrev stops_as : {A Q M : Type 0} → Keeps A Q M → ℕ → ℕ → ℕ → SessionOf A Q M → Bool → SessionOf A Q M

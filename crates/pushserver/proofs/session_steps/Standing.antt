@@ -4,10 +4,10 @@ use Rattle.std.proofs.lemmas.List.{length-map, length-append, length-take, lengt
 use Rattle.std.proofs.lemmas.List.Elements.{All-append, All-take}
 use Rattle.push_base.specs.Limits.{max_input}
 use Rattle.dsosession.specs.declared.session.EndReason.{EndReason}
-use Rattle.pushsession.specs.declared.standing.Standing.{Standing}
-use Rattle.pushsession.specs.declared.standing.Standing.TheVariants.{AskedToStop}
+use Rattle.pushsession.specs.declared.session_status.SessionStatus.{SessionStatus}
+use Rattle.pushsession.specs.declared.session_status.SessionStatus.TheVariants.{AskedToStop}
 use Rattle.pushsession.specs.Kept.{keeping}
-use Rattle.pushsession.specs.Sessions.{is_open, room_of, takes, copied, asked_to_stop, ended_with, ended_where, due_as, due, timed}
+use Rattle.pushsession.specs.Sessions.{is_open, room_of, with_piece, copied, asked_to_stop, ended_with, ended_where, due_as, due, timed}
 use Rattle.pushserver.specs.PlainHubs.{Hub, plain_keeps}
 use Rattle.dsotlv.specs.Laws.{AreOctets}
 use Rattle.pushserver.proofs.session_steps.Parts.{SessionFits, SessionKeeps, Reads, Writes, asks, waits, reads, writes, stands, asks_nothing, none_waits}
@@ -18,10 +18,10 @@ still_fits piece true input fits = omega (arith, fits, length-append input (take
 still_fits piece false input fits = omega (arith, fits, length-append input (take 0 piece), length-take 0 piece)
 
 module _ (hub : Hub) where
-  pub takes-keeps : (piece : List ℕ) → AreOctets piece → SessionKeeps hub (takes piece) (takes piece)
-  takes-keeps piece octets k p s = stands hub k p s (takes piece k.1) (takes piece p.1) (asks hub k p s) (waits hub k p s) more (writes hub k p s) s.stands.clocks s.stands.established s.stands.standing
+  pub with_piece-keeps : (piece : List ℕ) → AreOctets piece → SessionKeeps hub (with_piece piece) (with_piece piece)
+  with_piece-keeps piece octets k p s = stands hub k p s (with_piece piece k.1) (with_piece piece p.1) (asks hub k p s) (waits hub k p s) more (writes hub k p s) s.stands.clocks s.stands.established s.stands.standing
     where
-      more : Reads (takes piece k.1).input (takes piece p.1).input
+      more : Reads (with_piece piece k.1).input (with_piece piece p.1).input
       more = record {
         input = λ i. s.stands.input i ++ take (cond (is_open (s.stands.standing i)) (max_input - length (s.stands.input i)) 0) piece;
         octets = All-append (λ o. o < 256) p.1.input (take (room_of p.1) piece) s.sound.octets (All-take (λ o. o < 256) (room_of p.1) piece octets);
@@ -36,7 +36,7 @@ module _ (hub : Hub) where
 
   pub asked-keeps : (rcode delay : ℕ) → SessionKeeps hub (asked_to_stop rcode delay) (asked_to_stop rcode delay)
   asked-keeps rcode delay k p s =
-      subst (λ (st : Standing). SessionFits hub (k.0, asked_to_stop rcode delay k.1) (p.0, cond (is_open st) (record p.1 { standing = AskedToStop rcode delay }) p.1)) s.stands.standing (by (is_open k.1.standing))
+      subst (λ (st : SessionStatus). SessionFits hub (k.0, asked_to_stop rcode delay k.1) (p.0, cond (is_open st) (record p.1 { standing = AskedToStop rcode delay }) p.1)) s.stands.standing (by (is_open k.1.standing))
     where
       by : (b : Bool) → SessionFits hub (k.0, cond b (record k.1 { standing = AskedToStop rcode delay }) k.1) (p.0, cond b (record p.1 { standing = AskedToStop rcode delay }) p.1)
       by true = stands hub k p s (record k.1 { standing = AskedToStop rcode delay }) (record p.1 { standing = AskedToStop rcode delay }) (asks hub k p s) (waits hub k p s) (reads hub k p s) (writes hub k p s) s.stands.clocks s.stands.established refl

@@ -2,7 +2,8 @@
 --     IsHeardRr h      what holds of each record that is heard
 --     hearing_read      the records of a hearing that is read
 --     AreHeard links      each link's rows are as datagrams bring them
---     links-heard, links-moment, links-reconfirmed      they stay so
+--     Brought Good rrs      what an entry brings was in a datagram, or is nothing
+--     links-after, links-moment      they stay so after an entry that concerns one of them, and at a later moment
 --     link-shows      what such a link shows can be told
 use Rattle.std.proofs.Common.{◌≡◌, ℕ, zero, suc, ◌+◌, ◌^◌, ◌<◌, ◌≤◌, Bool, true, not, ◌&&◌, ltb, leb, List, [], ◌∷◌, ◌++◌, map, length, Ok, refl, sym, subst, arith}
 use Rattle.std.specs.Prelude.{slice_range, IsTrue, MatchBool, ◌==◌}
@@ -33,10 +34,13 @@ use Rattle.zoneupdate.proofs.Filters.{and-left, and-right, and-both}
 use Rattle.linkmap.specs.Translation.{is_of_link, is_translatable, is_usable, local}
 use Rattle.linkcache.specs.declared.row.HeardRow.{HeardRow}
 use Rattle.linkcache.specs.Links.{LinkState, IsLink}
-use Rattle.linkcache.specs.Rows.{LinkRows, heard_at, usable_of, heard, at_moment, reconfirmed, shown_rows}
-use Rattle.linkcache.proofs.SoundSteps.{KeepsEnds, Brings, usable-of, kept-heard, kept-moment, kept-reconfirmed}
+use Rattle.linkcache.specs.Rows.{LinkRows, heard_at, usable_of, at_moment, shown_rows}
+use Rattle.linkcache.proofs.SoundSteps.{KeepsEnds, Brings, usable-of, kept-moment}
 use Rattle.linkcache.proofs.WholeRows.{IsWholeRow, IsShownWhole, all-shown}
-use Rattle.history.specs.States.{link_heard, link_at_moment}
+use Rattle.history.specs.Entries.{brought, rows_after}
+use Rattle.history.specs.States.{link_after, link_at_moment}
+use Rattle.history.specs.declared.entry.Entry.{Entry}
+use Rattle.history.proofs.OneLink.{kept-after}
 use Rattle.pushserver.specs.Rows.{is_tellable, is_heard_so}
 use Rattle.pushserver.proofs.told_rows.Shaped.{spelled-fits, spelled-short}
 use Rattle.pushserver.proofs.told_rows.Fitting.{is_fit-from, not_any, counted, tellable-from}
@@ -72,7 +76,7 @@ module _ (datagram : List ℕ) (below : AreOctets datagram) (short : length data
   both-heard [] (rr ∷ back) h k = (k.0, both-heard [] back h k.1)
   both-heard (rr ∷ front) back h k = (h.0, both-heard front back h.1 k)
 
-pub hearing_read : (datagram : List ℕ) (hearing : Hearing) → AreOctets datagram → hearing_of datagram ≡ Ok hearing → AllByRecursion IsHeardRr hearing.rrs
+hearing_read : (datagram : List ℕ) (hearing : Hearing) → AreOctets datagram → hearing_of datagram ≡ Ok hearing → AllByRecursion IsHeardRr hearing.rrs
 hearing_read datagram hearing below e =
     let found = hearing-found datagram hearing (recursion_from_All (λ o. o < 256) datagram below) e in
     let most = found.header.1 in
@@ -136,21 +140,33 @@ usable-class domain rr e =
     let kind = and-left (rr.class == in_class && not (rr.kind == nsec_kind)) (not (is_meta rr.kind)) kinds in
     and-left (rr.class == in_class) (not (rr.kind == nsec_kind)) kind
 
-brought : (domain : Labels) (now : ℕ) (h : HeardRr) → is_usable domain h.rr ≡ true → IsHeardRr h → IsHeardSo (key_of h.rr, heard_at now h)
-brought domain now h usable is =
+row-brought : (domain : Labels) (now : ℕ) (h : HeardRr) → is_usable domain h.rr ≡ true → IsHeardRr h → IsHeardSo (key_of h.rr, heard_at now h)
+row-brought domain now h usable is =
     let rdata = is.rdata (usable-class domain h.rr usable) in
     heard_so-from (key_of h.rr, heard_at now h) (record { owner = is.owner; kind = is.kind; shape = rdata.0; short = lt-ltb _ _ rdata.1; ttl = counted h.rr.ttl })
 
 all-brought : (domain : Labels) (now : ℕ) (hs : List HeardRr) → AllByRecursion (λ h. is_usable domain h.rr ≡ true) hs → AllByRecursion IsHeardRr hs → Brings IsHeardSo now hs
 all-brought domain now [] usable are = tt
-all-brought domain now (h ∷ hs) usable are = (brought domain now h usable.0 are.0, all-brought domain now hs usable.1 are.1)
+all-brought domain now (h ∷ hs) usable are = (row-brought domain now h usable.0 are.0, all-brought domain now hs usable.1 are.1)
 
-rows-heard : (domain : Labels) (now : ℕ) (hearing : List HeardRr) (rows : LinkRows) → AllByRecursion IsHeardRr hearing → list_all is_heard_so rows ≡ true → list_all is_heard_so (heard domain rows now hearing) ≡ true
-rows-heard domain now hearing rows are h =
-    all-rows (heard domain rows now hearing)
-    (kept-heard IsHeardSo ends-alike domain now hearing rows
-    (all-brought domain now (usable_of domain hearing) (usable-of domain hearing) (all_filter IsHeardRr (λ h. is_usable domain h.rr) hearing are))
-    (each-row rows h))
+-- ---- what an entry brings to a link
+
+-- it was in a good message, or it is nothing
+pub data Brought (Good : List ℕ → Type 0) : List HeardRr → Type 0 where
+  brings_nothing : Brought Good []
+  brings_read : (datagram : List ℕ) (hearing : Hearing) → Good datagram → hearing_of datagram ≡ Ok hearing → Brought Good hearing.rrs
+
+are_read : (rrs : List HeardRr) → Brought AreOctets rrs → AllByRecursion IsHeardRr rrs
+are_read rrs brings_nothing = tt
+are_read rrs (brings_read datagram hearing below read) = hearing_read datagram hearing below read
+
+rows-so : (entry : Entry) (now : ℕ) (l : LinkState) → Brought AreOctets (brought entry) → list_all is_heard_so l.rows ≡ true → list_all is_heard_so (rows_after entry now l) ≡ true
+rows-so entry now l brings h =
+    let usable : List HeardRr = usable_of l.domain (brought entry) in
+    all-rows (rows_after entry now l)
+    (kept-after IsHeardSo ends-alike entry now l
+    (all-brought l.domain now usable (usable-of l.domain (brought entry)) (all_filter IsHeardRr (λ h. is_usable l.domain h.rr) (brought entry) (are_read (brought entry) brings)))
+    (each-row l.rows h))
 
 -- ---- all links
 
@@ -163,16 +179,12 @@ changed-heard f keeps (suc i) [] h = tt
 changed-heard f keeps zero (l ∷ links) h = (keeps l h.0, h.1)
 changed-heard f keeps (suc i) (l ∷ links) h = (h.0, changed-heard f keeps i links h.1)
 
-pub links-heard : (now link : ℕ) (hearing : Hearing) (links : List LinkState) → AllByRecursion IsHeardRr hearing.rrs → AreHeard links → AreHeard (changed_at link (link_heard now hearing) links)
-links-heard now link hearing links are h = changed-heard (link_heard now hearing) (λ l. rows-heard l.domain now hearing.rrs l.rows are) link links h
+pub links-after : (entry : Entry) (now link : ℕ) (links : List LinkState) → Brought AreOctets (brought entry) → AreHeard links → AreHeard (changed_at link (link_after entry now) links)
+links-after entry now link links brings h = changed-heard (link_after entry now) (λ l k. rows-so entry now l brings k) link links h
 
 pub links-moment : (t : ℕ) (links : List LinkState) → AreHeard links → AreHeard (map (link_at_moment t) links)
 links-moment t [] h = tt
 links-moment t (l ∷ links) h = (all-rows (at_moment l.rows t) (kept-moment IsHeardSo ends-alike t l.rows (each-row l.rows h.0)), links-moment t links h.1)
-
-pub links-reconfirmed : (now link : ℕ) (key : Key) (links : List LinkState) → AreHeard links → AreHeard (changed_at link (λ l. record l { rows = reconfirmed l.rows key now }) links)
-links-reconfirmed now link key links h =
-    changed-heard (λ l. record l { rows = reconfirmed l.rows key now }) (λ l k. all-rows (reconfirmed l.rows key now) (kept-reconfirmed IsHeardSo ends-alike key now l.rows (each-row l.rows k))) link links h
 
 -- ---- what a link shows
 

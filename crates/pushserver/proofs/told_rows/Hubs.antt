@@ -1,5 +1,5 @@
 -- The history of a hub stays tellable: of a new hub, and after each entry.
---     entered_tells, update_tells, hearing_tells, moment_tells, reconfirm_tells, new_tells
+--     entered_tells, update_tells, moment_tells, link_tells, new_tells
 --     new_stands      what is kept of a new hub stands for it
 use Rattle.std.proofs.Common.{◌≡◌, ℕ, List, [], sym, ap, subst, refl, arith}
 use Rattle.std.specs.Prelude.{Ok, IsTrue}
@@ -7,10 +7,8 @@ use Rattle.std.specs.List.{AllByRecursion, IsDistinct}
 use Rattle.dnsname.specs.Names.{is_name}
 use Rattle.dsotlv.specs.Laws.{AreOctets}
 use Rattle.dsosession.specs.declared.session.Timers.{Timers}
-use Rattle.rrset.specs.declared.record.Key.{Key}
-use Rattle.rrset.specs.declared.record.Hearing.{Hearing}
-use Rattle.dnswire.specs.Reading.{hearing_of}
 use Rattle.dnswire.specs.declared.message.Update.{Update}
+use Rattle.history.specs.Entries.{a_link, brought, concern}
 use Rattle.history.specs.Plans.{IsStart}
 use Rattle.history.specs.AtHome.{AreAtHome, homes_in}
 use Rattle.history.specs.States.{State, after, state_at, verdict}
@@ -21,8 +19,9 @@ use Rattle.pushserver.specs.PlainHubs.{Hub, new_hub}
 use Rattle.pushserver.specs.Rows.{IsTellable}
 use Rattle.pushserver.specs.KeptHubs.{kept, StandsFor}
 use Rattle.pushserver.proofs.told_rows.HubTells.{StatesTell}
+use Rattle.pushserver.proofs.told_rows.HeardRows.{Brought}
 use Rattle.pushserver.proofs.told_rows.Histories.{states-more}
-use Rattle.pushserver.proofs.told_rows.Updated.{update-tellable, hearing-tellable, moment-tellable, reconfirm-tellable, start-tellable}
+use Rattle.pushserver.proofs.told_rows.Updated.{update-tellable, moment-tellable, link-tellable, start-tellable}
 
 -- ---- an entry
 
@@ -35,12 +34,8 @@ update_tells hub message update states octets e = entered_tells hub (entries.Upd
 pub moment_tells : (hub : Hub) (t : ℕ) → StatesTell hub → StatesTell (entered (entries.Moment t) hub)
 moment_tells hub t states = entered_tells hub (entries.Moment t) states (moment-tellable (state_now hub) t (states (newest hub) (omega arith)))
 
-pub hearing_tells : (hub : Hub) (link : ℕ) (datagram : List ℕ) (hearing : Hearing) → StatesTell hub → AreOctets datagram → hearing_of datagram ≡ Ok hearing → StatesTell (entered (entries.Heard link hearing) hub)
-hearing_tells hub link datagram hearing states octets e =
-    entered_tells hub (entries.Heard link hearing) states (hearing-tellable (state_now hub) link datagram hearing (states (newest hub) (omega arith)) octets e)
-
-pub reconfirm_tells : (hub : Hub) (link : ℕ) (key : Key) → StatesTell hub → StatesTell (entered (entries.Reconfirm link key) hub)
-reconfirm_tells hub link key states = entered_tells hub (entries.Reconfirm link key) states (reconfirm-tellable (state_now hub) link key (states (newest hub) (omega arith)))
+pub link_tells : (hub : Hub) (entry : Entry) (link : ℕ) → concern entry ≡ a_link link → Brought AreOctets (brought entry) → StatesTell hub → StatesTell (entered entry hub)
+link_tells hub entry link one brings states = entered_tells hub entry states (link-tellable (state_now hub) entry link one brings (states (newest hub) (omega arith)))
 
 -- ---- a new hub
 

@@ -1,5 +1,5 @@
--- States stay tellable: a start, an update, a hearing and a reconfirmation that are entered, and a later moment.
---     update-tellable, hearing-tellable, moment-tellable, reconfirm-tellable, start-tellable
+-- States stay tellable: a start, an update that is entered, a later moment, and an entry that concerns one link.
+--     update-tellable, moment-tellable, link-tellable, start-tellable
 use Rattle.std.proofs.Common.{◌≡◌, ℕ, suc, ◌+◌, ◌≤◌, Bool, true, false, cond, ltb, eqb, List, [], ◌∷◌, ◌++◌, map, fold, find, length, codes, Option, Some, None, Result, Ok, Err, is_ok, refl, sym, ap, subst, ◌∙◌, arith}
 use Rattle.std.specs.Prelude.{All, IsTrue}
 use Rattle.std.specs.List.{list_all, AllByRecursion}
@@ -13,9 +13,6 @@ use Rattle.rrset.specs.Kinds.{ns_kind, soa_kind}
 use Rattle.rrset.specs.Rdata.{Field, named, with_field, shape_fits}
 use Rattle.rrset.specs.Records.{key_of, shown_of}
 use Rattle.rrset.specs.RecordSet.{RecordSet, at_name, size_of}
-use Rattle.rrset.specs.declared.record.Key.{Key}
-use Rattle.rrset.specs.declared.record.Hearing.{Hearing}
-use Rattle.dnswire.specs.Reading.{hearing_of}
 use Rattle.dnswire.specs.declared.message.Update.{Update}
 use Rattle.dnswire.proofs.Entries.{done_then, same_done}
 use Rattle.zoneupdate.specs.Zones.{ZoneState, first_soa, first_ns, new_zone}
@@ -25,17 +22,19 @@ use Rattle.zoneupdate.proofs.NewZone.{label-can, numbers_of, soa_alone, new-size
 use Rattle.zoneupdate.proofs.RecordSets.{IsSet, set-put_rrs, set-changes}
 use Rattle.zoneupdate.proofs.SoaRdata.{named_then, name_first, soa_fields}
 use Rattle.linkcache.specs.Rows.{LinkRows}
+use Rattle.history.specs.Entries.{a_link, brought, concern}
 use Rattle.history.specs.Homes.{NamedHome}
 use Rattle.history.specs.Plans.{IsStart}
 use Rattle.history.specs.AtHome.{AreAtHome, named_zones, named_links, homes_in}
-use Rattle.history.specs.States.{State, LinkState, home_names, zone_of, zone_asked, zone_for, with_rows, updated, update_in, verdict, link_at_moment, after}
+use Rattle.history.specs.States.{State, LinkState, home_names, zone_of, zone_asked, zone_for, with_rows, updated, update_in, verdict, link_at_moment, after, after_by}
+use Rattle.history.specs.declared.entry.Entry.{Entry}
 use Rattle.history.specs.declared.entry.Entry.TheVariants as entries
 use Rattle.history.proofs.StatesAtHome.{home-after}
 use Rattle.pushserver.specs.Rows.{is_tellable, is_heard_so, IsTellable}
 use Rattle.dsotlv.specs.Laws.{AreOctets}
 use Rattle.pushserver.proofs.told_rows.Entered.{IsRead, changes_read}
 use Rattle.pushserver.proofs.told_rows.Fitting.{HaveRoom, AreFit, is_fit-from, fit-put_rr, fit-after, all-good, limits-room, all-tellable, all-fit}
-use Rattle.pushserver.proofs.told_rows.HeardRows.{hearing_read, AreHeard, links-heard, links-moment, links-reconfirmed}
+use Rattle.pushserver.proofs.told_rows.HeardRows.{AreHeard, Brought, links-after, links-moment}
 use Rattle.pushserver.proofs.told_rows.Told.{RowsTell, ZonesTell, told-zones, tell-rows, tell-sizes}
 
 -- ---- an update
@@ -142,23 +141,15 @@ moment-tellable state t is =
     links true = links-moment t state.links is.heard
     links false = is.heard
 
--- ---- a hearing, and a reconfirmation
+-- ---- an entry that concerns one link
 
-pub hearing-tellable : (state : State) (link : ℕ) (datagram : List ℕ) (hearing : Hearing) → IsTellable state → AreOctets datagram → hearing_of datagram ≡ Ok hearing → IsTellable (after state (entries.Heard link hearing))
-hearing-tellable state link datagram hearing is octets e = record {
-  home = home-after state is.home (entries.Heard link hearing);
+pub link-tellable : (state : State) (entry : Entry) (link : ℕ) → concern entry ≡ a_link link → Brought AreOctets (brought entry) → IsTellable state → IsTellable (after state entry)
+link-tellable state entry link one brings is = subst IsTellable (sym (ap (after_by entry state) one)) (record {
+  home = subst AreAtHome (ap (after_by entry state) one) (home-after state is.home entry);
   rows = is.rows;
   sizes = is.sizes;
-  heard = links-heard state.now link hearing state.links (hearing_read datagram hearing octets e) is.heard;
-}
-
-pub reconfirm-tellable : (state : State) (link : ℕ) (key : Key) → IsTellable state → IsTellable (after state (entries.Reconfirm link key))
-reconfirm-tellable state link key is = record {
-  home = home-after state is.home (entries.Reconfirm link key);
-  rows = is.rows;
-  sizes = is.sizes;
-  heard = links-reconfirmed state.now link key state.links is.heard;
-}
+  heard = links-after entry state.now link state.links brings is.heard;
+})
 
 -- ---- a start
 

@@ -2,8 +2,8 @@
 --     left-there, left-none      that there are ends, by what was told
 --     left-are, none-are      what they stand for
 use Rattle.std.proofs.Common.{◌≡◌, ◌⊎◌, inl, inr, ℕ, List, Option, Some, None, IfSome, sym, subst}
-use Rattle.replay.specs.declared.outcome.Outcome.{Outcome}
-use Rattle.replay.specs.declared.outcome.Outcome.TheVariants.{Done, ReadFault, NoMemory, WriteFault, Outside}
+use Rattle.scripts.specs.declared.outcome.Outcome.{Outcome}
+use Rattle.scripts.specs.declared.outcome.Outcome.TheVariants.{Done, ReadFault, NoMemory, WriteFault, Outside}
 use Rattle.replay.specs.declared.ends.Ends.{Ends}
 use Rattle.scripts.specs.Sources.{front_read}
 use Rattle.replay.specs.KeptEnds.{AreEnds, EndsWhenDone, ends_with}

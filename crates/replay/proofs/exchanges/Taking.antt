@@ -6,7 +6,7 @@ use Rattle.std.specs.List.{AllByRecursion, IsDistinct}
 use Rattle.std.proofs.lemmas.List.{length-take, take_min}
 use Rattle.std.proofs.lemmas.Map.Keys.{IsDistinct-head, IsDistinct-tail}
 use Rattle.pushserver.specs.PlainHubs.{Session, Hub}
-use Rattle.pushsession.specs.Sessions.{room_of, takes}
+use Rattle.pushsession.specs.Sessions.{room_of, with_piece}
 use Rattle.pushserver.specs.Hubs.{taken_by, take_octets}
 use Rattle.pushserver.specs.KeptHubs.{KeptHub, StandsFor}
 
@@ -79,6 +79,6 @@ taken_from piece o = elim o as (λ _. ℕ) [ None ↦ 0 | Some session ↦ min (
 pub take-front : (k : KeptHub) (hub : Hub) (number : ℕ) (piece : List ℕ) → StandsFor k hub → take_octets hub number (take (taken_by hub number piece) piece) ≡ take_octets hub number piece
 take-front k hub number piece stands =
     let n = taken_by hub number piece in
-    ap (λ (es : List Entry). record hub { sessions = es }) (one-session number (takes (take n piece)) (takes piece) hub.sessions stands.sound.numbers
+    ap (λ (es : List Entry). record hub { sessions = es }) (one-session number (with_piece (take n piece)) (with_piece piece) hub.sessions stands.sound.numbers
     (λ s found. ap (λ (o : List ℕ). record s { input = s.input ++ o })
     (ap (λ m. take (room_of s) (take m piece)) (ap (λ (o : Option Session). elim o as (λ _. ℕ) [ None ↦ 0 | Some session ↦ min (length piece) (room_of session) ]) found) ∙ front (room_of s) piece)))

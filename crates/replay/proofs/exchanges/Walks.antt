@@ -11,15 +11,15 @@ use Rattle.push_base.specs.Cases.{is_empty}
 use Rattle.coalesce.specs.Sides.{frame_octets}
 use Rattle.dsotlv.specs.Messages.{first_message}
 use Rattle.dsosession.specs.declared.session.EndReason.TheVariants as ends
-use Rattle.pushsession.specs.declared.standing.Standing.{Standing}
-use Rattle.pushsession.specs.declared.standing.Standing.TheVariants.{Live, AskedToStop, Stopped, Ended}
+use Rattle.pushsession.specs.declared.session_status.SessionStatus.{SessionStatus}
+use Rattle.pushsession.specs.declared.session_status.SessionStatus.TheVariants.{Live, AskedToStop, Stopped, Ended}
 use Rattle.pushserver.specs.declared.given.Given.{Given}
 use Rattle.pushserver.specs.declared.given.Given.TheVariants.{Bytes, Worked, Nothing, Ending, End}
 use Rattle.pushserver.specs.PlainHubs.{Session, Hub, Giving}
 use Rattle.pushserver.specs.Hubs.{now, keeps_now, tells_now, session_of, in_session}
 use Rattle.pushsession.specs.Sessions.{without_first, stopped}
 use Rattle.pushserver.specs.Giving.{did, copies, copies_or, given_after, after_reaction, after_packing, works, by_standing, reacted, give}
-use Rattle.pushsession.specs.Subscribing.{packs}
+use Rattle.pushsession.specs.Subscribing.{with_next_push}
 use Rattle.pushserver.specs.Counting.{octets_of}
 use Rattle.pushserver.specs.KeptHubs.{KeptHub, StandsFor}
 use Rattle.pushserver.specs.SoundHubs.{IsSoundSession}
@@ -42,13 +42,13 @@ module _ (number : ℕ) (P : (ℕ → Giving) → Type 0)
       by true none = done given hub is
       by false some = copied session hub found some
 
-  given_after-is : (s : Standing) → is_bytes (given_after s) ≡ false
+  given_after-is : (s : SessionStatus) → is_bytes (given_after s) ≡ false
   given_after-is Live = refl
   given_after-is (AskedToStop rcode delay) = refl
   given_after-is (Stopped since) = refl
   given_after-is (Ended reason) = refl
 
-  found-walk : (none : Given) (given : Standing → Given) (hub : Hub) → is_bytes none ≡ false → ((s : Standing) → is_bytes (given s) ≡ false) → (o : Option Session) → session_of hub number ≡ o → P (λ room. found_as hub number room none given o)
+  found-walk : (none : Given) (given : SessionStatus → Given) (hub : Hub) → is_bytes none ≡ false → ((s : SessionStatus) → is_bytes (given s) ≡ false) → (o : Option Session) → session_of hub number ≡ o → P (λ room. found_as hub number room none given o)
   found-walk none given hub is are None e = done none hub is
   found-walk none given hub is are (Some session) e = copies_or-walk (given session.standing) session hub (are session.standing) e
 
@@ -62,10 +62,10 @@ module _ (number : ℕ) (P : (ℕ → Giving) → Type 0)
   works-walk session hub = by (first_message session.input)
     where
       by : (o : Option (List ℕ × List ℕ)) → P (λ room. works_as hub number room o)
-      by None = packing-walk (in_session number (packs (keeps_now hub) (tells_now hub) (now hub)) hub)
+      by None = packing-walk (in_session number (with_next_push (keeps_now hub) (tells_now hub) (now hub)) hub)
       by (Some found) = reaction-walk (reacted found.0 number (in_session number (without_first found.1) hub))
 
-  standing-walk : (s : Standing) (session : Session) (hub : Hub) → P (λ room. by_standing s number room session hub)
+  standing-walk : (s : SessionStatus) (session : Session) (hub : Hub) → P (λ room. by_standing s number room session hub)
   standing-walk (Ended reason) session hub = done (End reason) hub refl
   standing-walk (Stopped since) session hub = done Ending hub refl
   standing-walk Live session hub = works-walk session hub

@@ -1,17 +1,17 @@
 -- What a script prints of octets that a lone client is fed, and how it leaves the client.
 --     feeds-as-messages      the law
-use Rattle.std.proofs.Common.{◌≡◌, ℕ, Bool, List, [], ◌∷◌, ◌++◌, Option, Some, None, codes, refl, sym, ◌∙◌, ap}
+use Rattle.std.proofs.Common.{◌≡◌, ℕ, List, [], ◌∷◌, ◌++◌, Option, Some, None, codes, refl, sym, ◌∙◌, ap, append-nil}
 use Rattle.dsosession.specs.declared.session.CloseReason.{CloseReason}
 use Rattle.pushclient.specs.Clients.{Client, cut, output_of, closed_as}
 use Rattle.pushclient.specs.Pieces.{with_input, input_of}
-use Rattle.scripts.specs.Lines.{Word, ScriptLine, feed}
 use Rattle.replay.specs.World.{Seat, World, seat_of, with_seat, with_client, cut_seat, new_seat, hub_without, is_over, world_cut_if}
-use Rattle.replay.specs.PassedOctets.{reached_by, fed_client, without_output}
+use Rattle.replay.specs.PassedOctets.{reached_by, fed_client}
+use Rattle.pushclient.specs.HandedOut.{without_output}
 use Rattle.scripts.specs.Words.{spaced, octets_text}
-use Rattle.replay.specs.TextWords.{HeldRecords}
-use Rattle.replay.specs.Text.{Printed, close_lines, ended_lines, feeds, finished, printed_by, text_by}
-use Rattle.replay.specs.FedLines.{Fed, lines_of, world_start, world_then, world_behind, FeedsLone, messages_fed, reacted_to, fed_lines, fed_reply, left_fed, FeedsAsMessages}
-use Rattle.replay.proofs.worlds.BetweenLines.{printed-append, lines-append, reply-is}
+use Rattle.replay.specs.Text.{Printed, close_lines, feeds, finished}
+use Rattle.replay.specs.FedLines.{Fed, fed_between, FeedsLone, messages_fed, reacted_to, fed_lines, left_fed, FeedsAsMessages}
+use Rattle.replay.specs.Between.{world_then, world_behind}
+use Rattle.replay.proofs.worlds.BetweenLines.{between-replied}
 use Rattle.replay.proofs.worlds.FedSeats.{fed as fed_passed, fed_words, feeds_as, feeds_by}
 use Rattle.replay.proofs.worlds.SeatsFound.{found-word, put-found}
 use Rattle.replay.proofs.feeding.FedClients.{IsFed, fed-as}
@@ -19,7 +19,7 @@ use Rattle.replay.proofs.feeding.LoneSeats.{FewOctets, wait-found, all-wait, few
 
 module _ (script : List ℕ) (fed : Fed) (s : FeedsLone script fed) where
   abbrev world : World
-  world = world_then fed
+  world = world_then (fed_between fed)
 
   abbrev seat : Seat
   seat = fed.seat
@@ -55,22 +55,6 @@ module _ (script : List ℕ) (fed : Fed) (s : FeedsLone script fed) where
   lines = ap (λ (p : Printed). p.1) does
       ∙ λ i. spaced (codes "bytes" ∷ word i ∷ octets_text (outputs i) ∷ []) ∷ close_lines (word i) ((closing ∙ sym closing-said) i)
 
-  -- ---- the text
-
-  module _ (records : HeldRecords) where
-    abbrev told_before : List (List ℕ)
-    told_before = printed_by records fed.before (world_start fed)
-
-    abbrev told_behind : List (List ℕ)
-    told_behind = printed_by records fed.behind (world_behind fed)
-
-    text : text_by records (lines_of fed) ≡ (fed_reply records fed).text
-    text =
-        ap ended_lines (printed-append records fed.before (feed fed.word fed.octets ∷ fed.behind) (world_start fed))
-        ∙ lines-append told_before ((feeds fed.word fed.octets world).1 ++ told_behind)
-        ∙ ap (λ (told : List (List ℕ)). ended_lines told_before ++ ended_lines (told ++ told_behind)) lines
-        ∙ ap (λ (rest : List ℕ). ended_lines told_before ++ rest) (lines-append (fed_lines fed) told_behind)
-
   -- ---- the client
 
   abbrev later : Seat
@@ -91,7 +75,7 @@ module _ (script : List ℕ) (fed : Fed) (s : FeedsLone script fed) where
       put-found (record (with_seat later world) { hub = hub_without later.session world.hub }) fed.word later (cut_seat later) there refl
       ∙ ap (λ (x : Client). Some (record (new_seat seat.word seat.is_lone) { client = x })) (ap (λ (x : Client). cut (without_output x)) f.reached ∙ sym (ap (λ (x : Client). cut x) f.said))
 
-  stands : seat_of (world_behind fed) fed.word ≡ Some (left_fed fed (closed_as (reacted_to fed).client))
+  stands : seat_of (world_behind (fed_between fed)) fed.word ≡ Some (left_fed fed (closed_as (reacted_to fed).client))
   stands =
       ap (λ (p : Printed). seat_of p.0 fed.word) does
       ∙ ap (λ (o : Option CloseReason). seat_of (world_cut_if (is_over None o) later (with_seat later world)) fed.word) closing
@@ -99,4 +83,4 @@ module _ (script : List ℕ) (fed : Fed) (s : FeedsLone script fed) where
       ∙ ap (λ (o : Option CloseReason). Some (left_fed fed o)) (sym closing-said)
 
 pub feeds-as-messages : FeedsAsMessages
-feeds-as-messages script fed s = (λ records. reply-is records script (lines_of fed) (fed_reply records fed).text s.read (text script fed s records), stands script fed s)
+feeds-as-messages script fed s = (λ records. between-replied records script (fed_between fed) (fed_lines fed) s.read (append-nil _ ∙ lines script fed s), stands script fed s)

@@ -3,7 +3,7 @@
 --     FewOctets octets      octets, not too many
 --     wait-found      a lone client that is found waits
 --     all-wait, few-fed      before a line that feeds octets all do, and these are few octets
-use Rattle.std.proofs.Common.{◌≡◌, ℕ, ◌≤◌, Bool, true, false, ◌&&◌, List, [], ◌∷◌, ◌++◌, fold, length, Option, Some, None, Ok, codes, refl, sym, ◌∙◌, ap, subst, true≢false}
+use Rattle.std.proofs.Common.{◌≡◌, ℕ, ◌≤◌, Bool, true, false, ◌&&◌, List, [], ◌∷◌, ◌++◌, fold, length, Option, Some, None, Ok, refl, sym, ◌∙◌, ap, subst, true≢false}
 use Rattle.std.specs.List.{AllByRecursion, list_all}
 use Rattle.std.specs.Str.{bytes_eq}
 use Rattle.dnsname.specs.Names.{Labels, octets, is_name}
@@ -12,7 +12,6 @@ use Rattle.coalesce.proofs.Packing.{each-front}
 use Rattle.coalesce.proofs.ReadBack.{each-append}
 use Rattle.dsotlv.specs.Laws.{AreOctets}
 use Rattle.dsosession.specs.declared.session.CloseReason.{CloseReason}
-use Rattle.dsosession.specs.declared.session.EndReason.{EndReason}
 use Rattle.pushserver.specs.Hubs.{now}
 use Rattle.pushserver.proofs.Walks.{with_new}
 use Rattle.pushserver.proofs.hub_steps.Pairs.{all-weaken}
@@ -20,26 +19,33 @@ use Rattle.pushserver.proofs.session_steps.Lists.{found-each}
 use Rattle.pushclient.specs.Clients.{Client, closed_as, connected, is_connected}
 use Rattle.pushclient.specs.Steps as steps
 use Rattle.pushclient.proofs.Reactions.{with_octets}
-use Rattle.scripts.specs.Lines.{Word, ScriptLine, silent, timers, zone, link, client, lone, at_moment, update, hear, ask, drop_question, reconfirm, open_connection as opening, cut, say, up, emit, down, settle, send, feed, stop, point, show, octets_written}
+use Rattle.scripts.specs.Lines.{Word, ScriptLine, silent, head_line, joining, hub_event, link_event, client_call, client_passing, client_event, session_event, feed, octets_written}
+use Rattle.scripts.specs.declared.line.HubEvent.{HubEvent}
+use Rattle.scripts.specs.declared.line.HubEvent.TheVariants as hub_events
+use Rattle.scripts.specs.declared.line.Call.{Call}
+use Rattle.scripts.specs.declared.line.Call.TheVariants as calls
+use Rattle.scripts.specs.declared.line.ClientEvent.{ClientEvent}
+use Rattle.scripts.specs.declared.line.ClientEvent.TheVariants as client_events
+use Rattle.scripts.specs.declared.line.SessionEvent.{SessionEvent}
+use Rattle.scripts.specs.declared.line.SessionEvent.TheVariants as session_events
 use Rattle.scripts.specs.Scripts.{script_of}
-use Rattle.replay.specs.World.{Seat, World, start_world, seat_of, session_number, with_seat, new_seat, cut_seat, cut_connection, cut_peer, is_over, world_cut_if}
-use Rattle.replay.specs.PassedOctets.{Exchanged, Passed, exchanged, enough, passed, without_output, fed_client}
+use Rattle.replay.specs.World.{Seat, World, start_world, seat_of, with_seat, new_seat, cut_seat, cut_connection, is_over, world_cut_if}
+use Rattle.replay.specs.PassedOctets.{Passed, passed, fed_client}
+use Rattle.pushclient.specs.HandedOut.{without_output}
 use Rattle.replay.specs.TextWords.{by_history}
-use Rattle.replay.specs.Text.{Printed, timed, exchanges, feeds, asks, subscribing, unsubscribing, reconfirming, opens, line_does, world_after, seated}
-use Rattle.replay.specs.declared.settling.Way.{Way}
-use Rattle.replay.specs.declared.settling.Way.TheVariants as ways
-use Rattle.replay.specs.KeptPassings.{passes_way, way_does}
+use Rattle.replay.specs.Text.{Printed, timed, called, exchanges, feeds, asks, opens, line_does, hub_does, client_does, session_does, world_after, seated, passes_way, passes}
+use Rattle.scripts.specs.declared.line.Way.{Way}
 use Rattle.scripts.proofs.lines.SentOctets.{sent_by, sends-pass}
 use Rattle.replay.proofs.turns.SendSizes.{are_few, le_is, written_few, named_few}
-use Rattle.replay.proofs.serving.NewPeer.{by_connected, by_number}
 use Rattle.replay.proofs.worlds.BetweenLines.{each-behind}
 use Rattle.replay.proofs.worlds.ClientOutputs.{all_octets}
 use Rattle.replay.proofs.worlds.FedSeats.{fed}
+use Rattle.replay.proofs.worlds.LinesDoing.{with_peer, hub_timed, moment_now, cut-does, exchange-does, send-does, ask-does, open-does, feed-does}
 use Rattle.replay.proofs.worlds.InputOctets.{are_octets, both, written_octets, named_octets}
 use Rattle.replay.proofs.worlds.OneWorld.{shows-leave}
 use Rattle.replay.proofs.worlds.PassedWorlds.{passed_as, passed-world, passed-names, pass-does}
 use Rattle.replay.proofs.worlds.Seats.{put-put}
-use Rattle.replay.proofs.pieces.ApartWorlds.{ask-does, cut-does, feed-does, has_room, hub_timed, made_or_not, moment_now, open-does, seats-put, stop-does, stopped, with_peer}
+use Rattle.replay.proofs.pieces.ApartWorlds.{seats-put}
 use Rattle.replay.proofs.feeding.WaitingCalls.{IsWaiting, MayWait, same, waits-subscribe, waits-unsubscribe, waits-reconfirm, waits-connected, waits-moment}
 use Rattle.replay.proofs.feeding.FedClients.{fed-as}
 
@@ -101,32 +107,17 @@ wait-over (Some reason) x world new all =
 -- ---- lines
 
 wait-exchanges : (w : Word) (number : ℕ) (octets : List ℕ) (world : World) → AllWait world → AllWait (exchanges w number octets world).0
-wait-exchanges w number octets world all = by x.over
-  where
-    x : Exchanged
-    x = exchanged enough number octets world.hub []
+wait-exchanges w number octets world all = exchange-does world AllWait w number octets all all
 
-    later : World
-    later = record world { hub = x.hub }
+-- what calls keep
+waits-call : (call : Call) (client : Client) → IsWaiting client → IsWaiting (called call client).1
+waits-call (calls.Ask question) client v = waits-subscribe client question v
+waits-call (calls.Drop question) client v = waits-unsubscribe client question v
+waits-call (calls.Reconfirm rr) client v = waits-reconfirm client rr v
 
-    by : (o : Option EndReason) → AllWait (elim o as (λ _. World) [ None ↦ later | Some reason ↦ cut_peer w later ])
-    by None = all
-    by (Some reason) = all
-
-wait-sends : (w : Word) (octets : List ℕ) (world : World) → AllWait world → AllWait (line_does by_history (send w octets) world).0
-wait-sends w octets world all = by (session_number world w)
-  where
-    by_room : (b : Bool) → AllWait (by_connected world w octets (made_or_not world.hub b)).0
-    by_room true = wait-exchanges w world.hub.numbers_given octets (with_peer w world) all
-    by_room false = all
-
-    by : (o : Option ℕ) → AllWait (by_number world w octets o).0
-    by (Some number) = wait-exchanges w number octets world all
-    by None = by_room (has_room world.hub)
-
-wait-asks : (verb : List ℕ) (w : Word) (call : Client → List ℕ × Client) (world : World) → ((p : Client) → IsWaiting p → IsWaiting (call p).1) → AllWait world → AllWait (asks verb w call world).0
-wait-asks verb w call world keeps all = ask-does world AllWait verb w call all (λ seat e. wait-put (record seat { client = (call seat.client).1 }) world (λ is. (
-    let one = wait-found w world seat e all is in (one.0, keeps seat.client one.1))) all)
+wait-asks : (call : Call) (w : Word) (world : World) → AllWait world → AllWait (asks call w world).0
+wait-asks call w world all = ask-does world AllWait w call all (λ seat e. wait-put (record seat { client = (called call seat.client).1 }) world (λ is. (
+    let one = wait-found w world seat e all is in (one.0, waits-call call seat.client one.1))) all)
 
 wait-opens : (w : Word) (world : World) → AllWait world → AllWait (opens w world).0
 wait-opens w world all =
@@ -134,7 +125,7 @@ wait-opens w world all =
     (λ seat e hub. wait-put (record seat { client = connected (now world.hub) seat.client; session = Some world.hub.numbers_given }) (record world { hub = with_new world.hub }) (λ is. absurd (true≢false (sym is ∙ hub))) all)
 
 -- with no session nothing passes
-wait-passes : (way : Way) (w : Word) (world : World) → AllWait world → AllWait (way_does way w world).0
+wait-passes : (way : Way) (w : Word) (world : World) → AllWait world → AllWait (passes way w world).0
 wait-passes way w world all = pass-does AllWait way w world all (λ seat e. by_kind seat e seat.is_lone refl)
   where
     by_kind : (seat : Seat) → seat_of world w ≡ Some seat → (b : Bool) → seat.is_lone ≡ b
@@ -162,42 +153,39 @@ waits-fed octets p few w there unclosed =
     subst (λ (x : Client). IsWaiting (without_output x)) (sym f.reached) (same (with_octets f.input f.connection) _ live.1 refl refl)
 
 wait-feeds : (w : Word) (octets : List ℕ) (world : World) → FewOctets octets → AllWait world → AllWait (feeds w octets world).0
-wait-feeds w octets world few all = feed-does AllWait w octets world all (λ seat e there.
+wait-feeds w octets world few all = feed-does world AllWait w octets all (λ seat e there.
     let p = fed octets world seat in
     wait-over (closed_as p.seat.client) p.seat world (λ unclosed is. (let one = wait-found w world seat e all is in (one.0, waits-fed octets seat.client few one.1 there unclosed))) all)
 
 wait-seated : (w : Word) (is_lone : Bool) (world : World) → AllWait world → AllWait (seated w is_lone world).0
 wait-seated w is_lone world all = each-append LoneWaits world.seats (new_seat w is_lone ∷ []) all (λ is. (refl, tt), tt)
 
+wait-hub : (event : HubEvent) (world : World) → AllWait world → AllWait (hub_does event world).0
+wait-hub (hub_events.At t) world all = wait-timed (moment_now world t) world.seats (hub_timed world t) all all
+wait-hub (hub_events.Update message) world all = all
+wait-hub hub_events.Point world all = all
+
+wait-client : (event : ClientEvent) (w : Word) (world : World) → FeedsOctets (client_event w event) → AllWait world → AllWait (client_does by_history event w world).0
+wait-client client_events.Open w world few all = wait-opens w world all
+wait-client (client_events.Feed octets) w world few all = wait-feeds w octets world few.0 all
+wait-client (client_events.Show question written) w world few all = subst AllWait (sym (shows-leave by_history w question written world)) all
+
+wait-session : (event : SessionEvent) (w : Word) (world : World) → AllWait world → AllWait (session_does event w world).0
+wait-session (session_events.Send octets) w world all =
+    send-does world AllWait w octets (λ number is. wait-exchanges w number octets world all) (wait-exchanges w world.hub.numbers_given octets (with_peer w world) all) all
+wait-session (session_events.Stop rcode delay) w world all = all
+wait-session session_events.Cut w world all = cut-does world AllWait w (λ seat e. wait-cut seat world all) all
+
 wait-line : (line : ScriptLine) (world : World) → FeedsOctets line → AllWait world → AllWait (line_does by_history line world).0
 wait-line silent world few all = all
-wait-line (timers i k) world few all = all
-wait-line (zone apex serial mode) world few all = all
-wait-line (link w domain) world few all = all
-wait-line (client w) world few all = wait-seated w false world all
-wait-line (lone w) world few all = wait-seated w true world all
-wait-line (ask w question) world few all = wait-asks (codes "asked") w (subscribing question) world (λ p v. waits-subscribe p question v) all
-wait-line (drop_question w question) world few all = wait-asks (codes "dropped") w (unsubscribing question) world (λ p v. waits-unsubscribe p question v) all
-wait-line (reconfirm w rr) world few all = wait-asks (codes "reconfirm") w (reconfirming rr) world (λ p v. waits-reconfirm p rr v) all
-wait-line (opening w) world few all = wait-opens w world all
-wait-line (say w n) world few all = wait-passes (ways.Say n) w world all
-wait-line (up w n) world few all = wait-passes (ways.Up n) w world all
-wait-line (emit w n) world few all = wait-passes (ways.Emit n) w world all
-wait-line (down w n) world few all = wait-passes (ways.Down n) w world all
-wait-line (settle w) world few all = wait-passes ways.Settle w world all
-wait-line (feed w octets) world few all = wait-feeds w octets world few.0 all
-wait-line (show w question written) world few all = subst AllWait (sym (shows-leave by_history w question written world)) all
-wait-line (at_moment t) world few all = wait-timed (moment_now world t) world.seats (hub_timed world t) all all
-wait-line (update message) world few all = all
-wait-line (hear w datagram) world few all = all
-wait-line (cut w) world few all = cut-does world AllWait w (λ seat e. wait-cut seat world all) all
-wait-line (send w octets) world few all = wait-sends w octets world all
-wait-line (stop w rcode delay) world few all = stop-does world AllWait w rcode delay (λ seat e. by seat.session) (by (session_number world w))
-  where
-    by : (o : Option ℕ) → AllWait (stopped world rcode delay o)
-    by None = all
-    by (Some number) = all
-wait-line point world few all = all
+wait-line (head_line line) world few all = all
+wait-line (joining w is_lone) world few all = wait-seated w is_lone world all
+wait-line (hub_event event) world few all = wait-hub event world all
+wait-line (link_event w event) world few all = all
+wait-line (client_call w call) world few all = wait-asks call w world all
+wait-line (client_passing w way) world few all = wait-passes way w world all
+wait-line (client_event w event) world few all = wait-client event w world few all
+wait-line (session_event w event) world few all = wait-session event w world all
 
 wait-lines : (lines : List ScriptLine) (world : World) → AllByRecursion FeedsOctets lines → AllWait world → AllWait (world_after lines world)
 wait-lines [] world few all = all

@@ -2,7 +2,7 @@
 use Rattle.std.proofs.Common.{◌≡◌, ℕ, true, List, [], ◌∷◌, ◌++◌, codes, Some, None, refl}
 use Rattle.dsosession.specs.declared.session.CloseReason.TheVariants as closes
 use Rattle.pushclient.specs.Clients.{Client, new_connection, closed_as}
-use Rattle.scripts.specs.Lines.{ScriptLine, lone, open_connection, feed}
+use Rattle.scripts.specs.Lines.{joining, open_connection, feed}
 use Rattle.replay.specs.World.{Seat, new_seat}
 use Rattle.replay.specs.FedLines.{Fed, FeedsLone, reacted_to, fed_lines}
 
@@ -17,7 +17,7 @@ abbrev seat : Seat
 seat = record (new_seat (codes "l") true) { client = client }
 
 abbrev fed : Fed
-fed = record { before = lone (codes "l") ∷ open_connection (codes "l") ∷ feed (codes "l") (0 ∷ []) ∷ []; word = codes "l"; octets = 1 ∷ 0 ∷ []; behind = []; seat = seat }
+fed = record { before = joining (codes "l") true ∷ open_connection (codes "l") ∷ feed (codes "l") (0 ∷ []) ∷ []; word = codes "l"; octets = 1 ∷ 0 ∷ []; behind = []; seat = seat }
 
 feeds : FeedsLone script fed
 feeds = record { read = refl; there = refl; lone = refl; connects = refl }

@@ -12,17 +12,17 @@ use Rattle.pushclient.specs.Clients.{closed_as}
 use Rattle.scripts.specs.Lines.{Word}
 use Rattle.replay.specs.World.{World, Seat, with_seat, cut_seat, is_over, cut_if, hub_cut_if, world_cut_if}
 use Rattle.replay.specs.PassedOctets.{Passed}
-use Rattle.scripts.specs.Words.{spaced}
-use Rattle.replay.specs.Text.{Printed, ended_lines, end_lines, close_lines}
+use Rattle.scripts.specs.Words.{spaced, ended_lines}
+use Rattle.replay.specs.Text.{Printed, end_lines, close_lines, passing_of, passes_way, way_words, passes}
 use Rattle.replay.specs.declared.seats.Seat as program
 use Rattle.replay.specs.declared.settling.Passage.{Passage}
-use Rattle.replay.specs.declared.settling.Way.{Way}
-use Rattle.replay.specs.declared.settling.Way.TheVariants as ways
+use Rattle.scripts.specs.declared.line.Way.{Way}
+use Rattle.scripts.specs.declared.line.Way.TheVariants as ways
 use Rattle.replay.specs.KeptWorlds.{KeptSeat, Seated, seat_kept, seated, Parties, StandForSeats, HasPrinted, Acts}
 use Rattle.replay.specs.KeptSeats.{has_word, Makes, HasFinished, closing_text}
-use Rattle.replay.specs.KeptPassings.{passing_of, passes_way, way_words, way_text, way_does, HasMoved, Moves, HasEnded, EndsSo, EndsAt}
+use Rattle.replay.specs.KeptPassings.{way_text, HasMoved, Moves, HasEnded, EndsSo, EndsAt}
 use Rattle.replay.proofs.worlds.PassedWorlds.{passed_as, passed-world, does_by}
-use Rattle.replay.proofs.worlds.Seats.{absent, called, IsCalled, calls-made, put-put}
+use Rattle.replay.proofs.worlds.Seats.{absent, is-called, IsCalled, calls-made, put-put}
 use Rattle.replay.proofs.worlds.SeatsDoing.{with_seats}
 use Rattle.replay.proofs.worlds.TimedSeats.{lines-append}
 
@@ -83,7 +83,7 @@ module _ (passing : World → Seat → Passed) where
 
 -- ---- the line
 
-pub passes-none : (way : Way) (kept : KeptHub) (known : Parties) (w : Word) (written : List ℕ) → position (has_word w) known.seats ≡ None → written ≡ [] → Acts (way_does way w) kept known written kept known
+pub passes-none : (way : Way) (kept : KeptHub) (known : Parties) (w : Word) (written : List ℕ) → position (has_word w) known.seats ≡ None → written ≡ [] → Acts (passes way w) kept known written kept known
 unfolding Acts
 passes-none way kept known w written none is world s d =
     subst (λ (o : Option Seat). HasPrinted kept known written (does_by way w world o)) (sym (absent w known.seats world.seats s.seats none)) (record { text = is; stands = s })
@@ -130,13 +130,13 @@ passed-text way w count over closing =
 pub passes-act : (way : Way) (kept later : KeptHub) (known : Parties) (seats : Seated) (w : Word) (place count : ℕ) (over : Option EndReason) (closing : Option CloseReason) (written : List ℕ) → position (has_word w) known.seats ≡ Some place
     → EndsAt (passes_way way) kept known.seats place count over closing later seats
     → written ≡ way_text way w count ++ ended_lines (end_lines w over) ++ closing_text w closing
-    → Acts (way_does way w) kept known written later (with_seats known seats)
+    → Acts (passes way w) kept known written later (with_seats known seats)
 unfolding Acts EndsAt
 passes-act way kept later known seats w place count over closing written at ends is world s d =
     let told = is_over over closing in
     let answers : Seat → Type 0 = λ x. HasEnded (passes_way way world x) later count over closing in
     let next : Seat → Seat = λ x. cut_if told (passes_way way world x).seat in
-    let r : IsCalled w known.seats seats place world answers next = called w known.seats seats world place answers next s.seats d at (ends world s.hub) in
+    let r : IsCalled w known.seats seats place world answers next = is-called w known.seats seats world place answers next s.seats d at (ends world s.hub) in
     let p = passes_way way world r.seat in
     let named : p.seat.word ≡ w = sym (word-finished told p.seat) ∙ r.next_word ∙ r.word in
     let same : p.world ≡ record world { hub = p.world.hub } = passed-world way world r.seat in

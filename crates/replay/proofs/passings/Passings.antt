@@ -22,11 +22,12 @@ use Rattle.replay.specs.declared.exchanging.Emission.{Emission}
 use Rattle.replay.specs.KeptExchanges.{Emits, IsEmitted}
 use Rattle.replay.specs.KeptSteps.{Delivers, IsDelivered}
 use Rattle.replay.specs.KeptWorlds.{KeptSeat, StandsForSeat}
-use Rattle.replay.specs.declared.settling.Way.{Way}
-use Rattle.replay.specs.declared.settling.Way.TheVariants as ways
-use Rattle.replay.specs.KeptPassings.{Passes, Turns, Moves, passing_of}
+use Rattle.scripts.specs.declared.line.Way.{Way}
+use Rattle.scripts.specs.declared.line.Way.TheVariants as ways
+use Rattle.replay.specs.KeptPassings.{Passes, Turns, Moves}
 use Rattle.replay.proofs.exchanges.Taking.{take-front}
 use Rattle.replay.proofs.exchanges.Rounds.{Takes}
+use Rattle.replay.specs.Text.{passing_of}
 
 -- ---- from the client
 

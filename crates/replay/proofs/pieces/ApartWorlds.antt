@@ -2,43 +2,42 @@
 --     IsApart world      the peers' sessions are apart, and from those of clients, and all were made before the next one
 --     MadeFrom n hub, made-kept      the number of the next session is at least this one, and stays so
 --     apart-start, apart-lines, apart-placed      it is so of a script's start world, behind lines, and with one peer more
---     stop-does, cut-does, ask-does, open-does, feed-does      what lines of stops, cuts and clients do, by cases
-use Rattle.std.proofs.Common.{◌≡◌, ℕ, ◌+◌, ◌<◌, ◌≤◌, Bool, true, false, cond, not, ◌&&◌, List, [], ◌∷◌, ◌++◌, fold, filter, find, length, Option, Some, None, option_map, codes, refl, sym, ◌∙◌, ap, subst, true≢false, arith}
-use Rattle.std.specs.Prelude.{nat_lt, position}
+use Rattle.std.proofs.Common.{◌≡◌, ℕ, ◌+◌, ◌<◌, ◌≤◌, Bool, true, false, cond, not, List, [], ◌∷◌, ◌++◌, fold, filter, find, Option, Some, None, option_map, refl, sym, ◌∙◌, ap, subst, true≢false, arith}
 use Rattle.std.specs.List.{AllByRecursion}
 use Rattle.std.specs.Option.{option_or}
 use Rattle.std.specs.Str.{bytes_eq}
 use Rattle.std.proofs.lemmas.List.Folds.{find-append}
 use Rattle.std.proofs.lemmas.Slice.Eq.{bytes_eq-Decides}
-use Rattle.push_base.specs.Limits.{max_number}
 use Rattle.rrset.proofs.Places.{all_filter}
 use Rattle.dsotlv.proofs.Results.{same_found}
-use Rattle.dsosession.specs.declared.session.EndReason.{EndReason}
 use Rattle.pushserver.specs.PlainHubs.{Hub}
-use Rattle.pushserver.specs.Hubs as hubs
-use Rattle.pushserver.specs.Hubs.{now, connect, max_sessions}
-use Rattle.pushserver.specs.Calls.{updates, hears, moves}
-use Rattle.pushserver.proofs.Walks.{AnyMessage, IsKept, keeps-called, with_new}
-use Rattle.scripts.specs.Lines.{Word, ScriptLine, silent, timers, zone, lone, at_moment, update, ask, drop_question, open_connection, cut, send, feed, stop, point, show, client, settle, link, hear, reconfirm, say, up, emit, down}
-use Rattle.replay.specs.World.{Seat, World, start_world, seat_of, number_in, session_number, hub_without, cut_connection, cut_peer, new_seat, with_seat, without, cut_seat, stopped_hub, is_over, world_cut_if}
+use Rattle.pushserver.specs.Hubs.{now, connect}
+use Rattle.pushserver.specs.Calls.{HubCall, called as hub_called, updates, moves, stops}
+use Rattle.pushserver.proofs.Walks.{AnyMessage, IsKept, keeps-called, bring_any, with_new}
+use Rattle.scripts.specs.Lines.{Word, ScriptLine, silent, head_line, joining, hub_event, link_event, client_call, client_passing, client_event, session_event}
+use Rattle.scripts.specs.declared.line.HubEvent.{HubEvent}
+use Rattle.scripts.specs.declared.line.HubEvent.TheVariants as hub_events
+use Rattle.scripts.specs.declared.line.Call.{Call}
+use Rattle.scripts.specs.declared.line.ClientEvent.{ClientEvent}
+use Rattle.scripts.specs.declared.line.ClientEvent.TheVariants as client_events
+use Rattle.scripts.specs.declared.line.SessionEvent.{SessionEvent}
+use Rattle.scripts.specs.declared.line.SessionEvent.TheVariants as session_events
+use Rattle.replay.specs.World.{Seat, World, start_world, seat_of, number_in, session_number, hub_without, cut_connection, cut_peer, new_seat, with_seat, without, cut_seat, is_over, world_cut_if}
 use Rattle.coalesce.proofs.ReadBack.{each-append}
 use Rattle.pushserver.proofs.hub_steps.Pairs.{all-weaken}
 use Rattle.pushserver.proofs.session_steps.Lists.{found-each}
-use Rattle.pushclient.specs.Clients.{Client, closed_as, connected, is_connected}
+use Rattle.pushclient.specs.Clients.{closed_as, connected}
 use Rattle.pushclient.specs.Steps as steps
-use Rattle.replay.specs.PassedOctets.{Exchanged, exchanged, enough}
+use Rattle.replay.specs.PassedOctets.{enough}
 use Rattle.replay.specs.TextWords.{by_history}
-use Rattle.replay.specs.Text.{placed, Printed, printing, timed, finished, feeds, asks, opens, seated, subscribing, unsubscribing, exchanges, line_does, world_after, reconfirming, number_or_zero}
+use Rattle.replay.specs.Text.{placed, Printed, timed, feeds, called, asks, opens, seated, exchanges, sends, session_of_word, line_does, link_call, hub_does, client_does, session_does, world_after, passes_way, passes}
 use Rattle.replay.proofs.worlds.OneWorld.{shows-leave}
-use Rattle.replay.proofs.worlds.FedSeats.{fed, fed_words, fed_over, feeds_as, feeds_by}
+use Rattle.replay.proofs.worlds.FedSeats.{fed, fed_over}
+use Rattle.replay.proofs.worlds.LinesDoing.{with_peer, made_or_not, has_room, hub_timed, moment_now, stopped, exchanged_with, cut-does, exchange-does, send-does, ask-does, open-does, feed-does}
 use Rattle.replay.proofs.worlds.Keeping.{any-parts, exchanged-keeps, give-keeps}
 use Rattle.replay.proofs.worlds.Seats.{put_seat}
-use Rattle.replay.proofs.worlds.SeatLines.{asks_by, opens_as, opens_by}
-use Rattle.replay.specs.declared.settling.Way.{Way}
-use Rattle.replay.specs.declared.settling.Way.TheVariants as ways
-use Rattle.replay.specs.KeptPassings.{passes_way, way_does}
+use Rattle.scripts.specs.declared.line.Way.{Way}
 use Rattle.replay.proofs.worlds.PassedWorlds.{PassingsKeep, passing-keeps, passed-world, passed-names, pass-does}
-use Rattle.replay.proofs.serving.NewPeer.{by_connected, by_number}
 
 abbrev Peers : Type 0
 Peers = List (Word × ℕ)
@@ -245,10 +244,6 @@ apart-cut w world a = record {
   apart = apart-filter (λ e. not (bytes_eq e.0 w)) world.peers a.apart;
 }
 
--- the world with one peer more
-abbrev pub with_peer : Word → World → World
-with_peer w world = record world { hub = with_new world.hub; peers = world.peers ++ (w, world.hub.numbers_given) ∷ [] }
-
 seat-more : (w : Word) (n : ℕ) (peers : List (Word × ℕ)) (seat : Seat) → IsSeatApart n peers seat → IsSeatApart (n + 1) (peers ++ (w, n) ∷ []) seat
 seat-more w n peers seat a = λ k is. (let one = a k is in (more k one.0, each-append (λ (e : Word × ℕ). k ≡ e.1 → ⊥) peers ((w, n) ∷ []) one.1 (less k one.0, tt)))
   where
@@ -261,105 +256,18 @@ seat-more w n peers seat a = λ k is. (let one = a k is in (more k one.0, each-a
 pub apart-more : (w : Word) (world : World) → IsApart world → IsApart (with_peer w world)
 apart-more w world a = record { seats = all-weaken (seat_apart world) (IsSeatApart (world.hub.numbers_given + 1) (world.peers ++ (w, world.hub.numbers_given) ∷ [])) (λ seat one. seat-more w world.hub.numbers_given world.peers seat one) world.seats a.seats; below = below-append w world.hub.numbers_given world.peers a.below; apart = apart-append w world.hub.numbers_given world.peers a.below a.apart }
 
--- a call that may make a session: it is made, or it isn't
-abbrev pub made_or_not : Hub → Bool → Option ℕ × Hub
-made_or_not hub b = cond b (Some hub.numbers_given, with_new hub) (None, hub)
-
--- a client that opens a connection, by such a call
-abbrev hub_opened : World → Seat → Option ℕ × Hub → Printed
-hub_opened world seat r = elim r.0 as (λ _. Printed) [
-  | None ↦ printing (codes "noseat" ∷ seat.word ∷ []) world
-  | Some number ↦ printing (codes "open" ∷ seat.word ∷ []) (with_seat (record seat { client = connected (now world.hub) seat.client; session = Some number }) (record world { hub = r.1 }))
-]
-
-abbrev pub has_room : Hub → Bool
-has_room hub = nat_lt (length hub.sessions) max_sessions && nat_lt hub.numbers_given max_number
-
--- ---- what lines do
-
-module _ (world : World) where
-  abbrev pub hub_timed : ℕ → Printed
-  hub_timed t = (let r = hubs.moment world.hub t in (record world { hub = r.1 }, cond r.0 (codes "full" ∷ []) []))
-
-  abbrev pub moment_now : ℕ → ℕ
-  moment_now t = now (hubs.moment world.hub t).1
-
-  abbrev pub stopped : ℕ → ℕ → Option ℕ → World
-  stopped rcode delay o = record world { hub = stopped_hub o rcode delay world.hub }
-
-  abbrev session_by : Word → Option Seat → Option ℕ
-  session_by w o = elim o as (λ _. Option ℕ) [ Some seat ↦ seat.session | None ↦ session_number world w ]
-
-  -- a stop is that of a client's session, or of a peer's, if it has one
-  pub stop-does : (P : World → Type 0) (w : Word) (rcode delay : ℕ) → ((seat : Seat) → seat_of world w ≡ Some seat → P (stopped rcode delay seat.session)) → P (stopped rcode delay (session_number world w)) → P (line_does by_history (stop w rcode delay) world).0
-  stop-does P w rcode delay client_stops peer = by (seat_of world w) refl
-    where
-      by : (o : Option Seat) → seat_of world w ≡ o → P (stopped rcode delay (session_by w o))
-      by None e = peer
-      by (Some seat) e = client_stops seat e
-
-  -- a cut is that of a peer, or of a client
-  pub cut-does : (P : World → Type 0) (w : Word) → ((seat : Seat) → seat_of world w ≡ Some seat → P (cut_connection seat world)) → P (cut_peer w world) → P (line_does by_history (cut w) world).0
-  cut-does P w client_cut peer = by (seat_of world w) refl
-    where
-      by : (o : Option Seat) → seat_of world w ≡ o → P (elim o as (λ _. World) [ None ↦ cut_peer w world | Some seat ↦ cut_connection seat world ])
-      by None e = peer
-      by (Some seat) e = client_cut seat e
-
-  -- a call of a client, and the opening of its connection
-  pub ask-does : (P : World → Type 0) (verb : List ℕ) (w : Word) (call : Client → List ℕ × Client) → P world → ((seat : Seat) → seat_of world w ≡ Some seat → P (with_seat (record seat { client = (call seat.client).1 }) world)) → P (asks verb w call world).0
-  ask-does P verb w call none asked = by (seat_of world w) refl
-    where
-      by : (o : Option Seat) → seat_of world w ≡ o → P (asks_by verb w call world o).0
-      by None e = none
-      by (Some seat) e = asked seat e
-
-  pub open-does : (P : World → Type 0) (w : Word) → P world → ((seat : Seat) → seat_of world w ≡ Some seat → P (with_seat (record seat { client = connected (now world.hub) seat.client }) world))
-      → ((seat : Seat) → seat_of world w ≡ Some seat → seat.is_lone ≡ false → P (with_seat (record seat { client = connected (now world.hub) seat.client; session = Some world.hub.numbers_given }) (record world { hub = with_new world.hub })))
-      → P (opens w world).0
-  open-does P w none alone joined = by (seat_of world w) refl
-    where
-      by_room : (seat : Seat) → seat_of world w ≡ Some seat → seat.is_lone ≡ false → (b : Bool) → P (hub_opened world seat (made_or_not world.hub b)).0
-      by_room seat e hub true = joined seat e hub
-      by_room seat e hub false = none
-
-      by_seat : (seat : Seat) → seat_of world w ≡ Some seat → (is_open is_lone : Bool) → seat.is_lone ≡ is_lone → P (opens_as w world seat is_open is_lone).0
-      by_seat seat e true is_lone is = none
-      by_seat seat e false true is = alone seat e
-      by_seat seat e false false is = by_room seat e is (has_room world.hub)
-
-      by : (o : Option Seat) → seat_of world w ≡ o → P (opens_by w world o).0
-      by None e = none
-      by (Some seat) e = by_seat seat e (is_connected seat.client) seat.is_lone refl
-
 -- ---- each line leaves a world apart
 
 apart-exchanges : (w : Word) (number : ℕ) (octets : List ℕ) (world : World) → IsApart world → IsApart (exchanges w number octets world).0
-apart-exchanges w number octets world a = by x.over
-  where
-    x : Exchanged
-    x = exchanged enough number octets world.hub []
+apart-exchanges w number octets world a =
+    let later = exchanged_with world number octets in
+    let given = world.hub.numbers_given in
+    let behind : IsApart later = apart-hub world later.hub (exchanged-keeps AnyMessage (MadeFrom given) (made-kept given) any-parts enough number octets world.hub [] tt (itself given)) a in
+    exchange-does world IsApart w number octets behind (apart-cut w later behind)
 
-    later : World
-    later = record world { hub = x.hub }
-
-    behind : IsApart later
-    behind = apart-hub world x.hub (exchanged-keeps AnyMessage (MadeFrom world.hub.numbers_given) (made-kept world.hub.numbers_given) any-parts enough number octets world.hub [] tt (itself world.hub.numbers_given)) a
-
-    by : (o : Option EndReason) → IsApart (elim o as (λ _. World) [ None ↦ later | Some reason ↦ cut_peer w later ])
-    by None = behind
-    by (Some reason) = apart-cut w later behind
-
-apart-sends : (w : Word) (octets : List ℕ) (world : World) → IsApart world → IsApart (line_does by_history (send w octets) world).0
-apart-sends w octets world a = by (session_number world w)
-  where
-    by_room : (b : Bool) → IsApart (by_connected world w octets (made_or_not world.hub b)).0
-    by_room true = apart-exchanges w world.hub.numbers_given octets (with_peer w world) (apart-more w world a)
-    by_room false = a
-
-    by : (o : Option ℕ) → IsApart (by_number world w octets o).0
-    by (Some number) = apart-exchanges w number octets world a
-    by None = by_room (has_room world.hub)
+apart-sends : (w : Word) (octets : List ℕ) (world : World) → IsApart world → IsApart (sends w octets world).0
+apart-sends w octets world a =
+    send-does world IsApart w octets (λ number is. apart-exchanges w number octets world a) (apart-exchanges w world.hub.numbers_given octets (with_peer w world) (apart-more w world a)) a
 
 -- the clients at a moment
 apart-timed : (t : ℕ) (seats : List Seat) (p : Printed) → AreSeatsApart p.0 seats → IsApart p.0 → IsApart (fold (timed t) p seats).0
@@ -386,8 +294,8 @@ apart-seated w is_lone world a = record {
   apart = a.apart;
 }
 
-apart-asks : (verb : List ℕ) (w : Word) (call : Client → List ℕ × Client) (world : World) → IsApart world → IsApart (asks verb w call world).0
-apart-asks verb w call world a = ask-does world IsApart verb w call a (λ seat e. apart-put world (record seat { client = (call seat.client).1 }) (seat-found w world seat e a) a)
+apart-asks : (call : Call) (w : Word) (world : World) → IsApart world → IsApart (asks call w world).0
+apart-asks call w world a = ask-does world IsApart w call a (λ seat e. apart-put world (record seat { client = (called call seat.client).1 }) (seat-found w world seat e a) a)
 
 apart-opens : (w : Word) (world : World) → IsApart world → IsApart (opens w world).0
 apart-opens w world a =
@@ -415,7 +323,7 @@ apart-opens w world a =
 pub any-seat : PassingsKeep (λ x. Unit {0})
 any-seat = record { says = λ n world x s. tt; ups = λ number n world x s. tt; emits = λ number n world x s. tt; downs = λ n world x s. tt }
 
-apart-passes : (way : Way) (w : Word) (world : World) → IsApart world → IsApart (way_does way w world).0
+apart-passes : (way : Way) (w : Word) (world : World) → IsApart world → IsApart (passes way w world).0
 apart-passes way w world a = pass-does IsApart way w world a (λ seat e.
     let p = passes_way way world seat in
     let given = world.hub.numbers_given in
@@ -431,57 +339,45 @@ apart-passes way w world a = pass-does IsApart way w world a (λ seat e.
     below : (m n k : ℕ) → m ≤ n → k < m → k < n
     below m n k le l = omega (arith, le, l)
 
--- octets to a client, and what follows
-pub feed-does : (P : World → Type 0) (w : Word) (octets : List ℕ) (world : World) → P world → ((seat : Seat) → seat_of world w ≡ Some seat → is_connected seat.client ≡ true → P (finished (fed_words octets seat) (fed octets world seat)).0) → P (feeds w octets world).0
-feed-does P w octets world none some = by (seat_of world w) refl
-  where
-    by_open : (seat : Seat) → seat_of world w ≡ Some seat → (b : Bool) → is_connected seat.client ≡ b → P (feeds_as w octets world seat b).0
-    by_open seat e true connects = some seat e connects
-    by_open seat e false connects = none
-
-    by : (o : Option Seat) → seat_of world w ≡ o → P (feeds_by w octets world o).0
-    by None e = none
-    by (Some seat) e = by_open seat e (is_connected seat.client) refl
-
 apart-feeds : (w : Word) (octets : List ℕ) (world : World) → IsApart world → IsApart (feeds w octets world).0
-apart-feeds w octets world a = feed-does IsApart w octets world a (λ seat e connects.
+apart-feeds w octets world a = feed-does world IsApart w octets a (λ seat e connects.
     let p = fed octets world seat in
     apart-cut_if (fed_over octets world seat) p.seat (with_seat p.seat world) (apart-put world p.seat (seat-found w world seat e a) a))
 
-pub apart-line : (line : ScriptLine) (world : World) → IsApart world → IsApart (line_does by_history line world).0
-apart-line silent world a = a
-apart-line (timers i k) world a = a
-apart-line (zone apex serial mode) world a = a
-apart-line (link w domain) world a = a
-apart-line (client w) world a = apart-seated w false world a
-apart-line (lone w) world a = apart-seated w true world a
-apart-line (ask w question) world a = apart-asks (codes "asked") w (subscribing question) world a
-apart-line (drop_question w question) world a = apart-asks (codes "dropped") w (unsubscribing question) world a
-apart-line (reconfirm w rr) world a = apart-asks (codes "reconfirm") w (reconfirming rr) world a
-apart-line (open_connection w) world a = apart-opens w world a
-apart-line (say w n) world a = apart-passes (ways.Say n) w world a
-apart-line (up w n) world a = apart-passes (ways.Up n) w world a
-apart-line (emit w n) world a = apart-passes (ways.Emit n) w world a
-apart-line (down w n) world a = apart-passes (ways.Down n) w world a
-apart-line (settle w) world a = apart-passes ways.Settle w world a
-apart-line (feed w octets) world a = apart-feeds w octets world a
-apart-line (show w question written) world a = subst IsApart (sym (shows-leave by_history w question written world)) a
-apart-line (at_moment t) world a =
-    let later = apart-hub world (hubs.moment world.hub t).1 (keeps-called AnyMessage (MadeFrom world.hub.numbers_given) (made-kept world.hub.numbers_given) (moves t) world.hub tt (itself world.hub.numbers_given)) a in
-    apart-timed (moment_now world t) world.seats (hub_timed world t) later.seats later
-apart-line (update message) world a =
-    apart-hub world (hubs.update world.hub message).1 (keeps-called AnyMessage (MadeFrom world.hub.numbers_given) (made-kept world.hub.numbers_given) (updates message) world.hub tt (itself world.hub.numbers_given)) a
-apart-line (hear w datagram) world a =
-    let on = number_or_zero (position (bytes_eq w) world.links) in
-    apart-hub world (hubs.hear world.hub on datagram).1 (keeps-called AnyMessage (MadeFrom world.hub.numbers_given) (made-kept world.hub.numbers_given) (hears on datagram) world.hub tt (itself world.hub.numbers_given)) a
-apart-line (cut w) world a = cut-does world IsApart w (λ seat e. apart-connection seat world a) (apart-cut w world a)
-apart-line (send w octets) world a = apart-sends w octets world a
-apart-line (stop w rcode delay) world a = stop-does world IsApart w rcode delay (λ seat e. by seat.session) (by (session_number world w))
+-- the hub behind a call
+apart-called : (call : HubCall) (world : World) → IsApart world → IsApart (record world { hub = hub_called call world.hub })
+apart-called call world a = (let given = world.hub.numbers_given in
+    apart-hub world (hub_called call world.hub) (keeps-called AnyMessage (MadeFrom given) (made-kept given) call world.hub (bring_any (call ∷ [])).0 (itself given)) a)
+
+apart-hub-event : (event : HubEvent) (world : World) → IsApart world → IsApart (hub_does event world).0
+apart-hub-event (hub_events.At t) world a = (let later = apart-called (moves t) world a in apart-timed (moment_now world t) world.seats (hub_timed world t) later.seats later)
+apart-hub-event (hub_events.Update message) world a = apart-called (updates message) world a
+apart-hub-event hub_events.Point world a = a
+
+apart-client : (event : ClientEvent) (w : Word) (world : World) → IsApart world → IsApart (client_does by_history event w world).0
+apart-client client_events.Open w world a = apart-opens w world a
+apart-client (client_events.Feed octets) w world a = apart-feeds w octets world a
+apart-client (client_events.Show question written) w world a = subst IsApart (sym (shows-leave by_history w question written world)) a
+
+apart-session : (event : SessionEvent) (w : Word) (world : World) → IsApart world → IsApart (session_does event w world).0
+apart-session (session_events.Send octets) w world a = apart-sends w octets world a
+apart-session (session_events.Stop rcode delay) w world a = by (session_of_word world w)
   where
     by : (o : Option ℕ) → IsApart (stopped world rcode delay o)
     by None = a
-    by (Some number) = apart-hub world (hubs.stop world.hub number rcode delay) (itself world.hub.numbers_given) a
-apart-line point world a = a
+    by (Some number) = apart-called (stops number rcode delay) world a
+apart-session session_events.Cut w world a = cut-does world IsApart w (λ seat e. apart-connection seat world a) (apart-cut w world a)
+
+pub apart-line : (line : ScriptLine) (world : World) → IsApart world → IsApart (line_does by_history line world).0
+apart-line silent world a = a
+apart-line (head_line line) world a = a
+apart-line (joining w is_lone) world a = apart-seated w is_lone world a
+apart-line (hub_event event) world a = apart-hub-event event world a
+apart-line (link_event w event) world a = apart-called (link_call event w world) world a
+apart-line (client_call w call) world a = apart-asks call w world a
+apart-line (client_passing w way) world a = apart-passes way w world a
+apart-line (client_event w event) world a = apart-client event w world a
+apart-line (session_event w event) world a = apart-session event w world a
 
 pub apart-lines : (lines : List ScriptLine) (world : World) → IsApart world → IsApart (world_after lines world)
 apart-lines [] world a = a

@@ -11,7 +11,7 @@ use Rattle.coalesce.proofs.ReadBack.{each-append}
 use Rattle.rrset.proofs.Places.{all_filter}
 use Rattle.pushserver.specs.PlainHubs.{Session, Hub}
 use Rattle.pushserver.specs.Hubs.{now, keeps_now, session_of, in_session, disconnect}
-use Rattle.pushsession.specs.Sessions.{new_session, takes, asked_to_stop, without_first}
+use Rattle.pushsession.specs.Sessions.{new_session, with_piece, asked_to_stop, without_first}
 use Rattle.pushserver.proofs.SessionLists.{same-number}
 use Rattle.pushserver.proofs.Walks.{AnyMessage, IsKept}
 use Rattle.scripts.specs.Lines.{Word, ScriptLine}
@@ -61,7 +61,7 @@ module _ (number : ℕ) where
     changes = λ hub n f step h. gone-in_session hub n f h;
     enters = λ hub entry by h. record { given = h.given; differ = differ-map _ hub.sessions h.differ };
     times = λ hub point t h. record { given = h.given; differ = differ-map _ hub.sessions h.differ };
-    takes_in = λ hub n piece any h. gone-in_session hub n (takes piece) h;
+    takes_in = λ hub n piece any h. gone-in_session hub n (with_piece piece) h;
     asks_stop = λ hub n rcode delay h. gone-in_session hub n (asked_to_stop rcode delay) h;
     makes = λ hub h. record {
       given = later hub.numbers_given h.given;

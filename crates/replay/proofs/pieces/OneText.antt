@@ -11,7 +11,8 @@ use Rattle.pushserver.specs.PlainHubs.{Session, Hub}
 use Rattle.pushserver.specs.Hubs.{session_of}
 use Rattle.pushsession.specs.Sessions.{without_first}
 use Rattle.replay.specs.SessionPieces.{answers_to}
-use Rattle.replay.specs.ScriptPieces.{Turn, SentInPieces, pieces_of, world_behind, messages_sent, answered_to_all, SendsPieces, TellsInTurn, LeavesPeer, PiecesLeavePeers, SendTheSame, TellTheSame, OneTextForEveryCut}
+use Rattle.replay.specs.ScriptPieces.{Turn, SentInPieces, pieces_of, sent_between, messages_sent, answered_to_all, SendsPieces, TellsInTurn, LeavesPeer, PiecesLeavePeers, SendTheSame, TellTheSame, OneTextForEveryCut}
+use Rattle.replay.specs.Between.{world_behind}
 use Rattle.replay.proofs.rest.AtRest.{Core, Ran, core_of, ran}
 use Rattle.replay.proofs.rest.RanLaws.{followed_by, followed, ran-append}
 use Rattle.replay.proofs.rest.RestingStreams.{first_part, second_part, cut_behind}
@@ -63,7 +64,7 @@ module _ (script other : List ℕ) (first second : SentInPieces) (s : SendsPiece
   over-same : first.over ≡ second.over
   over-same = sym a.over_is ∙ ap (λ (r : Ran). r.over) run-same ∙ b.over_is
 
-  left-same : (x y : Option EndReason) → first.over ≡ x → x ≡ y → LeavesPeer first x → LeavesPeer second y → session_of (world_behind first).hub first.number ≡ session_of (world_behind second).hub second.number
+  left-same : (x y : Option EndReason) → first.over ≡ x → x ≡ y → LeavesPeer first x → LeavesPeer second y → session_of (world_behind (sent_between first)).hub first.number ≡ session_of (world_behind (sent_between second)).hub second.number
   left-same None None on is l m =
       let octets = octets-same on in
       l.1

@@ -1,49 +1,54 @@
 -- The lines of others leave a peer's session as it is, or make the history longer.
 --     peer-stays, peer-stays-lines      a line of others leaves a peer the session that it has, or without one; so do several
 --     others-leave      they leave that session as it is, or the history has become longer
-use Rattle.std.proofs.Common.{◌≡◌, ◌⊎◌, inl, inr, ℕ, ◌+◌, ◌<◌, ◌==◌, Bool, true, false, cond, not, List, [], ◌∷◌, ◌++◌, fold, take, find, length, Option, Some, None, option_map, codes, refl, sym, ◌∙◌, ap, subst, arith}
-use Rattle.std.specs.Prelude.{nat_lt, position}
+use Rattle.std.proofs.Common.{◌≡◌, ◌⊎◌, inl, inr, ℕ, ◌+◌, ◌<◌, ◌==◌, Bool, true, false, cond, not, List, [], ◌∷◌, ◌++◌, fold, take, find, length, Option, Some, None, option_map, refl, sym, ◌∙◌, ap, subst, arith}
+use Rattle.std.specs.Prelude.{nat_lt}
 use Rattle.std.specs.List.{AllByRecursion, list_all}
 use Rattle.std.specs.Option.{option_or}
 use Rattle.std.specs.Str.{bytes_eq}
 use Rattle.std.proofs.lemmas.List.Folds.{find-append}
 use Rattle.dnsname.proofs.Decisions.{and_true}
-use Rattle.dsosession.specs.declared.session.EndReason.{EndReason}
 use Rattle.history.specs.declared.entry.Entry.{Entry}
 use Rattle.history.specs.declared.entry.Entry.TheVariants as entries
 use Rattle.pushserver.specs.PlainHubs.{Session, Hub, Giving}
 use Rattle.pushserver.specs.Hubs as hubs
 use Rattle.pushserver.specs.Hubs.{now, keeps_now, session_of, in_session, entered, can_enter, disconnect}
-use Rattle.pushsession.specs.Sessions.{new_session, takes, asked_to_stop}
+use Rattle.pushsession.specs.Sessions.{new_session, with_piece, asked_to_stop}
 use Rattle.pushserver.specs.Giving.{give}
 use Rattle.pushserver.specs.Laws.{LeavesSession}
 use Rattle.pushserver.proofs.OtherSessions.{stays, in_session-stays, give_changes_one_session}
 use Rattle.pushserver.proofs.SessionLists.{other-number, found-left}
 use Rattle.pushserver.proofs.hub_steps.Cases.{enters_moment, moment_as}
 use Rattle.pushserver.proofs.Walks.{AnyMessage, holds-update, holds-hear, with_new}
-use Rattle.scripts.specs.Lines.{Word, ScriptLine, silent, timers, zone, lone, at_moment, update, ask, drop_question, open_connection, cut, send, feed, stop, point, show, client, settle, link, hear, reconfirm, say, up, emit, down}
-use Rattle.replay.specs.World.{Seat, World, seat_of, number_in, session_number, hub_without, cut_connection, cut_peer, with_seat, is_over, world_cut_if}
+use Rattle.scripts.specs.Lines.{Word, ScriptLine, silent, head_line, joining, hub_event, link_event, client_call, client_passing, client_event, session_event}
+use Rattle.scripts.specs.declared.line.HubEvent.{HubEvent}
+use Rattle.scripts.specs.declared.line.HubEvent.TheVariants as hub_events
+use Rattle.scripts.specs.declared.line.LinkEvent.{LinkEvent}
+use Rattle.scripts.specs.declared.line.LinkEvent.TheVariants as link_events
+use Rattle.scripts.specs.declared.line.ClientEvent.{ClientEvent}
+use Rattle.scripts.specs.declared.line.ClientEvent.TheVariants as client_events
+use Rattle.scripts.specs.declared.line.SessionEvent.{SessionEvent}
+use Rattle.scripts.specs.declared.line.SessionEvent.TheVariants as session_events
+use Rattle.replay.specs.World.{Seat, World, number_in, session_number, hub_without, cut_peer, with_seat, is_over, world_cut_if}
 use Rattle.pushserver.proofs.hub_steps.Pairs.{all-weaken}
 use Rattle.pushclient.specs.Clients.{closed_as}
 use Rattle.pushclient.specs.Steps as steps
-use Rattle.replay.specs.PassedOctets.{Exchanged, exchanged, enough}
+use Rattle.replay.specs.PassedOctets.{exchanged, enough}
 use Rattle.replay.specs.TextWords.{by_history}
-use Rattle.replay.specs.Text.{Printed, timed, feeds, subscribing, unsubscribing, exchanges, session_of_word, line_does, world_after, reconfirming, number_or_zero}
+use Rattle.replay.specs.Text.{Printed, timed, feeds, exchanges, sends, line_does, link_number, link_does, hub_does, client_does, session_does, world_after, passes_way, passes}
 use Rattle.replay.specs.ScriptPieces.{is_of_others}
 use Rattle.replay.proofs.rest.AtRest.{At, Longer, StaysLonger}
 use Rattle.replay.proofs.worlds.TimedSeats.{peers-timed, peers-cut_if}
 use Rattle.replay.proofs.worlds.OneWorld.{shows-leave}
 use Rattle.replay.proofs.worlds.FedSeats.{fed, fed_over}
+use Rattle.replay.proofs.worlds.LinesDoing.{with_peer, hub_timed, moment_now, stopped, exchanged_with, stop-does, cut-does, exchange-does, send-does, ask-does, open-does, feed-does}
 use Rattle.replay.proofs.worlds.Keeping.{any-parts, keeps-exchanged}
 use Rattle.replay.proofs.worlds.SeatLines.{peers-asks, peers-opens}
-use Rattle.replay.specs.declared.settling.Way.{Way}
-use Rattle.replay.specs.declared.settling.Way.TheVariants as ways
-use Rattle.replay.specs.KeptPassings.{passes_way, way_does}
+use Rattle.scripts.specs.declared.line.Way.{Way}
 use Rattle.replay.proofs.worlds.PassedWorlds.{passing-keeps, passed-world, passed-names, pass-does}
 use Rattle.replay.proofs.rest.Turning.{grows}
 use Rattle.replay.proofs.worlds.Longer.{stays-longer, longer-lines}
-use Rattle.replay.proofs.serving.NewPeer.{by_connected, by_number}
-use Rattle.replay.proofs.pieces.ApartWorlds.{ApartNumbers, IsApart, any-seat, apart-line, apart-more, ask-does, cut-does, feed-does, found-filter, found-more, has_room, hub_timed, made_or_not, moment_now, not_so, not_true, number-all, numbers-apart, one_word, open-does, seat-found, seat_apart, stop-does, stopped, with_peer}
+use Rattle.replay.proofs.pieces.ApartWorlds.{ApartNumbers, IsApart, any-seat, apart-line, apart-more, found-filter, found-more, not_so, not_true, number-all, numbers-apart, one_word, seat-found, seat_apart}
 
 -- ---- a peer keeps its session, or has none
 
@@ -66,81 +71,45 @@ module _ (w : Word) (o : Option ℕ) where
       by None is = ap (λ b. option_map (λ (e : Word × ℕ). e.1) (cond b (Some (v, n)) None)) other ∙ is
 
   has-exchanges : (v : Word) (m : ℕ) (octets : List ℕ) (world : World) → bytes_eq v w ≡ false → Has world → Has (exchanges v m octets world).0
-  has-exchanges v m octets world other known = by x.over
-    where
-      x : Exchanged
-      x = exchanged enough m octets world.hub []
+  has-exchanges v m octets world other known = exchange-does world Has v m octets known (has-cut v (exchanged_with world m octets) other known)
 
-      later : World
-      later = record world { hub = x.hub }
+  has-session : (event : SessionEvent) (v : Word) (world : World) → bytes_eq v w ≡ false → Has world → Has (session_does event v world).0
+  has-session (session_events.Send octets) v world other known =
+      send-does world Has v octets (λ m is. has-exchanges v m octets world other known) (has-exchanges v world.hub.numbers_given octets (with_peer v world) other (has-more v world.hub.numbers_given world other known)) known
+  has-session (session_events.Stop rcode delay) v world other known = known
+  has-session session_events.Cut v world other known = cut-does world Has v (λ seat e. known) (has-cut v world other known)
 
-      by : (over : Option EndReason) → Has (elim over as (λ _. World) [ None ↦ later | Some reason ↦ cut_peer v later ])
-      by None = known
-      by (Some reason) = has-cut v later other known
-
-  has-sends : (v : Word) (octets : List ℕ) (world : World) → bytes_eq v w ≡ false → Has world → Has (line_does by_history (send v octets) world).0
-  has-sends v octets world other known = by (session_number world v)
-    where
-      by_room : (b : Bool) → Has (by_connected world v octets (made_or_not world.hub b)).0
-      by_room true = has-exchanges v world.hub.numbers_given octets (with_peer v world) other (has-more v world.hub.numbers_given world other known)
-      by_room false = known
-
-      by : (place : Option ℕ) → Has (by_number world v octets place).0
-      by (Some m) = has-exchanges v m octets world other known
-      by None = by_room (has_room world.hub)
-
-  has-cuts : (v : Word) (world : World) → bytes_eq v w ≡ false → Has world → Has (line_does by_history (cut v) world).0
-  has-cuts v world other known = by (seat_of world v)
-    where
-      by : (seat : Option Seat) → Has (elim seat as (λ _. World) [ None ↦ cut_peer v world | Some seat ↦ cut_connection seat world ])
-      by None = has-cut v world other known
-      by (Some seat) = known
-
-  has-stops : (v : Word) (rcode delay : ℕ) (world : World) → Has world → Has (line_does by_history (stop v rcode delay) world).0
-  has-stops v rcode delay world known = by (session_of_word world v)
-    where
-      by : (session : Option ℕ) → Has (stopped world rcode delay session)
-      by None = known
-      by (Some m) = known
-
-peers-passes : (way : Way) (w : Word) (world : World) → (way_does way w world).0.peers ≡ world.peers
+peers-passes : (way : Way) (w : Word) (world : World) → (passes way w world).0.peers ≡ world.peers
 peers-passes way w world = pass-does (λ later. later.peers ≡ world.peers) way w world refl (λ seat e.
     let p = passes_way way world seat in
     peers-cut_if (is_over p.over (closed_as p.seat.client)) p.seat (with_seat p.seat p.world) ∙ ap (λ (x : World). x.peers) (passed-world way world seat))
 
 peers-feeds : (w : Word) (octets : List ℕ) (world : World) → (feeds w octets world).0.peers ≡ world.peers
-peers-feeds w octets world = feed-does (λ later. later.peers ≡ world.peers) w octets world refl (λ seat e connects.
+peers-feeds w octets world = feed-does world (λ later. later.peers ≡ world.peers) w octets refl (λ seat e connects.
     let p = fed octets world seat in
     peers-cut_if (fed_over octets world seat) p.seat (with_seat p.seat world))
+
+peers-hub : (event : HubEvent) (world : World) → (hub_does event world).0.peers ≡ world.peers
+peers-hub (hub_events.At t) world = peers-timed (moment_now world t) world.seats (hub_timed world t)
+peers-hub (hub_events.Update message) world = refl
+peers-hub hub_events.Point world = refl
+
+peers-client : (event : ClientEvent) (w : Word) (world : World) → (client_does by_history event w world).0.peers ≡ world.peers
+peers-client client_events.Open w world = peers-opens w world
+peers-client (client_events.Feed octets) w world = peers-feeds w octets world
+peers-client (client_events.Show question written) w world = ap (λ (later : World). later.peers) (shows-leave by_history w question written world)
 
 pub peer-stays : (w : Word) (o : Option ℕ) (line : ScriptLine) (world : World) → is_of_others w line ≡ true → session_number world w ≡ o
     → session_number (line_does by_history line world).0 w ≡ o
 peer-stays w o silent world others known = known
-peer-stays w o (timers i k) world others known = known
-peer-stays w o (zone apex serial mode) world others known = known
-peer-stays w o (link v domain) world others known = known
-peer-stays w o (hear v datagram) world others known = known
-peer-stays w o (at_moment t) world others known =
-    let r = hubs.moment world.hub t in
-    ap (λ peers. number_in peers w) (peers-timed (now r.1) world.seats (record world { hub = r.1 }, cond r.0 (codes "full" ∷ []) [])) ∙ known
-peer-stays w o (client v) world others known = known
-peer-stays w o (lone v) world others known = known
-peer-stays w o (say v n) world others known = ap (λ peers. number_in peers w) (peers-passes (ways.Say n) v world) ∙ known
-peer-stays w o (up v n) world others known = ap (λ peers. number_in peers w) (peers-passes (ways.Up n) v world) ∙ known
-peer-stays w o (emit v n) world others known = ap (λ peers. number_in peers w) (peers-passes (ways.Emit n) v world) ∙ known
-peer-stays w o (down v n) world others known = ap (λ peers. number_in peers w) (peers-passes (ways.Down n) v world) ∙ known
-peer-stays w o (settle v) world others known = ap (λ peers. number_in peers w) (peers-passes ways.Settle v world) ∙ known
-peer-stays w o (ask v question) world others known = ap (λ peers. number_in peers w) (peers-asks (codes "asked") v (subscribing question) world) ∙ known
-peer-stays w o (drop_question v question) world others known = ap (λ peers. number_in peers w) (peers-asks (codes "dropped") v (unsubscribing question) world) ∙ known
-peer-stays w o (reconfirm v rr) world others known = ap (λ peers. number_in peers w) (peers-asks (codes "reconfirm") v (reconfirming rr) world) ∙ known
-peer-stays w o (open_connection v) world others known = ap (λ peers. number_in peers w) (peers-opens v world) ∙ known
-peer-stays w o (feed v octets) world others known = ap (λ peers. number_in peers w) (peers-feeds v octets world) ∙ known
-peer-stays w o (show v question written) world others known = ap (λ (later : World). session_number later w) (shows-leave by_history v question written world) ∙ known
-peer-stays w o (update message) world others known = known
-peer-stays w o (cut v) world others known = has-cuts w o v world (not_true (bytes_eq v w) others) known
-peer-stays w o (send v octets) world others known = has-sends w o v octets world (not_true (bytes_eq v w) others) known
-peer-stays w o (stop v rcode delay) world others known = has-stops w o v rcode delay world known
-peer-stays w o point world others known = known
+peer-stays w o (head_line line) world others known = known
+peer-stays w o (joining v is_lone) world others known = known
+peer-stays w o (hub_event event) world others known = ap (λ peers. number_in peers w) (peers-hub event world) ∙ known
+peer-stays w o (link_event v event) world others known = known
+peer-stays w o (client_call v call) world others known = ap (λ peers. number_in peers w) (peers-asks call v world) ∙ known
+peer-stays w o (client_passing v way) world others known = ap (λ peers. number_in peers w) (peers-passes way v world) ∙ known
+peer-stays w o (client_event v event) world others known = ap (λ peers. number_in peers w) (peers-client event v world) ∙ known
+peer-stays w o (session_event v event) world others known = has-session w o event v world (not_true (bytes_eq v w) others) known
 
 pub peer-stays-lines : (w : Word) (o : Option ℕ) (lines : List ScriptLine) (world : World) → list_all (is_of_others w) lines ≡ true → session_number world w ≡ o
     → session_number (world_after lines world) w ≡ o
@@ -223,7 +192,7 @@ module _ (hub : Hub) (number : ℕ) (s : Session) where
     leaves-give later room (inr longer) = (let kept : StaysLonger hub = stays-longer hub in inr (kept.give later m room longer))
 
     leaves-exchanged : (turns : ℕ) (octets : List ℕ) (later : Hub) (so_far : List ℕ) → Leaves later → Leaves (exchanged turns m octets later so_far).hub
-    leaves-exchanged turns octets later so_far h = keeps-exchanged Leaves m leaves-give AnyMessage any-parts (λ last piece any l. leaves-in_session (takes piece) last l) turns octets later so_far tt h
+    leaves-exchanged turns octets later so_far h = keeps-exchanged Leaves m leaves-give AnyMessage any-parts (λ last piece any l. leaves-in_session (with_piece piece) last l) turns octets later so_far tt h
 
   -- ---- lines of others
 
@@ -241,39 +210,21 @@ module _ (hub : Hub) (number : ℕ) (s : Session) where
 
     leaves-exchanges : (v : Word) (m : ℕ) (octets : List ℕ) (world : World) → bytes_eq v w ≡ false → ApartNumbers world.peers → session_number world w ≡ Some number → (number ≡ m → ⊥) → Leaves world.hub
         → Leaves (exchanges v m octets world).0.hub
-    leaves-exchanges v m octets world other apart known differs h = by x.over
-      where
-        x : Exchanged
-        x = exchanged enough m octets world.hub []
+    leaves-exchanges v m octets world other apart known differs h =
+        let later = exchanged_with world m octets in
+        let behind : Leaves later.hub = leaves-exchanged m differs enough octets world.hub [] h in
+        exchange-does world (λ x. Leaves x.hub) v m octets behind (leaves-cut v later other apart known behind)
 
-        later : World
-        later = record world { hub = x.hub }
-
-        behind : Leaves later.hub
-        behind = leaves-exchanged m differs enough octets world.hub [] h
-
-        by : (o : Option EndReason) → Leaves (elim o as (λ _. World) [ None ↦ later | Some reason ↦ cut_peer v later ]).hub
-        by None = behind
-        by (Some reason) = leaves-cut v later other apart known behind
-
-    leaves-sends : (v : Word) (octets : List ℕ) (world : World) → bytes_eq v w ≡ false → IsApart world → session_number world w ≡ Some number → Leaves world.hub → Leaves (line_does by_history (send v octets) world).0.hub
-    leaves-sends v octets world other a known h = by (session_number world v) refl
+    leaves-sends : (v : Word) (octets : List ℕ) (world : World) → bytes_eq v w ≡ false → IsApart world → session_number world w ≡ Some number → Leaves world.hub → Leaves (sends v octets world).0.hub
+    leaves-sends v octets world other a known h =
+        send-does world (λ later. Leaves later.hub) v octets (λ m is. leaves-exchanges v m octets world other a.apart known (other-session v m world other a.apart known is) h)
+        (leaves-exchanges v world.hub.numbers_given octets (with_peer v world) other (apart-more v world a).apart (has-more w (Some number) v world.hub.numbers_given world other known) (is_new world.hub.numbers_given below) (leaves-more world.hub h)) h
       where
         below : number < world.hub.numbers_given
         below = number-all (λ n. n < world.hub.numbers_given) w world.peers number a.below known
 
         is_new : (n : ℕ) → number < n → number ≡ n → ⊥
         is_new n l same = omega (arith, l, same)
-
-        by_room : (b : Bool) → Leaves (by_connected world v octets (made_or_not world.hub b)).0.hub
-        by_room true =
-            leaves-exchanges v world.hub.numbers_given octets (with_peer v world) other (apart-more v world a).apart (has-more w (Some number) v world.hub.numbers_given world other known) (is_new world.hub.numbers_given below)
-            (leaves-more world.hub h)
-        by_room false = h
-
-        by : (o : Option ℕ) → session_number world v ≡ o → Leaves (by_number world v octets o).0.hub
-        by (Some m) is = leaves-exchanges v m octets world other a.apart known (other-session v m world other a.apart known is) h
-        by None is = by_room (has_room world.hub)
 
     -- a client's session is another one
     seat-differs : (world : World) (seat : Seat) → seat_apart world seat → session_number world w ≡ Some number → (m : ℕ) → seat.session ≡ Some m → number ≡ m → ⊥
@@ -297,51 +248,54 @@ module _ (hub : Hub) (number : ℕ) (s : Session) where
     leaves-stop None rcode delay world differs h = h
     leaves-stop (Some m) rcode delay world differs h = leaves-in_session m (differs m refl) (asked_to_stop rcode delay) world.hub h
 
-    leaves-passes : (way : Way) (v : Word) (world : World) → IsApart world → session_number world w ≡ Some number → Leaves world.hub → Leaves (way_does way v world).0.hub
+    leaves-passes : (way : Way) (v : Word) (world : World) → IsApart world → session_number world w ≡ Some number → Leaves world.hub → Leaves (passes way v world).0.hub
     leaves-passes way v world a known h = pass-does (λ later. Leaves later.hub) way v world h (λ seat e.
         let p = passes_way way world seat in
         let differs = seat-differs world seat (seat-found v world seat e a) known in
         let behind : Leaves p.world.hub =
-        (passing-keeps Leaves (λ x. Unit {0}) any-seat way world seat (λ m some. leaves-give m (differs m some)) (λ m some hub' x k n l. leaves-in_session m (differs m some) (takes (take k x.up_wire)) hub' l) h tt).0 in
+        (passing-keeps Leaves (λ x. Unit {0}) any-seat way world seat (λ m some. leaves-give m (differs m some)) (λ m some hub' x k n l. leaves-in_session m (differs m some) (with_piece (take k x.up_wire)) hub' l) h tt).0 in
         leaves-cut_if (is_over p.over (closed_as p.seat.client)) p.seat (with_seat p.seat p.world) (λ m is. differs m (sym (passed-names way world seat).session ∙ is)) behind)
 
     leaves-feeds : (v : Word) (octets : List ℕ) (world : World) → IsApart world → session_number world w ≡ Some number → Leaves world.hub → Leaves (feeds v octets world).0.hub
-    leaves-feeds v octets world a known h = feed-does (λ later. Leaves later.hub) v octets world h (λ seat e connects.
+    leaves-feeds v octets world a known h = feed-does world (λ later. Leaves later.hub) v octets h (λ seat e connects.
         let p = fed octets world seat in
         leaves-cut_if (fed_over octets world seat) p.seat (with_seat p.seat world) (seat-differs world seat (seat-found v world seat e a) known) h)
+
+    leaves-hub : (event : HubEvent) (world : World) → IsApart world → session_number world w ≡ Some number → At hub number world.hub s → Leaves (hub_does event world).0.hub
+    leaves-hub (hub_events.At t) world a known at =
+        leaves-timed (moment_now world t) world.seats (hub_timed world t)
+        (all-weaken (seat_apart world) (λ s. (m : ℕ) → s.session ≡ Some m → number ≡ m → ⊥) (λ seat one. seat-differs world seat one known) world.seats a.seats) (leaves-moment world.hub t at)
+    leaves-hub (hub_events.Update message) world a known at = leaves-update world.hub message at
+    leaves-hub hub_events.Point world a known at = inl at
+
+    leaves-link : (event : LinkEvent) (v : Word) (world : World) → At hub number world.hub s → Leaves (link_does event v world).0.hub
+    leaves-link (link_events.Hear datagram) v world at = leaves-hear world.hub (link_number v world) datagram at
+
+    leaves-client : (event : ClientEvent) (v : Word) (world : World) → IsApart world → session_number world w ≡ Some number → At hub number world.hub s → Leaves (client_does by_history event v world).0.hub
+    leaves-client client_events.Open v world a known at = open-does world (λ later. Leaves later.hub) v (inl at) (λ seat e. inl at) (λ seat e hub. leaves-more world.hub (inl at))
+    leaves-client (client_events.Feed octets) v world a known at = leaves-feeds v octets world a known (inl at)
+    leaves-client (client_events.Show question written) v world a known at = subst (λ (later : World). Leaves later.hub) (sym (shows-leave by_history v question written world)) (inl at)
+
+    leaves-session : (event : SessionEvent) (v : Word) (world : World) → bytes_eq v w ≡ false → IsApart world → session_number world w ≡ Some number → At hub number world.hub s → Leaves (session_does event v world).0.hub
+    leaves-session (session_events.Send octets) v world other a known at = leaves-sends v octets world other a known (inl at)
+    leaves-session (session_events.Stop rcode delay) v world other a known at =
+        stop-does world (λ later. Leaves later.hub) v rcode delay (λ seat e. leaves-stop seat.session rcode delay world (seat-differs world seat (seat-found v world seat e a) known) (inl at))
+        (leaves-stop (session_number world v) rcode delay world (λ m same. other-session v m world other a.apart known same) (inl at))
+    leaves-session session_events.Cut v world other a known at =
+        cut-does world (λ later. Leaves later.hub) v (λ seat e. leaves-without seat.session (seat-differs world seat (seat-found v world seat e a) known) world.hub (inl at))
+        (leaves-cut v world other a.apart known (inl at))
 
     leaves-line : (line : ScriptLine) (world : World) → is_of_others w line ≡ true → IsApart world → session_number world w ≡ Some number → At hub number world.hub s
         → Leaves (line_does by_history line world).0.hub
     leaves-line silent world others a known at = inl at
-    leaves-line (timers i k) world others a known at = inl at
-    leaves-line (zone apex serial mode) world others a known at = inl at
-    leaves-line (link v domain) world others a known at = inl at
-    leaves-line (hear v datagram) world others a known at = leaves-hear world.hub (number_or_zero (position (bytes_eq v) world.links)) datagram at
-    leaves-line (client v) world others a known at = inl at
-    leaves-line (lone v) world others a known at = inl at
-    leaves-line (ask v question) world others a known at = ask-does world (λ later. Leaves later.hub) (codes "asked") v (subscribing question) (inl at) (λ seat e. inl at)
-    leaves-line (drop_question v question) world others a known at = ask-does world (λ later. Leaves later.hub) (codes "dropped") v (unsubscribing question) (inl at) (λ seat e. inl at)
-    leaves-line (reconfirm v rr) world others a known at = ask-does world (λ later. Leaves later.hub) (codes "reconfirm") v (reconfirming rr) (inl at) (λ seat e. inl at)
-    leaves-line (open_connection v) world others a known at = open-does world (λ later. Leaves later.hub) v (inl at) (λ seat e. inl at) (λ seat e hub. leaves-more world.hub (inl at))
-    leaves-line (say v n) world others a known at = leaves-passes (ways.Say n) v world a known (inl at)
-    leaves-line (up v n) world others a known at = leaves-passes (ways.Up n) v world a known (inl at)
-    leaves-line (emit v n) world others a known at = leaves-passes (ways.Emit n) v world a known (inl at)
-    leaves-line (down v n) world others a known at = leaves-passes (ways.Down n) v world a known (inl at)
-    leaves-line (settle v) world others a known at = leaves-passes ways.Settle v world a known (inl at)
-    leaves-line (feed v octets) world others a known at = leaves-feeds v octets world a known (inl at)
-    leaves-line (show v question written) world others a known at = subst (λ (later : World). Leaves later.hub) (sym (shows-leave by_history v question written world)) (inl at)
-    leaves-line (at_moment t) world others a known at =
-        leaves-timed (moment_now world t) world.seats (hub_timed world t)
-        (all-weaken (seat_apart world) (λ s. (m : ℕ) → s.session ≡ Some m → number ≡ m → ⊥) (λ seat one. seat-differs world seat one known) world.seats a.seats) (leaves-moment world.hub t at)
-    leaves-line (update message) world others a known at = leaves-update world.hub message at
-    leaves-line (cut v) world others a known at =
-        cut-does world (λ later. Leaves later.hub) v (λ seat e. leaves-without seat.session (seat-differs world seat (seat-found v world seat e a) known) world.hub (inl at))
-        (leaves-cut v world (not_true (bytes_eq v w) others) a.apart known (inl at))
-    leaves-line (send v octets) world others a known at = leaves-sends v octets world (not_true (bytes_eq v w) others) a known (inl at)
-    leaves-line (stop v rcode delay) world others a known at =
-        stop-does world (λ later. Leaves later.hub) v rcode delay (λ seat e. leaves-stop seat.session rcode delay world (seat-differs world seat (seat-found v world seat e a) known) (inl at))
-        (leaves-stop (session_number world v) rcode delay world (λ m same. other-session v m world (not_true (bytes_eq v w) others) a.apart known same) (inl at))
-    leaves-line point world others a known at = inl at
+    leaves-line (head_line line) world others a known at = inl at
+    leaves-line (joining v is_lone) world others a known at = inl at
+    leaves-line (hub_event event) world others a known at = leaves-hub event world a known at
+    leaves-line (link_event v event) world others a known at = leaves-link event v world at
+    leaves-line (client_call v call) world others a known at = ask-does world (λ later. Leaves later.hub) v call (inl at) (λ seat e. inl at)
+    leaves-line (client_passing v way) world others a known at = leaves-passes way v world a known (inl at)
+    leaves-line (client_event v event) world others a known at = leaves-client event v world a known at
+    leaves-line (session_event v event) world others a known at = leaves-session event v world (not_true (bytes_eq v w) others) a known at
 
 pub others-leave : (hub : Hub) (number : ℕ) (s : Session) (w : Word) (lines : List ScriptLine) (world : World) → list_all (is_of_others w) lines ≡ true → IsApart world
     → session_number world w ≡ Some number → At hub number world.hub s → At hub number (world_after lines world).hub s ⊎ Longer hub (world_after lines world).hub

@@ -26,7 +26,7 @@ use Rattle.replay.proofs.rest.AtRest.{Core, Ran, resting, ran, behind_octets, At
 use Rattle.replay.proofs.worlds.BetweenLines.{after-append, printed-append}
 use Rattle.replay.proofs.worlds.Keeping.{any-parts, exchanged-keeps}
 use Rattle.replay.proofs.worlds.Longer.{longer-lines}
-use Rattle.replay.proofs.serving.NewPeer.{by_number}
+use Rattle.replay.proofs.worlds.LinesDoing.{by_number}
 use Rattle.replay.proofs.pieces.ApartWorlds.{IsApart, MadeFrom, apart-lines, made-kept, number-all}
 use Rattle.replay.proofs.pieces.GonePeers.{IsGone, gone-cut, gone-lines, none-cut}
 use Rattle.replay.proofs.pieces.OtherLines.{peer-stays-lines, others-leave}

@@ -12,7 +12,7 @@ use Rattle.pushserver.specs.Hubs.{connect}
 use Rattle.scripts.specs.Lines.{Word}
 use Rattle.replay.specs.World.{World, session_number}
 use Rattle.replay.specs.Text.{placed, sends, exchanges}
-use Rattle.replay.proofs.serving.NewPeer.{by_connected, by_number}
+use Rattle.replay.proofs.worlds.LinesDoing.{by_connected, by_number}
 
 -- the peer has the session; its next line does what it does in the world with the session; and the hub is the one before, or has one session more
 pub record IsPlaced (w : Word) (earlier : World) (number : ℕ) (world : World) : Type 0 where

@@ -11,7 +11,7 @@ use Rattle.dsotlv.specs.Laws.{AreOctets}
 use Rattle.dsotlv.specs.Messages.{messages_in}
 use Rattle.dsotlv.proofs.FrameLaws.{Split}
 use Rattle.history.specs.declared.entry.Entry.{Entry}
-use Rattle.pushsession.specs.declared.standing.Standing.{Standing}
+use Rattle.pushsession.specs.declared.session_status.SessionStatus.{SessionStatus}
 use Rattle.pushsession.specs.Sessions.{without_first}
 use Rattle.pushserver.specs.PlainHubs.{Session, Hub}
 use Rattle.pushserver.specs.Hubs.{state_now}
@@ -19,12 +19,13 @@ use Rattle.scripts.specs.Lines.{Word, ScriptLine}
 use Rattle.replay.specs.World.{World}
 use Rattle.replay.specs.TextWords.{bytes_line, HeldRecords}
 use Rattle.replay.specs.SessionPieces.{answers_to, standing_of}
-use Rattle.replay.specs.Text.{Printed, end_lines, ended_lines, sends, printed_by, text_by, world_after}
-use Rattle.replay.specs.ScriptPieces.{Turn, SentInPieces, pieces_of, lines_sent, lines_of, world_start, world_then, world_behind, answered_to_first, messages_sent, answered_to_all, standing_with, SendsPieces, TellsInTurn, end_behind, printed_turns, pieces_reply, LeavesPeer}
+use Rattle.replay.specs.Text.{Printed, end_lines, sends, printed_by, world_after}
+use Rattle.replay.specs.ScriptPieces.{Turn, SentInPieces, pieces_of, lines_sent, sent_between, answered_to_first, messages_sent, answered_to_all, standing_with, SendsPieces, TellsInTurn, end_behind, printed_turns, pieces_reply, LeavesPeer}
+use Rattle.replay.specs.Between.{lines_of, world_start, world_then, world_behind}
 use Rattle.replay.specs.ScriptReplies.{reply_to_script}
 use Rattle.replay.proofs.turns.ZoneSizes.{IsBounded}
 use Rattle.replay.proofs.rest.AtRest.{Core, Ran, core_of, resting, ran, At, Longer, EmitsAsRan}
-use Rattle.replay.proofs.worlds.BetweenLines.{printed-append, lines-append, bounded-between, bounded-connected, reply-is}
+use Rattle.replay.proofs.worlds.BetweenLines.{bounded-between, bounded-connected, between-replied}
 use Rattle.replay.proofs.worlds.InputOctets.{HoldsOctets, found_octets, octets-lines, octets-connected}
 use Rattle.replay.proofs.pieces.ApartWorlds.{IsApart, apart-start, apart-lines, apart-placed}
 use Rattle.replay.proofs.pieces.GonePeers.{gone-none}
@@ -51,7 +52,7 @@ same-over (Some reason) (Some other) e = (let same : reason ≡ other = cc in ap
 module _ (hub : Hub) (number : ℕ) (input : List ℕ) (a : OctetsAndHub) where
   standing-is : (r : Ran) (over : Option EndReason) → GivenBy hub number input a r over → standing_of a.1 number ≡ Some (standing_with over)
   standing-is r None given = ap (λ (o : Option Session). option_map (λ s. s.standing) o) given.at.there
-  standing-is r (Some reason) given = ap (λ (o : Option Session). option_map (λ s. s.standing) o) given.over.at.there ∙ ap (λ (s : Standing). Some s) given.over.standing
+  standing-is r (Some reason) given = ap (λ (o : Option Session). option_map (λ s. s.standing) o) given.over.at.there ∙ ap (λ (s : SessionStatus). Some s) given.over.standing
 
   -- what it made of the messages is over for the reason for which it stands
   over-is : (over : Option EndReason) → standing_of a.1 number ≡ Some (standing_with over) → (r : Ran) → GivenBy hub number input a r r.over → r.over ≡ over
@@ -129,23 +130,6 @@ module _ (w : Word) (earlier : World) (number : ℕ) (world : World) (p : IsPlac
 
 -- ---- the text
 
-abbrev printed_then : HeldRecords → SentInPieces → List (List ℕ)
-printed_then records sent = printed_by records sent.before (world_start sent)
-
-abbrev printed_behind : HeldRecords → SentInPieces → List (List ℕ)
-printed_behind records sent = printed_by records sent.behind (world_behind sent)
-
-abbrev printed_between : HeldRecords → SentInPieces → List (List ℕ) → List (List ℕ)
-printed_between records sent told = printed_turns records sent.word sent.over sent.turns told (world_then sent)
-
-text-is : (records : HeldRecords) (sent : SentInPieces) (told : List (List ℕ)) → printed_by records (lines_sent sent) (world_then sent) ≡ printed_between records sent told → text_by records (lines_of sent) ≡ (pieces_reply records sent told).text
-text-is records sent told lines =
-    ap ended_lines (printed-append records sent.before (lines_sent sent ++ sent.behind) (world_start sent))
-    ∙ lines-append (printed_then records sent) (printed_by records (lines_sent sent ++ sent.behind) (world_then sent))
-    ∙ ap (λ (rest : List (List ℕ)). ended_lines (printed_then records sent) ++ ended_lines rest)
-    (printed-append records (lines_sent sent) sent.behind (world_then sent) ∙ ap (λ (told : List (List ℕ)). told ++ printed_behind records sent) lines)
-    ∙ ap (λ (rest : List ℕ). ended_lines (printed_then records sent) ++ rest) (lines-append (printed_between records sent told) (printed_behind records sent))
-
 -- ---- the law
 
 emitting : EmitsAsRan
@@ -168,21 +152,21 @@ module _ (script : List ℕ) (sent : SentInPieces) (s : SendsPieces script sent)
   abbrev input : List ℕ
   input = sent.session.input
 
-  place : IsPlaced sent.word (world_then sent) sent.number sent.world
-  place = placed-is sent.word (world_then sent) sent.number sent.world s.place
+  place : IsPlaced sent.word (world_then (sent_between sent)) sent.number sent.world
+  place = placed-is sent.word (world_then (sent_between sent)) sent.number sent.world s.place
 
   bounded : IsBounded (state_now hub)
   bounded =
       let before = bounded-between script sent.before behind s.read in
-      placed-holds (λ (h : Hub). IsBounded (state_now h)) sent.word (world_then sent) sent.number sent.world place before (bounded-connected (world_then sent).hub before)
+      placed-holds (λ (h : Hub). IsBounded (state_now h)) sent.word (world_then (sent_between sent)) sent.number sent.world place before (bounded-connected (world_then (sent_between sent)).hub before)
 
   held : HoldsOctets hub
   held =
       let before = octets-lines script sent.before behind s.read in
-      placed-holds HoldsOctets sent.word (world_then sent) sent.number sent.world place before (octets-connected (world_then sent).hub before)
+      placed-holds HoldsOctets sent.word (world_then (sent_between sent)) sent.number sent.world place before (octets-connected (world_then (sent_between sent)).hub before)
 
   apart : IsApart sent.world
-  apart = apart-placed sent.word (world_then sent) sent.world sent.number s.place (apart-lines sent.before (world_start sent) (apart-start (lines_of sent)))
+  apart = apart-placed sent.word (world_then (sent_between sent)) sent.world sent.number s.place (apart-lines sent.before (world_start (sent_between sent)) (apart-start (lines_of (sent_between sent))))
 
   at : At hub sent.number hub (resting core input [])
   at = rest-at hub sent.number sent.session s.rest
@@ -233,7 +217,7 @@ module _ (script : List ℕ) (sent : SentInPieces) (s : SendsPieces script sent)
     below = below;
     few = s.passable.1;
     others = s.others;
-    no_entry = not_longer hub (world_after (lines_sent sent) sent.world).hub (entries-placed sent.word (world_then sent) sent.number sent.world place sent.turns s.no_entry);
+    no_entry = not_longer hub (world_after (lines_sent sent) sent.world).hub (entries-placed sent.word (world_then (sent_between sent)) sent.number sent.world place sent.turns s.no_entry);
     ends = over-all;
     goes_on = goes-on;
   }
@@ -251,23 +235,23 @@ module _ (script : List ℕ) (sent : SentInPieces) (s : SendsPieces script sent)
 
   pub pieces-told : (told : List (List ℕ)) × TellsInTurn sent told × ((records : HeldRecords) → reply_to_script records script ≡ pieces_reply records sent told)
   pieces-told =
-      let lines : (records : HeldRecords) → printed_by records (lines_sent sent) (world_then sent) ≡ printed_between records sent tells.told = λ records.
-      printed-placed sent.word (world_then sent) sent.number sent.world place records sent.turns
+      let lines : (records : HeldRecords) → printed_by records (lines_sent sent) (world_then (sent_between sent)) ≡ printed_turns records sent.word sent.over sent.turns tells.told (world_then (sent_between sent)) = λ records.
+      printed-placed sent.word (world_then (sent_between sent)) sent.number sent.world place records sent.turns
       ∙ tells.lines records
-      ∙ sym (turns-placed sent.word (world_then sent) sent.number sent.world place records sent.over sent.turns tells.told) in
-      (tells.told, in-turn, λ records. reply-is records script (lines_of sent) (pieces_reply records sent tells.told).text s.read (text-is records sent tells.told (lines records)))
+      ∙ sym (turns-placed sent.word (world_then (sent_between sent)) sent.number sent.world place records sent.over sent.turns tells.told) in
+      (tells.told, in-turn, λ records. between-replied records script (sent_between sent) (printed_turns records sent.word sent.over sent.turns tells.told (world_then (sent_between sent))) s.read (lines records))
 
-  left-by : (over : Option EndReason) → LeavesWith hub sent.number sent.word core (messages_sent sent) (world_behind sent) over → IsOverWith hub core over (messages_sent sent).0 → LeavesPeer sent over
+  left-by : (over : Option EndReason) → LeavesWith hub sent.number sent.word core (messages_sent sent) (world_behind (sent_between sent)) over → IsOverWith hub core over (messages_sent sent).0 → LeavesPeer sent over
   left-by None l ends =
       let given : GivenBy hub sent.number input (answered_to_all sent) l.made l.made.over = subst (λ (o : Option Ran). GivenAs hub sent.number input (answered_to_all sent) o) l.is (answered (messages_sent sent).0) in
       let live : GivenBy hub sent.number input (answered_to_all sent) l.made None = subst (GivenBy hub sent.number input (answered_to_all sent) l.made) (ends l.made l.is) given in
       (l.known, l.at.there ∙ sym (ap (λ (o : Option Session). option_map (without_first (messages_sent sent).1) o) live.at.there))
-  left-by (Some reason) l ends = (l.known, gone-none sent.number (world_behind sent).hub l.gone)
+  left-by (Some reason) l ends = (l.known, gone-none sent.number (world_behind (sent_between sent)).hub l.gone)
 
   -- how the peer is left
   pub leaves-peer : 1 ≤ length sent.turns → LeavesPeer sent sent.over
   leaves-peer some =
-      let same = after-placed sent.word (world_then sent) sent.number sent.world place sent.turns some in
+      let same = after-placed sent.word (world_then (sent_between sent)) sent.number sent.world place sent.turns some in
       left-by sent.over (subst (λ (z : World). LeavesWith hub sent.number sent.word core (messages_sent sent) z sent.over) (sym same) tells.left) over-all
 
   -- what the session makes of all messages

@@ -10,12 +10,14 @@ use Rattle.dsosession.specs.declared.session.EndReason.TheVariants as ends
 use Rattle.pushsession.specs.Sessions.{new_session}
 use Rattle.pushserver.specs.PlainHubs.{plain_keeps}
 use Rattle.pushserver.specs.Hubs.{connect}
-use Rattle.scripts.specs.Lines.{ScriptLine, silent, zone, send, point}
+use Rattle.scripts.specs.Lines.{ScriptLine, silent, zone, head_line, hub_event, send}
+use Rattle.scripts.specs.declared.line.HubEvent.TheVariants as hub_events
 use Rattle.scripts.specs.Scripts.{nothing_known, lines_from, client_words, lines_read}
 use Rattle.replay.specs.World.{World, start_world}
 use Rattle.replay.specs.TextWords.{by_notices}
 use Rattle.replay.specs.Text.{world_after}
-use Rattle.replay.specs.ScriptPieces.{Turn, SentInPieces, lines_of, answered_to_first, SendsPieces, printed_turns}
+use Rattle.replay.specs.ScriptPieces.{Turn, SentInPieces, sent_between, answered_to_first, SendsPieces, printed_turns}
+use Rattle.replay.specs.Between.{lines_of}
 use Rattle.replay.proofs.worlds.ClientOutputs.{all_octets}
 use Rattle.scripts.proofs.lines.LineWords.{word_utf8}
 use Rattle.replay.proofs.serving.WorkedServing.{frame_sent}
@@ -25,10 +27,10 @@ script =
     codes "zone example.com. 1 open" ++ 10 ∷ (codes "send p 00210001300000" ++ 10 ∷ (codes "#others" ++ 10 ∷ (codes "point" ++ 10 ∷ (codes "send q 002100" ++ 10 ∷ (codes "send p 0000000000000000400011076578616d706c6503636f6d0000060001" ++ 10 ∷ [])))))
 
 abbrev before : List ScriptLine
-before = zone (name (codes "example.com.")) 1 true ∷ []
+before = head_line (zone (name (codes "example.com.")) 1 true) ∷ []
 
 abbrev turns : List Turn
-turns = (take 7 frame_sent, silent ∷ point ∷ send (codes "q") (take 3 frame_sent) ∷ []) ∷ (drop 7 frame_sent, []) ∷ []
+turns = (take 7 frame_sent, silent ∷ hub_event hub_events.Point ∷ send (codes "q") (take 3 frame_sent) ∷ []) ∷ (drop 7 frame_sent, []) ∷ []
 
 -- the world behind the zone, and that with the peer's session
 abbrev earlier : World
@@ -55,9 +57,9 @@ is_text = is_utf8-from_IsUtf8 (codes "others") (word_utf8 (codes "others") refl)
 
 abbrev with_comment : Bool → List (Option ScriptLine)
 with_comment is_inside =
-    Some (zone (name (codes "example.com.")) 1 true) ∷ Some (send (codes "p") (take 7 frame_sent)) ∷ cond is_inside (Some silent) None ∷ Some point ∷ Some (send (codes "q") (take 3 frame_sent)) ∷ Some (send (codes "p") (drop 7 frame_sent)) ∷ []
+    Some (head_line (zone (name (codes "example.com.")) 1 true)) ∷ Some (send (codes "p") (take 7 frame_sent)) ∷ cond is_inside (Some silent) None ∷ Some (hub_event hub_events.Point) ∷ Some (send (codes "q") (take 3 frame_sent)) ∷ Some (send (codes "p") (drop 7 frame_sent)) ∷ []
 
-lines : lines_read script ≡ map Some (lines_of sent)
+lines : lines_read script ≡ map Some (lines_of (sent_between sent))
 lines = ap with_comment is_text
 
 sends : SendsPieces script sent
@@ -90,7 +92,7 @@ abbrev short_script : List ℕ
 short_script = codes "zone example.com. 1 open" ++ 10 ∷ (codes "send p 0001" ++ 10 ∷ (codes "point" ++ 10 ∷ (codes "send p 00" ++ 10 ∷ [])))
 
 abbrev short_turns : List Turn
-short_turns = (0 ∷ 1 ∷ [], point ∷ []) ∷ (0 ∷ [], []) ∷ []
+short_turns = (0 ∷ 1 ∷ [], hub_event hub_events.Point ∷ []) ∷ (0 ∷ [], []) ∷ []
 
 abbrev sent_short : SentInPieces
 sent_short = record { before = before; word = codes "p"; turns = short_turns; over = Some ends.Short; behind = []; number = 0; world = connected; session = new_session (plain_keeps 0) 0 }

@@ -4,10 +4,11 @@ use Rattle.scripts.specs.Lines.{ScriptLine}
 use Rattle.scripts.specs.Scripts.{lines_in, script_of}
 use Rattle.replay.specs.World.{World}
 use Rattle.replay.specs.TextWords.{HeldRecords, by_notices}
-use Rattle.replay.specs.Text.{printed_by, ended_lines, text_by, text_with, outside_text}
+use Rattle.replay.specs.Text.{printed_by, text_by, text_with, outside_text}
+use Rattle.scripts.specs.Words.{ended_lines}
 use Rattle.scripts.specs.KeptScripts.{IsWhole, events_said}
 use Rattle.replay.specs.KeptScripts.{world_at_start}
-use Rattle.replay.specs.Reply.{Reply}
+use Rattle.scripts.specs.Reply.{Reply}
 use Rattle.replay.specs.ScriptReplies.{reply_to_script}
 use Rattle.replay.specs.Checks.{checked, good_text}
 use Rattle.scripts.specs.declared.script.Script.{Script}

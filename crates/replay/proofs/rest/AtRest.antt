@@ -25,8 +25,8 @@ use Rattle.dsosession.specs.declared.session.Reaction.TheVariants as reactions
 use Rattle.history.specs.States.{verdict, accepts, reconfirm_key}
 use Rattle.history.specs.declared.entry.Entry.TheVariants as entries
 use Rattle.dsotlv.specs.Answers.{answer_to_update}
-use Rattle.pushsession.specs.declared.standing.Standing.{Standing}
-use Rattle.pushsession.specs.declared.standing.Standing.TheVariants.{Live, Ended}
+use Rattle.pushsession.specs.declared.session_status.SessionStatus.{SessionStatus}
+use Rattle.pushsession.specs.declared.session_status.SessionStatus.TheVariants.{Live, Ended}
 use Rattle.pushsession.specs.Sessions.{answers}
 use Rattle.pushsession.specs.Subscribing.{answered}
 use Rattle.pushsession.specs.Reactions.{restarted_by, by_itself}
@@ -66,7 +66,7 @@ ends_for reason = Some (inl reason)
 abbrev pub goes_on : Session → Turned
 goes_on s = Some (inr (core_of s, s.output))
 
-abbrev by_standing : Session → Standing → Turned
+abbrev by_standing : Session → SessionStatus → Turned
 by_standing s (Ended reason) = ends_for reason
 by_standing s _ = goes_on s
 

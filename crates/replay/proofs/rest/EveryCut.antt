@@ -6,8 +6,8 @@ use Rattle.dsosession.specs.declared.session.EndReason.{EndReason}
 use Rattle.dsotlv.specs.Laws.{AreOctets}
 use Rattle.dsotlv.specs.Messages.{messages_in}
 use Rattle.history.specs.declared.entry.Entry.{Entry}
-use Rattle.pushsession.specs.declared.standing.Standing.{Standing}
-use Rattle.pushsession.specs.declared.standing.Standing.TheVariants.{Live, Ended}
+use Rattle.pushsession.specs.declared.session_status.SessionStatus.{SessionStatus}
+use Rattle.pushsession.specs.declared.session_status.SessionStatus.TheVariants.{Live, Ended}
 use Rattle.pushserver.specs.PlainHubs.{Session, Hub}
 use Rattle.pushserver.specs.Hubs.{state_now}
 use Rattle.pushsession.specs.Sessions.{without_first}
@@ -38,11 +38,11 @@ alike_by hub number rest input g a r None given answered = record {
   session = λ live. given.at.there ∙ sym (ap (λ (o : Option Session). option_map (without_first rest) o) answered.at.there);
 }
 alike_by hub number rest input g a r (Some reason) given answered =
-    let ended : standing_of a.1 number ≡ Some (Ended reason) = ap (λ (o : Option Session). option_map (λ s. s.standing) o) answered.over.at.there ∙ ap (λ (s : Standing). Some s) answered.over.standing in
+    let ended : standing_of a.1 number ≡ Some (Ended reason) = ap (λ (o : Option Session). option_map (λ s. s.standing) o) answered.over.at.there ∙ ap (λ (s : SessionStatus). Some s) answered.over.standing in
     record {
       octets = given.octets ∙ sym answered.octets;
       history = ap (λ (h : Hub). h.history) given.over.at.is ∙ sym (ap (λ (h : Hub). h.history) answered.over.at.is);
-      standing = ap (λ (o : Option Session). option_map (λ s. s.standing) o) given.over.at.there ∙ ap (λ (s : Standing). Some s) given.over.standing ∙ sym ended;
+      standing = ap (λ (o : Option Session). option_map (λ s. s.standing) o) given.over.at.there ∙ ap (λ (s : SessionStatus). Some s) given.over.standing ∙ sym ended;
       session = λ live. absurd (not_live (sym ended ∙ live));
     }
   where

@@ -9,12 +9,12 @@ use Rattle.dsotlv.specs.Messages.{first_message, messages_in}
 use Rattle.dsotlv.proofs.FrameLaws.{Split}
 use Rattle.dsotlv.proofs.StreamLaws.{none_found, one_by_one}
 use Rattle.dsosession.specs.declared.session.EndReason.{EndReason}
-use Rattle.pushsession.specs.declared.standing.Standing.{Standing}
+use Rattle.pushsession.specs.declared.session_status.SessionStatus.{SessionStatus}
 use Rattle.pushserver.specs.declared.given.Given.{Given}
 use Rattle.pushserver.specs.declared.given.Given.TheVariants.{Bytes, Worked, Nothing, Ending, End}
 use Rattle.pushserver.specs.PlainHubs.{Session, Hub, Giving}
 use Rattle.pushserver.specs.Hubs.{now, state_now, keeps_now, tells_now, session_of, in_session}
-use Rattle.pushsession.specs.Subscribing.{packs}
+use Rattle.pushsession.specs.Subscribing.{with_next_push}
 use Rattle.pushsession.specs.Sessions.{without_first}
 use Rattle.pushserver.specs.Giving.{give, did, reacted, after_reaction, given_after}
 use Rattle.pushserver.proofs.SessionLists.{found-in}
@@ -31,7 +31,7 @@ use Rattle.replay.proofs.rest.AtRest.{Core, resting, Turned, Ran, behind_octets,
 
 -- the names that wait are packed
 abbrev packing : Hub → Session → Session
-packing hub = packs (keeps_now hub) (tells_now hub) (now hub)
+packing hub = with_next_push (keeps_now hub) (tells_now hub) (now hub)
 
 module _ (number room : ℕ) (later : Hub) where
   -- a reaction to the first whole message follows, or else packing
@@ -61,7 +61,7 @@ pub give-ended : (hub : Hub) (number room : ℕ) (later : Hub) (reason : EndReas
 give-ended hub number room later reason o =
     ap (found_as later number room Worked given_after) o.at.there
     ∙ ap (λ (os : List ℕ). copies_as later number room o.session (given_after o.session.standing) (is_empty os)) o.output
-    ∙ ap (λ (standing : Standing). did (given_after standing) later) o.standing
+    ∙ ap (λ (standing : SessionStatus). did (given_after standing) later) o.standing
 
 -- ---- what several calls wrote
 

@@ -7,11 +7,11 @@ use Rattle.std.proofs.Common.{◌≡◌, ℕ, ◌-◌, ◌≤◌, min, cond, Lis
 use Rattle.push_base.specs.Limits.{max_input}
 use Rattle.push_base.specs.Cases.{is_empty}
 use Rattle.dsosession.specs.declared.session.EndReason.{EndReason}
-use Rattle.pushsession.specs.declared.standing.Standing.{Standing}
+use Rattle.pushsession.specs.declared.session_status.SessionStatus.{SessionStatus}
 use Rattle.pushserver.specs.declared.given.Given.TheVariants.{End}
 use Rattle.pushserver.specs.PlainHubs.{Session, Hub}
 use Rattle.pushserver.specs.Hubs.{in_session, taken_by, take_octets}
-use Rattle.pushsession.specs.Sessions.{is_open, room_of, takes}
+use Rattle.pushsession.specs.Sessions.{is_open, room_of, with_piece}
 use Rattle.pushserver.specs.Giving.{did, by_standing, give}
 use Rattle.pushserver.proofs.SessionLists.{found-in}
 use Rattle.pushserver.proofs.hub_steps.Cases.{output_as, give_as}
@@ -39,7 +39,7 @@ module _ (hub : Hub) (number : ℕ) (later : Hub) (core : Core) (input : List �
 
   pub at-taken : (piece : List ℕ) → length piece ≤ 69633 - length input → At hub number (take_octets later number piece) (resting core (input ++ piece) [])
   at-taken piece fits = subst (λ (octets : List ℕ). At hub number (take_octets later number piece) (resting core (input ++ octets) [])) (take_all (69633 - length input) piece fits)
-      (at-in_session hub number later (resting core input []) (takes piece) at)
+      (at-in_session hub number later (resting core input []) (with_piece piece) at)
 
 -- ---- a session that has ended
 
@@ -47,20 +47,20 @@ module _ (hub : Hub) (number : ℕ) (later : Hub) (reason : EndReason) (over : I
   pub over-taken : (octets : List ℕ) → taken_by later number octets ≡ 0
   over-taken octets =
       ap (taken_by_found octets) over.at.there
-      ∙ ap (λ (s : Standing). min (length octets) (cond (is_open s) (max_input - length over.session.input) 0)) over.standing
+      ∙ ap (λ (s : SessionStatus). min (length octets) (cond (is_open s) (max_input - length over.session.input) 0)) over.standing
       ∙ least (length octets)
     where
       least : (n : ℕ) → min n 0 ≡ 0
       least n = omega arith
 
   pub over-octets : (piece : List ℕ) → IsOver hub number (take_octets later number piece) reason
-  over-octets piece = record { session = takes piece over.session; at = at-in_session hub number later over.session (takes piece) over.at; standing = over.standing; output = over.output }
+  over-octets piece = record { session = with_piece piece over.session; at = at-in_session hub number later over.session (with_piece piece) over.at; standing = over.standing; output = over.output }
 
   pub give-over : (room : ℕ) → give later number room ≡ did (End reason) later
   give-over room =
       ap (give_as later number room) over.at.there
       ∙ ap (λ (o : List ℕ). output_as later number room over.session (is_empty o)) over.output
-      ∙ ap (λ (s : Standing). by_standing s number room over.session later) over.standing
+      ∙ ap (λ (s : SessionStatus). by_standing s number room over.session later) over.standing
 
 -- ---- what it is to be at rest
 

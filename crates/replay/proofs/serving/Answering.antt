@@ -8,7 +8,7 @@ use Rattle.coalesce.specs.FirstAnswers.{told_first}
 use Rattle.coalesce.specs.Net.{additions}
 use Rattle.dsosession.specs.Timing.{Clocks}
 use Rattle.history.specs.States.{State, records}
-use Rattle.pushsession.specs.declared.standing.Standing.TheVariants.{Live}
+use Rattle.pushsession.specs.declared.session_status.SessionStatus.TheVariants.{Live}
 use Rattle.pushserver.specs.PlainHubs.{Session, Subscription, Made, wanted, Hub, first_answer, asks_for}
 use Rattle.pushserver.specs.Hubs.{state_now, now, keeps_now, records_now}
 use Rattle.pushsession.specs.Reactions.{restarted_by}

@@ -11,7 +11,7 @@ use Rattle.coalesce.specs.Net.{push_frame}
 use Rattle.dsosession.specs.Timing.{Clocks}
 use Rattle.pushserver.specs.PlainHubs.{Session, Hub}
 use Rattle.pushserver.specs.Hubs.{state_now, now, keeps_now, tells_now, in_session}
-use Rattle.pushsession.specs.Subscribing.{accepts}
+use Rattle.pushsession.specs.Subscribing.{with_accepted}
 use Rattle.dsotlv.specs.Answers.{answer_to}
 use Rattle.pushserver.specs.Giving.{reacted}
 use Rattle.pushserver.proofs.Walks.{with_new}
@@ -37,13 +37,13 @@ module _ (hub : Hub) (below : IsBehind hub) where
     filled-Says (m ∷ ms) = record { session = filled_with (m ∷ ms); is = refl }
 
     abbrev pub accepted : Hub
-    accepted = in_session hub.numbers_given (accepts (keeps_now hub) (tells_now hub) (now hub) id question) (hub_at hub (begun clocks))
+    accepted = in_session hub.numbers_given (with_accepted (keeps_now hub) (tells_now hub) (now hub) id question) (hub_at hub (begun clocks))
 
     pub accepted-Says : Says hub accepted (with_push id (notices_for (state_now hub) question))
     accepted-Says =
         let notices = notices_for (state_now hub) question in
         let is : accepted ≡ hub_at hub (filled_with notices) =
-        in_session-last hub below (accepts (keeps_now hub) (tells_now hub) (now hub) id question) (begun clocks)
+        in_session-last hub below (with_accepted (keeps_now hub) (tells_now hub) (now hub) id question) (begun clocks)
         ∙ ap (λ ns. hub_at hub (filled_with ns)) (first_answer-additions hub clocks question) in
         subst (λ later. Says hub later (with_push id notices)) (sym is) (filled-Says notices)
 

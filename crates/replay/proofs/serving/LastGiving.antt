@@ -5,7 +5,7 @@ use Rattle.dsotlv.specs.Messages.{first_message}
 use Rattle.pushserver.specs.declared.given.Given.TheVariants.{Bytes, Worked, Nothing}
 use Rattle.pushserver.specs.PlainHubs.{Session, Hub, Giving}
 use Rattle.pushserver.specs.Hubs.{now, keeps_now, tells_now, in_session}
-use Rattle.pushsession.specs.Subscribing.{packs}
+use Rattle.pushsession.specs.Subscribing.{with_next_push}
 use Rattle.pushsession.specs.Sessions.{without_first}
 use Rattle.pushserver.specs.Giving.{give, did, reacted, after_reaction, after_packing, given_after}
 use Rattle.pushserver.proofs.Walks.{with_new}
@@ -52,7 +52,7 @@ module _ (hub : Hub) (below : IsBehind hub) where
   give-nothing_more room s =
       let later = hub_at hub (saying s []) in
       ap (give_as later hub.numbers_given room) (session_of-last hub below (saying s []))
-      ∙ ap (after_packing hub.numbers_given room) (in_session-last hub below (packs (keeps_now hub) (tells_now hub) (now hub)) (saying s []))
+      ∙ ap (after_packing hub.numbers_given room) (in_session-last hub below (with_next_push (keeps_now hub) (tells_now hub) (now hub)) (saying s []))
       ∙ ap (found_as later hub.numbers_given room Nothing (λ standing. Nothing)) (session_of-last hub below (saying s []))
 
   -- a whole message waits

@@ -1,8 +1,8 @@
 -- The line of a peer that sends its first octets, one whole frame with a SUBSCRIBE that none of the tests refuses: what comes back is NOERROR and the first answer's PUSH.
 --     first_reply hub message question      what comes back
 --     sent-line      the line that is printed
-use Rattle.std.proofs.Common.{◌≡◌, ℕ, ◌≤◌, Bool, true, false, cond, ◌&&◌, List, [], ◌∷◌, ◌++◌, length, Option, Some, None, codes, sym, ◌∙◌, ap, subst, refl}
-use Rattle.std.specs.Prelude.{nat_lt, option_map, IsSome}
+use Rattle.std.proofs.Common.{◌≡◌, ℕ, ◌≤◌, Bool, true, false, cond, ◌&&◌, List, [], ◌∷◌, ◌++◌, length, Option, Some, None, sym, ◌∙◌, ap, subst, refl}
+use Rattle.std.specs.Prelude.{nat_lt, IsSome}
 use Rattle.push_base.specs.Cases.{is_empty}
 use Rattle.push_base.specs.Limits.{max_number}
 use Rattle.rrset.specs.Header.{id_of}
@@ -12,7 +12,7 @@ use Rattle.dsotlv.specs.Messages.{frame, first_message}
 use Rattle.coalesce.specs.Net.{push_frame}
 use Rattle.dsosession.specs.Timing.{new_clocks}
 use Rattle.pushserver.specs.Hubs.{state_now, now, keeps_now, tells_now, in_session, connect, max_sessions}
-use Rattle.pushsession.specs.Subscribing.{Verdict, accepts, decided, answered}
+use Rattle.pushsession.specs.Subscribing.{Verdict, with_accepted, decided, answered}
 use Rattle.pushsession.specs.Reactions.{restarted_by}
 use Rattle.dsotlv.specs.Answers.{answer_to}
 use Rattle.pushserver.specs.PlainHubs.{Session, Hub, first_answer}
@@ -25,13 +25,14 @@ use Rattle.scripts.specs.Lines.{Word}
 use Rattle.replay.specs.World.{World, session_number}
 use Rattle.replay.specs.PassedOctets.{exchanged, enough}
 use Rattle.replay.specs.TextWords.{bytes_line}
-use Rattle.replay.specs.Text.{Printed, printing, end_lines, exchanges, sends}
+use Rattle.replay.specs.Text.{end_lines, sends}
 use Rattle.replay.proofs.serving.LastSession.{IsBehind, hub_at, session_of-last, in_session-last}
 use Rattle.replay.proofs.serving.Answering.{notices_for, begun, clocks_at, first_answer-additions}
 use Rattle.replay.proofs.serving.LastAnswering.{Says, IsAnswered, with_push, accepted, accepted-Says}
 use Rattle.replay.proofs.serving.OnePeer.{Gives, gives}
 use Rattle.replay.proofs.turns.ReplySizes.{accepted-size}
 use Rattle.replay.proofs.turns.ZoneSizes.{IsBounded}
+use Rattle.replay.proofs.worlds.LinesDoing.{by_connected, by_number}
 
 -- a hub's new session
 abbrev new_in : Hub → Session
@@ -51,7 +52,7 @@ module _ (hub : Hub) (below : IsBehind hub) (message : List ℕ) (question : Que
       ∙ ap (λ later. in_session hub.numbers_given (answered (keeps_now hub) (tells_now hub) (now hub) id (Some question) has) later) (in_session-last hub below (restarted_by message (now hub)) (new_in hub))
       ∙ in_session-last hub below (answered (keeps_now hub) (tells_now hub) (now hub) id (Some question) has) (begun clocks)
       ∙ ap (λ (v : Verdict). hub_at hub (decided (keeps_now hub) (tells_now hub) (now hub) id v (begun clocks))) a.accepted
-      ∙ sym (in_session-last hub below (accepts (keeps_now hub) (tells_now hub) (now hub) id question) (begun clocks))
+      ∙ sym (in_session-last hub below (with_accepted (keeps_now hub) (tells_now hub) (now hub) id question) (begun clocks))
 
   same_reply : with_push (id_of message) (notices_for (state_now hub) question) ≡ first_reply (with_new hub) message question
   same_reply = ap (with_push (id_of message)) (sym (first_answer-additions hub (new_clocks (now hub)) question))
@@ -77,23 +78,6 @@ connect-made hub some = by (nat_lt (length hub.sessions) max_sessions && nat_lt 
     by : (b : Bool) → IsSome (cond b made none).0 → cond b made none ≡ made
     by true h = refl
     by false h = absurd cc
-
--- what a peer's line does, by the session that the peer has, and by the one that is made
-module _ (world : World) (w : Word) (octets : List ℕ) where
-  abbrev new_place : Option ℕ × Hub → Option (ℕ × World)
-  new_place r = option_map (λ number. (number, record world { hub = r.1; peers = world.peers ++ (w, number) ∷ [] })) r.0
-
-  abbrev pub by_place : Option (ℕ × World) → Printed
-  by_place o = elim o as (λ _. Printed) [
-    | None ↦ printing (codes "noseat" ∷ w ∷ []) world
-    | Some place ↦ exchanges w place.0 octets place.1
-  ]
-
-  abbrev pub by_connected : Option ℕ × Hub → Printed
-  by_connected r = by_place (new_place r)
-
-  abbrev pub by_number : Option ℕ → Printed
-  by_number o = by_place (elim o as (λ _. Option (ℕ × World)) [ Some number ↦ Some (number, world) | None ↦ new_place (connect world.hub) ])
 
 module _ (world : World) (w : Word) (octets message : List ℕ) (question : Question) where
   module _ (below : IsBehind world.hub) (bounded : IsBounded (state_now world.hub)) (found : first_message octets ≡ Some (message, [])) (few : length octets ≤ 65537) where

@@ -4,7 +4,7 @@ use Rattle.std.proofs.Common.{◌≡◌, ℕ, ◌≤◌, false, List, [], take, 
 use Rattle.push_base.specs.Cases.{is_empty}
 use Rattle.dsotlv.specs.Messages.{first_message}
 use Rattle.pushserver.specs.PlainHubs.{Session, Hub}
-use Rattle.pushsession.specs.Sessions.{new_session, room_of, takes}
+use Rattle.pushsession.specs.Sessions.{new_session, room_of, with_piece}
 use Rattle.pushserver.specs.Hubs.{now, keeps_now, taken_by, take_octets}
 use Rattle.pushserver.proofs.Walks.{with_new}
 use Rattle.replay.specs.PassedOctets.{Exchanged, exchanged, emitted, enough, nothing_emitted}
@@ -36,7 +36,7 @@ module _ (hub : Hub) (below : IsBehind hub) where
 
     pub taken_in : take_octets (with_new hub) hub.numbers_given (take (length octets) octets) ≡ hub_at hub (waiting hub octets)
     taken_in =
-        in_session-last hub below (takes (take (length octets) octets)) (new_session (keeps_now hub) (now hub))
+        in_session-last hub below (with_piece (take (length octets) octets)) (new_session (keeps_now hub) (now hub))
         ∙ ap (λ o. hub_at hub (waiting hub o)) (ap (take 69633) (take_all (length octets) octets (le_refl (length octets))) ∙ take_all 69633 octets (omega arith))
 
     pub writes : Writes hub (emitted enough hub.numbers_given enough (nothing_emitted (take_octets (with_new hub) hub.numbers_given (take (length octets) octets)) [])) reply

@@ -2,7 +2,7 @@
 use Rattle.std.proofs.Common.{ℕ, true, List, [], ◌∷◌, ◌++◌, drop, codes, refl}
 use Rattle.push_base.specs.Hexadecimal.{hex}
 use Rattle.dnsname.specs.Text.{name}
-use Rattle.scripts.specs.Lines.{zone}
+use Rattle.scripts.specs.Lines.{zone, head_line}
 use Rattle.replay.specs.Serving.{Asked, AsksFirst}
 
 abbrev pub frame_sent : List ℕ
@@ -13,7 +13,7 @@ script = codes "zone example.com. 1 open" ++ 10 ∷ (codes "send p 0021000130000
 
 abbrev asked : Asked
 asked = record {
-  before = zone (name (codes "example.com.")) 1 true ∷ [];
+  before = head_line (zone (name (codes "example.com.")) 1 true) ∷ [];
   word = codes "p";
   octets = frame_sent;
   message = drop 2 frame_sent;

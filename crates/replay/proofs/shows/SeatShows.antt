@@ -4,7 +4,7 @@
 --     shows-lone, shows-filling, shows-held      a set that is held
 --     shows-known, shows-set      what is known of the question
 --     shows-none, shows-act      the line
-use Rattle.std.proofs.Common.{◌≡◌, ℕ, ◌+◌, ◌<◌, ◌==◌, Bool, true, false, cond, ◌&&◌, List, [], ◌∷◌, min, length, drop, find, get_or, Option, Some, None, option_map, refl, sym, ◌∙◌, ap, subst, arith, codes, string_bytes}
+use Rattle.std.proofs.Common.{◌≡◌, ℕ, ◌+◌, ◌<◌, ◌==◌, Bool, true, false, cond, ◌&&◌, List, [], ◌∷◌, min, length, drop, find, get_or, Option, Some, None, option_map, refl, sym, ◌∙◌, ap, subst, arith, codes}
 use Rattle.std.specs.Prelude.{nat_lt, position}
 use Rattle.std.proofs.lemmas.Bool.Decides.{nat_tests}
 use Rattle.std.proofs.lemmas.List.{at_drop_more}
@@ -21,10 +21,9 @@ use Rattle.scripts.specs.Lines.{Word}
 use Rattle.replay.specs.World.{Seat, filled_of}
 use Rattle.replay.specs.TextWords.{ShowTold, with_records, by_notices, is_filling, told_of}
 use Rattle.replay.specs.Text.{shows}
-use Rattle.scripts.specs.declared.line.Showing.{Showing}
 use Rattle.replay.specs.KeptWorlds.{KeptSeat, Parties, StandsForSeat, HasPrinted, Acts}
 use Rattle.replay.specs.KeptSeats.{has_word}
-use Rattle.replay.specs.KeptShows.{showing_text, ShowsSeat, ShowsSet, IsFilling}
+use Rattle.replay.specs.KeptShows.{Showing, showing_text, ShowsSeat, ShowsSet, IsFilling}
 use Rattle.replay.proofs.worlds.OneWorld.{shows_by}
 use Rattle.replay.proofs.worlds.Seats.{absent, is-seated, IsSeated}
 
@@ -164,11 +163,10 @@ unfolding Acts
 shows-none kept known w question written told none is world s d =
     subst (λ (o : Option Seat). HasPrinted kept known told (shows_by by_notices w question written world o)) (sym (absent w known.seats world.seats s.seats none)) (record { text = is; stands = s })
 
-pub shows-act : (kept : KeptHub) (known : Parties) (showing : Showing) (place : ℕ) (k : KeptSeat) (told : List ℕ) → position (has_word (string_bytes showing.word)) known.seats ≡ Some place → k ≡ get_or known.seats place k → ShowsSeat k showing told
-    → Acts (shows by_notices (string_bytes showing.word) showing.question (string_bytes showing.written)) kept known told kept known
+pub shows-act : (kept : KeptHub) (known : Parties) (showing : Showing) (place : ℕ) (k : KeptSeat) (told : List ℕ) → position (has_word showing.word) known.seats ≡ Some place → k ≡ get_or known.seats place k → ShowsSeat k showing told
+    → Acts (shows by_notices showing.word showing.question showing.written) kept known told kept known
 unfolding Acts ShowsSeat
 shows-act kept known showing place k told at there law world s d =
-    let w = string_bytes showing.word in
-    let p : IsSeated w known.seats place world = is-seated w known.seats world place s.seats at in
-    subst (λ (o : Option Seat). HasPrinted kept known told (shows_by by_notices w showing.question (string_bytes showing.written) world o)) (sym p.found)
+    let p : IsSeated showing.word known.seats place world = is-seated showing.word known.seats world place s.seats at in
+    subst (λ (o : Option Seat). HasPrinted kept known told (shows_by by_notices showing.word showing.question showing.written world o)) (sym p.found)
     (record { text = law world.hub p.seat (p.here k there); stands = s })

@@ -2,7 +2,7 @@
 --     state-line      a state, and no records
 --     set-lines      a state with its records
 --     record-line, record-more      the line of a record, and one behind others
-use Rattle.std.proofs.Common.{◌≡◌, ℕ, ◌+◌, ◌<◌, List, [], ◌∷◌, ◌++◌, length, drop, get_or, sym, ◌∙◌, ap, append_assoc, append-nil, codes, decimal, string_bytes}
+use Rattle.std.proofs.Common.{◌≡◌, ℕ, ◌+◌, ◌<◌, List, [], ◌∷◌, ◌++◌, length, drop, get_or, sym, ◌∙◌, ap, append_assoc, append-nil, codes, decimal}
 use Rattle.std.proofs.lemmas.List.{at_drop_more}
 use Rattle.dnsname.specs.Text.{name_text}
 use Rattle.rrset.specs.RecordSet.{RecordSet}
@@ -10,8 +10,7 @@ use Rattle.rrset.specs.declared.record.Key.{Key}
 use Rattle.rrset.specs.declared.record.Shown.{Shown}
 use Rattle.scripts.specs.Words.{octets_text}
 use Rattle.replay.specs.TextWords.{record_line, with_records}
-use Rattle.replay.specs.KeptShows.{record_lines, showing_text}
-use Rattle.scripts.specs.declared.line.Showing.{Showing}
+use Rattle.replay.specs.KeptShows.{Showing, record_lines, showing_text}
 use Rattle.replay.proofs.worlds.Doing.{one_line}
 
 -- words with a space between each two, and the end of the line
@@ -37,8 +36,8 @@ six-words front v w x y z = worded front v w x y z ∙ one_line (front ++ (v ++ 
 
 -- ---- states
 
-pub state-line : (showing : Showing) (state : List ℕ) → six_words (codes "show ") (string_bytes showing.word) (string_bytes showing.written) (decimal showing.question.kind) (decimal showing.question.class) state ≡ showing_text showing (state, [])
-state-line showing state = six-words (codes "show ") (string_bytes showing.word) (string_bytes showing.written) (decimal showing.question.kind) (decimal showing.question.class) state
+pub state-line : (showing : Showing) (state : List ℕ) → six_words (codes "show ") showing.word showing.written (decimal showing.question.kind) (decimal showing.question.class) state ≡ showing_text showing (state, [])
+state-line showing state = six-words (codes "show ") showing.word showing.written (decimal showing.question.kind) (decimal showing.question.class) state
 
 pub set-lines : (showing : Showing) (state : List ℕ) (set : RecordSet) (count : ℕ) (counted text told : List ℕ) → count ≡ length set → counted ≡ state ++ 32 ∷ decimal count → text ≡ showing_text showing (counted, []) → told ≡ text ++ record_lines set
     → told ≡ showing_text showing (with_records state set)
@@ -50,7 +49,7 @@ set-lines showing state set count counted text told many counted_is text_is is =
     ∙ append_assoc (ended front) [] (record_lines set)
   where
     front : List ℕ
-    front = codes "show " ++ (string_bytes showing.word ++ 32 ∷ (string_bytes showing.written ++ 32 ∷ (decimal showing.question.kind ++ 32 ∷ (decimal showing.question.class ++ 32 ∷ (state ++ 32 ∷ decimal (length set))))))
+    front = codes "show " ++ (showing.word ++ 32 ∷ (showing.written ++ 32 ∷ (decimal showing.question.kind ++ 32 ∷ (decimal showing.question.class ++ 32 ∷ (state ++ 32 ∷ decimal (length set))))))
 
 -- ---- records
 

@@ -20,8 +20,8 @@ use Rattle.dsosession.specs.declared.session.Reaction.{Reaction}
 use Rattle.dsosession.specs.declared.session.Reaction.TheVariants as reactions
 use Rattle.history.specs.States.{verdict, accepts, reconfirm_key}
 use Rattle.history.specs.declared.entry.Entry.TheVariants as entries
-use Rattle.pushsession.specs.declared.standing.Standing.{Standing}
-use Rattle.pushsession.specs.declared.standing.Standing.TheVariants.{Live, AskedToStop, Stopped, Ended}
+use Rattle.pushsession.specs.declared.session_status.SessionStatus.{SessionStatus}
+use Rattle.pushsession.specs.declared.session_status.SessionStatus.TheVariants.{Live, AskedToStop, Stopped, Ended}
 use Rattle.pushsession.specs.Subscribing.{Verdict, Refuse, Abort, Accept, verdict_on, subscribed, first_answer_size, decided}
 use Rattle.pushserver.specs.PlainHubs.{Session, wanted, Hub, first_answer, asks_for}
 use Rattle.pushserver.specs.Hubs.{now, state_now, records_now, keeps_now, tells_now, can_enter}
@@ -55,10 +55,10 @@ few-cond false t u h k = k
 few-left : (s : Session) → length s.output ≤ 2000000 → IsFew (left_as s)
 few-left s few = by s.standing
   where
-    turned : Standing → Turned
+    turned : SessionStatus → Turned
     turned standing = left_as (record s { standing = standing })
 
-    by : (standing : Standing) → IsFew (turned standing)
+    by : (standing : SessionStatus) → IsFew (turned standing)
     by Live = few
     by (AskedToStop rcode delay) = few
     by (Stopped since) = few

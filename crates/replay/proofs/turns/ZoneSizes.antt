@@ -1,7 +1,7 @@
 -- How large the records of one name are in a state: at most 60,000 octets for each zone and each link.
 --     IsSmall, IsBounded, bounded-after      the bound, and that every entry keeps it
 --     records-size      the records of a name in such a state
-use Rattle.std.proofs.Common.{◌≡◌, ◌⊎◌, inl, inr, ℕ, zero, suc, ◌+◌, ◌*◌, ◌≤◌, Bool, true, false, cond, ◌&&◌, List, [], ◌∷◌, ◌++◌, map, filter, fold, length, length-append, Option, Some, None, Result, Ok, Err, nat_le, nat_lt, refl, sym, ap, subst, arith, take_all, le_refl}
+use Rattle.std.proofs.Common.{◌≡◌, ◌⊎◌, inl, inr, ℕ, zero, suc, ◌+◌, ◌*◌, ◌≤◌, Bool, true, false, cond, List, [], ◌∷◌, ◌++◌, map, fold, length, length-append, Option, Some, None, Result, Ok, Err, nat_le, nat_lt, refl, sym, ap, subst, arith, take_all, le_refl}
 use Rattle.std.proofs.lemmas.List.{length-map}
 use Rattle.std.specs.List.{AllByRecursion, list_all}
 use Rattle.std.proofs.lemmas.Bool.Decides.{nat_tests}
@@ -15,24 +15,14 @@ use Rattle.rrset.proofs.Sizes.{size_of-only-union}
 use Rattle.dnswire.specs.declared.message.Update.{Update}
 use Rattle.zoneupdate.specs.Zones.{ZoneState}
 use Rattle.zoneupdate.specs.Updates.{judged, refused_first, accepted_or, is_within_limits, with_counted_ttl, rows_after}
-use Rattle.rrset.specs.Records.{same_key}
-use Rattle.rrset.specs.declared.record.Key.{Key}
-use Rattle.rrset.specs.declared.record.HeardRr.{HeardRr}
-use Rattle.rrset.specs.declared.record.Hearing.{Hearing}
-use Rattle.linkcache.specs.declared.row.HeardRow.{HeardRow}
-use Rattle.linkcache.specs.Rows.{LinkRows, second, ending_by, put_heard, is_of_set, flushed_by, usable_of, reconfirmation, reconfirmed, shown_rows}
-use Rattle.linkcache.specs.Sound.{AreLinkRows}
-use Rattle.linkcache.specs.Within.{IsWithin}
-use Rattle.linkcache.proofs.KeyedParts.{Rising, KeepsKeys, rising-map, rising-filter}
-use Rattle.linkcache.proofs.HeardSteps.{rising-put_heard}
-use Rattle.linkcache.proofs.SoundSteps.{sound-heard, sound-moment, sound-reconfirmed}
-use Rattle.linkcache.proofs.OwnerSizes.{within-heard, within-moment, within-reconfirmed}
+use Rattle.linkcache.specs.Rows.{shown_rows}
 use Rattle.linkcache.proofs.ShownSizes.{shown_fits}
 use Rattle.coalesce.proofs.ReadBack.{each-append}
 use Rattle.pushclient.proofs.SoundWishes.{all_map}
-use Rattle.history.specs.States.{State, LinkState, home_names, with_rows, zone_for, updated, after, state_at, records, link_heard, link_at_moment}
+use Rattle.history.specs.Entries.{Concern, a_zone, a_link, all_links, concern}
+use Rattle.history.specs.States.{State, LinkState, home_names, with_rows, zone_for, updated, after, after_by, state_at, records, link_after, link_at_moment}
 use Rattle.history.specs.declared.entry.Entry.{Entry}
-use Rattle.history.specs.declared.entry.Entry.TheVariants as entries
+use Rattle.history.proofs.OneLink.{AreRows, rows-after, rows-moment}
 use Rattle.pushserver.proofs.Queues.{same_name-octets}
 
 -- ---- one zone
@@ -98,66 +88,17 @@ judged-small homes zone update =
 
 -- ---- one link
 
--- its keys rise, its rows are those of usable records, and they are within the limits
-pub record IsSmallLink (link : LinkState) : Type 0 where
-  pub order : Rising link.rows
-  pub sound : AreLinkRows link.domain link.rows
-  pub within : IsWithin link.domain link.rows
+small-shown : (link : LinkState) → AreRows link → IsSmall (shown_rows link.domain link.rows)
+small-shown link are name = shown_fits link.domain link.rows are.sound are.within name
 
-small-shown : (link : LinkState) → IsSmallLink link → IsSmall (shown_rows link.domain link.rows)
-small-shown link small name = shown_fits link.domain link.rows small.sound small.within name
-
-pub small-silent : (domain : Labels) → IsSmallLink (record { domain = domain; rows = [] })
+pub small-silent : (domain : Labels) → AreRows (record { domain = domain; rows = [] })
 small-silent domain = record { order = tt; sound = tt; within = record { few = omega arith; owners = λ owner. omega arith } }
-
-ends-keep : (test : Key × HeardRow → Bool) (moment : ℕ) → KeepsKeys (λ (row : Key × HeardRow). cond (test row) (ending_by moment row) row)
-ends-keep test moment e = by (test e)
-  where
-    by : (b : Bool) → (cond b (ending_by moment e) e).0 ≡ e.0
-    by true = refl
-    by false = refl
-
-rising-puts : (domain : Labels) (now : ℕ) (hs : List HeardRr) (rows : LinkRows) → Rising rows → Rising (fold (put_heard domain now 0) rows hs)
-rising-puts domain now [] rows h = h
-rising-puts domain now (e ∷ es) rows h = rising-puts domain now es (put_heard domain now 0 rows e) (rising-put_heard domain now 0 rows e h)
-
-rising-flushes : (now : ℕ) (hs : List HeardRr) (rows : LinkRows) → Rising rows → Rising (fold (flushed_by now) rows hs)
-rising-flushes now [] rows h = h
-rising-flushes now (e ∷ es) rows h =
-    let test : Key × HeardRow → Bool = λ row. is_of_set e.rr row && nat_lt (row.1.heard + second) now in
-    rising-flushes now es (flushed_by now rows e) (rising-map (λ (row : Key × HeardRow). cond (test row) (ending_by (now + second) row) row) (ends-keep test (now + second)) rows h)
-
-small-heard : (now : ℕ) (hearing : Hearing) (link : LinkState) → IsSmallLink link → IsSmallLink (link_heard now hearing link)
-small-heard now hearing link small =
-    let usable = usable_of link.domain hearing.rrs in
-    record {
-      order = rising-flushes now (filter (λ h. h.flush) usable) (fold (put_heard link.domain now 0) link.rows usable) (rising-puts link.domain now usable link.rows small.order);
-      sound = sound-heard link.domain now hearing.rrs link.rows small.sound;
-      within = within-heard link.domain now hearing.rrs link.rows small.order small.sound small.within;
-    }
-
-small-moment : (t : ℕ) (link : LinkState) → IsSmallLink link → IsSmallLink (link_at_moment t link)
-small-moment t link small = record {
-  order = rising-filter (λ (row : Key × HeardRow). nat_lt t row.1.ends) link.rows small.order;
-  sound = sound-moment link.domain t link.rows small.sound;
-  within = within-moment link.domain t link.rows small.within;
-}
-
-abbrev link_reconfirmed : Key → ℕ → LinkState → LinkState
-link_reconfirmed key now link = record link { rows = reconfirmed link.rows key now }
-
-small-reconfirmed : (key : Key) (now : ℕ) (link : LinkState) → IsSmallLink link → IsSmallLink (link_reconfirmed key now link)
-small-reconfirmed key now link small = record {
-  order = rising-map (λ (row : Key × HeardRow). cond (same_key key row.0) (ending_by (now + reconfirmation) row) row) (ends-keep (λ row. same_key key row.0) (now + reconfirmation)) link.rows small.order;
-  sound = sound-reconfirmed link.domain key now link.rows small.sound;
-  within = within-reconfirmed link.domain key now link.rows small.within;
-}
 
 -- ---- all homes
 
 pub record IsBounded (state : State) : Type 0 where
   pub few_links : length state.links ≤ 16
-  pub links : AllByRecursion IsSmallLink state.links
+  pub links : AllByRecursion AreRows state.links
   pub few : length state.zones ≤ 16
   pub small : AllByRecursion (λ z. IsSmall z.rows) state.zones
 
@@ -200,7 +141,7 @@ bounded-updated state update b = by (zone_for state update.zones)
     by (Ok zone) = bounded-given state zone (judged (home_names state) zone update) b (judged-small (home_names state) zone update)
 
 -- other links, as many
-bounded-links : (state : State) (links : List LinkState) (t : ℕ) → length links ≡ length state.links → AllByRecursion IsSmallLink links → IsBounded state → IsBounded (record state { links = links; now = t })
+bounded-links : (state : State) (links : List LinkState) (t : ℕ) → length links ≡ length state.links → AllByRecursion AreRows links → IsBounded state → IsBounded (record state { links = links; now = t })
 bounded-links state links t same all b = record { few_links = subst (λ n. n ≤ 16) (sym same) b.few_links; links = all; few = b.few; small = b.small }
 
 length-changed : {X : Type 0} (i : ℕ) (f : X → X) (xs : List X) → length (changed_at i f xs) ≡ length xs
@@ -213,18 +154,20 @@ changed-each P f keeps i [] all = tt
 changed-each P f keeps zero (x ∷ xs) all = (keeps x all.0, all.1)
 changed-each P f keeps (suc i) (x ∷ xs) all = (all.0, changed-each P f keeps i xs all.1)
 
--- every entry keeps the bound
-pub bounded-after : (state : State) (entry : Entry) → IsBounded state → IsBounded (after state entry)
-bounded-after state (entries.Update update) b = bounded-updated state update b
-bounded-after state (entries.Heard link hearing) b = bounded-links state (changed_at link (link_heard state.now hearing) state.links) state.now (length-changed link (link_heard state.now hearing) state.links)
-    (changed-each IsSmallLink (link_heard state.now hearing) (small-heard state.now hearing) link state.links b.links) b
-bounded-after state (entries.Moment t) b = by (nat_lt state.now t)
+-- every entry keeps the bound, whatever homes it concerns
+bounded-by : (entry : Entry) (state : State) (homes : Concern) → IsBounded state → IsBounded (after_by entry state homes)
+bounded-by entry state (a_zone update) b = bounded-updated state update b
+bounded-by entry state (a_link link) b =
+    bounded-links state (changed_at link (link_after entry state.now) state.links) state.now (length-changed link (link_after entry state.now) state.links)
+    (changed-each AreRows (link_after entry state.now) (rows-after entry state.now) link state.links b.links) b
+bounded-by entry state (all_links t) b = by (nat_lt state.now t)
   where
     by : (c : Bool) → IsBounded (cond c (record state { now = t; links = map (link_at_moment t) state.links }) state)
-    by true = bounded-links state (map (link_at_moment t) state.links) t (length-map state.links (link_at_moment t)) (all_map IsSmallLink IsSmallLink (link_at_moment t) (small-moment t) state.links b.links) b
+    by true = bounded-links state (map (link_at_moment t) state.links) t (length-map state.links (link_at_moment t)) (all_map AreRows AreRows (link_at_moment t) (rows-moment t) state.links b.links) b
     by false = b
-bounded-after state (entries.Reconfirm link key) b = bounded-links state (changed_at link (link_reconfirmed key state.now) state.links) state.now (length-changed link (link_reconfirmed key state.now) state.links)
-    (changed-each IsSmallLink (link_reconfirmed key state.now) (small-reconfirmed key state.now) link state.links b.links) b
+
+pub bounded-after : (state : State) (entry : Entry) → IsBounded state → IsBounded (after state entry)
+bounded-after state entry b = bounded-by entry state (concern entry) b
 
 bounded-all : (state : State) (entries : List Entry) → IsBounded state → IsBounded (fold after state entries)
 bounded-all state [] b = b
@@ -249,7 +192,7 @@ records-size state name b =
     let zones = map (λ (z : ZoneState). z.rows) state.zones in
     let links = map (λ (l : LinkState). shown_rows l.domain l.rows) state.links in
     let all = each-append IsSmall zones links (all_map (λ (z : ZoneState). IsSmall z.rows) IsSmall (λ (z : ZoneState). z.rows) (λ z h. h) state.zones b.small)
-    (all_map IsSmallLink IsSmall (λ (l : LinkState). shown_rows l.domain l.rows) small-shown state.links b.links) in
+    (all_map AreRows IsSmall (λ (l : LinkState). shown_rows l.domain l.rows) small-shown state.links b.links) in
     sum _ (length (zones ++ links)) (length zones) (length links) (sets-size name [] (zones ++ links) all) (length-append zones links)
     (subst (λ n. n ≤ 16) (sym (length-map state.zones (λ (z : ZoneState). z.rows))) b.few) (subst (λ n. n ≤ 16) (sym (length-map state.links (λ (l : LinkState). shown_rows l.domain l.rows))) b.few_links)
   where

@@ -3,7 +3,7 @@
 --     after-append, each-behind      the world behind two parts, and what holds of each line of the latter
 --     from-between, bounded-between      between two lines: the hub's start and its sessions' numbers, and the bounds of its state
 --     bounded-connected      a session more leaves the state
---     reply-is      the reply of a script
+--     reply-is, between-replied      the reply of a script, and by some of its lines
 use Rattle.std.proofs.Common.{◌≡◌, ℕ, Bool, true, false, cond, ◌&&◌, List, [], ◌∷◌, ◌++◌, length, Option, Some, None, Ok, ◌∙◌, ap, sym, subst, refl, append_assoc}
 use Rattle.std.specs.Prelude.{nat_lt}
 use Rattle.std.specs.List.{AllByRecursion}
@@ -15,8 +15,10 @@ use Rattle.scripts.specs.Lines.{ScriptLine}
 use Rattle.scripts.specs.Scripts.{script_of}
 use Rattle.replay.specs.World.{World, start_world}
 use Rattle.replay.specs.TextWords.{HeldRecords, by_history}
-use Rattle.replay.specs.Text.{ended_lines, line_does, printed_by, text_by, world_after}
+use Rattle.replay.specs.Text.{line_does, printed_by, text_by, world_after}
+use Rattle.scripts.specs.Words.{ended_lines}
 use Rattle.replay.specs.ScriptReplies.{reply_to_script}
+use Rattle.replay.specs.Between.{Between, lines_of, world_start, world_then, world_behind, reply_between}
 use Rattle.replay.proofs.worlds.OneWorld.{one-world}
 use Rattle.replay.proofs.worlds.BoundedHeads.{bounded-script}
 use Rattle.replay.proofs.worlds.Numbers.{IsFrom, from-lines}
@@ -80,3 +82,18 @@ unfolding reply_to_script
 reply-is records script lines text read is =
     ap (λ (p : ℕ × List ℕ). record { status = p.0; text = p.1 }) (ap (told records) read)
     ∙ ap (λ (t : List ℕ). record { status = 0; text = t }) is
+
+-- so it is with the lines before, some lines, and the lines behind
+pub between-replied : (records : HeldRecords) (script : List ℕ) (between : Between) (told : List (List ℕ)) → script_of script ≡ Ok (lines_of between) → printed_by records between.lines (world_then between) ≡ told
+    → reply_to_script records script ≡ reply_between records between told
+between-replied records script between told read is = reply-is records script (lines_of between) (reply_between records between told).text read (
+    ap ended_lines (printed-append records between.before (between.lines ++ between.behind) (world_start between))
+    ∙ lines-append front (printed_by records (between.lines ++ between.behind) (world_then between))
+    ∙ ap (λ (lines : List (List ℕ)). ended_lines front ++ ended_lines lines) (printed-append records between.lines between.behind (world_then between) ∙ ap (λ (lines : List (List ℕ)). lines ++ back) is)
+    ∙ ap (λ (rest : List ℕ). ended_lines front ++ rest) (lines-append told back))
+  where
+    front : List (List ℕ)
+    front = printed_by records between.before (world_start between)
+
+    back : List (List ℕ)
+    back = printed_by records between.behind (world_behind between)

@@ -9,16 +9,17 @@ use Rattle.rrset.proofs.Sets.{both_true}
 use Rattle.coalesce.proofs.ReadBack.{each-append}
 use Rattle.zoneupdate.specs.Zones.{ZoneState, new_zone}
 use Rattle.history.specs.Homes.{NamedHome, home_fault}
+use Rattle.history.proofs.OneLink.{AreRows}
 use Rattle.history.specs.States.{LinkState}
 use Rattle.history.specs.declared.entry.HomeFault.{HomeFault}
 use Rattle.history.specs.declared.entry.HomeFault.TheVariants.{Many, Long}
-use Rattle.scripts.specs.Lines.{Word, ScriptLine, silent, timers, zone, link, lone, at_moment, update, hear, ask, drop_question, reconfirm, open_connection, cut, send, feed, stop, point, show, client, settle, say, up, emit, down}
-use Rattle.scripts.specs.Scripts.{Known, nothing_known, is_among, known_behind, fits, allowed, with_line, lines_from, lines_read, client_words, script_of}
-use Rattle.scripts.specs.Heads.{Head, empty_head, with_head_line}
+use Rattle.scripts.specs.Lines.{Word, HeadLine, timers, zone, link, ScriptLine, silent, head_line, joining, hub_event, link_event, client_call, client_passing, client_event, session_event}
+use Rattle.scripts.specs.Scripts.{Known, nothing_known, is_among, may_head, may_follow, known_in_head, with_client, in_events, fits, allowed, with_line, lines_from, lines_read, client_words, script_of}
+use Rattle.scripts.specs.Heads.{Head, empty_head, with_head, with_head_line}
 use Rattle.replay.specs.World.{start_world}
 use Rattle.scripts.proofs.lines.SentOctets.{done, lines_or}
 use Rattle.replay.proofs.turns.StartSizes.{new_zone-small}
-use Rattle.replay.proofs.turns.ZoneSizes.{IsSmall, IsSmallLink, small-silent, IsBounded}
+use Rattle.replay.proofs.turns.ZoneSizes.{IsSmall, small-silent, IsBounded}
 
 abbrev pub is_zone : NamedHome → Bool
 is_zone h = cond h.1 false true
@@ -55,7 +56,7 @@ sum whole n m e f g = omega arith
 
 -- a further zone
 zone-turn : (known : Known) (head : Head) (apex : Labels) (serial : ℕ) (mode : Bool) → is_none (home_fault known.homes (apex, false)) ≡ true → HeadIs known head
-    → HeadIs (record known { homes = known.homes ++ (apex, false) ∷ [] }) (with_head_line head (zone apex serial mode))
+    → HeadIs (record known { homes = known.homes ++ (apex, false) ∷ [] }) (with_head head (zone apex serial mode))
 zone-turn known head apex serial mode none h =
     let no_fault = free (nat_le 16 (length (filter is_zone known.homes))) (nat_lt 200 (length (octets apex))) _ none in
     let few : length (filter is_zone known.homes) < 16 = few_below (length (filter is_zone known.homes)) no_fault.0 in
@@ -78,7 +79,7 @@ zone-turn known head apex serial mode none h =
 
 -- a further link
 link-turn : (known : Known) (head : Head) (w : Word) (domain : Labels) → is_none (home_fault known.homes (domain, true)) ≡ true → HeadIs known head
-    → HeadIs (known_behind known (link w domain)) (with_head_line head (link w domain))
+    → HeadIs (known_in_head known (link w domain)) (with_head head (link w domain))
 link-turn known head w domain none h =
     let no_fault = free (nat_le 16 (length (filter is_link known.homes))) (nat_lt 200 (length (octets domain))) _ none in
     let few : length (filter is_link known.homes) < 16 = few_below (length (filter is_link known.homes)) no_fault.0 in
@@ -91,43 +92,39 @@ link-turn known head w domain none h =
       link_count = longer ∙ ap (λ n. n + 1) h.link_count ∙ sym more;
       bounded = record {
         few_links = sum _ _ _ longer h.link_count few;
-        links = each-append IsSmallLink head.start.links (l ∷ []) h.bounded.links (small-silent domain, tt);
+        links = each-append AreRows head.start.links (l ∷ []) h.bounded.links (small-silent domain, tt);
         few = h.bounded.few;
         small = h.bounded.small;
       };
     }
 
+-- a further line of the head
+head-turn : (known : Known) (head : Head) (line : HeadLine) → may_head known line ≡ true → HeadIs known head → HeadIs (known_in_head known line) (with_head head line)
+head-turn known head (timers i k) may h = record { count = h.count; link_count = h.link_count; bounded = h.bounded }
+head-turn known head (zone apex serial mode) may h = zone-turn known head apex serial mode may h
+head-turn known head (link w domain) may h = link-turn known head w domain (both_true (not (is_among known.links w)) (is_none (home_fault known.homes (domain, true))) may).1 h
+
+-- and one that is none, behind which the same homes are known
+event-turn : (test : Bool) (known behind later : Known) (head : Head) → behind.homes ≡ known.homes → allowed test behind ≡ Some later → HeadIs known head → HeadIs later head
+event-turn test known behind later head same fit h = subst (λ n. HeadIs n head) (is_allowed test behind later fit).1 (record {
+  count = h.count ∙ ap (λ homes. length (filter is_zone homes)) (sym same);
+  link_count = h.link_count ∙ ap (λ homes. length (filter is_link homes)) (sym same);
+  bounded = h.bounded;
+})
+
 -- a further line
 turn : (all : List Word) (known later : Known) (head : Head) (line : ScriptLine) → fits all known line ≡ Some later → HeadIs known head → HeadIs later (with_head_line head line)
-turn all known later head silent fit h = subst (λ k. HeadIs k head) (some_is known later fit) h
-turn all known later head (timers i k) fit h = subst (λ n. HeadIs n (with_head_line head (timers i k))) (is_allowed _ _ later fit).1 (record { count = h.count; link_count = h.link_count; bounded = h.bounded })
-turn all known later head (zone apex serial mode) fit h =
-    let a = is_allowed (known.in_head && is_none (home_fault known.homes (apex, false))) (record known { homes = known.homes ++ (apex, false) ∷ [] }) later fit in
-    subst (λ n. HeadIs n (with_head_line head (zone apex serial mode))) a.1 (zone-turn known head apex serial mode (both_true known.in_head (is_none (home_fault known.homes (apex, false))) a.0).1 h)
-turn all known later head (link w domain) fit h =
-    let a = is_allowed (known.in_head && not (is_among known.links w) && is_none (home_fault known.homes (domain, true))) (known_behind known (link w domain)) later fit in
-    let both = both_true (known.in_head && not (is_among known.links w)) (is_none (home_fault known.homes (domain, true))) a.0 in
-    subst (λ n. HeadIs n (with_head_line head (link w domain))) a.1 (link-turn known head w domain both.1 h)
-turn all known later head (hear w o) fit h = subst (λ n. HeadIs n head) (is_allowed _ _ later fit).1 (record { count = h.count; link_count = h.link_count; bounded = h.bounded })
-turn all known later head (reconfirm w rr) fit h = subst (λ n. HeadIs n head) (is_allowed _ _ later fit).1 (record { count = h.count; link_count = h.link_count; bounded = h.bounded })
-turn all known later head (at_moment t) fit h = subst (λ n. HeadIs n head) (some_is _ later fit) (record { count = h.count; link_count = h.link_count; bounded = h.bounded })
-turn all known later head (update o) fit h = subst (λ n. HeadIs n head) (some_is _ later fit) (record { count = h.count; link_count = h.link_count; bounded = h.bounded })
-turn all known later head (client w) fit h = subst (λ n. HeadIs n head) (is_allowed _ _ later fit).1 (record { count = h.count; link_count = h.link_count; bounded = h.bounded })
-turn all known later head (say w m) fit h = subst (λ n. HeadIs n head) (is_allowed _ _ later fit).1 (record { count = h.count; link_count = h.link_count; bounded = h.bounded })
-turn all known later head (up w m) fit h = subst (λ n. HeadIs n head) (is_allowed _ _ later fit).1 (record { count = h.count; link_count = h.link_count; bounded = h.bounded })
-turn all known later head (emit w m) fit h = subst (λ n. HeadIs n head) (is_allowed _ _ later fit).1 (record { count = h.count; link_count = h.link_count; bounded = h.bounded })
-turn all known later head (down w m) fit h = subst (λ n. HeadIs n head) (is_allowed _ _ later fit).1 (record { count = h.count; link_count = h.link_count; bounded = h.bounded })
-turn all known later head (settle w) fit h = subst (λ n. HeadIs n head) (is_allowed _ _ later fit).1 (record { count = h.count; link_count = h.link_count; bounded = h.bounded })
-turn all known later head (lone w) fit h = subst (λ n. HeadIs n head) (is_allowed _ _ later fit).1 (record { count = h.count; link_count = h.link_count; bounded = h.bounded })
-turn all known later head (ask w q) fit h = subst (λ n. HeadIs n head) (is_allowed _ _ later fit).1 (record { count = h.count; link_count = h.link_count; bounded = h.bounded })
-turn all known later head (drop_question w q) fit h = subst (λ n. HeadIs n head) (is_allowed _ _ later fit).1 (record { count = h.count; link_count = h.link_count; bounded = h.bounded })
-turn all known later head (open_connection w) fit h = subst (λ n. HeadIs n head) (is_allowed _ _ later fit).1 (record { count = h.count; link_count = h.link_count; bounded = h.bounded })
-turn all known later head (cut w) fit h = subst (λ n. HeadIs n head) (is_allowed _ _ later fit).1 (record { count = h.count; link_count = h.link_count; bounded = h.bounded })
-turn all known later head (send w o) fit h = subst (λ n. HeadIs n head) (is_allowed _ _ later fit).1 (record { count = h.count; link_count = h.link_count; bounded = h.bounded })
-turn all known later head (feed w o) fit h = subst (λ n. HeadIs n head) (is_allowed _ _ later fit).1 (record { count = h.count; link_count = h.link_count; bounded = h.bounded })
-turn all known later head (show w q n) fit h = subst (λ n. HeadIs n head) (is_allowed _ _ later fit).1 (record { count = h.count; link_count = h.link_count; bounded = h.bounded })
-turn all known later head (stop w r d) fit h = subst (λ n. HeadIs n head) (is_allowed _ _ later fit).1 (record { count = h.count; link_count = h.link_count; bounded = h.bounded })
-turn all known later head point fit h = subst (λ n. HeadIs n head) (some_is _ later fit) (record { count = h.count; link_count = h.link_count; bounded = h.bounded })
+turn all known later head silent fit h = event-turn true known known later head refl fit h
+turn all known later head (head_line line) fit h =
+    let a = is_allowed (known.in_head && may_head known line) (known_in_head known line) later fit in
+    subst (λ n. HeadIs n (with_head head line)) a.1 (head-turn known head line (both_true known.in_head (may_head known line) a.0).1 h)
+turn all known later head (joining w is_lone) fit h = event-turn (may_follow all known (joining w is_lone)) known (with_client w is_lone known) later head refl fit h
+turn all known later head (hub_event event) fit h = event-turn (may_follow all known (hub_event event)) known (in_events known) later head refl fit h
+turn all known later head (link_event w event) fit h = event-turn (may_follow all known (link_event w event)) known (in_events known) later head refl fit h
+turn all known later head (client_call w call) fit h = event-turn (may_follow all known (client_call w call)) known (in_events known) later head refl fit h
+turn all known later head (client_passing w way) fit h = event-turn (may_follow all known (client_passing w way)) known (in_events known) later head refl fit h
+turn all known later head (client_event w event) fit h = event-turn (may_follow all known (client_event w event)) known (in_events known) later head refl fit h
+turn all known later head (session_event w event) fit h = event-turn (may_follow all known (session_event w event)) known (in_events known) later head refl fit h
 
 -- ---- all lines
 

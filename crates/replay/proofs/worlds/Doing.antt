@@ -14,14 +14,15 @@ use Rattle.pushserver.proofs.Walks.{with_new}
 use Rattle.scripts.specs.Lines.{Word}
 use Rattle.replay.specs.World.{World, Seat, cut_peer, cut_connection, number_in, session_number, stopped_hub}
 use Rattle.replay.specs.PassedOctets.{exchanged, enough}
-use Rattle.scripts.specs.Words.{spaced, octets_text}
+use Rattle.scripts.specs.Words.{spaced, octets_text, ended_lines}
 use Rattle.replay.specs.TextWords.{end_words}
-use Rattle.replay.specs.Text.{Printed, ended_lines, printing, updates, moments, timed, asked_to_stop, session_of_word, stops, cuts, exchanges, sends, end_lines}
+use Rattle.replay.specs.Text.{Printed, printing, updates, moments, timed, asked_to_stop, session_of_word, stops, cuts, exchanges, sends, end_lines}
 use Rattle.replay.specs.KeptExchanges.{Exchanges}
 use Rattle.replay.specs.KeptWorlds.{KeptSeat, Parties, StandsForWorld, HasPrinted, Acts}
 use Rattle.replay.specs.KeptSeats.{has_word, IsTimed, Times, TimesWorld}
 use Rattle.replay.proofs.worlds.Seats.{absent, IsSeated, is-seated}
 use Rattle.replay.proofs.worlds.TimedSeats.{peers-timed, links-timed}
+use Rattle.replay.proofs.worlds.LinesDoing.{hub_timed}
 
 -- ---- lines
 
@@ -58,10 +59,6 @@ points-act kept known written point moment tells_point tells_moment is world w d
   stands = w;
 }
 
--- the world behind a hub's moment, and what it prints
-abbrev hub_timed : ℕ → World → Printed
-hub_timed t world = (let r = hubs.moment world.hub t in (record world { hub = r.1 }, cond r.0 (codes "full" ∷ []) []))
-
 pub moments-act : (kept between later : KeptHub) (known known_later : Parties) (t : ℕ) (full : Bool) (text written : List ℕ)
     → ((hub : Hub) → StandsFor kept hub → ((hubs.moment hub t).0 ≡ full) × StandsFor between (hubs.moment hub t).1)
     → text ≡ ended_lines (cond full (codes "full" ∷ []) []) → TimesWorld between known text later known_later written → Acts (moments t) kept known written later known_later
@@ -70,7 +67,7 @@ moments-act kept between later known known_later t full text written does is tim
     let at = timed_so.at in
     let r = does world.hub w.hub in
     let after = (hubs.moment world.hub t).1 in
-    let first = hub_timed t world in
+    let first = hub_timed world t in
     let same : at ≡ now after = timed_so.moment after r.1 in
     let told : IsTimed at later known_later.seats written first.0 first.1 = timed_so.times first.0 first.1 r.1 w.seats d (is ∙ ap (λ (b : Bool). ended_lines (cond b (codes "full" ∷ []) [])) (sym r.0)) in
     subst (λ (n : ℕ). HasPrinted later known_later written (fold (timed n) first world.seats)) same (record {

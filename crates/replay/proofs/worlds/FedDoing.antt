@@ -13,14 +13,15 @@ use Rattle.scripts.specs.Lines.{Word}
 use Rattle.replay.specs.World.{Seat, World, with_seat, cut_seat, with_client, is_over, cut_if, hub_cut_if, world_cut_if}
 use Rattle.scripts.specs.Words.{spaced, octets_text}
 use Rattle.replay.specs.Text.{Printed, close_lines, feeds}
-use Rattle.replay.specs.KeptSteps.{Delivers, HandsOut}
+use Rattle.replay.specs.KeptSteps.{Delivers}
+use Rattle.pushclient.specs.HandedOut.{HandsOut}
 use Rattle.replay.specs.KeptWorlds.{KeptSeat, Seated, Parties, StandsForSeat, StandForSeats, HasPrinted, Acts}
 use Rattle.replay.specs.KeptSeats.{has_word, Makes, Calls, Answers, HasFinished, TellsConnected, closing_text}
 use Rattle.replay.specs.KeptFeeds.{fed_seat, HasFed, fed_text}
 use Rattle.replay.specs.PassedOctets.{reached_by, fed_client}
 use Rattle.replay.proofs.worlds.Doing.{one_line, two_parts, worded}
 use Rattle.replay.proofs.worlds.FedSeats.{feeds_as, feeds_by}
-use Rattle.replay.proofs.worlds.Seats.{absent, called, IsCalled, is-seated, IsSeated, put-put, stays-makes}
+use Rattle.replay.proofs.worlds.Seats.{absent, is-called, IsCalled, is-seated, IsSeated, put-put, stays-makes}
 use Rattle.replay.proofs.worlds.SeatsDoing.{with_seats}
 
 -- ---- a client
@@ -80,7 +81,7 @@ pub feeds-open : (kept between : KeptHub) (known : Parties) (later : Seated) (w 
     → Acts (feeds w octets) kept known written between (with_seats known later)
 unfolding Acts
 feeds-open kept between known later w octets told closing place k written at there tells c is world s d =
-    let r : IsCalled w known.seats later place world (HasFed octets told closing kept between) (fed_seat octets closing) = called w known.seats later world place (HasFed octets told closing kept between) (fed_seat octets closing) s.seats d at c in
+    let r : IsCalled w known.seats later place world (HasFed octets told closing kept between) (fed_seat octets closing) = is-called w known.seats later world place (HasFed octets told closing kept between) (fed_seat octets closing) s.seats d at c in
     let here : StandsForSeat k r.seat = r.here k there in
     subst (λ (o : Option Seat). HasPrinted between (with_seats known later) written (feeds_by w octets world o)) (sym r.found)
     (subst (λ (b : Bool). HasPrinted between (with_seats known later) written (feeds_as w octets world r.seat b)) (tells k r.seat there here)

@@ -1,7 +1,7 @@
 -- Head lines, and lines that say nothing, print nothing.
 --     starts-so, prints-so, leaves-so      the world with which a script that was read starts, what its events print, and what they leave, by its lines
 use Rattle.std.proofs.Common.{◌≡◌, ℕ, Bool, true, false, not, cond, List, [], ◌∷◌, ◌++◌, sym, ◌∙◌, ap, refl}
-use Rattle.scripts.specs.Lines.{ScriptLine, silent, timers, zone, link}
+use Rattle.scripts.specs.Lines.{ScriptLine, silent, head_line}
 use Rattle.scripts.specs.Scripts.{is_head, happening}
 use Rattle.scripts.specs.KeptScripts.{IsWhole, events_said}
 use Rattle.scripts.specs.declared.script.Script.{Script}
@@ -15,9 +15,7 @@ use Rattle.replay.proofs.worlds.OneWorld.{one-world}
 
 does-nothing : (world : World) (line : ScriptLine) → is_head line ≡ true → line_does by_notices line world ≡ (world, [])
 does-nothing world silent e = refl
-does-nothing world (timers i k) e = refl
-does-nothing world (zone apex serial mode) e = refl
-does-nothing world (link w domain) e = refl
+does-nothing world (head_line head) e = refl
 does-nothing world _ e = absurd cc
 
 abbrev prints : List ScriptLine → World → List (List ℕ)

@@ -13,7 +13,8 @@ use Rattle.pushserver.specs.KeptHubs.{KeptHub, StandsFor}
 use Rattle.pushserver.specs.declared.given.Heard.{Heard}
 use Rattle.scripts.specs.Lines.{Word}
 use Rattle.replay.specs.World.{World}
-use Rattle.replay.specs.Text.{Printed, printing, ended_lines, heard_words, hears, number_or_zero}
+use Rattle.replay.specs.Text.{Printed, printing, heard_words, hears, number_or_zero}
+use Rattle.scripts.specs.Words.{ended_lines}
 use Rattle.scripts.specs.Drafts.{is_word}
 use Rattle.replay.specs.KeptWorlds.{Parties, HasPrinted, Acts}
 use Rattle.scripts.specs.KeptLines.{words_of}

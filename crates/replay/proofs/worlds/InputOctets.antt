@@ -8,18 +8,17 @@ use Rattle.std.specs.Char.{is_ascii_hexdigit}
 use Rattle.std.proofs.lemmas.Bool.Decides.{nat_tests}
 use Rattle.std.proofs.lemmas.List.Elements.{All-nil, All-append, All-take, All-drop, recursion_from_All}
 use Rattle.dnsname.specs.Names.{Labels, IsLabel, label_octets, labels_octets, octets, is_name}
-use Rattle.dnsname.proofs.Decisions.{is_name-Decides}
+use Rattle.dnsname.proofs.Decisions.{is_name-Decides, and_true}
 use Rattle.push_base.specs.Hexadecimal.{first_other, digit_value, octets_of_digits, octets_or_fault, hex_octets}
 use Rattle.push_base.proofs.HexLaws.{digits_all}
 use Rattle.rrset.proofs.Places.{all_filter}
-use Rattle.dnsname.proofs.Decisions.{and_true}
 use Rattle.coalesce.proofs.Packing.{each-front}
 use Rattle.coalesce.proofs.ReadBack.{each-append}
 use Rattle.dsotlv.specs.Laws.{AreOctets}
 use Rattle.dsotlv.proofs.Results.{same_found}
 use Rattle.dsosession.specs.declared.session.EndReason.{EndReason}
-use Rattle.pushsession.specs.declared.standing.Standing.TheVariants.{AskedToStop}
-use Rattle.pushsession.specs.Sessions.{is_open, new_session, room_of, takes, asked_to_stop, due, ended_where, timed, without_first}
+use Rattle.pushsession.specs.declared.session_status.SessionStatus.TheVariants.{AskedToStop}
+use Rattle.pushsession.specs.Sessions.{is_open, new_session, room_of, with_piece, asked_to_stop, due, ended_where, timed, without_first}
 use Rattle.pushserver.specs.PlainHubs.{Session, Hub, plain_keeps}
 use Rattle.pushserver.specs.Hubs.{now, keeps_now, session_of, in_session, connect}
 use Rattle.pushserver.specs.Calls.{connects}
@@ -155,7 +154,7 @@ found_octets hub number session there h = by (find (λ (e : ℕ × Session). e.0
     by None is there = absurd cc
     by (Some e) is there = subst (λ (s : Session). AreOctets s.input) (same_found e.1 session there) (found-each HasInput (λ (e : ℕ × Session). e.0 == number) hub.sessions e h is).0
 
-takes_octets : (piece : List ℕ) → AreOctets piece → (s : Session) → AreOctets s.input → AreOctets (takes piece s).input
+takes_octets : (piece : List ℕ) → AreOctets piece → (s : Session) → AreOctets s.input → AreOctets (with_piece piece s).input
 takes_octets piece q s i = All-append IsOctet s.input (take (room_of s) piece) i (All-take IsOctet (room_of s) piece q)
 
 -- what a call does to a session leaves its input
@@ -169,7 +168,7 @@ octets-kept = record {
   changes = λ hub number f step h. one_octets number f (step_octets f step) hub h;
   enters = λ hub entry by h. map_octets _ (λ e i. i) hub.sessions h;
   times = λ hub point t h. map_octets _ (λ e i. timed_octets point t e.1 i) hub.sessions h;
-  takes_in = λ hub number piece q h. one_octets number (takes piece) (takes_octets piece q) hub h;
+  takes_in = λ hub number piece q h. one_octets number (with_piece piece) (takes_octets piece q) hub h;
   asks_stop = λ hub number rcode delay h. one_octets number (asked_to_stop rcode delay) (λ s i. stop_octets rcode delay s i) hub h;
   makes = λ hub h. each-append HasInput hub.sessions ((hub.numbers_given, new_session (keeps_now hub) (now hub)) ∷ []) h (All-nil IsOctet, tt);
   drops = λ hub number h. all_filter HasInput (λ e. not (e.0 == number)) hub.sessions h;

@@ -2,34 +2,40 @@
 --     KeepsClients Good C, any-clients      what is kept of clients, and that nothing is
 --     AreReady Good C world, any-ready      what is good of what clients have said
 --     keeps-lines      the law
-use Rattle.std.proofs.Common.{◌≡◌, ℕ, Bool, true, false, cond, List, [], ◌∷◌, ◌++◌, fold, Option, Some, None, option_map, sym, subst, codes, ◌-◌, take, min, length, refl}
-use Rattle.std.specs.Prelude.{position}
+use Rattle.std.proofs.Common.{◌≡◌, ℕ, Bool, true, false, cond, List, [], ◌∷◌, fold, Option, Some, None, sym, subst, ◌-◌, take, min, length}
 use Rattle.std.specs.Str.{bytes_eq}
 use Rattle.coalesce.proofs.ReadBack.{each-append}
 use Rattle.dnsname.specs.Names.{octets}
 use Rattle.rrset.specs.declared.record.Question.{Question}
 use Rattle.rrset.specs.declared.record.Rr.{Rr}
 use Rattle.std.specs.List.{AllByRecursion}
-use Rattle.dsosession.specs.declared.session.EndReason.{EndReason}
-use Rattle.pushserver.specs.Hubs as hubs
 use Rattle.pushserver.specs.PlainHubs.{Hub}
-use Rattle.pushserver.specs.Calls.{updates, hears as hearing, moves, connects, stops}
-use Rattle.pushserver.specs.Hubs.{now, connect, taken_by}
+use Rattle.pushserver.specs.Calls.{updates, moves}
+use Rattle.pushserver.specs.Hubs.{taken_by, now}
 use Rattle.pushserver.proofs.session_steps.Lists.{found-each}
-use Rattle.pushserver.proofs.Walks.{AnyMessage, IsKept, keeps-called}
-use Rattle.pushclient.specs.Clients.{Client, new_client, subscribe, unsubscribe, reconfirm as doubt, closed_as, connected, cut as cut_client, give_octets, output_of, is_connected}
+use Rattle.pushserver.proofs.Walks.{AnyMessage, BringsGood, IsKept, keeps-called, with_new}
+use Rattle.pushclient.specs.Clients.{Client, new_client, subscribe, unsubscribe, reconfirm as doubt, closed_as, connected, cut as cut_client, give_octets, output_of}
 use Rattle.pushclient.specs.Steps as steps
-use Rattle.scripts.specs.Lines.{Word, ScriptLine, silent, timers, zone, link, lone, at_moment, update, hear, ask, drop_question, reconfirm, open_connection, cut, send, feed, stop, point, show, client as joins, settle, say, up, emit, down}
-use Rattle.replay.specs.World.{Seat, World, seat_of, with_seat, session_number, hub_without, cut_connection, cut_peer, new_seat, cut_seat, is_over, world_cut_if}
-use Rattle.replay.specs.PassedOctets.{Exchanged, exchanged, enough, max_wire, to_client, reached_by}
+use Rattle.scripts.specs.Lines.{Word, ScriptLine, silent, head_line, joining, hub_event, link_event, client_call, client_passing, client_event, session_event}
+use Rattle.scripts.specs.declared.line.HubEvent.{HubEvent}
+use Rattle.scripts.specs.declared.line.HubEvent.TheVariants as hub_events
+use Rattle.scripts.specs.declared.line.LinkEvent.{LinkEvent}
+use Rattle.scripts.specs.declared.line.LinkEvent.TheVariants as link_events
+use Rattle.scripts.specs.declared.line.Call.{Call}
+use Rattle.scripts.specs.declared.line.Call.TheVariants as calls
+use Rattle.scripts.specs.declared.line.ClientEvent.{ClientEvent}
+use Rattle.scripts.specs.declared.line.ClientEvent.TheVariants as client_events
+use Rattle.scripts.specs.declared.line.SessionEvent.{SessionEvent}
+use Rattle.scripts.specs.declared.line.SessionEvent.TheVariants as session_events
+use Rattle.replay.specs.World.{Seat, World, seat_of, with_seat, with_client, joined, session_number, hub_without, stopped_hub, cut_connection, cut_peer, new_seat, cut_seat, is_over, world_cut_if}
+use Rattle.replay.specs.PassedOctets.{enough, max_wire, to_client, reached_by}
 use Rattle.replay.specs.TextWords.{by_history}
-use Rattle.replay.specs.Text.{Printed, quietly, printing, feeds, timed, asks, subscribing, unsubscribing, reconfirming, number_or_zero, opens_lone, opens_hub, opens, exchanges, session_of_word, line_does, world_after, seated, asked_to_stop}
+use Rattle.replay.specs.Text.{Printed, feeds, timed, called, asks, opens, exchanges, sends, cuts, session_of_word, line_does, link_call, hub_does, client_does, session_does, world_after, seated, passes_way, passes}
 use Rattle.replay.proofs.worlds.OneWorld.{shows-leave}
-use Rattle.replay.proofs.worlds.FedSeats.{fed, fed_over, feeds_as, feeds_by}
+use Rattle.replay.proofs.worlds.FedSeats.{fed, fed_over}
 use Rattle.replay.proofs.worlds.Keeping.{InParts, exchanged-keeps, give-keeps}
-use Rattle.replay.specs.declared.settling.Way.{Way}
-use Rattle.replay.specs.declared.settling.Way.TheVariants as ways
-use Rattle.replay.specs.KeptPassings.{passes_way, way_does}
+use Rattle.replay.proofs.worlds.LinesDoing.{with_peer, hub_timed, moment_now, exchanged_with, cut-does, exchange-does, send-does, ask-does, open-does, feed-does}
+use Rattle.scripts.specs.declared.line.Way.{Way}
 use Rattle.replay.proofs.worlds.PassedWorlds.{PassingsKeep, passing-keeps, passed-world, pass-does}
 use Rattle.replay.proofs.worlds.Seats.{put_seat}
 use Rattle.scripts.proofs.lines.SentOctets.{sent_by}
@@ -78,6 +84,10 @@ any-seats (s ∷ ss) = (record { wire = tt; client = tt }, any-seats ss)
 
 pub any-ready : (world : World) → AreReady AnyMessage AnyClient world
 any-ready world = any-seats world.seats
+
+-- an event on a link brings what its line sends
+pub link-brings : (Good : List ℕ → Type 0) (event : LinkEvent) (w : Word) (world : World) → AllByRecursion Good (sent_by (link_event w event)) → BringsGood Good (link_call event w world)
+link-brings Good (link_events.Hear datagram) w world q = q.0
 
 module _ (Good : List ℕ → Type 0) (P : Hub → Type 0) (kept : IsKept Good P) (parts : InParts Good) (C : Client → Type 0) (clients : KeepsClients Good C) where
   abbrev Ready : Seat → Type 0
@@ -128,96 +138,44 @@ module _ (Good : List ℕ → Type 0) (P : Hub → Type 0) (kept : IsKept Good P
       keeps-timed t seats (timed t p seat) all.1 (keeps-cut_if (is_over None (closed_as later.client)) later (with_seat later p.0) ready (keeps-put later p.0 ready h))
 
   keeps-exchanges : (w : Word) (number : ℕ) (octets : List ℕ) (world : World) → Good octets → Has world → Has (exchanges w number octets world).0
-  keeps-exchanges w number octets world q h = by x.over
-    where
-      x : Exchanged
-      x = exchanged enough number octets world.hub []
+  keeps-exchanges w number octets world q h =
+      let behind : Has (exchanged_with world number octets) = record { hub = exchanged-keeps Good P kept parts enough number octets world.hub [] q h.hub; seats = h.seats } in
+      exchange-does world Has w number octets behind (keeps-cut_peer w (exchanged_with world number octets) behind)
 
-      later : World
-      later = record world { hub = x.hub }
+  -- a world with a session more
+  keeps-new : (world : World) → Has world → Has (record world { hub = with_new world.hub })
+  keeps-new world h = record { hub = kept.makes world.hub h.hub; seats = h.seats }
 
-      behind : Has later
-      behind = record { hub = exchanged-keeps Good P kept parts enough number octets world.hub [] q h.hub; seats = h.seats }
+  keeps-sends : (w : Word) (octets : List ℕ) (world : World) → Good octets → Has world → Has (sends w octets world).0
+  keeps-sends w octets world q h =
+      let new : Has (with_peer w world) = (let more = keeps-new world h in record { hub = more.hub; seats = more.seats }) in
+      send-does world Has w octets (λ number is. keeps-exchanges w number octets world q h) (keeps-exchanges w world.hub.numbers_given octets (with_peer w world) q new) h
 
-      by : (o : Option EndReason) → Has (elim o as (λ _. World) [ None ↦ later | Some reason ↦ cut_peer w later ])
-      by None = behind
-      by (Some reason) = keeps-cut_peer w later behind
+  keeps-cuts : (w : Word) (world : World) → Has world → Has (cuts w world).0
+  keeps-cuts w world h = cut-does world Has w (λ seat e. keeps-cut_connection seat world (ready-found w world seat e h) h) (keeps-cut_peer w world h)
 
-  keeps-sends : (w : Word) (octets : List ℕ) (world : World) → Good octets → Has world → Has (line_does by_history (send w octets) world).0
-  keeps-sends w octets world q h = by (session_number world w)
-    where
-      new_place : Option ℕ → Option (ℕ × World)
-      new_place o = option_map (λ number. (number, record world { hub = (connect world.hub).1; peers = world.peers ++ (w, number) ∷ [] })) o
-
-      by_place : Option (ℕ × World) → Printed
-      by_place o = elim o as (λ _. Printed) [
-        | None ↦ printing (codes "noseat" ∷ w ∷ []) world
-        | Some place ↦ exchanges w place.0 octets place.1
-      ]
-
-      by_connect : (o : Option ℕ) → Has (by_place (new_place o)).0
-      by_connect None = h
-      by_connect (Some number) = keeps-exchanges w number octets (record world { hub = (connect world.hub).1; peers = world.peers ++ (w, number) ∷ [] }) q (record { hub = keeps-called Good P kept connects world.hub tt h.hub; seats = h.seats })
-
-      by : (o : Option ℕ) → Has (by_place (elim o as (λ _. Option (ℕ × World)) [ Some number ↦ Some (number, world) | None ↦ new_place (connect world.hub).0 ])).0
-      by (Some number) = keeps-exchanges w number octets world q h
-      by None = by_connect (connect world.hub).0
-
-  keeps-cuts : (w : Word) (world : World) → Has world → Has (line_does by_history (cut w) world).0
-  keeps-cuts w world h = by (seat_of world w) refl
-    where
-      by : (o : Option Seat) → seat_of world w ≡ o → Has (elim o as (λ _. World) [ None ↦ cut_peer w world | Some seat ↦ cut_connection seat world ])
-      by None e = keeps-cut_peer w world h
-      by (Some seat) e = keeps-cut_connection seat world (ready-found w world seat e h) h
-
-  keeps-stops : (w : Word) (rcode delay : ℕ) (world : World) → Has world → Has (line_does by_history (stop w rcode delay) world).0
-  keeps-stops w rcode delay world h = by (session_of_word world w)
-    where
-      by : (o : Option ℕ) → Has (asked_to_stop o rcode delay world)
-      by None = h
-      by (Some number) = record { hub = keeps-called Good P kept (stops number rcode delay) world.hub tt h.hub; seats = h.seats }
+  keeps-stopped : (o : Option ℕ) (rcode delay : ℕ) (hub : Hub) → P hub → P (stopped_hub o rcode delay hub)
+  keeps-stopped None rcode delay hub h = h
+  keeps-stopped (Some number) rcode delay hub h = kept.asks_stop hub number rcode delay h
 
   -- a call of a client leaves the hub
-  keeps-asks : (verb : List ℕ) (w : Word) (call : Client → List ℕ × Client) (world : World) → ((client : Client) → C client → C (call client).1) → Has world → Has (asks verb w call world).0
-  keeps-asks verb w call world keeps h = by (seat_of world w) refl
-    where
-      by : (o : Option Seat) → seat_of world w ≡ o → Has (elim o as (λ _. Printed) [
-        | None ↦ quietly world
-        | Some seat ↦ printing (verb ∷ w ∷ (call seat.client).0 ∷ []) (with_seat (record seat { client = (call seat.client).1 }) world)
-      ]).0
-      by None e = h
-      by (Some seat) e = (let r = ready-found w world seat e h in keeps-put (record seat { client = (call seat.client).1 }) world (record { wire = r.wire; client = keeps seat.client r.client }) h)
+  keeps-call : (w : Word) (call : Call) (client : Client) → AllByRecursion Good (sent_by (client_call w call)) → C client → C (called call client).1
+  keeps-call w (calls.Ask question) client q c = clients.subscribes client question q.0 c
+  keeps-call w (calls.Drop question) client q c = clients.unsubscribes client question c
+  keeps-call w (calls.Reconfirm rr) client q c = clients.reconfirms client rr q.0 q.1.0 c
 
-  keeps-opens_hub : (seat : Seat) (world : World) → Ready seat → Has world → Has (opens_hub seat world).0
-  keeps-opens_hub seat world r h = by (connect world.hub).0
-    where
-      by : (o : Option ℕ) → Has (elim o as (λ _. Printed) [
-        | None ↦ printing (codes "noseat" ∷ seat.word ∷ []) world
-        | Some number ↦ printing (codes "open" ∷ seat.word ∷ []) (with_seat (record seat { client = connected (now world.hub) seat.client; session = Some number }) (record world { hub = (connect world.hub).1 }))
-      ]).0
-      by None = h
-      by (Some number) =
-          let x : Seat = record seat { client = connected (now world.hub) seat.client; session = Some number } in
-          keeps-put x (record world { hub = (connect world.hub).1 }) (record { wire = r.wire; client = clients.connects seat.client (now world.hub) r.client })
-          (record { hub = keeps-called Good P kept connects world.hub tt h.hub; seats = h.seats })
+  keeps-asks : (call : Call) (w : Word) (world : World) → AllByRecursion Good (sent_by (client_call w call)) → Has world → Has (asks call w world).0
+  keeps-asks call w world q h = ask-does world Has w call h (λ seat e.
+      let r = ready-found w world seat e h in
+      keeps-put (record seat { client = (called call seat.client).1 }) world (record { wire = r.wire; client = keeps-call w call seat.client q r.client }) h)
 
   keeps-opens : (w : Word) (world : World) → Has world → Has (opens w world).0
-  keeps-opens w world h = by (seat_of world w) refl
+  keeps-opens w world h =
+      open-does world Has w h (λ seat e. keeps-put (with_client (connected (now world.hub)) seat) world (ready seat e) h)
+      (λ seat e hub. keeps-put (joined (now world.hub) world.hub.numbers_given seat) (record world { hub = with_new world.hub }) (record { wire = (ready seat e).wire; client = (ready seat e).client }) (keeps-new world h))
     where
-      by_kind : (seat : Seat) (b : Bool) → Ready seat → Has (cond b (opens_lone seat world) (opens_hub seat world)).0
-      by_kind seat true r = keeps-put (record seat { client = connected (now world.hub) seat.client }) world (record { wire = r.wire; client = clients.connects seat.client (now world.hub) r.client }) h
-      by_kind seat false r = keeps-opens_hub seat world r h
-
-      by_open : (seat : Seat) (b : Bool) → Ready seat → Has (cond b (printing (codes "already" ∷ w ∷ []) world) (cond seat.is_lone (opens_lone seat world) (opens_hub seat world))).0
-      by_open seat true r = h
-      by_open seat false r = by_kind seat seat.is_lone r
-
-      by : (o : Option Seat) → seat_of world w ≡ o → Has (elim o as (λ _. Printed) [
-        | None ↦ quietly world
-        | Some seat ↦ cond (is_connected seat.client) (printing (codes "already" ∷ w ∷ []) world) (cond seat.is_lone (opens_lone seat world) (opens_hub seat world))
-      ]).0
-      by None e = h
-      by (Some seat) e = by_open seat (is_connected seat.client) (ready-found w world seat e h)
+      ready : (seat : Seat) → seat_of world w ≡ Some seat → Ready (with_client (connected (now world.hub)) seat)
+      ready seat e = (let r = ready-found w world seat e h in record { wire = r.wire; client = clients.connects seat.client (now world.hub) r.client })
 
   -- one client more
   keeps-seated : (w : Word) (is_lone : Bool) (world : World) → Has world → Has (seated w is_lone world).0
@@ -234,7 +192,7 @@ module _ (Good : List ℕ → Type 0) (P : Hub → Type 0) (kept : IsKept Good P
     downs = λ n world seat r. record { wire = r.wire; client = clients.delivers seat.client (take n seat.down_wire) r.client };
   }
 
-  keeps-passes : (way : Way) (w : Word) (world : World) → Has world → Has (way_does way w world).0
+  keeps-passes : (way : Way) (w : Word) (world : World) → Has world → Has (passes way w world).0
   keeps-passes way w world h = pass-does Has way w world h (λ seat e.
       let p = passes_way way world seat in
       let both = passing-keeps P Ready passings-keep way world seat (λ number some. give-keeps Good P kept number) (λ number some hub x k ready i. kept.takes_in hub number (take k x.up_wire) (parts.front k x.up_wire ready.wire) i) h.hub
@@ -244,48 +202,39 @@ module _ (Good : List ℕ → Type 0) (P : Hub → Type 0) (kept : IsKept Good P
 
   -- octets to a lone client
   keeps-feeds : (w : Word) (octets : List ℕ) (world : World) → Has world → Has (feeds w octets world).0
-  keeps-feeds w octets world h = by (seat_of world w) refl
-    where
-      fed-ready : (seat : Seat) → Ready seat → Ready (fed octets world seat).seat
-      fed-ready seat r = record { wire = r.wire; client = clients.gives (reached_by octets seat.client) (length (output_of (reached_by octets seat.client))) (clients.delivers seat.client octets r.client) }
+  keeps-feeds w octets world h = feed-does world Has w octets h (λ seat e connects.
+      let p = fed octets world seat in
+      let r = ready-found w world seat e h in
+      let ready : Ready p.seat = record { wire = r.wire; client = clients.gives (reached_by octets seat.client) (length (output_of (reached_by octets seat.client))) (clients.delivers seat.client octets r.client) } in
+      keeps-cut_if (fed_over octets world seat) p.seat (with_seat p.seat world) ready (keeps-put p.seat world ready h))
 
-      by_open : (seat : Seat) → Ready seat → (b : Bool) → Has (feeds_as w octets world seat b).0
-      by_open seat r true =
-          let p = fed octets world seat in
-          keeps-cut_if (fed_over octets world seat) p.seat (with_seat p.seat world) (fed-ready seat r) (keeps-put p.seat world (fed-ready seat r) h)
-      by_open seat r false = h
+  -- ---- lines
 
-      by : (o : Option Seat) → seat_of world w ≡ o → Has (feeds_by w octets world o).0
-      by None e = h
-      by (Some seat) e = by_open seat (ready-found w world seat e h) (is_connected seat.client)
+  keeps-hub : (event : HubEvent) (world : World) → AllByRecursion Good (sent_by (hub_event event)) → Has world → Has (hub_does event world).0
+  keeps-hub (hub_events.At t) world q h = keeps-timed (moment_now world t) world.seats (hub_timed world t) h.seats (record { hub = keeps-called Good P kept (moves t) world.hub tt h.hub; seats = h.seats })
+  keeps-hub (hub_events.Update message) world q h = record { hub = keeps-called Good P kept (updates message) world.hub q.0 h.hub; seats = h.seats }
+  keeps-hub hub_events.Point world q h = h
+
+  keeps-client : (event : ClientEvent) (w : Word) (world : World) → Has world → Has (client_does by_history event w world).0
+  keeps-client client_events.Open w world h = keeps-opens w world h
+  keeps-client (client_events.Feed octets) w world h = keeps-feeds w octets world h
+  keeps-client (client_events.Show question written) w world h = subst Has (sym (shows-leave by_history w question written world)) h
+
+  keeps-session : (event : SessionEvent) (w : Word) (world : World) → AllByRecursion Good (sent_by (session_event w event)) → Has world → Has (session_does event w world).0
+  keeps-session (session_events.Send octets) w world q h = keeps-sends w octets world q.0 h
+  keeps-session (session_events.Stop rcode delay) w world q h = record { hub = keeps-stopped (session_of_word world w) rcode delay world.hub h.hub; seats = h.seats }
+  keeps-session session_events.Cut w world q h = keeps-cuts w world h
 
   pub keeps-line : (line : ScriptLine) (world : World) → AllByRecursion Good (sent_by line) → Has world → Has (line_does by_history line world).0
   keeps-line silent world q h = h
-  keeps-line (timers i k) world q h = h
-  keeps-line (zone apex serial mode) world q h = h
-  keeps-line (link w domain) world q h = h
-  keeps-line (joins w) world q h = keeps-seated w false world h
-  keeps-line (lone w) world q h = keeps-seated w true world h
-  keeps-line (at_moment t) world q h =
-      let r = hubs.moment world.hub t in
-      keeps-timed (now r.1) world.seats (record world { hub = r.1 }, cond r.0 (codes "full" ∷ []) []) h.seats (record { hub = keeps-called Good P kept (moves t) world.hub tt h.hub; seats = h.seats })
-  keeps-line (update message) world q h = record { hub = keeps-called Good P kept (updates message) world.hub q.0 h.hub; seats = h.seats }
-  keeps-line (hear w datagram) world q h = record { hub = keeps-called Good P kept (hearing (number_or_zero (position (bytes_eq w) world.links)) datagram) world.hub q.0 h.hub; seats = h.seats }
-  keeps-line (ask w question) world q h = keeps-asks (codes "asked") w (subscribing question) world (λ client c. clients.subscribes client question q.0 c) h
-  keeps-line (drop_question w question) world q h = keeps-asks (codes "dropped") w (unsubscribing question) world (λ client c. clients.unsubscribes client question c) h
-  keeps-line (reconfirm w rr) world q h = keeps-asks (codes "reconfirm") w (reconfirming rr) world (λ client c. clients.reconfirms client rr q.0 q.1.0 c) h
-  keeps-line (open_connection w) world q h = keeps-opens w world h
-  keeps-line (cut w) world q h = keeps-cuts w world h
-  keeps-line (say w n) world q h = keeps-passes (ways.Say n) w world h
-  keeps-line (up w n) world q h = keeps-passes (ways.Up n) w world h
-  keeps-line (emit w n) world q h = keeps-passes (ways.Emit n) w world h
-  keeps-line (down w n) world q h = keeps-passes (ways.Down n) w world h
-  keeps-line (settle w) world q h = keeps-passes ways.Settle w world h
-  keeps-line (send w octets) world q h = keeps-sends w octets world q.0 h
-  keeps-line (feed w octets) world q h = keeps-feeds w octets world h
-  keeps-line (show w question written) world q h = subst Has (sym (shows-leave by_history w question written world)) h
-  keeps-line (stop w rcode delay) world q h = keeps-stops w rcode delay world h
-  keeps-line point world q h = h
+  keeps-line (head_line line) world q h = h
+  keeps-line (joining w is_lone) world q h = keeps-seated w is_lone world h
+  keeps-line (hub_event event) world q h = keeps-hub event world q h
+  keeps-line (link_event w event) world q h = record { hub = keeps-called Good P kept (link_call event w world) world.hub (link-brings Good event w world q) h.hub; seats = h.seats }
+  keeps-line (client_call w call) world q h = keeps-asks call w world q h
+  keeps-line (client_passing w way) world q h = keeps-passes way w world h
+  keeps-line (client_event w event) world q h = keeps-client event w world h
+  keeps-line (session_event w event) world q h = keeps-session event w world q h
 
   keeps-each : (lines : List ScriptLine) (world : World) → AllByRecursion (λ line. AllByRecursion Good (sent_by line)) lines → Has world → Has (world_after lines world)
   keeps-each [] world sent h = h

@@ -10,7 +10,7 @@ use Rattle.rrset.proofs.Places.{all_filter}
 use Rattle.history.specs.States.{State}
 use Rattle.pushserver.specs.PlainHubs.{Session, Hub}
 use Rattle.pushserver.specs.Hubs.{now, keeps_now, in_session, disconnect}
-use Rattle.pushsession.specs.Sessions.{new_session, takes, asked_to_stop, without_first}
+use Rattle.pushsession.specs.Sessions.{new_session, with_piece, asked_to_stop, without_first}
 use Rattle.pushserver.proofs.Walks.{AnyMessage, IsKept}
 use Rattle.scripts.specs.Lines.{ScriptLine}
 use Rattle.replay.specs.World.{World}
@@ -45,7 +45,7 @@ module _ (start : State) where
     changes = λ hub number f step h. from-in_session hub number f h;
     enters = λ hub entry by h. record { begins = h.begins; below = below-map hub.numbers_given _ hub.sessions h.below };
     times = λ hub point t h. record { begins = h.begins; below = below-map hub.numbers_given _ hub.sessions h.below };
-    takes_in = λ hub number piece any h. from-in_session hub number (takes piece) h;
+    takes_in = λ hub number piece any h. from-in_session hub number (with_piece piece) h;
     asks_stop = λ hub number rcode delay h. from-in_session hub number (asked_to_stop rcode delay) h;
     makes = λ hub h. record { begins = h.begins; below = below-more hub.numbers_given hub.sessions (new_session (keeps_now hub) (now hub)) h.below };
     drops = from-drops;

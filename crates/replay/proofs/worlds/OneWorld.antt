@@ -1,7 +1,8 @@
 -- The world behind a line doesn't depend on which records a held question shows.
 use Rattle.std.proofs.Common.{◌≡◌, ℕ, List, [], ◌∷◌, map, Option, Some, None, codes, decimal, refl, sym, ◌∙◌}
 use Rattle.rrset.specs.declared.record.Question.{Question}
-use Rattle.scripts.specs.Lines.{Word, ScriptLine, show}
+use Rattle.scripts.specs.Lines.{Word, ScriptLine, client_event}
+use Rattle.scripts.specs.declared.line.ClientEvent.TheVariants as client_events
 use Rattle.replay.specs.World.{Seat, World, seat_of}
 use Rattle.scripts.specs.Words.{spaced}
 use Rattle.replay.specs.TextWords.{record_line, ShowTold, HeldRecords, by_history, show_at}
@@ -23,5 +24,5 @@ shows-leave records w question written world = by (seat_of world w)
     by (Some seat) = refl
 
 pub one-world : (records : HeldRecords) (line : ScriptLine) (world : World) → (line_does records line world).0 ≡ (line_does by_history line world).0
-one-world records (show w question written) world = shows-leave records w question written world ∙ sym (shows-leave by_history w question written world)
+one-world records (client_event w (client_events.Show question written)) world = shows-leave records w question written world ∙ sym (shows-leave by_history w question written world)
 one-world records _ world = refl

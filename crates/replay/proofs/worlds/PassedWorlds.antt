@@ -12,10 +12,9 @@ use Rattle.pushserver.specs.Giving.{give}
 use Rattle.scripts.specs.Lines.{Word}
 use Rattle.replay.specs.World.{World, Seat, seat_of}
 use Rattle.replay.specs.PassedOctets.{Passed, passed, enough, max_wire, nothing_emitted, say, up, emit, down, round, settled}
-use Rattle.replay.specs.Text.{Printed, quietly, finished}
-use Rattle.replay.specs.declared.settling.Way.{Way}
-use Rattle.replay.specs.declared.settling.Way.TheVariants as ways
-use Rattle.replay.specs.KeptPassings.{passing_of, passes_way, way_words, way_does}
+use Rattle.replay.specs.Text.{Printed, quietly, finished, passing_of, passes_way, way_words, passes}
+use Rattle.scripts.specs.declared.line.Way.{Way}
+use Rattle.scripts.specs.declared.line.Way.TheVariants as ways
 use Rattle.replay.proofs.worlds.Keeping.{keeps-emitted}
 
 -- ---- the world
@@ -140,7 +139,7 @@ abbrev pub does_by : Way → Word → World → Option Seat → Printed
 does_by way w world o = elim o as (λ _. Printed) [ None ↦ quietly world | Some seat ↦ finished (way_words way w (passes_way way world seat).count) (passes_way way world seat) ]
 
 pub pass-does : (P : World → Type 0) (way : Way) (w : Word) (world : World) → P world
-    → ((seat : Seat) → seat_of world w ≡ Some seat → P (finished (way_words way w (passes_way way world seat).count) (passes_way way world seat)).0) → P (way_does way w world).0
+    → ((seat : Seat) → seat_of world w ≡ Some seat → P (finished (way_words way w (passes_way way world seat).count) (passes_way way world seat)).0) → P (passes way w world).0
 pass-does P way w world none some = by (seat_of world w) refl
   where
     by : (o : Option Seat) → seat_of world w ≡ o → P (does_by way w world o).0

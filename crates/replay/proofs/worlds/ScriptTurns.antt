@@ -7,7 +7,8 @@ use Rattle.std.specs.Prelude.{filter_map, option_to_list}
 use Rattle.std.proofs.lemmas.List.{at_drop_more, drop_all}
 use Rattle.replay.specs.World.{World}
 use Rattle.replay.specs.TextWords.{by_notices}
-use Rattle.replay.specs.Text.{ended_lines, printed_by, line_does, world_after}
+use Rattle.replay.specs.Text.{printed_by, line_does, world_after}
+use Rattle.scripts.specs.Words.{ended_lines}
 use Rattle.scripts.specs.declared.line.Event.{Event}
 use Rattle.replay.specs.declared.world.World as program
 use Rattle.scripts.specs.Lines.{Word, ScriptLine}

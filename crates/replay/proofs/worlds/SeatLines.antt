@@ -1,23 +1,24 @@
 -- The lines of clients by what is matched, and that they leave the peers.
 --     asks_by, opens_by, opens_as, hub_opens      by the client, by whether it is connected and a lone one, and by the session
 --     peers-asks, peers-opens      the peers
-use Rattle.std.proofs.Common.{◌≡◌, ℕ, Bool, true, false, cond, List, [], ◌∷◌, Option, Some, None, refl, codes}
+use Rattle.std.proofs.Common.{◌≡◌, ℕ, Bool, true, false, cond, [], ◌∷◌, Option, Some, None, refl, codes}
 use Rattle.pushserver.specs.Hubs.{now, connect}
-use Rattle.pushclient.specs.Clients.{Client, connected, is_connected}
+use Rattle.pushclient.specs.Clients.{connected, is_connected}
 use Rattle.scripts.specs.Lines.{Word}
+use Rattle.scripts.specs.declared.line.Call.{Call}
 use Rattle.replay.specs.World.{Seat, World, seat_of, with_seat}
-use Rattle.replay.specs.Text.{Printed, quietly, printing, asks, opens_lone, opens_hub, opens}
+use Rattle.replay.specs.Text.{Printed, quietly, printing, call_word, called, asks, opens_lone, opens_hub, opens}
 
-abbrev pub asks_by : List ℕ → Word → (Client → List ℕ × Client) → World → Option Seat → Printed
-asks_by verb w call world o = elim o as (λ _. Printed) [
+abbrev pub asks_by : Call → Word → World → Option Seat → Printed
+asks_by call w world o = elim o as (λ _. Printed) [
   | None ↦ quietly world
-  | Some seat ↦ printing (verb ∷ w ∷ (call seat.client).0 ∷ []) (with_seat (record seat { client = (call seat.client).1 }) world)
+  | Some seat ↦ printing (call_word call ∷ w ∷ (called call seat.client).0 ∷ []) (with_seat (record seat { client = (called call seat.client).1 }) world)
 ]
 
-pub peers-asks : (verb : List ℕ) (w : Word) (call : Client → List ℕ × Client) (world : World) → (asks verb w call world).0.peers ≡ world.peers
-peers-asks verb w call world = by (seat_of world w)
+pub peers-asks : (call : Call) (w : Word) (world : World) → (asks call w world).0.peers ≡ world.peers
+peers-asks call w world = by (seat_of world w)
   where
-    by : (o : Option Seat) → (asks_by verb w call world o).0.peers ≡ world.peers
+    by : (o : Option Seat) → (asks_by call w world o).0.peers ≡ world.peers
     by None = refl
     by (Some seat) = refl
 

@@ -1,7 +1,7 @@
 -- Clients, each where it stands.
 --     splits      the client of a word, and those before and behind it
 --     absent      where no client has a word, no seat has
---     called      what a call of the client of a word makes of the seats
+--     is-called      what a call of the client of a word makes of the seats
 --     words-put      a client that is another one keeps its word
 --     put-put      one that becomes another one twice is the latter
 --     seat-there, calls-made, tells-connected      what the code has of a client at a place
@@ -194,9 +194,9 @@ pub record IsCalled (w : Word) (before later : Seated) (place : ℕ) (world : Wo
   pub next_word : (next seat).word ≡ seat.word
   pub stands : StandForSeats later (with_seat (next seat) world).seats
 
-pub called : (w : Word) (ks later : Seated) (world : World) (place : ℕ) (answers : Seat → Type 0) (next : Seat → Seat) → StandForSeats ks world.seats → AreDistinct (words_in world)
+pub is-called : (w : Word) (ks later : Seated) (world : World) (place : ℕ) (answers : Seat → Type 0) (next : Seat → Seat) → StandForSeats ks world.seats → AreDistinct (words_in world)
     → position (has_word w) ks ≡ Some place → Calls answers next ks place later → IsCalled w ks later place world answers next
-called w ks later world place answers next h distinct at c =
+is-called w ks later world place answers next h distinct at c =
     let p = splits w ks world.seats place h at in
     let apart : AreDistinct (words_of (p.front ++ p.seat ∷ p.back)) = subst (λ (ss : List Seat). AreDistinct (words_of ss)) p.is distinct in
     let all : StandForSeats ks (p.front ++ p.seat ∷ p.back) = subst (StandForSeats ks) p.is h in

@@ -12,17 +12,18 @@ use Rattle.pushserver.specs.Hubs.{now, connect}
 use Rattle.pushserver.specs.PlainHubs.{Hub}
 use Rattle.pushserver.specs.KeptHubs as hubs
 use Rattle.pushserver.specs.KeptHubs.{KeptHub}
-use Rattle.pushclient.specs.Clients.{Client, connected}
+use Rattle.pushclient.specs.Clients.{connected}
 use Rattle.scripts.specs.Lines.{Word}
+use Rattle.scripts.specs.declared.line.Call.{Call}
 use Rattle.replay.specs.World.{Seat, World, new_seat, with_seat, cut_seat, cut_connection, cut_peer, with_client, joined}
-use Rattle.scripts.specs.Words.{spaced}
-use Rattle.replay.specs.Text.{Printed, quietly, ended_lines, printing, asks, opens, opens_lone, opens_hub, cuts, seated, by_seat}
+use Rattle.scripts.specs.Words.{spaced, ended_lines}
+use Rattle.replay.specs.Text.{Printed, quietly, printing, asks, opens, opens_lone, opens_hub, cuts, seated, by_seat, call_word, called}
 use Rattle.replay.specs.declared.seats.Seat as program
 use Rattle.replay.specs.KeptWorlds.{KeptSeat, Seated, seat_kept, seated as seats_kept, Parties, StandsForSeat, StandForSeats, HasPrinted, Acts}
 use Rattle.replay.specs.KeptSeats.{TellsConnected, has_word, Calls, Answers, HasCut}
 use Rattle.replay.proofs.worlds.Doing.{one_line, two_parts, worded, if_acts, refused-same}
 use Rattle.replay.proofs.worlds.SeatLines.{asks_by, opens_as, opens_by, hub_opens}
-use Rattle.replay.proofs.worlds.Seats.{absent, called, IsCalled, is-seated, IsSeated, stand-more}
+use Rattle.replay.proofs.worlds.Seats.{absent, is-called, IsCalled, is-seated, IsSeated, stand-more}
 
 abbrev pub with_seats : Parties → Seated → Parties
 with_seats known seats = record known { seats = seats }
@@ -46,22 +47,22 @@ seat-made kept known items later s w is_lone written same later_is new is world 
 
 -- ---- calls that answer a word
 
-pub asks-none : (kept : KeptHub) (known : Parties) (verb : List ℕ) (w : Word) (call : Client → List ℕ × Client) (written : List ℕ) → position (has_word w) known.seats ≡ None → written ≡ [] → Acts (asks verb w call) kept known written kept known
+pub asks-none : (kept : KeptHub) (known : Parties) (call : Call) (w : Word) (written : List ℕ) → position (has_word w) known.seats ≡ None → written ≡ [] → Acts (asks call w) kept known written kept known
 unfolding Acts
-asks-none kept known verb w call written none is world s d =
-    subst (λ (o : Option Seat). HasPrinted kept known written (asks_by verb w call world o)) (sym (absent w known.seats world.seats s.seats none)) (record { text = is; stands = s })
+asks-none kept known call w written none is world s d =
+    subst (λ (o : Option Seat). HasPrinted kept known written (asks_by call w world o)) (sym (absent w known.seats world.seats s.seats none)) (record { text = is; stands = s })
 
-pub asks-act : (kept : KeptHub) (known : Parties) (later : Seated) (verb : List ℕ) (w : Word) (call : Client → List ℕ × Client) (place : ℕ) (answer written : List ℕ) → position (has_word w) known.seats ≡ Some place
-    → Calls (Answers (λ c. answer ≡ (call c).0)) (with_client (λ c. (call c).1)) known.seats place later
-    → ((world : World) → written ≡ ended_lines (printing (verb ∷ w ∷ answer ∷ []) world).1)
-    → Acts (asks verb w call) kept known written kept (with_seats known later)
+pub asks-act : (kept : KeptHub) (known : Parties) (later : Seated) (call : Call) (w : Word) (place : ℕ) (answer written : List ℕ) → position (has_word w) known.seats ≡ Some place
+    → Calls (Answers (λ c. answer ≡ (called call c).0)) (with_client (λ c. (called call c).1)) known.seats place later
+    → ((world : World) → written ≡ ended_lines (printing (call_word call ∷ w ∷ answer ∷ []) world).1)
+    → Acts (asks call w) kept known written kept (with_seats known later)
 unfolding Acts
-asks-act kept known later verb w call place answer written at c is world s d =
-    let r : IsCalled w known.seats later place world (Answers (λ c. answer ≡ (call c).0)) (with_client (λ c. (call c).1)) =
-    called w known.seats later world place (Answers (λ c. answer ≡ (call c).0)) (with_client (λ c. (call c).1)) s.seats d at c in
-    subst (λ (o : Option Seat). HasPrinted kept (with_seats known later) written (asks_by verb w call world o)) (sym r.found)
+asks-act kept known later call w place answer written at c is world s d =
+    let r : IsCalled w known.seats later place world (Answers (λ c. answer ≡ (called call c).0)) (with_client (λ c. (called call c).1)) =
+    is-called w known.seats later world place (Answers (λ c. answer ≡ (called call c).0)) (with_client (λ c. (called call c).1)) s.seats d at c in
+    subst (λ (o : Option Seat). HasPrinted kept (with_seats known later) written (asks_by call w world o)) (sym r.found)
     (record {
-      text = is world ∙ ap (λ (a : List ℕ). ended_lines (printing (verb ∷ w ∷ a ∷ []) world).1) r.answer;
+      text = is world ∙ ap (λ (a : List ℕ). ended_lines (printing (call_word call ∷ w ∷ a ∷ []) world).1) r.answer;
       stands = record { hub = s.hub; peers = s.peers; seats = r.stands; links = s.links };
     })
 
@@ -69,13 +70,13 @@ asks-act kept known later verb w call place answer written at c is world s d =
 pub answer-line : (verb : List ℕ) (w : Word) (answer : List ℕ) → (verb ++ 32 ∷ []) ++ two_parts w answer ≡ ended_lines (spaced (verb ∷ w ∷ answer ∷ []) ∷ [])
 answer-line verb w answer = worded (verb ++ 32 ∷ []) w answer ∙ one_line ((verb ++ 32 ∷ []) ++ (w ++ 32 ∷ answer)) ∙ ap (λ (l : List ℕ). ended_lines (l ∷ [])) (append_assoc verb (32 ∷ []) (w ++ 32 ∷ answer))
 
-pub asks-told : {E : Type 0} (kept : KeptHub) (known : Parties) (later : Seated) (verb : List ℕ) (w : Word) (call : Client → List ℕ × Client) (place : ℕ) (answer : List ℕ) (r : Result (String Global) E) → position (has_word w) known.seats ≡ Some place
-    → Calls (Answers (λ c. answer ≡ (call c).0)) (with_client (λ c. (call c).1)) known.seats place later
-    → IfOk r (λ text. string_bytes text ≡ (verb ++ 32 ∷ []) ++ two_parts w answer)
-    → IfOk r (λ text. Acts (asks verb w call) kept known (string_bytes text) kept (with_seats known later))
-asks-told kept known later verb w call place answer r at c is =
-    if_acts (asks verb w call) kept kept known (with_seats known later) ((verb ++ 32 ∷ []) ++ two_parts w answer) r
-    (λ written said. asks-act kept known later verb w call place answer written at c (λ world. said ∙ answer-line verb w answer)) is
+pub asks-told : {E : Type 0} (kept : KeptHub) (known : Parties) (later : Seated) (call : Call) (w : Word) (place : ℕ) (answer told : List ℕ) (r : Result (String Global) E) → position (has_word w) known.seats ≡ Some place
+    → Calls (Answers (λ c. answer ≡ (called call c).0)) (with_client (λ c. (called call c).1)) known.seats place later → told ≡ answer
+    → IfOk r (λ text. string_bytes text ≡ (call_word call ++ 32 ∷ []) ++ two_parts w told)
+    → IfOk r (λ text. Acts (asks call w) kept known (string_bytes text) kept (with_seats known later))
+asks-told kept known later call w place answer told r at c same is =
+    if_acts (asks call w) kept kept known (with_seats known later) ((call_word call ++ 32 ∷ []) ++ two_parts w told) r
+    (λ written said. asks-act kept known later call w place answer written at c (λ world. said ∙ ap (λ (a : List ℕ). (call_word call ++ 32 ∷ []) ++ two_parts w a) same ∙ answer-line (call_word call) w answer)) is
 
 -- ---- a client opens a connection
 
@@ -139,7 +140,7 @@ pub opened-lone : (kept : KeptHub) (known : Parties) (later : Seated) (w : Word)
     → Calls (λ s. Unit {0}) (with_client (connected t)) known.seats place later → written ≡ codes "open " ++ (w ++ 10 ∷ []) → Acts (by_seat opens_lone w) kept known written kept (with_seats known later)
 unfolding Acts
 opened-lone kept known later w place t written at moment c is world s d =
-    let r : IsCalled w known.seats later place world (λ s. Unit {0}) (with_client (connected t)) = called w known.seats later world place (λ s. Unit {0}) (with_client (connected t)) s.seats d at c in
+    let r : IsCalled w known.seats later place world (λ s. Unit {0}) (with_client (connected t)) = is-called w known.seats later world place (λ s. Unit {0}) (with_client (connected t)) s.seats d at c in
     subst (λ (o : Option Seat). HasPrinted kept (with_seats known later) written (seat_by opens_lone world o)) (sym r.found)
     (subst (λ (n : ℕ). HasPrinted kept (with_seats known later) written (printing (codes "open" ∷ r.seat.word ∷ []) (with_seat (with_client (connected n) r.seat) world))) (moment world.hub s.hub)
     (record {
@@ -155,7 +156,7 @@ pub opened-hub : (kept between : KeptHub) (known : Parties) (later : Seated) (w 
     → Connects kept (Some number) between → Calls (λ s. Unit {0}) (joined t number) known.seats place later → written ≡ codes "open " ++ (w ++ 10 ∷ []) → Acts (by_seat opens_hub w) kept known written between (with_seats known later)
 unfolding Acts
 opened-hub kept between known later w place t number written at moment connects c is world s d =
-    let r : IsCalled w known.seats later place world (λ s. Unit {0}) (joined t number) = called w known.seats later world place (λ s. Unit {0}) (joined t number) s.seats d at c in
+    let r : IsCalled w known.seats later place world (λ s. Unit {0}) (joined t number) = is-called w known.seats later world place (λ s. Unit {0}) (joined t number) s.seats d at c in
     let made = connects world.hub s.hub in
     subst (λ (o : Option Seat). HasPrinted between (with_seats known later) written (seat_by opens_hub world o)) (sym r.found)
     (subst (λ (o : Option ℕ). HasPrinted between (with_seats known later) written (hub_opens r.seat world o)) (sym made.0)
@@ -187,7 +188,7 @@ pub cuts-seat : (kept between : KeptHub) (known : Parties) (later : Seated) (w :
     → Calls (HasCut kept between) cut_seat known.seats place later → written ≡ codes "cut " ++ (w ++ 10 ∷ []) → Acts (cuts w) kept known written between (with_seats known later)
 unfolding Acts
 cuts-seat kept between known later w place written at c is world s d =
-    let r : IsCalled w known.seats later place world (HasCut kept between) cut_seat = called w known.seats later world place (HasCut kept between) cut_seat s.seats d at c in
+    let r : IsCalled w known.seats later place world (HasCut kept between) cut_seat = is-called w known.seats later world place (HasCut kept between) cut_seat s.seats d at c in
     subst (λ (o : Option Seat). HasPrinted between (with_seats known later) written (cuts_by w world o)) (sym r.found)
     (record {
       text = is ∙ one_line (codes "cut " ++ w);

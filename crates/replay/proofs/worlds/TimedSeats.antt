@@ -11,7 +11,8 @@ use Rattle.pushclient.specs.Clients.{closed_as}
 use Rattle.pushclient.specs.Steps as steps
 use Rattle.scripts.specs.Lines.{Word}
 use Rattle.replay.specs.World.{Seat, World, with_seat, cut_seat, is_over, hub_cut_if, world_cut_if}
-use Rattle.replay.specs.Text.{Printed, ended_lines, close_lines, timed}
+use Rattle.replay.specs.Text.{Printed, close_lines, timed}
+use Rattle.scripts.specs.Words.{ended_lines}
 use Rattle.replay.specs.KeptWorlds.{KeptSeat, Seated, StandsForSeat, StandForSeats, words_in}
 use Rattle.scripts.specs.Scripts.{AreDistinct}
 use Rattle.replay.specs.KeptSeats.{timed_seat, Calls, HasTimed, closing_text, IsTimed, Times}

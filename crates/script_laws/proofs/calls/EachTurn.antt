@@ -31,8 +31,8 @@ use Rattle.pushsession.specs.Subscribing.{Verdict, Refuse, Abort, Accept, verdic
 use Rattle.pushsession.specs.Reactions.{restarted_by, request_for, request_in, reacts_itself, by_itself, ends_short}
 use Rattle.pushsession.specs.declared.request.Request.{Request}
 use Rattle.pushsession.specs.declared.request.Request.TheVariants as requests
-use Rattle.pushsession.specs.declared.standing.Standing.{Standing}
-use Rattle.pushsession.specs.declared.standing.Standing.TheVariants.{Live, AskedToStop, Stopped, Ended}
+use Rattle.pushsession.specs.declared.session_status.SessionStatus.{SessionStatus}
+use Rattle.pushsession.specs.declared.session_status.SessionStatus.TheVariants.{Live, AskedToStop, Stopped, Ended}
 use Rattle.pushserver.specs.declared.given.Given.{Given}
 use Rattle.pushserver.specs.declared.given.Given.TheVariants.{Worked}
 use Rattle.pushserver.specs.PlainHubs.{Hub, Session, Subscription, Made, Giving, asked_of, first_answer}
@@ -44,7 +44,7 @@ use Rattle.pushserver.proofs.SessionLists.{same-number, found-in, found-all}
 use Rattle.pushserver.proofs.hub_steps.Cases.{enters_update, update_as, key_as, session_as, request_as, copies_as, found_as}
 use Rattle.pushtelling.specs.Runs.{is_live, first_of, message_up, reacts_to, reacted_to}
 use Rattle.pushtelling.proofs.Running.{give_reacts}
-use Rattle.script_laws.specs.EachMessage.{HasItsTurn, Effect, says, ends_by, pushes, first_messages, effect_by_verdict, effect_of_subscribe, effect_of_reconfirm, effect_by, effect_of, messages_of, standing_after, HasEffect, TurnHasEffect, EachHasItsTurn, SubscribesAreAnswered}
+use Rattle.script_laws.specs.EachMessage.{HasItsTurn, Effect, effect_of_messages, ends_by, pushes, first_messages, effect_by_verdict, effect_of_subscribe, effect_of_reconfirm, effect_by, effect_of, messages_of, standing_after, HasEffect, TurnHasEffect, EachHasItsTurn, SubscribesAreAnswered}
 
 -- ---- the call
 
@@ -70,7 +70,7 @@ is-up hub number message up = by (session_of hub number) refl up
         same : (m : List ℕ) → m ∷ [] ≡ message ∷ [] → m ≡ message
         same m e = cc
 
-    by_state : (s : Session) → session_of hub number ≡ Some s → (standing : Standing) → s.standing ≡ standing → (os : List ℕ) → s.output ≡ os → cond (is_live standing && is_empty os) (heads (first_message s.input)) [] ≡ message ∷ [] → IsUp hub number message
+    by_state : (s : Session) → session_of hub number ≡ Some s → (standing : SessionStatus) → s.standing ≡ standing → (os : List ℕ) → s.output ≡ os → cond (is_live standing && is_empty os) (heads (first_message s.input)) [] ≡ message ∷ [] → IsUp hub number message
     by_state s there Live live [] silent e = by_first s there live silent (first_message s.input) refl e
     by_state s there Live live (x ∷ xs) silent e = absurd cc
     by_state s there (AskedToStop rcode delay) live os silent e = absurd cc
@@ -298,7 +298,7 @@ module _ (number : ℕ) where
           answering notices = says_first_answer (keeps_now h) (now h) answer notices s.queue (begun notices)
 
           accepted : List Notice → Effect
-          accepted notices = record (says h s (answer ∷ pushes notices)) { established = true; asks = asked_of s.subscriptions ++ (id_of message, q) ∷ [] }
+          accepted notices = record (effect_of_messages h s (answer ∷ pushes notices)) { established = true; asks = asked_of s.subscriptions ++ (id_of message, q) ∷ [] }
 
           asked_more : (n : Subscription) → asked_of (s.subscriptions ++ n ∷ []) ≡ asked_of s.subscriptions ++ (n.id, n.question) ∷ []
           asked_more n = map-append (λ (x : Subscription). (x.id, x.question)) s.subscriptions (n ∷ [])
@@ -332,7 +332,7 @@ module _ (number : ℕ) where
     says-reconfirm (Some rr) = by_key (reconfirm_key (state_now h) rr)
       where
         entered_or : Hub → Effect
-        entered_or x = record (says h s []) { history = x.history }
+        entered_or x = record (effect_of_messages h s []) { history = x.history }
 
         by_room : (entry : Entry) (b : Bool) → Says number (cond b (entered entry h) h) s (entered_or (cond b (entered entry h) h))
         by_room entry true = says-none (entered entry h) s (noted_by entry) (entered_or (entered entry h)) refl (entered-there entry) refl refl (record { standing = refl; input = refl; established = refl; asks = refl; history = refl })
@@ -436,7 +436,7 @@ module _ (number : ℕ) where
 
     same-reconfirm : (rr : Option Rr) → effect_of_reconfirm (in_session number f h) (f s) rr ≡ effect_of_reconfirm h s rr
     same-reconfirm None = refl
-    same-reconfirm (Some rr) = ap (λ (past : List Entry). record (says h s []) { history = past }) (reconfirm-same f h rr)
+    same-reconfirm (Some rr) = ap (λ (past : List Entry). record (effect_of_messages h s []) { history = past }) (reconfirm-same f h rr)
 
     same-line : (r : Reaction) → effect_by (in_session number f h) (f s) message r ≡ effect_by h s message r
     same-line (reactions.Answer rcode) = refl
@@ -450,7 +450,7 @@ module _ (number : ℕ) where
     same-line reactions.Reconfirm = same-reconfirm (reconfirm_of (primary_data message))
     same-line reactions.Update =
         let same = update-same f h message in
-        (λ i. record (says h s (answer_to_update (id_of message) (same.0 i) ∷ [])) { history = same.1 i })
+        (λ i. record (effect_of_messages h s (answer_to_update (id_of message) (same.0 i) ∷ [])) { history = same.1 i })
 
     same-effect : effect_of (in_session number f h) (f s) message ≡ effect_of h s message
     same-effect = by (head_of message)

@@ -11,9 +11,9 @@ use Rattle.dsotlv.specs.Messages.{first_message}
 use Rattle.dsotlv.proofs.Results.{same_found}
 use Rattle.dsotlv.proofs.StreamLaws.{long_is_whole}
 use Rattle.dsosession.specs.declared.session.EndReason.{EndReason}
-use Rattle.pushsession.specs.Sessions.{is_open, room_of, takes}
-use Rattle.pushsession.specs.declared.standing.Standing.{Standing}
-use Rattle.pushsession.specs.declared.standing.Standing.TheVariants.{Live, AskedToStop, Stopped, Ended}
+use Rattle.pushsession.specs.Sessions.{is_open, room_of, with_piece}
+use Rattle.pushsession.specs.declared.session_status.SessionStatus.{SessionStatus}
+use Rattle.pushsession.specs.declared.session_status.SessionStatus.TheVariants.{Live, AskedToStop, Stopped, Ended}
 use Rattle.pushserver.specs.declared.given.Given.{Given}
 use Rattle.pushserver.specs.declared.given.Given.TheVariants.{Bytes, Worked, Nothing, Ending, End}
 use Rattle.pushserver.specs.PlainHubs.{Hub, Session, Giving}
@@ -44,8 +44,8 @@ pub record EndsSo (number : ℕ) (e : Emitted) : Type 0 where
   pub silent : after.output ≡ []
   pub done : IsDone after.standing after e.over
 
-done-by : (standing : Standing) (s : Session) (over : Option EndReason) → s.standing ≡ standing → IsDone standing s over → IsDone s.standing s over
-done-by standing s over is done = subst (λ (st : Standing). IsDone st s over) (sym is) done
+done-by : (standing : SessionStatus) (s : Session) (over : Option EndReason) → s.standing ≡ standing → IsDone standing s over → IsDone s.standing s over
+done-by standing s over is done = subst (λ (st : SessionStatus). IsDone st s over) (sym is) done
 
 pub emits-all : (turns number budget : ℕ) (so_far : Emitted) (session : Session) → IsReached so_far.hub → session_of so_far.hub number ≡ Some session → so_far.over ≡ None → work_of session < turns → work_of session < budget
     → EndsSo number (emitted turns number budget so_far)
@@ -115,7 +115,7 @@ pub record TakesSo (number : ℕ) (octets : List ℕ) (hub : Hub) (x : Exchanged
 pub done-served : (s : Session) (over : Option EndReason) → s.output ≡ [] → IsDone s.standing s over → IsServed s
 done-served s over silent done = record { silent = silent; waits = by s.standing done }
   where
-    by : (standing : Standing) → IsDone standing s over → is_open standing ≡ true → first_message s.input ≡ None
+    by : (standing : SessionStatus) → IsDone standing s over → is_open standing ≡ true → first_message s.input ≡ None
     by Live done opened = done.1
     by (AskedToStop rcode delay) done opened = absurd done
     by (Stopped since) done opened = absurd (true≢false (sym opened))
@@ -141,15 +141,15 @@ module _ (number : ℕ) where
       of_all (ends other ∷ calls) h all = absurd all.0
 
   -- from a session that has come to its end nothing comes
-  closed-emits : (fed : Hub) (s : Session) → session_of fed number ≡ Some s → s.output ≡ [] → (standing : Standing) → s.standing ≡ standing → is_open standing ≡ false
+  closed-emits : (fed : Hub) (s : Session) → session_of fed number ≡ Some s → s.output ≡ [] → (standing : SessionStatus) → s.standing ≡ standing → is_open standing ≡ false
       → session_of (emitted enough number enough (nothing_emitted fed [])).hub number ≡ Some s
   closed-emits fed s there silent standing is closed = by standing is closed
     where
-      reaches : (st : Standing) → s.standing ≡ st → give fed number enough ≡ by_standing st number enough s fed
+      reaches : (st : SessionStatus) → s.standing ≡ st → give fed number enough ≡ by_standing st number enough s fed
       reaches st is =
-          ap (give_as fed number enough) there ∙ ap (λ (l : List ℕ). output_as fed number enough s (is_empty l)) silent ∙ ap (λ (st : Standing). by_standing st number enough s fed) is
+          ap (give_as fed number enough) there ∙ ap (λ (l : List ℕ). output_as fed number enough s (is_empty l)) silent ∙ ap (λ (st : SessionStatus). by_standing st number enough s fed) is
 
-      by : (st : Standing) → s.standing ≡ st → is_open st ≡ false → session_of (emitted enough number enough (nothing_emitted fed [])).hub number ≡ Some s
+      by : (st : SessionStatus) → s.standing ≡ st → is_open st ≡ false → session_of (emitted enough number enough (nothing_emitted fed [])).hub number ≡ Some s
       by Live is closed = absurd (true≢false closed)
       by (AskedToStop rcode delay) is closed = absurd (true≢false closed)
       by (Stopped since) is closed = ap (λ (e : Emitted). session_of e.hub number) (emitted-turn 18446744073709551615 number enough (nothing_emitted fed []) refl (did Ending fed) (reaches (Stopped since) is)) ∙ there
@@ -218,17 +218,17 @@ module _ (number : ℕ) where
       fed_reached : IsReached fed
       fed_reached = reached-go-on hub (taking number piece ∷ []) reached ((good_piece, tt), tt)
 
-      fed_there : session_of fed number ≡ Some (takes piece session)
-      fed_there = found-in number (takes piece) hub.sessions ∙ ap (option_map (takes piece)) there
+      fed_there : session_of fed number ≡ Some (with_piece piece session)
+      fed_there = found-in number (with_piece piece) hub.sessions ∙ ap (option_map (with_piece piece)) there
 
-      little : work_of (takes piece session) < 1000000000000000000
-      little = work-is-little fed number (takes piece session) fed_reached fed_there served.silent
+      little : work_of (with_piece piece session) < 1000000000000000000
+      little = work-is-little fed number (with_piece piece session) fed_reached fed_there served.silent
 
       within : (w : ℕ) → w < 1000000000000000000 → w < 18446744073709551616
       within w less = omega (arith, less)
 
       ended : EndsSo number e
-      ended = emits-all enough number enough (nothing_emitted fed []) (takes piece session) fed_reached fed_there refl (within (work_of (takes piece session)) little) (within (work_of (takes piece session)) little)
+      ended = emits-all enough number enough (nothing_emitted fed []) (with_piece piece session) fed_reached fed_there refl (within (work_of (with_piece piece session)) little) (within (work_of (with_piece piece session)) little)
 
       e_reached : IsReached e.hub
       e_reached = subst IsReached (sym behind.0) (reached-go-on hub first reached ((good_piece, tt), all-emitted (λ call. FitsCall call) number (λ room. (tt, tt)) enough enough fed))
@@ -254,7 +254,7 @@ module _ (number : ℕ) where
               is_so : (b : Bool) → is_open session.standing ≡ b → b ≡ true
               is_so true is = refl
               is_so false is =
-                  let same : ended.after ≡ takes piece session = same_found ended.after (takes piece session) (sym ended.there ∙ closed-emits fed (takes piece session) fed_there served.silent session.standing refl is) in
+                  let same : ended.after ≡ with_piece piece session = same_found ended.after (with_piece piece session) (sym ended.there ∙ closed-emits fed (with_piece piece session) fed_there served.silent session.standing refl is) in
                   absurd (true≢false (sym opened ∙ ap (λ (s : Session). is_open s.standing) same ∙ is))
 
           none : (n : ℕ) → n ≡ 0 → n ≤ 0

@@ -3,7 +3,7 @@
 use Rattle.std.proofs.Common.{◌≡◌, ℕ, ◌≤◌, Bool, true, false, ◌||◌, List, [], ◌∷◌, ◌++◌, length, take, drop, min, Option, Some, None, refl, ◌∙◌, ap, arith, take_all, le_refl, eq-eqb}
 use Rattle.std.specs.Prelude.{◌==◌, option_map, IsSome}
 use Rattle.dsotlv.specs.Messages.{first_message}
-use Rattle.pushsession.specs.Sessions.{new_session, takes, room_of}
+use Rattle.pushsession.specs.Sessions.{new_session, with_piece, room_of}
 use Rattle.pushserver.specs.PlainHubs.{Hub, Session, plain_keeps}
 use Rattle.pushserver.specs.Hubs.{now, session_of, connect, taken_by, take_octets}
 use Rattle.pushserver.specs.Calls.{HubCall, takes as taking, after_calls}
@@ -13,13 +13,15 @@ use Rattle.pushtelling.proofs.Running.{give_reacts}
 use Rattle.scripts.specs.Lines.{send}
 use Rattle.replay.specs.World.{World, session_number}
 use Rattle.replay.specs.PassedOctets.{enough}
-use Rattle.replay.specs.Serving.{Asked, lines_of, world_then, connected_then}
+use Rattle.replay.specs.Between.{lines_of, world_then}
+use Rattle.replay.specs.Serving.{Asked, asked_between, connected_then}
 use Rattle.replay.specs.Text.{placed}
 use Rattle.replay.proofs.turns.SendSizes.{sends-short}
 use Rattle.script_laws.specs.Whole.{StandsAfterEachLine}
 use Rattle.script_laws.specs.LineCalls.{emit_calls, fed_calls, exchange_calls}
 use Rattle.script_laws.specs.EachMessage.{HasItsTurn}
 use Rattle.script_laws.specs.Sending.{first_as, FirstOnesAskAnywhere}
+use Rattle.script_laws.proofs.Reading.{are-lines}
 use Rattle.script_laws.proofs.hubs.HubNumbers.{new-ones-are-found}
 
 -- octets that all have room go in at once
@@ -54,13 +56,13 @@ module _ (hub : Hub) (number moment : ℕ) (octets message : List ℕ) (there : 
   abbrev fed : Hub
   fed = take_octets hub number octets
 
-  fed-there : session_of fed number ≡ Some (takes octets new)
-  fed-there = found-in number (takes octets) hub.sessions ∙ ap (option_map (takes octets)) there
+  fed-there : session_of fed number ≡ Some (with_piece octets new)
+  fed-there = found-in number (with_piece octets) hub.sessions ∙ ap (option_map (with_piece octets)) there
 
-  input-is : (takes octets new).input ≡ octets
+  input-is : (with_piece octets new).input ≡ octets
   input-is = take_all 69633 octets (omega (arith, few))
 
-  first : first_message (takes octets new).input ≡ Some (message, [])
+  first : first_message (with_piece octets new).input ≡ Some (message, [])
   first = ap first_message input-is ∙ found
 
   is-up : message_up fed number ≡ message ∷ []
@@ -76,14 +78,14 @@ module _ (hub : Hub) (number moment : ℕ) (octets message : List ℕ) (there : 
 
   abbrev first-turn : HasItsTurn number (exchange_calls enough number octets hub) hub [] message
   first-turn =
-      let r = give_reacts fed number enough (takes octets new) message fed-there is-up in
+      let r = give_reacts fed number enough (with_piece octets new) message fed-there is-up in
       record {
         first = taking number octets ∷ [];
         room = enough;
         last = drop 1 (emit_calls enough number enough fed);
         calls_are = at-once number octets hub all-taken;
         before = refl;
-        session = takes octets new;
+        session = with_piece octets new;
         there = fed-there;
         live = refl;
         silent = refl;
@@ -98,8 +100,8 @@ some-number (Some n) is = (n, refl)
 
 pub first-ones : StandsAfterEachLine → FirstOnesAskAnywhere
 first-ones stands text asked asks =
-    let world : World = world_then asked in
-    let all = stands text (lines_of asked) asked.before (send asked.word asked.octets ∷ asked.behind) asks.read refl in
+    let world : World = world_then (asked_between asked) in
+    let all = stands (lines_of (asked_between asked)) asked.before (send asked.word asked.octets ∷ asked.behind) (are-lines text (lines_of (asked_between asked)) asks.read) refl in
     let made = some-number (connect world.hub).0 asks.seat in
     let number : ℕ = made.0 in
     let new = new-ones-are-found world.hub number all.reached made.1 in
@@ -113,10 +115,10 @@ first-ones stands text asked asks =
       },
     )
   where
-    place-of : (asked : Asked) (number : ℕ) → session_number (world_then asked) asked.word ≡ None → (connect (world_then asked).hub).0 ≡ Some number
-        → placed asked.word (world_then asked) ≡ Some (number, (first_as asked number).world)
+    place-of : (asked : Asked) (number : ℕ) → session_number (world_then (asked_between asked)) asked.word ≡ None → (connect (world_then (asked_between asked)).hub).0 ≡ Some number
+        → placed asked.word (world_then (asked_between asked)) ≡ Some (number, (first_as asked number).world)
     place-of asked number none made =
-        let world : World = world_then asked in
+        let world : World = world_then (asked_between asked) in
         ap (λ (o : Option ℕ). elim o as (λ _. Option (ℕ × World)) [
           | Some n ↦ Some (n, world)
           | None ↦ option_map (λ n. (n, record world { hub = (connect world.hub).1; peers = world.peers ++ (asked.word, n) ∷ [] })) (connect world.hub).0

@@ -11,9 +11,9 @@ use Rattle.dsotlv.specs.Messages.{frame, first_message}
 use Rattle.dsotlv.specs.declared.message.Notice.{Notice}
 use Rattle.dsosession.specs.declared.session.EndReason.TheVariants as ends
 use Rattle.pushsession.specs.Sessions.{copied, stopped, says_stop, ended_with, without_first}
-use Rattle.pushsession.specs.Subscribing.{packs, says_notices}
-use Rattle.pushsession.specs.declared.standing.Standing.{Standing}
-use Rattle.pushsession.specs.declared.standing.Standing.TheVariants.{Live, AskedToStop, Stopped, Ended}
+use Rattle.pushsession.specs.Subscribing.{with_next_push, says_notices}
+use Rattle.pushsession.specs.declared.session_status.SessionStatus.{SessionStatus}
+use Rattle.pushsession.specs.declared.session_status.SessionStatus.TheVariants.{Live, AskedToStop, Stopped, Ended}
 use Rattle.pushserver.specs.declared.given.Given.{Given}
 use Rattle.pushserver.specs.declared.given.Given.TheVariants.{Bytes, Worked, Nothing, Ending, End}
 use Rattle.pushserver.specs.PlainHubs.{Hub, Session, Queue, Giving}
@@ -80,7 +80,7 @@ record Comes (hub : Hub) (number before : ℕ) : Type 0 where
   pub less : IsBound s → work_of s ≤ before
   pub answers : IsBound s → s.output ≡ [] → AnswersSo before s given
 
-asked-few : (standing : Standing) → asked_stops standing ≤ 1
+asked-few : (standing : SessionStatus) → asked_stops standing ≤ 1
 asked-few Live = omega arith
 asked-few (AskedToStop rcode delay) = omega arith
 asked-few (Stopped since) = omega arith
@@ -90,7 +90,7 @@ asked-few (Ended reason) = omega arith
 after-so : (before : ℕ) (s : Session) → work_of s < before → AnswersSo before s (given_after s.standing)
 after-so before s less = by s.standing refl
   where
-    by : (standing : Standing) → s.standing ≡ standing → AnswersSo before s (given_after standing)
+    by : (standing : SessionStatus) → s.standing ≡ standing → AnswersSo before s (given_after standing)
     by Live is = less
     by (AskedToStop rcode delay) is = less
     by (Stopped since) is = less
@@ -116,12 +116,12 @@ module _ (hub : Hub) (number : ℕ) (session : Session) (there : session_of hub 
   }
 
   module _ (silent : session.output ≡ []) where
-    reaches : (standing : Standing) → session.standing ≡ standing → (room : ℕ) → give hub number room ≡ by_standing standing number room session hub
+    reaches : (standing : SessionStatus) → session.standing ≡ standing → (room : ℕ) → give hub number room ≡ by_standing standing number room session hub
     reaches standing is room =
-        ap (give_as hub number room) there ∙ ap (λ (l : List ℕ). output_as hub number room session (is_empty l)) silent ∙ ap (λ (st : Standing). by_standing st number room session hub) is
+        ap (give_as hub number room) there ∙ ap (λ (l : List ℕ). output_as hub number room session (is_empty l)) silent ∙ ap (λ (st : SessionStatus). by_standing st number room session hub) is
 
     -- nothing is done
-    rests : (standing : Standing) (given : Given) → session.standing ≡ standing → ((room : ℕ) → by_standing standing number room session hub ≡ did given hub) → AnswersSo before session given → Comes hub number before
+    rests : (standing : SessionStatus) (given : Given) → session.standing ≡ standing → ((room : ℕ) → by_standing standing number room session hub ≡ did given hub) → AnswersSo before session given → Comes hub number before
     rests standing given is same so = record {
       given = given;
       s = session;
@@ -164,7 +164,7 @@ module _ (hub : Hub) (number : ℕ) (session : Session) (there : session_of hub 
     -- names that wait
     module _ (live : session.standing ≡ Live) where
       abbrev packing : Session → Session
-      packing = packs (keeps_now hub) (tells_now hub) (now hub)
+      packing = with_next_push (keeps_now hub) (tells_now hub) (now hub)
 
       abbrev packed_hub : Hub
       packed_hub = in_session number packing hub
@@ -250,7 +250,7 @@ module _ (hub : Hub) (number : ℕ) (session : Session) (there : session_of hub 
       by_first silent live None first = packs-names silent live first
       by_first silent live (Some found) first = reacts silent live found first
 
-      by_kind : session.output ≡ [] → (standing : Standing) → session.standing ≡ standing → Comes hub number before
+      by_kind : session.output ≡ [] → (standing : SessionStatus) → session.standing ≡ standing → Comes hub number before
       by_kind silent Live is = by_first silent is (first_message session.input) refl
       by_kind silent (AskedToStop rcode delay) is = stops silent rcode delay is
       by_kind silent (Stopped since) is = rests silent (Stopped since) Ending is (λ room. refl) (since, is)

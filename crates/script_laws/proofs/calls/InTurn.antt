@@ -1,7 +1,7 @@
 -- What is made for a session, call by call.
 --     gives-made      what `give` makes for the session of which it is asked
 --     made-in-turn      the law
-use Rattle.std.proofs.Common.{◌≡◌, ℕ, ◌+◌, ◌≤◌, ◌<◌, Bool, true, false, cond, List, [], ◌∷◌, ◌++◌, map, Option, Some, None, refl, sym, ◌∙◌, ap, subst, append_assoc, append-nil, arith}
+use Rattle.std.proofs.Common.{◌≡◌, ℕ, ◌≤◌, ◌<◌, Bool, true, false, cond, List, [], ◌∷◌, ◌++◌, map, Option, Some, None, refl, sym, ◌∙◌, ap, subst, append_assoc, append-nil, arith}
 use Rattle.std.specs.Prelude.{◌==◌, ◌&&◌, option_map}
 use Rattle.std.specs.Option.{option_or}
 use Rattle.std.proofs.lemmas.List.{map-append}
@@ -13,24 +13,24 @@ use Rattle.dsotlv.specs.declared.message.Notice.{Notice}
 use Rattle.dsosession.specs.declared.session.EndReason.{EndReason}
 use Rattle.dsosession.specs.declared.session.EndReason.TheVariants as ends
 use Rattle.history.specs.declared.entry.Entry.{Entry}
-use Rattle.pushsession.specs.Sessions.{new_session, without_first, copied, takes, asked_to_stop, timed, due, ended_where, ended_with, says_stop, stopped, is_open}
-use Rattle.pushsession.specs.Subscribing.{packs, says_notices}
-use Rattle.pushsession.specs.declared.standing.Standing.{Standing}
-use Rattle.pushsession.specs.declared.standing.Standing.TheVariants.{Live, AskedToStop, Stopped, Ended}
+use Rattle.pushsession.specs.Sessions.{new_session, without_first, copied, with_piece, asked_to_stop, timed, due, ended_where, ended_with, says_stop, stopped, is_open}
+use Rattle.pushsession.specs.Subscribing.{with_next_push, says_notices}
+use Rattle.pushsession.specs.declared.session_status.SessionStatus.{SessionStatus}
+use Rattle.pushsession.specs.declared.session_status.SessionStatus.TheVariants.{Live, AskedToStop, Stopped, Ended}
 use Rattle.pushserver.specs.declared.given.Given.{Given}
 use Rattle.pushserver.specs.declared.given.Given.TheVariants.{Nothing, End, Ending}
 use Rattle.pushserver.specs.PlainHubs.{Hub, Session, Made, Giving, plain_keeps, nets_of}
 use Rattle.pushserver.specs.Hubs.{now, keeps_now, tells_now, session_of, each_session, in_session, entered, disconnect}
-use Rattle.pushserver.specs.Giving.{give, did, copies, after_reaction, after_packing, reacted, by_standing}
+use Rattle.pushserver.specs.Giving.{give, did, after_reaction, after_packing, by_standing}
 use Rattle.pushserver.specs.Calls.{HubCall, updates, hears, moves, connects, takes as taking, gives, stops, ends as ending, called, after_calls}
-use Rattle.pushserver.proofs.SessionLists.{same-number, other-number, found-in, found-changed, found-last, found-left}
+use Rattle.pushserver.proofs.SessionLists.{same-number, other-number, found-changed, found-last, found-left}
 use Rattle.pushserver.proofs.Walks.{AnyMessage, Walks, walks-give, holds-update, holds-hear, holds-moment, holds-connect, with_new}
 use Rattle.pushserver.proofs.hub_steps.Cases.{found_as, works_as, output_as, give_as}
 use Rattle.pushtelling.specs.Runs.{is_live, first_of}
 use Rattle.pushtelling.proofs.OneSession.{OfOne, one-changed, one-last, one-left}
 use Rattle.pushtelling.proofs.Tells.{by_entry}
 use Rattle.script_laws.specs.EachMessage.{HasItsTurn, pushes, effect_of, messages_of}
-use Rattle.script_laws.specs.InTurn.{says_itself, makes_itself, makes_for, makes_at, makes, made_in, MadeInTurn}
+use Rattle.script_laws.specs.InTurn.{says_itself, makes_for, makes_at, makes, made_in, MadeInTurn}
 use Rattle.script_laws.proofs.calls.EachTurn.{in-found, Hands, hands-on, hands-after, turn-effect}
 
 abbrev message_in : Made → List ℕ
@@ -61,7 +61,7 @@ module _ (number room : ℕ) (hub : Hub) (s : Session) (there : session_of hub n
   one-more t m is = ap (map message_in) is ∙ map-append message_in s.made (m ∷ [])
 
   -- what it would make, by its standing, by whether output waits, and by its first message
-  abbrev first_by : Standing → List ℕ → Option (List ℕ × List ℕ) → List (List ℕ)
+  abbrev first_by : SessionStatus → List ℕ → Option (List ℕ × List ℕ) → List (List ℕ)
   first_by standing output o = cond (is_live standing && is_empty output) (heads o) []
 
   -- there is output
@@ -71,7 +71,7 @@ module _ (number room : ℕ) (hub : Hub) (s : Session) (there : session_of hub n
       (subst (Gave []) (sym (ap (give_as hub number room) there ∙ ap (λ (os : List ℕ). output_as hub number room s (is_empty os)) output))
       (stays (in_session number (copied room) hub) (copied room s) refl (in-found number hub (copied room) s there)))
     where
-      silent : (standing : Standing) → first_by standing (x ∷ xs) (first_message s.input) ≡ []
+      silent : (standing : SessionStatus) → first_by standing (x ∷ xs) (first_message s.input) ≡ []
       silent Live = refl
       silent (AskedToStop rcode delay) = refl
       silent (Stopped since) = refl
@@ -84,16 +84,16 @@ module _ (number room : ℕ) (hub : Hub) (s : Session) (there : session_of hub n
 
   module _ (silent : s.output ≡ []) where
     -- by its standing
-    given-by : (standing : Standing) → s.standing ≡ standing → give hub number room ≡ by_standing standing number room s hub
-    given-by standing is = ap (give_as hub number room) there ∙ ap (λ (os : List ℕ). output_as hub number room s (is_empty os)) silent ∙ ap (λ (st : Standing). by_standing st number room s hub) is
+    given-by : (standing : SessionStatus) → s.standing ≡ standing → give hub number room ≡ by_standing standing number room s hub
+    given-by standing is = ap (give_as hub number room) there ∙ ap (λ (os : List ℕ). output_as hub number room s (is_empty os)) silent ∙ ap (λ (st : SessionStatus). by_standing st number room s hub) is
 
     -- where no message is up, it makes what it says by itself
-    itself : (standing : Standing) → s.standing ≡ standing → first_by standing [] (first_message s.input) ≡ [] → makes_for (first_of s) hub s ≡ says_itself standing hub s
+    itself : (standing : SessionStatus) → s.standing ≡ standing → first_by standing [] (first_message s.input) ≡ [] → makes_for (first_of s) hub s ≡ says_itself standing hub s
     itself standing is none =
         ap (λ (ms : List (List ℕ)). makes_for ms hub s)
-        (ap (λ (os : List ℕ). first_by s.standing os (first_message s.input)) silent ∙ ap (λ (st : Standing). first_by st [] (first_message s.input)) is ∙ none)
+        (ap (λ (os : List ℕ). first_by s.standing os (first_message s.input)) silent ∙ ap (λ (st : SessionStatus). first_by st [] (first_message s.input)) is ∙ none)
         ∙ ap (λ (os : List ℕ). cond (is_empty os) (says_itself s.standing hub s) []) silent
-        ∙ ap (λ (st : Standing). says_itself st hub s) is
+        ∙ ap (λ (st : SessionStatus). says_itself st hub s) is
 
     -- a message is up
     gave-message : s.standing ≡ Live → (found : List ℕ × List ℕ) → first_message s.input ≡ Some found → Gave (makes_for (first_of s) hub s) (give hub number room)
@@ -117,14 +117,14 @@ module _ (number room : ℕ) (hub : Hub) (s : Session) (there : session_of hub n
       where
         up : makes_for (first_of s) hub s ≡ (effect_of hub s found.0).messages
         up = ap (λ (ms : List (List ℕ)). makes_for ms hub s)
-            (ap (λ (os : List ℕ). first_by s.standing os (first_message s.input)) silent ∙ ap (λ (st : Standing). first_by st [] (first_message s.input)) live ∙ ap (first_by Live []) first)
+            (ap (λ (os : List ℕ). first_by s.standing os (first_message s.input)) silent ∙ ap (λ (st : SessionStatus). first_by st [] (first_message s.input)) live ∙ ap (first_by Live []) first)
 
     -- names that wait are packed
     abbrev notices : List Notice
     notices = (packed (nets_of hub.start hub.history s.subscriptions s.queue)).0
 
     abbrev packing : Session → Session
-    packing = packs (keeps_now hub) (tells_now hub) (now hub)
+    packing = with_next_push (keeps_now hub) (tells_now hub) (now hub)
 
     packed-made : messages_of (packing s) ≡ messages_of s ++ pushes notices
     packed-made = by notices
@@ -158,13 +158,13 @@ module _ (number room : ℕ) (hub : Hub) (s : Session) (there : session_of hub n
         made false = sym (append-nil (messages_of s))
 
     -- nothing is made behind the end, or while its moment is waited for
-    gave-none : (standing : Standing) (given : Given) → s.standing ≡ standing → first_by standing [] (first_message s.input) ≡ [] → says_itself standing hub s ≡ [] → by_standing standing number room s hub ≡ did given hub
+    gave-none : (standing : SessionStatus) (given : Given) → s.standing ≡ standing → first_by standing [] (first_message s.input) ≡ [] → says_itself standing hub s ≡ [] → by_standing standing number room s hub ≡ did given hub
         → Gave (makes_for (first_of s) hub s) (give hub number room)
     gave-none standing given is none quiet does =
         subst (λ (more : List (List ℕ)). Gave more (give hub number room)) (sym (itself standing is none ∙ quiet))
         (subst (Gave []) (sym (given-by standing is ∙ does)) (stays hub s refl there))
 
-    gave-silent : (standing : Standing) → s.standing ≡ standing → (o : Option (List ℕ × List ℕ)) → first_message s.input ≡ o → Gave (makes_for (first_of s) hub s) (give hub number room)
+    gave-silent : (standing : SessionStatus) → s.standing ≡ standing → (o : Option (List ℕ × List ℕ)) → first_message s.input ≡ o → Gave (makes_for (first_of s) hub s) (give hub number room)
     gave-silent Live is None first = gave-packed is first
     gave-silent Live is (Some found) first = gave-message is found first
     gave-silent (AskedToStop rcode delay) is o first = gave-stop rcode delay is
@@ -304,7 +304,7 @@ module _ (number : ℕ) where
     sofar-called (hears link datagram) hub h = still (called (hears link datagram) hub) (holds-hear AnyMessage (Sofar made) hub (λ entry by. enters hub entry h) h link datagram tt)
     sofar-called (moves t) hub h = still (called (moves t) hub) (holds-moment AnyMessage (Sofar made) hub (λ entry by. enters hub entry h) h times t)
     sofar-called connects hub h = still (called connects hub) (holds-connect (Sofar made) hub (comes hub h) h)
-    sofar-called (taking other piece) hub h = still (called (taking other piece) hub) (in-changed hub other (takes piece) (λ s. refl) h)
+    sofar-called (taking other piece) hub h = still (called (taking other piece) hub) (in-changed hub other (with_piece piece) (λ s. refl) h)
     sofar-called (gives other room) hub h = gives-any hub other room h
     sofar-called (stops other rcode delay) hub h = still (called (stops other rcode delay) hub) (in-changed hub other (asked_to_stop rcode delay) (made-asked rcode delay) h)
     sofar-called (ending other) hub h = still (called (ending other) hub) (drops hub other h)

@@ -1,24 +1,34 @@
 -- Each line is calls of the hub, and so is each script.
 --     lines-are-calls, scripts-are-calls      the hub behind them
 --     calls-behind      the calls of lines, and of others behind them
-use Rattle.std.proofs.Common.{◌≡◌, ℕ, zero, suc, Bool, true, false, cond, not, ◌&&◌, List, [], ◌∷◌, ◌++◌, fold, Option, Some, None, option_map, refl, sym, ◌∙◌, ap, append_assoc, codes, decimal}
+use Rattle.std.proofs.Common.{◌≡◌, ℕ, zero, suc, Bool, true, false, cond, not, ◌&&◌, List, [], ◌∷◌, ◌++◌, fold, Option, Some, None, option_map, refl, sym, ◌∙◌, ap, append_assoc, codes}
 use Rattle.std.specs.Prelude.{◌==◌, flat_map, is_some, if◌then◌else◌}
 use Rattle.dsosession.specs.declared.session.EndReason.{EndReason}
 use Rattle.pushserver.specs.PlainHubs.{Hub}
 use Rattle.pushserver.specs.Hubs as hubs
 use Rattle.pushserver.specs.Hubs.{now, connect}
 use Rattle.pushserver.specs.Calls.{HubCall, connects, after_calls}
-use Rattle.pushclient.specs.Clients.{Client, closed_as, is_connected, connected}
+use Rattle.pushclient.specs.Clients.{closed_as, is_connected, connected}
 use Rattle.pushclient.specs.Steps as steps
-use Rattle.scripts.specs.Lines.{Word, ScriptLine, silent, timers, zone, link, client, lone, at_moment, update, hear, ask, drop_question, reconfirm, open_connection, cut, say, up, emit, down, settle, send, feed, stop, point, show}
+use Rattle.scripts.specs.Lines.{Word, ScriptLine, silent, head_line, joining, hub_event, link_event, client_call, client_passing, client_event, session_event}
+use Rattle.scripts.specs.declared.line.HubEvent.{HubEvent}
+use Rattle.scripts.specs.declared.line.HubEvent.TheVariants as hub_events
+use Rattle.scripts.specs.declared.line.Call.{Call}
+use Rattle.scripts.specs.declared.line.Way.{Way}
+use Rattle.scripts.specs.declared.line.Way.TheVariants as ways
+use Rattle.scripts.specs.declared.line.ClientEvent.{ClientEvent}
+use Rattle.scripts.specs.declared.line.ClientEvent.TheVariants as client_events
+use Rattle.scripts.specs.declared.line.SessionEvent.{SessionEvent}
+use Rattle.scripts.specs.declared.line.SessionEvent.TheVariants as session_events
 use Rattle.replay.specs.World.{World, Seat, seat_of, session_number, hub_without, world_cut_if, with_seat, with_client, is_over, cut_peer, cut_connection, stopped_hub}
 use Rattle.replay.specs.PassedOctets as passing
-use Rattle.replay.specs.PassedOctets.{Passed, passed, Exchanged, enough, max_wire, round, settled, exchanged, fed_client, nothing_emitted}
+use Rattle.replay.specs.PassedOctets.{Passed, Exchanged, enough, max_wire, round, settled, exchanged, fed_client, nothing_emitted}
 use Rattle.replay.specs.TextWords.{by_history}
-use Rattle.replay.specs.Text.{Printed, quietly, printing, finished, asks, subscribing, unsubscribing, reconfirming, timed, exchanges, opens_lone, opens_hub, feeds_connected, session_of_word, line_does, world_after}
+use Rattle.replay.specs.Text.{Printed, quietly, printing, passing_of, passes_way, passes, asks, timed, exchanges, sends, opens_lone, opens_hub, opens, cuts, feeds_connected, feeds, session_of_word, hub_does, client_does, session_does, line_does, world_after}
 use Rattle.replay.proofs.worlds.SeatLines.{asks_by}
 use Rattle.replay.proofs.worlds.OneWorld.{shows-leave}
-use Rattle.script_laws.specs.LineCalls.{up_calls, out_calls, round_calls, settle_calls, end_calls, cut_calls, passing_calls, of_seat, connect_calls, open_calls, timed_calls, feed_calls, exchange_calls, exchanges_calls, send_calls, stop_calls, line_calls, script_calls, LinesAreCalls, ScriptsAreCalls}
+use Rattle.replay.proofs.worlds.PassedWorlds.{passed_as, does_by}
+use Rattle.script_laws.specs.LineCalls.{up_calls, out_calls, round_calls, settle_calls, end_calls, cut_calls, passing_calls, of_seat, connect_calls, open_calls, timed_calls, feed_calls, exchange_calls, exchanges_calls, send_calls, stop_calls, hub_calls, way_calls, client_calls, session_calls, line_calls, script_calls, LinesAreCalls, ScriptsAreCalls}
 use Rattle.script_laws.proofs.hubs.Reaching.{calls-append}
 use Rattle.script_laws.proofs.calls.Emitting as emitting
 
@@ -61,27 +71,32 @@ cuts-if : (over : Bool) (seat : Seat) (world : World) → (world_cut_if over sea
 cuts-if true seat world = withouts seat.session world.hub
 cuts-if false seat world = refl
 
--- of a passing, with what follows its end
-module _ (calls : ℕ → World → Seat → List HubCall) (passes : ℕ → World → Seat → Passed) (law : (number : ℕ) (world : World) (seat : Seat) → (passes number world seat).world.hub ≡ after_calls (calls number world seat) world.hub) where
-  session-passes : (world : World) (seat : Seat) (o : Option ℕ) → (elim o as (λ _. Passed) [ None ↦ passed world seat 0 | Some number ↦ passes number world seat ]).world.hub
-      ≡ after_calls (elim o as (λ _. List HubCall) [ None ↦ [] | Some number ↦ calls number world seat ]) world.hub
-  session-passes world seat None = refl
-  session-passes world seat (Some number) = law number world seat
+-- octets of a client pass
+ways-so : (way : Way) (number : ℕ) (world : World) (seat : Seat) → (passing_of way number world seat).world.hub ≡ after_calls (way_calls way number world seat) world.hub
+ways-so (ways.Say n) number world seat = refl
+ways-so (ways.Up n) number world seat = refl
+ways-so (ways.Emit n) number world seat = outs number n world seat
+ways-so (ways.Down n) number world seat = refl
+ways-so ways.Settle number world seat = settles enough number world seat None
 
-  passes-so : (words : Passed → List (List ℕ)) (w : Word) (world : World)
-      → (elim (seat_of world w) as (λ _. Printed) [ None ↦ quietly world | Some seat ↦ finished (words (passing.by_session passes world seat)) (passing.by_session passes world seat) ]).0.hub
-      ≡ after_calls (of_seat (passing_calls calls passes) w world) world.hub
-  passes-so words w world = by (seat_of world w)
-    where
-      by : (o : Option Seat) → (elim o as (λ _. Printed) [ None ↦ quietly world | Some seat ↦ finished (words (passing.by_session passes world seat)) (passing.by_session passes world seat) ]).0.hub
-          ≡ after_calls (elim o as (λ _. List HubCall) [ None ↦ [] | Some seat ↦ passing_calls calls passes world seat ]) world.hub
-      by None = refl
-      by (Some seat) =
-          let p : Passed = passing.by_session passes world seat in
-          let own : List HubCall = elim seat.session as (λ _. List HubCall) [ None ↦ [] | Some number ↦ calls number world seat ] in
-          cuts-if (is_over p.over (closed_as p.seat.client)) p.seat (with_seat p.seat p.world)
-          ∙ ap (λ (h : Hub). after_calls (cut_calls p) h) (session-passes world seat seat.session)
-          ∙ sym (calls-append own (cut_calls p) world.hub)
+-- with what follows their end
+passes-so : (way : Way) (w : Word) (world : World) → (passes way w world).0.hub ≡ after_calls (of_seat (passing_calls (way_calls way) (passing_of way)) w world) world.hub
+passes-so way w world = by (seat_of world w)
+  where
+    own_calls : Seat → Option ℕ → List HubCall
+    own_calls seat o = elim o as (λ _. List HubCall) [ None ↦ [] | Some number ↦ way_calls way number world seat ]
+
+    own : (seat : Seat) (o : Option ℕ) → (passed_as way world seat o).world.hub ≡ after_calls (own_calls seat o) world.hub
+    own seat None = refl
+    own seat (Some number) = ways-so way number world seat
+
+    by : (o : Option Seat) → (does_by way w world o).0.hub ≡ after_calls (elim o as (λ _. List HubCall) [ None ↦ [] | Some seat ↦ passing_calls (way_calls way) (passing_of way) world seat ]) world.hub
+    by None = refl
+    by (Some seat) =
+        let p : Passed = passes_way way world seat in
+        cuts-if (is_over p.over (closed_as p.seat.client)) p.seat (with_seat p.seat p.world)
+        ∙ ap (λ (h : Hub). after_calls (cut_calls p) h) (own seat seat.session)
+        ∙ sym (calls-append (own_calls seat seat.session) (cut_calls p) world.hub)
 
 -- ---- clients
 
@@ -103,7 +118,7 @@ opens-hub world seat = by (connect world.hub).0
     by None = refl
     by (Some number) = refl
 
-opens-so : (w : Word) (world : World) → (line_does by_history (open_connection w) world).0.hub ≡ after_calls (of_seat open_calls w world) world.hub
+opens-so : (w : Word) (world : World) → (opens w world).0.hub ≡ after_calls (of_seat open_calls w world) world.hub
 opens-so w world = by (seat_of world w)
   where
     by_lone : (seat : Seat) (b : Bool) → (cond b (opens_lone seat world) (opens_hub seat world)).0.hub ≡ after_calls (cond b [] (connect_calls world.hub)) world.hub
@@ -122,7 +137,7 @@ opens-so w world = by (seat_of world w)
     by None = refl
     by (Some seat) = by_open seat (is_connected seat.client)
 
-feeds-so : (w : Word) (octets : List ℕ) (world : World) → (line_does by_history (feed w octets) world).0.hub ≡ after_calls (of_seat (feed_calls octets) w world) world.hub
+feeds-so : (w : Word) (octets : List ℕ) (world : World) → (feeds w octets world).0.hub ≡ after_calls (of_seat (feed_calls octets) w world) world.hub
 feeds-so w octets world = by (seat_of world w)
   where
     by_open : (seat : Seat) (b : Bool) → (cond b (feeds_connected octets world seat) (printing (codes "bytes" ∷ w ∷ codes "-" ∷ []) world)).0.hub
@@ -137,7 +152,7 @@ feeds-so w octets world = by (seat_of world w)
     by None = refl
     by (Some seat) = by_open seat (is_connected seat.client)
 
-cut-so : (w : Word) (world : World) → (line_does by_history (cut w) world).0.hub ≡ after_calls (line_calls (cut w) world) world.hub
+cut-so : (w : Word) (world : World) → (cuts w world).0.hub ≡ after_calls (session_calls session_events.Cut w world) world.hub
 cut-so w world = by (seat_of world w)
   where
     by : (o : Option Seat) → (elim o as (λ _. World) [ None ↦ cut_peer w world | Some seat ↦ cut_connection seat world ]).hub
@@ -169,7 +184,7 @@ exchanges-so w number octets world = by x.over
         withouts (session_number world w) x.hub ∙ ap (λ (h : Hub). after_calls (end_calls (session_number world w)) h) is
         ∙ sym (calls-append calls (end_calls (session_number world w)) world.hub)
 
-sends-so : (w : Word) (octets : List ℕ) (world : World) → (line_does by_history (send w octets) world).0.hub ≡ after_calls (send_calls w octets world) world.hub
+sends-so : (w : Word) (octets : List ℕ) (world : World) → (sends w octets world).0.hub ≡ after_calls (send_calls w octets world) world.hub
 sends-so w octets world = by (session_number world w)
   where
     with_peer : ℕ → World
@@ -204,39 +219,38 @@ stops-so rcode delay world (Some number) = refl
 
 -- ---- lines
 
-asks-so : (verb : List ℕ) (w : Word) (call : Client → List ℕ × Client) (world : World) → (asks verb w call world).0.hub ≡ world.hub
-asks-so verb w call world = by (seat_of world w)
+asks-so : (call : Call) (w : Word) (world : World) → (asks call w world).0.hub ≡ world.hub
+asks-so call w world = by (seat_of world w)
   where
-    by : (o : Option Seat) → (asks_by verb w call world o).0.hub ≡ world.hub
+    by : (o : Option Seat) → (asks_by call w world o).0.hub ≡ world.hub
     by None = refl
     by (Some seat) = refl
 
+hub-so : (event : HubEvent) (world : World) → (hub_does event world).0.hub ≡ after_calls (hub_calls event world) world.hub
+hub-so (hub_events.At t) world = (let r = hubs.moment world.hub t in timed-so (now r.1) world.seats (record world { hub = r.1 }, cond r.0 (codes "full" ∷ []) []))
+hub-so (hub_events.Update message) world = refl
+hub-so hub_events.Point world = refl
+
+client-so : (event : ClientEvent) (w : Word) (world : World) → (client_does by_history event w world).0.hub ≡ after_calls (client_calls event w world) world.hub
+client-so client_events.Open w world = opens-so w world
+client-so (client_events.Feed octets) w world = feeds-so w octets world
+client-so (client_events.Show question written) w world = ap (λ (x : World). x.hub) (shows-leave by_history w question written world)
+
+session-so : (event : SessionEvent) (w : Word) (world : World) → (session_does event w world).0.hub ≡ after_calls (session_calls event w world) world.hub
+session-so (session_events.Send octets) w world = sends-so w octets world
+session-so (session_events.Stop rcode delay) w world = stops-so rcode delay world (session_of_word world w)
+session-so session_events.Cut w world = cut-so w world
+
 pub lines-are-calls : LinesAreCalls
 lines-are-calls silent world = refl
-lines-are-calls (timers i k) world = refl
-lines-are-calls (zone apex serial mode) world = refl
-lines-are-calls (link w domain) world = refl
-lines-are-calls (client w) world = refl
-lines-are-calls (lone w) world = refl
-lines-are-calls (at_moment t) world = (let r = hubs.moment world.hub t in timed-so (now r.1) world.seats (record world { hub = r.1 }, cond r.0 (codes "full" ∷ []) []))
-lines-are-calls (update message) world = refl
-lines-are-calls (hear w datagram) world = refl
-lines-are-calls (ask w question) world = asks-so (codes "asked") w (subscribing question) world
-lines-are-calls (drop_question w question) world = asks-so (codes "dropped") w (unsubscribing question) world
-lines-are-calls (reconfirm w rr) world = asks-so (codes "reconfirm") w (reconfirming rr) world
-lines-are-calls (open_connection w) world = opens-so w world
-lines-are-calls (cut w) world = cut-so w world
-lines-are-calls (say w n) world = passes-so (λ number there seat. []) (λ number. passing.say n) (λ number there seat. refl) (λ p. codes "say" ∷ w ∷ decimal p.count ∷ []) w world
-lines-are-calls (up w n) world = passes-so (λ number. up_calls number n) (λ number. passing.up number n) (λ number there seat. refl) (λ p. codes "up" ∷ w ∷ decimal p.count ∷ []) w world
-lines-are-calls (emit w n) world = passes-so (λ number. out_calls number n) (λ number. passing.emit number n) (λ number. outs number n) (λ p. codes "emit" ∷ w ∷ decimal p.count ∷ []) w world
-lines-are-calls (down w n) world = passes-so (λ number there seat. []) (λ number. passing.down n) (λ number there seat. refl) (λ p. codes "down" ∷ w ∷ decimal p.count ∷ []) w world
-lines-are-calls (settle w) world =
-    passes-so (settle_calls enough) (λ number there seat. settled enough number there seat None) (λ number there seat. settles enough number there seat None) (λ p. codes "settle" ∷ w ∷ []) w world
-lines-are-calls (send w octets) world = sends-so w octets world
-lines-are-calls (feed w octets) world = feeds-so w octets world
-lines-are-calls (stop w rcode delay) world = stops-so rcode delay world (session_of_word world w)
-lines-are-calls point world = refl
-lines-are-calls (show w question written) world = ap (λ (x : World). x.hub) (shows-leave by_history w question written world)
+lines-are-calls (head_line line) world = refl
+lines-are-calls (joining w is_lone) world = refl
+lines-are-calls (hub_event event) world = hub-so event world
+lines-are-calls (link_event w event) world = refl
+lines-are-calls (client_call w call) world = asks-so call w world
+lines-are-calls (client_passing w way) world = passes-so way w world
+lines-are-calls (client_event w event) world = client-so event w world
+lines-are-calls (session_event w event) world = session-so event w world
 
 -- ---- scripts
 

@@ -5,8 +5,8 @@ use Rattle.std.proofs.Common.{◌≡◌, ℕ, Bool, true, false, cond, List, [],
 use Rattle.std.specs.Prelude.{◌==◌}
 use Rattle.std.specs.List.{AllByRecursion}
 use Rattle.dsosession.specs.declared.session.EndReason.{EndReason}
-use Rattle.pushsession.specs.Sessions.{is_open, new_session, takes, asked_to_stop, due, ended_where, timed, without_first}
-use Rattle.pushsession.specs.declared.standing.Standing.TheVariants.{AskedToStop}
+use Rattle.pushsession.specs.Sessions.{is_open, new_session, with_piece, asked_to_stop, due, ended_where, timed, without_first}
+use Rattle.pushsession.specs.declared.session_status.SessionStatus.TheVariants.{AskedToStop}
 use Rattle.pushserver.specs.PlainHubs.{Hub, Session, plain_keeps}
 use Rattle.pushserver.specs.Hubs.{now, keeps_now, each_session, in_session, entered}
 use Rattle.pushserver.specs.Calls.{HubCall, updates, hears, moves, connects, takes as taking, gives, stops, ends, called, after_calls}
@@ -80,7 +80,7 @@ module _ (number : ℕ) where
   other-serves (hears link datagram) hub other h = holds-hear AnyMessage (ServedAt number) hub (λ entry by. enters hub entry h) h link datagram tt
   other-serves (moves t) hub other h = holds-moment AnyMessage (ServedAt number) hub (λ entry by. enters hub entry h) h times t
   other-serves connects hub other h = holds-connect (ServedAt number) hub (makes hub h) h
-  other-serves (taking n piece) hub other h = other-served hub n (takes piece) other h
+  other-serves (taking n piece) hub other h = other-served hub n (with_piece piece) other h
   other-serves (gives n room) hub other h = walks-give AnyMessage n (ServedAt number) (ServedAt number) (walks n other) hub room h
   other-serves (stops n rcode delay) hub other h = in-served hub n (asked_to_stop rcode delay) (served-asked rcode delay) h
   other-serves (ends n) hub other h = one-left number IsServed n hub.sessions h

@@ -26,13 +26,15 @@ use Rattle.pushclient.specs.SoundClients.{count_of}
 use Rattle.flight_laws.proofs.Counting.{count-append}
 use Rattle.pushtelling.specs.Runs.{handed_out, WentOut}
 use Rattle.pushtelling.proofs.Running.{made_goes_out}
-use Rattle.scripts.specs.Lines.{Word, ScriptLine, silent, timers, zone, link, client, lone, at_moment, update, hear, ask, drop_question, reconfirm, open_connection, cut, say, up, emit, down, settle, send, feed, stop, point, show}
+use Rattle.scripts.specs.Lines.{Word, ScriptLine, silent, head_line, joining, hub_event, link_event, client_call, client_passing, client_event, session_event, send}
+use Rattle.scripts.specs.declared.line.SessionEvent.TheVariants as session_events
 use Rattle.scripts.specs.Scripts.{script_of}
 use Rattle.replay.specs.World.{World, start_world, number_in, session_number, hub_without, cut_peer}
 use Rattle.replay.specs.PassedOctets.{Exchanged, exchanged, enough}
 use Rattle.replay.specs.Promises.{NumbersFit}
 use Rattle.replay.specs.TextWords.{noseat_words, bytes_line, by_history, HeldRecords}
-use Rattle.replay.specs.Text.{Printed, printing, placed, exchanges, end_lines, line_does, printed_by, ended_lines, text_by, world_after}
+use Rattle.replay.specs.Text.{Printed, printing, placed, exchanges, end_lines, line_does, printed_by, text_by, world_after}
+use Rattle.scripts.specs.Words.{ended_lines}
 use Rattle.replay.proofs.pieces.ApartWorlds.{IsApart, apart-start, apart-lines, number-all}
 use Rattle.replay.proofs.worlds.BetweenLines.{printed-append, lines-append, after-append, each-behind, reply-is}
 use Rattle.script_laws.specs.Reached.{FitsCall, FitCalls, IsReached}
@@ -42,6 +44,7 @@ use Rattle.script_laws.specs.LineCalls.{exchange_calls}
 use Rattle.script_laws.specs.EachMessage.{HasItsTurn, IsAnswered, messages_of}
 use Rattle.script_laws.specs.InTurn.{made_in}
 use Rattle.script_laws.specs.Sending.{IsServed, ArePeersServed, made_messages, ExchangeSo, SendIsAnswered, SendsAreAnswered, Asks, lines_asked, world_asked, calls_asked, AsksAnywhere, octets_asked, lines_told, AskIsAnswered, AsksAreAnswered, EachIsBroughtUp}
+use Rattle.script_laws.proofs.Reading.{are-lines}
 use Rattle.script_laws.proofs.hubs.Counting.{one_where, counted-cons, one-itself}
 use Rattle.script_laws.proofs.hubs.HubNumbers.{new-ones-are-found}
 use Rattle.script_laws.proofs.hubs.Reaching.{reached-go-on, calls-append}
@@ -219,30 +222,17 @@ sends-served w octets world reached fits good few served = by (placed w world) r
     by (Some (number, there)) is = exchanges-served w number octets there (peer-stands w world reached fits served number there is) good few
 
 line-served : (line : ScriptLine) (world : World) → AreWithin line → IsReached world.hub → NumbersFit world → IsApart world → ArePeersServed world → ArePeersServed (line_does by_history line world).0
-line-served (send w octets) world within reached fits apart served = sends-served w octets world reached fits within.1.0 within.1.1 served
-line-served silent world within reached fits apart served = served-line silent world tt apart served
-line-served (timers i k) world within reached fits apart served = served-line (timers i k) world tt apart served
-line-served (zone apex serial mode) world within reached fits apart served = served-line (zone apex serial mode) world tt apart served
-line-served (link w domain) world within reached fits apart served = served-line (link w domain) world tt apart served
-line-served (client w) world within reached fits apart served = served-line (client w) world tt apart served
-line-served (lone w) world within reached fits apart served = served-line (lone w) world tt apart served
-line-served (at_moment t) world within reached fits apart served = served-line (at_moment t) world tt apart served
-line-served (update message) world within reached fits apart served = served-line (update message) world tt apart served
-line-served (hear w datagram) world within reached fits apart served = served-line (hear w datagram) world tt apart served
-line-served (ask w question) world within reached fits apart served = served-line (ask w question) world tt apart served
-line-served (drop_question w question) world within reached fits apart served = served-line (drop_question w question) world tt apart served
-line-served (reconfirm w rr) world within reached fits apart served = served-line (reconfirm w rr) world tt apart served
-line-served (open_connection w) world within reached fits apart served = served-line (open_connection w) world tt apart served
-line-served (cut w) world within reached fits apart served = served-line (cut w) world tt apart served
-line-served (say w n) world within reached fits apart served = served-line (say w n) world tt apart served
-line-served (up w n) world within reached fits apart served = served-line (up w n) world tt apart served
-line-served (emit w n) world within reached fits apart served = served-line (emit w n) world tt apart served
-line-served (down w n) world within reached fits apart served = served-line (down w n) world tt apart served
-line-served (settle w) world within reached fits apart served = served-line (settle w) world tt apart served
-line-served (feed w octets) world within reached fits apart served = served-line (feed w octets) world tt apart served
-line-served (stop w rcode delay) world within reached fits apart served = served-line (stop w rcode delay) world tt apart served
-line-served point world within reached fits apart served = served-line point world tt apart served
-line-served (show w question written) world within reached fits apart served = served-line (show w question written) world tt apart served
+line-served (session_event w (session_events.Send octets)) world within reached fits apart served = sends-served w octets world reached fits within.1.0 within.1.1 served
+line-served (session_event w (session_events.Stop rcode delay)) world within reached fits apart served = served-line (session_event w (session_events.Stop rcode delay)) world tt within apart served
+line-served (session_event w session_events.Cut) world within reached fits apart served = served-line (session_event w session_events.Cut) world tt within apart served
+line-served silent world within reached fits apart served = served-line silent world tt within apart served
+line-served (head_line line) world within reached fits apart served = served-line (head_line line) world tt within apart served
+line-served (joining w is_lone) world within reached fits apart served = served-line (joining w is_lone) world tt within apart served
+line-served (hub_event event) world within reached fits apart served = served-line (hub_event event) world tt within apart served
+line-served (link_event w event) world within reached fits apart served = served-line (link_event w event) world tt within apart served
+line-served (client_call w call) world within reached fits apart served = served-line (client_call w call) world tt within apart served
+line-served (client_passing w way) world within reached fits apart served = served-line (client_passing w way) world tt within apart served
+line-served (client_event w event) world within reached fits apart served = served-line (client_event w event) world tt within apart served
 
 module _ (stands : StandsAfterEachLine) (text : List ℕ) (script : List ScriptLine) (read : script_of text ≡ Ok script) where
   abbrev start : World
@@ -252,7 +242,7 @@ module _ (stands : StandsAfterEachLine) (text : List ℕ) (script : List ScriptL
   lines-served [] done rest split within served = served
   lines-served (line ∷ lines) done rest split within served =
       let world : World = world_after done start in
-      let all = stands text script done (line ∷ (lines ++ rest)) read split in
+      let all = stands script done (line ∷ (lines ++ rest)) (are-lines text script read) split in
       let next : ArePeersServed (line_does by_history line world).0 = line-served line world within.0 all.reached all.numbers (apart-lines done start (apart-start script)) served in
       let moved : world_after (done ++ line ∷ []) start ≡ (line_does by_history line world).0 = after-append done (line ∷ []) start in
       subst (λ (x : World). ArePeersServed (world_after lines x)) moved
@@ -289,7 +279,7 @@ module _ (stands : StandsAfterEachLine) (text : List ℕ) (before behind : List 
 
   pub stands-there : (number : ℕ) (there : World) → placed w world ≡ Some (number, there) → PeerStands number there
   stands-there number there place =
-      let all = stands text (before ++ send w octets ∷ behind) before (send w octets ∷ behind) read refl in
+      let all = stands (before ++ send w octets ∷ behind) before (send w octets ∷ behind) (are-lines text (before ++ send w octets ∷ behind) read) refl in
       peer-stands w world all.reached all.numbers (peers-served stands text (before ++ send w octets ∷ behind) read before (send w octets ∷ behind) refl) number there place
 
   pub send-is-answered : (records : HeldRecords) (number : ℕ) (there : World) → placed w world ≡ Some (number, there) → SendIsAnswered records w octets world number there

@@ -24,12 +24,16 @@ use Rattle.inflight.specs.Flight.{IsUnderWay}
 use Rattle.flight_laws.specs.Taking.{written, GoesUp, asked_by, dropped_by, reconfirmed_by, due_at, due_message, due_close}
 use Rattle.flight_laws.proofs.CallsOnOctets.{subscribes-go-up, unsubscribes-go-up, reconfirms-go-up, moments-go-up}
 use Rattle.flight_laws.proofs.Opening.{still-open}
+use Rattle.scripts.specs.declared.line.Call.{Call}
+use Rattle.scripts.specs.declared.line.Call.TheVariants as calls
 use Rattle.replay.specs.World.{Seat}
+use Rattle.replay.specs.Text.{called}
 use Rattle.replay.specs.Promises.{ShownPoints, ShowsNoLater, point_taken}
 use Rattle.replay.proofs.rest.RestingStreams.{octets-both}
 use Rattle.script_laws.specs.Reached.{ReachedSessions}
 use Rattle.script_laws.specs.Joined.{ClosedByDelay, IsJoined}
-use Rattle.script_laws.specs.Walk.{StaysJoined, AsksStay, MomentsStay}
+use Rattle.script_laws.specs.Lines.{IsCallWithin}
+use Rattle.script_laws.specs.Walk.{StaysJoined, KeepsJoined, AsksStay, MomentsStay}
 use Rattle.pushclient.proofs.SoundWishes.{some_is}
 use Rattle.script_laws.proofs.downs.Wishes.{asked_on, reconfirmed_on, moment_on}
 use Rattle.script_laws.proofs.downs.Octets.{WritesOctets, octets-written, asked-octets, dropped-octets, reconfirmed-octets, due-octets}
@@ -150,21 +154,25 @@ module _ (client : Client) (c : Connection) (there : client.connection ≡ Some 
 
 -- ---- the laws
 
+call-open : (call : Call) (client : Client) (c : Connection) → client.connection ≡ Some c → c.closed ≡ None → closed_as (called call client).1 ≡ None
+call-open (calls.Ask question) client c there unclosed = subscribe-open client c there unclosed question
+call-open (calls.Drop question) client c there unclosed = unsubscribe-open client c there unclosed question
+call-open (calls.Reconfirm rr) client c there unclosed = reconfirm-open client c there unclosed rr
+
 module _ (sessions : ReachedSessions) where
+  call-joined : (call : Call) → IsCallWithin call → KeepsJoined (λ client. (called call client).1)
+  call-joined (calls.Ask question) within hub shown seat number session c reached j unclosed =
+      stays hub shown seat number session c j unclosed (subscribe seat.client question).1 (asked_by seat.client c question) None (asked-octets seat.client c question within)
+      (subscribes-go-up hub seat.filled session seat.client c seat.up_wire seat.down_wire question within (sessions hub number session reached j.there).ids (still-open seat.client c j.connected unclosed) j.flight)
+  call-joined (calls.Drop question) within hub shown seat number session c reached j unclosed =
+      stays hub shown seat number session c j unclosed (unsubscribe seat.client question).1 (dropped_by seat.client question) None (dropped-octets seat.client question)
+      (unsubscribes-go-up hub seat.filled session seat.client c seat.up_wire seat.down_wire question (still-open seat.client c j.connected unclosed) j.flight)
+  call-joined (calls.Reconfirm rr) within hub shown seat number session c reached j unclosed =
+      stays hub shown seat number session c j unclosed (reconfirm seat.client rr).1 (reconfirmed_by c rr) None (reconfirmed-octets c rr within.0 within.1.0)
+      (reconfirms-go-up hub seat.filled session seat.client c seat.up_wire seat.down_wire rr within.0 (still-open seat.client c j.connected unclosed) j.flight)
+
   pub asks-stay : AsksStay
-  asks-stay = record {
-    asked = λ question fits hub shown seat number session c reached j unclosed.
-        stays hub shown seat number session c j unclosed (subscribe seat.client question).1 (asked_by seat.client c question) None (asked-octets seat.client c question fits)
-        (subscribes-go-up hub seat.filled session seat.client c seat.up_wire seat.down_wire question fits (sessions hub number session reached j.there).ids (still-open seat.client c j.connected unclosed) j.flight);
-    dropped = λ question hub shown seat number session c reached j unclosed.
-        stays hub shown seat number session c j unclosed (unsubscribe seat.client question).1 (dropped_by seat.client question) None (dropped-octets seat.client question)
-        (unsubscribes-go-up hub seat.filled session seat.client c seat.up_wire seat.down_wire question (still-open seat.client c j.connected unclosed) j.flight);
-    reconfirmed = λ rr named below hub shown seat number session c reached j unclosed.
-        stays hub shown seat number session c j unclosed (reconfirm seat.client rr).1 (reconfirmed_by c rr) None (reconfirmed-octets c rr named below)
-        (reconfirms-go-up hub seat.filled session seat.client c seat.up_wire seat.down_wire rr named (still-open seat.client c j.connected unclosed) j.flight);
-    unclosed = λ client c question rr there unclosed.
-        (subscribe-open client c there unclosed question, unsubscribe-open client c there unclosed question, reconfirm-open client c there unclosed rr);
-  }
+  asks-stay = record { joined = call-joined; unclosed = call-open }
 
 pub moments-stay : MomentsStay
 moments-stay = record {

@@ -1,6 +1,6 @@
 -- Which calls leave a client with a connection where it has one, and without where it has none.
 --     subscribe-connected, unsubscribe-connected, moment-connected      these leave it so
-use Rattle.std.proofs.Common.{◌≡◌, ℕ, Bool, true, false, cond, List, [], ◌∷◌, ◌++◌, Option, Some, None, option_map, refl, sym, ap}
+use Rattle.std.proofs.Common.{◌≡◌, ℕ, Bool, true, false, cond, [], ◌∷◌, ◌++◌, Option, Some, None, option_map, refl, sym, ap}
 use Rattle.std.specs.Prelude.{nat_le, length, is_some}
 use Rattle.std.specs.List.{list_any}
 use Rattle.push_base.specs.Limits.{max_questions}

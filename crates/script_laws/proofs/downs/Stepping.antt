@@ -8,7 +8,7 @@ use Rattle.std.proofs.lemmas.List.{append_cancel_right, length-append}
 use Rattle.std.proofs.lemmas.List.Sums.{sum_by-append}
 use Rattle.dsotlv.specs.Messages.{frame, first_message}
 use Rattle.dsosession.specs.declared.session.CloseReason.{CloseReason}
-use Rattle.pushsession.specs.declared.standing.Standing.{Standing}
+use Rattle.pushsession.specs.declared.session_status.SessionStatus.{SessionStatus}
 use Rattle.pushsession.specs.Sessions.{is_open}
 use Rattle.pushserver.proofs.hub_steps.Pairs.{all-weaken}
 use Rattle.pushserver.specs.PlainHubs.{Hub, Session, Made, frame_of, size_of_made}
@@ -65,7 +65,7 @@ step-told client c later whole rest there unclosed first there_later =
 -- ---- one message
 
 -- what closes fits the session
-closed-fits : (standing : Standing) (says : ServerMessage) → (is_delay says ≡ true → is_open standing ≡ false) → ClosedByDelay standing (closed_by says)
+closed-fits : (standing : SessionStatus) (says : ServerMessage) → (is_delay says ≡ true → is_open standing ≡ false) → ClosedByDelay standing (closed_by says)
 closed-fits standing (delays rcode delay) stopped = stopped refl
 closed-fits standing (accepts id) stopped = tt
 closed-fits standing (refuses id) stopped = tt

@@ -19,7 +19,7 @@ use Rattle.rrset.proofs.Places.{all_filter}
 use Rattle.dsosession.specs.Timing.{client_due}
 use Rattle.pushclient.specs.declared.client.Asked.{Asked}
 use Rattle.pushclient.specs.declared.client.Asked.TheVariants as asked
-use Rattle.pushclient.specs.Clients.{Client, Connection, Wish, RequestState, not_asked, unanswered, refused, answered, unasked, open_connection, with_connection, writes, subscribe_message, unsubscribe_message, reconfirm_message, next_id, asks, cut, subscribe, unsubscribe, drops, wish_for, without_wish, wanted_questions, is_connected}
+use Rattle.pushclient.specs.Clients.{Client, Connection, Wish, RequestState, not_asked, unanswered, refused, answered, unasked, open_connection, with_connection, writes, subscribe_message, unsubscribe_message, reconfirm_message, next_id, asks, cut, subscribe, unsubscribe, reconfirm, drops, wish_for, without_wish, wanted_questions, is_connected}
 use Rattle.pushclient.specs.SoundClients.{question_of}
 use Rattle.pushclient.specs.Steps.{is_active, does, at_later, moment}
 use Rattle.pushclient.proofs.SoundCalls.{questions_left}
@@ -29,8 +29,12 @@ use Rattle.inflight.specs.Flight.{AreSoundWishes}
 use Rattle.flight_laws.proofs.Refusals.{questions-differ}
 use Rattle.flight_laws.proofs.Replaced.{Differ, differ-left}
 use Rattle.flight_laws.proofs.WantedAgain.{none-other}
-use Rattle.script_laws.proofs.downs.Connected.{subscribe-connected, unsubscribe-connected, moment-connected}
+use Rattle.scripts.specs.declared.line.Call.{Call}
+use Rattle.scripts.specs.declared.line.Call.TheVariants as calls
+use Rattle.replay.specs.Text.{called}
+use Rattle.script_laws.specs.Lines.{IsCallWithin}
 use Rattle.script_laws.specs.Walk.{WishesStaySound}
+use Rattle.script_laws.proofs.downs.Connected.{subscribe-connected, unsubscribe-connected, moment-connected}
 
 abbrev Fit : Wish → Type 0
 Fit w = IsTrue (is_question w.question)
@@ -205,15 +209,23 @@ module _ (client : Client) (none : client.connection ≡ None) where
   still-none : (later : Client) → is_connected later ≡ is_connected client → later.connection ≡ None
   still-none later same = none-is later.connection (same ∙ ap (λ (o : Option Connection). is_some o) none)
 
+  -- a record that it doubts is told to nobody
+  untold : (rr : Rr) → (reconfirm client rr).1 ≡ client
+  untold rr = ap (λ (o : Option Connection). (reconfirmed_on client rr o).1) unopened
+
+  unconnected : (call : Call) → (called call client).1.connection ≡ None
+  unconnected (calls.Ask question) = still-none (subscribe client question).1 (subscribe-connected question client)
+  unconnected (calls.Drop question) = still-none (unsubscribe client question).1 (unsubscribe-connected question client)
+  unconnected (calls.Reconfirm rr) = ap (λ (later : Client). later.connection) (untold rr) ∙ none
+
+  sound-called : (call : Call) → IsCallWithin call → AreSoundWishes client.wishes → AreSoundWishes (called call client).1.wishes
+  sound-called (calls.Ask question) within sound = sound-asked client sound question within
+  sound-called (calls.Drop question) within sound = sound-dropped client sound question
+  sound-called (calls.Reconfirm rr) within sound = subst (λ (later : Client). AreSoundWishes later.wishes) (sym (untold rr)) sound
+
 pub wishes-stay-sound : WishesStaySound
 wishes-stay-sound = record {
-  asked = λ client question none fits sound. sound-asked client sound question fits;
-  dropped = λ client question none sound. sound-dropped client sound question;
-  unconnected = λ client question rr t none. (
-    still-none client none (subscribe client question).1 (subscribe-connected question client),
-    still-none client none (unsubscribe client question).1 (unsubscribe-connected question client),
-    ap (λ (o : Option Connection). (reconfirmed_on client rr o).1) (unopened client none),
-    still-none client none (moment client t) (moment-connected t client),
-    ap (λ (o : Option Connection). (moment_on client t o).wishes) (unopened client none),
-  );
+  asked = λ call client none within sound. sound-called client none call within sound;
+  unconnected = λ call client none. unconnected client none call;
+  timed = λ t client none. (still-none client none (moment client t) (moment-connected t client), ap (λ (o : Option Connection). (moment_on client t o).wishes) (unopened client none));
 }

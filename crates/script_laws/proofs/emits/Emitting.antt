@@ -8,8 +8,8 @@ use Rattle.dsotlv.proofs.Results.{same_found}
 use Rattle.dsosession.specs.declared.session.EndReason.{EndReason}
 use Rattle.dsosession.specs.declared.session.CloseReason.{CloseReason}
 use Rattle.dsosession.specs.declared.session.CloseReason.TheVariants as closes
-use Rattle.pushsession.specs.declared.standing.Standing.{Standing}
-use Rattle.pushsession.specs.declared.standing.Standing.TheVariants.{Live, AskedToStop, Stopped, Ended}
+use Rattle.pushsession.specs.declared.session_status.SessionStatus.{SessionStatus}
+use Rattle.pushsession.specs.declared.session_status.SessionStatus.TheVariants.{Live, AskedToStop, Stopped, Ended}
 use Rattle.pushsession.specs.Sessions.{is_open}
 use Rattle.pushserver.specs.declared.given.Given.{Given}
 use Rattle.pushserver.specs.declared.given.Given.TheVariants.{Bytes, Worked, Nothing, Ending, End}
@@ -43,7 +43,7 @@ use Rattle.script_laws.proofs.emits.Saying.{same-taken}
 use Rattle.script_laws.proofs.emits.Giving.{StandsBehind, live-stands, gives-stand, gives-short}
 
 -- a client that a Retry Delay closed is closed by one, while the session doesn't go on
-closed-stays : (standing later : Standing) (closed : Option CloseReason) → (is_open standing ≡ false → is_open later ≡ false) → ClosedByDelay standing closed → ClosedByDelay later closed
+closed-stays : (standing later : SessionStatus) (closed : Option CloseReason) → (is_open standing ≡ false → is_open later ≡ false) → ClosedByDelay standing closed → ClosedByDelay later closed
 closed-stays standing later None shut h = tt
 closed-stays standing later (Some (closes.Delay ms rcode)) shut h = shut h
 closed-stays standing later (Some closes.Idle) shut h = absurd h
@@ -65,7 +65,7 @@ module _ (reached-on : ReachedOnesGoOn) (begun-on : BegunOnesGoOn) (are-sound : 
     abbrev gave : Giving
     gave = give hub number room
 
-    standing-behind : (standing : Standing) → session.standing ≡ standing → StandsBehind gave number standing
+    standing-behind : (standing : SessionStatus) → session.standing ≡ standing → StandsBehind gave number standing
     standing-behind Live is = live-stands gave number (sessions-go-on hub number room seat.filled session seat.client c seat.up_wire seat.down_wire j.there is j.flight)
     standing-behind (AskedToStop rcode delay) is = subst (StandsBehind gave number) is (gives-stand number room hub session j.there j.ended (λ live. let both : AskedToStop rcode delay ≡ Live = sym is ∙ live in absurd cc))
     standing-behind (Stopped since) is = subst (StandsBehind gave number) is (gives-stand number room hub session j.there j.ended (λ live. let both : Stopped since ≡ Live = sym is ∙ live in absurd cc))

@@ -7,8 +7,8 @@ use Rattle.std.specs.Prelude.{IsTrue, option_map, if◌then◌else◌}
 use Rattle.push_base.specs.Cases.{is_empty}
 use Rattle.dsosession.specs.declared.session.EndReason.{EndReason}
 use Rattle.dsosession.specs.declared.session.EndReason.TheVariants as ends
-use Rattle.pushsession.specs.declared.standing.Standing.{Standing}
-use Rattle.pushsession.specs.declared.standing.Standing.TheVariants.{Live, AskedToStop, Stopped, Ended}
+use Rattle.pushsession.specs.declared.session_status.SessionStatus.{SessionStatus}
+use Rattle.pushsession.specs.declared.session_status.SessionStatus.TheVariants.{Live, AskedToStop, Stopped, Ended}
 use Rattle.pushsession.specs.Sessions.{is_open, copied, stopped, says_stop, ended_with}
 use Rattle.pushserver.specs.declared.given.Given.{Given}
 use Rattle.pushserver.specs.declared.given.Given.TheVariants.{Worked, Ending, End}
@@ -21,7 +21,7 @@ use Rattle.flight_laws.specs.GoesOn.{GoesOn, gives_on}
 use Rattle.replay.specs.Promises.{EndedByItself, is_end_by_itself}
 use Rattle.replay.proofs.exchanges.Walks.{give-walk}
 
-pub record StandsBehind (g : Giving) (number : ℕ) (standing : Standing) : Type 0 where
+pub record StandsBehind (g : Giving) (number : ℕ) (standing : SessionStatus) : Type 0 where
   pub later : Session
   pub there : session_of g.hub number ≡ Some later
   pub ended : EndedByItself later.standing
@@ -32,7 +32,7 @@ same-end : (a b : EndReason) → End a ≡ End b → a ≡ b
 same-end a b is = cc
 
 -- what is answered where the session has nothing to say
-after-so : (standing : Standing) (reason : EndReason) → EndedByItself standing → given_after standing ≡ End reason → IsTrue (is_end_by_itself reason)
+after-so : (standing : SessionStatus) (reason : EndReason) → EndedByItself standing → given_after standing ≡ End reason → IsTrue (is_end_by_itself reason)
 after-so (Ended told) reason ended is = subst (λ r. IsTrue (is_end_by_itself r)) (same-end told reason is) ended
 after-so Live reason ended is = absurd cc
 after-so (AskedToStop rcode delay) reason ended is = absurd cc
@@ -51,7 +51,7 @@ live-stands g number on = record {
 
 -- ---- any other
 
-module _ (number room : ℕ) (standing : Standing) where
+module _ (number room : ℕ) (standing : SessionStatus) where
   abbrev Stands : Giving → Type 0
   Stands g = StandsBehind g number standing
 
@@ -81,7 +81,7 @@ module _ (number room : ℕ) (hub : Hub) (session : Session) (there : session_of
   stop-ended rcode delay true = tt
   stop-ended rcode delay false = refl
 
-  by-kind : (standing : Standing) → session.standing ≡ standing → (standing ≡ Live → ⊥) → StandsBehind (by_standing standing number room session hub) number standing
+  by-kind : (standing : SessionStatus) → session.standing ≡ standing → (standing ≡ Live → ⊥) → StandsBehind (by_standing standing number room session hub) number standing
   by-kind Live is other = absurd (other refl)
   by-kind (AskedToStop rcode delay) is other =
       let stop : Session → Session = stopped (keeps_now hub) rcode delay (now hub) in

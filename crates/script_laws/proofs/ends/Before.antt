@@ -1,16 +1,15 @@
 -- What is so before each line of a script.
 --     stands-before      the world stands, what is known of it fits, and the line may stand where it stands
-use Rattle.std.proofs.Common.{◌≡◌, ℕ, List, [], ◌∷◌, ◌++◌, Ok, Some, refl, subst}
+use Rattle.std.proofs.Common.{◌≡◌, List, [], ◌∷◌, ◌++◌, Some, refl, subst}
 use Rattle.std.specs.List.{AllByRecursion}
 use Rattle.scripts.specs.Lines.{Word, ScriptLine}
-use Rattle.scripts.specs.Scripts.{Known, nothing_known, client_words, lines_read, fits, script_of}
+use Rattle.scripts.specs.Scripts.{Known, nothing_known, fits}
 use Rattle.replay.specs.World.{World, start_world}
 use Rattle.replay.specs.TextWords.{by_history}
 use Rattle.replay.specs.Text.{line_does, world_after}
 use Rattle.script_laws.specs.Joined.{ShownToEach}
-use Rattle.script_laws.specs.Lines.{IsRead, Follow}
+use Rattle.script_laws.specs.Lines.{IsRead, Follow, AreLines}
 use Rattle.script_laws.proofs.lines.Premises.{LineLaws}
-use Rattle.script_laws.proofs.lines.Following.{read-script}
 use Rattle.script_laws.proofs.lines.Starting.{start-stands, start-fits}
 use Rattle.script_laws.proofs.lines.Walking.{Walked, walked-line}
 
@@ -33,10 +32,8 @@ module _ (laws : LineLaws) (all : List Word) where
       let later : World = (line_does by_history l world).0 in
       before-line f.0 before line after later f.2 read.1 (walked-line laws all known f.0 nothing_shown world h l read.0 f.1)
 
-pub stands-before : LineLaws → (text : List ℕ) (script before after : List ScriptLine) (line : ScriptLine) → script_of text ≡ Ok script → script ≡ before ++ line ∷ after
-    → StandsBefore (client_words (lines_read text)) line (world_after before (start_world script))
-stands-before laws text script before after line read split =
-    let all = client_words (lines_read text) in
-    let r = read-script text script read in
-    before-line laws all nothing_known before line after (start_world script) (subst (Follow all nothing_known) split r.0) (subst (AllByRecursion (IsRead all)) split r.1)
-    (record { stands = start-stands all script r.0 r.1; fits = start-fits all script r.0 r.1; clients = λ w e question. refl })
+pub stands-before : LineLaws → (script before after : List ScriptLine) (line : ScriptLine) (are : AreLines script) → script ≡ before ++ line ∷ after
+    → StandsBefore are.all line (world_after before (start_world script))
+stands-before laws script before after line are split =
+    before-line laws are.all nothing_known before line after (start_world script) (subst (Follow are.all nothing_known) split are.follow) (subst (AllByRecursion (IsRead are.all)) split are.read)
+    (record { stands = start-stands are.all script are.follow are.read; fits = start-fits are.all script are.follow are.read; clients = λ w e question. refl })

@@ -1,9 +1,9 @@
 -- What lines tell of a hub's client where octets pass, where a client is at a moment, and where a peer or a lone client gets octets.
---     passes-say, settles-say      octets pass between a client and its session
+--     passes-say      octets pass between a client and its session
 --     moments-say      each client at a moment
 --     sends-say, feeds-say      octets from a script
 use Rattle.std.proofs.Common.{◌≡◌, ℕ, Bool, true, false, cond, not, ◌||◌, List, [], ◌∷◌, ◌++◌, fold, length, Option, Some, None, option_map, refl, sym, ◌∙◌, ap, subst}
-use Rattle.std.specs.Prelude.{IsTrue, codes, decimal}
+use Rattle.std.specs.Prelude.{IsTrue, codes}
 use Rattle.std.specs.List.{AllByRecursion}
 use Rattle.std.specs.Str.{bytes_eq}
 use Rattle.coalesce.proofs.ReadBack.{each-append}
@@ -11,7 +11,7 @@ use Rattle.dsotlv.proofs.Results.{same_found}
 use Rattle.dsosession.specs.declared.session.EndReason.{EndReason}
 use Rattle.dsosession.specs.declared.session.CloseReason.{CloseReason}
 use Rattle.dsosession.specs.declared.session.CloseReason.TheVariants as closes
-use Rattle.pushsession.specs.declared.standing.Standing.{Standing}
+use Rattle.pushsession.specs.declared.session_status.SessionStatus.{SessionStatus}
 use Rattle.pushserver.proofs.hub_steps.Pairs.{all-weaken}
 use Rattle.pushserver.specs.Hubs as hubs
 use Rattle.pushserver.specs.Hubs.{now, connect}
@@ -19,10 +19,12 @@ use Rattle.pushclient.specs.Clients.{Connection, is_connected, output_of, give_o
 use Rattle.pushclient.specs.Steps as steps
 use Rattle.scripts.specs.Lines.{Word}
 use Rattle.scripts.specs.Scripts.{Known, is_among, is_peer}
+use Rattle.scripts.specs.declared.line.Way.{Way}
+use Rattle.scripts.specs.declared.line.Way.TheVariants as ways
 use Rattle.replay.specs.World.{World, Seat, seat_of, session_number}
-use Rattle.replay.specs.PassedOctets.{Passed, passed, enough, Exchanged, exchanged, settled, to_client}
+use Rattle.replay.specs.PassedOctets.{Passed, passed, enough, Exchanged, exchanged, to_client}
 use Rattle.scripts.specs.Words.{spaced, octets_text}
-use Rattle.replay.specs.Text.{Printed, quietly, printing, end_lines, close_lines, finished, passes, settles, timed, moments, exchanges, sends, feeds_connected, feeds}
+use Rattle.replay.specs.Text.{Printed, quietly, printing, end_lines, close_lines, finished, passing_of, way_words, passes, timed, moments, exchanges, sends, feeds_connected, feeds}
 use Rattle.replay.specs.Promises.{is_end_by_itself, is_close_by_itself}
 use Rattle.scripts.proofs.lines.SameWords.{same_word}
 use Rattle.replay.proofs.worlds.Seats.{words_of}
@@ -31,7 +33,7 @@ use Rattle.script_laws.specs.Joined.{ClosedByDelay, SeatStands, ShownToEach, Wor
 use Rattle.script_laws.specs.Walk.{Keeps}
 use Rattle.script_laws.specs.Lines.{IsWord, KnownFits}
 use Rattle.script_laws.proofs.texts.Along.{seat-stands}
-use Rattle.script_laws.proofs.lines.Premises.{LineLaws}
+use Rattle.script_laws.proofs.lines.Premises.{LineLaws, way-keeps}
 use Rattle.script_laws.proofs.lines.Cutting.{stands-with, stands-alone}
 use Rattle.replay.proofs.worlds.SeatsFound.{found-word, each-found}
 use Rattle.script_laws.proofs.lines.Knowing.{lone_at}
@@ -48,7 +50,7 @@ among-words (v ∷ vs) w each h = by (among-words vs w each.1) (bytes_eq w v) re
     by rest false is h = rest h
 
 -- a Retry Delay is one by itself
-by-delay : (standing : Standing) (o : Option CloseReason) (reason : CloseReason) → ClosedByDelay standing o → o ≡ Some reason → IsTrue (is_close_by_itself reason)
+by-delay : (standing : SessionStatus) (o : Option CloseReason) (reason : CloseReason) → ClosedByDelay standing o → o ≡ Some reason → IsTrue (is_close_by_itself reason)
 by-delay standing None reason so e = absurd cc
 by-delay standing (Some (closes.Delay ms rcode)) reason so e = subst (λ (r : CloseReason). IsTrue (is_close_by_itself r)) (same_found (closes.Delay ms rcode) reason e) refl
 by-delay standing (Some _) reason so e = absurd so
@@ -57,6 +59,14 @@ by-delay standing (Some _) reason so e = absurd so
 not-closed : (o : Option Connection) → o ≡ None → (elim o as (λ _. Option CloseReason) [ None ↦ None | Some c ↦ c.closed ]) ≡ None
 not-closed None e = refl
 not-closed (Some c) e = absurd cc
+
+-- the line of a way tells no end
+other-words : (way : Way) (v : Word) (count : ℕ) → IsTrue (is_other (spaced (way_words way v count)))
+other-words (ways.Say n) v count = refl
+other-words (ways.Up n) v count = refl
+other-words (ways.Emit n) v count = refl
+other-words (ways.Down n) v count = refl
+other-words ways.Settle v count = refl
 
 module _ (laws : LineLaws) (all : List Word) (words : AllByRecursion IsWord all) (known : Known) (shown : ShownToEach) (world : World) (stands : WorldStands shown world) (fits : KnownFits all known world)
     (w : Word) (own : Seat) (found : seat_of world w ≡ Some own) (joins : own.is_lone ≡ false) where
@@ -138,13 +148,8 @@ module _ (laws : LineLaws) (all : List Word) (words : AllByRecursion IsWord all)
       let p : Passed = elim s.session as (λ _. Passed) [ None ↦ passed world s 0 | Some number ↦ passing number world s ] in
       finished-says (printed p) p (other p) (passes-by passing keeps v s there s.session refl)
 
-  pub passes-say : (verb : List ℕ) (v : Word) (passing : ℕ → World → Seat → Passed) → ((p : Passed) → IsTrue (is_other (spaced (verb ∷ v ∷ decimal p.count ∷ [])))) → ((number : ℕ) → Keeps (passing number) number)
-      → Say (passes verb v passing world).1
-  passes-say verb v passing other keeps = says-by v (λ p. verb ∷ v ∷ decimal p.count ∷ []) passing other keeps (seat_of world v) refl
-
-  pub settles-say : (v : Word) → Say (settles v world).1
-  settles-say v =
-      says-by v (λ p. codes "settle" ∷ v ∷ []) (λ number world seat. settled enough number world seat None) (λ p. refl) (λ number. laws.settles enough number None (λ reason e. absurd cc)) (seat_of world v) refl
+  pub passes-say : (way : Way) (v : Word) → Say (passes way v world).1
+  passes-say way v = says-by v (λ p. way_words way v p.count) (passing_of way) (λ p. other-words way v p.count) (way-keeps laws way) (seat_of world v) refl
 
   -- ---- a moment
 
@@ -153,8 +158,8 @@ module _ (laws : LineLaws) (all : List Word) (words : AllByRecursion IsWord all)
     where
       by : (o : Option ℕ) → own.session ≡ o → IsTrue (is_close_by_itself reason)
       by None none =
-          let stays = laws.wishes.unconnected own.client (record { name = []; kind = 0; class = 0 }) (record { owner = []; class = 0; kind = 0; ttl = 0; rdata = [] }) t (own-unconnected none) in
-          let wrong : None ≡ Some reason = sym (not-closed (steps.moment own.client t).connection stays.3) ∙ e in
+          let stays = laws.wishes.timed t own.client (own-unconnected none) in
+          let wrong : None ≡ Some reason = sym (not-closed (steps.moment own.client t).connection stays.0) ∙ e in
           absurd cc
       by (Some number) has =
           let here = stands-with world.hub (shown own.word) own number has own-stands in

@@ -9,26 +9,40 @@ use Rattle.pushserver.specs.declared.given.Heard.{Heard}
 use Rattle.pushserver.specs.declared.given.Heard.TheVariants.{Entered, Ignored}
 use Rattle.pushserver.specs.Hubs as hubs
 use Rattle.pushserver.specs.Hubs.{now, connect}
-use Rattle.pushclient.specs.Clients.{Client, is_connected, connected}
-use Rattle.scripts.specs.Lines.{Word, ScriptLine, silent, timers, zone, link, client, lone, at_moment, update, hear, ask, drop_question, reconfirm, open_connection, cut, say, up, emit, down, settle, send, feed, stop, point, show}
-use Rattle.scripts.specs.Scripts.{Known, lone_of, is_peer, is_lone_client, in_events, client_words, lines_read, fits}
+use Rattle.pushclient.specs.Clients.{is_connected, connected}
+use Rattle.scripts.specs.Lines.{Word, ScriptLine, silent, head_line, joining, hub_event, link_event, client_call, client_passing, client_event, session_event}
+use Rattle.scripts.specs.declared.line.HubEvent.{HubEvent}
+use Rattle.scripts.specs.declared.line.HubEvent.TheVariants as hub_events
+use Rattle.scripts.specs.declared.line.LinkEvent.{LinkEvent}
+use Rattle.scripts.specs.declared.line.LinkEvent.TheVariants as link_events
+use Rattle.scripts.specs.declared.line.Call.{Call}
+use Rattle.scripts.specs.declared.line.Call.TheVariants as calls
+use Rattle.scripts.specs.declared.line.ClientEvent.{ClientEvent}
+use Rattle.scripts.specs.declared.line.ClientEvent.TheVariants as client_events
+use Rattle.scripts.specs.declared.line.SessionEvent.{SessionEvent}
+use Rattle.scripts.specs.declared.line.SessionEvent.TheVariants as session_events
+use Rattle.scripts.specs.Scripts.{Known, lone_of, may_happen_to, may_meet, in_events, fits}
 use Rattle.replay.specs.World.{World, Seat, seat_of, with_seat, start_world}
-use Rattle.replay.specs.PassedOctets as running
 use Rattle.scripts.specs.Words.{spaced}
 use Rattle.replay.specs.TextWords.{record_line, by_history, show_at}
-use Rattle.replay.specs.Text.{Printed, quietly, printing, asks, subscribing, unsubscribing, reconfirming, heard_words, opens_lone, opens_hub, opens, shows, line_does, world_after}
-use Rattle.replay.specs.Promises.{NoMessageEnds}
+use Rattle.replay.specs.Text.{Printed, quietly, printing, call_word, called, asks, heard_words, opens_lone, opens_hub, opens, shows, hub_does, link_does, client_does, session_does, line_does, world_after}
+use Rattle.replay.proofs.worlds.SeatLines.{asks_by}
 use Rattle.script_laws.specs.Joined.{ShownToEach}
-use Rattle.script_laws.specs.Lines.{IsWord, IsRead}
+use Rattle.script_laws.specs.Lines.{IsWord, IsSessionWithin, IsRead}
 use Rattle.script_laws.proofs.lines.Premises.{LineLaws}
-use Rattle.script_laws.proofs.lines.Following.{read-words}
 use Rattle.script_laws.proofs.lines.Starting.{is_allowed}
 use Rattle.script_laws.proofs.lines.Walking.{Walked, some_true}
 use Rattle.script_laws.proofs.ends.Words.{TellsByItself, is_other, other-line, tells-no-other}
+use Rattle.script_laws.specs.Whole.{NoMessageEndsLines}
 use Rattle.script_laws.proofs.ends.Before.{nothing_shown, stands-before}
-use Rattle.script_laws.proofs.ends.Passing.{passes-say, settles-say, moments-say, sends-say, feeds-say}
+use Rattle.script_laws.proofs.ends.Passing.{passes-say, moments-say, sends-say, feeds-say}
 
 -- ---- lines that tell neither
+
+other-call : (call : Call) (v word : Word) → IsTrue (is_other (spaced (call_word call ∷ v ∷ word ∷ [])))
+other-call (calls.Ask question) v word = refl
+other-call (calls.Drop question) v word = refl
+other-call (calls.Reconfirm rr) v word = refl
 
 module _ (w : Word) where
   abbrev Say : List (List ℕ) → Type 0
@@ -47,15 +61,12 @@ module _ (w : Word) where
   heard-say (Some (Ignored why)) = one-line (heard_words (Some (Ignored why))) refl
 
   module _ (world : World) where
-    asks-say : (verb : List ℕ) (v : Word) (call : Client → List ℕ × Client) → ((word : List ℕ) → IsTrue (is_other (spaced (verb ∷ v ∷ word ∷ [])))) → Say (asks verb v call world).1
-    asks-say verb v call other = by (seat_of world v)
+    asks-say : (call : Call) (v : Word) → Say (asks call v world).1
+    asks-say call v = by (seat_of world v)
       where
-        by : (o : Option Seat) → Say (elim o as (λ _. Printed) [
-          | None ↦ quietly world
-          | Some seat ↦ printing (verb ∷ v ∷ (call seat.client).0 ∷ []) (with_seat (record seat { client = (call seat.client).1 }) world)
-        ]).1
+        by : (o : Option Seat) → Say (asks_by call v world o).1
         by None = tt
-        by (Some seat) = one-line (spaced (verb ∷ v ∷ (call seat.client).0 ∷ [])) (other (call seat.client).0)
+        by (Some seat) = one-line (spaced (call_word call ∷ v ∷ (called call seat.client).0 ∷ [])) (other-call call v (called call seat.client).0)
 
     opens-hub-say : (seat : Seat) → Say (opens_hub seat world).1
     opens-hub-say seat = by (connect world.hub).0
@@ -101,39 +112,39 @@ module _ (w : Word) where
 
 module _ (laws : LineLaws) (all : List Word) (words : AllByRecursion IsWord all) (known next : Known) (shown : ShownToEach) (world : World) (h : Walked all known shown world) (w : Word) (own : Seat)
     (found : seat_of world w ≡ Some own) (joins : own.is_lone ≡ false) where
-  line-says : (line : ScriptLine) → IsRead all line → fits all known line ≡ Some next → Say own.word (line_does by_history line world).1
-  line-says (at_moment t) is e = moments-say laws all words known shown world h.stands h.fits w own found joins t
-  line-says (update message) is e = one-line own.word (spaced (codes "update" ∷ decimal (hubs.update world.hub message).0 ∷ [])) refl
-  line-says (hear v datagram) is e = heard-say own.word _
-  line-says (ask v question) is e = asks-say own.word world (codes "asked") v (subscribing question) (λ word. refl)
-  line-says (drop_question v question) is e = asks-say own.word world (codes "dropped") v (unsubscribing question) (λ word. refl)
-  line-says (reconfirm v rr) is e = asks-say own.word world (codes "reconfirm") v (reconfirming rr) (λ word. refl)
-  line-says (open_connection v) is e = opens-say own.word world v
-  line-says (cut v) is e = one-line own.word (spaced (codes "cut" ∷ v ∷ [])) refl
-  line-says (say v n) is e = passes-say laws all words known shown world h.stands h.fits w own found joins (codes "say") v (λ number. running.say n) (λ p. refl) (λ number. laws.says n number)
-  line-says (up v n) is e = passes-say laws all words known shown world h.stands h.fits w own found joins (codes "up") v (λ number. running.up number n) (λ p. refl) (λ number. laws.ups n number)
-  line-says (emit v n) is e = passes-say laws all words known shown world h.stands h.fits w own found joins (codes "emit") v (λ number. running.emit number n) (λ p. refl) (λ number. laws.emits n number)
-  line-says (down v n) is e = passes-say laws all words known shown world h.stands h.fits w own found joins (codes "down") v (λ number. running.down n) (λ p. refl) (λ number. laws.downs n number)
-  line-says (settle v) is e = settles-say laws all words known shown world h.stands h.fits w own found joins v
-  line-says (send v octets) is e =
-      sends-say laws all words known shown world h.stands h.fits w own found joins v octets (is_allowed (is_peer all v) (in_events known) next e).0 is.within.0
-  line-says (feed v octets) is e =
-      feeds-say laws all words known shown world h.stands h.fits w own found joins v octets
-      (sym (h.fits.clients v) ∙ some_true (lone_of known v) (is_allowed (is_lone_client known v) (in_events known) next e).0)
-  line-says (stop v rcode delay) is e = one-line own.word (spaced (codes "stop" ∷ v ∷ [])) refl
-  line-says point is e = one-line own.word (spaced (codes "point" ∷ decimal (hubs.newest world.hub) ∷ decimal (now world.hub) ∷ [])) refl
-  line-says (show v question written) is e = shows-say own.word world v question written
-  line-says silent is e = tt
-  line-says (timers i k) is e = tt
-  line-says (zone apex serial mode) is e = tt
-  line-says (link v domain) is e = tt
-  line-says (client v) is e = tt
-  line-says (lone v) is e = tt
+  hub-says : (event : HubEvent) → Say own.word (hub_does event world).1
+  hub-says (hub_events.At t) = moments-say laws all words known shown world h.stands h.fits w own found joins t
+  hub-says (hub_events.Update message) = one-line own.word (spaced (codes "update" ∷ decimal (hubs.update world.hub message).0 ∷ [])) refl
+  hub-says hub_events.Point = one-line own.word (spaced (codes "point" ∷ decimal (hubs.newest world.hub) ∷ decimal (now world.hub) ∷ [])) refl
 
-pub no-ends : LineLaws → NoMessageEnds
-no-ends laws text script before after line w seat read split found joins =
-    let b = stands-before laws text script before after line read split in
+  link-says : (v : Word) (event : LinkEvent) → Say own.word (link_does event v world).1
+  link-says v (link_events.Hear datagram) = heard-say own.word _
+
+  client-says : (v : Word) (event : ClientEvent) → may_happen_to known.clients v event ≡ true → Say own.word (client_does by_history event v world).1
+  client-says v client_events.Open may = opens-say own.word world v
+  client-says v (client_events.Feed octets) may = feeds-say laws all words known shown world h.stands h.fits w own found joins v octets (sym (h.fits.clients v) ∙ some_true (lone_of known v) may)
+  client-says v (client_events.Show question written) may = shows-say own.word world v question written
+
+  session-says : (v : Word) (event : SessionEvent) → IsSessionWithin v event → may_meet all known.clients v event ≡ true → Say own.word (session_does event v world).1
+  session-says v (session_events.Send octets) within may = sends-say laws all words known shown world h.stands h.fits w own found joins v octets may within.0
+  session-says v (session_events.Stop rcode delay) within may = one-line own.word (spaced (codes "stop" ∷ v ∷ [])) refl
+  session-says v session_events.Cut within may = one-line own.word (spaced (codes "cut" ∷ v ∷ [])) refl
+
+  line-says : (line : ScriptLine) → IsRead all line → fits all known line ≡ Some next → Say own.word (line_does by_history line world).1
+  line-says silent is e = tt
+  line-says (head_line line) is e = tt
+  line-says (joining v is_lone) is e = tt
+  line-says (hub_event event) is e = hub-says event
+  line-says (link_event v event) is e = link-says v event
+  line-says (client_call v call) is e = asks-say own.word world call v
+  line-says (client_passing v way) is e = passes-say laws all words known shown world h.stands h.fits w own found joins way v
+  line-says (client_event v event) is e = client-says v event (is_allowed (may_happen_to known.clients v event) (in_events known) next e).0
+  line-says (session_event v event) is e = session-says v event is.within (is_allowed (may_meet all known.clients v event) (in_events known) next e).0
+
+pub no-ends : LineLaws → NoMessageEndsLines
+no-ends laws script before after line w seat are split found joins =
+    let b = stands-before laws script before after line are split in
     let world = world_after before (start_world script) in
-    let says = line-says laws (client_words (lines_read text)) (read-words text) b.known b.next nothing_shown world b.walked w seat found joins line b.is b.fits in
+    let says = line-says laws are.all are.words b.known b.next nothing_shown world b.walked w seat found joins line b.is b.fits in
     let tells = tells-no-other seat.word (line_does by_history line world).1 says in
     record { end = tells.end; close = tells.close }

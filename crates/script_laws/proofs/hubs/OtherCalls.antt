@@ -5,7 +5,7 @@ use Rattle.std.specs.Prelude.{option_map, ◌==◌}
 use Rattle.std.specs.Option.{option_or}
 use Rattle.std.proofs.lemmas.Bool.{eqb-true}
 use Rattle.history.specs.declared.entry.Entry.{Entry}
-use Rattle.pushsession.specs.Sessions.{new_session, takes as takes_piece, asked_to_stop, timed}
+use Rattle.pushsession.specs.Sessions.{new_session, with_piece, asked_to_stop, timed}
 use Rattle.pushserver.specs.Calls.{HubCall, updates, hears, moves, connects, takes, gives, stops, ends, called}
 use Rattle.pushserver.specs.Giving.{give}
 use Rattle.pushserver.specs.Hubs.{now, keeps_now, session_of, each_session, entered, disconnect}
@@ -70,7 +70,7 @@ module _ (number : ℕ) (Q : Session → Type 0)
   others-keep hub (hears link datagram) apart h = holds-hear AnyMessage IsThereSo hub (λ entry by. behind-entry hub entry h) h link datagram tt
   others-keep hub (moves t) apart h = holds-moment AnyMessage IsThereSo hub (λ entry by. behind-entry hub entry h) h behind-timers t
   others-keep hub connects apart h = holds-connect IsThereSo hub (behind-connection hub h) h
-  others-keep hub (takes other piece) apart (session, there, q) = (session, found-elsewhere other (takes_piece piece) number apart hub.sessions ∙ there, q)
+  others-keep hub (takes other piece) apart (session, there, q) = (session, found-elsewhere other (with_piece piece) number apart hub.sessions ∙ there, q)
   others-keep hub (gives other room) apart h = behind-give hub other room apart h
   others-keep hub (stops other rcode delay) apart h = behind-stop hub other rcode delay h
   others-keep hub (ends other) apart h = behind-end hub other apart h

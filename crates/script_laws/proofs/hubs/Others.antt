@@ -12,8 +12,8 @@ use Rattle.dsosession.specs.declared.session.CloseReason.{CloseReason}
 use Rattle.dsosession.specs.declared.session.CloseReason.TheVariants as closes
 use Rattle.dsosession.specs.declared.session.EndReason.{EndReason}
 use Rattle.dsosession.specs.declared.session.EndReason.TheVariants as ends
-use Rattle.pushsession.specs.declared.standing.Standing.{Standing}
-use Rattle.pushsession.specs.declared.standing.Standing.TheVariants.{Live, AskedToStop, Stopped, Ended}
+use Rattle.pushsession.specs.declared.session_status.SessionStatus.{SessionStatus}
+use Rattle.pushsession.specs.declared.session_status.SessionStatus.TheVariants.{Live, AskedToStop, Stopped, Ended}
 use Rattle.pushsession.specs.Sessions.{is_open, asked_to_stop, due_as, ended_where, timed}
 use Rattle.pushserver.specs.Calls.{HubCall, called, after_calls}
 use Rattle.pushserver.specs.Hubs.{newest, session_of}
@@ -46,7 +46,7 @@ stopped-ends : (passed : Bool) (reason : EndReason) → cond passed (Some ends.S
 stopped-ends true reason is = let same : ends.Stopped ≡ reason = cc in subst (λ (r : EndReason). IsTrue (is_end_by_itself r)) same refl
 stopped-ends false reason is = absurd cc
 
-due-ends : (standing : Standing) (clocks : Clocks) (questions t : ℕ) (reason : EndReason) → due_as standing clocks questions t ≡ Some reason → IsTrue (is_end_by_itself reason)
+due-ends : (standing : SessionStatus) (clocks : Clocks) (questions t : ℕ) (reason : EndReason) → due_as standing clocks questions t ≡ Some reason → IsTrue (is_end_by_itself reason)
 due-ends (Ended already) clocks questions t reason is = absurd cc
 due-ends (Stopped since) clocks questions t reason is = stopped-ends (has_passed stop_time since t) reason is
 due-ends Live clocks questions t reason is = timers-end (is_silent clocks t) (is_idle clocks t questions) reason is
@@ -67,7 +67,7 @@ ends-so-asked rcode delay session h = by (is_open session.standing)
     by false = h
 
 -- a session that doesn't go on stays so
-pub closed-so : (closed : Option CloseReason) (before after : Standing) → (is_open before ≡ false → is_open after ≡ false) → ClosedByDelay before closed → ClosedByDelay after closed
+pub closed-so : (closed : Option CloseReason) (before after : SessionStatus) → (is_open before ≡ false → is_open after ≡ false) → ClosedByDelay before closed → ClosedByDelay after closed
 closed-so None before after stays h = tt
 closed-so (Some (closes.Delay ms rcode)) before after stays h = stays h
 closed-so (Some _) before after stays h = absurd h

@@ -5,8 +5,8 @@ use Rattle.std.specs.Prelude.{◌==◌}
 use Rattle.std.specs.List.{AllByRecursion}
 use Rattle.coalesce.proofs.ReadBack.{each-append}
 use Rattle.rrset.proofs.Places.{all_filter}
-use Rattle.pushsession.specs.Sessions.{new_session, is_open, takes as takes_piece, asked_to_stop, timed, without_first}
-use Rattle.pushsession.specs.declared.standing.Standing.TheVariants.{AskedToStop}
+use Rattle.pushsession.specs.Sessions.{new_session, is_open, with_piece, asked_to_stop, timed, without_first}
+use Rattle.pushsession.specs.declared.session_status.SessionStatus.TheVariants.{AskedToStop}
 use Rattle.pushserver.specs.Calls.{HubCall, updates, hears, moves, connects, takes, gives, stops, ends, called, after_calls}
 use Rattle.pushserver.specs.Hubs.{now, keeps_now, in_session}
 use Rattle.pushserver.specs.PlainHubs.{Hub, Session, plain_keeps}
@@ -37,7 +37,7 @@ fit-kept = record {
   changes = λ hub number f step h. in-fit hub number f (λ s fits. has-step StopFits (λ reason. tt) (λ since. tt) hub step s fits) h;
   enters = λ hub entry h. each-changed HasFitStop HasFitStop (λ n. by_entry hub.start hub.history entry) (λ n s fits. fits) hub.sessions h;
   times = λ hub point t h. each-changed HasFitStop HasFitStop (λ n. timed (plain_keeps point) t) (λ n s fits. has-timed StopFits (λ reason. tt) (λ since. tt) point t s fits) hub.sessions h;
-  takes_in = λ hub number piece h. in-fit hub number (takes_piece piece) (λ s fits. fits) h;
+  takes_in = λ hub number piece h. in-fit hub number (with_piece piece) (λ s fits. fits) h;
 }
 
 called-fit : (call : HubCall) (hub : Hub) → FitsCall call → HaveFitStops hub → HaveFitStops (called call hub)

@@ -1,22 +1,20 @@
 -- A client is asked for something, and its seat still stands.
---     subscribes-stand, unsubscribes-stand, reconfirms-stand      the lines that ask
-use Rattle.std.proofs.Common.{◌≡◌, ℕ, Bool, true, false, not, ◌||◌, List, [], ◌∷◌, Option, Some, None, refl, sym, ◌∙◌, ap, subst}
+--     calls-stand      the lines that ask
+use Rattle.std.proofs.Common.{◌≡◌, ℕ, Bool, true, false, not, ◌||◌, List, [], Option, Some, None, refl, sym, ◌∙◌, ap, subst}
 use Rattle.std.specs.Prelude.{is_none, IsTrue}
-use Rattle.dnsname.specs.Names.{is_name}
-use Rattle.dsotlv.specs.Laws.{AreOctets}
 use Rattle.dsotlv.specs.Messages.{first_message}
-use Rattle.rrset.specs.declared.record.Question.{Question}
-use Rattle.rrset.specs.declared.record.Rr.{Rr}
 use Rattle.dsosession.specs.declared.session.CloseReason.{CloseReason}
-use Rattle.inflight.specs.Ends.{is_question}
 use Rattle.inflight.specs.Flight.{AreSoundWishes}
 use Rattle.pushserver.specs.PlainHubs.{Hub}
-use Rattle.pushclient.specs.Clients.{Client, Connection, reconfirm, closed_as}
+use Rattle.pushclient.specs.Clients.{Client, Connection, closed_as}
 use Rattle.scripts.specs.Lines.{Word}
-use Rattle.replay.specs.World.{World, Seat, seat_of, with_seat}
-use Rattle.replay.specs.Text.{Printed, quietly, printing, asks, subscribing, unsubscribing, reconfirming}
+use Rattle.scripts.specs.declared.line.Call.{Call}
+use Rattle.replay.specs.World.{World, Seat}
+use Rattle.replay.specs.Text.{called, asks}
 use Rattle.replay.specs.Promises.{ShownPoints, IsUnconnected}
+use Rattle.replay.proofs.worlds.LinesDoing.{ask-does}
 use Rattle.script_laws.specs.Reached.{IsReached}
+use Rattle.script_laws.specs.Lines.{IsCallWithin}
 use Rattle.script_laws.specs.Joined.{SeatStands, StandsWith, ShownToEach, WorldStands}
 use Rattle.script_laws.specs.Walk.{KeepsJoined}
 use Rattle.script_laws.proofs.lines.Premises.{LineLaws}
@@ -106,55 +104,23 @@ module _ (next : Client → Client) (asked : IsAsked next) where
 
 -- ---- the lines
 
-module _ (laws : LineLaws) (all : List Word) (shown : ShownToEach) (world : World) (stands : WorldStands shown world) where
-  asks-stand : (verb : List ℕ) (w : Word) (call : Client → List ℕ × Client) → IsAsked (λ client. (call client).1) → LeadsTo all shown world (asks verb w call world).0
-  asks-stand verb w call asked = by (seat_of world w) refl
-    where
-      by : (o : Option Seat) → seat_of world w ≡ o → LeadsTo all shown world (elim o as (λ _. Printed) [
-        | None ↦ quietly world
-        | Some seat ↦ printing (verb ∷ w ∷ (call seat.client).0 ∷ []) (with_seat (record seat { client = (call seat.client).1 }) world)
-      ]).0
-      by None none = leads-none all shown world stands
-      by (Some seat) found =
-          let later : Seat = record seat { client = (call seat.client).1 } in
-          record {
-            stands = laws.seats_pass shown world w seat later [] stands found refl refl tt tt tt
-                (asked-stands (λ client. (call client).1) asked world.hub (shown seat.word) seat stands.reached (seat-stands shown world w seat stands found));
-            clients = same-put world w seat later found refl refl;
-            peers = λ h. h;
-          }
+module _ (laws : LineLaws) where
+  call-asks : (call : Call) → IsCallWithin call → IsAsked (λ client. (called call client).1)
+  call-asks call within = record {
+    joined = laws.asks.joined call within;
+    unclosed = laws.asks.unclosed call;
+    none = laws.wishes.unconnected call;
+    sound = λ client none sound. laws.wishes.asked call client none within sound;
+  }
 
-  -- any record where none matters
-  no_record : Question → Rr
-  no_record question = record { owner = question.name; class = question.class; kind = question.kind; ttl = 0; rdata = [] }
-
-  pub subscribes-stand : (verb : List ℕ) (w : Word) (question : Question) → IsTrue (is_question question) → LeadsTo all shown world (asks verb w (subscribing question) world).0
-  subscribes-stand verb w question fits = asks-stand verb w (subscribing question) (record {
-    joined = laws.asks.asked question fits;
-    unclosed = λ client c e live. (laws.asks.unclosed client c question (no_record question) e live).0;
-    none = λ client e. (laws.wishes.unconnected client question (no_record question) 0 e).0;
-    sound = λ client e sound. laws.wishes.asked client question e fits sound;
-  })
-
-  pub unsubscribes-stand : (verb : List ℕ) (w : Word) (question : Question) → LeadsTo all shown world (asks verb w (unsubscribing question) world).0
-  unsubscribes-stand verb w question = asks-stand verb w (unsubscribing question) (record {
-    joined = laws.asks.dropped question;
-    unclosed = λ client c e live. (laws.asks.unclosed client c question (no_record question) e live).1;
-    none = λ client e. (laws.wishes.unconnected client question (no_record question) 0 e).1;
-    sound = λ client e sound. laws.wishes.dropped client question e sound;
-  })
-
-  -- any question where none matters
-  some_question : Rr → Question
-  some_question rr = record { name = rr.owner; kind = rr.kind; class = rr.class }
-
-  pub reconfirms-stand : (verb : List ℕ) (w : Word) (rr : Rr) → IsTrue (is_name rr.owner) → AreOctets rr.rdata → LeadsTo all shown world (asks verb w (reconfirming rr) world).0
-  reconfirms-stand verb w rr name octets = asks-stand verb w (reconfirming rr) (record {
-    joined = laws.asks.reconfirmed rr name octets;
-    unclosed = λ client c e live. (laws.asks.unclosed client c (some_question rr) rr e live).2;
-    none = λ client e. ap (λ (d : Client). d.connection) (same client e) ∙ e;
-    sound = λ client e sound. subst (λ (d : Client). AreSoundWishes d.wishes) (sym (same client e)) sound;
-  })
-    where
-      same : (client : Client) → client.connection ≡ None → (reconfirm client rr).1 ≡ client
-      same client e = (laws.wishes.unconnected client (some_question rr) rr 0 e).2
+  pub calls-stand : (all : List Word) (shown : ShownToEach) (world : World) → WorldStands shown world → (call : Call) (w : Word) → IsCallWithin call → LeadsTo all shown world (asks call w world).0
+  calls-stand all shown world stands call w within =
+      ask-does world (LeadsTo all shown world) w call (leads-none all shown world stands)
+      (λ seat found.
+      let later : Seat = record seat { client = (called call seat.client).1 } in
+      record {
+        stands = laws.seats_pass shown world w seat later [] stands found refl refl tt tt tt
+            (asked-stands (λ client. (called call client).1) (call-asks call within) world.hub (shown seat.word) seat stands.reached (seat-stands shown world w seat stands found));
+        clients = same-put world w seat later found refl refl;
+        peers = λ h. h;
+      })

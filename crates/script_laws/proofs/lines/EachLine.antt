@@ -13,19 +13,19 @@ use Rattle.pushserver.proofs.session_steps.Lists.{found-each}
 use Rattle.pushserver.proofs.hub_steps.Pairs.{all-weaken}
 use Rattle.pushclient.specs.Clients.{held}
 use Rattle.scripts.specs.Lines.{Word, ScriptLine}
-use Rattle.scripts.specs.Scripts.{Known, nothing_known, client_words, lines_read}
+use Rattle.scripts.specs.Scripts.{Known, nothing_known}
 use Rattle.replay.specs.World.{World, Seat, start_world}
 use Rattle.replay.specs.TextWords.{by_history}
 use Rattle.replay.specs.Text.{line_does, world_after}
 use Rattle.replay.specs.HeldPoints.{point_at, point_of_held, held_points_from, is_show_of}
-use Rattle.replay.specs.Promises.{ShownPoints, IsUnconnected, IsConnected, SeatHolds, HoldsAfterEachLine}
+use Rattle.replay.specs.Promises.{ShownPoints, IsUnconnected, IsConnected, SeatHolds}
 use Rattle.script_laws.specs.Reached.{IsReached}
 use Rattle.script_laws.specs.Joined.{SeatStands, StandsWith, ShownToEach, WorldStands}
 use Rattle.script_laws.specs.Texts.{ShownIsTaken}
-use Rattle.script_laws.specs.Whole.{StandsAfterEachLine}
+use Rattle.script_laws.specs.Whole.{StandsAfterEachLine, LinesHold}
 use Rattle.script_laws.specs.Lines.{IsRead, Follow}
 use Rattle.script_laws.proofs.lines.Premises.{LineLaws}
-use Rattle.script_laws.proofs.lines.Following.{read-script, follow-front}
+use Rattle.script_laws.proofs.lines.Following.{follow-front}
 use Rattle.script_laws.proofs.lines.Starting.{start-stands, start-fits}
 use Rattle.script_laws.proofs.lines.Walking.{ShowsToClients, Walked, walked-line}
 use Rattle.script_laws.proofs.lines.Growing.{shown_at, grown, grown-stands}
@@ -56,12 +56,10 @@ module _ (laws : LineLaws) (shows : ShownIsTaken) (all : List Word) where
       (walked-lines f.0 lines then later f.2 read.1 next)
 
 pub stands-after-each-line : LineLaws → ShownIsTaken → StandsAfterEachLine
-stands-after-each-line laws shows text script before after read split =
-    let all = client_words (lines_read text) in
-    let r = read-script text script read in
-    let start : Walked all nothing_known (λ w question. []) (start_world script) = record { stands = start-stands all script r.0 r.1; fits = start-fits all script r.0 r.1; clients = λ w e question. refl } in
-    walked-lines laws shows all nothing_known before (λ w question. []) (start_world script)
-    (follow-front all nothing_known before after (subst (Follow all nothing_known) split r.0)) (each-front (IsRead all) before after (subst (AllByRecursion (IsRead all)) split r.1)) start
+stands-after-each-line laws shows script before after are split =
+    let start : Walked are.all nothing_known (λ w question. []) (start_world script) = record { stands = start-stands are.all script are.follow are.read; fits = start-fits are.all script are.follow are.read; clients = λ w e question. refl } in
+    walked-lines laws shows are.all nothing_known before (λ w question. []) (start_world script)
+    (follow-front are.all nothing_known before after (subst (Follow are.all nothing_known) split are.follow)) (each-front (IsRead are.all) before after (subst (AllByRecursion (IsRead are.all)) split are.read)) start
 
 -- ---- and what is under way holds
 
@@ -112,9 +110,9 @@ module _ (laws : LineLaws) (hub : Hub) (reached : IsReached hub) where
       by None h = h
       by (Some number) h = connection-holds (shown seat.word) seat number h
 
-pub holds-after-each-line : LineLaws → StandsAfterEachLine → HoldsAfterEachLine
-holds-after-each-line laws each text script before after read split =
+pub holds-after-each-line : LineLaws → StandsAfterEachLine → LinesHold
+holds-after-each-line laws each script before after are split =
     let world = world_after before (start_world script) in
     let shown : ShownToEach = λ w question. held_points_from w question before (start_world script) in
-    let stands = each text script before after read split in
+    let stands = each script before after are split in
     record { numbers = stands.numbers; seats = all-weaken (λ (s : Seat). SeatStands world.hub (shown s.word) s) (SeatHolds world.hub shown) (λ s h. seat-holds laws world.hub stands.reached shown s h) world.seats stands.seats }

@@ -8,7 +8,7 @@ use Rattle.std.specs.Str.{bytes_eq}
 use Rattle.dsotlv.proofs.Results.{same_found}
 use Rattle.pushserver.proofs.hub_steps.Pairs.{all-weaken}
 use Rattle.pushserver.proofs.session_steps.Lists.{each-both}
-use Rattle.scripts.specs.Lines.{Word, ScriptLine, client, lone, line_of}
+use Rattle.scripts.specs.Lines.{Word, ScriptLine, joining, line_of}
 use Rattle.scripts.specs.Scripts.{Known, nothing_known, client_word, client_words, is_among, fits, with_line, lines_from, lines_in, lines_read, last_is_outside, max_script, script_of}
 use Rattle.scripts.proofs.lines.SentOctets.{done, lines_or}
 use Rattle.scripts.proofs.lines.SameWords.{word_itself}
@@ -85,8 +85,7 @@ all_named (Some l ∷ os) all h = by (client_word l) refl (λ k. all_named os al
         (here, rest (λ w k. h w (or_true (bytes_eq w v) (is_among (client_words os) w) k)))
 
 client_named : (line : ScriptLine) (w : Word) → client_word line ≡ Some w → AreWithin line → IsWord w
-client_named (client v) w e within = subst IsWord (same_found v w e) within
-client_named (lone v) w e within = subst IsWord (same_found v w e) within
+client_named (joining v is_lone) w e within = subst IsWord (same_found v w e) within
 client_named _ w e within = absurd cc
 
 all_words : (os : List (Option ScriptLine)) → AllByRecursion (OfLine AreWithin) os → AllByRecursion IsWord (client_words os)

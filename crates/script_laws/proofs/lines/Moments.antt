@@ -4,8 +4,6 @@ use Rattle.std.proofs.Common.{◌≡◌, ℕ, Bool, true, false, cond, not, List
 use Rattle.std.specs.Prelude.{is_some, codes}
 use Rattle.std.specs.List.{AllByRecursion, IsDistinct, list_any}
 use Rattle.std.specs.Str.{bytes_eq}
-use Rattle.rrset.specs.declared.record.Question.{Question}
-use Rattle.rrset.specs.declared.record.Rr.{Rr}
 use Rattle.dsosession.specs.Timing.{client_due}
 use Rattle.dsosession.specs.declared.session.Due.{Due}
 use Rattle.dsosession.specs.declared.session.Due.TheVariants as dues
@@ -76,13 +74,6 @@ module _ (laws : LineLaws) (all : List Word) (shown : ShownToEach) where
     here : SeatStands world.hub (shown seat.word) seat
     here = seat-stands shown world seat.word seat stands found
 
-    -- any question and any record
-    some_question : Question
-    some_question = record { name = []; kind = 0; class = 0 }
-
-    some_record : Rr
-    some_record = record { owner = []; class = 0; kind = 0; ttl = 0; rdata = [] }
-
     alone-later : IsUnconnected world.hub (shown seat.word) seat → IsUnconnected world.hub (shown seat.word) later
     alone-later h = by seat.is_lone refl
       where
@@ -90,8 +81,8 @@ module _ (laws : LineLaws) (all : List Word) (shown : ShownToEach) where
         by true lone = lone-other world.hub (shown seat.word) seat later.client lone h
         by false own =
             let none = no-connection world.hub (shown seat.word) seat own h in
-            let stays = laws.wishes.unconnected seat.client some_question some_record t none in
-            unconnected-other world.hub (shown seat.word) seat later.client own stays.3 (subst AreSoundWishes (sym stays.4) (h.wishes (ap not own))) h
+            let stays = laws.wishes.timed t seat.client none in
+            unconnected-other world.hub (shown seat.word) seat later.client own stays.0 (subst AreSoundWishes (sym stays.1) (h.wishes (ap not own))) h
 
     joined-timed : (number : ℕ) → seat.session ≡ Some number → LeadsTo all shown world (world_timed t world seat)
     joined-timed number has =

@@ -15,6 +15,7 @@ use Rattle.replay.specs.World.{World, Seat, seat_of, with_seat, cut_seat, cut_co
 use Rattle.replay.specs.PassedOctets.{to_client}
 use Rattle.replay.specs.Text.{Printed, quietly, printing, opens_lone, opens_hub, opens, cuts, feeds_connected, feeds}
 use Rattle.replay.specs.Promises.{ShownPoints, IsUnconnected}
+use Rattle.replay.proofs.worlds.LinesDoing.{cut-does, feed-does}
 use Rattle.script_laws.specs.Joined.{SeatStands, ShownToEach, WorldStands}
 use Rattle.script_laws.proofs.texts.Along.{seat-stands}
 use Rattle.script_laws.proofs.lines.Premises.{LineLaws}
@@ -128,11 +129,7 @@ module _ (laws : LineLaws) (all : List Word) (shown : ShownToEach) (world : Worl
   peer-cut w = record { stands = laws.peers_are_cut shown world w stands; clients = λ v. refl; peers = peers-left w world.peers }
 
   pub cuts-stand : (w : Word) → Leads (cuts w world).0
-  cuts-stand w = by (seat_of world w) refl
-    where
-      by : (o : Option Seat) → seat_of world w ≡ o → Leads (elim o as (λ _. World) [ None ↦ cut_peer w world | Some seat ↦ cut_connection seat world ])
-      by None none = peer-cut w
-      by (Some seat) found = seat-cut w seat found
+  cuts-stand w = cut-does world Leads w (seat-cut w) (peer-cut w)
 
   -- ---- feed
 
@@ -146,15 +143,6 @@ module _ (laws : LineLaws) (all : List Word) (shown : ShownToEach) (world : Worl
       (lone-other world.hub (shown seat.word) seat later.client lone (stands-alone world.hub (shown seat.word) seat none here))
 
   pub feeds-stand : (w : Word) (octets : List ℕ) → lone_at world w ≡ Some true → Leads (feeds w octets world).0
-  feeds-stand w octets lone = by (seat_of world w) refl
-    where
-      by_open : (seat : Seat) → seat_of world w ≡ Some seat → seat.is_lone ≡ true → (b : Bool) → Leads (cond b (feeds_connected octets world seat) (printing (codes "bytes" ∷ w ∷ codes "-" ∷ []) world)).0
-      by_open seat found is true = feeds-seat w octets seat found is
-      by_open seat found is false = leads-none all shown world stands
-
-      by : (o : Option Seat) → seat_of world w ≡ o → Leads (elim o as (λ _. Printed) [
-        | None ↦ quietly world
-        | Some seat ↦ cond (is_connected seat.client) (feeds_connected octets world seat) (printing (codes "bytes" ∷ w ∷ codes "-" ∷ []) world)
-      ]).0
-      by None none = leads-none all shown world stands
-      by (Some seat) found = by_open seat found (same_found seat.is_lone true (sym (ap (option_map (λ (s : Seat). s.is_lone)) found) ∙ lone)) (is_connected seat.client)
+  feeds-stand w octets lone =
+      feed-does world Leads w octets (leads-none all shown world stands)
+      (λ seat found connects. feeds-seat w octets seat found (same_found seat.is_lone true (sym (ap (option_map (λ (s : Seat). s.is_lone)) found) ∙ lone)))

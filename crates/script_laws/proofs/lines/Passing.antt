@@ -1,25 +1,25 @@
 -- Octets pass between a client and its session, and an end or a close that is told cuts the connection.
---     passes-stand, settles-stand      lines by which octets pass
+--     passes-stand      lines by which octets pass
 --     finished-alone      a client without a session that passes nothing
 --     told-none      where nothing is told
-use Rattle.std.proofs.Common.{◌≡◌, ℕ, List, [], ◌∷◌, ◌++◌, length, Option, Some, None, refl, sym, ◌∙◌, ap, subst, arith}
-use Rattle.std.specs.Prelude.{codes, decimal}
+use Rattle.std.proofs.Common.{◌≡◌, ℕ, List, [], ◌++◌, length, Option, Some, None, refl, sym, ◌∙◌, ap, subst, arith}
 use Rattle.dsosession.specs.declared.session.EndReason.{EndReason}
 use Rattle.dsosession.specs.declared.session.CloseReason.{CloseReason}
 use Rattle.pushserver.specs.PlainHubs.{Hub}
 use Rattle.pushserver.specs.Calls.{after_calls}
 use Rattle.pushclient.specs.Clients.{Connection, closed_as}
 use Rattle.scripts.specs.Lines.{Word}
+use Rattle.scripts.specs.declared.line.Way.{Way}
 use Rattle.replay.specs.World.{World, Seat, seat_of, with_seat, cut_seat, cut_connection, hub_without, is_over, world_cut_if}
-use Rattle.replay.specs.PassedOctets.{Passed, passed, enough, settled}
-use Rattle.replay.specs.Text.{Printed, quietly, end_lines, close_lines, finished, passes, settles}
+use Rattle.replay.specs.PassedOctets.{Passed, passed}
+use Rattle.replay.specs.Text.{Printed, quietly, end_lines, close_lines, finished, passing_of, way_words, passes}
 use Rattle.replay.specs.Promises.{IsUnconnected}
 use Rattle.script_laws.specs.Reached.{IsReached}
 use Rattle.script_laws.specs.Numbers.{KeepNumbers, AreForNoOther}
 use Rattle.script_laws.specs.Joined.{IsJoined, SeatStands, StandsWith, ShownToEach, WorldStands, PassesSo}
 use Rattle.script_laws.specs.Walk.{Keeps}
 use Rattle.script_laws.proofs.texts.Along.{seat-stands}
-use Rattle.script_laws.proofs.lines.Premises.{LineLaws}
+use Rattle.script_laws.proofs.lines.Premises.{LineLaws, way-keeps}
 use Rattle.script_laws.proofs.lines.Cutting.{stands-with, with-stands, stands-alone, alone-stands, cut-alone, joined-cut}
 use Rattle.replay.proofs.worlds.SeatsFound.{put-found}
 use Rattle.script_laws.proofs.lines.Knowing.{same-put, AreSameClients, LeadsTo, leads-none}
@@ -144,9 +144,5 @@ module _ (laws : LineLaws) (all : List Word) (shown : ShownToEach) (world : Worl
   leads-by w words passing keeps None none = leads-none all shown world stands
   leads-by w words passing keeps (Some seat) found = leads-finished laws all shown world w seat stands found words passing keeps seat.session refl
 
-  pub passes-stand : (verb : List ℕ) (w : Word) (passing : ℕ → World → Seat → Passed) → ((number : ℕ) → Keeps (passing number) number) → LeadsTo all shown world (passes verb w passing world).0
-  passes-stand verb w passing keeps = leads-by w (λ p. verb ∷ w ∷ decimal p.count ∷ []) passing keeps (seat_of world w) refl
-
-  pub settles-stand : (w : Word) → LeadsTo all shown world (settles w world).0
-  settles-stand w =
-      leads-by w (λ p. codes "settle" ∷ w ∷ []) (λ number world seat. settled enough number world seat None) (λ number. laws.settles enough number None (λ reason e. absurd cc)) (seat_of world w) refl
+  pub passes-stand : (way : Way) (w : Word) → LeadsTo all shown world (passes way w world).0
+  passes-stand way w = leads-by w (λ p. way_words way w p.count) (passing_of way) (way-keeps laws way) (seat_of world w) refl

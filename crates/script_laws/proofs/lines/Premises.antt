@@ -1,4 +1,10 @@
 -- What the walk over lines stands on.
+--     way-keeps      of each way by which octets pass
+use Rattle.std.proofs.Common.{ℕ, None}
+use Rattle.scripts.specs.declared.line.Way.{Way}
+use Rattle.scripts.specs.declared.line.Way.TheVariants as ways
+use Rattle.replay.specs.PassedOctets.{enough}
+use Rattle.replay.specs.Text.{passing_of}
 use Rattle.script_laws.specs.Reached.{ReachedOnesGoOn, ReachedOnesAreSound, ReachedSessions, BegunOnesTellSince, PointsRise}
 use Rattle.script_laws.specs.Numbers.{OwnCallsAreForNoOther, SeatsComeFit}
 use Rattle.script_laws.specs.Worlds.{SeatsPass, HubsGoOn, SeatsOpen, PeersOpen, SeatsAreCut, SeatsPassAndAreCut, PeersAreCut}
@@ -32,3 +38,10 @@ pub record LineLaws : Type 0 where
   pub wishes : WishesStaySound
   pub new_ones : NewOnesAreJoined
   pub cuts : CutsStandAlone
+
+pub way-keeps : LineLaws → (way : Way) (number : ℕ) → Keeps (passing_of way number) number
+way-keeps laws (ways.Say n) number = laws.says n number
+way-keeps laws (ways.Up n) number = laws.ups n number
+way-keeps laws (ways.Emit n) number = laws.emits n number
+way-keeps laws (ways.Down n) number = laws.downs n number
+way-keeps laws ways.Settle number = laws.settles enough number None (λ reason none. absurd cc)

@@ -1,9 +1,8 @@
 -- What is read of each line is within bounds.
 --     line_within      of a line by itself
-use Rattle.std.proofs.Common.{◌≡◌, ℕ, ◌+◌, ◌-◌, ◌*◌, ◌≤◌, ◌<◌, ◌^◌, Bool, true, false, cond, ◌&&◌, List, [], ◌∷◌, fold, length, Option, Some, None, option_map, option_and_then, nat_le, refl, subst, arith}
+use Rattle.std.proofs.Common.{◌≡◌, ℕ, ◌+◌, ◌-◌, ◌*◌, ◌≤◌, ◌<◌, ◌^◌, Bool, true, false, cond, ◌&&◌, List, [], ◌∷◌, fold, length, Option, Some, None, IfSome, option_and_then, nat_le, refl, subst, arith}
 use Rattle.std.specs.Prelude.{◌==◌, IsTrue}
-use Rattle.std.specs.List.{AllByRecursion, list_all}
-use Rattle.std.specs.Str.{is_utf8}
+use Rattle.std.specs.List.{list_all}
 use Rattle.std.proofs.lemmas.Bool.Decides.{nat_tests}
 use Rattle.push_base.specs.Limits.{max_moment}
 use Rattle.push_base.specs.Optional.{◌>>=◌}
@@ -14,8 +13,12 @@ use Rattle.dsotlv.proofs.Results.{same_found}
 use Rattle.rrset.specs.declared.record.Question.{Question}
 use Rattle.dsosession.specs.Timing.{least_keepalive}
 use Rattle.inflight.specs.Ends.{is_question}
-use Rattle.scripts.specs.Lines.{words_in, Word, ScriptLine, is_word_octet, silent, timers, zone, link, client, lone, at_moment, update, hear, ask, drop_question, reconfirm, open_connection, cut, say, up, emit, down, settle, send, feed, stop, point, show, max_octets_passed, has_form, number, number16, number32, max_u32, word, octets_written, question, alone, of_word, of_octets, of_word_and_octets, of_word_and_number, of_word_and_question, timers_line, writable_of, zone_line, link_line, at_line, reconfirm_line, stop_line, show_line, of_words, line_of}
-use Rattle.scripts.proofs.lines.LineKinds.{OnEach, on-words}
+use Rattle.scripts.specs.Lines.{Word, ScriptLine, is_word_octet, joining, hub_event, link_event, client_call, session_event, ask, open_connection, send, feed, has_form, number, number16, max_u32, max_rcode, word, octets_written, question, line_of}
+use Rattle.scripts.specs.declared.line.HubEvent.TheVariants as hub_events
+use Rattle.scripts.specs.declared.line.LinkEvent.TheVariants as link_events
+use Rattle.scripts.specs.declared.line.Call.TheVariants as calls
+use Rattle.scripts.specs.declared.line.SessionEvent.TheVariants as session_events
+use Rattle.scripts.proofs.lines.Readers.{OnEach, alone_reads, word_reads, octets_reads, word_octets_reads, word_question_reads, timers_reads, zone_reads, link_reads, at_reads, reconfirm_reads, stop_reads, show_reads, way_reads, line-reads}
 use Rattle.replay.proofs.worlds.ClientOutputs.{all_octets}
 use Rattle.replay.proofs.worlds.InputOctets.{written_octets}
 use Rattle.replay.proofs.turns.SendSizes.{le_is, written_few}
@@ -32,10 +35,6 @@ none_gives P x e = absurd cc
 
 some_gives : {X : Type 0} (P : X → Type 0) (x : X) → P x → Gives P (Some x)
 some_gives P x h y e = subst P (same_found x y e) h
-
-map_gives : {A X : Type 0} (P : X → Type 0) (o : Option A) (f : A → X) → ((a : A) → o ≡ Some a → P (f a)) → Gives P (option_map f o)
-map_gives P None f h = none_gives P
-map_gives P (Some a) f h = some_gives P (f a) (h a refl)
 
 bind_gives : {A X : Type 0} (P : X → Type 0) (o : Option A) (f : A → Option X) → ((a : A) → o ≡ Some a → Gives P (f a)) → Gives P (o >>= f)
 bind_gives P None f h = none_gives P
@@ -100,152 +99,49 @@ question_gives n k c =
 
 -- ---- lines by their words
 
-abbrev Within : Option ScriptLine → Type 0
-Within o = Gives AreWithin o
+below_max : (n : ℕ) → n ≤ max_u32 → n < 2 ^ 32
+below_max n h = omega arith
 
-word_within : (line : Word → ScriptLine) → ((w : Word) → IsWord w → AreWithin (line w)) → (ws : List Word) → Within (of_word line ws)
-word_within line h [] = none_gives AreWithin
-word_within line h (w ∷ []) = map_gives AreWithin (word w) line (λ v is. h v (word_gives w v is))
-word_within line h (w ∷ v ∷ ws) = none_gives AreWithin
+small_rcode : (n : ℕ) → n ≤ max_rcode → n < 16
+small_rcode n h = omega arith
 
-octets_within : (line : List ℕ → ScriptLine) → ((o : List ℕ) → AreWritten o → AreWithin (line o)) → (ws : List Word) → Within (of_octets line ws)
-octets_within line h [] = none_gives AreWithin
-octets_within line h (w ∷ []) = map_gives AreWithin (octets_written w) line (λ o is. h o (written_gives w o is))
-octets_within line h (w ∷ v ∷ ws) = none_gives AreWithin
+-- the name of a question is a name
+named : (a b c : Bool) → (a && b && c) ≡ true → a ≡ true
+named true b c h = refl
+named false b c h = absurd cc
 
-word_octets_within : (line : Word → List ℕ → ScriptLine) → ((w : Word) (o : List ℕ) → IsWord w → AreWritten o → AreWithin (line w o)) → (ws : List Word) → Within (of_word_and_octets line ws)
-word_octets_within line h [] = none_gives AreWithin
-word_octets_within line h (w ∷ []) = none_gives AreWithin
-word_octets_within line h (w ∷ o ∷ []) = bind_gives AreWithin (word w) _ (λ p is. bind_gives AreWithin (octets_written o) _ (λ r at. some_gives AreWithin (line p r) (h p r (word_gives w p is) (written_gives o r at))))
-word_octets_within line h (w ∷ o ∷ v ∷ ws) = none_gives AreWithin
-
-word_number_within : (line : Word → ℕ → ScriptLine) → ((w : Word) (n : ℕ) → AreWithin (line w n)) → (ws : List Word) → Within (of_word_and_number line ws)
-word_number_within line h [] = none_gives AreWithin
-word_number_within line h (w ∷ []) = none_gives AreWithin
-word_number_within line h (w ∷ o ∷ []) = bind_gives AreWithin (word w) _ (λ p is. bind_gives AreWithin (number max_octets_passed o) _ (λ n at. some_gives AreWithin (line p n) (h p n)))
-word_number_within line h (w ∷ o ∷ v ∷ ws) = none_gives AreWithin
-
-word_question_within : (line : Word → Question → ScriptLine) → ((w : Word) (q : Question) → IsTrue (is_question q) → AreWithin (line w q)) → (ws : List Word) → Within (of_word_and_question line ws)
-word_question_within line h [] = none_gives AreWithin
-word_question_within line h (w ∷ []) = none_gives AreWithin
-word_question_within line h (w ∷ n ∷ []) = none_gives AreWithin
-word_question_within line h (w ∷ n ∷ k ∷ []) = none_gives AreWithin
-word_question_within line h (w ∷ n ∷ k ∷ c ∷ []) = bind_gives AreWithin (word w) _ (λ p is. bind_gives AreWithin (question n k c) _ (λ q at. some_gives AreWithin (line p q) (h p q (question_gives n k c q at))))
-word_question_within line h (w ∷ n ∷ k ∷ c ∷ v ∷ ws) = none_gives AreWithin
-
-timers_within : (ws : List Word) → Within (timers_line ws)
-timers_within [] = none_gives AreWithin
-timers_within (i ∷ []) = none_gives AreWithin
-timers_within (i ∷ k ∷ []) =
-    bind_gives AreWithin (number32 i) _ (λ m is. bind_gives AreWithin (number32 k) _ (λ n at.
-    if_gives AreWithin (nat_le least_keepalive n) (Some (timers m n)) None
-    (λ least. some_gives AreWithin (timers m n) (below m (number_at_most max_u32 i m is), le_from least_keepalive n least, below n (number_at_most max_u32 k n at))) (λ least. none_gives AreWithin)))
-  where
-    below : (n : ℕ) → n ≤ max_u32 → n < 2 ^ 32
-    below n h = omega arith
-timers_within (i ∷ k ∷ v ∷ ws) = none_gives AreWithin
-
-zone_within : (ws : List Word) → Within (zone_line ws)
-zone_within [] = none_gives AreWithin
-zone_within (n ∷ []) = none_gives AreWithin
-zone_within (n ∷ s ∷ []) = none_gives AreWithin
-zone_within (n ∷ s ∷ m ∷ []) =
-    bind_gives AreWithin (name_of_text n) _ (λ apex is. bind_gives AreWithin (number32 s) _ (λ serial at.
-    map_gives AreWithin (writable_of m) (λ writable. zone apex serial writable) (λ writable there. (name_is_name n apex is, below serial (number_at_most max_u32 s serial at)))))
-  where
-    below : (n : ℕ) → n ≤ max_u32 → n < 2 ^ 32
-    below n h = omega arith
-zone_within (n ∷ s ∷ m ∷ v ∷ ws) = none_gives AreWithin
-
-link_within : (ws : List Word) → Within (link_line ws)
-link_within [] = none_gives AreWithin
-link_within (w ∷ []) = none_gives AreWithin
-link_within (w ∷ n ∷ []) = bind_gives AreWithin (word w) _ (λ l is. bind_gives AreWithin (name_of_text n) _ (λ domain at. some_gives AreWithin (link l domain) (name_is_name n domain at)))
-link_within (w ∷ n ∷ v ∷ ws) = none_gives AreWithin
-
-at_within : (ws : List Word) → Within (at_line ws)
-at_within [] = none_gives AreWithin
-at_within (t ∷ []) = map_gives AreWithin (number max_moment t) at_moment (λ n is. number_at_most max_moment t n is)
-at_within (t ∷ v ∷ ws) = none_gives AreWithin
-
-reconfirm_within : (ws : List Word) → Within (reconfirm_line ws)
-reconfirm_within [] = none_gives AreWithin
-reconfirm_within (w ∷ []) = none_gives AreWithin
-reconfirm_within (w ∷ n ∷ []) = none_gives AreWithin
-reconfirm_within (w ∷ n ∷ k ∷ []) = none_gives AreWithin
-reconfirm_within (w ∷ n ∷ k ∷ c ∷ []) = none_gives AreWithin
-reconfirm_within (w ∷ n ∷ k ∷ c ∷ o ∷ []) =
-    bind_gives AreWithin (word w) _ (λ p is. bind_gives AreWithin (question n k c) _ (λ q at. bind_gives AreWithin (octets_written o) _ (λ rdata there.
-    some_gives AreWithin (reconfirm p (record { owner = q.name; class = q.class; kind = q.kind; ttl = 0; rdata = rdata }))
-    (first (is_name q.name) _ _ (question_gives n k c q at), written_gives o rdata there))))
-  where
-    first : (a b c : Bool) → (a && b && c) ≡ true → a ≡ true
-    first true b c h = refl
-    first false b c h = absurd cc
-reconfirm_within (w ∷ n ∷ k ∷ c ∷ o ∷ v ∷ ws) = none_gives AreWithin
-
-stop_within : (ws : List Word) → Within (stop_line ws)
-stop_within [] = none_gives AreWithin
-stop_within (w ∷ []) = none_gives AreWithin
-stop_within (w ∷ r ∷ []) = none_gives AreWithin
-stop_within (w ∷ r ∷ d ∷ []) =
-    bind_gives AreWithin (word w) _ (λ p is. bind_gives AreWithin (number 15 r) _ (λ rcode at. bind_gives AreWithin (number32 d) _ (λ delay there.
-    some_gives AreWithin (stop p rcode delay) (small rcode (number_at_most 15 r rcode at), below delay (number_at_most max_u32 d delay there)))))
-  where
-    below : (n : ℕ) → n ≤ max_u32 → n < 2 ^ 32
-    below n h = omega arith
-
-    small : (n : ℕ) → n ≤ 15 → n < 16
-    small n h = omega arith
-stop_within (w ∷ r ∷ d ∷ v ∷ ws) = none_gives AreWithin
-
-show_within : (ws : List Word) → Within (show_line ws)
-show_within [] = none_gives AreWithin
-show_within (w ∷ []) = none_gives AreWithin
-show_within (w ∷ n ∷ []) = none_gives AreWithin
-show_within (w ∷ n ∷ k ∷ []) = none_gives AreWithin
-show_within (w ∷ n ∷ k ∷ c ∷ []) = bind_gives AreWithin (word w) _ (λ p is. bind_gives AreWithin (question n k c) _ (λ q at. some_gives AreWithin (show p q n) (question_gives n k c q at)))
-show_within (w ∷ n ∷ k ∷ c ∷ v ∷ ws) = none_gives AreWithin
-
-point_within : (ws : List Word) → Within (alone point ws)
-point_within [] = some_gives AreWithin point tt
-point_within (w ∷ ws) = none_gives AreWithin
-
-each_within : (ws : List Word) → OnEach Within ws
-each_within ws = record {
-  on_timers = timers_within ws;
-  on_zone = zone_within ws;
-  on_link = link_within ws;
-  on_at = at_within ws;
-  on_update = octets_within update (λ o h. h) ws;
-  on_hear = word_octets_within hear (λ v o k h. h) ws;
-  on_send = word_octets_within send (λ v o k h. (k, h)) ws;
-  on_stop = stop_within ws;
-  on_cut = word_within cut (λ v h. tt) ws;
-  on_point = point_within ws;
-  on_client = word_within client (λ v h. h) ws;
-  on_lone = word_within lone (λ v h. h) ws;
-  on_open = word_within open_connection (λ v h. tt) ws;
-  on_ask = word_question_within ask (λ v q h. h) ws;
-  on_drop = word_question_within drop_question (λ v q h. h) ws;
-  on_reconfirm = reconfirm_within ws;
-  on_say = word_number_within say (λ v n. tt) ws;
-  on_up = word_number_within up (λ v n. tt) ws;
-  on_emit = word_number_within emit (λ v n. tt) ws;
-  on_down = word_number_within down (λ v n. tt) ws;
-  on_settle = word_within settle (λ v h. tt) ws;
-  on_feed = word_octets_within feed (λ v o k h. h) ws;
-  on_show = show_within ws;
-  on_other = none_gives AreWithin;
+each_within : (w : Word) (ws : List Word) → OnEach AreWithin w ws
+each_within w ws = record {
+  on_head = (
+    timers_reads AreWithin (λ v i is x k at long. (below_max i (number_at_most max_u32 v i is), le_from least_keepalive k long, below_max k (number_at_most max_u32 x k at))) ws,
+    (zone_reads AreWithin (λ v apex is x serial at mode. (name_is_name v apex is, below_max serial (number_at_most max_u32 x serial at))) ws, (link_reads AreWithin (λ v u is x domain at. name_is_name x domain at) ws, tt)),
+  );
+  on_hub = (
+    at_reads AreWithin (λ v t is. number_at_most max_moment v t is) ws,
+    (octets_reads AreWithin (λ o. hub_event (hub_events.Update o)) (λ v o is. written_gives v o is) ws, (alone_reads AreWithin (hub_event hub_events.Point) tt ws, tt)),
+  );
+  on_link = (word_octets_reads AreWithin (λ u o. link_event u (link_events.Hear o)) (λ v u is x o at. written_gives x o at) ws, tt);
+  on_session = (
+    word_octets_reads AreWithin send (λ v u is x o at. (word_gives v u is, written_gives x o at)) ws,
+    (
+      stop_reads AreWithin (λ v u is x rcode at y delay there. (small_rcode rcode (number_at_most max_rcode x rcode at), below_max delay (number_at_most max_u32 y delay there))) ws,
+      (word_reads AreWithin (λ u. session_event u session_events.Cut) (λ v u is. tt) ws, tt),
+    ),
+  );
+  on_joining = (word_reads AreWithin (λ u. joining u false) (λ v u is. word_gives v u is) ws, (word_reads AreWithin (λ u. joining u true) (λ v u is. word_gives v u is) ws, tt));
+  on_call = (
+    word_question_reads AreWithin ask (λ v u is n k c q at. question_gives n k c q at) ws,
+    (
+      word_question_reads AreWithin (λ u q. client_call u (calls.Drop q)) (λ v u is n k c q at. question_gives n k c q at) ws,
+      (reconfirm_reads AreWithin (λ v u is n k c q at x rdata there. (named (is_name q.name) _ _ (question_gives n k c q at), written_gives x rdata there)) ws, tt),
+    ),
+  );
+  on_way = way_reads AreWithin (λ u way. tt) w ws;
+  on_client = (
+    word_reads AreWithin open_connection (λ v u is. tt) ws,
+    (word_octets_reads AreWithin feed (λ v u is x o at. written_gives x o at) ws, (show_reads AreWithin (λ v u is n k c q at. question_gives n k c q at) ws, tt)),
+  );
 }
 
-words_within : (ws : List Word) → Within (of_words ws)
-words_within [] = none_gives AreWithin
-words_within (w ∷ ws) = on-words Within w ws (each_within ws)
-
 pub line_within : (text : List ℕ) (line : ScriptLine) → line_of text ≡ Some line → AreWithin line
-line_within [] = some_gives AreWithin silent tt
-line_within (c ∷ cs) =
-    if_gives AreWithin (c == 35) (cond (is_utf8 cs) (Some silent) None) (of_words (words_in (c ∷ cs)))
-    (λ is. if_gives AreWithin (is_utf8 cs) (Some silent) None (λ good. some_gives AreWithin silent tt) (λ bad. none_gives AreWithin))
-    (λ is. words_within (words_in (c ∷ cs)))
+line_within text line read = subst (λ (o : Option ScriptLine). IfSome o AreWithin) read (line-reads AreWithin tt each_within text)

@@ -1,22 +1,27 @@
 -- What a peer sends, and what changes the hub alone.
 --     sends-stand      octets to the session of a peer and back
---     updates-stand, hears-stand, stops-stand      calls of the hub
+--     updates-stand, links-stand, stops-stand      calls of the hub
 use Rattle.std.proofs.Common.{◌≡◌, ℕ, ◌<◌, ◌^◌, Bool, true, false, cond, List, [], ◌∷◌, ◌++◌, find, Option, Some, None, option_map, refl, sym, ap, subst}
-use Rattle.std.specs.Prelude.{IsTrue, position, codes}
+use Rattle.std.specs.Prelude.{IsTrue, codes}
 use Rattle.std.specs.Str.{bytes_eq}
 use Rattle.coalesce.proofs.ReadBack.{each-append}
 use Rattle.dsotlv.specs.Laws.{AreOctets}
 use Rattle.dsosession.specs.declared.session.EndReason.{EndReason}
 use Rattle.pushserver.specs.PlainHubs.{Hub}
 use Rattle.pushserver.specs.Hubs.{connect}
-use Rattle.pushserver.specs.Calls.{updates as updating, hears as hearing, stops as stopping}
+use Rattle.pushserver.specs.Calls.{updates as updating, stops as stopping}
 use Rattle.scripts.specs.Lines.{Word}
+use Rattle.scripts.specs.declared.line.LinkEvent.{LinkEvent}
+use Rattle.scripts.specs.declared.line.LinkEvent.TheVariants as link_events
 use Rattle.scripts.specs.Scripts.{is_peer}
 use Rattle.replay.specs.World.{World, seat_of, number_in, session_number, cut_peer}
 use Rattle.replay.specs.PassedOctets.{Exchanged, exchanged, enough}
-use Rattle.replay.specs.Text.{Printed, printing, number_or_zero, hears, updates, exchanges, sends, asked_to_stop, session_of_word, stops}
+use Rattle.replay.specs.Text.{Printed, printing, link_call, link_does, updates, exchanges, sends, asked_to_stop, stops}
 use Rattle.scripts.proofs.lines.SameWords.{word_itself}
-use Rattle.script_laws.specs.Numbers.{AreForNoOther}
+use Rattle.replay.proofs.worlds.LinesDoing.{stop-does}
+use Rattle.script_laws.specs.Lines.{IsLinkWithin}
+use Rattle.script_laws.specs.Numbers.{KeepsNumbers, IsForNoOther, AreForNoOther}
+use Rattle.script_laws.specs.Reached.{FitsCall}
 use Rattle.script_laws.specs.Joined.{ShownToEach, WorldStands}
 use Rattle.script_laws.specs.Walk.{IsExchangeOf}
 use Rattle.script_laws.proofs.lines.Premises.{LineLaws}
@@ -36,6 +41,10 @@ number-new w n (e ∷ es) none = by (bytes_eq e.0 w) none (number-new w n es)
     by true none rest = absurd cc
     by false none rest = rest none
 
+-- a call on a link fits, and neither connects nor is for a session
+link-is-own : (event : LinkEvent) (w : Word) (world : World) (session : Option ℕ) → IsLinkWithin event → FitsCall (link_call event w world) × KeepsNumbers (link_call event w world) × IsForNoOther session (link_call event w world)
+link-is-own (link_events.Hear datagram) w world session within = ((within.0, tt), tt, tt)
+
 module _ (laws : LineLaws) (all : List Word) (shown : ShownToEach) where
   -- ---- calls of the hub
 
@@ -47,20 +56,18 @@ module _ (laws : LineLaws) (all : List Word) (shown : ShownToEach) where
       peers = λ h. h;
     }
 
-    -- a datagram of the link of a word
-    pub hears-stand : (w : Word) (datagram : List ℕ) → AreOctets datagram → LeadsTo all shown world (hears w datagram world).0
-    hears-stand w datagram good = record {
-      stands = laws.hubs_go_on shown world [] (hearing (number_or_zero (position (bytes_eq w) world.links)) datagram ∷ []) stands ((good, tt), tt) (tt, tt) (tt, tt);
-      clients = λ v. refl;
-      peers = λ h. h;
-    }
+    -- what happens on the link of a word
+    pub links-stand : (w : Word) (event : LinkEvent) → IsLinkWithin event → LeadsTo all shown world (link_does event w world).0
+    links-stand w event within =
+        let own = link-is-own event w world (session_number world []) within in
+        record { stands = laws.hubs_go_on shown world [] (link_call event w world ∷ []) stands (own.0, tt) (own.1, tt) (own.2, tt); clients = λ v. refl; peers = λ h. h }
 
     pub stops-stand : (w : Word) (rcode delay : ℕ) → rcode < 16 → delay < 2 ^ 32 → LeadsTo all shown world (stops w rcode delay world).0
-    stops-stand w rcode delay small short = by (session_of_word world w)
+    stops-stand w rcode delay small short = stop-does world (LeadsTo all shown world) w rcode delay (λ seat found. stopped-stands seat.session) (stopped-stands (session_number world w))
       where
-        by : (o : Option ℕ) → LeadsTo all shown world (asked_to_stop o rcode delay world)
-        by None = leads-none all shown world stands
-        by (Some number) = record {
+        stopped-stands : (o : Option ℕ) → LeadsTo all shown world (asked_to_stop o rcode delay world)
+        stopped-stands None = leads-none all shown world stands
+        stopped-stands (Some number) = record {
           stands = laws.hubs_go_on shown world [] (stopping number rcode delay ∷ []) stands ((tt, (small, short)), tt) (tt, tt) (tt, tt);
           clients = λ v. refl;
           peers = λ h. h;

@@ -20,13 +20,13 @@ use Rattle.history.specs.declared.entry.HomeFault.{HomeFault}
 use Rattle.history.proofs.Together.{together-more, names-apart}
 use Rattle.pushclient.specs.ServerMessages.{CanBeGranted}
 use Rattle.pushtelling.specs.Laws.{IsStartOfHomes}
-use Rattle.scripts.specs.Lines.{Word, ScriptLine, silent, timers, zone, link, client, lone, at_moment, update, hear, ask, drop_question, reconfirm, open_connection, cut, say, up, emit, down, settle, send, feed, stop, point, show}
-use Rattle.scripts.specs.Scripts.{Known, nothing_known, is_among, fits, allowed, with_home, with_client}
-use Rattle.scripts.specs.Heads.{Head, empty_head, with_head_line}
+use Rattle.scripts.specs.Lines.{Word, HeadLine, timers, zone, link, ScriptLine, silent, head_line, joining, hub_event, link_event, client_call, client_passing, client_event, session_event}
+use Rattle.scripts.specs.Scripts.{Known, nothing_known, is_among, may_head, known_in_head, fits, allowed, in_events, with_home, with_client}
+use Rattle.scripts.specs.Heads.{Head, empty_head, with_head, with_head_line}
 use Rattle.replay.specs.World.{start_world}
 use Rattle.replay.specs.Promises.{NumbersFit}
 use Rattle.script_laws.specs.Joined.{WorldStands}
-use Rattle.script_laws.specs.Lines.{IsRead, Follow, KnownFits}
+use Rattle.script_laws.specs.Lines.{IsHeadWithin, IsRead, Follow, KnownFits}
 
 -- ---- what a line that is allowed leaves known
 
@@ -74,7 +74,7 @@ module _ (known : Known) (head : Head) (h : HeadFits known head) where
   together-then : (new : NamedHome) → is_none (home_fault known.homes new) ≡ true → may_stand_together (one_more new) ≡ true
   together-then new free = together-more known.homes new h.together (no_fault (home_fault known.homes new) free)
 
-  head-zone : (apex : Labels) (serial : ℕ) (mode : Bool) → is_none (home_fault known.homes (apex, false)) ≡ true → IsTrue (is_name apex) → HeadFits (with_home (apex, false) known) (with_head_line head (zone apex serial mode))
+  head-zone : (apex : Labels) (serial : ℕ) (mode : Bool) → is_none (home_fault known.homes (apex, false)) ≡ true → IsTrue (is_name apex) → HeadFits (with_home (apex, false) known) (with_head head (zone apex serial mode))
   head-zone apex serial mode free name =
       let z : ZoneState = new_zone apex serial mode in
       record {
@@ -91,7 +91,7 @@ module _ (known : Known) (head : Head) (h : HeadFits known head) where
       }
 
   head-link : (w : Word) (domain : Labels) → is_none (home_fault known.homes (domain, true)) ≡ true → IsTrue (is_name domain)
-      → HeadFits (with_home (domain, true) (record known { links = known.links ++ w ∷ [] })) (with_head_line head (link w domain))
+      → HeadFits (with_home (domain, true) (record known { links = known.links ++ w ∷ [] })) (with_head head (link w domain))
   head-link w domain free name =
       let l : LinkState = record { domain = domain; rows = [] } in
       record {
@@ -124,46 +124,27 @@ module _ (all : List Word) (known later : Known) (head : Head) (h : HeadFits kno
   abbrev Goes : Option Known → Type 0
   Goes o = o ≡ Some later → HeadFits later head
 
-  goes-some : (k : Known) → k.homes ≡ known.homes → Goes (Some k)
-  goes-some k same e = subst (λ (n : Known). HeadFits n head) (same_found k later e) (head-stays known k head same h)
-
   goes-allowed : (b : Bool) (k : Known) → k.homes ≡ known.homes → Goes (allowed b k)
   goes-allowed b k same e = subst (λ (n : Known). HeadFits n head) (is_allowed b k later e).1 (head-stays known k head same h)
 
+  -- a line of the head, where it may stand
+  head-more : (line : HeadLine) → IsHeadWithin line → may_head known line ≡ true → HeadFits (known_in_head known line) (with_head head line)
+  head-more (timers i k) within may = record { homes = h.homes; together = h.together; names = h.names; zones = h.zones; links = h.links; now = h.now; granted = within }
+  head-more (zone apex serial mode) within may = head-zone known head h apex serial mode may within.0
+  head-more (link w domain) within may = head-link known head h w domain (both_true (not (is_among known.links w)) (is_none (home_fault known.homes (domain, true))) may).1 within
+
   head-line : (line : ScriptLine) → IsRead all line → fits all known line ≡ Some later → HeadFits later (with_head_line head line)
-  head-line silent is e = goes-some known refl e
-  head-line (timers i k) is e =
-      let a = is_allowed (known.in_head && not known.has_timers) (record known { has_timers = true }) later e in
-      subst (λ (n : Known). HeadFits n (with_head_line head (timers i k))) a.1
-      (record { homes = h.homes; together = h.together; names = h.names; zones = h.zones; links = h.links; now = h.now; granted = is.within })
-  head-line (zone apex serial mode) is e =
-      let a = is_allowed (known.in_head && is_none (home_fault known.homes (apex, false))) (with_home (apex, false) known) later e in
-      subst (λ (n : Known). HeadFits n (with_head_line head (zone apex serial mode))) a.1
-      (head-zone known head h apex serial mode (both_true known.in_head (is_none (home_fault known.homes (apex, false))) a.0).1 is.within.0)
-  head-line (link w domain) is e =
-      let a = is_allowed (known.in_head && not (is_among known.links w) && is_none (home_fault known.homes (domain, true))) (with_home (domain, true) (record known { links = known.links ++ w ∷ [] })) later e in
-      subst (λ (n : Known). HeadFits n (with_head_line head (link w domain))) a.1
-      (head-link known head h w domain (both_true (known.in_head && not (is_among known.links w)) (is_none (home_fault known.homes (domain, true))) a.0).1 is.within)
-  head-line (client w) is e = goes-allowed _ (with_client w false known) refl e
-  head-line (lone w) is e = goes-allowed _ (with_client w true known) refl e
-  head-line (at_moment t) is e = goes-some (record known { in_head = false }) refl e
-  head-line (update o) is e = goes-some (record known { in_head = false }) refl e
-  head-line (hear w o) is e = goes-allowed _ (record known { in_head = false }) refl e
-  head-line (ask w q) is e = goes-allowed _ (record known { in_head = false }) refl e
-  head-line (drop_question w q) is e = goes-allowed _ (record known { in_head = false }) refl e
-  head-line (reconfirm w rr) is e = goes-allowed _ (record known { in_head = false }) refl e
-  head-line (open_connection w) is e = goes-allowed _ (record known { in_head = false }) refl e
-  head-line (cut w) is e = goes-allowed _ (record known { in_head = false }) refl e
-  head-line (say w n) is e = goes-allowed _ (record known { in_head = false }) refl e
-  head-line (up w n) is e = goes-allowed _ (record known { in_head = false }) refl e
-  head-line (emit w n) is e = goes-allowed _ (record known { in_head = false }) refl e
-  head-line (down w n) is e = goes-allowed _ (record known { in_head = false }) refl e
-  head-line (settle w) is e = goes-allowed _ (record known { in_head = false }) refl e
-  head-line (send w o) is e = goes-allowed _ (record known { in_head = false }) refl e
-  head-line (feed w o) is e = goes-allowed _ (record known { in_head = false }) refl e
-  head-line (stop w r d) is e = goes-allowed _ (record known { in_head = false }) refl e
-  head-line point is e = goes-some (record known { in_head = false }) refl e
-  head-line (show w q n) is e = goes-allowed _ (record known { in_head = false }) refl e
+  head-line silent is e = goes-allowed true known refl e
+  head-line (head_line line) is e =
+      let a = is_allowed (known.in_head && may_head known line) (known_in_head known line) later e in
+      subst (λ (n : Known). HeadFits n (with_head head line)) a.1 (head-more line is.within (both_true known.in_head (may_head known line) a.0).1)
+  head-line (joining w is_lone) is e = goes-allowed _ (with_client w is_lone known) refl e
+  head-line (hub_event event) is e = goes-allowed true (in_events known) refl e
+  head-line (link_event w event) is e = goes-allowed _ (in_events known) refl e
+  head-line (client_call w call) is e = goes-allowed _ (in_events known) refl e
+  head-line (client_passing w way) is e = goes-allowed _ (in_events known) refl e
+  head-line (client_event w event) is e = goes-allowed _ (in_events known) refl e
+  head-line (session_event w event) is e = goes-allowed _ (in_events known) refl e
 
 head-lines : (all : List Word) (known : Known) (head : Head) (lines : List ScriptLine) → Follow all known lines → AllByRecursion (IsRead all) lines → HeadFits known head
     → (later : Known) × HeadFits later (fold with_head_line head lines)

@@ -1,38 +1,42 @@
 -- Each line leads from a world that stands, and of which what is known fits, to such a world.
 --     Walked all known shown world      the world stands, what is known fits, and nothing was shown to a client that isn't there yet
 --     walked-line      the law
-use Rattle.std.proofs.Common.{◌≡◌, ℕ, Bool, true, false, cond, not, ◌≤◌, List, [], ◌∷◌, ◌++◌, find, Option, Some, None, option_map, refl, sym, ◌∙◌, ap, subst, arith}
-use Rattle.std.specs.Prelude.{is_some, map, codes, decimal, IsTrue}
+use Rattle.std.proofs.Common.{◌≡◌, ℕ, Bool, true, false, cond, not, ◌≤◌, List, [], ◌∷◌, find, Option, Some, None, option_map, refl, sym, ◌∙◌, ap, subst, arith}
+use Rattle.std.specs.Prelude.{is_some, IsTrue}
 use Rattle.std.specs.Option.{option_or}
 use Rattle.std.specs.List.{AllByRecursion, IsDistinct}
 use Rattle.std.specs.Str.{bytes_eq}
 use Rattle.std.proofs.lemmas.List.Folds.{find-append}
-use Rattle.dsotlv.proofs.Results.{same_found}
 use Rattle.coalesce.proofs.ReadBack.{each-append}
 use Rattle.rrset.specs.declared.record.Question.{Question}
 use Rattle.pushserver.specs.PlainHubs.{Hub}
 use Rattle.pushserver.specs.Hubs.{newest}
-use Rattle.scripts.specs.Lines.{Word, ScriptLine, silent, timers, zone, link, client, lone, at_moment, update, hear, ask, drop_question, reconfirm, open_connection, cut, say, up, emit, down, settle, send, feed, stop, point, show}
-use Rattle.scripts.specs.Scripts.{Known, lone_of, is_among, is_peer, is_client, is_lone_client, allowed, in_events, with_home, with_client, fits}
+use Rattle.scripts.specs.Lines.{Word, HeadLine, timers, zone, link, ScriptLine, silent, head_line, joining, hub_event, link_event, client_call, client_passing, client_event, session_event}
+use Rattle.scripts.specs.declared.line.HubEvent.{HubEvent}
+use Rattle.scripts.specs.declared.line.HubEvent.TheVariants as hub_events
+use Rattle.scripts.specs.declared.line.ClientEvent.{ClientEvent}
+use Rattle.scripts.specs.declared.line.ClientEvent.TheVariants as client_events
+use Rattle.scripts.specs.declared.line.SessionEvent.{SessionEvent}
+use Rattle.scripts.specs.declared.line.SessionEvent.TheVariants as session_events
+use Rattle.scripts.specs.Scripts.{Known, lone_of, is_among, is_peer, is_client, may_happen_to, may_meet, allowed, in_events, known_in_head, with_client, fits}
 use Rattle.replay.specs.World.{World, Seat, new_seat, seat_of, number_in}
-use Rattle.replay.specs.PassedOctets as running
-use Rattle.replay.specs.TextWords.{by_history, show_at, record_line}
-use Rattle.scripts.specs.Words.{spaced}
-use Rattle.replay.specs.Text.{Printed, quietly, seated, line_does}
+use Rattle.replay.specs.TextWords.{by_history}
+use Rattle.replay.specs.Text.{seated, hub_does, client_does, session_does, line_does}
 use Rattle.replay.specs.Promises.{ShownPoints, IsUnconnected}
 use Rattle.scripts.proofs.lines.SameWords.{same_word, word_itself, other_way}
 use Rattle.replay.proofs.worlds.Seats.{is_of_word}
+use Rattle.replay.proofs.worlds.OneWorld.{shows-leave}
 use Rattle.script_laws.specs.Joined.{SeatStands, ShownToEach, WorldStands}
-use Rattle.script_laws.specs.Lines.{IsRead, KnownFits}
+use Rattle.script_laws.specs.Lines.{IsHubWithin, IsSessionWithin, IsRead, KnownFits}
 use Rattle.script_laws.proofs.lines.Premises.{LineLaws}
 use Rattle.script_laws.proofs.lines.Cutting.{or_true}
 use Rattle.script_laws.proofs.lines.Starting.{is_allowed}
 use Rattle.script_laws.proofs.lines.Knowing.{ArePeers, LeadsTo, leads-none}
-use Rattle.script_laws.proofs.lines.Passing.{passes-stand, settles-stand}
-use Rattle.script_laws.proofs.lines.Asking.{subscribes-stand, unsubscribes-stand, reconfirms-stand}
+use Rattle.script_laws.proofs.lines.Passing.{passes-stand}
+use Rattle.script_laws.proofs.lines.Asking.{calls-stand}
 use Rattle.script_laws.proofs.lines.Opening.{opens-stand, cuts-stand, feeds-stand}
 use Rattle.script_laws.proofs.lines.Moments.{moments-stand}
-use Rattle.script_laws.proofs.lines.Sending.{updates-stand, hears-stand, stops-stand, sends-stand}
+use Rattle.script_laws.proofs.lines.Sending.{updates-stand, links-stand, stops-stand, sends-stand}
 
 -- nothing was shown to a client that isn't there
 abbrev pub ShowsToClients : ShownToEach → World → Type 0
@@ -79,10 +83,6 @@ module _ (all : List Word) (known next : Known) (shown : ShownToEach) (world : W
   by-test test k later e same leads =
       let a = is_allowed test k next e in
       subst (λ (n : Known). Walked all n shown later) a.1 (leads-walk all known k shown world later h same (leads a.0))
-
-  -- where it always is
-  by-line : (k : Known) (later : World) → Some k ≡ Some next → k.clients ≡ known.clients → LeadsTo all shown world later → Walked all next shown later
-  by-line k later e same leads = subst (λ (n : Known). Walked all n shown later) (same_found k next e) (leads-walk all known k shown world later h same leads)
 
 -- ---- a client that comes
 
@@ -177,16 +177,6 @@ module _ (laws : LineLaws) (all : List Word) (known next : Known) (shown : Shown
   abbrev nothing : LeadsTo all shown world world
   nothing = leads-none all shown world h.stands
 
-  shows-nothing : (w : Word) (question : Question) (written : List ℕ) → (line_does by_history (show w question written) world).0 ≡ world
-  shows-nothing w question written = by (seat_of world w)
-    where
-      by : (o : Option Seat) → (elim o as (λ _. Printed) [
-        | None ↦ quietly world
-        | Some seat ↦ (world, spaced (codes "show" ∷ w ∷ written ∷ decimal question.kind ∷ decimal question.class ∷ (show_at by_history world seat question).0 ∷ []) ∷ map record_line (show_at by_history world seat question).1)
-      ]).0 ≡ world
-      by None = refl
-      by (Some seat) = refl
-
   client-comes : (w : Word) (is_lone : Bool) → IsTrue (is_among all w) → allowed (not (is_client known w)) (with_client w is_lone known) ≡ Some next → Walked all next shown (seated w is_lone world).0
   client-comes w is_lone named e =
       let a = is_allowed (not (is_client known w)) (with_client w is_lone known) next e in
@@ -200,30 +190,34 @@ module _ (laws : LineLaws) (all : List Word) (known next : Known) (shown : Shown
       by None e = map_none (λ (s : Seat). s.is_lone) (seat_of world w) (sym (h.fits.clients w) ∙ e)
       by (Some b) e = (let wrong : not true ≡ true = subst (λ (t : Bool). not t ≡ true) (h.fits.named w b e) peer in absurd cc)
 
+  hub-leads : (event : HubEvent) → IsHubWithin event → LeadsTo all shown world (hub_does event world).0
+  hub-leads (hub_events.At t) within = moments-stand laws all shown t world h.stands
+  hub-leads (hub_events.Update message) within = updates-stand laws all shown world h.stands message within.0
+  hub-leads hub_events.Point within = nothing
+
+  client-leads : (w : Word) (event : ClientEvent) → may_happen_to known.clients w event ≡ true → LeadsTo all shown world (client_does by_history event w world).0
+  client-leads w client_events.Open may = opens-stand laws all shown world h.stands w
+  client-leads w (client_events.Feed octets) may = feeds-stand laws all shown world h.stands w octets (sym (h.fits.clients w) ∙ some_true (lone_of known w) may)
+  client-leads w (client_events.Show question written) may = subst (LeadsTo all shown world) (sym (shows-leave by_history w question written world)) nothing
+
+  session-leads : (w : Word) (event : SessionEvent) → IsSessionWithin w event → may_meet all known.clients w event ≡ true → LeadsTo all shown world (session_does event w world).0
+  session-leads w (session_events.Send octets) within may = sends-stand laws all shown world h.stands w octets (no-client w may) may within.1.0
+  session-leads w (session_events.Stop rcode delay) within may = stops-stand laws all shown world h.stands w rcode delay within.0 within.1
+  session-leads w session_events.Cut within may = cuts-stand laws all shown world h.stands w
+
+  -- a line of the head makes no client
+  head-clients : (line : HeadLine) → (known_in_head known line).clients ≡ known.clients
+  head-clients (timers i k) = refl
+  head-clients (zone apex serial mode) = refl
+  head-clients (link w domain) = refl
+
   pub walked-line : (line : ScriptLine) → IsRead all line → fits all known line ≡ Some next → Walked all next shown (line_does by_history line world).0
-  walked-line silent is e = by-line all known next shown world h known world e refl nothing
-  walked-line (timers i k) is e = by-test all known next shown world h _ (record known { has_timers = true }) world e refl (λ t. nothing)
-  walked-line (zone apex serial mode) is e = by-test all known next shown world h _ (with_home (apex, false) known) world e refl (λ t. nothing)
-  walked-line (link w domain) is e = by-test all known next shown world h _ (with_home (domain, true) (record known { links = known.links ++ w ∷ [] })) world e refl (λ t. nothing)
-  walked-line (client w) is e = client-comes w false (is.named w refl) e
-  walked-line (lone w) is e = client-comes w true (is.named w refl) e
-  walked-line (at_moment t) is e = by-line all known next shown world h (in_events known) _ e refl (moments-stand laws all shown t world h.stands)
-  walked-line (update message) is e = by-line all known next shown world h (in_events known) _ e refl (updates-stand laws all shown world h.stands message is.within.0)
-  walked-line (hear w datagram) is e = by-test all known next shown world h _ (in_events known) _ e refl (λ t. hears-stand laws all shown world h.stands w datagram is.within.0)
-  walked-line (ask w question) is e = by-test all known next shown world h _ (in_events known) _ e refl (λ t. subscribes-stand laws all shown world h.stands (codes "asked") w question is.within)
-  walked-line (drop_question w question) is e = by-test all known next shown world h _ (in_events known) _ e refl (λ t. unsubscribes-stand laws all shown world h.stands (codes "dropped") w question)
-  walked-line (reconfirm w rr) is e = by-test all known next shown world h _ (in_events known) _ e refl (λ t. reconfirms-stand laws all shown world h.stands (codes "reconfirm") w rr is.within.0 is.within.1.0)
-  walked-line (open_connection w) is e = by-test all known next shown world h _ (in_events known) _ e refl (λ t. opens-stand laws all shown world h.stands w)
-  walked-line (cut w) is e = by-test all known next shown world h _ (in_events known) _ e refl (λ t. cuts-stand laws all shown world h.stands w)
-  walked-line (say w n) is e = by-test all known next shown world h _ (in_events known) _ e refl (λ t. passes-stand laws all shown world h.stands (codes "say") w (λ number. running.say n) (λ number. laws.says n number))
-  walked-line (up w n) is e = by-test all known next shown world h _ (in_events known) _ e refl (λ t. passes-stand laws all shown world h.stands (codes "up") w (λ number. running.up number n) (λ number. laws.ups n number))
-  walked-line (emit w n) is e = by-test all known next shown world h _ (in_events known) _ e refl (λ t. passes-stand laws all shown world h.stands (codes "emit") w (λ number. running.emit number n) (λ number. laws.emits n number))
-  walked-line (down w n) is e = by-test all known next shown world h _ (in_events known) _ e refl (λ t. passes-stand laws all shown world h.stands (codes "down") w (λ number. running.down n) (λ number. laws.downs n number))
-  walked-line (settle w) is e = by-test all known next shown world h _ (in_events known) _ e refl (λ t. settles-stand laws all shown world h.stands w)
-  walked-line (send w octets) is e = by-test all known next shown world h _ (in_events known) _ e refl (λ t. sends-stand laws all shown world h.stands w octets (no-client w t) t is.within.1.0)
-  walked-line (feed w octets) is e =
-      by-test all known next shown world h (is_lone_client known w) (in_events known) _ e refl (λ t. feeds-stand laws all shown world h.stands w octets (sym (h.fits.clients w) ∙ some_true (lone_of known w) t))
-  walked-line (stop w rcode delay) is e = by-test all known next shown world h _ (in_events known) _ e refl (λ t. stops-stand laws all shown world h.stands w rcode delay is.within.0 is.within.1)
-  walked-line point is e = by-line all known next shown world h (in_events known) world e refl nothing
-  walked-line (show w question written) is e =
-      subst (Walked all next shown) (sym (shows-nothing w question written)) (by-test all known next shown world h _ (in_events known) world e refl (λ t. nothing))
+  walked-line silent is e = by-test all known next shown world h true known world e refl (λ may. nothing)
+  walked-line (head_line line) is e = by-test all known next shown world h _ (known_in_head known line) world e (head-clients line) (λ may. nothing)
+  walked-line (joining w is_lone) is e = client-comes w is_lone (is.named w refl) e
+  walked-line (hub_event event) is e = by-test all known next shown world h true (in_events known) _ e refl (λ may. hub-leads event is.within)
+  walked-line (link_event w event) is e = by-test all known next shown world h _ (in_events known) _ e refl (λ may. links-stand laws all shown world h.stands w event is.within)
+  walked-line (client_call w call) is e = by-test all known next shown world h _ (in_events known) _ e refl (λ may. calls-stand laws all shown world h.stands call w is.within)
+  walked-line (client_passing w way) is e = by-test all known next shown world h _ (in_events known) _ e refl (λ may. passes-stand laws all shown world h.stands way w)
+  walked-line (client_event w event) is e = by-test all known next shown world h (may_happen_to known.clients w event) (in_events known) _ e refl (client-leads w event)
+  walked-line (session_event w event) is e = by-test all known next shown world h (may_meet all known.clients w event) (in_events known) _ e refl (session-leads w event is.within)

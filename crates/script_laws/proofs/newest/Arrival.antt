@@ -12,7 +12,7 @@ use Rattle.rrset.specs.declared.record.Question.{Question}
 use Rattle.dsotlv.specs.Messages.{frame}
 use Rattle.dsotlv.specs.Notices.{applied_all}
 use Rattle.pushsession.specs.Sessions.{is_open}
-use Rattle.pushsession.specs.declared.standing.Standing.TheVariants.{Live}
+use Rattle.pushsession.specs.declared.session_status.SessionStatus.TheVariants.{Live}
 use Rattle.pushserver.specs.Giving.{is_served_at}
 use Rattle.pushserver.specs.Hubs.{state_now, records_now}
 use Rattle.pushserver.specs.PlainHubs.{Hub, Session, Subscription, size_of_made, written}

@@ -9,18 +9,22 @@ use Rattle.rrset.proofs.Sets.{both_true}
 use Rattle.rrset.specs.RecordSet.{matching}
 use Rattle.rrset.specs.declared.record.Question.{Question}
 use Rattle.pushserver.specs.Hubs.{records_now}
-use Rattle.scripts.specs.Lines.{Word, ScriptLine, silent, settle, point, show}
+use Rattle.scripts.specs.Lines.{Word, ScriptLine, silent, hub_event, client_passing, client_event, settle, show}
+use Rattle.scripts.specs.declared.line.HubEvent.TheVariants as hub_events
+use Rattle.scripts.specs.declared.line.Way.TheVariants as ways
+use Rattle.scripts.specs.declared.line.ClientEvent.TheVariants as client_events
 use Rattle.replay.specs.World.{World, Seat, seat_of, start_world}
 use Rattle.replay.specs.TextWords.{by_history}
 use Rattle.replay.specs.Text.{line_does, world_after}
 use Rattle.replay.specs.HeldPoints.{held_points_from, settles_alone, leaves_settled, settled_from}
-use Rattle.replay.specs.Promises.{ShowsNewest, held_lines, SeatIsQuiet, EverySettleEmptiesBothWays, EveryScriptKeepsPromises}
+use Rattle.replay.specs.Promises.{ShowsNewest, held_lines, SeatIsQuiet}
 use Rattle.replay.proofs.worlds.BetweenLines.{after-append}
 use Rattle.scripts.proofs.lines.SameWords.{same_word}
 use Rattle.script_laws.specs.Reached.{ReachedSessions, ReachedOnesAreSound}
 use Rattle.script_laws.specs.Joined.{StandsWith, ShownToEach, WorldStands}
 use Rattle.script_laws.specs.Walk.{SettlesPass}
-use Rattle.script_laws.specs.Whole.{StandsAfterEachLine, ScriptsNeverGoBack}
+use Rattle.script_laws.specs.Whole.{StandsAfterEachLine, ScriptsNeverGoBack, LinesKeepPromises}
+use Rattle.script_laws.specs.Settling.{SettlesOfLines}
 use Rattle.script_laws.proofs.texts.Along.{told_line, shows_of, seat-stands}
 use Rattle.script_laws.proofs.texts.Shows.{stands_as}
 use Rattle.script_laws.proofs.newest.Showing.{shows-newest}
@@ -34,8 +38,8 @@ shown-world w question written world (Some seat) = refl
 
 same-world : (line : ScriptLine) (world : World) → leaves_settled line ≡ true → (line_does by_history line world).0 ≡ world
 same-world silent world is = refl
-same-world point world is = refl
-same-world (show w question written) world is = shown-world w question written world (seat_of world w)
+same-world (hub_event hub_events.Point) world is = refl
+same-world (client_event w (client_events.Show question written)) world is = shown-world w question written world (seat_of world w)
 same-world _ world is = absurd cc
 
 -- ---- a settle
@@ -60,7 +64,7 @@ module _ (sessions : ReachedSessions) (sound : ReachedOnesAreSound) (settles : S
   -- where a settle leaves nothing under way
   settled-shows : (shown then : ShownToEach) (line : ScriptLine) (world : World) (w : Word) → WorldStands shown world → WorldStands then (line_does by_history line world).0 → settles_alone w line world ≡ true
       → ((v : Word) → line ≡ settle v → settles_alone v (settle v) world ≡ true → SettlesQuietly v (line_does by_history (settle v) world).0) → ShowsNewest (line_does by_history line world).0 w
-  settled-shows shown then (settle v) world w stands later alone quiet =
+  settled-shows shown then (client_passing v ways.Settle) world w stands later alone quiet =
       let first = both_true (bytes_eq w v && length (line_does by_history (settle v) world).1 == 1) _ alone in
       let same : w ≡ v = same_word w v (both_true (bytes_eq w v) (length (line_does by_history (settle v) world).1 == 1) first.0).0 in
       let own : settles_alone v (settle v) world ≡ true = subst (λ u. settles_alone u (settle v) world ≡ true) same alone in
@@ -104,11 +108,11 @@ module _ (sessions : ReachedSessions) (sound : ReachedOnesAreSound) (settles : S
             subst (λ v. ShowsNewest v w) (sym (same-world line world both.1)) (had both.0)
         by false false settled_now stays h = absurd (true≢false (sym h))
 
-  pub keeps-promises : StandsAfterEachLine → ScriptsNeverGoBack → EverySettleEmptiesBothWays → EveryScriptKeepsPromises
-  keeps-promises stands never quiet text script read w = (
-    λ question. never text script w question read,
+  pub keeps-promises : StandsAfterEachLine → ScriptsNeverGoBack → SettlesOfLines → LinesKeepPromises
+  keeps-promises stands never quiet script are w = (
+    λ question. never script w question are,
     λ before after split is. settled-stays (start_world script) w (λ front v question. held_points_from v question front (start_world script)) [] before false
-        (λ front back parts. stands text script front (back ++ after) read (split ∙ ap (λ ls. ls ++ after) parts ∙ append_assoc front back after))
-        (λ front back v parts alone seat there. quiet text script front (back ++ after) v seat read (split ∙ ap (λ ls. ls ++ after) parts ∙ append_assoc front (settle v ∷ back) after) alone there)
+        (λ front back parts. stands script front (back ++ after) are (split ∙ ap (λ ls. ls ++ after) parts ∙ append_assoc front back after))
+        (λ front back v parts alone seat there. quiet script front (back ++ after) v seat are (split ∙ ap (λ ls. ls ++ after) parts ∙ append_assoc front (settle v ∷ back) after) alone there)
         (λ no. absurd (true≢false (sym no))) is,
   )

@@ -8,7 +8,6 @@ use Rattle.std.specs.Str.{bytes_eq}
 use Rattle.std.proofs.lemmas.Bool.{and_parts, eqb-true}
 use Rattle.dsotlv.proofs.Results.{same_found}
 use Rattle.dsosession.specs.declared.session.EndReason.{EndReason}
-use Rattle.dsosession.specs.declared.session.CloseReason.{CloseReason}
 use Rattle.pushserver.specs.PlainHubs.{Session}
 use Rattle.pushserver.specs.Hubs.{session_of}
 use Rattle.pushclient.specs.Clients.{Connection, closed_as, is_connected}
@@ -18,13 +17,13 @@ use Rattle.replay.specs.Text.{Printed, quietly, end_lines, close_lines, finished
 use Rattle.replay.specs.TextWords.{by_history}
 use Rattle.replay.specs.World.{World, Seat, seat_of, with_seat, start_world, is_over, world_cut_if}
 use Rattle.replay.specs.PassedOctets.{is_still, Passed, passed, enough, round, settled}
-use Rattle.replay.specs.Promises.{ShownPoints, IsQuiet, SeatIsQuiet, EverySettleEmptiesBothWays}
+use Rattle.replay.specs.Promises.{ShownPoints, IsQuiet, SeatIsQuiet}
 use Rattle.replay.proofs.worlds.BetweenLines.{after-append}
 use Rattle.script_laws.specs.Reached.{IsReached, ReachedOnesGoOn}
 use Rattle.script_laws.specs.Joined.{IsJoined, StandsWith, PassesSo, ShownToEach, WorldStands}
 use Rattle.script_laws.specs.Walk.{RoundsPass}
 use Rattle.script_laws.specs.Whole.{StandsAfterEachLine}
-use Rattle.script_laws.specs.Settling.{IsEmptied, QuietAtLast, ends_still, RoundsFall, FewRoundsEnd, SettlesEmpty, TurnsSuffice, IsLittleAtSettles}
+use Rattle.script_laws.specs.Settling.{IsEmptied, QuietAtLast, ends_still, RoundsFall, FewRoundsEnd, SettlesEmpty, TurnsSuffice, IsLittleAtSettles, SettlesOfLines}
 use Rattle.script_laws.proofs.emits.Passing.{reached-behind, settles-pass}
 use Rattle.script_laws.proofs.lines.Cutting.{stands-with}
 use Rattle.replay.proofs.worlds.SeatsFound.{put-found}
@@ -155,16 +154,16 @@ module _ (w : Word) (world : World) where
 -- ---- whole scripts
 
 pub turns-suffice : ReachedOnesGoOn → RoundsPass → StandsAfterEachLine → (size : ℕ → World → Seat → ℕ) → RoundsFall size → IsLittleAtSettles size → TurnsSuffice
-turns-suffice reached-on rounds stand size fall little text script before after w seat number read are found has =
+turns-suffice reached-on rounds stand size fall little script before after w seat number lines are found has =
     let world : World = world_after before (start_world script) in
-    let stands = stand text script before (settle w ∷ after) read are in
+    let stands = stand script before (settle w ∷ after) lines are in
     let here = stands-with world.hub _ seat number has (seat-stands _ world w seat stands found) in
     few-rounds-end reached-on rounds size fall enough number world _ seat here.session here.connection stands.reached here.joined (λ unclosed. here.waits)
-    (little text script before after w seat number read are found has)
+    (little script before after w seat number lines are found has)
 
-pub settles-of-zones : ReachedOnesGoOn → RoundsPass → QuietAtLast → StandsAfterEachLine → TurnsSuffice → EverySettleEmptiesBothWays
-settles-of-zones reached-on rounds quiet stand suffice text script before after w seat read are alone =
+pub settles-of-zones : ReachedOnesGoOn → RoundsPass → QuietAtLast → StandsAfterEachLine → TurnsSuffice → SettlesOfLines
+settles-of-zones reached-on rounds quiet stand suffice script before after w seat lines are alone =
     let world : World = world_after before (start_world script) in
     subst (λ (later : World). seat_of later w ≡ Some seat → SeatIsQuiet later.hub seat) (sym (after-append before (settle w ∷ []) (start_world script)))
-    (line-quiet w world reached-on rounds quiet _ (stand text script before (settle w ∷ after) read are)
-    (λ s number found has. suffice text script before after w s number read are found has) alone seat)
+    (line-quiet w world reached-on rounds quiet _ (stand script before (settle w ∷ after) lines are)
+    (λ s number found has. suffice script before after w s number lines are found has) alone seat)

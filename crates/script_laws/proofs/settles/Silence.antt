@@ -13,10 +13,10 @@ use Rattle.dsotlv.specs.Messages.{first_message}
 use Rattle.dsotlv.specs.declared.message.Notice.{Notice}
 use Rattle.coalesce.specs.Net.{packed_behind}
 use Rattle.dsosession.specs.declared.session.EndReason.{EndReason}
-use Rattle.pushsession.specs.declared.standing.Standing.{Standing}
-use Rattle.pushsession.specs.declared.standing.Standing.TheVariants.{Live, AskedToStop, Stopped, Ended}
+use Rattle.pushsession.specs.declared.session_status.SessionStatus.{SessionStatus}
+use Rattle.pushsession.specs.declared.session_status.SessionStatus.TheVariants.{Live, AskedToStop, Stopped, Ended}
 use Rattle.pushsession.specs.Sessions.{stopped, without_first}
-use Rattle.pushsession.specs.Subscribing.{says_notices, packs}
+use Rattle.pushsession.specs.Subscribing.{says_notices, with_next_push}
 use Rattle.pushserver.specs.declared.given.Given.{Given}
 use Rattle.pushserver.specs.declared.given.Given.TheVariants.{Bytes, Worked, Nothing, Ending, End}
 use Rattle.pushserver.specs.PlainHubs.{Session, Hub, Giving, Queue, nets_of, stays_queued}
@@ -73,7 +73,7 @@ pub record SaysNothing (hub later : Hub) (number : ℕ) (session : Session) : Ty
 
 module _ (hub : Hub) (number room : ℕ) (session : Session) (there : session_of hub number ≡ Some session) where
   abbrev packing : Session → Session
-  packing s = packs (keeps_now hub) (tells_now hub) (now hub) s
+  packing s = with_next_push (keeps_now hub) (tells_now hub) (now hub) s
 
   abbrev packed_hub : Hub
   packed_hub = in_session number packing hub
@@ -91,7 +91,7 @@ module _ (hub : Hub) (number room : ℕ) (session : Session) (there : session_of
       let found : session_of packed_hub number ≡ Some (record session { queue = [] }) = found-in number packing hub.sessions ∙ ap (option_map packing) there ∙ ap (λ (s : Session). Some s) left in
       let whole : give hub number room ≡ did Nothing packed_hub =
       ap (give_as hub number room) there ∙ ap (λ (o : List ℕ). output_as hub number room session (is_empty o)) quiet.1
-      ∙ ap (λ (s : Standing). by_standing s number room session hub) quiet.0 ∙ ap (works_as hub number room) quiet.2
+      ∙ ap (λ (s : SessionStatus). by_standing s number room session hub) quiet.0 ∙ ap (works_as hub number room) quiet.2
       ∙ ap (λ (o : Option Session). found_as packed_hub number room Nothing (λ standing. Nothing) o) found
       ∙ ap (λ (o : List ℕ). copies_as packed_hub number room (record session { queue = [] }) Nothing (is_empty o)) quiet.1 in
       subst (λ (g : Giving). SaysNothing hub g.hub number session) (sym whole) (record {
@@ -112,7 +112,7 @@ module _ (number room : ℕ) where
       by true e = other e
       by false e = cc
 
-  after-other : (standing : Standing) → given_after standing ≡ Ending → ⊥
+  after-other : (standing : SessionStatus) → given_after standing ≡ Ending → ⊥
   after-other (Ended reason) is = cc
   after-other (AskedToStop rcode delay) is = cc
   after-other (Stopped since) is = cc
@@ -140,10 +140,10 @@ pub record IsResting (hub : Hub) (g : Giving) (session : Session) : Type 0 where
 
 module _ (hub : Hub) (number room : ℕ) (session : Session) (there : session_of hub number ≡ Some session) where
   by-message : (o : Option (List ℕ × List ℕ)) → (works_as hub number room o).given ≡ Ending → ⊥
-  by-message None is = packing-other number room (in_session number (packs (keeps_now hub) (tells_now hub) (now hub)) hub) is
+  by-message None is = packing-other number room (in_session number (with_next_push (keeps_now hub) (tells_now hub) (now hub)) hub) is
   by-message (Some found) is = reaction-other number room (reacted found.0 number (in_session number (without_first found.1) hub)) is
 
-  by-standing : session.output ≡ [] → (s : Standing) → session.standing ≡ s → (by_standing s number room session hub).given ≡ Ending → IsResting hub (by_standing s number room session hub) session
+  by-standing : session.output ≡ [] → (s : SessionStatus) → session.standing ≡ s → (by_standing s number room session hub).given ≡ Ending → IsResting hub (by_standing s number room session hub) session
   by-standing silent (Ended reason) e is = cc
   by-standing silent (AskedToStop rcode delay) e is = absurd (reaction-other number room (in_session number (stopped (keeps_now hub) rcode delay (now hub)) hub) is)
   by-standing silent (Stopped since) e is = record { stopped = ap is_stopped e; silent = silent; same = refl }

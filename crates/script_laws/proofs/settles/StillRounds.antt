@@ -13,9 +13,9 @@ use Rattle.dsotlv.specs.Answers.{stop_message}
 use Rattle.dsotlv.specs.Messages.{frame, first_message}
 use Rattle.dsosession.specs.declared.session.EndReason.{EndReason}
 use Rattle.dsosession.specs.declared.session.CloseReason.{CloseReason}
-use Rattle.pushsession.specs.declared.standing.Standing.{Standing}
-use Rattle.pushsession.specs.declared.standing.Standing.TheVariants.{Live}
-use Rattle.pushsession.specs.Sessions.{is_open, room_of as session_room, takes}
+use Rattle.pushsession.specs.declared.session_status.SessionStatus.{SessionStatus}
+use Rattle.pushsession.specs.declared.session_status.SessionStatus.TheVariants.{Live}
+use Rattle.pushsession.specs.Sessions.{is_open, room_of as session_room, with_piece}
 use Rattle.pushserver.specs.declared.given.Given.TheVariants.{Nothing, Ending}
 use Rattle.pushserver.specs.PlainHubs.{Session, Hub, Giving, Made, asked_of}
 use Rattle.pushserver.specs.Hubs.{session_of}
@@ -183,10 +183,10 @@ client-room client c there unclosed =
     ∙ ap (λ (o : Option CloseReason). elim (cond {A = Option Connection} (is_some o) None (Some c)) as (λ _. ℕ) [ None ↦ 0 | Some d ↦ max_input - length d.input ]) unclosed
 
 live-room : (session : Session) → session.standing ≡ Live → session_room session ≡ max_input - length session.input
-live-room session live = ap (λ (standing : Standing). cond (is_open standing) (max_input - length session.input) 0) live
+live-room session live = ap (λ (standing : SessionStatus). cond (is_open standing) (max_input - length session.input) 0) live
 
 -- a session that no octets are brought to
-session-takes-none : (session : Session) → takes [] session ≡ session
+session-takes-none : (session : Session) → with_piece [] session ≡ session
 session-takes-none session = ap (λ (os : List ℕ). record session { input = os }) (ap (λ (os : List ℕ). session.input ++ os) (take-nil (session_room session)) ∙ append-nil session.input)
 
 -- ---- the round
@@ -320,9 +320,9 @@ module _ (reached-on : ReachedOnesGoOn) (said-so : StoppedOnesSaidSo) (says : Of
         before_is : two.later ≡ one.later
         before_is =
             let piece = take rose.count said.seat.up_wire in
-            let found : session_of rose.world.hub number ≡ Some (takes piece one.later) = found-in number (takes piece) world.hub.sessions ∙ ap (option_map (takes piece)) one.joined.there in
-            same_found two.later (takes piece one.later) (sym two.joined.there ∙ found)
-            ∙ ap (λ (k : ℕ). takes (take k said.seat.up_wire) one.later) s.rose_none ∙ session-takes-none one.later
+            let found : session_of rose.world.hub number ≡ Some (with_piece piece one.later) = found-in number (with_piece piece) world.hub.sessions ∙ ap (option_map (with_piece piece)) one.joined.there in
+            same_found two.later (with_piece piece one.later) (sym two.joined.there ∙ found)
+            ∙ ap (λ (k : ℕ). with_piece (take k said.seat.up_wire) one.later) s.rose_none ∙ session-takes-none one.later
 
         live_before : one.later.standing ≡ Live
         live_before = ap (λ (t : Session). t.standing) (sym before_is) ∙ says_nothing.live

@@ -15,10 +15,10 @@ use Rattle.dsotlv.specs.Notices.{question_of}
 use Rattle.dsotlv.specs.declared.message.DsoHead.{DsoHead}
 use Rattle.dsotlv.specs.declared.message.Notice.{Notice}
 use Rattle.pushsession.specs.Reactions.{reacts_itself, by_itself}
-use Rattle.pushsession.specs.Sessions.{is_open, new_session, takes, asked_to_stop, ended_with, due, ended_where, timed, says_stop, without_first}
+use Rattle.pushsession.specs.Sessions.{is_open, new_session, with_piece, asked_to_stop, ended_with, due, ended_where, timed, says_stop, without_first}
 use Rattle.pushsession.specs.Subscribing.{Verdict, says_notices, subscribed, says_first_answer, first_answer_size, decided, answered}
-use Rattle.pushsession.specs.declared.standing.Standing.{Standing}
-use Rattle.pushsession.specs.declared.standing.Standing.TheVariants.{AskedToStop, Ended}
+use Rattle.pushsession.specs.declared.session_status.SessionStatus.{SessionStatus}
+use Rattle.pushsession.specs.declared.session_status.SessionStatus.TheVariants.{AskedToStop, Ended}
 use Rattle.pushserver.specs.Giving.{has_home}
 use Rattle.pushserver.specs.Hubs.{now, keeps_now, tells_now, in_session}
 use Rattle.pushserver.specs.PlainHubs.{Hub, Session, Queue, Made, plain_keeps, new_hub}
@@ -36,7 +36,7 @@ use Rattle.script_laws.specs.Settling.{is_stopped, SaysStop, StoppedOnesSaidSo}
 -- ---- one more message
 
 -- if it was stopped it said so
-abbrev SaidIfStopped : Standing → List Made → Type 0
+abbrev SaidIfStopped : SessionStatus → List Made → Type 0
 SaidIfStopped standing made = is_stopped standing ≡ true → SaysStop made
 
 abbrev Said : Session → Type 0
@@ -53,7 +53,7 @@ one-more made more stop = record {
   says = stop.says;
 }
 
-said-more : (standing : Standing) (made more : List Made) → SaidIfStopped standing made → SaidIfStopped standing (made ++ more)
+said-more : (standing : SessionStatus) (made more : List Made) → SaidIfStopped standing made → SaidIfStopped standing (made ++ more)
 said-more standing made more h is = one-more made more (h is)
 
 -- one that ended wasn't stopped
@@ -154,7 +154,7 @@ said-kept = record {
   changes = λ hub number f step h. in-said hub number f (λ s e. said-step hub step s e) h;
   enters = λ hub entry by h. each-changed Said Said (λ n. by_entry hub.start hub.history entry) (λ n s e. e) hub.sessions h;
   times = λ hub point t h. each-changed Said Said (λ n. timed (plain_keeps point) t) (λ n. said-timed point t) hub.sessions h;
-  takes_in = λ hub number piece any h. in-said hub number (takes piece) (λ s e. e) h;
+  takes_in = λ hub number piece any h. in-said hub number (with_piece piece) (λ s e. e) h;
   asks_stop = λ hub number rcode delay h. in-said hub number (asked_to_stop rcode delay) (said-asked rcode delay) h;
   makes = λ hub h. each-append (λ (e : ℕ × Session). Said e.1) hub.sessions ((hub.numbers_given, new_session (keeps_now hub) (now hub)) ∷ []) h ((λ is. absurd (true≢false (sym is))), tt);
   drops = λ hub number h. all_filter (λ (e : ℕ × Session). Said e.1) (λ (e : ℕ × Session). not (e.0 == number)) hub.sessions h;

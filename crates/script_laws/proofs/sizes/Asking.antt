@@ -1,5 +1,5 @@
 -- How much more a client owes behind what it is asked for, and at a moment.
---     subscribe-owes, unsubscribe-owes, reconfirm-owes, moment-owes      a frame and a wish more, at most
+--     called-owes, moment-owes      a frame and a wish more, at most
 --     cut-owes      nothing more once its connection is cut
 --     connected-owes      all its questions are asked anew
 use Rattle.std.proofs.Common.{◌≡◌, ℕ, suc, ◌+◌, ◌*◌, ◌<◌, ◌≤◌, ◌^◌, Bool, true, false, cond, not, ◌&&◌, List, [], ◌∷◌, ◌++◌, map, filter, fold, length, Option, Some, None, refl, sym, ◌∙◌, ap, subst, arith, length-append}
@@ -25,6 +25,10 @@ use Rattle.pushclient.specs.Steps.{closes_as, keepalive_message, sends_keepalive
 use Rattle.inflight.specs.Ends.{is_question}
 use Rattle.inflight.specs.Messages.{subscribes}
 use Rattle.flight_laws.proofs.ReadBack.{read-back}
+use Rattle.scripts.specs.declared.line.Call.{Call}
+use Rattle.scripts.specs.declared.line.Call.TheVariants as calls
+use Rattle.replay.specs.Text.{called}
+use Rattle.script_laws.specs.Lines.{IsCallWithin}
 use Rattle.script_laws.specs.Turns.{owes}
 use Rattle.script_laws.proofs.turns.Shorter.{filter-short}
 
@@ -102,7 +106,7 @@ module _ (client : Client) where
       (λ c there. written-more c (writes false client.now (subscribe_message (next_id client.wishes c) question) (record c { last_id = next_id client.wishes c })) (subscribe_message (next_id client.wishes c) question) _ client.now there refl
       (subscribe-small (next_id client.wishes c) question good) (one-longer _ client.wishes (omega arith)))
 
-  pub subscribe-owes : (question : Question) → IsTrue (is_question question) → OwesMore (subscribe client question).1
+  subscribe-owes : (question : Question) → IsTrue (is_question question) → OwesMore (subscribe client question).1
   subscribe-owes question good = by (wish_for client question)
     where
       by_wanted : (wish : Wish) (b : Bool) → OwesMore (cond {A = Asked × Client} b (asked.Already, client) (asked.New, record client { wishes = without_wish question client.wishes ++ (record wish { wanted = true }) ∷ [] })).1
@@ -135,7 +139,7 @@ module _ (client : Client) where
   drops-owe not_asked wish = wishes-more (without_wish wish.question client.wishes) (left-few wish.question)
   drops-owe (refused rcode) wish = wishes-more (without_wish wish.question client.wishes) (left-few wish.question)
 
-  pub unsubscribe-owes : (question : Question) → OwesMore (unsubscribe client question).1
+  unsubscribe-owes : (question : Question) → OwesMore (unsubscribe client question).1
   unsubscribe-owes question = by (wish_for client question)
     where
       by_wanted : (wish : Wish) (b : Bool) → OwesMore (cond {A = Bool × Client} b (true, drops wish.standing wish client) (false, client)).1
@@ -146,7 +150,7 @@ module _ (client : Client) where
       by None = same-owed
       by (Some wish) = by_wanted wish wish.wanted
 
-  pub reconfirm-owes : (rr : Rr) → OwesMore (reconfirm client rr).1
+  reconfirm-owes : (rr : Rr) → OwesMore (reconfirm client rr).1
   reconfirm-owes rr =
       by-open (λ (r : Bool × Client). OwesMore r.1) client (false, client)
       (λ c. cond (c.established && nat_le (length (reconfirm_message rr)) 65535) (true, with_connection (writes false client.now (reconfirm_message rr) c) client) (false, client))
@@ -161,6 +165,11 @@ module _ (client : Client) where
       by c there true is =
           let small : length (reconfirm_message rr) ≤ 65535 = leb-true (length (reconfirm_message rr)) 65535 (and_parts c.established (nat_le (length (reconfirm_message rr)) 65535) is).1 in
           written-more c (writes false client.now (reconfirm_message rr) c) (reconfirm_message rr) client.wishes client.now there refl (framed (length (reconfirm_message rr)) (length (frame (reconfirm_message rr))) small refl) (omega arith)
+
+  pub called-owes : (call : Call) → IsCallWithin call → OwesMore (called call client).1
+  called-owes (calls.Ask question) within = subscribe-owes question within
+  called-owes (calls.Drop question) within = unsubscribe-owes question
+  called-owes (calls.Reconfirm rr) within = reconfirm-owes rr
 
   -- ---- at a moment
 

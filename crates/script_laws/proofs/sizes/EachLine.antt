@@ -13,10 +13,10 @@ use Rattle.pushserver.specs.Hubs.{newest, session_of}
 use Rattle.pushserver.specs.PlainHubs.{Hub, Session}
 use Rattle.pushserver.specs.SoundHubs.{IsSoundHub, IsSoundSession}
 use Rattle.pushserver.proofs.session_steps.Lists.{found-each}
-use Rattle.pushsession.specs.declared.standing.Standing.{Standing}
-use Rattle.pushsession.specs.declared.standing.Standing.TheVariants.{Live, AskedToStop, Stopped, Ended}
+use Rattle.pushsession.specs.declared.session_status.SessionStatus.{SessionStatus}
+use Rattle.pushsession.specs.declared.session_status.SessionStatus.TheVariants.{Live, AskedToStop, Stopped, Ended}
 use Rattle.scripts.specs.Lines.{Word, ScriptLine, settle, feed}
-use Rattle.scripts.specs.Scripts.{Known, nothing_known, lone_of, is_lone_client, in_events, fits, client_words, lines_read}
+use Rattle.scripts.specs.Scripts.{Known, nothing_known, lone_of, is_lone_client, in_events, fits}
 use Rattle.replay.specs.PassedOctets.{max_wire}
 use Rattle.replay.specs.TextWords.{by_history}
 use Rattle.replay.specs.Text.{line_does, world_after}
@@ -26,10 +26,10 @@ use Rattle.script_laws.specs.Lines.{IsRead, Follow}
 use Rattle.script_laws.specs.Reached.{ReachedOnesAreSound}
 use Rattle.script_laws.specs.Settling.{IsLittleAtSettles}
 use Rattle.script_laws.specs.Texts.{ShownIsTaken}
-use Rattle.script_laws.specs.Turns.{reaction_cost, asked_stops, work_of, work_in, owes, work_left, QueuesAreShort, HistoriesAreShort, ScriptsAreShort, SizedAfterLines, LowersAlways}
+use Rattle.script_laws.specs.Turns.{reaction_cost, asked_stops, work_of, work_in, owes, work_left, QueuesAreShort, HistoriesAreShort, SizedAfterLines, LowersAlways}
 use Rattle.script_laws.specs.Whole.{StandsAfterEachLine}
 use Rattle.script_laws.proofs.lines.EachLine.{grown-clients}
-use Rattle.script_laws.proofs.lines.Following.{read-script, follow-front}
+use Rattle.script_laws.proofs.lines.Following.{follow-front}
 use Rattle.script_laws.proofs.lines.Growing.{grown, grown-stands}
 use Rattle.script_laws.proofs.lines.Cutting.{stands-with}
 use Rattle.script_laws.proofs.lines.Premises.{LineLaws}
@@ -67,12 +67,10 @@ module _ (laws : LineLaws) (shows : ShownIsTaken) (emits-low : OfEmits LowersAlw
       one-more m n k is = omega (arith, is)
 
 pub sized-after-lines : LineLaws → ShownIsTaken → OfEmits LowersAlways → OfDowns LowersAlways → SizedAfterLines
-sized-after-lines laws shows emits-low downs-low text script before after read split =
-    let all = client_words (lines_read text) in
-    let r = read-script text script read in
-    let start : Walked all nothing_known (λ w question. []) (start_world script) = record { stands = start-stands all script r.0 r.1; fits = start-fits all script r.0 r.1; clients = λ w e question. refl } in
-    sized-lines laws shows emits-low downs-low all (length before) 0 nothing_known before (λ w question. []) (start_world script) (omega arith)
-    (follow-front all nothing_known before after (subst (Follow all nothing_known) split r.0)) (each-front (IsRead all) before after (subst (AllByRecursion (IsRead all)) split r.1)) start tt
+sized-after-lines laws shows emits-low downs-low script before after are split =
+    let start : Walked are.all nothing_known (λ w question. []) (start_world script) = record { stands = start-stands are.all script are.follow are.read; fits = start-fits are.all script are.follow are.read; clients = λ w e question. refl } in
+    sized-lines laws shows emits-low downs-low are.all (length before) 0 nothing_known before (λ w question. []) (start_world script) (omega arith)
+    (follow-front are.all nothing_known before after (subst (Follow are.all nothing_known) split are.follow)) (each-front (IsRead are.all) before after (subst (AllByRecursion (IsRead are.all)) split are.read)) start tt
 
 -- ---- how much is to be done
 
@@ -90,21 +88,21 @@ within-session hub number session sound there = by (find (λ (e : ℕ × Session
         let s = (found-each (IsSoundSession hub) (λ (e : ℕ × Session). e.0 == number) hub.sessions f sound.sessions is).0 in
         subst IsWithinSession (same_found f.1 session e) (record { input = s.input_fits; output = s.output_fits })
 
-one-stop : (standing : Standing) → asked_stops standing ≤ 1
+one-stop : (standing : SessionStatus) → asked_stops standing ≤ 1
 one-stop Live = omega arith
 one-stop (AskedToStop rcode delay) = omega arith
 one-stop (Stopped since) = omega arith
 one-stop (Ended reason) = omega arith
 
-pub work-is-little : ReachedOnesAreSound → StandsAfterEachLine → SizedAfterLines → QueuesAreShort → HistoriesAreShort → ScriptsAreShort → IsLittleAtSettles work_left
-work-is-little are-sound stand sizes queues histories scripts text script before after w seat number read are found has =
+pub work-is-little : ReachedOnesAreSound → StandsAfterEachLine → SizedAfterLines → QueuesAreShort → HistoriesAreShort → IsLittleAtSettles work_left
+work-is-little are-sound stand sizes queues histories script before after w seat number lines are found has =
     let world : World = world_after before (start_world script) in
-    let stands = stand text script before (settle w ∷ after) read are in
+    let stands = stand script before (settle w ∷ after) lines are in
     let here = stands-with world.hub _ seat number has (seat-stands _ world w seat stands found) in
     let session : Session = here.session in
     let within = within-session world.hub number session (are-sound world.hub stands.reached) here.joined.there in
-    let owed = found-sized (length before) world w seat (sizes text script before (settle w ∷ after) read are) found here.lone in
-    let few = fewer (length before) (length after) (length script) (ap length are ∙ length-append before (settle w ∷ after)) (scripts text script read) in
+    let owed = found-sized (length before) world w seat (sizes script before (settle w ∷ after) lines are) found here.lone in
+    let few = fewer (length before) (length after) (length script) (ap length are ∙ length-append before (settle w ∷ after)) lines.few in
     let work : work_in (session_of world.hub number) ≡ work_of session = ap work_in here.joined.there in
     little (work_in (session_of world.hub number)) (length session.output) (length session.input) (length session.queue) (asked_stops session.standing) (newest world.hub) (length seat.down_wire) (length seat.up_wire) (owes seat.client) (length before)
     work within.output within.input (queues world.hub number session stands.reached here.joined.there) (histories world.hub stands.reached) (one-stop session.standing) here.joined.down_wire here.joined.up_wire owed few

@@ -21,9 +21,9 @@ use Rattle.dsotlv.specs.declared.message.Notice.{Notice}
 use Rattle.history.specs.declared.entry.Entry.{Entry}
 use Rattle.pushsession.proofs.Passing.{passed}
 use Rattle.pushsession.specs.Reactions.{reacts_itself, by_itself}
-use Rattle.pushsession.specs.Sessions.{is_open, new_session, takes, asked_to_stop, ended_with, due, ended_where, timed, says_stop, without_first, touched}
+use Rattle.pushsession.specs.Sessions.{is_open, new_session, with_piece, asked_to_stop, ended_with, due, ended_where, timed, says_stop, without_first, touched}
 use Rattle.pushsession.specs.Subscribing.{Verdict, Refuse, Abort as Aborting, Accept, verdict_on, says_notices, subscribed, says_first_answer, first_answer_size, decided, answered}
-use Rattle.pushsession.specs.declared.standing.Standing.TheVariants.{AskedToStop}
+use Rattle.pushsession.specs.declared.session_status.SessionStatus.TheVariants.{AskedToStop}
 use Rattle.pushserver.specs.Giving.{has_home}
 use Rattle.pushserver.specs.Hubs.{newest, now, keeps_now, tells_now, in_session}
 use Rattle.pushserver.specs.PlainHubs.{Hub, Session, Subscription, Queue, plain_keeps, asks_for, point_in, enqueued, new_hub}
@@ -257,7 +257,7 @@ short-kept = record {
   changes = λ hub number f step h. in-short hub number f (λ s e. short-step (newest hub) hub step s e) h;
   enters = λ hub entry by h. each-changed (IsShort (newest hub)) (IsShort (length (hub.history ++ entry ∷ []))) (λ n. by_entry hub.start hub.history entry) (λ n s e. entry-short hub entry s e) hub.sessions h;
   times = λ hub point t h. each-changed (IsShort (newest hub)) (IsShort (newest hub)) (λ n. timed (plain_keeps point) t) (λ n. short-timed (newest hub) point t) hub.sessions h;
-  takes_in = λ hub number piece any h. in-short hub number (takes piece) (λ s e. e) h;
+  takes_in = λ hub number piece any h. in-short hub number (with_piece piece) (λ s e. e) h;
   asks_stop = λ hub number rcode delay h. in-short hub number (asked_to_stop rcode delay) (short-asked (newest hub) rcode delay) h;
   makes = λ hub h. each-append (λ (e : ℕ × Session). IsShort (newest hub) e.1) hub.sessions ((hub.numbers_given, new_session (keeps_now hub) (now hub)) ∷ []) h (none-few (newest hub), tt);
   drops = λ hub number h. all_filter (λ (e : ℕ × Session). IsShort (newest hub) e.1) (λ (e : ℕ × Session). not (e.0 == number)) hub.sessions h;

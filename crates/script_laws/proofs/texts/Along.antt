@@ -1,22 +1,22 @@
 -- What a script prints, line by line.
 --     one-text      what is held is what the notices taken lead to
---     never-back      no `held` line shows an earlier point than one before it
 use Rattle.std.proofs.Common.{◌≡◌, ℕ, List, [], ◌∷◌, ◌++◌, Option, Some, None, refl, ap, sym, ◌∙◌, append_assoc}
 use Rattle.std.specs.Prelude.{map, codes, decimal}
 use Rattle.std.specs.Str.{bytes_eq}
 use Rattle.rrset.specs.declared.record.Question.{Question}
 use Rattle.pushclient.proofs.SoundWishes.{all_found}
-use Rattle.scripts.specs.Lines.{Word, ScriptLine, silent, timers, zone, link, client, lone, at_moment, update, hear, ask, drop_question, reconfirm, open_connection, cut, say, up, emit, down, settle, send, feed, stop, point, show}
+use Rattle.scripts.specs.Lines.{Word, ScriptLine, silent, head_line, joining, hub_event, link_event, client_call, client_passing, client_event, session_event, show}
+use Rattle.scripts.specs.declared.line.ClientEvent.{ClientEvent}
+use Rattle.scripts.specs.declared.line.ClientEvent.TheVariants as client_events
 use Rattle.replay.specs.World.{World, Seat, seat_of, start_world}
 use Rattle.replay.specs.TextWords.{ShowTold, HeldRecords, by_history, by_notices, record_line, show_at}
-use Rattle.scripts.specs.Words.{spaced}
-use Rattle.replay.specs.Text.{Printed, quietly, line_does, world_after, printed_by, ended_lines}
+use Rattle.scripts.specs.Words.{spaced, ended_lines}
+use Rattle.replay.specs.Text.{Printed, quietly, client_does, line_does, world_after, printed_by}
 use Rattle.replay.specs.HeldPoints.{held_points_from}
 use Rattle.replay.proofs.worlds.BetweenLines.{after-append}
-use Rattle.replay.specs.Promises.{EveryScriptTellsOneText}
 use Rattle.script_laws.specs.Reached.{ReachedSessions}
 use Rattle.script_laws.specs.Joined.{ShownToEach, SeatStands, WorldStands}
-use Rattle.script_laws.specs.Whole.{StandsAfter, StandsAfterEachLine}
+use Rattle.script_laws.specs.Whole.{StandsAfter, StandsAfterEachLine, LinesTellOneText}
 use Rattle.script_laws.proofs.texts.Shows.{shows-alike}
 
 -- the seat of a word stands
@@ -37,31 +37,21 @@ module _ (sessions : ReachedSessions) where
       by None is = refl
       by (Some seat) is = ap (told_line w question written world) (shows-alike sessions world (shown seat.word) seat question stands.reached (seat-stands shown world w seat stands is))
 
+  client-alike : (shown : ShownToEach) (world : World) (w : Word) (event : ClientEvent) → WorldStands shown world → client_does by_history event w world ≡ client_does by_notices event w world
+  client-alike shown world w client_events.Open stands = refl
+  client-alike shown world w (client_events.Feed octets) stands = refl
+  client-alike shown world w (client_events.Show question written) stands = show-alike shown world w question written stands
+
   line-alike : (shown : ShownToEach) (line : ScriptLine) (world : World) → WorldStands shown world → line_does by_history line world ≡ line_does by_notices line world
-  line-alike shown (show w question written) world stands = show-alike shown world w question written stands
   line-alike shown silent world stands = refl
-  line-alike shown (timers i k) world stands = refl
-  line-alike shown (zone apex serial mode) world stands = refl
-  line-alike shown (link w domain) world stands = refl
-  line-alike shown (client w) world stands = refl
-  line-alike shown (lone w) world stands = refl
-  line-alike shown (at_moment t) world stands = refl
-  line-alike shown (update message) world stands = refl
-  line-alike shown (hear w datagram) world stands = refl
-  line-alike shown (ask w question) world stands = refl
-  line-alike shown (drop_question w question) world stands = refl
-  line-alike shown (reconfirm w rr) world stands = refl
-  line-alike shown (open_connection w) world stands = refl
-  line-alike shown (cut w) world stands = refl
-  line-alike shown (say w n) world stands = refl
-  line-alike shown (up w n) world stands = refl
-  line-alike shown (emit w n) world stands = refl
-  line-alike shown (down w n) world stands = refl
-  line-alike shown (settle w) world stands = refl
-  line-alike shown (send w octets) world stands = refl
-  line-alike shown (feed w octets) world stands = refl
-  line-alike shown (stop w rcode delay) world stands = refl
-  line-alike shown point world stands = refl
+  line-alike shown (head_line line) world stands = refl
+  line-alike shown (joining w is_lone) world stands = refl
+  line-alike shown (hub_event event) world stands = refl
+  line-alike shown (link_event w event) world stands = refl
+  line-alike shown (client_call w call) world stands = refl
+  line-alike shown (client_passing w way) world stands = refl
+  line-alike shown (client_event w event) world stands = client-alike shown world w event stands
+  line-alike shown (session_event w event) world stands = refl
 
   -- where the world stands after each front, what is printed is one
   pub printed-alike : (start : World) (before after : List ScriptLine) → ((front back : List ScriptLine) → before ++ after ≡ front ++ back → StandsAfter front start)
@@ -76,5 +66,5 @@ module _ (sessions : ReachedSessions) where
       ap (λ ls. (line_does by_history line world).1 ++ ls) (ap (printed_by by_history lines) (sym later) ∙ rest ∙ ap (printed_by by_notices lines) later)
       ∙ ap (λ p. p.1 ++ printed_by by_notices lines p.0) one
 
-  pub one-text : StandsAfterEachLine → EveryScriptTellsOneText
-  one-text stands text script read = ap ended_lines (printed-alike (start_world script) [] script (λ front back split. stands text script front back read split))
+  pub one-text : StandsAfterEachLine → LinesTellOneText
+  one-text stands script are = ap ended_lines (printed-alike (start_world script) [] script (λ front back split. stands script front back are split))

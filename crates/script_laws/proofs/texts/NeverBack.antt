@@ -107,5 +107,5 @@ module _ (sessions : ReachedSessions) where
         (one-further before line (stands before (line ∷ lines) refl) rising))
 
   pub never-back : StandsAfterEachLine → ScriptsNeverGoBack
-  never-back stands text script w question read =
-      rises (start_world script) w question [] script (λ front back split. stands text script front back read split) (IsNonDecreasingBy-short (λ x. x) [] (omega arith))
+  never-back stands script w question are =
+      rises (start_world script) w question [] script (λ front back split. stands script front back are split) (IsNonDecreasingBy-short (λ x. x) [] (omega arith))

@@ -12,10 +12,10 @@ use Rattle.dsotlv.specs.Messages.{frame, first_message}
 use Rattle.dsotlv.specs.declared.message.Notice.{Notice}
 use Rattle.dsotlv.proofs.Results.{same_found}
 use Rattle.dsosession.specs.declared.session.EndReason.TheVariants as ends
-use Rattle.pushsession.specs.declared.standing.Standing.{Standing}
-use Rattle.pushsession.specs.declared.standing.Standing.TheVariants.{Live, AskedToStop, Stopped, Ended}
+use Rattle.pushsession.specs.declared.session_status.SessionStatus.{SessionStatus}
+use Rattle.pushsession.specs.declared.session_status.SessionStatus.TheVariants.{Live, AskedToStop, Stopped, Ended}
 use Rattle.pushsession.specs.Sessions.{copied, stopped, says_stop, ended_with, without_first}
-use Rattle.pushsession.specs.Subscribing.{packs, says_notices}
+use Rattle.pushsession.specs.Subscribing.{with_next_push, says_notices}
 use Rattle.pushserver.specs.declared.given.Given.{Given}
 use Rattle.pushserver.specs.declared.given.Given.TheVariants.{Worked, Nothing, Ending, End}
 use Rattle.pushserver.specs.PlainHubs.{Session, Queue, Hub, Giving}
@@ -136,12 +136,12 @@ module _ (hub : Hub) (number : ℕ) (session : Session) (there : session_of hub 
   )
 
   module _ (silent : session.output ≡ []) where
-    reaches : (standing : Standing) → session.standing ≡ standing → (room : ℕ) → give hub number room ≡ by_standing standing number room session hub
+    reaches : (standing : SessionStatus) → session.standing ≡ standing → (room : ℕ) → give hub number room ≡ by_standing standing number room session hub
     reaches standing is room =
-        ap (give_as hub number room) there ∙ ap (λ (l : List ℕ). output_as hub number room session (is_empty l)) silent ∙ ap (λ (st : Standing). by_standing st number room session hub) is
+        ap (give_as hub number room) there ∙ ap (λ (l : List ℕ). output_as hub number room session (is_empty l)) silent ∙ ap (λ (st : SessionStatus). by_standing st number room session hub) is
 
     -- nothing is done
-    does-nothing : (standing : Standing) (given : Given) → session.standing ≡ standing → ((room : ℕ) → by_standing standing number room session hub ≡ did given hub) → (given ≡ Worked → ⊥) → Turns
+    does-nothing : (standing : SessionStatus) (given : Given) → session.standing ≡ standing → ((room : ℕ) → by_standing standing number room session hub ≡ did given hub) → (given ≡ Worked → ⊥) → Turns
     does-nothing standing given is same other = (
       session,
       turns-to (λ room. did given hub) session (λ room. reaches standing is room ∙ same room) (λ room. done-leaves number room hub session there given)
@@ -184,7 +184,7 @@ module _ (hub : Hub) (number : ℕ) (session : Session) (there : session_of hub 
 
     module _ (live : session.standing ≡ Live) (sound : IsSoundHub hub) where
       abbrev packing : Session → Session
-      packing = packs (keeps_now hub) (tells_now hub) (now hub)
+      packing = with_next_push (keeps_now hub) (tells_now hub) (now hub)
 
       abbrev packed_hub : Hub
       packed_hub = in_session number packing hub
@@ -269,7 +269,7 @@ module _ (hub : Hub) (number : ℕ) (session : Session) (there : session_of hub 
     by_first None first silent live = packs-names silent live sound first
     by_first (Some found) first silent live = reacts silent live sound told client c up_wire down_wire i found first
 
-    by_kind : (standing : Standing) → session.standing ≡ standing → session.output ≡ [] → Turns
+    by_kind : (standing : SessionStatus) → session.standing ≡ standing → session.output ≡ [] → Turns
     by_kind Live is silent = by_first (first_message session.input) refl silent is
     by_kind (AskedToStop rcode delay) is silent = stops silent rcode delay is
     by_kind (Stopped since) is silent = does-nothing silent (Stopped since) Ending is (λ room. refl) (λ e. absurd cc)

@@ -8,7 +8,7 @@ use Rattle.dsotlv.specs.Answers.{answer_to, refusal_to}
 use Rattle.dsotlv.specs.declared.message.Notice.{Notice}
 use Rattle.dnsname.specs.Names.{Labels, same_name}
 use Rattle.pushsession.specs.Sessions.{answers}
-use Rattle.pushsession.specs.Subscribing.{accepts, subscribed, says_first_answer, first_answer_size}
+use Rattle.pushsession.specs.Subscribing.{with_accepted, subscribed, says_first_answer, first_answer_size}
 use Rattle.pushserver.specs.Hubs.{now, state_now, keeps_now, tells_now}
 use Rattle.pushserver.specs.Giving.{is_served_at}
 use Rattle.pushserver.specs.PlainHubs.{Session, Queue, Hub}
@@ -22,7 +22,7 @@ module _ (hub : Hub) where
   first-queue point t answer [] before session = refl
   first-queue point t answer (n ∷ ns) before session = refl
 
-  accepts-queue : (id : ℕ) (question : Question) (session : Session) → length (accepts (keeps_now hub) (tells_now hub) (now hub) id question session).queue ≤ length session.queue
+  accepts-queue : (id : ℕ) (question : Question) (session : Session) → length (with_accepted (keeps_now hub) (tells_now hub) (now hub) id question session).queue ≤ length session.queue
   accepts-queue id question session =
       let notices = (tells_now hub).first_notices question session.subscriptions session.queue in
       let answer = answer_to id noerror in
@@ -39,6 +39,6 @@ module _ (hub : Hub) where
       listening : Session
       listening = heard (now hub) (subscribes id question) session
 
-      by : (b : Bool) → length (if b then accepts (keeps_now hub) (tells_now hub) (now hub) id question listening else answers (keeps_now hub) false (now hub) (refusal_to id notauth) listening).queue ≤ length session.queue
+      by : (b : Bool) → length (if b then with_accepted (keeps_now hub) (tells_now hub) (now hub) id question listening else answers (keeps_now hub) false (now hub) (refusal_to id notauth) listening).queue ≤ length session.queue
       by true = accepts-queue id question listening
       by false = omega arith

@@ -4,7 +4,7 @@
 use Rattle.std.proofs.Common.{◌≡◌, ℕ, zero, suc, ◌+◌, ◌-◌, ◌*◌, ◌<◌, ◌≤◌, ◌==◌, Bool, true, false, not, ◌&&◌, ◌||◌, List, [], ◌++◌, length, take, drop, min, nat_lt, Option, Some, None, refl, sym, ◌∙◌, ap, subst, arith, le_trans, length-append, length-take, length-drop}
 use Rattle.std.specs.Prelude.{option_map, is_some, if◌then◌else◌}
 use Rattle.std.proofs.lemmas.Bool.{ltb-true}
-use Rattle.pushsession.specs.Sessions.{room_of, takes}
+use Rattle.pushsession.specs.Sessions.{room_of, with_piece}
 use Rattle.pushserver.specs.PlainHubs.{Session}
 use Rattle.pushserver.specs.Hubs.{session_of, taken_by, take_octets}
 use Rattle.pushserver.proofs.SessionLists.{found-in}
@@ -67,10 +67,10 @@ ups-lower n number world shown seat session c reached j = record { moved = moved
     k = taken_by world.hub number (take n seat.up_wire)
 
     later : Session
-    later = takes (take k seat.up_wire) session
+    later = with_piece (take k seat.up_wire) session
 
     there : session_of (take_octets world.hub number (take k seat.up_wire)) number ≡ Some later
-    there = found-in number (takes (take k seat.up_wire)) world.hub.sessions ∙ ap (option_map (takes (take k seat.up_wire))) j.there
+    there = found-in number (with_piece (take k seat.up_wire)) world.hub.sessions ∙ ap (option_map (with_piece (take k seat.up_wire))) j.there
 
     by_room : k ≡ min (length (take n seat.up_wire)) (room_of session)
     by_room = ap (λ (o : Option Session). elim o as (λ _. ℕ) [ None ↦ 0 | Some s ↦ min (length (take n seat.up_wire)) (room_of s) ]) j.there

@@ -1,5 +1,5 @@
 -- Which lines are those of a client, the words of the clients, and the lines that are left.
-use Rattle.std.proofs.Common.{◌≡◌, ℕ, ◌<◌, ◌⊎◌, Bool, true, false, cond, eqb, ◌&&◌, ◌||◌, Option, Some, None, List, [], ◌∷◌, ◌++◌, length, map, refl, sym, ◌∙◌, ap, subst, inl, inr, arith, append_assoc, ⊎_elim}
+use Rattle.std.proofs.Common.{◌≡◌, ℕ, ◌<◌, ◌⊎◌, Bool, true, false, cond, eqb, ◌&&◌, ◌||◌, Option, Some, None, IfSome, List, [], ◌∷◌, ◌++◌, length, map, refl, sym, ◌∙◌, ap, subst, inl, inr, arith, append_assoc, ⊎_elim}
 use Rattle.std.specs.Prelude.{find, drop, get_or, ◌+◌, option_map, option_to_list, codes, string_bytes, position}
 use Rattle.std.specs.declared.alloc.Global.{Global}
 use Rattle.std.specs.declared.string.String.{String}
@@ -13,7 +13,7 @@ use Rattle.std.proofs.lemmas.List.Splits.{join_with_byte-slice_split}
 use Rattle.push_base.specs.Cases.{is_empty}
 use Rattle.push_base.specs.Optional.{◌>>=◌}
 use Rattle.dnsname.proofs.Decisions.{and_true}
-use Rattle.scripts.specs.Lines.{words_in, Word, ScriptLine, silent, client, lone, update, hear, ask, drop_question, open_connection, cut, say, up, emit, down, settle, send, feed, point, word, of_word, kind_of, line_behind, of_words, line_of, is_word_octet}
+use Rattle.scripts.specs.Lines.{words_in, Word, ScriptLine, silent, joining, word, of_word, of_words, line_of, is_word_octet, is, head_kinds, hub_kinds, link_kinds, session_kinds, joining_kinds, call_kinds, way_kinds, client_kinds, kind_of, line_behind}
 use Rattle.scripts.specs.declared.line.Kind.{Kind}
 use Rattle.scripts.specs.declared.line.Kind.TheVariants as kinds
 use Rattle.history.proofs.Positions.{position-map}
@@ -21,41 +21,8 @@ use Rattle.scripts.specs.KeptLines.{words_of}
 use Rattle.scripts.specs.Scripts.{onto_line, lines_in, client_word, client_words, is_among, last_is_outside, lone_in, lines_left}
 use Rattle.scripts.specs.Drafts.{client_in, is_any_word, known_clients, is_word}
 use Rattle.scripts.specs.declared.clients.KnownClient.{KnownClient}
-use Rattle.scripts.proofs.lines.LineKinds.{timers_none, zone_none, link_none, word_none, at_none, octets_none, word_octets_none, word_question_none, reconfirm_none, word_number_none, stop_none, alone_none, show_none, IsFirst, first_word}
-
--- ---- the client that a line names
-
--- what is said by a line that makes a client
-abbrev client_said : Kind → List Word → Option Word
-client_said kinds.Client ws = of_word client ws >>= client_word
-client_said kinds.Lone ws = of_word lone ws >>= client_word
-client_said _ ws = None
-
-client_behind_kind : (kind : Kind) (ws : List Word) → (line_behind kind ws >>= client_word) ≡ client_said kind ws
-client_behind_kind kinds.Timers ws = timers_none client_word (λ i k. refl) ws
-client_behind_kind kinds.Zone ws = zone_none client_word (λ n s b. refl) ws
-client_behind_kind kinds.Link ws = link_none client_word (λ v n. refl) ws
-client_behind_kind kinds.At ws = at_none client_word (λ t. refl) ws
-client_behind_kind kinds.Update ws = octets_none client_word update (λ o. refl) ws
-client_behind_kind kinds.Hear ws = word_octets_none client_word hear (λ v o. refl) ws
-client_behind_kind kinds.Send ws = word_octets_none client_word send (λ v o. refl) ws
-client_behind_kind kinds.Stop ws = stop_none client_word (λ v r d. refl) ws
-client_behind_kind kinds.Cut ws = word_none client_word cut (λ v. refl) ws
-client_behind_kind kinds.Point ws = alone_none client_word point refl ws
-client_behind_kind kinds.Client ws = refl
-client_behind_kind kinds.Lone ws = refl
-client_behind_kind kinds.Open ws = word_none client_word open_connection (λ v. refl) ws
-client_behind_kind kinds.Ask ws = word_question_none client_word ask (λ v q. refl) ws
-client_behind_kind kinds.Drop ws = word_question_none client_word drop_question (λ v q. refl) ws
-client_behind_kind kinds.Reconfirm ws = reconfirm_none client_word (λ v rr. refl) ws
-client_behind_kind kinds.Say ws = word_number_none client_word say (λ v n. refl) ws
-client_behind_kind kinds.Up ws = word_number_none client_word up (λ v n. refl) ws
-client_behind_kind kinds.Emit ws = word_number_none client_word emit (λ v n. refl) ws
-client_behind_kind kinds.Down ws = word_number_none client_word down (λ v n. refl) ws
-client_behind_kind kinds.Settle ws = word_none client_word settle (λ v. refl) ws
-client_behind_kind kinds.Feed ws = word_octets_none client_word feed (λ v o. refl) ws
-client_behind_kind kinds.Show ws = show_none client_word (λ v q n. refl) ws
-client_behind_kind kinds.Other ws = refl
+use Rattle.scripts.proofs.lines.Readers.{EachReads, AllSuch, chosen_such, head_reads, hub_reads, on_link_reads, session_reads, call_reads, way_reads, client_reads}
+use Rattle.scripts.proofs.lines.SameWords.{same_word}
 
 -- ---- a line that names a client is that text
 
@@ -74,14 +41,55 @@ client_behind line says (x ∷ y ∷ ws) v h = absurd cc
 abbrev NamesClient : List Word → Word → Type 0
 NamesClient parts v = (parts ≡ codes "client" ∷ v ∷ []) ⊎ (parts ≡ codes "lone" ∷ v ∷ [])
 
-client_first : (w : Word) (ws : List Word) (v : Word) (kind : Kind) → IsFirst w kind → client_said kind ws ≡ Some v → NamesClient (w ∷ ws) v
-client_first w ws v kinds.Client first said = inl (ap (λ (u : Word). u ∷ ws) first ∙ ap (λ (us : List Word). codes "client" ∷ us) (client_behind client (λ u. refl) ws v said))
-client_first w ws v kinds.Lone first said = inr (ap (λ (u : Word). u ∷ ws) first ∙ ap (λ (us : List Word). codes "lone" ∷ us) (client_behind lone (λ u. refl) ws v said))
-client_first w ws v _ first said = absurd cc
+-- a line by its words, if it names a client
+abbrev NamesBy : Word → List Word → Kind → Type 0
+NamesBy w ws kind = IfSome (line_behind kind ws >>= client_word) (NamesClient (w ∷ ws))
+
+abbrev NamesNone : ScriptLine → Type 0
+NamesNone line = client_word line ≡ None
+
+-- of lines that name none
+names_none_by : (w : Word) (ws : List Word) (o : Option ScriptLine) → IfSome o NamesNone → IfSome (o >>= client_word) (NamesClient (w ∷ ws))
+names_none_by w ws None none = tt
+names_none_by w ws (Some line) none = subst (λ (r : Option Word). IfSome r (NamesClient (w ∷ ws))) (sym none) tt
+
+none_by : (w : Word) (ws : List Word) (rows : List (Bool × Kind)) → EachReads NamesNone ws rows → AllSuch (NamesBy w ws) rows
+none_by w ws [] none = tt
+none_by w ws (row ∷ rows) none = (λ is. names_none_by w ws (line_behind row.1 ws) none.0, none_by w ws rows none.1)
+
+joins : (line : Word → ScriptLine) → ((u : Word) → client_word (line u) ≡ Some u) → (w : Word) (ws : List Word) (v first : Word) → is w first ≡ true → (of_word line ws >>= client_word) ≡ Some v → w ∷ ws ≡ first ∷ v ∷ []
+joins line says w ws v first is_first said = ap (λ (u : Word). u ∷ ws) (same_word w first is_first) ∙ ap (λ (us : List Word). first ∷ us) (client_behind line says ws v said)
+
+given : (P : Word → Type 0) (o : Option Word) → ((v : Word) → o ≡ Some v → P v) → IfSome o P
+given P None h = tt
+given P (Some v) h = h v refl
+
+names_client : (w : Word) (ws : List Word) → NamesBy w ws (kind_of w)
+names_client w ws =
+    chosen_such (NamesBy w ws) (head_kinds w) _ (none_by w ws (head_kinds w) (head_reads NamesNone (λ line. refl) w ws))
+    (chosen_such (NamesBy w ws) (hub_kinds w) _ (none_by w ws (hub_kinds w) (hub_reads NamesNone (λ e. refl) w ws))
+    (chosen_such (NamesBy w ws) (link_kinds w) _ (none_by w ws (link_kinds w) (on_link_reads NamesNone (λ u e. refl) w ws))
+    (chosen_such (NamesBy w ws) (session_kinds w) _ (none_by w ws (session_kinds w) (session_reads NamesNone (λ u e. refl) w ws))
+    (chosen_such (NamesBy w ws) (joining_kinds w) _ (by_client, (by_lone, tt))
+    (chosen_such (NamesBy w ws) (call_kinds w) _ (none_by w ws (call_kinds w) (call_reads NamesNone (λ u call. refl) w ws))
+    (chosen_such (NamesBy w ws) (way_kinds w) _ (none_by w ws (way_kinds w) (way_reads NamesNone (λ u way. refl) w ws))
+    (chosen_such (NamesBy w ws) (client_kinds w) kinds.Other (none_by w ws (client_kinds w) (client_reads NamesNone (λ u e. refl) w ws)) tt)))))))
+  where
+    hub : Word → ScriptLine
+    hub u = joining u false
+
+    lone : Word → ScriptLine
+    lone u = joining u true
+
+    by_client : is w (codes "client") ≡ true → NamesBy w ws kinds.Client
+    by_client first = given (NamesClient (w ∷ ws)) (of_word hub ws >>= client_word) (λ v said. inl (joins hub (λ u. refl) w ws v (codes "client") first said))
+
+    by_lone : is w (codes "lone") ≡ true → NamesBy w ws kinds.Lone
+    by_lone first = given (NamesClient (w ∷ ws)) (of_word lone ws >>= client_word) (λ v said. inr (joins lone (λ u. refl) w ws v (codes "lone") first said))
 
 client_parts : (parts : List Word) (v : Word) → (of_words parts >>= client_word) ≡ Some v → NamesClient parts v
 client_parts [] v h = absurd cc
-client_parts (w ∷ ws) v h = client_first w ws v (kind_of w) (first_word w) (sym (client_behind_kind (kind_of w) ws) ∙ h)
+client_parts (w ∷ ws) v h = subst (λ (o : Option Word). IfSome o (NamesClient (w ∷ ws))) h (names_client w ws)
 
 comment_client : (utf8 : Bool) → (cond utf8 (Some silent) None >>= client_word) ≡ None
 comment_client true = refl
@@ -151,10 +159,10 @@ said_word line says w = by_word (word w) refl
 
 -- the text behind a line's first word is the client's
 pub named_by_client : (line w : Word) → line ≡ codes "client " ++ w → word w ≡ client_in line
-named_by_client line w e = sym (ap client_in e ∙ said_word client (λ u. refl) w)
+named_by_client line w e = sym (ap client_in e ∙ said_word (λ u. joining u false) (λ u. refl) w)
 
 pub named_by_lone : (line w : Word) → line ≡ codes "lone " ++ w → word w ≡ client_in line
-named_by_lone line w e = sym (ap client_in e ∙ said_word lone (λ u. refl) w)
+named_by_lone line w e = sym (ap client_in e ∙ said_word (λ u. joining u true) (λ u. refl) w)
 
 -- another line names none
 pub names_none : (line : Word) → ((w : Word) → line ≡ codes "client " ++ w → ⊥) → ((w : Word) → line ≡ codes "lone " ++ w → ⊥) → None ≡ client_in line

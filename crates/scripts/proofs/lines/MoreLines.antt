@@ -17,18 +17,20 @@ use Rattle.history.specs.Homes.{NamedHome}
 use Rattle.history.specs.States.{State, LinkState}
 use Rattle.history.specs.Plans.{IsStart}
 use Rattle.history.specs.Kept.{HomesKept, state_of}
-use Rattle.scripts.specs.Lines.{Word, ScriptLine}
-use Rattle.scripts.specs.Scripts.{Known, fits, may_follow, allowed, client_word, lone_in, is_head, happening, AreDistinct}
-use Rattle.scripts.specs.Heads.{Head, empty_head, with_head_line, head_behind}
+use Rattle.scripts.specs.Lines.{Word, ScriptLine, head_line}
+use Rattle.scripts.specs.Scripts.{Known, fits, may_follow, known_in_head, allowed, client_word, lone_in, is_head, happening, AreDistinct}
+use Rattle.scripts.specs.Heads.{Head, empty_head, with_head, with_head_line, head_behind}
 use Rattle.scripts.specs.declared.line.ZoneLine.{ZoneLine}
 use Rattle.scripts.specs.declared.line.LinkLine.{LinkLine}
+use Rattle.scripts.specs.declared.line.HeadLine.{HeadLine}
+use Rattle.scripts.specs.declared.line.HeadLine.TheVariants as heads
 use Rattle.scripts.specs.declared.line.Event.{Event}
 use Rattle.scripts.specs.declared.line.Event.TheVariants as events
 use Rattle.scripts.specs.declared.line.Line.{Line}
 use Rattle.scripts.specs.declared.line.Line.TheVariants as lines
-use Rattle.scripts.specs.KeptLines.{timers_said, zone_said, link_said, event_said, said}
+use Rattle.scripts.specs.KeptLines.{head_said, event_said, said}
 use Rattle.scripts.specs.KeptScripts.{events_said}
-use Rattle.scripts.specs.Drafts.{Taken, no_homes, nothing_taken, head_of, head_taken, known_of, known_by, client_added, may_stand, with_zone, HasZone, with_link, HasLink, GrowsBy}
+use Rattle.scripts.specs.Drafts.{Taken, no_homes, nothing_taken, head_of, head_taken, known_of, known_by, client_added, may_stand, with_zone, HasZone, with_link, HasLink, HeadGrowsBy, GrowsBy}
 use Rattle.scripts.proofs.lines.SameWords.{same_word, word_itself, other_way}
 
 -- the lines that happen, and the head, behind a further line
@@ -72,7 +74,7 @@ head-then front taken line are = head-more empty_head front line ∙ ap (λ (h :
 happen-head : (front : List ScriptLine) (taken : Taken) (line : ScriptLine) → AreLines front taken → happening (line ∷ []) ≡ [] → happening (front ++ line ∷ []) ≡ events_said taken.events
 happen-head front taken line are quiet = happening-more front line ∙ ap (λ (ls : List ScriptLine). happening front ++ ls) quiet ∙ append-nil (happening front) ∙ are.happen
 
--- ---- a line that says nothing, and timers
+-- ---- a line that says nothing
 
 silent_adds : (all : List Word) (taken : Taken) → Adds all taken lines.Silent taken
 silent_adds all taken = record {
@@ -80,14 +82,32 @@ silent_adds all taken = record {
   lines = λ front are. record { happen = happen-head front taken _ are refl; head = head-then front taken _ are; start = are.start; named = are.named; distinct = are.distinct };
 }
 
-abbrev with_timers : Taken → Timers → Taken
-with_timers taken t = record taken { timers = Some t }
+-- ---- the head
 
-timers_adds : (all : List Word) (taken : Taken) (t : Timers) → may_stand all (known_of taken) (timers_said t) ≡ true → Adds all taken (lines.Timers t) (with_timers taken t)
-timers_adds all taken t h = record {
-  fit = allowed_some _ _ h;
-  lines = λ front are. record { happen = happen-head front taken (timers_said t) are refl; head = head-then front taken (timers_said t) are; start = are.start; named = are.named; distinct = are.distinct };
+abbrev with_start : Taken → Option Timers → HomesKept → List Word → Taken
+with_start taken timers homes links = record taken { timers = timers; homes = homes; links = links }
+
+-- what a line of the head makes of it
+record AddsHead (taken : Taken) (line : HeadLine) (timers : Option Timers) (homes : HomesKept) (links : List Word) : Type 0 where
+  known : known_in_head (known_of taken) (head_said line) ≡ known_of (with_start taken timers homes links)
+  head : with_head (head_taken taken) (head_said line) ≡ head_of timers (state_of homes) links
+  start : IsStart (state_of taken.homes) → IsStart (state_of homes)
+
+head_adds : (all : List Word) (taken : Taken) (line : HeadLine) (timers : Option Timers) (homes : HomesKept) (links : List Word) → may_stand all (known_of taken) (head_line (head_said line)) ≡ true
+    → AddsHead taken line timers homes links → Adds all taken (lines.Head line) (with_start taken timers homes links)
+head_adds all taken line timers homes links h added = record {
+  fit = allowed_some _ _ h ∙ ap (λ (known : Known). Some known) added.known;
+  lines = λ front are. record {
+    happen = happen-head front taken (head_line (head_said line)) are refl;
+    head = head-then front taken (head_line (head_said line)) are ∙ added.head;
+    start = added.start are.start;
+    named = are.named;
+    distinct = are.distinct;
+  };
 }
+
+timers_added : (taken : Taken) (t : Timers) → AddsHead taken (heads.Timers t) (Some t) taken.homes taken.links
+timers_added taken t = record { known = refl; head = refl; start = λ is. is }
 
 -- ---- a zone
 
@@ -102,19 +122,11 @@ one_new apex serial writable (suc k) d before = absurd (omega (arith, before))
 pub start_more : (start : State) (apex : Labels) (serial : ℕ) (writable : Bool) → IsStart start → IsStart (with_zone start (new_zone apex serial writable))
 start_more start apex serial writable is = record { zones = All-append IsNew start.zones (new_zone apex serial writable ∷ []) is.zones (one_new apex serial writable); links = is.links; now = is.now }
 
-abbrev with_homes : Taken → HomesKept → Taken
-with_homes taken homes = record taken { homes = homes }
-
-zone_adds : (all : List Word) (taken : Taken) (homes : HomesKept) (z : ZoneLine) → may_stand all (known_of taken) (zone_said z) ≡ true → HasZone taken.homes z homes → Adds all taken (lines.Zone z) (with_homes taken homes)
-zone_adds all taken homes z h has = record {
-  fit = allowed_some _ _ h ∙ ap (λ (names : List NamedHome). Some (record (known_of taken) { homes = names })) (sym has.named);
-  lines = λ front are. record {
-    happen = happen-head front taken (zone_said z) are refl;
-    head = head-then front taken (zone_said z) are ∙ ap (λ (s : State). head_of taken.timers s taken.links) (sym has.state);
-    start = subst IsStart (sym has.state) (start_more (state_of taken.homes) z.apex z.serial z.writable are.start);
-    named = are.named;
-    distinct = are.distinct;
-  };
+zone_added : (taken : Taken) (homes : HomesKept) (z : ZoneLine) → HasZone taken.homes z homes → AddsHead taken (heads.Zone z) taken.timers homes taken.links
+zone_added taken homes z has = record {
+  known = ap (λ (names : List NamedHome). record (known_of taken) { homes = names }) (sym has.named);
+  head = ap (λ (s : State). head_of taken.timers s taken.links) (sym has.state);
+  start = λ is. subst IsStart (sym has.state) (start_more (state_of taken.homes) z.apex z.serial z.writable is);
 }
 
 -- ---- a link
@@ -133,19 +145,11 @@ one_silent domain (suc k) d before = absurd (omega (arith, before))
 pub start_linked : (start : State) (domain : Labels) → IsStart start → IsStart (with_link start (silent_link domain))
 start_linked start domain is = record { zones = is.zones; links = All-append IsSilent start.links (silent_link domain ∷ []) is.links (one_silent domain); now = is.now }
 
-abbrev with_linked : Taken → HomesKept → Word → Taken
-with_linked taken homes w = record taken { homes = homes; links = taken.links ++ w ∷ [] }
-
-link_adds : (all : List Word) (taken : Taken) (homes : HomesKept) (l : LinkLine) → may_stand all (known_of taken) (link_said l) ≡ true → HasLink taken.homes l homes → Adds all taken (lines.Link l) (with_linked taken homes (string_bytes l.word))
-link_adds all taken homes l h has = record {
-  fit = allowed_some _ _ h ∙ ap (λ (names : List NamedHome). Some (record (known_of taken) { homes = names; links = taken.links ++ string_bytes l.word ∷ [] })) (sym has.named);
-  lines = λ front are. record {
-    happen = happen-head front taken (link_said l) are refl;
-    head = head-then front taken (link_said l) are ∙ ap (λ (s : State). head_of taken.timers s (taken.links ++ string_bytes l.word ∷ [])) (sym has.state);
-    start = subst IsStart (sym has.state) (start_linked (state_of taken.homes) l.domain are.start);
-    named = are.named;
-    distinct = are.distinct;
-  };
+link_added : (taken : Taken) (homes : HomesKept) (l : LinkLine) → HasLink taken.homes l homes → AddsHead taken (heads.Link l) taken.timers homes (taken.links ++ string_bytes l.word ∷ [])
+link_added taken homes l has = record {
+  known = ap (λ (names : List NamedHome). record (known_of taken) { homes = names; links = taken.links ++ string_bytes l.word ∷ [] }) (sym has.named);
+  head = ap (λ (s : State). head_of taken.timers s (taken.links ++ string_bytes l.word ∷ [])) (sym has.state);
+  start = λ is. subst IsStart (sym has.state) (start_linked (state_of taken.homes) l.domain is);
 }
 
 -- ---- an event
@@ -169,92 +173,40 @@ some-allowed false known = refl
 
 -- an event may stand there as its word may
 pub may-happen : (all : List Word) (taken : Taken) (e : Event) → may_stand all (known_of taken) (event_said e) ≡ may_follow all (known_by taken.links taken.clients) (event_said e)
-may-happen all taken (events.Update o) = refl
-may-happen all taken (events.Send s) = some-allowed _ _
-may-happen all taken events.Point = refl
-may-happen all taken (events.At t) = refl
-may-happen all taken (events.Stop s) = some-allowed _ _
-may-happen all taken (events.Cut c) = some-allowed _ _
-may-happen all taken (events.Client j) = some-allowed _ _
-may-happen all taken (events.Lone l) = some-allowed _ _
-may-happen all taken (events.Ask a) = some-allowed _ _
-may-happen all taken (events.Drop a) = some-allowed _ _
-may-happen all taken (events.Open o) = some-allowed _ _
-may-happen all taken (events.Say p) = some-allowed _ _
-may-happen all taken (events.Up p) = some-allowed _ _
-may-happen all taken (events.Emit p) = some-allowed _ _
-may-happen all taken (events.Down p) = some-allowed _ _
-may-happen all taken (events.Settle s) = some-allowed _ _
-may-happen all taken (events.Feed s) = some-allowed _ _
-may-happen all taken (events.Show s) = some-allowed _ _
-may-happen all taken (events.Hear s) = some-allowed _ _
-may-happen all taken (events.Reconfirm r) = some-allowed _ _
+may-happen all taken (events.Joining word is_lone) = some-allowed _ _
+may-happen all taken (events.Hub event) = refl
+may-happen all taken (events.Link word event) = some-allowed _ _
+may-happen all taken (events.Call word call) = some-allowed _ _
+may-happen all taken (events.Passing word way) = some-allowed _ _
+may-happen all taken (events.Client word event) = some-allowed _ _
+may-happen all taken (events.Session word event) = some-allowed _ _
 
 event_fits : (all : List Word) (taken : Taken) (e : Event) → is_some (fits all (known_of taken) (event_said e)) ≡ true → fits all (known_of taken) (event_said e) ≡ Some (known_of (with_event taken e))
-event_fits all taken (events.Update o) h = known_then taken (events.Update o) taken.clients (append-nil taken.clients)
-event_fits all taken (events.Send s) h = allowed_some _ _ h ∙ known_then taken (events.Send s) taken.clients (append-nil taken.clients)
-event_fits all taken events.Point h = known_then taken events.Point taken.clients (append-nil taken.clients)
-event_fits all taken (events.At t) h = known_then taken (events.At t) taken.clients (append-nil taken.clients)
-event_fits all taken (events.Stop s) h = allowed_some _ _ h ∙ known_then taken (events.Stop s) taken.clients (append-nil taken.clients)
-event_fits all taken (events.Cut c) h = allowed_some _ _ h ∙ known_then taken (events.Cut c) taken.clients (append-nil taken.clients)
-event_fits all taken (events.Client j) h = allowed_some _ _ h ∙ known_then taken (events.Client j) (taken.clients ++ (string_bytes j.word, false) ∷ []) refl
-event_fits all taken (events.Lone l) h = allowed_some _ _ h ∙ known_then taken (events.Lone l) (taken.clients ++ (string_bytes l.word, true) ∷ []) refl
-event_fits all taken (events.Ask a) h = allowed_some _ _ h ∙ known_then taken (events.Ask a) taken.clients (append-nil taken.clients)
-event_fits all taken (events.Drop a) h = allowed_some _ _ h ∙ known_then taken (events.Drop a) taken.clients (append-nil taken.clients)
-event_fits all taken (events.Open o) h = allowed_some _ _ h ∙ known_then taken (events.Open o) taken.clients (append-nil taken.clients)
-event_fits all taken (events.Feed s) h = allowed_some _ _ h ∙ known_then taken (events.Feed s) taken.clients (append-nil taken.clients)
-event_fits all taken (events.Show s) h = allowed_some _ _ h ∙ known_then taken (events.Show s) taken.clients (append-nil taken.clients)
-event_fits all taken (events.Say p) h = allowed_some _ _ h ∙ known_then taken (events.Say p) taken.clients (append-nil taken.clients)
-event_fits all taken (events.Up p) h = allowed_some _ _ h ∙ known_then taken (events.Up p) taken.clients (append-nil taken.clients)
-event_fits all taken (events.Emit p) h = allowed_some _ _ h ∙ known_then taken (events.Emit p) taken.clients (append-nil taken.clients)
-event_fits all taken (events.Down p) h = allowed_some _ _ h ∙ known_then taken (events.Down p) taken.clients (append-nil taken.clients)
-event_fits all taken (events.Settle s) h = allowed_some _ _ h ∙ known_then taken (events.Settle s) taken.clients (append-nil taken.clients)
-event_fits all taken (events.Hear s) h = allowed_some _ _ h ∙ known_then taken (events.Hear s) taken.clients (append-nil taken.clients)
-event_fits all taken (events.Reconfirm r) h = allowed_some _ _ h ∙ known_then taken (events.Reconfirm r) taken.clients (append-nil taken.clients)
+event_fits all taken (events.Joining word is_lone) h = allowed_some _ _ h ∙ known_then taken (events.Joining word is_lone) (taken.clients ++ (string_bytes word, is_lone) ∷ []) refl
+event_fits all taken (events.Hub event) h = known_then taken (events.Hub event) taken.clients (append-nil taken.clients)
+event_fits all taken (events.Link word event) h = allowed_some _ _ h ∙ known_then taken (events.Link word event) taken.clients (append-nil taken.clients)
+event_fits all taken (events.Call word call) h = allowed_some _ _ h ∙ known_then taken (events.Call word call) taken.clients (append-nil taken.clients)
+event_fits all taken (events.Passing word way) h = allowed_some _ _ h ∙ known_then taken (events.Passing word way) taken.clients (append-nil taken.clients)
+event_fits all taken (events.Client word event) h = allowed_some _ _ h ∙ known_then taken (events.Client word event) taken.clients (append-nil taken.clients)
+event_fits all taken (events.Session word event) h = allowed_some _ _ h ∙ known_then taken (events.Session word event) taken.clients (append-nil taken.clients)
 
 event_happens : (e : Event) → happening (event_said e ∷ []) ≡ event_said e ∷ []
-event_happens (events.Update o) = refl
-event_happens (events.Send s) = refl
-event_happens events.Point = refl
-event_happens (events.At t) = refl
-event_happens (events.Stop s) = refl
-event_happens (events.Cut c) = refl
-event_happens (events.Client j) = refl
-event_happens (events.Lone l) = refl
-event_happens (events.Ask a) = refl
-event_happens (events.Drop a) = refl
-event_happens (events.Open o) = refl
-event_happens (events.Feed s) = refl
-event_happens (events.Show s) = refl
-event_happens (events.Say p) = refl
-event_happens (events.Up p) = refl
-event_happens (events.Emit p) = refl
-event_happens (events.Down p) = refl
-event_happens (events.Settle s) = refl
-event_happens (events.Hear s) = refl
-event_happens (events.Reconfirm r) = refl
+event_happens (events.Joining word is_lone) = refl
+event_happens (events.Hub event) = refl
+event_happens (events.Link word event) = refl
+event_happens (events.Call word call) = refl
+event_happens (events.Passing word way) = refl
+event_happens (events.Client word event) = refl
+event_happens (events.Session word event) = refl
 
 event_heads : (head : Head) (e : Event) → with_head_line head (event_said e) ≡ head
-event_heads head (events.Update o) = refl
-event_heads head (events.Send s) = refl
-event_heads head events.Point = refl
-event_heads head (events.At t) = refl
-event_heads head (events.Stop s) = refl
-event_heads head (events.Cut c) = refl
-event_heads head (events.Client j) = refl
-event_heads head (events.Lone l) = refl
-event_heads head (events.Ask a) = refl
-event_heads head (events.Drop a) = refl
-event_heads head (events.Open o) = refl
-event_heads head (events.Feed s) = refl
-event_heads head (events.Show s) = refl
-event_heads head (events.Say p) = refl
-event_heads head (events.Up p) = refl
-event_heads head (events.Emit p) = refl
-event_heads head (events.Down p) = refl
-event_heads head (events.Settle s) = refl
-event_heads head (events.Hear s) = refl
-event_heads head (events.Reconfirm r) = refl
+event_heads head (events.Joining word is_lone) = refl
+event_heads head (events.Hub event) = refl
+event_heads head (events.Link word event) = refl
+event_heads head (events.Call word call) = refl
+event_heads head (events.Passing word way) = refl
+event_heads head (events.Client word event) = refl
+event_heads head (events.Session word event) = refl
 
 -- ---- the words of the clients
 
@@ -286,26 +238,13 @@ words-more : (clients : List (Word × Bool)) (line : ScriptLine) → words_known
 words-more clients line = map-append (λ (e : Word × Bool). e.0) clients (client_added line)
 
 words-added : (e : Event) → words_known (client_added (event_said e)) ≡ option_to_list (client_word (event_said e))
-words-added (events.Update o) = refl
-words-added (events.Send s) = refl
-words-added events.Point = refl
-words-added (events.At t) = refl
-words-added (events.Stop s) = refl
-words-added (events.Cut c) = refl
-words-added (events.Client j) = refl
-words-added (events.Lone l) = refl
-words-added (events.Ask a) = refl
-words-added (events.Drop a) = refl
-words-added (events.Open o) = refl
-words-added (events.Say p) = refl
-words-added (events.Up p) = refl
-words-added (events.Emit p) = refl
-words-added (events.Down p) = refl
-words-added (events.Settle s) = refl
-words-added (events.Feed s) = refl
-words-added (events.Show s) = refl
-words-added (events.Hear s) = refl
-words-added (events.Reconfirm r) = refl
+words-added (events.Joining word is_lone) = refl
+words-added (events.Hub event) = refl
+words-added (events.Link word event) = refl
+words-added (events.Call word call) = refl
+words-added (events.Passing word way) = refl
+words-added (events.Client word event) = refl
+words-added (events.Session word event) = refl
 
 words-then : (taken : Taken) (e : Event) → words_known (taken.clients ++ client_added (event_said e)) ≡ words_known taken.clients ++ option_to_list (client_word (event_said e))
 words-then taken e = words-more taken.clients (event_said e) ∙ ap (λ (ws : List Word). words_known taken.clients ++ ws) (words-added e)
@@ -314,26 +253,13 @@ distinct-new : (clients : List (Word × Bool)) (w : Word) → not (is_some (lone
 distinct-new clients w h d = distinct_push bytes_eq (words_known clients) w d (among-known clients w ∙ not_true (is_some (lone_in clients w)) h)
 
 distinct-more : (all : List Word) (taken : Taken) (e : Event) → may_follow all (known_by taken.links taken.clients) (event_said e) ≡ true → AreDistinct (words_known taken.clients) → AreDistinct (words_known taken.clients ++ option_to_list (client_word (event_said e)))
-distinct-more all taken (events.Client j) h d = distinct-new taken.clients (string_bytes j.word) h d
-distinct-more all taken (events.Lone l) h d = distinct-new taken.clients (string_bytes l.word) h d
-distinct-more all taken (events.Update o) h d = subst AreDistinct (sym (append-nil (words_known taken.clients))) d
-distinct-more all taken (events.Send s) h d = subst AreDistinct (sym (append-nil (words_known taken.clients))) d
-distinct-more all taken events.Point h d = subst AreDistinct (sym (append-nil (words_known taken.clients))) d
-distinct-more all taken (events.At t) h d = subst AreDistinct (sym (append-nil (words_known taken.clients))) d
-distinct-more all taken (events.Stop s) h d = subst AreDistinct (sym (append-nil (words_known taken.clients))) d
-distinct-more all taken (events.Cut c) h d = subst AreDistinct (sym (append-nil (words_known taken.clients))) d
-distinct-more all taken (events.Ask a) h d = subst AreDistinct (sym (append-nil (words_known taken.clients))) d
-distinct-more all taken (events.Drop a) h d = subst AreDistinct (sym (append-nil (words_known taken.clients))) d
-distinct-more all taken (events.Open o) h d = subst AreDistinct (sym (append-nil (words_known taken.clients))) d
-distinct-more all taken (events.Say p) h d = subst AreDistinct (sym (append-nil (words_known taken.clients))) d
-distinct-more all taken (events.Up p) h d = subst AreDistinct (sym (append-nil (words_known taken.clients))) d
-distinct-more all taken (events.Emit p) h d = subst AreDistinct (sym (append-nil (words_known taken.clients))) d
-distinct-more all taken (events.Down p) h d = subst AreDistinct (sym (append-nil (words_known taken.clients))) d
-distinct-more all taken (events.Settle s) h d = subst AreDistinct (sym (append-nil (words_known taken.clients))) d
-distinct-more all taken (events.Feed s) h d = subst AreDistinct (sym (append-nil (words_known taken.clients))) d
-distinct-more all taken (events.Show s) h d = subst AreDistinct (sym (append-nil (words_known taken.clients))) d
-distinct-more all taken (events.Hear s) h d = subst AreDistinct (sym (append-nil (words_known taken.clients))) d
-distinct-more all taken (events.Reconfirm r) h d = subst AreDistinct (sym (append-nil (words_known taken.clients))) d
+distinct-more all taken (events.Joining word is_lone) h d = distinct-new taken.clients (string_bytes word) h d
+distinct-more all taken (events.Hub event) h d = subst AreDistinct (sym (append-nil (words_known taken.clients))) d
+distinct-more all taken (events.Link word event) h d = subst AreDistinct (sym (append-nil (words_known taken.clients))) d
+distinct-more all taken (events.Call word call) h d = subst AreDistinct (sym (append-nil (words_known taken.clients))) d
+distinct-more all taken (events.Passing word way) h d = subst AreDistinct (sym (append-nil (words_known taken.clients))) d
+distinct-more all taken (events.Client word event) h d = subst AreDistinct (sym (append-nil (words_known taken.clients))) d
+distinct-more all taken (events.Session word event) h d = subst AreDistinct (sym (append-nil (words_known taken.clients))) d
 
 event_adds : (all : List Word) (taken : Taken) (e : Event) → may_stand all (known_of taken) (event_said e) ≡ true → Adds all taken (lines.Event e) (with_event taken e)
 event_adds all taken e h =
@@ -364,7 +290,10 @@ moved all taken same later line e adds = subst (λ (t : Taken). Adds all taken l
 
 pub adds : (all : List Word) (taken later : Taken) (line : Line) → may_stand all (known_of taken) (said line) ≡ true → GrowsBy taken line later → Adds all taken line later
 adds all taken later lines.Silent h grows = moved all taken taken later lines.Silent grows (silent_adds all taken)
-adds all taken later (lines.Timers t) h grows = moved all taken (with_timers taken t) later (lines.Timers t) grows (timers_adds all taken t h)
-adds all taken later (lines.Zone z) h grows = moved all taken (with_homes taken later.homes) later (lines.Zone z) grows.1 (zone_adds all taken later.homes z h grows.0)
-adds all taken later (lines.Link l) h grows = moved all taken (with_linked taken later.homes (string_bytes l.word)) later (lines.Link l) grows.1 (link_adds all taken later.homes l h grows.0)
+adds all taken later (lines.Head line) h grows = by line h grows
+  where
+    by : (line : HeadLine) → may_stand all (known_of taken) (head_line (head_said line)) ≡ true → HeadGrowsBy taken line later → Adds all taken (lines.Head line) later
+    by (heads.Timers t) h grows = moved all taken _ later (lines.Head (heads.Timers t)) grows (head_adds all taken (heads.Timers t) _ _ _ h (timers_added taken t))
+    by (heads.Zone z) h grows = moved all taken _ later (lines.Head (heads.Zone z)) grows.1 (head_adds all taken (heads.Zone z) _ _ _ h (zone_added taken later.homes z grows.0))
+    by (heads.Link l) h grows = moved all taken _ later (lines.Head (heads.Link l)) grows.1 (head_adds all taken (heads.Link l) _ _ _ h (link_added taken later.homes l grows.0))
 adds all taken later (lines.Event e) h grows = moved all taken (with_event taken e) later (lines.Event e) grows (event_adds all taken e h)

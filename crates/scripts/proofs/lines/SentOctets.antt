@@ -3,11 +3,11 @@
 --     read-name      the name that a word is read as is one
 --     written-by      the octets that a word stands for are none, or those of its digits
 --     sends-pass      the law: a test that the octets of every word pass
-use Rattle.std.proofs.Common.{◌≡◌, ℕ, ◌+◌, Bool, true, false, cond, ◌&&◌, ◌||◌, List, [], ◌∷◌, map, length, Option, Some, None, Result, Ok, Err, nat_lt, refl, sym, ◌∙◌, ap, subst, codes}
-use Rattle.std.specs.Prelude.{option_map, option_and_then, unwrap_or, ◌==◌}
+use Rattle.std.proofs.Common.{◌≡◌, ℕ, ◌+◌, Bool, true, false, cond, ◌&&◌, ◌||◌, List, [], ◌∷◌, map, length, Option, Some, None, IfSome, Result, Ok, Err, nat_lt, refl, sym, ◌∙◌, ap, subst, codes}
+use Rattle.std.specs.Prelude.{option_and_then, unwrap_or, ◌==◌}
 use Rattle.std.specs.List.{AllByRecursion, list_all}
 use Rattle.std.specs.Result.{result_ok}
-use Rattle.std.specs.Str.{bytes_eq, is_utf8}
+use Rattle.std.specs.Str.{bytes_eq}
 use Rattle.push_base.specs.Cases.{is_empty}
 use Rattle.push_base.specs.Optional.{◌>>=◌}
 use Rattle.push_base.specs.Hexadecimal.{hex_octets}
@@ -15,21 +15,47 @@ use Rattle.push_base.specs.declared.hexadecimal.HexFault.{HexFault}
 use Rattle.dnsname.specs.Names.{Labels, octets, is_name}
 use Rattle.dnsname.specs.Text.{name_of_text, labels_in_text}
 use Rattle.rrset.specs.declared.record.Question.{Question}
-use Rattle.rrset.specs.declared.record.Rr.{Rr}
-use Rattle.scripts.specs.Lines.{words_in, question, number16, of_word_and_question, reconfirm_line, Word, ScriptLine, silent, client, lone, update, hear, ask, drop_question, reconfirm, open_connection, cut, say, up, emit, down, settle, send, feed, point, word, octets_written, most_digits, of_octets, of_word_and_octets, kind_of, line_behind, of_words, line_of}
-use Rattle.scripts.specs.declared.line.Kind.{Kind}
-use Rattle.scripts.specs.declared.line.Kind.TheVariants as kinds
+use Rattle.scripts.specs.Lines.{question, number16, Word, ScriptLine, hub_event, link_event, client_call, client_event, session_event, ask, open_connection, send, feed, octets_written, most_digits, line_of}
+use Rattle.scripts.specs.declared.line.HubEvent.{HubEvent}
+use Rattle.scripts.specs.declared.line.HubEvent.TheVariants as hub_events
+use Rattle.scripts.specs.declared.line.LinkEvent.{LinkEvent}
+use Rattle.scripts.specs.declared.line.LinkEvent.TheVariants as link_events
+use Rattle.scripts.specs.declared.line.Call.{Call}
+use Rattle.scripts.specs.declared.line.Call.TheVariants as calls
+use Rattle.scripts.specs.declared.line.ClientEvent.{ClientEvent}
+use Rattle.scripts.specs.declared.line.ClientEvent.TheVariants as client_events
+use Rattle.scripts.specs.declared.line.SessionEvent.{SessionEvent}
+use Rattle.scripts.specs.declared.line.SessionEvent.TheVariants as session_events
 use Rattle.scripts.specs.Scripts.{Known, nothing_known, fits, with_line, lines_from, lines_in, lines_read, last_is_outside, client_words, max_script, script_of}
-use Rattle.scripts.proofs.lines.LineKinds.{if_none, bind_none, alone_none, word_none, word_number_none, word_question_none, timers_none, zone_none, link_none, at_none, stop_none, show_none}
+use Rattle.scripts.proofs.lines.Readers.{OnEach, alone_reads, word_reads, octets_reads, word_octets_reads, word_question_reads, at_reads, reconfirm_reads, stop_reads, show_reads, head_reads, joining_reads, way_reads, line-reads}
 
 -- the octets of an update or a datagram, those that a peer sends or a client is fed, those of the name that a client asks for, or those of the record that it doubts
+abbrev pub sent_to_hub : HubEvent → List (List ℕ)
+sent_to_hub (hub_events.Update octets) = octets ∷ []
+sent_to_hub _ = []
+
+abbrev pub sent_on_link : LinkEvent → List (List ℕ)
+sent_on_link (link_events.Hear octets) = octets ∷ []
+
+abbrev pub sent_by_call : Call → List (List ℕ)
+sent_by_call (calls.Ask question) = octets question.name ∷ []
+sent_by_call (calls.Drop question) = []
+sent_by_call (calls.Reconfirm rr) = octets rr.owner ∷ rr.rdata ∷ []
+
+abbrev pub sent_to_client : ClientEvent → List (List ℕ)
+sent_to_client (client_events.Feed octets) = octets ∷ []
+sent_to_client _ = []
+
+abbrev pub sent_to_session : SessionEvent → List (List ℕ)
+sent_to_session (session_events.Send octets) = octets ∷ []
+sent_to_session _ = []
+
 abbrev pub sent_by : ScriptLine → List (List ℕ)
-sent_by (update octets) = octets ∷ []
-sent_by (hear w octets) = octets ∷ []
-sent_by (send w octets) = octets ∷ []
-sent_by (feed w octets) = octets ∷ []
-sent_by (ask w question) = octets question.name ∷ []
-sent_by (reconfirm w rr) = octets rr.owner ∷ rr.rdata ∷ []
+sent_by (hub_event event) = sent_to_hub event
+sent_by (link_event w event) = sent_on_link event
+sent_by (client_call w call) = sent_by_call call
+sent_by (client_event w event) = sent_to_client event
+sent_by (session_event w event) = sent_to_session event
 sent_by _ = []
 
 -- ---- the octets that a word stands for
@@ -93,134 +119,64 @@ read-name (c ∷ d ∷ rest) name e = by (labels_in_text 128 (c ∷ d ∷ rest))
     by (Some n) e = by_test n (is_name n) refl e
 
 module _ (test : List ℕ → Bool) (written : (h octets : List ℕ) → octets_written h ≡ Some octets → test octets ≡ true) (named : (name : Labels) → is_name name ≡ true → test (octets name) ≡ true) where
-  -- a line of octets that fail, and nothing of any other
-  abbrev fails : ScriptLine → Option ScriptLine
-  fails (update o) = cond (test o) None (Some point)
-  fails (send w o) = cond (test o) None (Some point)
-  fails (feed w o) = cond (test o) None (Some point)
-  fails (hear w o) = cond (test o) None (Some point)
-  fails (ask w q) = cond (test (octets q.name)) None (Some point)
-  fails (reconfirm w rr) = cond (test (octets rr.owner) && test rr.rdata) None (Some point)
-  fails _ = None
+  abbrev Passes : ScriptLine → Type 0
+  Passes line = list_all test (sent_by line) ≡ true
 
-  -- octets that were read
-  read_none : (h o : List ℕ) → octets_written h ≡ Some o → cond {A = Option ScriptLine} (test o) None (Some point) ≡ None
-  read_none h o e = ap (λ b. cond b None (Some point)) (written h o e)
+  one : (o : List ℕ) → test o ≡ true → list_all test (o ∷ []) ≡ true
+  one o h = ap (λ b. b && true) h
 
-  update_none : (ws : List Word) → (of_octets update ws >>= fails) ≡ None
-  update_none [] = refl
-  update_none (h ∷ []) = by (octets_written h) refl
+  two : (a b : List ℕ) → test a ≡ true → test b ≡ true → list_all test (a ∷ b ∷ []) ≡ true
+  two a b h k = λ i. h i && (k i && true)
+
+  -- the name of a question that was read
+  asked : (n k c : Word) (q : Question) → question n k c ≡ Some q → test (octets q.name) ≡ true
+  asked n k c q e = subst (IfSomePasses) e (by (name_of_text n) refl (number16 k) (number16 c))
     where
-      by : (o : Option (List ℕ)) → octets_written h ≡ o → (option_map (λ octets. update octets) o >>= fails) ≡ None
-      by None e = refl
-      by (Some octets) e = read_none h octets e
-  update_none (h ∷ v ∷ ws) = refl
+      IfSomePasses : Option Question → Type 0
+      IfSomePasses o = IfSome o (λ r. test (octets r.name) ≡ true)
 
-  -- a word, and octets that were read
-  octets_none : (line : Word → List ℕ → ScriptLine) → ((p : Word) (o : List ℕ) → fails (line p o) ≡ cond {A = Option ScriptLine} (test o) None (Some point)) → (ws : List Word) → (of_word_and_octets line ws >>= fails) ≡ None
-  octets_none line is [] = refl
-  octets_none line is (w ∷ []) = refl
-  octets_none line is (w ∷ h ∷ []) = bind_none fails (word w) _ (λ p. by p (octets_written h) refl)
-    where
-      by : (p : Word) (o : Option (List ℕ)) → octets_written h ≡ o → ((o >>= λ octets. Some (line p octets)) >>= fails) ≡ None
-      by p None e = refl
-      by p (Some octets) e = is p octets ∙ read_none h octets e
-  octets_none line is (w ∷ h ∷ v ∷ ws) = refl
+      by : (o : Option Labels) → name_of_text n ≡ o → (a b : Option ℕ) → IfSomePasses (o >>= λ name. a >>= λ kind. b >>= λ class. Some (question_as name kind class))
+      by None is a b = tt
+      by (Some name) is None b = tt
+      by (Some name) is (Some kind) None = tt
+      by (Some name) is (Some kind) (Some class) = named name (read-name n name is)
 
-  name_fails : (p : Word) (n k c : Word) → ((question n k c >>= λ q. Some (ask p q)) >>= fails) ≡ None
-  name_fails p n k c = by (name_of_text n) refl (number16 k) (number16 c)
-    where
-      by : (o : Option Labels) → name_of_text n ≡ o → (a b : Option ℕ)
-          → (((o >>= λ name. a >>= λ kind. b >>= λ class. Some (question_as name kind class)) >>= λ q. Some (ask p q)) >>= fails) ≡ None
-      by None e a b = refl
-      by (Some name) e None b = refl
-      by (Some name) e (Some kind) None = refl
-      by (Some name) e (Some kind) (Some class) = ap (λ b. cond {A = Option ScriptLine} b None (Some point)) (named name (read-name n name e))
+  each_passes : (w : Word) (ws : List Word) → OnEach Passes w ws
+  each_passes w ws = record {
+    on_head = head_reads Passes (λ line. refl) w ws;
+    on_hub = (at_reads Passes (λ v t is. refl) ws, (octets_reads Passes (λ o. hub_event (hub_events.Update o)) (λ v o is. one o (written v o is)) ws, (alone_reads Passes (hub_event hub_events.Point) refl ws, tt)));
+    on_link = (word_octets_reads Passes (λ v o. link_event v (link_events.Hear o)) (λ v u is x o at. one o (written x o at)) ws, tt);
+    on_session = (
+      word_octets_reads Passes send (λ v u is x o at. one o (written x o at)) ws,
+      (stop_reads Passes (λ v u is x rcode at y delay there. refl) ws, (word_reads Passes (λ v. session_event v session_events.Cut) (λ v u is. refl) ws, tt)),
+    );
+    on_joining = joining_reads Passes (λ u is_lone. refl) w ws;
+    on_call = (
+      word_question_reads Passes ask (λ v u is n k c q at. one (octets q.name) (asked n k c q at)) ws,
+      (
+        word_question_reads Passes (λ v q. client_call v (calls.Drop q)) (λ v u is n k c q at. refl) ws,
+        (reconfirm_reads Passes (λ v u is n k c q at x rdata there. two (octets q.name) rdata (asked n k c q at) (written x rdata there)) ws, tt),
+      ),
+    );
+    on_way = way_reads Passes (λ u way. refl) w ws;
+    on_client = (
+      word_reads Passes open_connection (λ v u is. refl) ws,
+      (word_octets_reads Passes feed (λ v u is x o at. one o (written x o at)) ws, (show_reads Passes (λ v u is n k c q at. refl) ws, tt)),
+    );
+  }
 
-  ask_none : (ws : List Word) → (of_word_and_question ask ws >>= fails) ≡ None
-  ask_none [] = refl
-  ask_none (w ∷ []) = refl
-  ask_none (w ∷ n ∷ []) = refl
-  ask_none (w ∷ n ∷ k ∷ []) = refl
-  ask_none (w ∷ n ∷ k ∷ c ∷ []) = bind_none fails (word w) _ (λ p. name_fails p n k c)
-  ask_none (w ∷ n ∷ k ∷ c ∷ v ∷ ws) = refl
-
-  abbrev rr_as : Labels → ℕ → ℕ → List ℕ → Rr
-  rr_as name kind class rdata = record { owner = name; class = class; kind = kind; ttl = 0; rdata = rdata }
-
-  both_pass : (a b : Bool) → a ≡ true → b ≡ true → cond {A = Option ScriptLine} (a && b) None (Some point) ≡ None
-  both_pass true true h k = refl
-  both_pass true false h k = absurd cc
-  both_pass false b h k = absurd cc
-
-  record_fails : (p n k c h : Word) → ((question n k c >>= λ q. octets_written h >>= λ rdata. Some (reconfirm p (rr_as q.name q.kind q.class rdata))) >>= fails) ≡ None
-  record_fails p n k c h = by (name_of_text n) refl (number16 k) (number16 c) (octets_written h) refl
-    where
-      by : (o : Option Labels) → name_of_text n ≡ o → (a b : Option ℕ) (r : Option (List ℕ)) → octets_written h ≡ r
-          → (((o >>= λ name. a >>= λ kind. b >>= λ class. Some (question_as name kind class)) >>= λ q. r >>= λ rdata. Some (reconfirm p (rr_as q.name q.kind q.class rdata))) >>= fails) ≡ None
-      by None e a b r f = refl
-      by (Some name) e None b r f = refl
-      by (Some name) e (Some kind) None r f = refl
-      by (Some name) e (Some kind) (Some class) None f = refl
-      by (Some name) e (Some kind) (Some class) (Some rdata) f = both_pass (test (octets name)) (test rdata) (named name (read-name n name e)) (written h rdata f)
-
-  record_none : (ws : List Word) → (reconfirm_line ws >>= fails) ≡ None
-  record_none [] = refl
-  record_none (w ∷ []) = refl
-  record_none (w ∷ n ∷ []) = refl
-  record_none (w ∷ n ∷ k ∷ []) = refl
-  record_none (w ∷ n ∷ k ∷ c ∷ []) = refl
-  record_none (w ∷ n ∷ k ∷ c ∷ h ∷ []) = bind_none fails (word w) _ (λ p. record_fails p n k c h)
-  record_none (w ∷ n ∷ k ∷ c ∷ h ∷ v ∷ ws) = refl
-
-  behind_none : (kind : Kind) (ws : List Word) → (line_behind kind ws >>= fails) ≡ None
-  behind_none kinds.Timers ws = timers_none fails (λ i k. refl) ws
-  behind_none kinds.Zone ws = zone_none fails (λ n s b. refl) ws
-  behind_none kinds.Link ws = link_none fails (λ v n. refl) ws
-  behind_none kinds.At ws = at_none fails (λ t. refl) ws
-  behind_none kinds.Update ws = update_none ws
-  behind_none kinds.Hear ws = octets_none hear (λ p o. refl) ws
-  behind_none kinds.Send ws = octets_none send (λ p o. refl) ws
-  behind_none kinds.Stop ws = stop_none fails (λ v r d. refl) ws
-  behind_none kinds.Cut ws = word_none fails cut (λ v. refl) ws
-  behind_none kinds.Point ws = alone_none fails point refl ws
-  behind_none kinds.Client ws = word_none fails client (λ v. refl) ws
-  behind_none kinds.Lone ws = word_none fails lone (λ v. refl) ws
-  behind_none kinds.Open ws = word_none fails open_connection (λ v. refl) ws
-  behind_none kinds.Ask ws = ask_none ws
-  behind_none kinds.Drop ws = word_question_none fails drop_question (λ v q. refl) ws
-  behind_none kinds.Reconfirm ws = record_none ws
-  behind_none kinds.Say ws = word_number_none fails say (λ v n. refl) ws
-  behind_none kinds.Up ws = word_number_none fails up (λ v n. refl) ws
-  behind_none kinds.Emit ws = word_number_none fails emit (λ v n. refl) ws
-  behind_none kinds.Down ws = word_number_none fails down (λ v n. refl) ws
-  behind_none kinds.Settle ws = word_none fails settle (λ v. refl) ws
-  behind_none kinds.Feed ws = octets_none feed (λ p o. refl) ws
-  behind_none kinds.Show ws = show_none fails (λ v q n. refl) ws
-  behind_none kinds.Other ws = refl
-
-  words_none : (ws : List Word) → (of_words ws >>= fails) ≡ None
-  words_none [] = refl
-  words_none (w ∷ ws) = behind_none (kind_of w) ws
-
-  line_none : (text : List ℕ) → (line_of text >>= fails) ≡ None
-  line_none [] = refl
-  line_none (c ∷ cs) =
-      if_none fails (c == 35) (cond (is_utf8 cs) (Some silent) None) (of_words (words_in (c ∷ cs))) (if_none fails (is_utf8 cs) (Some silent) None refl refl)
-      (words_none (words_in (c ∷ cs)))
+  abbrev IsFree : Option ScriptLine → Type 0
+  IsFree o = IfSome o Passes
 
   -- ---- the lines of a script
 
-  abbrev IsFree : Option ScriptLine → Type 0
-  IsFree o = (o >>= fails) ≡ None
-
   all_free : (texts : List (List ℕ)) → AllByRecursion IsFree (map line_of texts)
   all_free [] = tt
-  all_free (t ∷ ts) = (line_none t, all_free ts)
+  all_free (t ∷ ts) = (line-reads Passes refl each_passes t, all_free ts)
 
   last_free : (os : List (Option ScriptLine)) → AllByRecursion IsFree os → AllByRecursion IsFree (last_is_outside os)
   last_free [] all = tt
-  last_free (o ∷ []) all = (refl, tt)
+  last_free (o ∷ []) all = (tt, tt)
   last_free (o ∷ p ∷ os) all = (all.0, last_free (p ∷ os) all.1)
 
   read_free : (text : List ℕ) → AllByRecursion IsFree (lines_read text)
@@ -229,33 +185,6 @@ module _ (test : List ℕ → Bool) (written : (h octets : List ℕ) → octets_
       by : (b : Bool) → AllByRecursion IsFree (cond b (last_is_outside (map line_of (lines_in text))) (map line_of (lines_in text)))
       by true = last_free (map line_of (lines_in text)) (all_free (lines_in text))
       by false = all_free (lines_in text)
-
-  abbrev Passes : ScriptLine → Type 0
-  Passes line = list_all test (sent_by line) ≡ true
-
-  tested : (o : List ℕ) → cond (test o) None (Some point) ≡ None → test o ≡ true
-  tested o e = by (test o) refl e
-    where
-      by : (b : Bool) → test o ≡ b → cond b None (Some point) ≡ None → test o ≡ true
-      by true is e = is
-      by false is e = absurd cc
-
-  one : (o : List ℕ) → cond (test o) None (Some point) ≡ None → list_all test (o ∷ []) ≡ true
-  one o e = ap (λ b. b && true) (tested o e)
-
-  two : (a b : Bool) → cond {A = Option ScriptLine} (a && b) None (Some point) ≡ None → (a && (b && true)) ≡ true
-  two true true e = refl
-  two true false e = absurd cc
-  two false b e = absurd cc
-
-  passes : (line : ScriptLine) → fails line ≡ None → Passes line
-  passes (send w o) e = one o e
-  passes (feed w o) e = one o e
-  passes (hear w o) e = one o e
-  passes (update o) e = one o e
-  passes (ask w q) e = one (octets q.name) e
-  passes (reconfirm w rr) e = two (test (octets rr.owner)) (test rr.rdata) e
-  passes _ e = refl
 
   from_free : (all : List Word) (known : Known) (n : ℕ) (os : List (Option ScriptLine)) (lines : List ScriptLine) → AllByRecursion IsFree os → lines_from all known n os ≡ done lines → AllByRecursion Passes lines
   from_free all known n [] lines free e = subst (AllByRecursion Passes) (ap (lines_or []) e) tt
@@ -267,7 +196,7 @@ module _ (test : List ℕ → Bool) (written : (h octets : List ℕ) → octets_
 
       behind : Rest → (later : Known) (r : Result (List ScriptLine) ℕ) → lines_from all later (n + 1) os ≡ r → with_line line r ≡ done lines → AllByRecursion Passes lines
       behind rest later (Err m) is e = absurd cc
-      behind rest later (Ok more) is e = subst (AllByRecursion Passes) (ap (lines_or []) e) (passes line free.0, rest later more is)
+      behind rest later (Ok more) is e = subst (AllByRecursion Passes) (ap (lines_or []) e) (free.0, rest later more is)
 
       by : Rest → (o : Option Known) → (elim o as (λ _. Result (List ScriptLine) ℕ) [ None ↦ Err n | Some later ↦ with_line line (lines_from all later (n + 1) os) ]) ≡ done lines → AllByRecursion Passes lines
       by rest None e = absurd cc

@@ -4,10 +4,14 @@ use Rattle.std.specs.List.{position, position_from, onto_first}
 use Rattle.std.proofs.lemmas.Bool.{cases_Bool}
 use Rattle.std.proofs.lemmas.List.{take_rest}
 use Rattle.std.proofs.lemmas.Iterator.Adapters.{position_from-zero}
-use Rattle.scripts.specs.Lines.{words_in, Word, point, alone as no_words, line_behind}
+use Rattle.scripts.specs.Lines.{words_in, Word, ScriptLine, hub_event, alone, line_behind}
+use Rattle.scripts.specs.declared.line.HubEvent.TheVariants as hub_events
 use Rattle.scripts.specs.declared.line.Kind.{Kind}
 use Rattle.scripts.specs.declared.line.Kind.TheVariants as kinds
 use Rattle.scripts.specs.KeptLines.{one_in, two_in, three_in, four_in, five_in}
+
+abbrev point : ScriptLine
+point = hub_event hub_events.Point
 
 abbrev is_space : ℕ → Bool
 is_space octet = octet == 32
@@ -47,18 +51,18 @@ word_at octets n h =
     ∙ ap (λ k. take k octets ∷ words_in (drop (k + 1) octets)) same
     ∙ ap (λ l. take n octets ∷ words_in l) (sym (take_rest octets (n + 1)))
 
-alone : (i : ℕ) (octets : List ℕ) → position_from is_space i octets ≡ None → words_in octets ≡ octets ∷ []
-alone i [] h = refl
-alone i (x ∷ xs) h = elim (cases_Bool (is_space x)) [
+one_word : (i : ℕ) (octets : List ℕ) → position_from is_space i octets ≡ None → words_in octets ≡ octets ∷ []
+one_word i [] h = refl
+one_word i (x ∷ xs) h = elim (cases_Bool (is_space x)) [
   | inl end ↦ let found : Some i ≡ None = sym (ap (λ b. cond b (Some i) (position_from is_space (i + 1) xs)) end) ∙ h in cc found
   | inr on ↦
-      let rest = alone (i + 1) xs (sym (ap (λ b. cond b (Some i) (position_from is_space (i + 1) xs)) on) ∙ h) in
+      let rest = one_word (i + 1) xs (sym (ap (λ b. cond b (Some i) (position_from is_space (i + 1) xs)) on) ∙ h) in
       ap (λ b. cond b ([] ∷ words_in xs) (onto_first x (words_in xs))) on ∙ ap (onto_first x) rest
 ]
 
 -- without a space there is one word
 pub word_alone : (octets : List ℕ) → None ≡ position is_space octets → words_in octets ≡ octets ∷ []
-word_alone octets h = alone 0 octets (sym (h ∙ position_from-zero is_space octets))
+word_alone octets h = one_word 0 octets (sym (h ∙ position_from-zero is_space octets))
 
 -- ---- lines with too many words, or too few
 
@@ -100,15 +104,12 @@ two_of_more a text ws n e h = ap two_in e ∙ two_parts (λ rest. two_in (a ∷ 
 pub one_of_more : (text : List ℕ) (n : ℕ) → Some n ≡ position is_space text → one_in (words_in text) ≡ None
 one_of_more text n h = two_parts one_in (λ v w ws. refl) text n h
 
--- a point line has none
-no_point : (ws : List Word) → 0 < length ws → no_words point ws ≡ None
+-- a point line has no words behind its first
+no_point : (ws : List Word) → 0 < length ws → alone point ws ≡ None
 no_point [] some = absurd (omega arith)
 no_point (w ∷ ws) some = refl
 
-point_of_more : (text : List ℕ) → no_words point (words_in text) ≡ None
-point_of_more text = no_point (words_in text) (some_words text)
-
--- a point line says nothing with words behind its first, nor does a line outside the grammar
+-- nor does a line outside the grammar say anything
 pub nothing_behind : (kind : Kind) (text : List ℕ) → (kind ≡ kinds.Point) ⊎ (kind ≡ kinds.Other) → None ≡ line_behind kind (words_in text)
-nothing_behind kind text (inl is_point) = sym (ap (λ (k : Kind). line_behind k (words_in text)) is_point ∙ point_of_more text)
+nothing_behind kind text (inl is_point) = sym (ap (λ (k : Kind). line_behind k (words_in text)) is_point ∙ no_point (words_in text) (some_words text))
 nothing_behind kind text (inr other) = sym (ap (λ (k : Kind). line_behind k (words_in text)) other)

@@ -1,5 +1,5 @@
 use Rattle.std.proofs.Common.{◌≡◌, ◌∙◌, ap, subst, IfOk, string_bytes}
-use Rattle.replay.specs.Reply.{line}
+use Rattle.scripts.specs.Words.{line}
 use Rattle.big_scripts.specs.Replies.{summary_of}
 use Rattle.big_scripts.specs.declared.sums.Sums.{Sums}
 use Rattle.big_scripts.proofs.Telling.{line_is}

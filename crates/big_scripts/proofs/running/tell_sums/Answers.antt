@@ -1,7 +1,7 @@
 use Rattle.std.proofs.Common.{refl, ◌∙◌}
 use Rattle.replay.specs.TextWords.{by_notices}
-use Rattle.replay.specs.Reply.{In_full}
-use Rattle.replay.proofs.replies.Written.{answered, starved_is}
+use Rattle.scripts.specs.Reply.{In_full}
+use Rattle.scripts.proofs.Written.{answered, starved_is}
 use Rattle.big_scripts.specs.Replies.{reply_to_number}
 use Rattle.big_scripts.proofs.running.tell_sums.Goals as goal
 

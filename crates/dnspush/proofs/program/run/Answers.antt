@@ -1,5 +1,5 @@
 use Rattle.std.proofs.Common.{Some, None, sym, ◌∙◌, ap}
-use Rattle.scripts.proofs.ReadAndWritten.{lost_none}
+use Rattle.scripts.proofs.ReadPieces.{lost_none}
 use Rattle.dnspush.specs.Command.{asked}
 use Rattle.dnspush.proofs.Running.{usage_answered, input_answered, path_answered, number_answered}
 use Rattle.dnspush.proofs.Promises.{none_asked, number_asks_none, server_asks_none, subscriber_asks_none, served_answered, asked_answered, pieces_answered, fed_answered, promises_kept}

@@ -4,7 +4,7 @@ use Rattle.std.specs.Prelude.{IfOk}
 use Rattle.dnsname.specs.Names.{Labels}
 use Rattle.zoneupdate.specs.Zones.{ZoneState}
 use Rattle.zoneupdate.specs.Updates.{judged}
-use Rattle.zoneupdate.specs.Keeping.{IsUnder, Judges}
+use Rattle.zoneupdate.specs.KeptZones.{IsUnder, Judges}
 use Rattle.history.proofs.updating.check_anew.Goals as goal
 
 pub returns-clause-verdict : goal.returns-clause-verdict

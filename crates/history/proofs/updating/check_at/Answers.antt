@@ -1,5 +1,5 @@
 -- The zone has its records, and the room that was made.
-use Rattle.zoneupdate.specs.Keeping.{ZoneKept}
+use Rattle.zoneupdate.specs.KeptZones.{ZoneKept}
 use Rattle.history.proofs.Elements.{map-kept}
 use Rattle.history.proofs.ZoneSlots.{room-here}
 use Rattle.history.proofs.updating.check_at.Goals as goal

@@ -1,6 +1,6 @@
 -- The update gets what the zone that it names gets.
 use Rattle.std.proofs.Common.{sym, ap, subst, ◌∙◌}
-use Rattle.zoneupdate.specs.Keeping.{HasRoom}
+use Rattle.zoneupdate.specs.KeptZones.{HasRoom}
 use Rattle.history.specs.States.{zone_asked}
 use Rattle.history.proofs.CheckedZones.{JudgesAt, checked-none, checked-refused, checked-accepted, room-at}
 use Rattle.history.proofs.updating.check_zones.Goals as goal

@@ -1,5 +1,5 @@
 use Rattle.std.proofs.Common.{◌≡◌, ◌++◌, filter, map, take}
-use Rattle.zoneupdate.specs.Keeping.{lies_under}
+use Rattle.zoneupdate.specs.KeptZones.{lies_under}
 use Rattle.history.proofs.updating.put_zones_under.Given as goal
 
 abbrev pub invariant-zones : goal.invariant-zones

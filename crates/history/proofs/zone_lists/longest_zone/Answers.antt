@@ -1,6 +1,6 @@
 -- One zone more has been looked at.
 use Rattle.std.proofs.Common.{[], None}
-use Rattle.zoneupdate.specs.Keeping.{ZoneKept}
+use Rattle.zoneupdate.specs.KeptZones.{ZoneKept}
 use Rattle.history.proofs.LongestTurns.{Next, turn-longer, turn-other, turn-short}
 use Rattle.history.proofs.zone_lists.longest_zone.Goals as goal
 use Rattle.history.proofs.zone_lists.longest_zone.Goals.{then-octets-most+then-ends_in, else-octets-most, else-octets-most-via-then-octets-most+else-ends_in, else-octets-most-via-else-octets-most}

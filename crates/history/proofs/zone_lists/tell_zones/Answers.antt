@@ -1,5 +1,5 @@
 -- Each name is one.
-use Rattle.zoneupdate.specs.Keeping.{ZoneKept}
+use Rattle.zoneupdate.specs.KeptZones.{ZoneKept}
 use Rattle.history.proofs.TellingNames.{named-turn}
 use Rattle.history.proofs.zone_lists.tell_zones.Goals as goal
 

@@ -1,5 +1,5 @@
 use Rattle.std.proofs.Common.{drop}
-use Rattle.zoneupdate.specs.Keeping.{ZoneKept}
+use Rattle.zoneupdate.specs.KeptZones.{ZoneKept}
 use Rattle.history.proofs.TellingNames.{AreNamed}
 use Rattle.history.proofs.zone_lists.tell_zones.Given as goal
 

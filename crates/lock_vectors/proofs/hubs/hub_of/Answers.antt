@@ -2,7 +2,7 @@
 use Rattle.std.proofs.Common.{◌≡◌, ℕ, zero, suc, false, [], ◌∷◌, ◌++◌, refl, sym, ap, subst, ◌∙◌, arith}
 use Rattle.std.specs.Prelude.{All}
 use Rattle.dnsname.specs.Names.{Labels}
-use Rattle.zoneupdate.specs.Keeping.{ZoneKept}
+use Rattle.zoneupdate.specs.KeptZones.{ZoneKept}
 use Rattle.zoneupdate.specs.Zones.{ZoneState, new_zone}
 use Rattle.history.specs.Kept.{HomesKept, state_of}
 use Rattle.history.specs.Plans.{IsStart}

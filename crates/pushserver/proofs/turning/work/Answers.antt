@@ -10,9 +10,9 @@ use Rattle.pushserver.proofs.turning.work.Goals.{in-Itself, in-Reconfirm-None, i
 
 pub returns-in_default-clause-ok : goal.returns-in_default-clause-ok
 returns-in_default-clause-ok c = λ kept number seat.
-    packed-gave number kept c.args.session.now seat.there seat.apart c.requires.live c.requires.silent c.args.index.now.rows c.now-now.result c.hand_on.result c.args.buf.now c.hand_on.new.buf c.pack.new.self c.hand_on.new.session
+    packed-gave number kept c.args.session.now seat.there seat.apart c.requires.live c.requires.silent c.args.index.now.rows c.now-now.result c.copy_output.result c.args.buf.now c.copy_output.new.buf c.pack.new.self c.copy_output.new.session
     (sym c.in_ok-request.ensures.request ∙ c.in_default.is) seat.rows_is (moment-is kept c.args.points.now.past c.now-now.result seat.past_is c.now-now.ensures) c.pack.ensures
-    (record { given_is = c.hand_on.ensures.given; octets = c.hand_on.ensures.octets; session = c.hand_on.ensures.session })
+    (record { given_is = c.copy_output.ensures.given; octets = c.copy_output.ensures.octets; session = c.copy_output.ensures.session })
 
 pub subscribe-requires-clause-told : goal.subscribe-requires-clause-told
 subscribe-requires-clause-told c = can_be_told c.in-Subscribe.question c.has_home-has_home.result c.args.index.now.rows c.requires.told

@@ -1,8 +1,8 @@
 use Rattle.std.proofs.Common.{Err, ◌∙◌, ap, refl}
 use Rattle.replay.specs.Checks.{checked}
 use Rattle.scripts.specs.Sources.{front_read}
-use Rattle.replay.specs.Outcomes.{status_of}
-use Rattle.replay.proofs.replies.Written.{answered, always, unread_is, starved_is, replied}
+use Rattle.scripts.specs.Outcomes.{status_of}
+use Rattle.scripts.proofs.Written.{answered, always, unread_is, starved_is, replied}
 use Rattle.replay.proofs.checking.check.Goals as goal
 
 pub returns-in-Err-Failed-clause-replied : goal.returns-in-Err-Failed-clause-replied

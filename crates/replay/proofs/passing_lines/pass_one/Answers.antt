@@ -1,7 +1,7 @@
 use Rattle.replay.specs.KeptWorlds.{seat_kept}
-use Rattle.replay.specs.KeptPassings.{passes_way}
 use Rattle.replay.proofs.passings.Endings.{ends-made}
 use Rattle.replay.proofs.passing_lines.pass_one.Goals as goal
+use Rattle.replay.specs.Text.{passes_way}
 
 pub returns : goal.returns
 returns c = ends-made (passes_way c.args.way) c.args.hub.now c.pass_by.new.hub c.finish-closing.new.hub (seat_kept c.args.seat.now) (seat_kept c.pass_by.new.seat) (seat_kept c.finish-closing.new.seat) c.in_ok-passage.passage.count c.in_ok-passage.passage.over

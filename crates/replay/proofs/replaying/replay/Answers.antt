@@ -3,8 +3,8 @@ use Rattle.replay.specs.TextWords.{by_notices}
 use Rattle.scripts.specs.Sources.{front_read}
 use Rattle.replay.specs.ScriptReplies.{reply_to_script}
 use Rattle.replay.specs.KeptEnds.{AreEnds, ends_with}
-use Rattle.replay.specs.Outcomes.{status_of}
-use Rattle.replay.proofs.replies.Written.{answered, always, unread_is, starved_is, replied, replied_as}
+use Rattle.scripts.specs.Outcomes.{status_of}
+use Rattle.scripts.proofs.Written.{answered, always, unread_is, starved_is, replied, replied_as}
 use Rattle.replay.proofs.endings.EndsKept.{left-there, left-none, left-are, none-are}
 use Rattle.replay.proofs.replaying.replay.Goals as goal
 

@@ -1,5 +1,5 @@
 use Rattle.replay.specs.KeptWorlds.{seat_kept}
-use Rattle.replay.specs.declared.settling.Way.TheVariants as ways
+use Rattle.scripts.specs.declared.line.Way.TheVariants as ways
 use Rattle.replay.proofs.passings.Passings.{way-passes, way-settles}
 use Rattle.replay.proofs.settling.pass.Goals as goal
 

@@ -1,5 +1,5 @@
 use Rattle.std.proofs.lemmas.Str.{is_utf8-from_IsUtf8}
-use Rattle.scripts.proofs.lines.LineKinds.{comment_inside, comment_outside}
+use Rattle.scripts.proofs.lines.Readers.{comment_inside, comment_outside}
 use Rattle.scripts.proofs.line.comment_line.Goals as goal
 
 pub returns-in-Ok : goal.returns-in-Ok

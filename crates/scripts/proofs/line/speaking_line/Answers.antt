@@ -4,7 +4,7 @@ use Rattle.scripts.specs.Lines.{words_in, ScriptLine, line_behind}
 use Rattle.scripts.specs.KeptLines.{said}
 use Rattle.scripts.specs.declared.line.Kind.{Kind}
 use Rattle.scripts.specs.declared.line.Line.{Line}
-use Rattle.scripts.proofs.lines.LineKinds.{line_by_kind}
+use Rattle.scripts.proofs.lines.Readers.{line_by_kind}
 use Rattle.scripts.proofs.line.speaking_line.Goals as goal
 
 pub returns-in-Some : goal.returns-in-Some

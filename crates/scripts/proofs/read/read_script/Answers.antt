@@ -1,7 +1,7 @@
 use Rattle.std.proofs.Common.{◌≡◌, ◌≤◌, ◌++◌, Some, IfSome, sym, subst, ◌∙◌, ap, take, drop, length, length-append, length-take, arith}
 use Rattle.std.specs.Io.KnownBytes.{prepend_known}
 use Rattle.scripts.specs.Sources.{front_read, left_behind}
-use Rattle.scripts.proofs.ReadAndWritten.{read_all, read_most, rest_all, rest_most, lost_most, read_nothing, read_more, gave_more}
+use Rattle.scripts.proofs.ReadPieces.{read_all, read_most, rest_all, rest_most, lost_most, read_nothing, read_more, gave_more}
 use Rattle.scripts.proofs.read.read_script.Goals as goal
 use Rattle.scripts.proofs.read.read_script.Goals.{else-loop-buf-test, then-loop-buf-test+in_ok-count+then-count-eq0}
 

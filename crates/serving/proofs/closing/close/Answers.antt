@@ -3,12 +3,11 @@ use Rattle.std.specs.Prelude.{OnOk, IsErrOf, false}
 use Rattle.std.specs.declared.option.Option.{Option}
 use Rattle.std.specs.List.{list_any}
 use Rattle.std.proofs.lemmas.List.{length-map}
-use Rattle.history.specs.declared.entry.Totals.{Totals}
 use Rattle.hublock.specs.Feeds.{each, parts_each}
-use Rattle.hublock.specs.declared.ends.LoopEnd.{LoopEnd}
-use Rattle.serving.specs.declared.ends.Cause.{Cause}
-use Rattle.serving.specs.declared.ends.Fault.TheVariants as faults
-use Rattle.serving.specs.declared.ends.ServeEnd.{ServeEnd}
+use Rattle.hublock.specs.declared.loop_end.LoopEnd.{LoopEnd}
+use Rattle.serving.specs.declared.serve_end.Cause.{Cause}
+use Rattle.serving.specs.declared.serve_end.Fault.TheVariants as faults
+use Rattle.serving.specs.declared.serve_end.ServeEnd.{ServeEnd}
 use Rattle.serving.specs.Ends.{CountsEnds, EndsAs, EndsFor, cause_of, end_for, is_link_fault}
 use Rattle.serving.specs.Servers.{IsWhole, ServerState}
 use Rattle.serving.specs.Serving.{has_fault}
@@ -24,12 +23,7 @@ end_of-end-requires g c = λ none.
     (whole_over c.server.inside.feed.parts.changes (vec_len c.server.inside.ends) (vec_len c.server.inside.hearings) (vec_len c.server.inside.jobs) parts_each (omega (arith, c.server.invariant.2))
     (whole_of (λ h. h.link) c.server.inside.hearings.items (c.server.inside.feed.parts.changes - vec_len c.server.inside.ends) (vec_len c.server.inside.jobs + vec_len c.server.inside.ends) (vec_len c.server.inside.hearings) c.server.inside.hearings.ok.0 (subst (λ (s : ServerState). IsWhole s) (sym c.server.view_is) started))))
     c.requires.whole in
-    let all : c.finish_jobs-feed.result.parts ≡ each parts_each =
-    well_opened c.args.opened c.finish_jobs-feed.new.noted.starved c.as_slice.result.now (c.finish_jobs-feed.result.parts ≡ each parts_each) whole (sym c.cause_of-cause.ensures ∙ none) in (
-      ap (λ (t : Totals). t.changes) all ∙ sym c.requires.all.0,
-      ap (λ (t : Totals). t.heard) all ∙ sym c.requires.all.1,
-      ap (λ (t : Totals). t.moments) all ∙ sym c.requires.all.2,
-    )
+    well_opened c.args.opened c.finish_jobs-feed.new.noted.starved c.as_slice.result.now (c.finish_jobs-feed.result.parts ≡ each parts_each) whole (sym c.cause_of-cause.ensures ∙ none)
 
 pub returns-clause-end : goal.returns-clause-end
 returns-clause-end g c =
@@ -48,11 +42,7 @@ returns-clause-counts g c =
     (whole_over c.server.inside.feed.parts.changes (vec_len c.server.inside.ends) (vec_len c.server.inside.hearings) (vec_len c.server.inside.jobs) parts_each (omega (arith, c.server.invariant.2))
     (whole_of (λ h. h.link) c.server.inside.hearings.items (c.server.inside.feed.parts.changes - vec_len c.server.inside.ends) (vec_len c.server.inside.jobs + vec_len c.server.inside.ends) (vec_len c.server.inside.hearings) c.server.inside.hearings.ok.0 (subst (λ (s : ServerState). IsWhole s) (sym c.server.view_is) started))))
     c.requires.whole in
-    let parts : each parts_each ≡ record { changes = g.C.Ledger.parts; heard = g.H.Ledger.parts; moments = g.M.Ledger.parts } =
-    λ i. record { changes = sym c.requires.all.0 i; heard = sym c.requires.all.1 i; moments = sym c.requires.all.2 i } in
-    counts_as c.args.opened c.finish_jobs-feed.new.noted.starved c.as_slice.result.now (record { changes = g.C.Ledger.parts; heard = g.H.Ledger.parts; moments = g.M.Ledger.parts })
-    c.finish_jobs-feed.result c.end_of-end.new.feed c.end_of-end.result c.end_of-end.ensures.same is
-    (subst (λ (t : Totals). OnOk c.args.opened (c.finish_jobs-feed.result.parts ≡ t)) parts whole)
+    counts_as c.args.opened c.finish_jobs-feed.new.noted.starved c.as_slice.result.now (each parts_each) c.finish_jobs-feed.result c.end_of-end.new.feed c.end_of-end.result c.end_of-end.ensures.same is whole
 
 pub returns-clause-ended : goal.returns-clause-ended
 returns-clause-ended g c =
@@ -83,7 +73,7 @@ pub returns-clause-outside : goal.returns-clause-outside
 returns-clause-outside g c = λ failed.
     let is : c.end_of-end.result ≡ end_for (cause_of c.args.opened c.finish_jobs-feed.new.noted.starved c.as_slice.result.now) c.finish_jobs-feed.result.sums =
     c.end_of-end.ensures.end ∙ ap (λ (k : Option Cause). end_for k c.finish_jobs-feed.result.sums) c.cause_of-cause.ensures in
-    outside_of c.args.opened c.finish_jobs-feed.new.noted.starved c.as_slice.result.now c.finish_jobs-feed.result.sums (has_fault g.G.Datagrams.faults c.finish_links-feed.new.links.items ≡ true)
+    outside_of c.args.opened c.finish_jobs-feed.new.noted.starved c.as_slice.result.now c.finish_jobs-feed.result.sums (has_fault g.O.Links.Datagrams.faults c.finish_links-feed.new.links.items ≡ true)
     (λ fresh link.
     let behind = c.note_over.ensures (c.finish_jobs-feed.ensures.starved fresh) in
     let here : list_any is_link_fault c.finish_links-feed.new.noted.ends.items ≡ true =

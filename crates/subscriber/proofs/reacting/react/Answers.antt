@@ -1,5 +1,5 @@
 use Rattle.std.proofs.Common.{[], ◌∷◌, ◌++◌, ◌-◌, codes, sym, ◌∙◌, ap, refl, string_bytes}
-use Rattle.replay.specs.Text.{ended_lines}
+use Rattle.scripts.specs.Words.{ended_lines}
 use Rattle.subscriber.proofs.MessageTurns.{one_fewer, reacting-begins, reacts-waiting, reacts-closed, reacts-counted, reacts-used_up, reacting-more}
 use Rattle.subscriber.proofs.reacting.react.Goals as goal
 

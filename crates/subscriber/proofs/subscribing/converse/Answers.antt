@@ -1,7 +1,7 @@
 use Rattle.std.proofs.Common.{◌∙◌, ap, refl, subst, sym}
 use Rattle.std.specs.Io.KnownBytes.{append_known}
 use Rattle.std.proofs.lemmas.Result.{err_from_is_err_and}
-use Rattle.replay.specs.Reply.{IsFrontOf, Took}
+use Rattle.push_base.specs.Written.{IsFrontOf, Took}
 use Rattle.configurations.specs.Kept.{subscribing_kept}
 use Rattle.subscriber.proofs.OneTurn.{is_write}
 use Rattle.subscriber.proofs.Conversing.{converses-starved, converses-unsent, converses-told, converses-followed}

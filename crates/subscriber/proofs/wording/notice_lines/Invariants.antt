@@ -1,5 +1,5 @@
 use Rattle.std.proofs.Common.{◌≡◌, ◌++◌, drop, map, string_bytes}
-use Rattle.replay.specs.Text.{ended_lines}
+use Rattle.scripts.specs.Words.{ended_lines}
 use Rattle.subscriber.specs.Said.{notice_line}
 use Rattle.subscriber.proofs.wording.notice_lines.Given as goal
 

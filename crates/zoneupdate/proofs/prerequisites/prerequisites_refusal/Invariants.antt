@@ -2,7 +2,7 @@ use Rattle.std.proofs.Common.{◌≡◌, List, Bool, drop, map}
 use Rattle.push_base.specs.Cases.{first_refused}
 use Rattle.dnsname.specs.Names.{Labels}
 use Rattle.zoneupdate.specs.Updates.{prerequisite_refusal, with_counted_ttl}
-use Rattle.zoneupdate.specs.Keeping.{IsUnder}
+use Rattle.zoneupdate.specs.KeptZones.{IsUnder}
 use Rattle.zoneupdate.proofs.prerequisites.prerequisites_refusal.Given as goal
 
 abbrev pub invariant-prereqs : goal.invariant-prereqs

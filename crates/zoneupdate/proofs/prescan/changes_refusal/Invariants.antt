@@ -3,7 +3,7 @@ use Rattle.push_base.specs.Cases.{first_refused}
 use Rattle.dnsname.specs.Names.{Labels}
 use Rattle.rrset.specs.RecordSet.{RecordSet}
 use Rattle.zoneupdate.specs.Updates.{change_refusal, with_counted_ttl}
-use Rattle.zoneupdate.specs.Keeping.{IsUnder}
+use Rattle.zoneupdate.specs.KeptZones.{IsUnder}
 use Rattle.zoneupdate.proofs.prescan.changes_refusal.Given as goal
 
 abbrev pub invariant-changes : goal.invariant-changes

@@ -1,7 +1,7 @@
 -- The plain client's call.
 use Rattle.pushclient.proofs.Calls.{answered, keeps_answered, keeps_same}
 use Rattle.pushclient.proofs.Hears.{heard_stands}
-use Rattle.pushclient.specs.Hearing.{kept_heard}
+use Rattle.pushclient.specs.HeardMessages.{kept_heard}
 use Rattle.pushclient.specs.Steps.{step}
 use Rattle.pushclient.proofs.client.Client.step.Goals as goal
 

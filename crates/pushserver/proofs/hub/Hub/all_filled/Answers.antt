@@ -1,6 +1,6 @@
 -- They are the ends that the plain session has.
 use Rattle.std.proofs.Common.{Some, None, refl}
-use Rattle.pushserver.specs.Keeping.{kept_of}
+use Rattle.pushserver.specs.HubState.{kept_of}
 use Rattle.pushserver.proofs.Observed.{ends-seen}
 use Rattle.pushserver.proofs.HubSteps.{seen}
 use Rattle.pushserver.proofs.hub.Hub.all_filled.Goals as goal

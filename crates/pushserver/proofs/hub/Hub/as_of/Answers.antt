@@ -1,7 +1,7 @@
 -- It is the point that the plain session has.
 use Rattle.std.proofs.Common.{Some, None, refl, ap, ◌∙◌}
 use Rattle.std.specs.Prelude.{unwrap_or}
-use Rattle.pushserver.specs.Keeping.{kept_of}
+use Rattle.pushserver.specs.HubState.{kept_of}
 use Rattle.pushserver.proofs.Observed.{told-seen}
 use Rattle.pushserver.proofs.HubSteps.{seen}
 use Rattle.pushserver.proofs.hub.Hub.as_of.Goals as goal

@@ -1,7 +1,7 @@
 -- The hub stands for the plain one afterwards.
 use Rattle.std.proofs.Common.{◌≤◌, None, Some, sym, subst, ◌∙◌}
 use Rattle.pushserver.specs.Hubs.{connect, max_sessions}
-use Rattle.pushserver.specs.Keeping.{kept_of}
+use Rattle.pushserver.specs.HubState.{kept_of}
 use Rattle.pushserver.specs.KeptHubs.{KeptHub}
 use Rattle.pushserver.proofs.AddedEntries.{connect-many}
 use Rattle.pushserver.proofs.Soundness.{sound}

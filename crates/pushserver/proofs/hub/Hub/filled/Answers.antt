@@ -1,6 +1,6 @@
 -- It is the end that the plain session has.
 use Rattle.std.proofs.Common.{Some, None, refl}
-use Rattle.pushserver.specs.Keeping.{kept_of}
+use Rattle.pushserver.specs.HubState.{kept_of}
 use Rattle.pushserver.proofs.Observed.{filled-seen}
 use Rattle.pushserver.proofs.HubSteps.{seen}
 use Rattle.pushserver.proofs.hub.Hub.filled.Goals as goal

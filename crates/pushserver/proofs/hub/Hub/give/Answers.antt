@@ -2,7 +2,7 @@
 use Rattle.std.proofs.Common.{length, sym, subst}
 use Rattle.pushserver.specs.Counting.{MayAddChange}
 use Rattle.pushserver.specs.Giving.{give}
-use Rattle.pushserver.specs.Keeping.{kept_of}
+use Rattle.pushserver.specs.HubState.{kept_of}
 use Rattle.pushserver.specs.KeptHubs.{KeptHub}
 use Rattle.pushserver.proofs.AddedEntries.{give-adds}
 use Rattle.pushserver.proofs.GiveSteps.{on_each_err}

@@ -2,7 +2,7 @@
 use Rattle.std.proofs.Common.{None, Some, Ok, sym, subst, arith, ◌∙◌}
 use Rattle.pushserver.specs.Counting.{AddsHearing}
 use Rattle.pushserver.specs.Hubs.{hear}
-use Rattle.pushserver.specs.Keeping.{kept_of}
+use Rattle.pushserver.specs.HubState.{kept_of}
 use Rattle.pushserver.specs.KeptHubs.{KeptHub}
 use Rattle.pushserver.proofs.AddedEntries.{hear-adds}
 use Rattle.pushserver.proofs.Observed.{are_octets}

@@ -1,7 +1,7 @@
 -- The plain hub has it, too.
 use Rattle.std.proofs.Common.{◌∙◌}
 use Rattle.pushserver.specs.Hubs.{session_in}
-use Rattle.pushserver.specs.Keeping.{kept_of}
+use Rattle.pushserver.specs.HubState.{kept_of}
 use Rattle.pushserver.proofs.Observed.{live-seen, live-is}
 use Rattle.pushserver.proofs.HubSteps.{seen}
 use Rattle.pushserver.proofs.hub.Hub.live.Goals as goal

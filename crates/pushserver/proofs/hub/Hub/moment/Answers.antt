@@ -1,7 +1,7 @@
 -- The hub stands for the plain one afterwards.
 use Rattle.std.proofs.Common.{false, sym, ◌∙◌}
 use Rattle.pushserver.specs.Hubs.{moment}
-use Rattle.pushserver.specs.Keeping.{kept_of}
+use Rattle.pushserver.specs.HubState.{kept_of}
 use Rattle.pushserver.proofs.Soundness.{sound}
 use Rattle.pushserver.proofs.HubSteps.{keeps-hub, same-hub, moment-stands, seen}
 use Rattle.pushserver.proofs.hub.Hub.moment.Goals as goal

@@ -1,6 +1,6 @@
 -- The hub stands for the plain one afterwards.
 use Rattle.pushserver.specs.Hubs.{stop}
-use Rattle.pushserver.specs.Keeping.{kept_of}
+use Rattle.pushserver.specs.HubState.{kept_of}
 use Rattle.pushserver.proofs.Soundness.{sound}
 use Rattle.pushserver.proofs.HubSteps.{keeps-hub, stop-stands, seen}
 use Rattle.pushserver.proofs.hub.Hub.stop.Goals as goal

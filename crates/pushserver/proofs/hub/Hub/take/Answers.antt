@@ -1,7 +1,7 @@
 -- The hub stands for the plain one afterwards.
 use Rattle.std.proofs.Common.{arith}
 use Rattle.pushserver.specs.Hubs.{take_octets}
-use Rattle.pushserver.specs.Keeping.{kept_of}
+use Rattle.pushserver.specs.HubState.{kept_of}
 use Rattle.pushserver.proofs.Observed.{are_octets}
 use Rattle.pushserver.proofs.Soundness.{sound}
 use Rattle.pushserver.proofs.HubSteps.{keeps-hub, take-stands, seen}

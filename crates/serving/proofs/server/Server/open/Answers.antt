@@ -20,12 +20,12 @@ open_sessions-requires-clause-whole g c = λ κs fits.
 pub returns-in_err-start_links-clause-started : goal.returns-in_err-start_links-clause-started
 returns-in_err-start_links-clause-started g c =
     let p = err_from_is_err_and c.from_residual.result c.from_residual.ensures.1 in
-    starts_links c.args.self.now.turns (numbers_of c.args.links.now.items) c.args.sessions (g.A.Starter.started c.args.starter.now) (g.A.Starter.started c.start_links.new.starter) c.from_residual.result p.0 p.1 c.in_err-start_links.ensures.started
+    starts_links c.args.self.now.turns (numbers_of c.args.links.now.items) c.args.sessions (g.O.Starter.Starter.started c.args.starter.now) (g.O.Starter.Starter.started c.start_links.new.starter) c.from_residual.result p.0 p.1 c.in_err-start_links.ensures.started
 
 pub returns-in_err-start_links-clause-accepted : goal.returns-in_err-start_links-clause-accepted
 returns-in_err-start_links-clause-accepted g c =
     let p = err_from_is_err_and c.from_residual.result c.from_residual.ensures.1 in
-    accepts_none c.args.sessions (g.D.Doors.accepted c.args.doors.now) c.from_residual.result p.0 p.1
+    accepts_none c.args.sessions (g.O.Doors.Doors.accepted c.args.doors.now) c.from_residual.result p.0 p.1
 
 pub returns-in_err-start_links-clause-links : goal.returns-in_err-start_links-clause-links
 returns-in_err-start_links-clause-links g c =
@@ -35,14 +35,14 @@ returns-in_err-start_links-clause-links g c =
 pub returns-in_err-start_clock-clause-started : goal.returns-in_err-start_clock-clause-started
 returns-in_err-start_clock-clause-started g c =
     let p = err_from_is_err_and c.from_residual-in_err-start_clock.result c.from_residual-in_err-start_clock.ensures.1 in
-    starts_clock c.args.self.now.turns (numbers_of c.args.links.now.items) c.args.sessions (g.A.Starter.started c.args.starter.now) (g.A.Starter.started c.start_links.new.starter) (g.A.Starter.started c.start_clock.new.starter)
+    starts_clock c.args.self.now.turns (numbers_of c.args.links.now.items) c.args.sessions (g.O.Starter.Starter.started c.args.starter.now) (g.O.Starter.Starter.started c.start_links.new.starter) (g.O.Starter.Starter.started c.start_clock.new.starter)
     c.from_residual-in_err-start_clock.result p.0 p.1 c.in_ok-start_links.ensures.started
-    (subst (λ (t : ℕ). HandsFront ((roles.Clock, t) ∷ []) (g.A.Starter.started c.start_links.new.starter) (g.A.Starter.started c.start_clock.new.starter)) c.in_ok-start_links.ensures.ok.3 c.in_err-start_clock.ensures.started)
+    (subst (λ (t : ℕ). HandsFront ((roles.Clock, t) ∷ []) (g.O.Starter.Starter.started c.start_links.new.starter) (g.O.Starter.Starter.started c.start_clock.new.starter)) c.in_ok-start_links.ensures.ok.3 c.in_err-start_clock.ensures.started)
 
 pub returns-in_err-start_clock-clause-accepted : goal.returns-in_err-start_clock-clause-accepted
 returns-in_err-start_clock-clause-accepted g c =
     let p = err_from_is_err_and c.from_residual-in_err-start_clock.result c.from_residual-in_err-start_clock.ensures.1 in
-    accepts_none c.args.sessions (g.D.Doors.accepted c.args.doors.now) c.from_residual-in_err-start_clock.result p.0 p.1
+    accepts_none c.args.sessions (g.O.Doors.Doors.accepted c.args.doors.now) c.from_residual-in_err-start_clock.result p.0 p.1
 
 pub returns-in_err-start_clock-clause-links : goal.returns-in_err-start_clock-clause-links
 returns-in_err-start_clock-clause-links g c =
@@ -57,18 +57,18 @@ returns-in_err-start_clock-clause-room g c =
 pub returns-clause-started : goal.returns-clause-started
 returns-clause-started g c =
     let turns : c.start_clock.new.self.turns ≡ c.args.self.now.turns = ap (λ (s : ServerState). s.turns) c.in_ok-start_clock.ensures.ok ∙ c.in_ok-start_links.ensures.ok.3 in
-    starts_all c.args.self.now.turns (numbers_of c.args.links.now.items) c.args.sessions (g.A.Starter.started c.args.starter.now) (g.A.Starter.started c.start_links.new.starter) (g.A.Starter.started c.start_clock.new.starter) (g.A.Starter.started c.open_sessions.new.starter)
+    starts_all c.args.self.now.turns (numbers_of c.args.links.now.items) c.args.sessions (g.O.Starter.Starter.started c.args.starter.now) (g.O.Starter.Starter.started c.start_links.new.starter) (g.O.Starter.Starter.started c.start_clock.new.starter) (g.O.Starter.Starter.started c.open_sessions.new.starter)
     c.start_clock.new.self c.open_sessions.new.self c.open_sessions.result c.in_ok-start_links.ensures.started
-    (subst (λ (t : ℕ). TellsMore (g.A.Starter.started c.start_links.new.starter) (g.A.Starter.started c.start_clock.new.starter) ((roles.Clock, t) ∷ [])) c.in_ok-start_links.ensures.ok.3 c.in_ok-start_clock.ensures.started)
-    (subst (λ (t : ℕ). SeatsAll t c.args.sessions (g.A.Starter.started c.start_clock.new.starter) (g.A.Starter.started c.open_sessions.new.starter) c.start_clock.new.self c.open_sessions.new.self c.open_sessions.result) turns c.open_sessions.ensures.started)
+    (subst (λ (t : ℕ). TellsMore (g.O.Starter.Starter.started c.start_links.new.starter) (g.O.Starter.Starter.started c.start_clock.new.starter) ((roles.Clock, t) ∷ [])) c.in_ok-start_links.ensures.ok.3 c.in_ok-start_clock.ensures.started)
+    (subst (λ (t : ℕ). SeatsAll t c.args.sessions (g.O.Starter.Starter.started c.start_clock.new.starter) (g.O.Starter.Starter.started c.open_sessions.new.starter) c.start_clock.new.self c.open_sessions.new.self c.open_sessions.result) turns c.open_sessions.ensures.started)
 
 pub returns-clause-all : goal.returns-clause-all
 returns-clause-all g c =
     let turns : c.start_clock.new.self.turns ≡ c.args.self.now.turns = ap (λ (s : ServerState). s.turns) c.in_ok-start_clock.ensures.ok ∙ c.in_ok-start_links.ensures.ok.3 in
-    starts_whole c.args.self.now.turns (numbers_of c.args.links.now.items) c.args.sessions (g.A.Starter.started c.args.starter.now) (g.A.Starter.started c.start_links.new.starter) (g.A.Starter.started c.start_clock.new.starter) (g.A.Starter.started c.open_sessions.new.starter)
+    starts_whole c.args.self.now.turns (numbers_of c.args.links.now.items) c.args.sessions (g.O.Starter.Starter.started c.args.starter.now) (g.O.Starter.Starter.started c.start_links.new.starter) (g.O.Starter.Starter.started c.start_clock.new.starter) (g.O.Starter.Starter.started c.open_sessions.new.starter)
     c.start_clock.new.self c.open_sessions.new.self c.open_sessions.result c.in_ok-start_links.ensures.started
-    (subst (λ (t : ℕ). TellsMore (g.A.Starter.started c.start_links.new.starter) (g.A.Starter.started c.start_clock.new.starter) ((roles.Clock, t) ∷ [])) c.in_ok-start_links.ensures.ok.3 c.in_ok-start_clock.ensures.started)
-    (subst (λ (t : ℕ). SeatsAll t c.args.sessions (g.A.Starter.started c.start_clock.new.starter) (g.A.Starter.started c.open_sessions.new.starter) c.start_clock.new.self c.open_sessions.new.self c.open_sessions.result) turns c.open_sessions.ensures.started)
+    (subst (λ (t : ℕ). TellsMore (g.O.Starter.Starter.started c.start_links.new.starter) (g.O.Starter.Starter.started c.start_clock.new.starter) ((roles.Clock, t) ∷ [])) c.in_ok-start_links.ensures.ok.3 c.in_ok-start_clock.ensures.started)
+    (subst (λ (t : ℕ). SeatsAll t c.args.sessions (g.O.Starter.Starter.started c.start_clock.new.starter) (g.O.Starter.Starter.started c.open_sessions.new.starter) c.start_clock.new.self c.open_sessions.new.self c.open_sessions.result) turns c.open_sessions.ensures.started)
     (ap (λ (s : ServerState). s.jobs) c.in_ok-start_clock.ensures.ok ∙ ap (λ (n : ℕ). n + 1) c.in_ok-start_links.ensures.ok.2)
     (c.open_sessions.ensures.links ∙ (c.start_clock.ensures.links ∙ c.in_ok-start_links.ensures.all))
 

@@ -10,13 +10,13 @@ use Rattle.serving.proofs.server.Server.start_clock.Goals as goal
 pub returns-in_err-shared-clause-started : goal.returns-in_err-shared-clause-started
 returns-in_err-shared-clause-started g c =
     let p = err_from_is_err_and c.from_residual.result c.from_residual.ensures.1 in
-    over_err ((roles.Clock, c.args.self.now.turns) ∷ []) (g.A.Starter.started c.args.starter.now) (g.A.Starter.started c.args.starter.now) c.from_residual.result p.0 p.1
-    (front_none ((roles.Clock, c.args.self.now.turns) ∷ []) (g.A.Starter.started c.args.starter.now))
+    over_err ((roles.Clock, c.args.self.now.turns) ∷ []) (g.O.Starter.Starter.started c.args.starter.now) (g.O.Starter.Starter.started c.args.starter.now) c.from_residual.result p.0 p.1
+    (front_none ((roles.Clock, c.args.self.now.turns) ∷ []) (g.O.Starter.Starter.started c.args.starter.now))
 
 pub returns-clause-started : goal.returns-clause-started
 returns-clause-started g c =
     let turns : c.self.inside.turns ≡ c.args.self.now.turns = ap (λ (s : ServerState). s.turns) c.self.view_is ∙ ap (λ (s : ServerState). s.turns) c.in_ok-shared.ensures.state in
-    over_as (g.A.Starter.started c.args.starter.now) (g.A.Starter.started c.start.new.starter) (role_in c.clock-job.result.work) roles.Clock c.clock-job.result.turns c.args.self.now.turns c.start.result
+    over_as (g.O.Starter.Starter.started c.args.starter.now) (g.O.Starter.Starter.started c.start.new.starter) (role_in c.clock-job.result.work) roles.Clock c.clock-job.result.turns c.args.self.now.turns c.start.result
     c.clock-job.ensures.0 (c.clock-job.ensures.1 ∙ turns) c.start.ensures.started
 
 pub returns-clause-enough : goal.returns-clause-enough

@@ -11,15 +11,15 @@ use Rattle.serving.proofs.server.Server.start_session.Goals as goal
 pub returns-in_err-start_reader-clause-started : goal.returns-in_err-start_reader-clause-started
 returns-in_err-start_reader-clause-started g c =
     let p = err_from_is_err_and c.from_residual.result c.from_residual.ensures.1 in
-    over_err (pair_of c.args.self.now.turns c.args.session) (g.A.Starter.started c.args.starter.now) (g.A.Starter.started c.start_reader.new.starter) c.from_residual.result p.0 p.1
-    (front_longer ((roles.Reader c.args.session, c.args.self.now.turns) ∷ []) ((roles.Writer c.args.session, c.args.self.now.turns) ∷ []) (g.A.Starter.started c.args.starter.now) (g.A.Starter.started c.start_reader.new.starter) c.in_err-start_reader.ensures.started)
+    over_err (pair_of c.args.self.now.turns c.args.session) (g.O.Starter.Starter.started c.args.starter.now) (g.O.Starter.Starter.started c.start_reader.new.starter) c.from_residual.result p.0 p.1
+    (front_longer ((roles.Reader c.args.session, c.args.self.now.turns) ∷ []) ((roles.Writer c.args.session, c.args.self.now.turns) ∷ []) (g.O.Starter.Starter.started c.args.starter.now) (g.O.Starter.Starter.started c.start_reader.new.starter) c.in_err-start_reader.ensures.started)
 
 pub returns-clause-started : goal.returns-clause-started
 returns-clause-started g c =
     let turns : c.start_reader.new.self.turns ≡ c.args.self.now.turns = ap (λ (s : ServerState). s.turns) c.in_ok-start_reader.ensures.ok in
     over_then ((roles.Reader c.args.session, c.args.self.now.turns) ∷ []) ((roles.Writer c.args.session, c.args.self.now.turns) ∷ [])
-    (g.A.Starter.started c.args.starter.now) (g.A.Starter.started c.start_reader.new.starter) (g.A.Starter.started c.start_writer.new.starter) c.start_writer.result c.in_ok-start_reader.ensures.started
-    (over_as (g.A.Starter.started c.start_reader.new.starter) (g.A.Starter.started c.start_writer.new.starter) (roles.Writer c.args.session) (roles.Writer c.args.session) c.start_reader.new.self.turns c.args.self.now.turns c.start_writer.result refl turns c.start_writer.ensures.started)
+    (g.O.Starter.Starter.started c.args.starter.now) (g.O.Starter.Starter.started c.start_reader.new.starter) (g.O.Starter.Starter.started c.start_writer.new.starter) c.start_writer.result c.in_ok-start_reader.ensures.started
+    (over_as (g.O.Starter.Starter.started c.start_reader.new.starter) (g.O.Starter.Starter.started c.start_writer.new.starter) (roles.Writer c.args.session) (roles.Writer c.args.session) c.start_reader.new.self.turns c.args.self.now.turns c.start_writer.result refl turns c.start_writer.ensures.started)
 
 pub returns-clause-ok : goal.returns-clause-ok
 returns-clause-ok g c =

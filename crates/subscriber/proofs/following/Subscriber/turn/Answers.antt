@@ -3,7 +3,7 @@ use Rattle.std.specs.Io.KnownBytes.{append_known}
 use Rattle.std.proofs.lemmas.Result.{err_from_is_err_and}
 use Rattle.push_base.specs.Line.{read_of, reads_of}
 use Rattle.push_base.specs.Told.{TellsMore}
-use Rattle.replay.specs.Reply.{IsFrontOf, Took}
+use Rattle.push_base.specs.Written.{IsFrontOf, Took}
 use Rattle.subscriber.proofs.OneTurn.{is_write, turns-unheard, turns-starved, turns-unsaid, turns-over, turns-starved-later, turns-unsent, turns-unsaid-later, turns-passed}
 use Rattle.subscriber.proofs.following.Subscriber.turn.Goals as goal
 

@@ -1,6 +1,6 @@
 use Rattle.std.proofs.Common.{ap}
 use Rattle.zoneupdate.specs.Zones.{ZoneState}
-use Rattle.zoneupdate.specs.Keeping.{ZoneKept}
+use Rattle.zoneupdate.specs.KeptZones.{ZoneKept}
 use Rattle.zoneupdate.proofs.Plans.{planned-lower, applied, applied-kept}
 use Rattle.zoneupdate.proofs.zone.Zone.apply.Goals as goal
 

@@ -3,7 +3,7 @@ use Rattle.rrset.specs.declared.record.Changed.{Changed}
 use Rattle.zoneupdate.specs.declared.plan.Verdict.TheVariants.{Accept}
 use Rattle.zoneupdate.specs.Zones.{ZoneState}
 use Rattle.zoneupdate.specs.Updates.{judged, with_counted_ttl}
-use Rattle.zoneupdate.specs.Keeping.{ZoneKept, IsUnder, Judges}
+use Rattle.zoneupdate.specs.KeptZones.{ZoneKept, IsUnder, Judges}
 use Rattle.zoneupdate.specs.Checking.{Plans}
 use Rattle.zoneupdate.proofs.Plans.{plan_keys}
 use Rattle.zoneupdate.proofs.Judging.{accepts}

@@ -1,6 +1,6 @@
 use Rattle.std.proofs.Common.{◌≤◌, length, ap, sym, subst, arith}
 use Rattle.dnsname.specs.Names.{octets}
-use Rattle.zoneupdate.specs.Keeping.{IsKept}
+use Rattle.zoneupdate.specs.KeptZones.{IsKept}
 use Rattle.zoneupdate.proofs.NewZone.{kept-new}
 use Rattle.zoneupdate.proofs.zone.Zone.new.Goals as goal
 

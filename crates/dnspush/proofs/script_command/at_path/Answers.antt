@@ -1,0 +1,24 @@
+use Rattle.std.proofs.Common.{subst, sym, ap}
+use Rattle.push_outside.specs.Outside.{Telling}
+use Rattle.dnspush.specs.Runs.{MayHaveGiven}
+use Rattle.replay.specs.TextWords.{by_notices}
+use Rattle.scripts.specs.Sources.{front_read}
+use Rattle.scripts.proofs.Written.{answered, unread_is, starved_is}
+use Rattle.dnspush.specs.ScriptCommands.{task_reply}
+use Rattle.dnspush.proofs.Running.{replied_back, brought, failed_open}
+use Rattle.dnspush.proofs.script_command.at_path.Goals as goal
+
+pub returns-in-Ok-clause-replied : goal.returns-in-Ok-clause-replied
+returns-in-Ok-clause-replied g c = λ octets may.
+    replied_back c.args.task _ _ _ _ _ _ _ _ _ _ _ (brought _ _ _ _ _ c.in-Ok.ensures.faults c.in-Ok.ensures.reads c.back_in.ensures.reads) c.in-Ok.ensures.fresh c.on_source-outcome.ensures.gave c.on_source-outcome.ensures.replied c.back_in.ensures.used octets
+    (subst (λ before. MayHaveGiven before (g.O.Outside.told c.back_in.new.self).used octets) (sym (ap (λ (t : Telling). t.used) c.in-Ok.ensures.told)) may)
+
+pub returns-in-Err-Failed-clause-replied : goal.returns-in-Err-Failed-clause-replied
+returns-in-Err-Failed-clause-replied g c = λ octets may.
+    let reply = task_reply by_notices c.args.task (front_read octets) in
+    answered _ reply _ _ _ _ _ (unread_is _ reply (failed_open g.row.O-In.Denot _ _ _ c.in-Err-Failed.field-0-is c.in-Err-Failed.ensures.reads)) c.tell.ensures.told
+
+pub returns-in-Err-NoMemory-clause-replied : goal.returns-in-Err-NoMemory-clause-replied
+returns-in-Err-NoMemory-clause-replied g c = λ octets may.
+    let reply = task_reply by_notices c.args.task (front_read octets) in
+    answered _ reply _ _ _ _ _ (starved_is _ reply) c.tell-in-Err-NoMemory.ensures.told

@@ -1,0 +1,25 @@
+use Rattle.std.proofs.Common.{Bool, Err, sym, subst}
+use Rattle.push_outside.specs.Opening.{TellsWords}
+use Rattle.push_outside.specs.Outside.{Adds}
+use Rattle.scripts.specs.Lines.{Word}
+use Rattle.configurations.specs.Kept.{serving_kept}
+use Rattle.serving.specs.Serving.{is_full_run}
+use Rattle.dnspush.specs.Serving.{ServesBy}
+use Rattle.dnspush.proofs.Serving.{addresses_kept, links_kept, serves_listening, serves_through}
+use Rattle.dnspush.proofs.serve_command.serve_configured.Goals as goal
+
+pub returns-in-Ok-doors-clause-served : goal.returns-in-Ok-doors-clause-served
+returns-in-Ok-doors-clause-served g c =
+    serves_through (is_full_run c.serve_doors-end.result) (g.O.Outside.told c.args.outside.now) (g.O.Outside.told c.doors.new.self) (g.O.Outside.told c.serve_doors-end.new.outside) (g.O.Outside.told c.back_doors.new.self)
+    (g.O.Doors.Doors.accepted c.in-Ok-doors.doors) (g.O.Doors.Doors.accepted c.serve_doors-end.new.doors) (serving_kept c.args.configuration) _ _
+    c.in-Ok-doors.ensures.told (subst (λ (w : Word). Adds (g.O.Outside.told c.args.outside.now).listened (g.O.Outside.told c.doors.new.self).listened w) c.as_str.ensures.value c.in-Ok-doors.ensures.listened)
+    c.serve_doors-end.ensures.told c.back_doors.ensures.told
+    (addresses_kept c.args.configuration c.as_slice-feeds.result.now c.as_slice-feeds.ensures.value) (links_kept c.args.configuration c.as_slice-feeds.result.now c.as_slice-feeds.ensures.value)
+    c.serve_doors-end.ensures.few c.in-Ok-doors.ensures.fresh c.serve_doors-end.ensures.heard c.serve_doors-end.ensures.accepted c.serve_doors-end.ensures.started c.back_doors.ensures.accepted
+
+pub returns-clause-served : goal.returns-clause-served
+returns-clause-served g c =
+    subst (λ (t : Bool). ServesBy t (g.O.Outside.told c.args.outside.now) (g.O.Outside.told c.doors.new.self) (serving_kept c.args.configuration)) (sym c.end_of.ensures.less)
+    (serves_listening g.row.O-Doors.Denot (g.O.Outside.told c.args.outside.now) (g.O.Outside.told c.doors.new.self) (serving_kept c.args.configuration) c.in-Err.fault
+    c.in-Err.ensures.told
+    (subst (λ (w : Word). TellsWords {A = g.row.O-Doors.Denot} (g.O.Outside.told c.args.outside.now).listened (g.O.Outside.told c.doors.new.self).listened (Err c.in-Err.fault) w) c.as_str.ensures.value c.in-Err.ensures.listened))

@@ -1,0 +1,14 @@
+use Rattle.std.proofs.Common.{arith, ◌<◌}
+use Rattle.hublock.proofs.LineReads.{ended_at_once, ended_at_turns, ended_after_none}
+use Rattle.hublock.proofs.reader.offer.Goals as goal
+
+pub returns-then-done : goal.returns-then-done
+returns-then-done g c = record { run = ended_at_once c.args.session (g.G.Gate.state c.args.gate.now) (g.G.Gate.state c.done.new.self) c.args.piece.now c.args.turns c.done.result c.done.ensures.same c.done.ensures.answer c.if-done.true c.requires.goes_on }
+
+pub returns-then-turns-eq0 : goal.returns-then-turns-eq0
+returns-then-turns-eq0 g c = record { run = ended_at_turns c.args.session (g.G.Gate.state c.args.gate.now) (g.G.Gate.state c.done.new.self) c.args.piece.now c.args.turns c.done.ensures.same c.if-turns-eq0.true }
+
+pub returns-then-done-2 : goal.returns-then-done-2
+returns-then-done-2 g c =
+    let more : 0 < c.args.turns = omega (arith, c.if-turns-eq0.false) in
+    record { run = ended_after_none c.args.session (g.G.Gate.state c.args.gate.now) (g.G.Gate.state c.done.new.self) (g.G.Gate.state c.take-count.new.self) (g.G.Gate.state c.done-then-count-eq0.new.self) c.args.piece.now c.args.turns c.take-count.result c.done-then-count-eq0.result c.requires.some more c.if-count-eq0.true c.done.ensures.same c.take-count.ensures.call c.done-then-count-eq0.ensures.same c.done-then-count-eq0.ensures.answer c.if-done-2.true c.requires.goes_on }

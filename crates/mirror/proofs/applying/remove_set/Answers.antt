@@ -1,8 +1,0 @@
-use Rattle.std.proofs.Common.{not, rules, of_calls}
-use Rattle.dsotlv.specs.Notices.{removed_by}
-use Rattle.dsotlv.specs.declared.message.Notice.TheVariants.{RemoveSet}
-use Rattle.mirror.proofs.AfterNotices.{kept-from_clause}
-use Rattle.mirror.proofs.applying.remove_set.Goals as goal
-
-pub returns : goal.returns
-returns c = kept-from_clause (λ key. not (removed_by (RemoveSet c.args.owner.now c.args.class c.args.kind) key)) _ _ c.retain.ensures.rows (λ a b f k. search (rules, of_calls))

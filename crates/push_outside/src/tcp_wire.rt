@@ -1,0 +1,85 @@
+//! The writing end of a TCP connection.
+
+ghost use Rattle.std.specs.Prelude.{◌≡◌, None};
+
+use crate::writing::Writing;
+use push_base::{Failed, Sink, Wire};
+use std::alloc::Global;
+use std::net::{Shutdown, TcpStream};
+
+/// The writing end of a TCP connection, a sink that tells no octets and counts its faults. The first write after a flush
+/// goes out at once; what follows may be held back until the next flush. Where that can't go out then, the connection is
+/// shut down in both directions, as no octet may be left out: its reader comes to its end, and later writes fail.
+#[derive(Drop)]
+pub struct TcpWire {
+    writing: Writing<TcpStream>,
+    // The octets that are held back, and how many these may be.
+    held: Vec<u8>,
+    most: usize,
+    // Whether something was written since the last flush.
+    has_written: bool,
+}
+
+impl TcpWire {
+    /// An end that holds back so many octets at most. With 0 each write goes out at once.
+    pub(crate) fn new(alloc: Global, most: usize, stream: TcpStream) -> Self
+        ensures { result.writing.faults ≡ 0 }
+    {
+        TcpWire {
+            writing: Writing::new(stream),
+            held: Vec::new(alloc),
+            most,
+            has_written: false,
+        }
+    }
+
+    /// How often it has failed.
+    pub fn faults(&self) -> u64
+        ensures { result ≡ self.now.writing.faults }
+    {
+        self.writing.faults()
+    }
+
+    /// Holds back a piece, where something went out since the last flush and there is room for it. Gives whether it does.
+    fn hold(&mut self, piece: &[u8]) -> bool
+        ensures { self.new.writing ≡ self.old.writing }
+    {
+        self.has_written
+            && piece.len() <= self.most.saturating_sub(self.held.len())
+            && self.held.extend_from_slice(piece).is_ok()
+    }
+
+    /// What is held back goes out, or the connection is shut down.
+    fn send(&mut self)
+        ensures { self.new.writing.faults ≡ self.old.writing.faults }
+    {
+        if self.writing.write_all(&self.held).is_err() {
+            let _ = self.writing.inner().shutdown(Shutdown::Both);
+        }
+        self.held.clear();
+    }
+}
+
+impl Sink for TcpWire {
+    ghost taken = { λ _. None };
+
+    ghost calls = { λ _. None };
+
+    ghost faults = { λ s. s.writing.faults };
+
+    fn write(&mut self, piece: &[u8]) -> Result<usize, Failed> {
+        if self.hold(piece) {
+            return Ok(piece.len());
+        }
+        self.send();
+        self.has_written = true;
+        self.writing.write(piece)
+    }
+}
+
+impl Wire for TcpWire {
+    fn flush(&mut self) {
+        self.send();
+        self.has_written = false;
+    }
+}

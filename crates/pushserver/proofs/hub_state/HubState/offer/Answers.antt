@@ -1,0 +1,60 @@
+-- An entry becomes what the answer to its plan says, and the journal's room.
+use Rattle.std.proofs.Common.{◌≡◌, sym, ap, ◌∙◌}
+use Rattle.history.specs.Kept.{Past, told_plan}
+use Rattle.pushserver.specs.Hubs.{entered}
+use Rattle.pushserver.specs.HubState.{kept_of}
+use Rattle.pushserver.specs.KeptHubs.{KeptHub}
+use Rattle.pushserver.specs.declared.entering.Offered.{Offered}
+use Rattle.pushserver.proofs.EntrySteps.{same_past}
+use Rattle.pushserver.proofs.Offering.{by_room, offered-refused, offered-idle, offered-room, plan-changes, plan-held}
+use Rattle.pushserver.proofs.hub_state.HubState.offer.Goals as goal
+
+pub returns-in-Refuse-clause-offered : goal.returns-in-Refuse-clause-offered
+returns-in-Refuse-clause-offered c = sym (ap (λ (r : Offered × KeptHub). r.0) (offered-refused (kept_of c.args.self.now) c.args.entry c.in-Refuse.code (sym c.in-Refuse.is ∙ c.in_ok-code.ensures.planned)))
+
+pub returns-in-Refuse-clause-hub : goal.returns-in-Refuse-clause-hub
+returns-in-Refuse-clause-hub c =
+    same_past (kept_of c.args.self.now) c.plan.new.self.past c.plan.ensures.past
+    ∙ sym (ap (λ (r : Offered × KeptHub). r.1) (offered-refused (kept_of c.args.self.now) c.args.entry c.in-Refuse.code (sym c.in-Refuse.is ∙ c.in_ok-code.ensures.planned)))
+
+pub returns-in-Idle-clause-offered : goal.returns-in-Idle-clause-offered
+returns-in-Idle-clause-offered c = sym (ap (λ (r : Offered × KeptHub). r.0) (offered-idle (kept_of c.args.self.now) c.args.entry (sym c.in-Idle.is ∙ c.in_ok-code.ensures.planned)))
+
+pub returns-in-Idle-clause-hub : goal.returns-in-Idle-clause-hub
+returns-in-Idle-clause-hub c =
+    same_past (kept_of c.args.self.now) c.plan.new.self.past c.plan.ensures.past
+    ∙ sym (ap (λ (r : Offered × KeptHub). r.1) (offered-idle (kept_of c.args.self.now) c.args.entry (sym c.in-Idle.is ∙ c.in_ok-code.ensures.planned)))
+
+pub returns-then-not-can_enter-clause-offered : goal.returns-then-not-can_enter-clause-offered
+returns-then-not-can_enter-clause-offered c =
+    sym (ap (λ (r : Offered × KeptHub). r.0)
+    (offered-room (kept_of c.args.self.now) c.plan.new.self.past c.plan.ensures.past c.args.entry c.in-Accept.changed (sym c.in-Accept.is ∙ c.in_ok-code.ensures.planned) c.can_enter.result c.can_enter.ensures
+    ∙ ap (by_room (kept_of c.args.self.now) c.args.entry) c.if-not-can_enter.true))
+
+pub returns-then-not-can_enter-clause-hub : goal.returns-then-not-can_enter-clause-hub
+returns-then-not-can_enter-clause-hub c =
+    same_past (kept_of c.args.self.now) c.plan.new.self.past c.plan.ensures.past
+    ∙ sym (ap (λ (r : Offered × KeptHub). r.1)
+    (offered-room (kept_of c.args.self.now) c.plan.new.self.past c.plan.ensures.past c.args.entry c.in-Accept.changed (sym c.in-Accept.is ∙ c.in_ok-code.ensures.planned) c.can_enter.result c.can_enter.ensures
+    ∙ ap (by_room (kept_of c.args.self.now) c.args.entry) c.if-not-can_enter.true))
+
+pub enter-requires-clause-held : goal.enter-requires-clause-held
+enter-requires-clause-held c =
+    plan-held (kept_of c.args.self.now) c.plan.new.self.past c.plan.ensures.past c.args.entry c.in-Accept.changed (sym c.in-Accept.is ∙ c.in_ok-code.ensures.planned) c.plan.new.self (λ i. c.plan.new.self.past) c.in_ok-code.ensures.held
+
+pub enter-requires-clause-changes : goal.enter-requires-clause-changes
+enter-requires-clause-changes c =
+    plan-changes (kept_of c.args.self.now) c.plan.new.self.past c.plan.ensures.past c.args.entry c.in-Accept.changed (sym c.in-Accept.is ∙ c.in_ok-code.ensures.planned)
+
+pub returns-in_ok-enter-in-Accept-clause-offered : goal.returns-in_ok-enter-in-Accept-clause-offered
+returns-in_ok-enter-in-Accept-clause-offered c =
+    sym (ap (λ (r : Offered × KeptHub). r.0)
+    (offered-room (kept_of c.args.self.now) c.plan.new.self.past c.plan.ensures.past c.args.entry c.in-Accept.changed (sym c.in-Accept.is ∙ c.in_ok-code.ensures.planned) c.can_enter.result c.can_enter.ensures
+    ∙ ap (by_room (kept_of c.args.self.now) c.args.entry) c.if-not-can_enter.false))
+
+pub returns-in_ok-enter-in-Accept-clause-hub : goal.returns-in_ok-enter-in-Accept-clause-hub
+returns-in_ok-enter-in-Accept-clause-hub c =
+    c.in_ok-enter-in-Accept.ensures.ok ∙ ap (entered c.args.entry) (same_past (kept_of c.args.self.now) c.plan.new.self.past c.plan.ensures.past)
+    ∙ sym (ap (λ (r : Offered × KeptHub). r.1)
+    (offered-room (kept_of c.args.self.now) c.plan.new.self.past c.plan.ensures.past c.args.entry c.in-Accept.changed (sym c.in-Accept.is ∙ c.in_ok-code.ensures.planned) c.can_enter.result c.can_enter.ensures
+    ∙ ap (by_room (kept_of c.args.self.now) c.args.entry) c.if-not-can_enter.false))

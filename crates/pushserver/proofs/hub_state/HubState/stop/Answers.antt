@@ -1,0 +1,17 @@
+-- The session of the number alone is changed.
+use Rattle.std.proofs.Common.{ap, ◌∙◌}
+use Rattle.pushsession.specs.Kept.{KeptSession}
+use Rattle.pushsession.specs.Sessions.{asked_to_stop}
+use Rattle.pushserver.specs.Hubs.{Numbered}
+use Rattle.pushserver.specs.HubState.{kept_of}
+use Rattle.pushserver.proofs.GiveSteps.{on_some, lent-changed, absent}
+use Rattle.pushserver.proofs.hub_state.HubState.stop.Goals as goal
+
+pub returns-in-Some-clause-hub : goal.returns-in-Some-clause-hub
+returns-in-Some-clause-hub c =
+    ap (λ (xs : Numbered KeptSession). record (kept_of c.args.self.now) { sessions = xs })
+    (lent-changed c.args.number c.args.self.now.sessions (c.get_mut.follows.lender c.stop.new.self) (asked_to_stop c.args.rcode c.args.delay) c.in-Some.session.now c.stop.new.self c.in-Some.ensures.value c.in-Some.ensures.apart c.stop.ensures
+    (on_some c.get_mut.result c.in-Some.session c.in-Some.is (c.get_mut.follows.holds c.stop.new.self)))
+
+pub returns-in_default-clause-hub : goal.returns-in_default-clause-hub
+returns-in_default-clause-hub c = ap (λ (xs : Numbered KeptSession). record (kept_of c.args.self.now) { sessions = xs }) (c.get_mut.follows.holds-at-none ∙ absent c.args.number c.args.self.now.sessions (asked_to_stop c.args.rcode c.args.delay) c.in_default.ensures.value)

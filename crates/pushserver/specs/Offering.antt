@@ -1,0 +1,31 @@
+-- An entry that is offered to a hub: it is made where it is accepted and the journal has room for it.
+--     offered entry hub      what became of it, and the hub after it
+--     code_of, heard_of      what that says of an update, which is never idle; of a hearing, which is never refused
+use Rattle.std.specs.Prelude.{ℕ, Option, Some, None, if◌then◌else◌}
+use Rattle.rrset.specs.Rcodes.{noerror, servfail}
+use Rattle.history.specs.Plans.{Plan, refuse, idle, accept, planned}
+use Rattle.history.specs.declared.entry.Entry.{Entry}
+use Rattle.pushserver.specs.declared.entering.Offered.{Offered}
+use Rattle.pushserver.specs.declared.entering.Offered.TheVariants as offers
+use Rattle.pushserver.specs.declared.given.Heard.{Heard}
+use Rattle.pushserver.specs.declared.given.Heard.TheVariants.{Entered, Ignored}
+use Rattle.pushserver.specs.declared.given.Why.TheVariants as whys
+use Rattle.pushserver.specs.Hubs.{SessionKind, HubOf, state_now, entered, can_enter}
+
+abbrev pub offered_by : {A Q M : Type 0} {kind : SessionKind A Q M} → Plan → Entry → HubOf kind → Offered × HubOf kind
+offered_by (refuse code) entry hub = (offers.Refused code, hub)
+offered_by idle entry hub = (offers.Idle, hub)
+offered_by (accept changed) entry hub = if can_enter hub entry then (offers.Made, entered entry hub) else (offers.Full, hub)
+
+abbrev pub offered : {A Q M : Type 0} {kind : SessionKind A Q M} → Entry → HubOf kind → Offered × HubOf kind
+offered entry hub = offered_by (planned (state_now hub) entry) entry hub
+
+abbrev pub code_of : Offered → ℕ
+code_of (offers.Refused code) = code
+code_of offers.Made = noerror
+code_of _ = servfail
+
+abbrev pub heard_of : Offered → Option Heard
+heard_of offers.Idle = Some (Ignored whys.Nothing)
+heard_of offers.Made = Some Entered
+heard_of _ = None

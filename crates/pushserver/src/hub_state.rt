@@ -1,0 +1,217 @@
+//! What the hub keeps, and what its calls do to that.
+
+ghost use Rattle.std.specs.Prelude.{◌≡◌, ◌≤◌, List, ℕ, Ok, Some, false, length, IfOk, IsTrue, OnErr, OnOk, ok_or};
+ghost use Rattle.std.specs.List.{AllByRecursion};
+ghost use Rattle.push_base.specs.Limits.{max_moment};
+ghost use Rattle.dnsname.specs.Names.{is_name};
+ghost use Rattle.rrset.specs.Rcodes.{formerr};
+ghost use Rattle.dnswire.specs.Reading.{hearing_of};
+ghost use Rattle.history.specs.Kept.{state_of};
+ghost use Rattle.history.specs.Plans.{IsStart};
+ghost use Rattle.history.specs.AtHome.{AreAtHome, homes_in};
+ghost use Rattle.history.specs.States.{update_in};
+ghost use Rattle.pushserver.specs.Hubs.{connect, empty_hub, disconnect, hear, moment, records_now, stop, take_octets, taken_by, update};
+ghost use Rattle.pushserver.specs.Giving.{reconfirm};
+ghost use Rattle.pushserver.specs.KeptHubs.{kept};
+ghost use Rattle.pushserver.specs.HubState.{IsSound, kept_of};
+
+use crate::decode::{read_datagram, read_message};
+use crate::entering::{code_of, heard_of};
+use crate::given::Heard;
+use crate::numbered_sessions::{MAX_SESSIONS, Sessions};
+use dnswire::Update;
+use dsosession::session::Timers;
+use history::entry::Entry;
+use history::{Homes, Points};
+use nametable::{NameTable, by_names};
+use push_base::limits::MAX_NUMBER;
+use pushsession::{NoMemory, PushSession};
+use rrset::rcodes::FORMERR;
+use rrset::{Hearing, Rr};
+use std::alloc::Global;
+
+/// The history, what is granted, all records in one table, the sessions, and the number of the next one.
+#[derive(Debug, Drop)]
+pub(crate) struct HubState {
+    pub(crate) points: Points,
+    pub(crate) timers: Timers,
+    pub(crate) index: NameTable,
+    pub(crate) sessions: Sessions,
+    pub(crate) numbers_given: u64,
+}
+
+impl HubState {
+    /// What is kept of homes in which nothing has changed yet.
+    pub(crate) fn new(homes: Homes, timers: Timers) -> Result<HubState, NoMemory>
+        requires { IsStart (state_of homes) }
+        ensures kept { IfOk result (λ keeping. kept_of keeping ≡ empty_hub kept (state_of homes) timers) }
+        ensures index { IfOk result (λ keeping. keeping.index.rows ≡ records_now (kept_of keeping)) }
+        ensures home { AreAtHome (state_of homes) }
+        ensures names { AllByRecursion (λ h. IsTrue (is_name h.0)) (homes_in (state_of homes)) }
+    {
+        homes.tell_names();
+        let alloc = homes.allocator();
+        let points = Points::new(homes)?;
+        let index = by_names(alloc, points.table(alloc)?)?;
+        Ok(HubState {
+            points,
+            timers,
+            index,
+            sessions: Sessions::new(alloc),
+            numbers_given: 0,
+        })
+    }
+
+    /// The allocator of all that is kept.
+    pub(crate) fn allocator(&self) -> Global {
+        self.sessions.allocator()
+    }
+
+    /// Judges the update that a message is, if it is one, and enters it where it is accepted and the journal has room.
+    /// Gives its RCODE: FORMERR for what is no update, SERVFAIL where the journal has no room (RFC 2136, 2.2).
+    pub(crate) fn judge(&mut self, found: Option<Update>) -> Result<u8, NoMemory>
+        requires { IsSound self.old }
+        ensures code { IfOk result (λ code. (message : List ℕ) → update_in message ≡ ok_or found formerr → code ≡ (update (kept_of self.old) message).0) }
+        ensures hub { IfOk result (λ code. (message : List ℕ) → update_in message ≡ ok_or found formerr → kept_of self.new ≡ (update (kept_of self.old) message).1) }
+        ensures err { OnErr result (kept_of self.new ≡ kept_of self.old) }
+        ensures index { self.new.index.rows ≡ records_now (kept_of self.new) }
+    {
+        let Some(update) = found else {
+            return Ok(FORMERR);
+        };
+        let offered = self.offer(Entry::Update(update))?;
+        Ok(code_of(offered))
+    }
+
+    /// Judges an update message.
+    pub(crate) fn update(&mut self, message: &[u8]) -> Result<u8, NoMemory>
+        requires { IsSound self.old }
+        ensures code { IfOk result (λ code. code ≡ (update (kept_of self.old) message.now).0) }
+        ensures hub { IfOk result (λ code. kept_of self.new ≡ (update (kept_of self.old) message.now).1) }
+        ensures err { OnErr result (kept_of self.new ≡ kept_of self.old) }
+        ensures index { self.new.index.rows ≡ records_now (kept_of self.new) }
+    {
+        let alloc = self.allocator();
+        let found = read_message(alloc, message)?;
+        self.judge(found)
+    }
+
+    /// Enters what a datagram of a link said where a record of it can be used and the journal has room. Nothing where the
+    /// journal is full.
+    fn enter_hearing(&mut self, link: usize, hearing: Hearing) -> Result<Option<Heard>, NoMemory>
+        requires { IsSound self.old }
+        ensures heard { IfOk result (λ heard. (datagram : List ℕ) → hearing_of datagram ≡ Ok hearing → heard ≡ (hear (kept_of self.old) link datagram).0) }
+        ensures hub { IfOk result (λ heard. (datagram : List ℕ) → hearing_of datagram ≡ Ok hearing → kept_of self.new ≡ (hear (kept_of self.old) link datagram).1) }
+        ensures err { OnErr result (kept_of self.new ≡ kept_of self.old) }
+        ensures index { self.new.index.rows ≡ records_now (kept_of self.new) }
+    {
+        let entry = Entry::Heard(link, hearing);
+        let offered = self.offer(entry)?;
+        Ok(heard_of(offered))
+    }
+
+    /// Hears a datagram of a link, counted from 0 (RFC 6762, 18). Nothing where the journal is full.
+    pub(crate) fn hear(&mut self, link: usize, datagram: &[u8]) -> Result<Option<Heard>, NoMemory>
+        requires { IsSound self.old }
+        ensures heard { IfOk result (λ heard. heard ≡ (hear (kept_of self.old) link datagram.now).0) }
+        ensures hub { IfOk result (λ heard. kept_of self.new ≡ (hear (kept_of self.old) link datagram.now).1) }
+        ensures err { OnErr result (kept_of self.new ≡ kept_of self.old) }
+        ensures index { self.new.index.rows ≡ records_now (kept_of self.new) }
+    {
+        let alloc = self.allocator();
+        match read_datagram(alloc, datagram)? {
+            Ok(hearing) => self.enter_hearing(link, hearing),
+            Err(why) => Ok(Some(Heard::Ignored(why))),
+        }
+    }
+
+    /// Reconfirms a record where a link shows it and the journal has room; else it is ignored (RFC 8765, 6.5).
+    pub(crate) fn reconfirm(&mut self, rr: &Rr) -> Result<(), NoMemory>
+        requires { IsSound self.old }
+        ensures hub { OnOk result (kept_of self.new ≡ reconfirm (kept_of self.old) rr.now) }
+        ensures err { OnErr result (kept_of self.new ≡ kept_of self.old) }
+        ensures index { self.new.index.rows ≡ records_now (kept_of self.new) }
+    {
+        let alloc = self.allocator();
+        let Some((link, key)) = self.points.reconfirm_key(alloc, rr)? else {
+            return Ok(());
+        };
+        self.offer(Entry::Reconfirm(link, key))?;
+        Ok(())
+    }
+
+    /// It is a moment, in milliseconds. Gives whether the journal was full, which is told before any memory is taken.
+    pub(crate) fn moment(&mut self, at: u64) -> Result<bool, NoMemory>
+        requires sound { IsSound self.old }
+        requires timely { at ≤ max_moment }
+        ensures full { IfOk result (λ full. full ≡ (moment (kept_of self.old) at).0) }
+        ensures hub { IfOk result (λ full. kept_of self.new ≡ (moment (kept_of self.old) at).1) }
+        ensures err { OnErr result (kept_of self.new ≡ kept_of self.old) }
+        ensures room { OnErr result ((moment (kept_of self.old) at).0 ≡ false) }
+        ensures index { self.new.index.rows ≡ records_now (kept_of self.new) }
+    {
+        if at <= self.points.now() {
+            return Ok(false);
+        }
+        let entry = Entry::Moment(at);
+        if !self.can_enter(&entry) {
+            return Ok(true);
+        }
+        self.offer(entry)?;
+        self.sessions.moment(at);
+        Ok(false)
+    }
+
+    /// A new session. Gives its number, or nothing where no seat is free, which is told before any memory is taken.
+    pub(crate) fn connect(&mut self) -> Result<Option<u64>, NoMemory>
+        requires { IsSound self.old }
+        ensures number { IfOk result (λ number. number ≡ (connect (kept_of self.old)).0) }
+        ensures hub { IfOk result (λ number. kept_of self.new ≡ (connect (kept_of self.old)).1) }
+        ensures err { OnErr result (kept_of self.new ≡ kept_of self.old) }
+        ensures seat { OnErr result ((connect (kept_of self.old)).0 ≡ Some self.old.numbers_given) }
+        ensures index { self.new.index.rows ≡ records_now (kept_of self.new) }
+    {
+        if self.sessions.len() >= MAX_SESSIONS || self.numbers_given == MAX_NUMBER {
+            return Ok(None);
+        }
+        let number = self.numbers_given;
+        let session = PushSession::new(self.allocator(), self.points.now())?;
+        self.sessions.push(number, session)?;
+        self.numbers_given = number + 1;
+        Ok(Some(number))
+    }
+
+    /// The session of a number goes.
+    pub(crate) fn end(&mut self, number: u64)
+        requires { IsSound self.old }
+        ensures hub { kept_of self.new ≡ disconnect (kept_of self.old) number }
+        ensures index { self.new.index.rows ≡ records_now (kept_of self.new) }
+    {
+        self.sessions.remove(number);
+    }
+
+    /// Octets go into a session's input as far as there is room. Gives how many.
+    pub(crate) fn take(&mut self, number: u64, piece: &[u8]) -> usize
+        requires { IsSound self.old }
+        ensures count { result ≡ taken_by (kept_of self.old) number piece.now }
+        ensures hub { kept_of self.new ≡ take_octets (kept_of self.old) number piece.now }
+        ensures bound { result ≤ length piece.now }
+        ensures index { self.new.index.rows ≡ records_now (kept_of self.new) }
+    {
+        match self.sessions.get_mut(number) {
+            Some(session) => session.take(piece),
+            None => 0,
+        }
+    }
+
+    /// A stop of a session is asked for, with an RCODE and a Retry Delay in milliseconds (RFC 8490, 6.6.1).
+    pub(crate) fn stop(&mut self, number: u64, rcode: u8, delay: u32)
+        requires { IsSound self.old }
+        ensures hub { kept_of self.new ≡ stop (kept_of self.old) number rcode delay }
+        ensures index { self.new.index.rows ≡ records_now (kept_of self.new) }
+    {
+        if let Some(session) = self.sessions.get_mut(number) {
+            session.stop(rcode, delay);
+        }
+    }
+}
