@@ -1,7 +1,8 @@
 -- What a run does for what its words ask.
 --     reply_to request octets      what is answered, given the octets of the source that the request names
 --     AsksReplay request, AsksServer request      a script is to be run; a server is asked for
---     AsksServed request script asked, AsksAccepted request script asked, AsksInPieces request script sent, AsksFed request script fed, AsksFor request octets script      the script that is to be run is one of which a promise speaks
+--     AsksAccepted request script asked, AsksInPieces request script sent, AsksFed request script fed, AsksFor request octets script      the script that is to be run is one of which a promise speaks
+--     WritesReplies request written      each reply that is promised is written, where `written octets reply` says that this one is, for these octets of the source
 --     IsAnswered request .. octets reply      where these may be the octets of the source, this reply was written, or what a fault leaves of it
 --     LeavesRest, OpensPath, Reaches, InputStays      what becomes of the source, the path, all else that the outside tells, and the input
 use Rattle.std.specs.Prelude.{◌≡◌, ◌⊎◌, ⊤, ℕ, Some, None, Ok, List, [], ◌∷◌, ◌++◌}
@@ -14,10 +15,9 @@ use Rattle.push_base.specs.Written.{Took}
 use Rattle.replay.specs.TextWords.{by_history}
 use Rattle.scripts.specs.Sources.{front_read, left_behind, LeftBehind}
 use Rattle.scripts.specs.Outcomes.{HasRead}
-use Rattle.replay.specs.Serving.{Asked, AsksFirst}
-use Rattle.replay.specs.ScriptPieces.{SentInPieces, SendsPieces}
-use Rattle.replay.specs.FedLines.{Fed, FeedsLone}
-use Rattle.script_laws.specs.Sending.{Asks, AsksAnywhere}
+use Rattle.replay.specs.ScriptPieces.{SentInPieces, SendsPieces, TellsInTurn, pieces_reply}
+use Rattle.replay.specs.FedLines.{Fed, FeedsLone, fed_reply}
+use Rattle.script_laws.specs.Sending.{Asks, AsksAnywhere, AskIsAnswered, asked_reply}
 use Rattle.big_scripts.specs.Replies.{reply_to_number}
 use Rattle.push_outside.specs.Outside.{Telling, Used, Adds}
 use Rattle.dnspush.specs.ScriptCommands.{task_reply}
@@ -39,15 +39,11 @@ AsksReplay (Some (On_input Replay)) = ⊤
 AsksReplay (Some (At_path Replay path)) = ⊤
 AsksReplay request = ⊥
 
--- a script is to be run in which a peer's first SUBSCRIBE is accepted
-abbrev pub AsksServed : Option Request → List ℕ → Asked → Type 0
-AsksServed request script asked = AsksReplay request × AsksFirst script asked
-
 -- one in which, at any line, on any session, after any messages, a peer's SUBSCRIBE meets none of the refusing tests in its turn
 abbrev pub AsksAccepted : Option Request → List ℕ → Asks → Type 0
 AsksAccepted request script asked = AsksReplay request × AsksAnywhere script asked
 
--- a script is to be run in which a peer sends its octets in pieces, and its session goes on or ends with the last one
+-- one in which a peer sends its octets in pieces, and its session goes on or ends with the last one
 abbrev pub AsksInPieces : Option Request → List ℕ → SentInPieces → Type 0
 AsksInPieces request script sent = AsksReplay request × SendsPieces script sent
 
@@ -58,6 +54,21 @@ AsksFed request script fed = AsksReplay request × FeedsLone script fed
 -- a script is to be run, and these are its lines
 abbrev pub AsksFor : Option Request → List ℕ → List ScriptLine → Type 0
 AsksFor request octets script = AsksReplay request × (script_of octets ≡ Ok script)
+
+-- What is written, where `written octets reply` says that this reply is, for these octets of the source.
+pub record WritesReplies (request : Option Request) (written : List ℕ → Reply → Type 0) : Type 0 where
+  -- what is answered, given these octets
+  pub reply : (octets : List ℕ) → written octets (reply_to request octets)
+  -- In every script, at any line, on any session, after any messages, a peer's SUBSCRIBE that meets none of the refusing tests is answered
+  -- NOERROR, and the PUSH of the first answer follows, where it has notices; what the line tells before and behind it is what was made in
+  -- turn. Where the SUBSCRIBE is a peer's first octets, nothing stands before or behind it (`FirstOnesAskAnywhere` of `script_laws`).
+  pub asked : (octets : List ℕ) (asked : Asks) (asks : AsksAccepted request (front_read octets) asked) → (answer : AskIsAnswered by_history (front_read octets) asked asks.1)
+      × written octets (asked_reply by_history (front_read octets) asked asks.1 answer.front answer.back answer.over)
+  -- In every script, as long as no entry is made, what is told of the pieces in which a peer sends its octets answers the whole messages that
+  -- they complete; where the last piece ends its session, the line of the end stands behind it.
+  pub pieces : (octets : List ℕ) (sent : SentInPieces) → AsksInPieces request (front_read octets) sent → (told : List (List ℕ)) × TellsInTurn sent told × written octets (pieces_reply by_history sent told)
+  -- in every script a lone client reacts to each whole message that it is fed, one after the other
+  pub fed : (octets : List ℕ) (fed : Fed) → AsksFed request (front_read octets) fed → written octets (fed_reply by_history fed)
 
 -- these may be the octets of the one source that was taken back, if any was
 abbrev pub MayHaveGiven : Option (List Used) → Option (List Used) → List ℕ → Type 0

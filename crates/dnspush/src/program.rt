@@ -3,16 +3,11 @@
 ghost use Rattle.std.specs.Prelude.{◌≡◌, ◌+◌, ◌⊎◌, ℕ, List, IsNone};
 ghost use Rattle.push_base.specs.Causes.{Rose};
 ghost use Rattle.replay.specs.Promises.{KeepsPromises};
-ghost use Rattle.replay.specs.FedLines.{Fed, fed_reply};
 ghost use Rattle.scripts.specs.Lines.{ScriptLine};
 ghost use Rattle.scripts.specs.Scripts.{max_script};
 ghost use Rattle.scripts.specs.Sources.{front_read, LostAtMost};
-ghost use Rattle.replay.specs.ScriptPieces.{SentInPieces, TellsInTurn, pieces_reply};
 ghost use Rattle.push_base.specs.Written.{IsFrontOf, Took};
-ghost use Rattle.replay.specs.Serving.{Asked, served_reply};
-ghost use Rattle.script_laws.specs.Sending.{Asks, AskIsAnswered, asked_reply};
-ghost use Rattle.replay.specs.TextWords.{by_history};
-ghost use Rattle.dnspush.specs.Runs.{AsksAccepted, AsksFed, AsksFor, AsksInPieces, AsksServed, AsksServer, InputStays, IsAnswered, LeavesRest, OpensPath, ReachRose, Reaches, SinkRose, SourceRose, reply_to};
+ghost use Rattle.dnspush.specs.Runs.{AsksFor, AsksServer, InputStays, IsAnswered, LeavesRest, OpensPath, ReachRose, Reaches, SinkRose, SourceRose, WritesReplies};
 ghost use Rattle.dnspush.specs.Serving.{IsServed};
 ghost use Rattle.dnspush.specs.Status.{code_of};
 ghost use Rattle.dnspush.specs.Subscribing.{IsFollowed};
@@ -46,34 +41,11 @@ pub fn run<R: Threads + Wait + Copy + Send + 'static, O: Outside>(
     out: &mut O::Out,
     outside: &mut O,
 ) -> u8
-    // What is written, for the octets that the source had, as far as they are told.
-    ensures replied { (octets : List ℕ) →
-        IsAnswered (request_in words.now) (O.In.left input.old) (O.told outside.old).used (O.told outside.new).used (O.Out.taken out.old) (O.Out.taken out.new)
-        (O.In.faults input.old) (O.In.faults input.new) (O.reads outside.old) (O.reads outside.new) result octets (reply_to (request_in words.now) octets) }
-
-    // In every script a peer's first SUBSCRIBE that a new session accepts is answered NOERROR, and the PUSH of the first answer follows, where
-    // there are records.
-    ensures served { (octets : List ℕ) (asked : Asked) → AsksServed (request_in words.now) (front_read octets) asked →
-        IsAnswered (request_in words.now) (O.In.left input.old) (O.told outside.old).used (O.told outside.new).used (O.Out.taken out.old) (O.Out.taken out.new)
-        (O.In.faults input.old) (O.In.faults input.new) (O.reads outside.old) (O.reads outside.new) result octets (served_reply by_history asked) }
-
-    // In every script, at any line, on any session, after any messages, a peer's SUBSCRIBE that meets none of the refusing tests is answered
-    // NOERROR, and the PUSH of the first answer follows, where it has notices; what the line tells before and behind it is what was made in turn.
-    ensures asked { (octets : List ℕ) (asked : Asks) (asks : AsksAccepted (request_in words.now) (front_read octets) asked) → (answer : AskIsAnswered by_history (front_read octets) asked asks.1) ×
-        IsAnswered (request_in words.now) (O.In.left input.old) (O.told outside.old).used (O.told outside.new).used (O.Out.taken out.old) (O.Out.taken out.new)
-        (O.In.faults input.old) (O.In.faults input.new) (O.reads outside.old) (O.reads outside.new) result octets
-        (asked_reply by_history (front_read octets) asked asks.1 answer.front answer.back answer.over) }
-
-    // In every script, as long as no entry is made, what is told of the pieces in which a peer sends its octets answers the whole messages that
-    // they complete; where the last piece ends its session, the line of the end stands behind it.
-    ensures pieces { (octets : List ℕ) (sent : SentInPieces) → AsksInPieces (request_in words.now) (front_read octets) sent → (told : List (List ℕ)) × TellsInTurn sent told ×
-        IsAnswered (request_in words.now) (O.In.left input.old) (O.told outside.old).used (O.told outside.new).used (O.Out.taken out.old) (O.Out.taken out.new)
-        (O.In.faults input.old) (O.In.faults input.new) (O.reads outside.old) (O.reads outside.new) result octets (pieces_reply by_history sent told) }
-
-    // In every script a lone client reacts to each whole message that it is fed, one after the other.
-    ensures fed { (octets : List ℕ) (fed : Fed) → AsksFed (request_in words.now) (front_read octets) fed →
-        IsAnswered (request_in words.now) (O.In.left input.old) (O.told outside.old).used (O.told outside.new).used (O.Out.taken out.old) (O.Out.taken out.new)
-        (O.In.faults input.old) (O.In.faults input.new) (O.reads outside.old) (O.reads outside.new) result octets (fed_reply by_history fed) }
+    // What is written, for the octets that the source had, as far as they are told: the reply to these; and in scripts what is promised of a
+    // peer's SUBSCRIBE, of octets that come in pieces, and of a lone client that is fed.
+    ensures replied { WritesReplies (request_in words.now)
+        (IsAnswered (request_in words.now) (O.In.left input.old) (O.told outside.old).used (O.told outside.new).used (O.Out.taken out.old) (O.Out.taken out.new)
+        (O.In.faults input.old) (O.In.faults input.new) (O.reads outside.old) (O.reads outside.new) result) }
 
     // In every script no `held` line shows an earlier point than one before it of that client and question, and right after a settle each
     // question that a client wants, and that is served, is held with the newest records.

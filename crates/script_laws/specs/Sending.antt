@@ -5,7 +5,7 @@
 --     SendsAreAnswered      the line that a script prints where a peer sends octets
 --     Asks, AsksAnywhere, AsksAreAnswered      an acceptable SUBSCRIBE among the messages that a line brings up
 --     EachIsBroughtUp      each of these messages has its turn, and its effect
---     FirstOnesAskAnywhere      a peer's first octets are a case of this
+--     FirstOnesAskAnywhere      a peer's first octets are a case of this, and its reply is the one that `replay` tells of them
 use Rattle.std.specs.Prelude.{◌≡◌, ℕ, true, List, [], ◌∷◌, ◌++◌, map, flat_map, Option, Some, None, Ok}
 use Rattle.std.specs.List.{AllByRecursion}
 use Rattle.rrset.specs.Header.{id_of}
@@ -36,7 +36,7 @@ use Rattle.scripts.specs.Outcomes.{status_of}
 use Rattle.scripts.specs.Reply.{Reply}
 use Rattle.replay.specs.ScriptReplies.{reply_to_script}
 use Rattle.replay.specs.Between.{world_then}
-use Rattle.replay.specs.Serving.{Asked, asked_between, connected_then, AsksFirst}
+use Rattle.replay.specs.Serving.{Asked, asked_between, connected_then, AsksFirst, served_reply}
 use Rattle.script_laws.specs.LineCalls.{exchange_calls}
 use Rattle.script_laws.specs.EachMessage.{HasItsTurn, TurnHasEffect}
 use Rattle.script_laws.specs.InTurn.{made_in}
@@ -195,6 +195,9 @@ first_as asked number = record {
   question = asked.question;
 }
 
--- what is promised of a peer's first octets is so of any
+-- a SUBSCRIBE among a peer's first octets is one that is sent anywhere; and where it is answered so, the reply is that in which NOERROR and
+-- the first answer alone stand in the peer's line, without an end
 abbrev pub FirstOnesAskAnywhere : Type 0
-FirstOnesAskAnywhere = (text : List ℕ) (asked : Asked) → AsksFirst text asked → (number : ℕ) × AsksAnywhere text (first_as asked number)
+FirstOnesAskAnywhere = (text : List ℕ) (asked : Asked) → AsksFirst text asked → (number : ℕ) × (asks : AsksAnywhere text (first_as asked number))
+    × ((records : HeldRecords) (answer : AskIsAnswered records text (first_as asked number) asks)
+    → asked_reply records text (first_as asked number) asks answer.front answer.back answer.over ≡ served_reply records asked)

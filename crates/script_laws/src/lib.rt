@@ -101,8 +101,8 @@ pub fn worked_sends()
 /// What a peer sends in a line is answered in it: while the session is open, each whole message in what waited and what came
 /// is reacted to; the line tells the frames of the messages that were made in it, for these messages, for names that waited
 /// and for a stop; nothing waits behind it, and an end is told where the session has come to one. So the text holds NOERROR
-/// and the first answer for each SUBSCRIBE among them that none of the tests refuses, be it among a
-/// peer's first octets or behind any others.
+/// and the first answer for each SUBSCRIBE among them that none of the tests refuses, be it behind any others or a
+/// peer's first octets, whose line tells nothing else.
 pub fn sends_are_answered()
     ensures sends { SendsAreAnswered }
     ensures asks { AsksAreAnswered }

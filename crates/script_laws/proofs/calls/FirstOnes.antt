@@ -1,6 +1,6 @@
--- A SUBSCRIBE that a peer sends as its first octets is one that is sent anywhere.
+-- A SUBSCRIBE that a peer sends as its first octets is one that is sent anywhere, and its answer stands alone in the line.
 --     first-ones      the law
-use Rattle.std.proofs.Common.{◌≡◌, ℕ, ◌≤◌, Bool, true, false, ◌||◌, List, [], ◌∷◌, ◌++◌, length, take, drop, min, Option, Some, None, refl, ◌∙◌, ap, arith, take_all, le_refl, eq-eqb}
+use Rattle.std.proofs.Common.{◌≡◌, ℕ, ◌≤◌, Bool, true, false, ◌||◌, List, [], ◌∷◌, ◌++◌, length, take, drop, min, Option, Some, None, refl, sym, ◌∙◌, ap, arith, take_all, le_refl, eq-eqb}
 use Rattle.std.specs.Prelude.{◌==◌, option_map, IsSome}
 use Rattle.dsotlv.specs.Messages.{first_message}
 use Rattle.pushsession.specs.Sessions.{new_session, with_piece, room_of}
@@ -16,6 +16,7 @@ use Rattle.replay.specs.PassedOctets.{enough}
 use Rattle.replay.specs.Between.{lines_of, world_then}
 use Rattle.replay.specs.Serving.{Asked, asked_between, connected_then}
 use Rattle.replay.specs.Text.{placed}
+use Rattle.replay.proofs.serving.Serving.{served_is}
 use Rattle.replay.proofs.turns.SendSizes.{sends-short}
 use Rattle.script_laws.specs.Whole.{StandsAfterEachLine}
 use Rattle.script_laws.specs.LineCalls.{emit_calls, fed_calls, exchange_calls}
@@ -113,6 +114,7 @@ first-ones stands text asked asks =
         turn = first-turn (connected_then asked) number (now world.hub) asked.octets asked.message new.there asks.found few;
         acceptable = record { request = asks.acceptable.request; accepted = asks.acceptable.accepted };
       },
+      λ records answer. sym answer.replied ∙ served_is records text asked asks,
     )
   where
     place-of : (asked : Asked) (number : ℕ) → session_number (world_then (asked_between asked)) asked.word ≡ None → (connect (world_then (asked_between asked)).hub).0 ≡ Some number

@@ -2,84 +2,28 @@ use Rattle.std.proofs.Common.{Some, None, sym, ◌∙◌, ap}
 use Rattle.scripts.proofs.ReadPieces.{lost_none}
 use Rattle.dnspush.specs.Command.{asked}
 use Rattle.dnspush.proofs.Running.{usage_answered, input_answered, path_answered, number_answered}
-use Rattle.dnspush.proofs.Promises.{none_asked, number_asks_none, server_asks_none, subscriber_asks_none, served_answered, asked_answered, pieces_answered, fed_answered, promises_kept}
+use Rattle.dnspush.proofs.Promises.{replies_written, promises_kept}
 use Rattle.dnspush.proofs.Following.{followed, not-followed, none-known}
 use Rattle.dnspush.proofs.Serving.{serves_so, not-served, none-known as none-known-served}
 use Rattle.dnspush.specs.Words.{On_input, At_path, Big, Serve, Subscribe}
 use Rattle.dnspush.proofs.program.run.Goals as goal
 
 pub returns-in-None-clause-replied : goal.returns-in-None-clause-replied
-returns-in-None-clause-replied g c = λ octets may. usage_answered _ _ _ octets _ _ _ _ c.in-None.ensures c.code.ensures c.tell_status.ensures.told
+returns-in-None-clause-replied g c =
+    replies_written c.sends_are_answered.ensures.asks c.lone_clients_react_to_each_message.ensures _ _
+    (λ octets may. usage_answered _ _ _ octets _ _ _ _ c.in-None.ensures c.code.ensures c.tell_status.ensures.told)
 
 pub returns-in-Some-OnInput-clause-replied : goal.returns-in-Some-OnInput-clause-replied
-returns-in-Some-OnInput-clause-replied g c = λ octets may.
+returns-in-Some-OnInput-clause-replied g c =
     let is = ap (λ x. Some (asked x)) (sym c.in-Some-OnInput.field-0-is) ∙ c.in-Some-OnInput.ensures in
-    input_answered c.replies_are_one.ensures.one _ _ _ c.in-Some-OnInput.task _ _ _ _ _ octets _ _ is c.code-in-Some-OnInput.ensures c.on_source.ensures.replied may
+    replies_written c.sends_are_answered.ensures.asks c.lone_clients_react_to_each_message.ensures _ _
+    (λ octets may. input_answered c.replies_are_one.ensures.one _ _ _ c.in-Some-OnInput.task _ _ _ _ _ octets _ _ is c.code-in-Some-OnInput.ensures c.on_source.ensures.replied may)
 
 pub returns-in-Some-AtPath-clause-replied : goal.returns-in-Some-AtPath-clause-replied
-returns-in-Some-AtPath-clause-replied g c = λ octets may.
+returns-in-Some-AtPath-clause-replied g c =
     let is = ap (λ x. Some (asked x)) (sym c.in-Some-AtPath.field-0-is) ∙ c.in-Some-AtPath.ensures in
-    path_answered c.replies_are_one.ensures.one _ _ _ c.in-Some-AtPath.task c.in-Some-AtPath.path.now _ _ _ _ _ octets _ _ is c.code-in-Some-AtPath.ensures (c.at_path-outcome.ensures.replied octets) may
-
-pub returns-in-None-clause-served : goal.returns-in-None-clause-served
-returns-in-None-clause-served g c = λ octets asks h may. absurd (none_asked _ c.in-None.ensures h.0)
-
-pub returns-in-Some-OnInput-clause-served : goal.returns-in-Some-OnInput-clause-served
-returns-in-Some-OnInput-clause-served g c = λ octets asks h may.
-    let is = ap (λ x. Some (asked x)) (sym c.in-Some-OnInput.field-0-is) ∙ c.in-Some-OnInput.ensures in
-    served_answered _ _ octets asks _ _ _ h
-    (input_answered c.replies_are_one.ensures.one _ _ _ c.in-Some-OnInput.task _ _ _ _ _ octets _ _ is c.code-in-Some-OnInput.ensures c.on_source.ensures.replied may)
-
-pub returns-in-Some-AtPath-clause-served : goal.returns-in-Some-AtPath-clause-served
-returns-in-Some-AtPath-clause-served g c = λ octets asks h may.
-    let is = ap (λ x. Some (asked x)) (sym c.in-Some-AtPath.field-0-is) ∙ c.in-Some-AtPath.ensures in
-    served_answered _ _ octets asks _ _ _ h
-    (path_answered c.replies_are_one.ensures.one _ _ _ c.in-Some-AtPath.task c.in-Some-AtPath.path.now _ _ _ _ _ octets _ _ is c.code-in-Some-AtPath.ensures (c.at_path-outcome.ensures.replied octets) may)
-
-pub returns-in-None-clause-asked : goal.returns-in-None-clause-asked
-returns-in-None-clause-asked g c = λ octets asked asks. absurd (none_asked _ c.in-None.ensures asks.0)
-
-pub returns-in-Some-OnInput-clause-asked : goal.returns-in-Some-OnInput-clause-asked
-returns-in-Some-OnInput-clause-asked g c = λ octets asked_line asks.
-    let is = ap (λ x. Some (asked x)) (sym c.in-Some-OnInput.field-0-is) ∙ c.in-Some-OnInput.ensures in
-    asked_answered c.sends_are_answered.ensures.asks _ _ _ octets asked_line _ _ _ asks
-    (λ may. input_answered c.replies_are_one.ensures.one _ _ _ c.in-Some-OnInput.task _ _ _ _ _ octets _ _ is c.code-in-Some-OnInput.ensures c.on_source.ensures.replied may)
-
-pub returns-in-Some-AtPath-clause-asked : goal.returns-in-Some-AtPath-clause-asked
-returns-in-Some-AtPath-clause-asked g c = λ octets asked_line asks.
-    let is = ap (λ x. Some (asked x)) (sym c.in-Some-AtPath.field-0-is) ∙ c.in-Some-AtPath.ensures in
-    asked_answered c.sends_are_answered.ensures.asks _ _ _ octets asked_line _ _ _ asks
-    (λ may. path_answered c.replies_are_one.ensures.one _ _ _ c.in-Some-AtPath.task c.in-Some-AtPath.path.now _ _ _ _ _ octets _ _ is c.code-in-Some-AtPath.ensures (c.at_path-outcome.ensures.replied octets) may)
-
-pub returns-in-None-clause-pieces : goal.returns-in-None-clause-pieces
-returns-in-None-clause-pieces g c = λ octets sent h. absurd (none_asked _ c.in-None.ensures h.0)
-
-pub returns-in-Some-OnInput-clause-pieces : goal.returns-in-Some-OnInput-clause-pieces
-returns-in-Some-OnInput-clause-pieces g c = λ octets sent h.
-    let is = ap (λ x. Some (asked x)) (sym c.in-Some-OnInput.field-0-is) ∙ c.in-Some-OnInput.ensures in
-    pieces_answered _ _ _ octets sent _ _ _ h
-    (λ may. input_answered c.replies_are_one.ensures.one _ _ _ c.in-Some-OnInput.task _ _ _ _ _ octets _ _ is c.code-in-Some-OnInput.ensures c.on_source.ensures.replied may)
-
-pub returns-in-Some-AtPath-clause-pieces : goal.returns-in-Some-AtPath-clause-pieces
-returns-in-Some-AtPath-clause-pieces g c = λ octets sent h.
-    let is = ap (λ x. Some (asked x)) (sym c.in-Some-AtPath.field-0-is) ∙ c.in-Some-AtPath.ensures in
-    pieces_answered _ _ _ octets sent _ _ _ h
-    (λ may. path_answered c.replies_are_one.ensures.one _ _ _ c.in-Some-AtPath.task c.in-Some-AtPath.path.now _ _ _ _ _ octets _ _ is c.code-in-Some-AtPath.ensures (c.at_path-outcome.ensures.replied octets) may)
-
-pub returns-in-None-clause-fed : goal.returns-in-None-clause-fed
-returns-in-None-clause-fed g c = λ octets fed h may. absurd (none_asked _ c.in-None.ensures h.0)
-
-pub returns-in-Some-OnInput-clause-fed : goal.returns-in-Some-OnInput-clause-fed
-returns-in-Some-OnInput-clause-fed g c = λ octets fed h may.
-    let is = ap (λ x. Some (asked x)) (sym c.in-Some-OnInput.field-0-is) ∙ c.in-Some-OnInput.ensures in
-    fed_answered c.lone_clients_react_to_each_message.ensures _ _ octets fed _ _ _ h
-    (input_answered c.replies_are_one.ensures.one _ _ _ c.in-Some-OnInput.task _ _ _ _ _ octets _ _ is c.code-in-Some-OnInput.ensures c.on_source.ensures.replied may)
-
-pub returns-in-Some-AtPath-clause-fed : goal.returns-in-Some-AtPath-clause-fed
-returns-in-Some-AtPath-clause-fed g c = λ octets fed h may.
-    let is = ap (λ x. Some (asked x)) (sym c.in-Some-AtPath.field-0-is) ∙ c.in-Some-AtPath.ensures in
-    fed_answered c.lone_clients_react_to_each_message.ensures _ _ octets fed _ _ _ h
-    (path_answered c.replies_are_one.ensures.one _ _ _ c.in-Some-AtPath.task c.in-Some-AtPath.path.now _ _ _ _ _ octets _ _ is c.code-in-Some-AtPath.ensures (c.at_path-outcome.ensures.replied octets) may)
+    replies_written c.sends_are_answered.ensures.asks c.lone_clients_react_to_each_message.ensures _ _
+    (λ octets may. path_answered c.replies_are_one.ensures.one _ _ _ c.in-Some-AtPath.task c.in-Some-AtPath.path.now _ _ _ _ _ octets _ _ is c.code-in-Some-AtPath.ensures (c.at_path-outcome.ensures.replied octets) may)
 
 pub returns-in-None-clause-promises : goal.returns-in-None-clause-promises
 returns-in-None-clause-promises g c = λ octets script asks. promises_kept c.scripts_keep_promises.ensures.promises _ octets script asks
@@ -91,57 +35,19 @@ pub returns-in-Some-AtPath-clause-promises : goal.returns-in-Some-AtPath-clause-
 returns-in-Some-AtPath-clause-promises g c = λ octets script asks. promises_kept c.scripts_keep_promises.ensures.promises _ octets script asks
 
 pub returns-in-Some-Big-clause-replied : goal.returns-in-Some-Big-clause-replied
-returns-in-Some-Big-clause-replied g c = λ octets may.
+returns-in-Some-Big-clause-replied g c =
     let is = ap (λ x. Some (asked x)) (sym c.in-Some-Big.field-0-is) ∙ c.in-Some-Big.ensures in
-    number_answered c.replies_are_one.ensures.one _ _ _ c.in-Some-Big.number _ _ octets _ _ is c.code-in-Some-Big.ensures c.tell_sums.ensures.replied
-
-pub returns-in-Some-Big-clause-served : goal.returns-in-Some-Big-clause-served
-returns-in-Some-Big-clause-served g c = λ octets asks h may.
-    let is = ap (λ x. Some (asked x)) (sym c.in-Some-Big.field-0-is) ∙ c.in-Some-Big.ensures in
-    absurd (number_asks_none _ c.in-Some-Big.number is h.0)
-
-pub returns-in-Some-Big-clause-pieces : goal.returns-in-Some-Big-clause-pieces
-returns-in-Some-Big-clause-pieces g c = λ octets sent h.
-    let is = ap (λ x. Some (asked x)) (sym c.in-Some-Big.field-0-is) ∙ c.in-Some-Big.ensures in
-    absurd (number_asks_none _ c.in-Some-Big.number is h.0)
+    replies_written c.sends_are_answered.ensures.asks c.lone_clients_react_to_each_message.ensures _ _
+    (λ octets may. number_answered c.replies_are_one.ensures.one _ _ _ c.in-Some-Big.number _ _ octets _ _ is c.code-in-Some-Big.ensures c.tell_sums.ensures.replied)
 
 pub returns-in-Some-Big-clause-promises : goal.returns-in-Some-Big-clause-promises
 returns-in-Some-Big-clause-promises g c = λ octets script asks. promises_kept c.scripts_keep_promises.ensures.promises _ octets script asks
 
-pub returns-in-Some-Big-clause-asked : goal.returns-in-Some-Big-clause-asked
-returns-in-Some-Big-clause-asked g c = λ octets asked_line asks.
-    let is = ap (λ x. Some (asked x)) (sym c.in-Some-Big.field-0-is) ∙ c.in-Some-Big.ensures in
-    absurd (number_asks_none _ c.in-Some-Big.number is asks.0)
-
-pub returns-in-Some-Big-clause-fed : goal.returns-in-Some-Big-clause-fed
-returns-in-Some-Big-clause-fed g c = λ octets fed h may.
-    let is = ap (λ x. Some (asked x)) (sym c.in-Some-Big.field-0-is) ∙ c.in-Some-Big.ensures in
-    absurd (number_asks_none _ c.in-Some-Big.number is h.0)
-
 pub returns-in-Some-Subscribe-clause-replied : goal.returns-in-Some-Subscribe-clause-replied
-returns-in-Some-Subscribe-clause-replied g c = λ octets may.
+returns-in-Some-Subscribe-clause-replied g c =
     let is = ap (λ x. Some (asked x)) (sym c.in-Some-Subscribe.field-0-is) ∙ c.in-Some-Subscribe.ensures in
-    absurd (none-known _ c.in-Some-Subscribe.path.now _ _ _ octets is may)
-
-pub returns-in-Some-Subscribe-clause-served : goal.returns-in-Some-Subscribe-clause-served
-returns-in-Some-Subscribe-clause-served g c = λ octets asks h may.
-    let is = ap (λ x. Some (asked x)) (sym c.in-Some-Subscribe.field-0-is) ∙ c.in-Some-Subscribe.ensures in
-    absurd (subscriber_asks_none _ c.in-Some-Subscribe.path.now is h.0)
-
-pub returns-in-Some-Subscribe-clause-asked : goal.returns-in-Some-Subscribe-clause-asked
-returns-in-Some-Subscribe-clause-asked g c = λ octets asked_line asks.
-    let is = ap (λ x. Some (asked x)) (sym c.in-Some-Subscribe.field-0-is) ∙ c.in-Some-Subscribe.ensures in
-    absurd (subscriber_asks_none _ c.in-Some-Subscribe.path.now is asks.0)
-
-pub returns-in-Some-Subscribe-clause-pieces : goal.returns-in-Some-Subscribe-clause-pieces
-returns-in-Some-Subscribe-clause-pieces g c = λ octets sent h.
-    let is = ap (λ x. Some (asked x)) (sym c.in-Some-Subscribe.field-0-is) ∙ c.in-Some-Subscribe.ensures in
-    absurd (subscriber_asks_none _ c.in-Some-Subscribe.path.now is h.0)
-
-pub returns-in-Some-Subscribe-clause-fed : goal.returns-in-Some-Subscribe-clause-fed
-returns-in-Some-Subscribe-clause-fed g c = λ octets fed h may.
-    let is = ap (λ x. Some (asked x)) (sym c.in-Some-Subscribe.field-0-is) ∙ c.in-Some-Subscribe.ensures in
-    absurd (subscriber_asks_none _ c.in-Some-Subscribe.path.now is h.0)
+    replies_written c.sends_are_answered.ensures.asks c.lone_clients_react_to_each_message.ensures _ _
+    (λ octets may. absurd (none-known _ c.in-Some-Subscribe.path.now _ _ _ octets is may))
 
 pub returns-in-Some-Subscribe-clause-promises : goal.returns-in-Some-Subscribe-clause-promises
 returns-in-Some-Subscribe-clause-promises g c = λ octets script asks. promises_kept c.scripts_keep_promises.ensures.promises _ octets script asks
@@ -170,29 +76,10 @@ returns-in-Some-Big-clause-followed g c = λ octets.
     not-followed _ (Some (Big c.in-Some-Big.number)) _ _ _ octets is tt
 
 pub returns-in-Some-Serve-clause-replied : goal.returns-in-Some-Serve-clause-replied
-returns-in-Some-Serve-clause-replied g c = λ octets may.
+returns-in-Some-Serve-clause-replied g c =
     let is = ap (λ x. Some (asked x)) (sym c.in-Some-Serve.field-0-is) ∙ c.in-Some-Serve.ensures in
-    absurd (none-known-served _ c.in-Some-Serve.path.now _ _ _ octets is may)
-
-pub returns-in-Some-Serve-clause-served : goal.returns-in-Some-Serve-clause-served
-returns-in-Some-Serve-clause-served g c = λ octets asks h may.
-    let is = ap (λ x. Some (asked x)) (sym c.in-Some-Serve.field-0-is) ∙ c.in-Some-Serve.ensures in
-    absurd (server_asks_none _ c.in-Some-Serve.path.now is h.0)
-
-pub returns-in-Some-Serve-clause-asked : goal.returns-in-Some-Serve-clause-asked
-returns-in-Some-Serve-clause-asked g c = λ octets asked_line asks.
-    let is = ap (λ x. Some (asked x)) (sym c.in-Some-Serve.field-0-is) ∙ c.in-Some-Serve.ensures in
-    absurd (server_asks_none _ c.in-Some-Serve.path.now is asks.0)
-
-pub returns-in-Some-Serve-clause-pieces : goal.returns-in-Some-Serve-clause-pieces
-returns-in-Some-Serve-clause-pieces g c = λ octets sent h.
-    let is = ap (λ x. Some (asked x)) (sym c.in-Some-Serve.field-0-is) ∙ c.in-Some-Serve.ensures in
-    absurd (server_asks_none _ c.in-Some-Serve.path.now is h.0)
-
-pub returns-in-Some-Serve-clause-fed : goal.returns-in-Some-Serve-clause-fed
-returns-in-Some-Serve-clause-fed g c = λ octets fed h may.
-    let is = ap (λ x. Some (asked x)) (sym c.in-Some-Serve.field-0-is) ∙ c.in-Some-Serve.ensures in
-    absurd (server_asks_none _ c.in-Some-Serve.path.now is h.0)
+    replies_written c.sends_are_answered.ensures.asks c.lone_clients_react_to_each_message.ensures _ _
+    (λ octets may. absurd (none-known-served _ c.in-Some-Serve.path.now _ _ _ octets is may))
 
 pub returns-in-Some-Serve-clause-promises : goal.returns-in-Some-Serve-clause-promises
 returns-in-Some-Serve-clause-promises g c = λ octets script asks. promises_kept c.scripts_keep_promises.ensures.promises _ octets script asks
