@@ -10,28 +10,28 @@ use Rattle.scripts.specs.Lines.{ScriptLine, line_of}
 use Rattle.scripts.specs.Scripts.{Known, is_head, fits}
 use Rattle.scripts.specs.Heads.{Head, with_head as with_head_of, with_head_line}
 use Rattle.scripts.specs.Drafts.{Taken, TakesLine, HeadGrowsBy, GrowsBy, head_of, head_taken, known_of, may_stand, taken_of}
-use Rattle.scripts.specs.KeptLines.{head_said, event_said, said}
+use Rattle.scripts.specs.KeptLines.{head_said, happening_said, said}
+use Rattle.scripts.specs.TextLines.{Takes}
 use Rattle.scripts.specs.declared.line.HeadLine.{HeadLine}
 use Rattle.scripts.specs.declared.line.HeadLine.TheVariants as heads
-use Rattle.scripts.specs.declared.line.Event.{Event}
-use Rattle.scripts.specs.declared.line.Event.TheVariants as events
+use Rattle.scripts.specs.declared.line.EventLine.{EventLine}
+use Rattle.scripts.specs.declared.line.EventLine.TheVariants as event_lines
 use Rattle.scripts.specs.declared.line.Line.{Line}
 use Rattle.scripts.specs.declared.line.Line.TheVariants as lines
 use Rattle.scripts.specs.declared.script.Draft.{Draft}
 use Rattle.scripts.proofs.lines.MoreLines.{adds}
 use Rattle.configurations.specs.Configurations.{ServingDraft, head_line}
-use Rattle.configurations.specs.Kept.{TakesServing, serving_drafted}
+use Rattle.configurations.specs.Kept.{serving_drafted}
 use Rattle.configurations.specs.declared.server_config.ServeDraft.{ServeDraft}
 
 -- an event is no line of a head
-no_event : (e : Event) → is_head (event_said e) ≡ true → ⊥
-no_event (events.Joining word is_lone) h = cc
-no_event (events.Hub event) h = cc
-no_event (events.Link word event) h = cc
-no_event (events.Call word call) h = cc
-no_event (events.Passing word way) h = cc
-no_event (events.Client word event) h = cc
-no_event (events.Session word event) h = cc
+no_event : (e : EventLine) → is_head (happening_said e) ≡ true → ⊥
+no_event (event_lines.Hub event) h = cc
+no_event (event_lines.Link word event) h = cc
+no_event (event_lines.Call word call) h = cc
+no_event (event_lines.Passing word way) h = cc
+no_event (event_lines.Client word event) h = cc
+no_event (event_lines.Session word event) h = cc
 
 -- the head with a further line
 pub head_grows : (taken later : Taken) (line : Line) → is_head (said line) ≡ true → GrowsBy taken line later → with_head_line (head_taken taken) (said line) ≡ head_taken later
@@ -42,6 +42,7 @@ head_grows taken later (lines.Head line) head grows = by line grows
     by (heads.Timers t) grows = ap head_taken (sym grows)
     by (heads.Zone z) grows = ap (λ (s : State). head_of taken.timers s taken.links) (sym grows.0.state) ∙ ap head_taken (sym grows.1)
     by (heads.Link l) grows = ap (λ (s : State). head_of taken.timers s (taken.links ++ string_bytes l.word ∷ [])) (sym grows.0.state) ∙ ap head_taken (sym grows.1)
+head_grows taken later (lines.Joining word is_lone) head grows = absurd cc
 head_grows taken later (lines.Event e) head grows = absurd (no_event e head)
 
 -- ---- a draft with a further line
@@ -88,7 +89,7 @@ with_draft d head = record d { head = head }
 
 -- the draft behind a line of a head
 pub draft_takes : {E : Type 0} (d : ServeDraft) (text : List ℕ) (line : Line) → Some (said line) ≡ line_of text → is_head (said line) ≡ true → (head_then : Draft) (result : Result Bool E)
-    → IfOk result (λ taken. TakesLine [] d.head line head_then taken) → IfOk result (λ taken. TakesServing (head_line (serving_drafted d) text) (with_draft d head_then) taken)
+    → IfOk result (λ taken. TakesLine [] d.head line head_then taken) → IfOk result (λ taken. Takes (head_line (serving_drafted d) text) (serving_drafted (with_draft d head_then)) taken)
 draft_takes d text line is head head_then (Err e) took = tt
 draft_takes d text line is head head_then (Ok true) took = takes (serving_drafted d) text (taken_of d.head) line refl refl is head (taken_of head_then) took.0 took.1
 draft_takes d text line is head head_then (Ok false) took = refuses (serving_drafted d) text (taken_of d.head) line refl refl is head took

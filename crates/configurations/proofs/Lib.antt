@@ -1,4 +1,4 @@
-pub mod LineByLine
+pub mod TakenLines
 pub mod Granted
 pub mod Starts
 pub mod HeadLines

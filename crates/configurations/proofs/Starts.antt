@@ -1,20 +1,22 @@
 -- Every configuration of a server begins with homes and timers with which a hub can begin.
-use Rattle.std.proofs.Common.{◌≡◌, ℕ, Bool, true, false, cond, Option, Some, None, Ok, List, [], ◌∷◌, refl, ap, subst, arith}
+use Rattle.std.proofs.Common.{◌≡◌, ℕ, Bool, true, false, cond, Option, Some, None, Result, Ok, Err, List, [], ◌∷◌, refl, ◌∙◌, ap, subst, arith}
 use Rattle.std.specs.Prelude.{option_map, unwrap_or}
 use Rattle.std.specs.List.{position}
 use Rattle.std.specs.Str.{bytes_eq}
 use Rattle.push_base.specs.Optional.{◌>>=◌}
 use Rattle.scripts.specs.Lines as script
 use Rattle.scripts.specs.Lines.{Word, HeadLine, timers, zone, link, ScriptLine, silent, number, words_in, line_of}
-use Rattle.scripts.specs.Scripts.{Known, lines_in, is_head, fits}
+use Rattle.scripts.specs.Scripts.{Known, is_head, fits}
 use Rattle.scripts.specs.Heads.{empty_head, with_head, with_head_line}
+use Rattle.scripts.specs.TextLines.{lines_taken}
+use Rattle.scripts.proofs.lines.LineByLine.{kept}
 use Rattle.scripts.proofs.lines.MoreLines.{start_more, start_linked}
-use Rattle.configurations.specs.Configurations.{Serving, ServingDraft, no_serving, max_accepted, max_turns, address, number_from, once, is_fed, is_too_long, listen_line, sessions_line, turns_line, feed_line, head_line, serving_kind, serving_behind, serving_words, serving_line, serving_whole, serving_of}
+use Rattle.configurations.specs.Configurations.{Serving, ServingDraft, no_serving, max_accepted, max_turns, address, number_from, once, is_fed, listen_line, sessions_line, turns_line, feed_line, head_line, serving_kind, serving_behind, serving_words, serving_line, serving_whole, serving_of, unless_missing}
 use Rattle.configurations.specs.declared.server_config.ServingKind.{ServingKind}
 use Rattle.configurations.specs.declared.server_config.ServingKind.TheVariants as of_server
 use Rattle.configurations.specs.Kept.{CanServe}
 use Rattle.configurations.proofs.Granted.{granted}
-use Rattle.configurations.proofs.LineByLine.{kept}
+use Rattle.configurations.proofs.TakenLines.{or_missing}
 
 -- ---- what may come
 
@@ -118,8 +120,20 @@ whole_serves d x s e = by d.listen d.sessions (λ w k. record { head = d.head; l
     by : (listen : Option Word) (sessions : Option ℕ) (f : Word → ℕ → Serving) → ((w : Word) (k : ℕ) → CanServe (f w k).head) → Only (λ (y : Serving). CanServe y.head) (listen >>= λ w. sessions >>= λ k. Some (f w k))
     by listen sessions f h = only_bind (λ (y : Serving). CanServe y.head) listen _ (λ w. only_bind (λ (y : Serving). CanServe y.head) sessions _ (λ k. only_some (λ (y : Serving). CanServe y.head) (f w k) (h w k)))
 
+abbrev some_read : Result Serving ℕ → Option Serving
+some_read (Ok x) = Some x
+some_read (Err n) = None
+
 no_start : CanServe empty_head
 no_start = record { start = record { zones = λ k d before. absurd (omega (arith, before)); links = λ k d before. absurd (omega (arith, before)); now = refl }; keepalive = omega arith }
 
 pub serves : (text : List ℕ) (x : Serving) → serving_of text ≡ Ok x → CanServe x.head
-serves text x e = kept serving_line serving_whole Serves (λ (y : Serving). CanServe y.head) line_keeps whole_serves (is_too_long text) 1 no_serving (lines_in text) no_start x e
+serves text x e = by (lines_taken serving_line no_serving text) refl e
+  where
+    at_end : (draft : ServingDraft) (behind : ℕ) → Serves draft → (o : Option Serving) → serving_whole draft ≡ o → or_missing behind o ≡ Ok x → CanServe x.head
+    at_end draft behind s None none e = absurd cc
+    at_end draft behind s (Some y) some e = whole_serves draft x s (some ∙ ap some_read e)
+
+    by : (all : Result (ServingDraft × ℕ) ℕ) → lines_taken serving_line no_serving text ≡ all → unless_missing serving_whole all ≡ Ok x → CanServe x.head
+    by (Err n) is e = absurd cc
+    by (Ok (draft, behind)) is e = at_end draft behind (kept serving_line Serves line_keeps no_serving text no_start (draft, behind) is) (serving_whole draft) refl e

@@ -9,11 +9,11 @@ use Rattle.scripts.specs.Lines.{Word, ScriptLine, head_line, link}
 use Rattle.scripts.specs.Scripts.{nothing_known, known_behind}
 use Rattle.scripts.specs.Heads.{empty_head, with_head_line}
 use Rattle.scripts.proofs.lines.Readers.{comment_inside}
+use Rattle.scripts.proofs.lines.LineByLine.{fits_by}
 use Rattle.scripts.proofs.lines.LineWords.{word_utf8}
-use Rattle.configurations.specs.Configurations.{Serving, ServingDraft, no_serving, address, once, is_fed, serving_line, serving_whole, serving_of, Subscribing, SubscribingDraft, no_subscribing, subscribing_line, subscribing_whole, subscribing_of}
+use Rattle.configurations.specs.Configurations.{Serving, ServingDraft, no_serving, address, once, is_fed, serving_line, serving_whole, serving_of, Subscribing, SubscribingDraft, no_subscribing, subscribing_line, subscribing_whole, subscribing_of, unless_missing}
 use Rattle.configurations.specs.Worked.{text, served, serving, asking, soa, all_records, subscribing}
 use Rattle.configurations.proofs.HeadLines.{by_line}
-use Rattle.configurations.proofs.LineByLine.{fits_by}
 
 abbrev here : Word
 here = codes "here"
@@ -39,17 +39,17 @@ feeds : (d : ServingDraft) → serving_line d (codes "feed lan here") ≡ feedin
 feeds d = ap (feeding d) is_address
 
 -- behind a line, by what it made
-abbrev serving_behind_line : ℕ → ServingDraft → List (List ℕ) → Option ServingDraft → Result Serving ℕ
-serving_behind_line n d rest later = fits_by serving_line serving_whole false n d rest later
+abbrev serving_behind_line : ℕ → List (List ℕ) → Option ServingDraft → Result Serving ℕ
+serving_behind_line n rest later = unless_missing serving_whole (fits_by serving_line false n rest later)
 
 pub without_sessions : serving_of (text (codes "listen here" ∷ [])) ≡ Err 2
-without_sessions = ap (serving_behind_line 1 no_serving []) (listens no_serving)
+without_sessions = ap (serving_behind_line 1 []) (listens no_serving)
 
 abbrev listened : ServingDraft
 listened = record no_serving { listen = Some here }
 
 pub listens_twice : serving_of (text (codes "listen here" ∷ codes "listen here" ∷ codes "sessions 1" ∷ [])) ≡ Err 2
-listens_twice = ap (serving_behind_line 1 no_serving (codes "listen here" ∷ codes "sessions 1" ∷ [])) (listens no_serving) ∙ ap (serving_behind_line 2 listened (codes "sessions 1" ∷ [])) (listens listened)
+listens_twice = ap (serving_behind_line 1 (codes "listen here" ∷ codes "sessions 1" ∷ [])) (listens no_serving) ∙ ap (serving_behind_line 2 (codes "sessions 1" ∷ [])) (listens listened)
 
 abbrev lan : ScriptLine
 lan = head_line (link (codes "lan") (name (codes "lan.example.com.")))
@@ -58,7 +58,7 @@ abbrev linked : ServingDraft
 linked = record no_serving { head = with_head_line empty_head lan; known = known_behind nothing_known lan }
 
 pub feeds_twice : serving_of (text (codes "link lan lan.example.com." ∷ codes "feed lan here" ∷ codes "feed lan here" ∷ [])) ≡ Err 3
-feeds_twice = ap (serving_behind_line 2 linked (codes "feed lan here" ∷ [])) (feeds linked) ∙ ap (serving_behind_line 3 (record linked { feeds = (0, here) ∷ [] }) []) (feeds (record linked { feeds = (0, here) ∷ [] }))
+feeds_twice = ap (serving_behind_line 2 (codes "feed lan here" ∷ [])) (feeds linked) ∙ ap (serving_behind_line 3 []) (feeds (record linked { feeds = (0, here) ∷ [] }))
 
 -- all lines but the last two
 abbrev homes_named : ServingDraft
@@ -69,9 +69,9 @@ heads = [] ∷ codes "timers 20000 10000" ∷ codes "zone example.com. 7 open" �
 
 pub all_lines : serving_of served ≡ Ok serving
 all_lines =
-    ap (serving_behind_line 1 no_serving (codes "#here" ∷ heads)) (listens no_serving)
-    ∙ ap (λ (o : Option ScriptLine). serving_behind_line 2 listened heads (by_line listened o)) (sym (comment_inside here is_text))
-    ∙ ap (serving_behind_line 7 homes_named (codes "sessions 1000000" ∷ [])) (feeds homes_named)
+    ap (serving_behind_line 1 (codes "#here" ∷ heads)) (listens no_serving)
+    ∙ ap (λ (o : Option ScriptLine). serving_behind_line 2 heads (by_line listened o)) (sym (comment_inside here is_text))
+    ∙ ap (serving_behind_line 7 (codes "sessions 1000000" ∷ [])) (feeds homes_named)
 
 -- ---- of a subscriber
 
@@ -81,11 +81,11 @@ named d a = a >>= λ w. once d.server (record d { server = Some w })
 names : (d : SubscribingDraft) → subscribing_line d (codes "server here") ≡ named d (Some here)
 names d = ap (named d) is_address
 
-abbrev subscribing_behind_line : ℕ → SubscribingDraft → List (List ℕ) → Option SubscribingDraft → Result Subscribing ℕ
-subscribing_behind_line n d rest later = fits_by subscribing_line subscribing_whole false n d rest later
+abbrev subscribing_behind_line : ℕ → List (List ℕ) → Option SubscribingDraft → Result Subscribing ℕ
+subscribing_behind_line n rest later = unless_missing subscribing_whole (fits_by subscribing_line false n rest later)
 
 pub without_question : subscribing_of (text (codes "server here" ∷ [])) ≡ Err 2
-without_question = ap (subscribing_behind_line 1 no_subscribing []) (names no_subscribing)
+without_question = ap (subscribing_behind_line 1 []) (names no_subscribing)
 
 pub all_asked : subscribing_of asking ≡ Ok subscribing
-all_asked = ap (subscribing_behind_line 4 (record no_subscribing { questions = soa ∷ all_records ∷ []; messages = Some 0 }) (codes "turns 3" ∷ [])) (names (record no_subscribing { questions = soa ∷ all_records ∷ []; messages = Some 0 }))
+all_asked = ap (subscribing_behind_line 4 (codes "turns 3" ∷ [])) (names (record no_subscribing { questions = soa ∷ all_records ∷ []; messages = Some 0 }))

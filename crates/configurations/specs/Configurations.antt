@@ -1,7 +1,7 @@
 -- Configurations: texts of lines, as scripts are.
 --     serving_of text, subscribing_of text      the configuration, or the number of the first line outside
 --     serving_line draft text, subscribing_line draft text      what a further line makes of those before it
-use Rattle.std.specs.Prelude.{ℕ, ◌+◌, ◌==◌, Bool, true, false, not, ◌&&◌, ◌||◌, List, [], ◌∷◌, ◌++◌, length, Option, Some, None, Result, Ok, Err, nat_lt, nat_le, codes, option_map, unwrap_or, if◌then◌else◌}
+use Rattle.std.specs.Prelude.{ℕ, ◌==◌, Bool, not, ◌&&◌, ◌||◌, List, [], ◌∷◌, ◌++◌, length, Option, Some, None, Result, Ok, Err, nat_lt, nat_le, codes, option_map, unwrap_or, if◌then◌else◌}
 use Rattle.std.specs.List.{list_any, position}
 use Rattle.std.specs.Str.{bytes_eq, is_utf8}
 use Rattle.push_base.specs.Cases.{chosen, is_empty}
@@ -10,7 +10,8 @@ use Rattle.push_base.specs.Limits.{max_number, max_questions}
 use Rattle.rrset.specs.Records.{same_question}
 use Rattle.rrset.specs.declared.record.Question.{Question}
 use Rattle.scripts.specs.Lines.{Word, ScriptLine, silent, number, words_in, question, is, line_of}
-use Rattle.scripts.specs.Scripts.{Known, nothing_known, is_head, fits, lines_in, max_script}
+use Rattle.scripts.specs.Scripts.{Known, nothing_known, is_head, fits}
+use Rattle.scripts.specs.TextLines.{lines_taken}
 use Rattle.scripts.specs.Heads.{Head, empty_head, with_head_line}
 use Rattle.configurations.specs.declared.limits.TheConstants as limits
 use Rattle.configurations.specs.declared.server_config.ServingKind.{ServingKind}
@@ -40,20 +41,13 @@ abbrev pub once : {X Y : Type 0} → Option X → Y → Option Y
 once None y = Some y
 once (Some x) y = None
 
--- The lines from a number on. The last line of a text that is too long is outside. What is missing counts as the line behind the last.
-abbrev pub read_from : {D X : Type 0} → (D → List ℕ → Option D) → (D → Option X) → Bool → ℕ → D → List (List ℕ) → Result X ℕ
-read_from line whole too_long n draft [] = elim (whole draft) [ None ↦ Err n | Some x ↦ Ok x ]
-read_from line whole too_long n draft (text ∷ texts) = elim (too_long && is_empty texts) [
-  | true ↦ Err n
-  | false ↦ elim (line draft text) [ None ↦ Err n | Some later ↦ read_from line whole too_long (n + 1) later texts ]
-]
-
--- the line in which octet 16,777,217 stands, which is the last one read, is outside
-abbrev pub is_too_long : List ℕ → Bool
-is_too_long text = nat_lt max_script (length text)
+-- What is missing counts as the line behind the last.
+abbrev pub unless_missing : {D X : Type 0} → (D → Option X) → Result (D × ℕ) ℕ → Result X ℕ
+unless_missing whole (Err n) = Err n
+unless_missing whole (Ok (draft, behind)) = elim (whole draft) [ None ↦ Err behind | Some x ↦ Ok x ]
 
 abbrev pub read_lines : {D X : Type 0} → (D → List ℕ → Option D) → (D → Option X) → D → List ℕ → Result X ℕ
-read_lines line whole draft text = read_from line whole (is_too_long text) 1 draft (lines_in text)
+read_lines line whole draft text = unless_missing whole (lines_taken line draft text)
 
 -- ---- of a server
 

@@ -3,7 +3,6 @@
 --     subscribing_kept configuration, subscribing_drafted draft      and of a subscriber
 --     CanServe head      a server can begin so
 --     ReadsServing text read, ReadsSubscribing text read      what was read of a text
---     TakesServing later draft taken, TakesSubscribing later draft taken      a further line was taken where it may stand
 --     EndsServing draft number read, EndsSubscribing draft number read      nothing is missing behind the last line, or what is
 use Rattle.std.specs.Prelude.{◌≡◌, ℕ, ◌≤◌, ◌==◌, Bool, true, false, List, map, Option, Some, None, Ok, Err, option_map, string_bytes}
 use Rattle.std.specs.List.{list_any}
@@ -60,11 +59,6 @@ abbrev pub ReadsServing : List ℕ → ReadServe → Type 0
 ReadsServing text (serve.Whole c) = (serving_of text ≡ Ok (serving_kept c)) × CanServe (head_kept c)
 ReadsServing text (serve.Outside n) = serving_of text ≡ Err n
 
--- what the line makes of the draft, or that it may not stand there
-abbrev pub TakesServing : Option ServingDraft → ServeDraft → Bool → Type 0
-TakesServing later draft true = later ≡ Some (serving_drafted draft)
-TakesServing later draft false = later ≡ None
-
 -- nothing is missing behind the last line, or it counts as the line with this number
 abbrev pub EndsServing : ServingDraft → ℕ → ReadServe → Type 0
 EndsServing draft number (serve.Whole c) = serving_whole draft ≡ Some (serving_kept c)
@@ -82,11 +76,6 @@ subscribing_drafted d = record { server = option_map (λ w. string_bytes w) d.se
 abbrev pub ReadsSubscribing : List ℕ → ReadSubscribe → Type 0
 ReadsSubscribing text (Whole c) = subscribing_of text ≡ Ok (subscribing_kept c)
 ReadsSubscribing text (Outside n) = subscribing_of text ≡ Err n
-
--- what the line makes of the draft, or that it may not stand there
-abbrev pub TakesSubscribing : Option SubscribingDraft → SubscribeDraft → Bool → Type 0
-TakesSubscribing later draft true = later ≡ Some (subscribing_drafted draft)
-TakesSubscribing later draft false = later ≡ None
 
 -- nothing is missing behind the last line, or it counts as the line with this number
 abbrev pub EndsSubscribing : SubscribingDraft → ℕ → ReadSubscribe → Type 0

@@ -4,8 +4,9 @@ ghost use Rattle.std.specs.Prelude.{◌≡◌, [], IfOk, OnOk, string_bytes, ◌
 ghost use Rattle.scripts.specs.Lines.{words_in};
 ghost use Rattle.scripts.specs.Scripts.{is_head};
 ghost use Rattle.scripts.specs.KeptLines.{said};
-ghost use Rattle.configurations.specs.Configurations.{feed_line, head_line, is_fed, listen_line, no_serving, serving_behind, serving_kind, serving_line, sessions_line, turns_line};
-ghost use Rattle.configurations.specs.Kept.{EndsServing, ReadsServing, TakesServing, fed_links, is_any_fed, serving_drafted};
+ghost use Rattle.scripts.specs.TextLines.{Takes};
+ghost use Rattle.configurations.specs.Configurations.{ServingDraft, feed_line, head_line, is_fed, listen_line, no_serving, serving_behind, serving_kind, serving_line, sessions_line, turns_line};
+ghost use Rattle.configurations.specs.Kept.{EndsServing, ReadsServing, fed_links, is_any_fed, serving_drafted};
 
 use crate::limits::{MAX_ACCEPTED, MAX_TURNS};
 use crate::words::{address_of_word, number_from};
@@ -13,8 +14,8 @@ use dsosession::session::Timers;
 use history::Homes;
 use push_base::NoMemory;
 use scripts::{
-    Draft, Line, Script, is_outside, is_too_long, number_up_to, one_word, read_line, split_line,
-    split_word, two_words,
+    Draft, Line, Script, TakeLines, TakenLines, number_up_to, one_word, read_line, split_word,
+    take_lines, two_words,
 };
 use std::alloc::Global;
 
@@ -80,22 +81,31 @@ struct ServeDraft {
 pub fn read_serve(alloc: Global, octets: &[u8]) -> Result<ReadServe, NoMemory>
     ensures { IfOk result (λ read. ReadsServing octets.now read) }
 {
-    let too_long = is_too_long(octets);
     let mut draft = ServeDraft::new(alloc);
-    let mut number = 1;
-    let mut rest = octets;
-    'lines: while !rest.is_empty() {
-        let (text, after) = split_line(rest);
-        if is_outside(after, too_long) {
-            return Ok(ReadServe::Outside(number));
-        }
-        if !draft.take(alloc, text)? {
-            return Ok(ReadServe::Outside(number));
-        }
-        number += 1;
-        rest = after;
+    let taken = take_lines(alloc, octets, &mut draft)?;
+    match taken {
+        TakenLines::All(behind) => Ok(draft.finish(behind)),
+        TakenLines::Outside(number) => Ok(ReadServe::Outside(number)),
     }
-    Ok(draft.finish(number))
+}
+
+impl TakeLines for ServeDraft {
+    ghost Made = { ServingDraft };
+
+    ghost made = { serving_drafted };
+
+    ghost line = { serving_line };
+
+    fn take(&mut self, alloc: Global, text: &[u8]) -> Result<bool, NoMemory> {
+        match split_word(text) {
+            Some((word, rest)) => self.take_words(alloc, kind_of(word), text, rest),
+            None => match kind_of(text) {
+                ServingKind::Head => self.take_head(alloc, text),
+                ServingKind::Listen | ServingKind::Sessions => Ok(false),
+                ServingKind::Feed | ServingKind::Turns => Ok(false),
+            },
+        }
+    }
 }
 
 impl ServeDraft {
@@ -112,20 +122,6 @@ impl ServeDraft {
         }
     }
 
-    // Takes a further line, where it may stand behind those before it.
-    fn take(&mut self, alloc: Global, text: &[u8]) -> Result<bool, NoMemory>
-        ensures { IfOk result (λ taken. TakesServing (serving_line (serving_drafted self.old) text.now) self.new taken) }
-    {
-        match split_word(text) {
-            Some((word, rest)) => self.take_words(alloc, kind_of(word), text, rest),
-            None => match kind_of(text) {
-                ServingKind::Head => self.take_head(alloc, text),
-                ServingKind::Listen | ServingKind::Sessions => Ok(false),
-                ServingKind::Feed | ServingKind::Turns => Ok(false),
-            },
-        }
-    }
-
     // Takes a line of this kind, with those words behind its first.
     fn take_words(
         &mut self,
@@ -134,7 +130,7 @@ impl ServeDraft {
         text: &[u8],
         rest: &[u8],
     ) -> Result<bool, NoMemory>
-        ensures { IfOk result (λ taken. TakesServing (serving_behind kind (serving_drafted self.old) text.now (words_in rest.now)) self.new taken) }
+        ensures { IfOk result (λ taken. Takes (serving_behind kind (serving_drafted self.old) text.now (words_in rest.now)) (serving_drafted self.new) taken) }
     {
         match kind {
             ServingKind::Listen => self.take_listen(alloc, rest),
@@ -147,7 +143,7 @@ impl ServeDraft {
 
     // Takes a further line of the head.
     fn take_head(&mut self, alloc: Global, text: &[u8]) -> Result<bool, NoMemory>
-        ensures { IfOk result (λ taken. TakesServing (head_line (serving_drafted self.old) text.now) self.new taken) }
+        ensures { IfOk result (λ taken. Takes (head_line (serving_drafted self.old) text.now) (serving_drafted self.new) taken) }
     {
         let Some(line) = read_line(alloc, text)? else {
             return Ok(false);
@@ -160,7 +156,7 @@ impl ServeDraft {
 
     // Takes the address where the server listens, once.
     fn take_listen(&mut self, alloc: Global, words: &[u8]) -> Result<bool, NoMemory>
-        ensures { IfOk result (λ taken. TakesServing (listen_line (serving_drafted self.old) (words_in words.now)) self.new taken) }
+        ensures { IfOk result (λ taken. Takes (listen_line (serving_drafted self.old) (words_in words.now)) (serving_drafted self.new) taken) }
     {
         let Some(word) = one_word(words) else {
             return Ok(false);
@@ -177,7 +173,7 @@ impl ServeDraft {
 
     // Takes the number of sessions, once.
     fn take_sessions(&mut self, words: &[u8]) -> bool
-        ensures { TakesServing (sessions_line (serving_drafted self.old) (words_in words.now)) self.new result }
+        ensures { Takes (sessions_line (serving_drafted self.old) (words_in words.now)) (serving_drafted self.new) result }
     {
         let Some(word) = one_word(words) else {
             return false;
@@ -194,7 +190,7 @@ impl ServeDraft {
 
     // Takes the datagram socket of a link that was named before and has none yet.
     fn take_feed(&mut self, alloc: Global, words: &[u8]) -> Result<bool, NoMemory>
-        ensures { IfOk result (λ taken. TakesServing (feed_line (serving_drafted self.old) (words_in words.now)) self.new taken) }
+        ensures { IfOk result (λ taken. Takes (feed_line (serving_drafted self.old) (words_in words.now)) (serving_drafted self.new) taken) }
     {
         let Some((word, address)) = two_words(words) else {
             return Ok(false);
@@ -214,7 +210,7 @@ impl ServeDraft {
 
     // Takes the turns of each loop, once.
     fn take_turns(&mut self, words: &[u8]) -> bool
-        ensures { TakesServing (turns_line (serving_drafted self.old) (words_in words.now)) self.new result }
+        ensures { Takes (turns_line (serving_drafted self.old) (words_in words.now)) (serving_drafted self.new) result }
     {
         let Some(word) = one_word(words) else {
             return false;
@@ -270,7 +266,7 @@ fn is_head(line: &Line) -> bool
 {
     match line {
         Line::Silent | Line::Head(_) => true,
-        Line::Event(_) => false,
+        Line::Joining { .. } | Line::Event(_) => false,
     }
 }
 

@@ -5,8 +5,9 @@ ghost use Rattle.std.specs.List.{list_any};
 ghost use Rattle.rrset.specs.Records.{same_question};
 ghost use Rattle.scripts.specs.KeptLines.{said};
 ghost use Rattle.scripts.specs.Lines.{words_in};
-ghost use Rattle.configurations.specs.Configurations.{may_ask, messages_line, no_subscribing, question_line, reads_line, server_line, subscribing_behind, subscribing_kind, subscribing_line};
-ghost use Rattle.configurations.specs.Kept.{EndsSubscribing, ReadsSubscribing, TakesSubscribing, is_silent, says_nothing, subscribing_drafted};
+ghost use Rattle.scripts.specs.TextLines.{Takes};
+ghost use Rattle.configurations.specs.Configurations.{SubscribingDraft, may_ask, messages_line, no_subscribing, question_line, reads_line, server_line, subscribing_behind, subscribing_kind, subscribing_line};
+ghost use Rattle.configurations.specs.Kept.{EndsSubscribing, ReadsSubscribing, is_silent, says_nothing, subscribing_drafted};
 
 use crate::limits::MAX_TURNS;
 use crate::words::address_of_word;
@@ -15,8 +16,8 @@ use push_base::limits::{MAX_NUMBER, MAX_QUESTIONS};
 use rrset::record::Question;
 use rrset::same_question;
 use scripts::{
-    Line, is_outside, is_too_long, number_up_to, one_word, question_of, read_line, split_line,
-    split_word, three_words,
+    Line, TakeLines, TakenLines, number_up_to, one_word, question_of, read_line, split_word,
+    take_lines, three_words,
 };
 use std::alloc::Global;
 
@@ -66,22 +67,31 @@ struct SubscribeDraft {
 pub fn read_subscribe(alloc: Global, octets: &[u8]) -> Result<ReadSubscribe, NoMemory>
     ensures { IfOk result (λ read. ReadsSubscribing octets.now read) }
 {
-    let too_long = is_too_long(octets);
     let mut draft = SubscribeDraft::new(alloc);
-    let mut number = 1;
-    let mut rest = octets;
-    'lines: while !rest.is_empty() {
-        let (text, after) = split_line(rest);
-        if is_outside(after, too_long) {
-            return Ok(ReadSubscribe::Outside(number));
-        }
-        if !draft.take(alloc, text)? {
-            return Ok(ReadSubscribe::Outside(number));
-        }
-        number += 1;
-        rest = after;
+    let taken = take_lines(alloc, octets, &mut draft)?;
+    match taken {
+        TakenLines::All(behind) => Ok(draft.finish(behind)),
+        TakenLines::Outside(number) => Ok(ReadSubscribe::Outside(number)),
     }
-    Ok(draft.finish(number))
+}
+
+impl TakeLines for SubscribeDraft {
+    ghost Made = { SubscribingDraft };
+
+    ghost made = { subscribing_drafted };
+
+    ghost line = { subscribing_line };
+
+    fn take(&mut self, alloc: Global, text: &[u8]) -> Result<bool, NoMemory> {
+        match split_word(text) {
+            Some((word, rest)) => self.take_words(alloc, kind_of(word), text, rest),
+            None => match kind_of(text) {
+                SubscribingKind::Other => is_silent(alloc, text),
+                SubscribingKind::Server | SubscribingKind::Question => Ok(false),
+                SubscribingKind::Messages | SubscribingKind::Turns => Ok(false),
+            },
+        }
+    }
 }
 
 impl SubscribeDraft {
@@ -97,20 +107,6 @@ impl SubscribeDraft {
         }
     }
 
-    // Takes a further line, where it may stand behind those before it.
-    fn take(&mut self, alloc: Global, text: &[u8]) -> Result<bool, NoMemory>
-        ensures { IfOk result (λ taken. TakesSubscribing (subscribing_line (subscribing_drafted self.old) text.now) self.new taken) }
-    {
-        match split_word(text) {
-            Some((word, rest)) => self.take_words(alloc, kind_of(word), text, rest),
-            None => match kind_of(text) {
-                SubscribingKind::Other => is_silent(alloc, text),
-                SubscribingKind::Server | SubscribingKind::Question => Ok(false),
-                SubscribingKind::Messages | SubscribingKind::Turns => Ok(false),
-            },
-        }
-    }
-
     // Takes a line of this kind, with those words behind its first.
     fn take_words(
         &mut self,
@@ -119,7 +115,7 @@ impl SubscribeDraft {
         text: &[u8],
         rest: &[u8],
     ) -> Result<bool, NoMemory>
-        ensures { IfOk result (λ taken. TakesSubscribing (subscribing_behind kind (subscribing_drafted self.old) text.now (words_in rest.now)) self.new taken) }
+        ensures { IfOk result (λ taken. Takes (subscribing_behind kind (subscribing_drafted self.old) text.now (words_in rest.now)) (subscribing_drafted self.new) taken) }
     {
         match kind {
             SubscribingKind::Server => self.take_server(alloc, rest),
@@ -132,7 +128,7 @@ impl SubscribeDraft {
 
     // Takes the server, once.
     fn take_server(&mut self, alloc: Global, words: &[u8]) -> Result<bool, NoMemory>
-        ensures { IfOk result (λ taken. TakesSubscribing (server_line (subscribing_drafted self.old) (words_in words.now)) self.new taken) }
+        ensures { IfOk result (λ taken. Takes (server_line (subscribing_drafted self.old) (words_in words.now)) (subscribing_drafted self.new) taken) }
     {
         let Some(word) = one_word(words) else {
             return Ok(false);
@@ -149,7 +145,7 @@ impl SubscribeDraft {
 
     // Takes a further question, where it is another one than those before it, and they aren't too many.
     fn take_question(&mut self, alloc: Global, words: &[u8]) -> Result<bool, NoMemory>
-        ensures { IfOk result (λ taken. TakesSubscribing (question_line (subscribing_drafted self.old) (words_in words.now)) self.new taken) }
+        ensures { IfOk result (λ taken. Takes (question_line (subscribing_drafted self.old) (words_in words.now)) (subscribing_drafted self.new) taken) }
     {
         let Some((name, kind, class)) = three_words(words) else {
             return Ok(false);
@@ -173,7 +169,7 @@ impl SubscribeDraft {
 
     // Takes the number of messages, once.
     fn take_messages(&mut self, words: &[u8]) -> bool
-        ensures { TakesSubscribing (messages_line (subscribing_drafted self.old) (words_in words.now)) self.new result }
+        ensures { Takes (messages_line (subscribing_drafted self.old) (words_in words.now)) (subscribing_drafted self.new) result }
     {
         let Some(word) = one_word(words) else {
             return false;
@@ -190,7 +186,7 @@ impl SubscribeDraft {
 
     // Takes the number of reads, once.
     fn take_turns(&mut self, words: &[u8]) -> bool
-        ensures { TakesSubscribing (reads_line (subscribing_drafted self.old) (words_in words.now)) self.new result }
+        ensures { Takes (reads_line (subscribing_drafted self.old) (words_in words.now)) (subscribing_drafted self.new) result }
     {
         let Some(word) = one_word(words) else {
             return false;

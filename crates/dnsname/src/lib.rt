@@ -1,6 +1,7 @@
 //! Domain names: their octets, their text, and reading them from messages (RFC 1035, 2.3, 3.1, 4.1.4 and 5.1).
 #![tactic(auto)]
 
+mod as_key;
 pub mod laws;
 mod message;
 pub mod name;

@@ -2,3 +2,4 @@ pub mod Running
 pub mod Promises
 pub mod Following
 pub mod Serving
+mod Sharing

@@ -5,12 +5,17 @@
 --     TellsServer before now read status text      the whole texts that are written, each with its status
 --     Serves before now read status      what is done for a configuration that was read so
 --     IsServed request before now status octets      so it is where these may be the octets of the configuration
-use Rattle.std.specs.Prelude.{◌≡◌, ◌⊎◌, ◌≤◌, ⊤, ℕ, Bool, true, false, Some, None, Ok, Err, List, [], ◌∷◌, ◌++◌, map, codes, decimal}
+--     Shares, IsShared      which hub the jobs of a server share
+use Rattle.std.specs.Prelude.{◌≡◌, ◌⊎◌, ◌≤◌, ◌||◌, ◌==◌, ⊤, ℕ, Bool, true, false, Some, None, Ok, Err, List, [], ◌∷◌, ◌++◌, map, codes, decimal}
 use Rattle.std.specs.declared.option.Option.{Option}
 use Rattle.std.specs.declared.result.Result.{Result}
 use Rattle.push_base.specs.Causes.{Rose}
 use Rattle.push_base.specs.declared.role.Role.{Role}
-use Rattle.push_outside.specs.Outside.{Telling, Adds, AddsTold}
+use Rattle.push_outside.specs.Outside.{Telling, Used, Adds, AddsTold}
+use Rattle.pushserver.specs.Hubs.{empty_hub}
+use Rattle.pushserver.specs.KeptHubs.{KeptHub, kept}
+use Rattle.hublock.specs.Registers.{entered}
+use Rattle.scripts.specs.Heads.{Head}
 use Rattle.scripts.specs.Lines.{Word}
 use Rattle.scripts.specs.Sources.{front_read}
 use Rattle.scripts.specs.Words.{spaced, line}
@@ -121,3 +126,28 @@ Serves before now read status = Took before.printed now.printed (IsTold (TellsSe
 abbrev pub IsServed : Option Request → Observed → Observed → ℕ → List ℕ → Type 0
 IsServed (Some (Serve path)) before now status octets = MayHaveGiven before.told.used now.told.used octets → Serves before now (serving_of (front_read octets)) status
 IsServed request before now status octets = ⊤
+
+-- ---- which hub is served
+
+-- the hub with these homes and timers, in which nothing has changed yet
+abbrev pub first_hub : Head → KeptHub
+first_hub head = empty_hub kept head.start head.timers
+
+-- just this hub went behind a lock; or perhaps none
+abbrev pub BeginsBy : Bool → KeptHub → Option (List KeptHub) → Option (List KeptHub) → Type 0
+BeginsBy true hub before now = now ≡ entered before hub
+BeginsBy false hub before now = (now ≡ before) ⊎ (now ≡ entered before hub)
+
+-- with such a status a server has served its sessions, at least until the journal was full
+abbrev pub tells_full_run : ℕ → Bool
+tells_full_run status = (status == 0) || (status == 7)
+
+-- where a configuration was read so, its jobs share the hub with its homes and timers, and no other goes behind a lock
+abbrev pub Shares : Result Serving ℕ → ℕ → Option (List KeptHub) → Option (List KeptHub) → Type 0
+Shares (Ok configuration) status before now = BeginsBy (tells_full_run status) (first_hub configuration.head) before now
+Shares (Err number) status before now = now ≡ before
+
+-- so it is where a server is asked for, and these may be the octets of its configuration; else no hub goes behind a lock
+abbrev pub IsShared : Option Request → Option (List Used) → Option (List Used) → Option (List KeptHub) → Option (List KeptHub) → ℕ → List ℕ → Type 0
+IsShared (Some (Serve path)) used used_now before now status octets = MayHaveGiven used used_now octets → Shares (serving_of (front_read octets)) status before now
+IsShared request used used_now before now status octets = now ≡ before

@@ -13,17 +13,37 @@ mod subscribe_command;
 #[cfg(test)]
 mod tests;
 
+use hublock::NoRegister;
 use push_outside::{Origin, Reading, System, Writing};
 use std::env;
+use std::fs::File;
 use std::process::ExitCode;
 
 fn main(rt: HostRuntime) -> ExitCode {
     let alloc = rt.alloc();
+    // Where one of the descriptors 0 to 2 is closed, a folder takes it: else a connection would, and what is printed would go
+    // to its peer. A folder can be neither read nor written, so that is a fault, as it was.
+    let taken = (
+        File::open(&rt, "/"),
+        File::open(&rt, "/"),
+        File::open(&rt, "/"),
+    );
     let words = given_words(&rt);
     let mut input = Reading::new(Origin::Input(rt.stdin()));
     let mut out = Writing::new(rt.stdout());
     let mut system = System::new(rt, alloc);
-    ExitCode::from(program::run(rt, alloc, &words, &mut input, &mut out, &mut system))
+    let register = &mut NoRegister;
+    let status = program::run(
+        rt,
+        alloc,
+        &words,
+        &mut input,
+        &mut out,
+        &mut system,
+        register,
+    );
+    drop(taken);
+    ExitCode::from(status)
 }
 
 // The words after the program's name, or none where they can't be read.

@@ -8,7 +8,7 @@ ghost use Rattle.scripts.specs.Scripts.{max_script};
 ghost use Rattle.scripts.specs.Sources.{front_read, LostAtMost};
 ghost use Rattle.push_base.specs.Written.{IsFrontOf, Took};
 ghost use Rattle.dnspush.specs.Runs.{AsksFor, AsksServer, InputStays, IsAnswered, LeavesRest, OpensPath, ReachRose, Reaches, SinkRose, SourceRose, WritesReplies};
-ghost use Rattle.dnspush.specs.Serving.{IsServed};
+ghost use Rattle.dnspush.specs.Serving.{IsServed, IsShared};
 ghost use Rattle.dnspush.specs.Status.{code_of};
 ghost use Rattle.dnspush.specs.Subscribing.{IsFollowed};
 ghost use Rattle.dnspush.specs.Words.{request_in, usage};
@@ -20,6 +20,7 @@ use crate::serve_command::serve_at;
 use crate::status::{Status, tell_status};
 use crate::subscribe_command::subscribe_at;
 use big_scripts::tell_sums;
+use hublock::Register;
 use push_outside::Outside;
 use replay::laws::lone_clients_react_to_each_message;
 use script_laws::{replies_are_one, scripts_keep_promises, sends_are_answered};
@@ -33,13 +34,14 @@ pub const USAGE: &[u8] =
 
 /// All that the program does: reads the words of the command line, does what they ask, and answers the status. A server
 /// may wait without an end; each other command is a call of its own that returns.
-pub fn run<R: Threads + Wait + Copy + Send + 'static, O: Outside>(
+pub fn run<R: Threads + Wait + Copy + Send + 'static, O: Outside, W: Register>(
     rt: R,
     alloc: Global,
     words: &[String],
     input: &mut O::In,
     out: &mut O::Out,
     outside: &mut O,
+    register: &mut W,
 ) -> u8
     // What is written, for the octets that the source had, as far as they are told: the reply to these; and in scripts what is promised of a
     // peer's SUBSCRIBE, of octets that come in pieces, and of a lone client that is fed.
@@ -59,6 +61,10 @@ pub fn run<R: Threads + Wait + Copy + Send + 'static, O: Outside>(
     // was accepted; or why it ended otherwise.
     ensures serves { (octets : List ℕ) → IsServed (request_in words.now) (record { told = O.told outside.old; printed = O.Out.taken out.old; reads = O.reads outside.old; others = O.others outside.old })
         (record { told = O.told outside.new; printed = O.Out.taken out.new; reads = O.reads outside.new; others = O.others outside.new }) result octets }
+
+    // The hub that the jobs of a server share is the one with its configuration's homes and timers, in which nothing has changed yet, and no other
+    // goes behind a lock.
+    ensures shared { (octets : List ℕ) → IsShared (request_in words.now) (O.told outside.old).used (O.told outside.new).used (W.hubs register.old) (W.hubs register.new) result octets }
 
     // When each status comes.
     ensures statuses { (status : Status) × (result ≡ code_of status) }
@@ -93,7 +99,7 @@ pub fn run<R: Threads + Wait + Copy + Send + 'static, O: Outside>(
             Status::Ended(outcome).code()
         }
         Some(Command::Big(number)) => Status::Ended(tell_sums(alloc, number, out)).code(),
-        Some(Command::Serve(path)) => serve_at(rt, alloc, path, out, outside).code(),
+        Some(Command::Serve(path)) => serve_at(rt, alloc, path, out, outside, register).code(),
         Some(Command::Subscribe(path)) => subscribe_at(alloc, path, out, outside).code(),
     }
 }

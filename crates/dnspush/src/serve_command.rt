@@ -5,6 +5,7 @@ ghost use Rattle.push_base.specs.Causes.{Rose};
 ghost use Rattle.push_outside.specs.Outside.{Adds, IsUnused};
 ghost use Rattle.pushserver.specs.PlainHubs.{Hub as Plain};
 ghost use Rattle.hublock.specs.Ledgers.{AreNamed};
+ghost use Rattle.hublock.specs.Registers.{entered};
 ghost use Rattle.pushserver.specs.KeptHubs.{StandsFor};
 ghost use Rattle.scripts.specs.Lines.{Word};
 ghost use Rattle.scripts.specs.Sources.{front_read};
@@ -13,7 +14,7 @@ ghost use Rattle.configurations.specs.Configurations.{serving_of};
 ghost use Rattle.configurations.specs.Kept.{CanServe, head_kept, serving_kept};
 ghost use Rattle.serving.specs.Serving.{Accepts, has_fault, is_full_run, numbers_of};
 ghost use Rattle.dnspush.specs.Runs.{MayHaveGiven, UsesWhole};
-ghost use Rattle.dnspush.specs.Serving.{AddsAll, HasCause, HearsBy, Serves, ServesBy, StartsBy, TellsEnd, end_text};
+ghost use Rattle.dnspush.specs.Serving.{AddsAll, BeginsBy, HasCause, HearsBy, Serves, ServesBy, Shares, StartsBy, TellsEnd, end_text, first_hub, tells_full_run};
 ghost use Rattle.dnspush.specs.Status.{code_of};
 ghost use Rattle.dnspush.specs.declared.status.Status.TheVariants as statuses;
 ghost use Rattle.serving.specs.declared.serve_end.ServeEnd.TheVariants as ends;
@@ -22,7 +23,7 @@ use crate::configured::{read_path, tell_line};
 use crate::status::{OUTSIDE_FAULT, Status, tell_status};
 use configurations::{FedLink, ReadServe, ServeConfiguration, read_serve};
 use history::entry::Totals;
-use hublock::{Blanks, Books};
+use hublock::{Blanks, Books, Register};
 use push_base::{NoMemory, Sink};
 use push_outside::{OpenFault, Outside};
 use pushserver::Hub;
@@ -37,18 +38,21 @@ use std::thread::Threads;
 const FULL: &[u8] = b"full\n";
 
 /// Reads the configuration at a path, hands its source back, and serves what it says.
-pub fn serve_at<R: Threads + Wait + Copy + Send + 'static, O: Outside>(
+pub fn serve_at<R: Threads + Wait + Copy + Send + 'static, O: Outside, W: Register>(
     rt: R,
     alloc: Global,
     path: &str,
     out: &mut O::Out,
     outside: &mut O,
+    register: &mut W,
 ) -> Status
     ensures served { (octets : List ℕ) → MayHaveGiven (O.told outside.old).used (O.told outside.new).used octets →
         Serves
         (record { told = O.told outside.old; printed = O.Out.taken out.old; reads = O.reads outside.old; others = O.others outside.old })
         (record { told = O.told outside.new; printed = O.Out.taken out.new; reads = O.reads outside.new; others = O.others outside.new })
         (serving_of (front_read octets)) (code_of result) }
+    ensures shared { (octets : List ℕ) → MayHaveGiven (O.told outside.old).used (O.told outside.new).used octets →
+        Shares (serving_of (front_read octets)) (code_of result) (W.hubs register.old) (W.hubs register.new) }
     ensures usage { result ≡ statuses.Usage → ⊥ }
     ensures read_fault { result ≡ statuses.Ended Outcome.ReadFault → Rose (O.reads outside.old) (O.reads outside.new) }
     ensures write_fault { result ≡ statuses.Ended Outcome.WriteFault → Rose (O.Out.faults out.old) (O.Out.faults out.new) }
@@ -66,24 +70,26 @@ pub fn serve_at<R: Threads + Wait + Copy + Send + 'static, O: Outside>(
     } }
 {
     match read_path(alloc, path, outside) {
-        Ok(octets) => serve_text(rt, alloc, &octets, out, outside),
+        Ok(octets) => serve_text(rt, alloc, &octets, out, outside, register),
         Err(ReadError::Failed) => Status::Ended(tell(out, Outcome::ReadFault, READ_FAULT)),
         Err(ReadError::NoMemory) => Status::Ended(tell(out, Outcome::NoMemory, NO_MEMORY)),
     }
 }
 
 // Serves what a configuration says, or tells its first line outside.
-fn serve_text<R: Threads + Wait + Copy + Send + 'static, O: Outside>(
+fn serve_text<R: Threads + Wait + Copy + Send + 'static, O: Outside, W: Register>(
     rt: R,
     alloc: Global,
     octets: &[u8],
     out: &mut O::Out,
     outside: &mut O,
+    register: &mut W,
 ) -> Status
     ensures served { Serves
         (record { told = O.told outside.old; printed = O.Out.taken out.old; reads = O.reads outside.old; others = O.others outside.old })
         (record { told = O.told outside.new; printed = O.Out.taken out.new; reads = O.reads outside.new; others = O.others outside.new })
         (serving_of octets.now) (code_of result) }
+    ensures shared { Shares (serving_of octets.now) (code_of result) (W.hubs register.old) (W.hubs register.new) }
     ensures usage { result ≡ statuses.Usage → ⊥ }
     ensures read_fault { result ≡ statuses.Ended Outcome.ReadFault → ⊥ }
     ensures write_fault { result ≡ statuses.Ended Outcome.WriteFault → Rose (O.Out.faults out.old) (O.Out.faults out.new) }
@@ -99,7 +105,7 @@ fn serve_text<R: Threads + Wait + Copy + Send + 'static, O: Outside>(
     match read_serve(alloc, octets) {
         Ok(ReadServe::Whole(configuration)) => {
             let sessions = configuration.sessions;
-            let end = serve_configured(rt, alloc, configuration, outside);
+            let end = serve_configured(rt, alloc, configuration, outside, register);
             tell_end(alloc, sessions, end, out)
         }
         Ok(ReadServe::Outside(number)) => Status::Ended(tell_line(alloc, number, out)),
@@ -110,6 +116,7 @@ fn serve_text<R: Threads + Wait + Copy + Send + 'static, O: Outside>(
 // Tells how a server ended.
 fn tell_end<K: Sink>(alloc: Global, sessions: u64, end: ServeEnd, out: &mut K) -> Status
     ensures told { TellsEnd (K.taken out.old) (K.taken out.new) sessions end (code_of result) }
+    ensures full_run { tells_full_run (code_of result) ≡ true → is_full_run end ≡ true }
     ensures usage { result ≡ statuses.Usage → ⊥ }
     ensures read_fault { result ≡ statuses.Ended Outcome.ReadFault → ⊥ }
     ensures write_fault { result ≡ statuses.Ended Outcome.WriteFault → Rose (K.faults out.old) (K.faults out.new) }
@@ -175,13 +182,15 @@ fn end_of(fault: OpenFault) -> ServeEnd
 }
 
 // Opens what a configuration names, and serves. All is handed back that no job holds.
-fn serve_configured<R: Threads + Wait + Copy + Send + 'static, O: Outside>(
+fn serve_configured<R: Threads + Wait + Copy + Send + 'static, O: Outside, W: Register>(
     rt: R,
     alloc: Global,
     configuration: ServeConfiguration,
     outside: &mut O,
+    register: &mut W,
 ) -> ServeEnd
     requires { CanServe (head_kept configuration) }
+    ensures shared { BeginsBy (is_full_run result) (first_hub (head_kept configuration)) (W.hubs register.old) (W.hubs register.new) }
     ensures served { ServesBy (is_full_run result) (O.told outside.old) (O.told outside.new) (serving_kept configuration) }
     ensures cause { HasCause (O.others outside.old) (O.others outside.new) result }
     ensures reads { O.reads outside.new ≡ O.reads outside.old }
@@ -207,7 +216,9 @@ fn serve_configured<R: Threads + Wait + Copy + Send + 'static, O: Outside>(
     match outside.doors(listen.as_str()) {
         Ok(mut doors) => {
             let feeds = feeds.as_slice();
-            let end = serve_doors(rt, alloc, hub, feeds, sessions, turns, &mut doors, outside);
+            let end = serve_doors(
+                rt, alloc, hub, feeds, sessions, turns, &mut doors, outside, register,
+            );
             outside.back_doors(doors);
             end
         }
@@ -216,7 +227,7 @@ fn serve_configured<R: Threads + Wait + Copy + Send + 'static, O: Outside>(
 }
 
 // Opens the sockets of the links, and serves those whom the doors let in.
-fn serve_doors<R: Threads + Wait + Copy + Send + 'static, O: Outside>(
+fn serve_doors<R: Threads + Wait + Copy + Send + 'static, O: Outside, W: Register>(
     rt: R,
     alloc: Global,
     hub: Hub,
@@ -225,10 +236,12 @@ fn serve_doors<R: Threads + Wait + Copy + Send + 'static, O: Outside>(
     turns: u64,
     doors: &mut O::Doors,
     outside: &mut O,
+    register: &mut W,
 ) -> ServeEnd
     requires hub { (hub.history ≡ []) × (hub.numbers_given ≡ 0) }
     requires stands { (plain : Plain) × StandsFor hub plain }
     ensures few { sessions ≤ 2 ^ 64 - 1 }
+    ensures shared { BeginsBy (is_full_run result) hub (W.hubs register.old) (W.hubs register.new) }
     ensures heard { HearsBy (is_full_run result) (map (λ f. string_bytes f.address) feeds.now) (O.told outside.old).heard (O.told outside.new).heard }
     ensures accepted { Accepts (is_full_run result) sessions (O.Doors.accepted doors.old) (O.Doors.accepted doors.new) }
     ensures started { StartsBy (is_full_run result) turns (map (λ f. f.link) feeds.now) sessions (O.told outside.old).started (O.told outside.new).started }
@@ -247,7 +260,8 @@ fn serve_doors<R: Threads + Wait + Copy + Send + 'static, O: Outside>(
                 sessions,
                 turns,
             };
-            serve_setup::<R, O, Brand>(rt, alloc, setup, Blanks::new(), doors, outside)
+            let blanks = Blanks::new();
+            serve_setup::<R, O, Brand, W>(rt, alloc, setup, blanks, doors, outside, register)
         }
         Err(fault) => end_of(fault),
     }
@@ -258,6 +272,7 @@ fn serve_setup<
     R: Threads + Wait + Copy + Send + 'static,
     O: Outside,
     B: Books + Send + Sync + 'static,
+    W: Register,
 >(
     rt: R,
     alloc: Global,
@@ -265,10 +280,12 @@ fn serve_setup<
     blanks: Blanks,
     doors: &mut O::Doors,
     outside: &mut O,
+    register: &mut W,
 ) -> ServeEnd
     requires hub { (setup.hub.history ≡ []) × (setup.hub.numbers_given ≡ 0) }
     requires stands { (plain : Plain) × StandsFor setup.hub plain }
     requires names { AreNamed blanks B.names }
+    ensures registered { W.hubs register.new ≡ entered (W.hubs register.old) setup.hub }
     ensures accepted { Accepts (is_full_run result) setup.sessions (O.Doors.accepted doors.old) (O.Doors.accepted doors.new) }
     ensures started { StartsBy (is_full_run result) setup.turns (numbers_of setup.links.items) setup.sessions (O.told outside.old).started (O.told outside.new).started }
     ensures cause { result ≡ ends.OutsideFault → Rose (O.Doors.faults doors.old) (O.Doors.faults doors.new) ⊎ Rose (O.others outside.old) (O.others outside.new) }
@@ -277,7 +294,15 @@ fn serve_setup<
     ensures told { O.told outside.new ≡ record (O.told outside.old) { started = (O.told outside.new).started } }
 {
     let mut starter = outside.starter();
-    let Served { end, links, .. } = serve::<R, O, B>(rt, alloc, &mut starter, doors, setup, blanks);
+    let Served { end, links, .. } = serve::<R, O, B, W>(
+        rt,
+        alloc,
+        &mut starter,
+        doors,
+        setup,
+        blanks,
+        register,
+    );
     outside.back_starter(starter);
     give_back(links, outside);
     end

@@ -5,6 +5,7 @@ ghost use Rattle.push_base.specs.Items.{HasOctets};
 ghost use Rattle.push_outside.specs.MemOutside.{IsNewPair, IsNewSource};
 
 use crate::program::run;
+use hublock::NoRegister;
 use push_base::{MemItem, MemLine, MemSink, MemSource, Octets};
 use push_outside::{MemObjects, MemOutside};
 use std::alloc::{AllocError, Global};
@@ -207,7 +208,8 @@ pub(crate) fn runs_so<R: Threads + Wait + Copy + Send + 'static>(
     let words = words_of(alloc, case.words)?;
     let mut input = input_of(alloc, case)?;
     let mut out = output_of(alloc, case)?;
-    let status = run(rt, alloc, &words, &mut input, &mut out, outside);
+    let register = &mut NoRegister;
+    let status = run(rt, alloc, &words, &mut input, &mut out, outside, register);
     shows(case, status, out.taken())
 }
 

@@ -4,3 +4,5 @@ pub mod Strings
 pub mod Fields
 pub mod Entries
 pub mod Messages
+pub mod WrittenUpdates
+pub mod RecordSizes

@@ -59,14 +59,14 @@ questions-found message below count at found e = several-found question_at Spell
 records-found : (test : ℕ → ℕ → Bool) (message : List ℕ) → AllByRecursion (λ o. o < 256) message → (count at : ℕ) (found : List Rr × ℕ) → several (record_at test) (two_octets message count) message at ≡ done found → SpellsSection (SpellsRecord test) message count at found.0 found.1
 records-found test message below count at found e = several-found (record_at test) (SpellsRecord test) message (record-found test message below) (two_octets message count) at found e
 
-sections-spelled : (test : ℕ → ℕ → Bool) (message : List ℕ) (sections : Sections) → SpellsSections test message sections → sections_of test message ≡ done sections
+pub sections-spelled : (test : ℕ → ℕ → Bool) (message : List ℕ) (sections : Sections) → SpellsSections test message sections → sections_of test message ≡ done sections
 sections-spelled test message sections s =
     then_done _ _ (sections.questions, s.questions_end) _ (questions-spelled message 4 12 sections.questions s.questions_end s.questions)
     (then_done _ _ (sections.answers, s.answers_end) _ (records-spelled test message 6 s.questions_end sections.answers s.answers_end s.answers)
     (then_done _ _ (sections.authority, s.authority_end) _ (records-spelled test message 8 s.answers_end sections.authority s.authority_end s.authority)
     (then_done _ _ (sections.additional, sections.end) _ (records-spelled test message 10 s.authority_end sections.additional sections.end s.additional) refl)))
 
-sections-found : (test : ℕ → ℕ → Bool) (message : List ℕ) (sections : Sections) → AllByRecursion (λ o. o < 256) message → sections_of test message ≡ done sections → SpellsSections test message sections
+pub sections-found : (test : ℕ → ℕ → Bool) (message : List ℕ) (sections : Sections) → AllByRecursion (λ o. o < 256) message → sections_of test message ≡ done sections → SpellsSections test message sections
 sections-found test message sections below e =
     let questions = done_then {A = List Question × ℕ} _ _ sections e in
     let answers = done_then {A = List Rr × ℕ} _ _ sections questions.2 in

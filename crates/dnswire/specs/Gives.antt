@@ -9,7 +9,7 @@ use Rattle.dnswire.specs.declared.message.HearFault.{HearFault}
 use Rattle.dnswire.specs.declared.message.HearFault.TheVariants as hear
 use Rattle.dnswire.specs.declared.record.Shaped.{Shaped}
 use Rattle.dnswire.specs.declared.record.Shaped.TheVariants as shaped
-use Rattle.dnswire.specs.Reading.{update_shape, heard_shape}
+use Rattle.dnswire.specs.Reading.{update_shape, heard_shape, query_shape}
 
 -- a fault of a message that is want of memory, or else one of these; so of a datagram
 abbrev pub IsWireMemoryOr : (WireFault → Type 0) → WireFault → Type 0
@@ -31,3 +31,4 @@ GivesHearing result read = GivesUnless IsHearMemoryOr result read
 abbrev pub shape_test : Shaped → ℕ → ℕ → Bool
 shape_test shaped.Update = update_shape
 shape_test shaped.Hearing = heard_shape
+shape_test shaped.Query = query_shape

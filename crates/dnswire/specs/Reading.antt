@@ -78,6 +78,10 @@ update_of message = do
   sections ← sections_of update_shape message
   if sections.end == length message then Ok (record { id = id_of message; zones = sections.questions; prereqs = sections.answers; changes = sections.authority }) else Err (Trailing sections.end)
 
+-- of a query, rdata of class IN is read by shape
+abbrev pub query_shape : ℕ → ℕ → Bool
+query_shape class size = class == in_class
+
 -- the class without the cache-flush bit (RFC 6762, 10.2)
 abbrev pub heard_shape : ℕ → ℕ → Bool
 heard_shape class size = class % hearing.CACHE_FLUSH == in_class

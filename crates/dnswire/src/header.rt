@@ -18,7 +18,7 @@ pub(crate) const NSCOUNT: usize = 8;
 pub(crate) const ARCOUNT: usize = 10;
 
 /// The number of two octets at a place of a header.
-pub(crate) fn header_field(message: &[u8], at: usize) -> u16
+pub fn header_field(message: &[u8], at: usize) -> u16
     requires { at + 2 ≤ length message.now }
     ensures { result ≡ two_octets message.now at }
 {

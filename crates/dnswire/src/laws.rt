@@ -6,6 +6,7 @@ ghost use Rattle.dnswire.specs.declared.message.Update.{Update};
 ghost use Rattle.rrset.specs.declared.record.Hearing.{Hearing};
 ghost use Rattle.dnswire.specs.Reading.{update_of, hearing_of};
 ghost use Rattle.dnswire.specs.Spelling.{IsUpdateRequest, SpellsUpdate, SpellsHearing};
+ghost use Rattle.dnswire.specs.Writing.{CanBeWritten, update_octets};
 
 /// What is read from a message is what the message spells, and from no other message is anything read.
 pub fn what_is_read()
@@ -23,4 +24,9 @@ pub fn what_is_read()
 pub fn one_meaning()
     ensures update { (message : List ℕ) (a b : Update) → SpellsUpdate message a → SpellsUpdate message b → a ≡ b }
     ensures hearing { (datagram : List ℕ) (a b : Hearing) → SpellsHearing datagram a → SpellsHearing datagram b → a ≡ b }
+{}
+
+/// What is written of an update is read as that update.
+pub fn what_is_written()
+    ensures { (update : Update) → CanBeWritten update → update_of (update_octets update) ≡ Ok update }
 {}

@@ -7,8 +7,9 @@ pub mod laws;
 mod mdns;
 pub mod message;
 mod record;
-mod section;
+pub mod section;
 mod update;
+pub mod writing;
 
 ghost use Rattle.std.specs.Prelude.{◌≡◌, [], ◌∷◌, true, false, codes, Some, None, Ok, Err};
 ghost use Rattle.push_base.specs.Hexadecimal.{hex};
@@ -17,10 +18,13 @@ ghost use Rattle.dnsname.specs.declared.name.NameFault.TheVariants as names;
 ghost use Rattle.dnswire.specs.Reading.{update_of, hearing_of};
 ghost use Rattle.rrset.specs.Header.{answer_octets};
 
-pub use header::write_answer;
+pub use header::{header_field, write_answer};
 pub use mdns::read_hearing;
 pub use message::{HearFault, Update, WireFault};
+pub use record::Shaped;
+pub use section::read_sections;
 pub use update::read_update;
+pub use writing::write_query;
 
 /// Examples of messages.
 pub fn worked_rows()

@@ -13,11 +13,13 @@ use std::alloc::Global;
 
 /// Whose records are read: it decides which rdata is read by the shape of its kind.
 #[derive(Clone, Copy)]
-pub(crate) enum Shaped {
+pub enum Shaped {
     /// An update's: class IN, and class NONE where there is any rdata (RFC 2136, 2.4 and 2.5).
     Update,
     /// A datagram's: class IN with or without the cache-flush bit (RFC 6762, 10.2).
     Hearing,
+    /// A query's: class IN.
+    Query,
 }
 
 /// Whether the rdata of so many octets is read by shape, in a record of this class.
@@ -27,6 +29,7 @@ fn by_shape(shaped: Shaped, class: u16, size: u16) -> bool
     match shaped {
         Shaped::Update => class == IN || (class == NONE && size > 0),
         Shaped::Hearing => class % 0x8000 == IN,
+        Shaped::Query => class == IN,
     }
 }
 

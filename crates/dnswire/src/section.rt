@@ -15,11 +15,16 @@ use std::alloc::Global;
 /// The sections of a message, and the place after the last. Of an update they are zones, prerequisites, changes, and
 /// additional records (RFC 2136, 2).
 #[derive(Drop)]
-pub(crate) struct Sections {
+pub struct Sections {
+    /// The question section (RFC 1035, 4.1.2).
     pub questions: Questions,
+    /// The answer section.
     pub answers: Rrs,
+    /// The authority section.
     pub authority: Rrs,
+    /// The additional section.
     pub additional: Rrs,
+    /// The place after the last entry.
     pub end: usize,
 }
 
@@ -86,11 +91,7 @@ fn record_section(
 
 /// The four sections behind the header, each with as many entries as it counts. The fault is the first one in reading
 /// order, with its place.
-pub(crate) fn read_sections(
-    alloc: Global,
-    shaped: Shaped,
-    message: &[u8],
-) -> Result<Sections, WireFault>
+pub fn read_sections(alloc: Global, shaped: Shaped, message: &[u8]) -> Result<Sections, WireFault>
     requires { 12 ≤ length message.now }
     ensures { GivesWire result (sections_of (shape_test shaped) message.now) }
 {

@@ -13,7 +13,7 @@ use Rattle.history.specs.declared.entry.Entry.{Entry}
 use Rattle.history.specs.declared.entry.Home.{Home}
 use Rattle.history.specs.declared.entry.Home.TheVariants as homes
 use Rattle.history.proofs.HomesStay.{home_of-after}
-use Rattle.history.proofs.NameHomes.{home-for}
+use Rattle.zoneupdate.proofs.NameHomes.{home-for}
 use Rattle.history.proofs.StatesAtHome.{home-after}
 use Rattle.pushsession.specs.Subscribing.{is_served}
 use Rattle.pushserver.specs.Giving.{is_served_at}

@@ -15,13 +15,13 @@ use Rattle.rrset.proofs.Selected.{fails}
 use Rattle.zoneupdate.specs.Zones.{ZoneState, is_inside}
 use Rattle.zoneupdate.proofs.Filters.{and-left, and-right, all_pass}
 use Rattle.zoneupdate.proofs.RecordSets.{IsSet, set-in_order}
+use Rattle.zoneupdate.proofs.NameHomes.{inside-one}
 use Rattle.linkcache.specs.Rows.{shown_rows}
 use Rattle.history.specs.Homes.{NamedHome, clashes}
 use Rattle.history.specs.Laws.{sets_of}
 use Rattle.history.specs.States.{State, LinkState, home_names, records}
 use Rattle.history.specs.AtHome.{IsAtHome, homes_in}
 use Rattle.history.proofs.Distinct.{all-apart, all-as, all-map, distinct-parts}
-use Rattle.history.proofs.NameHomes.{inside-one}
 use Rattle.history.proofs.Together.{same_name-turned, clashes-turned, other-name}
 use Rattle.history.proofs.UnitedParts.{united, Clear, only-one, changes-one}
 

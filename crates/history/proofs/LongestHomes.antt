@@ -6,8 +6,8 @@ use Rattle.std.proofs.lemmas.List.Elements.{filter-append}
 use Rattle.dnsname.specs.Names.{Labels, labels_octets, octets, ends_in, longest}
 use Rattle.dnsname.proofs.Decisions.{ends_in-Decides}
 use Rattle.dnsname.proofs.Endings.{octets-append, length-same}
+use Rattle.dnsname.proofs.Suffixes.{ends_in-longer, same_length}
 use Rattle.history.specs.Longest.{candidates, IsLongest}
-use Rattle.zoneupdate.proofs.Suffixes.{ends_in-longer, same_length}
 use Rattle.zoneupdate.proofs.Homes.{OfSome, longest-all, longer_of, longest-cons}
 use Rattle.zoneupdate.proofs.SomeAndAll.{all_itself}
 

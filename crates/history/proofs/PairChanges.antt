@@ -21,11 +21,11 @@ use Rattle.rrset.proofs.Sets.{shown_at-only, is_some-union}
 use Rattle.rrset.proofs.WithChanges.{change_at}
 use Rattle.zoneupdate.specs.Zones.{is_inside}
 use Rattle.zoneupdate.proofs.RecordSets.{set-in_order}
+use Rattle.zoneupdate.proofs.NameHomes.{inside-one}
 use Rattle.linkcache.proofs.KeyedParts.{Rising, same_maps, row_at-put, rising-put}
 use Rattle.history.specs.Homes.{NamedHome, clashes}
 use Rattle.history.specs.Laws.{with_change, gathered}
 use Rattle.history.proofs.HomeSets.{IsSetAtHome, not_shown}
-use Rattle.history.proofs.NameHomes.{inside-one}
 use Rattle.history.proofs.Together.{other-name}
 use Rattle.history.proofs.UnitedParts.{united, in_order-united, over, shown_at-union}
 

@@ -17,8 +17,8 @@ use Rattle.zoneupdate.proofs.SomeAndAll.{all-filter}
 use Rattle.zoneupdate.proofs.Owners.{same_name-lower}
 use Rattle.zoneupdate.proofs.ChangedParts.{changed_by-outcome, of_set}
 use Rattle.zoneupdate.proofs.RecordSets.{IsSet, all-put, set-changes, set-put_rrs, set-without, shown_owner}
+use Rattle.zoneupdate.proofs.NameHomes.{is_inside-for}
 use Rattle.history.specs.AtHome.{IsAtHome}
-use Rattle.history.proofs.NameHomes.{is_inside-for}
 
 -- each record lies in the zone
 abbrev pub Inside : List Labels → Labels → RecordSet → Type 0

@@ -10,6 +10,7 @@ use Rattle.zoneupdate.specs.Zones.{ZoneState, is_inside}
 use Rattle.zoneupdate.proofs.Filters.{is_true, and-left, and-right, and-both}
 use Rattle.zoneupdate.proofs.Owners.{same_name-for}
 use Rattle.zoneupdate.proofs.RecordSets.{IsSet, all-put, set-in_order}
+use Rattle.zoneupdate.proofs.NameHomes.{is_home, is_inside-home, is_inside-for, inside-one}
 use Rattle.linkcache.specs.Rows.{shown_rows}
 use Rattle.history.specs.Homes.{clashes}
 use Rattle.history.specs.States.{State, LinkState, home_names, home_of, records}
@@ -19,7 +20,6 @@ use Rattle.history.specs.declared.entry.Home.TheVariants as homes
 use Rattle.history.proofs.Distinct.{all-both, all-fail}
 use Rattle.history.proofs.HomeSets.{HomeSet, zone_set, link_set, zone_sets, link_sets, home_sets, shown_sets, named_sets, records-sets, sets-shown, zone-parts, link-parts, IsSetAtHome, AreSetsAtHome, Elsewhere, clear-sets, not_shown, Stands, stands, only-stands}
 use Rattle.history.proofs.LinksAtHome.{sets-at_home, sets-apart}
-use Rattle.history.proofs.NameHomes.{is_home, is_inside-home, is_inside-for, inside-one}
 use Rattle.history.proofs.Positions.{found_from, none_from, slice_get-found}
 use Rattle.history.proofs.Together.{same_name-turned, other-name}
 use Rattle.history.proofs.UnitedParts.{united, only-clear}

@@ -4,6 +4,7 @@ use Rattle.std.specs.Prelude.{All, IsTrue}
 use Rattle.std.specs.List.{list_any, AllByRecursion}
 use Rattle.dnsname.specs.Names.{Labels, same_name, ends_in, is_name}
 use Rattle.dnsname.proofs.Decisions.{is_name-Decides}
+use Rattle.dnsname.proofs.Suffixes.{true-EndsIn, ends_in-length, ends_in-all}
 use Rattle.rrset.specs.KeyedRows.{is_rising}
 use Rattle.zoneupdate.specs.KeptZones.{ZoneKept, lies_under}
 use Rattle.zoneupdate.specs.Zones.{ZoneState, new_zone, first_soa, first_ns, is_inside}
@@ -12,7 +13,6 @@ use Rattle.zoneupdate.proofs.Homes.{is_inside-under}
 use Rattle.zoneupdate.proofs.Owners.{same_name-itself}
 use Rattle.zoneupdate.proofs.RecordSets.{set-put_rrs}
 use Rattle.zoneupdate.proofs.SomeAndAll.{any_all, all_itself}
-use Rattle.zoneupdate.proofs.Suffixes.{true-EndsIn, ends_in-length, ends_in-all}
 use Rattle.linkcache.specs.Links.{IsLink}
 use Rattle.linkcache.specs.Sound.{AreLinkRows}
 use Rattle.linkcache.specs.Within.{IsWithin}

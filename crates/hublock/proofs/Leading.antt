@@ -10,8 +10,8 @@ use Rattle.pushserver.specs.KeptHubs.{KeptHub}
 use Rattle.hublock.specs.declared.loop_end.LoopEnd.{LoopEnd}
 use Rattle.hublock.specs.declared.loop_end.LoopEnd.TheVariants as ends
 use Rattle.hublock.specs.Calls.{HubCall}
-use Rattle.hublock.specs.Gates.{GateState, DoesTurn, Answers, GoesOn, Leads, LeadsTo, RoseBy}
-use Rattle.hublock.specs.Loops.{Ran, CountsMore, UsesTurns, LeavesRest, LastWas}
+use Rattle.hublock.specs.Gates.{GateState, DoesTurn, Answers, GoesOn, WasDone, StopsAtOnce, Leads, LeadsTo, RoseBy}
+use Rattle.hublock.specs.Loops.{Ran, CountsMore, UsesTurns, LeavesRest, LastWas, EndsAt}
 
 -- ---- counts
 
@@ -109,6 +109,38 @@ answers_after xs None (Some b) answer p h = absurd p
 answers_after xs (Some a) None answer p h = absurd p
 answers_after xs (Some a) (Some b) answer p h = h ∙ sym p.quit
 
+pub still_on : (call : HubCall) (a b : Option GateState) → DoesTurn call a b → GoesOn a → GoesOn b
+still_on call a b turn on = answers_after (call ∷ []) a b false (to_one call a b turn) on
+
+pub goes_on_by : (a b : Option GateState) (answer : Bool) → b ≡ a → Answers a answer → answer ≡ false → GoesOn b
+goes_on_by a b answer same told is = subst (λ (s : Option GateState). GoesOn s) (sym same) (subst (λ (c : Bool). Answers a c) is told)
+
+pub done_by : (s : Option GateState) (answer : Bool) → Answers s answer → answer ≡ true → WasDone s
+done_by s answer told is = subst (λ (b : Bool). Answers s b) is told
+
+pub stops_now : (s : Option GateState) → WasDone s → StopsAtOnce s 0
+stops_now None done = tt
+stops_now (Some s) done = (sym done, refl)
+
+true_is_false : (a b : Bool) → b ≡ true → b ≡ a → false ≡ a → ⊥
+true_is_false a b is same on = absurd cc
+
+-- a gate that tells isn't done where it goes on
+pub stops_where_on : (s : Option GateState) (used : ℕ) → WasDone s → GoesOn s → StopsAtOnce s used
+stops_where_on None used done on = tt
+stops_where_on (Some s) used done on = absurd (true_is_false s.quit true refl done on)
+
+-- no turn was used so far, or a gate that tells isn't to stop
+abbrev pub WentOn : Option GateState → ℕ → Type 0
+WentOn gate used = (used ≡ 0) ⊎ GoesOn gate
+
+pub stops_join : (ys : List HubCall) (b c : Option GateState) (used more all : ℕ) → all ≡ used + more → LeadsTo ys b c → WentOn b used → StopsAtOnce c more → StopsAtOnce c all
+unfolding LeadsTo
+stops_join ys b None used more all e p on stop = tt
+stops_join ys None (Some c) used more all e p on stop = absurd p
+stops_join ys (Some b) (Some c) used more all e p (inl none) stop = (stop.0, omega (arith, stop.1))
+stops_join ys (Some b) (Some c) used more all e p (inr on) stop = absurd (true_is_false b.quit c.quit stop.0 p.quit on)
+
 pub all_join : {A : Type 0} (P : A → Type 0) (xs ys : List A) → AllByRecursion P xs → AllByRecursion P ys → AllByRecursion P (xs ++ ys)
 all_join P [] ys p q = q
 all_join P (x ∷ xs) ys p q = (p.0, all_join P xs ys p.1 q)
@@ -128,6 +160,13 @@ last_one P call p = ([], call, refl, p)
 
 pub last_join : (P : HubCall → Type 0) (xs ys : List HubCall) → LastWas P ys → LastWas P (xs ++ ys)
 last_join P xs ys (front, call, e, p) = (xs ++ front, call, ap (λ (os : List HubCall). xs ++ os) e ∙ sym (append_assoc xs front (call ∷ [])), p)
+
+pub at_one : (G P : HubCall → Type 0) (call : HubCall) → P call → EndsAt G P (call ∷ [])
+at_one G P call p = ([], call, refl, tt, p)
+
+pub at_join : (G P : HubCall → Type 0) (xs ys : List HubCall) → AllByRecursion G xs → EndsAt G P ys → EndsAt G P (xs ++ ys)
+at_join G P xs ys all (front, call, e, before, p) =
+    (xs ++ front, call, ap (λ (os : List HubCall). xs ++ os) e ∙ sym (append_assoc xs front (call ∷ [])), all_join G xs front all before, p)
 
 -- ---- turns
 

@@ -9,10 +9,10 @@ use Rattle.push_base.specs.Causes.{CountsOne}
 use Rattle.hublock.specs.declared.loop_end.LoopEnd.{LoopEnd}
 use Rattle.hublock.specs.declared.loop_end.LoopEnd.TheVariants as ends
 use Rattle.hublock.specs.Calls.{HubCall, Took}
-use Rattle.hublock.specs.Gates.{GateState, DoesTurn, Answers, GoesOn, WasDone}
+use Rattle.hublock.specs.Gates.{GateState, DoesTurn, Answers, GoesOn, WasDone, LeadsTo}
 use Rattle.hublock.specs.Loops.{Observed, CountsMore, UsesTurns, LeavesRest}
 use Rattle.hublock.specs.Reader.{IsTake, taken_in, octets_taken, HandsOn, MayLeave, IsStop, Offers, HandsAll, ReadRun, ReadCause, ReadsUntil, ReadsOn, max_read}
-use Rattle.hublock.proofs.Leading.{known_none, known_join, counts_none, counts_one, counts_join, answers_after, ran_none, ran_one, ran_join, uses_more, uses_join, leaves_none}
+use Rattle.hublock.proofs.Leading.{known_none, known_join, counts_none, counts_one, counts_join, answers_after, ran_none, ran_one, ran_join, uses_more, uses_join, leaves_none, goes_on_by, done_by, stops_now, stops_where_on, WentOn, stops_join}
 
 -- ---- octets that are handed on
 
@@ -49,9 +49,6 @@ may_where_done (Some s) rest done on = absurd (true_not_false (done ∙ sym on))
     true_not_false : true ≡ false → ⊥
     true_not_false e = absurd cc
 
-done_by : (s : Option GateState) (answer : Bool) → Answers s answer → answer ≡ true → WasDone s
-done_by s answer told is = subst (λ (b : Bool). Answers s b) is told
-
 pub ended_at_once : (session : ℕ) (a b : Option GateState) (piece : List ℕ) (turns : ℕ) (answer : Bool)
     → b ≡ a → Answers a answer → answer ≡ true → GoesOn a → Offers a b session piece turns (Err ends.Finished)
 ended_at_once session a b piece turns answer e told is on =
@@ -59,8 +56,8 @@ ended_at_once session a b piece turns answer e told is on =
     let done : WasDone a = done_by a answer told is in
     subst P (sym e) ([], hands_none session a a piece refl, may_where_done a piece done on, omega arith, done)
 
-pub ended_at_turns : (session : ℕ) (a b : Option GateState) (piece : List ℕ) (turns : ℕ) → b ≡ a → turns ≡ 0 → Offers a b session piece turns (Err ends.Turns)
-ended_at_turns session a b piece turns e none = ([], hands_none session a b piece e, may_at_turns b piece, omega arith, tt)
+pub ended_at_turns : (session : ℕ) (a b : Option GateState) (piece : List ℕ) (turns : ℕ) → b ≡ a → turns ≡ 0 → GoesOn b → Offers a b session piece turns (Err ends.Turns)
+ended_at_turns session a b piece turns e none on = ([], hands_none session a b piece e, may_at_turns b piece, omega arith, on)
 
 pub ended_after_none : (session : ℕ) (a b m c : Option GateState) (piece : List ℕ) (turns count : ℕ) (answer : Bool)
     → 0 < length piece → 0 < turns → count ≡ 0 → b ≡ a → DoesTurn (Took session piece count) b m → c ≡ m → Answers m answer → answer ≡ true → GoesOn a
@@ -105,9 +102,6 @@ all_more session a b c octets rest next left turns count some (xs, p, e) (turn, 
 pub goes_on_so_far : (session : ℕ) (a b : Option GateState) (octets rest : List ℕ) (left turns : ℕ) → HandedSoFar a b session octets rest left turns → GoesOn a → GoesOn b
 goes_on_so_far session a b octets rest left turns (xs, p, e) on = answers_after xs a b false p.ran.leads on
 
-pub goes_on_by : (a b : Option GateState) (answer : Bool) → b ≡ a → Answers a answer → answer ≡ false → GoesOn b
-goes_on_by a b answer same told is = subst (λ (s : Option GateState). GoesOn s) (sym same) (subst (λ (c : Bool). Answers a c) is told)
-
 -- ---- reads
 
 run_none : (session : ℕ) (a b : Observed ℕ) → b.gate ≡ a.gate → b.told ≡ a.told → b.calls ≡ a.calls → ReadRun session a b [] [] 0
@@ -146,22 +140,22 @@ pub done_at_once : (session : ℕ) (a b : Observed ℕ) (left : Option (List ℕ
     → b.gate ≡ a.gate → b.told ≡ a.told → b.calls ≡ a.calls → Answers a.gate answer → answer ≡ true → ReadsUntil session a b left turns ends.Finished
 done_at_once session a b left turns answer e told calls says is =
     let done : WasDone b.gate = subst (λ (s : Option GateState). WasDone s) (sym e) (done_by a.gate answer says is) in
-    ([], 0, [], run_none session a b e told calls, omega arith, may_none b.gate ends.Finished, omega arith, inl done)
+    ([], 0, [], run_none session a b e told calls, omega arith, may_none b.gate ends.Finished, omega arith, inl (stops_now b.gate done))
 
-pub turns_at_once : (session : ℕ) (a b : Observed ℕ) (left : Option (List ℕ)) (turns : ℕ) → b.gate ≡ a.gate → b.told ≡ a.told → b.calls ≡ a.calls → turns ≡ 0 → ReadsUntil session a b left turns ends.Turns
-turns_at_once session a b left turns e told calls none = ([], 0, [], run_none session a b e told calls, omega arith, may_at_turns b.gate [], omega arith, tt)
+pub turns_at_once : (session : ℕ) (a b : Observed ℕ) (left : Option (List ℕ)) (turns : ℕ) → b.gate ≡ a.gate → b.told ≡ a.told → b.calls ≡ a.calls → turns ≡ 0 → GoesOn b.gate → ReadsUntil session a b left turns ends.Turns
+turns_at_once session a b left turns e told calls none on = ([], 0, [], run_none session a b e told calls, omega arith, may_at_turns b.gate [], omega arith, on)
 
 pub finished_by_line : (session : ℕ) (a b : Observed ℕ) (left : Option (List ℕ)) (turns : ℕ)
-    → b.gate ≡ a.gate → b.told ≡ append_known a.told [] → CountsOne a.calls b.calls → 0 < turns → IsAtEnd left → ReadsUntil session a b left turns ends.Finished
-finished_by_line session a b left turns e quiet one more over = ([], 1, [], run_quiet session a b e quiet one, omega arith, may_none b.gate ends.Finished, omega arith, inr over)
+    → b.gate ≡ a.gate → b.told ≡ append_known a.told [] → CountsOne a.calls b.calls → 0 < turns → IsAtEnd left → GoesOn b.gate → ReadsUntil session a b left turns ends.Finished
+finished_by_line session a b left turns e quiet one more over on = ([], 1, [], run_quiet session a b e quiet one, omega arith, may_none b.gate ends.Finished, omega arith, inr (on, over))
 
 pub failed_by_line : (session : ℕ) (a b : Observed ℕ) (left : Option (List ℕ)) (turns : ℕ)
-    → b.gate ≡ a.gate → b.told ≡ a.told → CountsOne a.calls b.calls → 0 < turns → ReadsUntil session a b left turns ends.ReadFault
-failed_by_line session a b left turns e quiet one more = ([], 1, [], run_quiet session a b e (quiet ∙ known_none a.told) one, omega arith, may_none b.gate ends.ReadFault, omega arith, tt)
+    → b.gate ≡ a.gate → b.told ≡ a.told → CountsOne a.calls b.calls → 0 < turns → GoesOn b.gate → ReadsUntil session a b left turns ends.ReadFault
+failed_by_line session a b left turns e quiet one more on = ([], 1, [], run_quiet session a b e (quiet ∙ known_none a.told) one, omega arith, may_none b.gate ends.ReadFault, omega arith, on)
 
 pub quiet_turn : (session : ℕ) (a b : Observed ℕ) (left : Option (List ℕ)) (turns : ℕ)
-    → b.gate ≡ a.gate → b.told ≡ append_known a.told [] → CountsOne a.calls b.calls → 0 < turns → ReadsOn session a b left turns (Ok (turns - 1))
-quiet_turn session a b left turns e quiet one more = ([], 1, run_quiet session a b e quiet one, omega arith, omega arith)
+    → b.gate ≡ a.gate → b.told ≡ append_known a.told [] → CountsOne a.calls b.calls → 0 < turns → GoesOn b.gate → ReadsOn session a b left turns (Ok (turns - 1))
+quiet_turn session a b left turns e quiet one more on = ([], 1, run_quiet session a b e quiet one, omega arith, omega arith, on)
 
 one_more : (end : LoopEnd) (k turns : ℕ) → 0 < turns → UsesTurns end k (turns - 1) → UsesTurns end (k + 1) turns
 one_more ends.Turns k turns more p = omega arith
@@ -172,37 +166,65 @@ one_more ends.LinkFault k turns more p = omega arith
 one_more ends.Full k turns more p = omega arith
 one_more ends.NoMemory k turns more p = omega arith
 
-cause_by_stop : (b : Observed ℕ) (left : Option (List ℕ)) (end : LoopEnd) → IsStop b.gate end → ReadCause b left end
-cause_by_stop b left ends.Finished stop = inl stop
-cause_by_stop b left ends.Turns stop = tt
-cause_by_stop b left ends.ReadFault stop = tt
-cause_by_stop b left ends.WriteFault stop = absurd stop
-cause_by_stop b left ends.LinkFault stop = absurd stop
-cause_by_stop b left ends.Full stop = absurd stop
-cause_by_stop b left ends.NoMemory stop = absurd stop
+-- over a gate that tells the octets that were read are handed on without a stop
+cause_by_stop : (b : Observed ℕ) (left : Option (List ℕ)) (used : ℕ) (end : LoopEnd) → GoesOn b.gate → IsStop b.gate end → ReadCause b left used end
+cause_by_stop b left used ends.Finished on stop = inl (stops_where_on b.gate used stop on)
+cause_by_stop b left used ends.Turns on stop = stop
+cause_by_stop b left used ends.ReadFault on stop = on
+cause_by_stop b left used ends.WriteFault on stop = absurd stop
+cause_by_stop b left used ends.LinkFault on stop = absurd stop
+cause_by_stop b left used ends.Full on stop = absurd stop
+cause_by_stop b left used ends.NoMemory on stop = absurd stop
 
 -- a rest is no more than what was handed on
 rest_fits : (session : ℕ) (a b : Option GateState) (octets rest : List ℕ) (calls : List HubCall) → HandsOn session a b octets rest calls → length octets ≤ max_read → length rest ≤ max_read
 rest_fits session a b octets rest calls hands few = omega (arith, ap (λ (os : List ℕ). length os) hands.octets_are, length-append (octets_taken calls) rest, few)
 
 pub read_turn : (session : ℕ) (a b : Observed ℕ) (gate : Option GateState) (left : Option (List ℕ)) (octets : List ℕ) (turns : ℕ) (result : Result ℕ LoopEnd)
-    → gate ≡ a.gate → b.told ≡ append_known a.told octets → CountsOne a.calls b.calls → 0 < turns → length octets ≤ max_read → HandsAll gate b.gate session octets (turns - 1) result → ReadsOn session a b left turns result
-read_turn session a b gate left octets turns (Ok less) e read one more few (calls, hands, used) =
-    (calls, 1, run_read session a b gate octets [] calls e read one hands, omega arith, omega arith)
-read_turn session a b gate left octets turns (Err end) e read one more few (calls, rest, hands, may, used, stop) =
-    (calls, 1, rest, run_read session a b gate octets rest calls e read one hands, rest_fits session gate b.gate octets rest calls hands few, may, one_more end (length calls) turns more used, cause_by_stop b left end stop)
+    → gate ≡ a.gate → b.told ≡ append_known a.told octets → CountsOne a.calls b.calls → 0 < turns → length octets ≤ max_read → GoesOn gate → HandsAll gate b.gate session octets (turns - 1) result → ReadsOn session a b left turns result
+read_turn session a b gate left octets turns (Ok less) e read one more few on (calls, hands, used) =
+    (calls, 1, run_read session a b gate octets [] calls e read one hands, omega arith, omega arith, answers_after calls gate b.gate false hands.ran.leads on)
+read_turn session a b gate left octets turns (Err end) e read one more few on (calls, rest, hands, may, used, stop) = (
+  calls,
+  1,
+  rest,
+  run_read session a b gate octets rest calls e read one hands,
+  rest_fits session gate b.gate octets rest calls hands few,
+  may,
+  one_more end (length calls) turns more used,
+  cause_by_stop b left (length calls + 1) end (answers_after calls gate b.gate false hands.ran.leads on) stop,
+)
 
 -- ---- the loop
 
 abbrev pub ReadSoFar : ℕ → Observed ℕ → Observed ℕ → ℕ → ℕ → Type 0
-ReadSoFar session a b left turns = (calls : List HubCall) × (reads : ℕ) × ReadRun session a b [] calls reads × (left + (length calls + reads) ≡ turns)
+ReadSoFar session a b left turns = (calls : List HubCall) × (reads : ℕ) × ReadRun session a b [] calls reads × (left + (length calls + reads) ≡ turns) × WentOn b.gate (length calls + reads)
 
 pub read_begun : (session : ℕ) (a : Observed ℕ) (turns : ℕ) → ReadSoFar session a a turns turns
-read_begun session a turns = ([], 0, run_none session a a refl refl refl, omega arith)
+read_begun session a turns = ([], 0, run_none session a a refl refl refl, omega arith, inl refl)
 
 pub read_more : (session : ℕ) (a b c : Observed ℕ) (rest : Option (List ℕ)) (left less turns : ℕ) → ReadSoFar session a b left turns → ReadsOn session b c rest left (Ok less) → ReadSoFar session a c less turns
-read_more session a b c rest left less turns (xs, i, p, e) (ys, j, q, f, _) = (xs ++ ys, i + j, run_join session a b c [] xs ys i j p q, omega (arith, length-append xs ys))
+read_more session a b c rest left less turns (xs, i, p, e, _) (ys, j, q, f, _, on) = (xs ++ ys, i + j, run_join session a b c [] xs ys i j p q, omega (arith, length-append xs ys), inr on)
+
+cause_join : (after : Observed ℕ) (rest : Option (List ℕ)) (before : Option GateState) (ys : List HubCall) (used more all : ℕ) (end : LoopEnd)
+    → all ≡ used + more → LeadsTo ys before after.gate → WentOn before used → ReadCause after rest more end → ReadCause after rest all end
+cause_join after rest before ys used more all ends.Finished e leads on (inl stop) = inl (stops_join ys before after.gate used more all e leads on stop)
+cause_join after rest before ys used more all ends.Finished e leads on (inr over) = inr over
+cause_join after rest before ys used more all ends.Turns e leads on still = still
+cause_join after rest before ys used more all ends.ReadFault e leads on still = still
+cause_join after rest before ys used more all ends.WriteFault e leads on p = absurd p
+cause_join after rest before ys used more all ends.LinkFault e leads on p = absurd p
+cause_join after rest before ys used more all ends.Full e leads on p = absurd p
+cause_join after rest before ys used more all ends.NoMemory e leads on p = absurd p
 
 pub read_ended : (session : ℕ) (a b c : Observed ℕ) (rest : Option (List ℕ)) (left turns : ℕ) (end : LoopEnd) → ReadSoFar session a b left turns → ReadsUntil session b c rest left end → ReadsUntil session a c rest turns end
-read_ended session a b c rest left turns end (xs, i, p, e) (ys, j, octets, q, few, may, used, cause) =
-    (xs ++ ys, i + j, octets, run_join session a b c octets xs ys i j p q, few, may, uses_join end xs ys i j left turns e used, cause)
+read_ended session a b c rest left turns end (xs, i, p, e, on) (ys, j, octets, q, few, may, used, cause) = (
+  xs ++ ys,
+  i + j,
+  octets,
+  run_join session a b c octets xs ys i j p q,
+  few,
+  may,
+  uses_join end xs ys i j left turns e used,
+  cause_join c rest b.gate ys (length xs + i) (length ys + j) (length (xs ++ ys) + (i + j)) end (omega (arith, length-append xs ys)) q.ran.leads on cause,
+)

@@ -2,6 +2,7 @@
 use Rattle.std.proofs.Common.{◌≡◌, ℕ, ◌+◌, ◌-◌, ◌<◌, ◌≤◌, ◌⊎◌, inl, inr, Bool, true, List, [], ◌∷◌, ◌++◌, length, refl, sym, ap, ◌∙◌, subst, append_assoc, append-nil, length-append, arith}
 use Rattle.std.specs.Prelude.{None, Some, Result, Ok, Err}
 use Rattle.std.specs.declared.option.Option.{Option}
+use Rattle.std.specs.List.{AllByRecursion}
 use Rattle.std.proofs.lemmas.Grind.{flat_map-append}
 use Rattle.push_base.specs.Causes.{CountsOne}
 use Rattle.push_base.specs.Told.{TellsMore}
@@ -12,10 +13,10 @@ use Rattle.pushserver.specs.declared.fault.HubFault.TheVariants as faults
 use Rattle.hublock.specs.declared.loop_end.LoopEnd.{LoopEnd}
 use Rattle.hublock.specs.declared.loop_end.LoopEnd.TheVariants as ends
 use Rattle.hublock.specs.Calls.{HubCall, Received}
-use Rattle.hublock.specs.Gates.{GateState, DoesTurn, Answers, WasDone}
-use Rattle.hublock.specs.Loops.{Observed, CountsMore, LastWas}
-use Rattle.hublock.specs.LinkReader.{IsReceipt, datagrams_in, datagrams_handed, HearRun, IsRefusedReceipt, HearCause, HearsUntil, HearsOn}
-use Rattle.hublock.proofs.Leading.{tells_none, tells_join, counts_none, counts_one, counts_join, ran_none, ran_one, ran_join, last_one, last_join, uses_join, leaves_none}
+use Rattle.hublock.specs.Gates.{GateState, DoesTurn, Answers, GoesOn, WasDone, LeadsTo}
+use Rattle.hublock.specs.Loops.{Observed, CountsMore}
+use Rattle.hublock.specs.LinkReader.{IsReceipt, IsTakenReceipt, datagrams_in, datagrams_handed, HearRun, IsRefusedReceipt, HearCause, HearsUntil, HearsOn}
+use Rattle.hublock.proofs.Leading.{tells_none, tells_join, counts_none, counts_one, counts_join, ran_none, ran_one, ran_join, uses_join, still_on, stops_now, WentOn, stops_join, all_join, at_one, at_join}
 
 abbrev Seen : Type 0
 Seen = Observed (List ℕ)
@@ -65,61 +66,73 @@ pub done_at_once : (link : ℕ) (a b : Seen) (left : Datagrams) (turns : ℕ) (a
     → b.gate ≡ a.gate → b.told ≡ a.told → b.calls ≡ a.calls → Answers a.gate answer → answer ≡ true → HearsUntil link a b left turns ends.Finished
 done_at_once link a b left turns answer e same calls says is =
     let done : WasDone a.gate = subst (λ (t : Bool). Answers a.gate t) is says in
-    ([], 0, [], run_still link a b e same calls, omega arith, refl, omega arith, inl (subst (λ (s : Option GateState). WasDone s) (sym e) done))
+    ([], 0, [], run_still link a b e same calls, omega arith, refl, omega arith, (inl (stops_now b.gate (subst (λ (s : Option GateState). WasDone s) (sym e) done)), tt))
 
-pub turns_at_once : (link : ℕ) (a b : Seen) (left : Datagrams) (turns : ℕ) → b.gate ≡ a.gate → b.told ≡ a.told → b.calls ≡ a.calls → turns ≡ 0 → HearsUntil link a b left turns ends.Turns
-turns_at_once link a b left turns e same calls none = ([], 0, [], run_still link a b e same calls, omega arith, tt, omega arith, tt)
+pub turns_at_once : (link : ℕ) (a b : Seen) (left : Datagrams) (turns : ℕ) → b.gate ≡ a.gate → b.told ≡ a.told → b.calls ≡ a.calls → turns ≡ 0 → GoesOn b.gate → HearsUntil link a b left turns ends.Turns
+turns_at_once link a b left turns e same calls none on = ([], 0, [], run_still link a b e same calls, omega arith, tt, omega arith, (on, tt))
 
-pub ended_by_link : (link : ℕ) (a b : Seen) (left : Datagrams) (turns : ℕ) → b.gate ≡ a.gate → b.told ≡ a.told → CountsOne a.calls b.calls → 0 < turns → AreOver left → HearsUntil link a b left turns ends.Finished
-ended_by_link link a b left turns e same one more over = ([], 1, [], run_silent link a b 1 e same (counts_one a.calls b.calls one), omega arith, refl, omega arith, inr over)
+pub ended_by_link : (link : ℕ) (a b : Seen) (left : Datagrams) (turns : ℕ) → b.gate ≡ a.gate → b.told ≡ a.told → CountsOne a.calls b.calls → 0 < turns → AreOver left → GoesOn b.gate → HearsUntil link a b left turns ends.Finished
+ended_by_link link a b left turns e same one more over on = ([], 1, [], run_silent link a b 1 e same (counts_one a.calls b.calls one), omega arith, refl, omega arith, (inr (on, over), tt))
 
-pub failed_by_link : (link : ℕ) (a b : Seen) (left : Datagrams) (turns : ℕ) → b.gate ≡ a.gate → b.told ≡ a.told → CountsOne a.calls b.calls → 0 < turns → HearsUntil link a b left turns ends.LinkFault
-failed_by_link link a b left turns e same one more = ([], 1, [], run_silent link a b 1 e same (counts_one a.calls b.calls one), omega arith, refl, omega arith, tt)
+pub failed_by_link : (link : ℕ) (a b : Seen) (left : Datagrams) (turns : ℕ) → b.gate ≡ a.gate → b.told ≡ a.told → CountsOne a.calls b.calls → 0 < turns → GoesOn b.gate → HearsUntil link a b left turns ends.LinkFault
+failed_by_link link a b left turns e same one more on = ([], 1, [], run_silent link a b 1 e same (counts_one a.calls b.calls one), omega arith, refl, omega arith, (on, tt))
 
-pub quiet_turn : (link : ℕ) (a b : Seen) (left : Datagrams) (turns : ℕ) → b.gate ≡ a.gate → b.told ≡ a.told → CountsOne a.calls b.calls → 0 < turns → HearsOn link a b left turns (Ok (turns - 1))
-quiet_turn link a b left turns e same one more = ([], 1, run_silent link a b 1 e same (counts_one a.calls b.calls one), omega arith, omega arith)
+pub quiet_turn : (link : ℕ) (a b : Seen) (left : Datagrams) (turns : ℕ) → b.gate ≡ a.gate → b.told ≡ a.told → CountsOne a.calls b.calls → 0 < turns → GoesOn b.gate → HearsOn link a b left turns (Ok (turns - 1))
+quiet_turn link a b left turns e same one more on = ([], 1, run_silent link a b 1 e same (counts_one a.calls b.calls one), omega arith, omega arith, on, tt)
 
 pub turns_at_datagram : (link : ℕ) (a b : Seen) (left : Datagrams) (datagram : List ℕ) (turns : ℕ)
-    → b.gate ≡ a.gate → TellsMore a.told b.told (datagram ∷ []) → CountsOne a.calls b.calls → turns ≡ 1 → HearsUntil link a b left turns ends.Turns
-turns_at_datagram link a b left datagram turns e more one last = ([], 1, datagram ∷ [], run_kept link a b datagram e more one, omega arith, tt, omega arith, tt)
+    → b.gate ≡ a.gate → TellsMore a.told b.told (datagram ∷ []) → CountsOne a.calls b.calls → turns ≡ 1 → GoesOn b.gate → HearsUntil link a b left turns ends.Turns
+turns_at_datagram link a b left datagram turns e more one last on = ([], 1, datagram ∷ [], run_kept link a b datagram e more one, omega arith, tt, omega arith, (on, tt))
 
 pub heard_on : (link : ℕ) (a b : Seen) (gate : Option GateState) (left : Datagrams) (datagram : List ℕ) (heard : Heard) (turns : ℕ)
-    → gate ≡ a.gate → TellsMore a.told b.told (datagram ∷ []) → CountsOne a.calls b.calls → 1 < turns → DoesTurn (Received link datagram (Ok heard)) gate b.gate → HearsOn link a b left turns (Ok (turns - 2))
-heard_on link a b gate left datagram heard turns e more one some turn =
-    (Received link datagram (Ok heard) ∷ [], 1, run_heard link a b gate datagram (Ok heard) e more one turn, omega arith, omega arith)
+    → gate ≡ a.gate → TellsMore a.told b.told (datagram ∷ []) → CountsOne a.calls b.calls → 1 < turns → DoesTurn (Received link datagram (Ok heard)) gate b.gate → GoesOn gate → HearsOn link a b left turns (Ok (turns - 2))
+heard_on link a b gate left datagram heard turns e more one some turn on =
+    let call : HubCall = Received link datagram (Ok heard) in
+    (call ∷ [], 1, run_heard link a b gate datagram (Ok heard) e more one turn, omega arith, omega arith, still_on call gate b.gate turn on, (tt, tt))
 
 pub full_at_hearing : (link : ℕ) (a b : Seen) (gate : Option GateState) (left : Datagrams) (datagram : List ℕ) (turns : ℕ)
-    → gate ≡ a.gate → TellsMore a.told b.told (datagram ∷ []) → CountsOne a.calls b.calls → 1 < turns → DoesTurn (Received link datagram (Err faults.Full)) gate b.gate → HearsUntil link a b left turns ends.Full
-full_at_hearing link a b gate left datagram turns e more one some turn =
+    → gate ≡ a.gate → TellsMore a.told b.told (datagram ∷ []) → CountsOne a.calls b.calls → 1 < turns → DoesTurn (Received link datagram (Err faults.Full)) gate b.gate → GoesOn gate → HearsUntil link a b left turns ends.Full
+full_at_hearing link a b gate left datagram turns e more one some turn on =
     let call : HubCall = Received link datagram (Err faults.Full) in
-    (call ∷ [], 1, [], run_heard link a b gate datagram (Err faults.Full) e more one turn, omega arith, refl, omega arith, last_one (IsRefusedReceipt faults.Full) call refl)
+    (call ∷ [], 1, [], run_heard link a b gate datagram (Err faults.Full) e more one turn, omega arith, refl, omega arith, (still_on call gate b.gate turn on, at_one IsTakenReceipt (IsRefusedReceipt faults.Full) call refl))
 
 pub starved_at_hearing : (link : ℕ) (a b : Seen) (gate : Option GateState) (left : Datagrams) (datagram : List ℕ) (turns : ℕ)
-    → gate ≡ a.gate → TellsMore a.told b.told (datagram ∷ []) → CountsOne a.calls b.calls → 1 < turns → DoesTurn (Received link datagram (Err faults.NoMemory)) gate b.gate → HearsUntil link a b left turns ends.NoMemory
-starved_at_hearing link a b gate left datagram turns e more one some turn =
+    → gate ≡ a.gate → TellsMore a.told b.told (datagram ∷ []) → CountsOne a.calls b.calls → 1 < turns → DoesTurn (Received link datagram (Err faults.NoMemory)) gate b.gate → GoesOn gate → HearsUntil link a b left turns ends.NoMemory
+starved_at_hearing link a b gate left datagram turns e more one some turn on =
     let call : HubCall = Received link datagram (Err faults.NoMemory) in
-    (call ∷ [], 1, [], run_heard link a b gate datagram (Err faults.NoMemory) e more one turn, omega arith, refl, omega arith, last_one (IsRefusedReceipt faults.NoMemory) call refl)
+    (call ∷ [], 1, [], run_heard link a b gate datagram (Err faults.NoMemory) e more one turn, omega arith, refl, omega arith, (still_on call gate b.gate turn on, at_one IsTakenReceipt (IsRefusedReceipt faults.NoMemory) call refl))
 
 -- ---- the loop
 
 abbrev pub HeardSoFar : ℕ → Seen → Seen → ℕ → ℕ → Type 0
-HeardSoFar link a b left turns = (calls : List HubCall) × (receipts : ℕ) × HearRun link a b [] calls receipts × (left + (length calls + receipts) ≡ turns)
+HeardSoFar link a b left turns = (calls : List HubCall) × (receipts : ℕ) × HearRun link a b [] calls receipts × (left + (length calls + receipts) ≡ turns) × WentOn b.gate (length calls + receipts) × AllByRecursion IsTakenReceipt calls
 
 pub heard_begun : (link : ℕ) (a : Seen) (turns : ℕ) → HeardSoFar link a a turns turns
-heard_begun link a turns = ([], 0, run_still link a a refl refl refl, omega arith)
+heard_begun link a turns = ([], 0, run_still link a a refl refl refl, omega arith, inl refl, tt)
 
 pub heard_more : (link : ℕ) (a b c : Seen) (rest : Datagrams) (left less turns : ℕ) → HeardSoFar link a b left turns → HearsOn link b c rest left (Ok less) → HeardSoFar link a c less turns
-heard_more link a b c rest left less turns (xs, i, p, e) (ys, j, q, f, _) = (xs ++ ys, i + j, run_join link a b c [] xs ys i j p q, omega (arith, length-append xs ys))
+heard_more link a b c rest left less turns (xs, i, p, e, _, taken) (ys, j, q, f, _, on, more) =
+    (xs ++ ys, i + j, run_join link a b c [] xs ys i j p q, omega (arith, length-append xs ys), inr on, all_join IsTakenReceipt xs ys taken more)
 
-cause_join : (after : Seen) (rest : Datagrams) (xs ys : List HubCall) (end : LoopEnd) → HearCause after rest ys end → HearCause after rest (xs ++ ys) end
-cause_join after rest xs ys ends.Finished p = p
-cause_join after rest xs ys ends.Turns p = tt
-cause_join after rest xs ys ends.LinkFault p = tt
-cause_join after rest xs ys ends.Full p = last_join (IsRefusedReceipt faults.Full) xs ys p
-cause_join after rest xs ys ends.NoMemory p = last_join (IsRefusedReceipt faults.NoMemory) xs ys p
-cause_join after rest xs ys ends.ReadFault p = absurd p
-cause_join after rest xs ys ends.WriteFault p = absurd p
+cause_join : (after : Seen) (rest : Datagrams) (before : Option GateState) (xs ys : List HubCall) (used more all : ℕ) (end : LoopEnd)
+    → all ≡ used + more → LeadsTo ys before after.gate → WentOn before used → AllByRecursion IsTakenReceipt xs → HearCause after rest ys more end → HearCause after rest (xs ++ ys) all end
+cause_join after rest before xs ys used more all ends.Finished e leads on taken (inl stop, others) = (inl (stops_join ys before after.gate used more all e leads on stop), all_join IsTakenReceipt xs ys taken others)
+cause_join after rest before xs ys used more all ends.Finished e leads on taken (inr over, others) = (inr over, all_join IsTakenReceipt xs ys taken others)
+cause_join after rest before xs ys used more all ends.Turns e leads on taken (still, others) = (still, all_join IsTakenReceipt xs ys taken others)
+cause_join after rest before xs ys used more all ends.LinkFault e leads on taken (still, others) = (still, all_join IsTakenReceipt xs ys taken others)
+cause_join after rest before xs ys used more all ends.Full e leads on taken (still, last) = (still, at_join IsTakenReceipt (IsRefusedReceipt faults.Full) xs ys taken last)
+cause_join after rest before xs ys used more all ends.NoMemory e leads on taken (still, last) = (still, at_join IsTakenReceipt (IsRefusedReceipt faults.NoMemory) xs ys taken last)
+cause_join after rest before xs ys used more all ends.ReadFault e leads on taken p = absurd p
+cause_join after rest before xs ys used more all ends.WriteFault e leads on taken p = absurd p
 
 pub heard_ended : (link : ℕ) (a b c : Seen) (rest : Datagrams) (left turns : ℕ) (end : LoopEnd) → HeardSoFar link a b left turns → HearsUntil link b c rest left end → HearsUntil link a c rest turns end
-heard_ended link a b c rest left turns end (xs, i, p, e) (ys, j, kept, q, few, leaves, used, cause) =
-    (xs ++ ys, i + j, kept, run_join link a b c kept xs ys i j p q, few, leaves, uses_join end xs ys i j left turns e used, cause_join c rest xs ys end cause)
+heard_ended link a b c rest left turns end (xs, i, p, e, on, taken) (ys, j, kept, q, few, leaves, used, cause) = (
+  xs ++ ys,
+  i + j,
+  kept,
+  run_join link a b c kept xs ys i j p q,
+  few,
+  leaves,
+  uses_join end xs ys i j left turns e used,
+  cause_join c rest b.gate xs ys (length xs + i) (length ys + j) (length (xs ++ ys) + (i + j)) end (omega (arith, length-append xs ys)) q.ran.leads on taken cause,
+)

@@ -1,7 +1,8 @@
 -- Ticks, one behind the other.
-use Rattle.std.proofs.Common.{◌≡◌, ℕ, ◌+◌, ◌-◌, ◌<◌, ◌≤◌, Bool, true, List, [], ◌∷◌, ◌++◌, length, map, refl, sym, ap, ◌∙◌, subst, append_assoc, append-nil, length-append, arith}
+use Rattle.std.proofs.Common.{◌≡◌, ℕ, ◌+◌, ◌-◌, ◌<◌, ◌≤◌, ◌⊎◌, inl, inr, Bool, true, List, [], ◌∷◌, ◌++◌, length, map, refl, sym, ap, ◌∙◌, subst, append_assoc, append-nil, length-append, arith}
 use Rattle.std.specs.Prelude.{None, Some, Ok, Err}
 use Rattle.std.specs.declared.option.Option.{Option}
+use Rattle.std.specs.List.{AllByRecursion}
 use Rattle.std.proofs.lemmas.Grind.{flat_map-append}
 use Rattle.std.proofs.lemmas.List.{map-append}
 use Rattle.push_base.specs.Causes.{CountsOne}
@@ -11,10 +12,10 @@ use Rattle.pushserver.specs.declared.fault.HubFault.TheVariants as faults
 use Rattle.hublock.specs.declared.loop_end.LoopEnd.{LoopEnd}
 use Rattle.hublock.specs.declared.loop_end.LoopEnd.TheVariants as ends
 use Rattle.hublock.specs.Calls.{HubCall, Passed}
-use Rattle.hublock.specs.Gates.{GateState, DoesTurn, Answers, WasDone}
-use Rattle.hublock.specs.Loops.{Observed, CountsMore, LastWas}
-use Rattle.hublock.specs.Ticker.{timely, IsPass, moments_in, moments_passed, TickRun, IsRefusedPass, TickCause, TicksUntil, TicksOn}
-use Rattle.hublock.proofs.Leading.{tells_none, tells_join, counts_none, counts_one, counts_join, ran_none, ran_one, ran_join, last_one, last_join, uses_join, leaves_none}
+use Rattle.hublock.specs.Gates.{GateState, DoesTurn, Answers, GoesOn, WasDone, LeadsTo}
+use Rattle.hublock.specs.Loops.{Observed, CountsMore}
+use Rattle.hublock.specs.Ticker.{timely, IsPass, IsTakenPass, moments_in, moments_passed, TickRun, IsRefusedPass, TickCause, TicksUntil, TicksOn}
+use Rattle.hublock.proofs.Leading.{tells_none, tells_join, counts_none, counts_one, counts_join, ran_none, ran_one, ran_join, uses_join, still_on, stops_now, WentOn, stops_join, all_join, at_one, at_join}
 
 abbrev Told : Type 0
 Told = Option (List ℕ)
@@ -58,49 +59,61 @@ run_pass a b gate moment at fault e more one is turn = record {
 pub done_at_once : (a b : Observed ℕ) (turns : ℕ) (answer : Bool) → b.gate ≡ a.gate → b.told ≡ a.told → b.calls ≡ a.calls → Answers a.gate answer → answer ≡ true → TicksUntil a b turns ends.Finished
 done_at_once a b turns answer e told calls says is =
     let done : WasDone a.gate = subst (λ (t : Bool). Answers a.gate t) is says in
-    ([], 0, [], run_none a b e told calls, omega arith, refl, omega arith, subst (λ (s : Option GateState). WasDone s) (sym e) done)
+    ([], 0, [], run_none a b e told calls, omega arith, refl, omega arith, (stops_now b.gate (subst (λ (s : Option GateState). WasDone s) (sym e) done), tt))
 
-pub turns_at_once : (a b : Observed ℕ) (turns : ℕ) → b.gate ≡ a.gate → b.told ≡ a.told → b.calls ≡ a.calls → turns ≡ 0 → TicksUntil a b turns ends.Turns
-turns_at_once a b turns e told calls none = ([], 0, [], run_none a b e told calls, omega arith, tt, omega arith, tt)
+pub turns_at_once : (a b : Observed ℕ) (turns : ℕ) → b.gate ≡ a.gate → b.told ≡ a.told → b.calls ≡ a.calls → turns ≡ 0 → GoesOn b.gate → TicksUntil a b turns ends.Turns
+turns_at_once a b turns e told calls none on = ([], 0, [], run_none a b e told calls, omega arith, tt, omega arith, (on, tt))
 
-pub turns_at_tick : (a b : Observed ℕ) (moment turns : ℕ) → b.gate ≡ a.gate → TellsMore a.told b.told (moment ∷ []) → CountsOne a.calls b.calls → turns ≡ 1 → TicksUntil a b turns ends.Turns
-turns_at_tick a b moment turns e more one last = ([], 1, timely moment ∷ [], run_tick a b moment e more one, omega arith, tt, omega arith, tt)
+pub turns_at_tick : (a b : Observed ℕ) (moment turns : ℕ) → b.gate ≡ a.gate → TellsMore a.told b.told (moment ∷ []) → CountsOne a.calls b.calls → turns ≡ 1 → GoesOn b.gate → TicksUntil a b turns ends.Turns
+turns_at_tick a b moment turns e more one last on = ([], 1, timely moment ∷ [], run_tick a b moment e more one, omega arith, tt, omega arith, (on, tt))
 
 pub full_at_pass : (a b : Observed ℕ) (gate : Option GateState) (moment at turns : ℕ)
-    → gate ≡ a.gate → TellsMore a.told b.told (moment ∷ []) → CountsOne a.calls b.calls → at ≡ timely moment → 1 < turns → DoesTurn (Passed at (Some faults.Full)) gate b.gate → TicksUntil a b turns ends.Full
-full_at_pass a b gate moment at turns e more one is some turn =
-    (Passed at (Some faults.Full) ∷ [], 1, [], run_pass a b gate moment at (Some faults.Full) e more one is turn, omega arith, refl, omega arith, last_one (IsRefusedPass faults.Full) (Passed at (Some faults.Full)) refl)
+    → gate ≡ a.gate → TellsMore a.told b.told (moment ∷ []) → CountsOne a.calls b.calls → at ≡ timely moment → 1 < turns → DoesTurn (Passed at (Some faults.Full)) gate b.gate → GoesOn gate → TicksUntil a b turns ends.Full
+full_at_pass a b gate moment at turns e more one is some turn on =
+    let call : HubCall = Passed at (Some faults.Full) in
+    (call ∷ [], 1, [], run_pass a b gate moment at (Some faults.Full) e more one is turn, omega arith, refl, omega arith, (still_on call gate b.gate turn on, at_one IsTakenPass (IsRefusedPass faults.Full) call refl))
 
 pub starved_at_pass : (a b : Observed ℕ) (gate : Option GateState) (moment at turns : ℕ)
-    → gate ≡ a.gate → TellsMore a.told b.told (moment ∷ []) → CountsOne a.calls b.calls → at ≡ timely moment → 1 < turns → DoesTurn (Passed at (Some faults.NoMemory)) gate b.gate → TicksUntil a b turns ends.NoMemory
-starved_at_pass a b gate moment at turns e more one is some turn =
-    (Passed at (Some faults.NoMemory) ∷ [], 1, [], run_pass a b gate moment at (Some faults.NoMemory) e more one is turn, omega arith, refl, omega arith, last_one (IsRefusedPass faults.NoMemory) (Passed at (Some faults.NoMemory)) refl)
+    → gate ≡ a.gate → TellsMore a.told b.told (moment ∷ []) → CountsOne a.calls b.calls → at ≡ timely moment → 1 < turns → DoesTurn (Passed at (Some faults.NoMemory)) gate b.gate → GoesOn gate → TicksUntil a b turns ends.NoMemory
+starved_at_pass a b gate moment at turns e more one is some turn on =
+    let call : HubCall = Passed at (Some faults.NoMemory) in
+    (call ∷ [], 1, [], run_pass a b gate moment at (Some faults.NoMemory) e more one is turn, omega arith, refl, omega arith, (still_on call gate b.gate turn on, at_one IsTakenPass (IsRefusedPass faults.NoMemory) call refl))
 
 pub passed_on : (a b : Observed ℕ) (gate : Option GateState) (moment at turns : ℕ)
-    → gate ≡ a.gate → TellsMore a.told b.told (moment ∷ []) → CountsOne a.calls b.calls → at ≡ timely moment → 1 < turns → DoesTurn (Passed at None) gate b.gate → TicksOn a b turns (Ok (turns - 2))
-passed_on a b gate moment at turns e more one is some turn =
-    (Passed at None ∷ [], 1, run_pass a b gate moment at None e more one is turn, omega arith, omega arith)
+    → gate ≡ a.gate → TellsMore a.told b.told (moment ∷ []) → CountsOne a.calls b.calls → at ≡ timely moment → 1 < turns → DoesTurn (Passed at None) gate b.gate → GoesOn gate → TicksOn a b turns (Ok (turns - 2))
+passed_on a b gate moment at turns e more one is some turn on =
+    (Passed at None ∷ [], 1, run_pass a b gate moment at None e more one is turn, omega arith, omega arith, still_on (Passed at None) gate b.gate turn on, (tt, tt))
 
 -- ---- the loop
 
 abbrev pub TickedSoFar : Observed ℕ → Observed ℕ → ℕ → ℕ → Type 0
-TickedSoFar a b left turns = (calls : List HubCall) × (ticks : ℕ) × TickRun a b [] calls ticks × (left + (length calls + ticks) ≡ turns)
+TickedSoFar a b left turns = (calls : List HubCall) × (ticks : ℕ) × TickRun a b [] calls ticks × (left + (length calls + ticks) ≡ turns) × WentOn b.gate (length calls + ticks) × AllByRecursion IsTakenPass calls
 
 pub ticks_begun : (a : Observed ℕ) (turns : ℕ) → TickedSoFar a a turns turns
-ticks_begun a turns = ([], 0, run_none a a refl refl refl, omega arith)
+ticks_begun a turns = ([], 0, run_none a a refl refl refl, omega arith, inl refl, tt)
 
 pub ticks_more : (a b c : Observed ℕ) (left less turns : ℕ) → TickedSoFar a b left turns → TicksOn b c left (Ok less) → TickedSoFar a c less turns
-ticks_more a b c left less turns (xs, i, p, e) (ys, j, q, f, _) = (xs ++ ys, i + j, run_join a b c [] xs ys i j p q, omega (arith, length-append xs ys))
+ticks_more a b c left less turns (xs, i, p, e, _, taken) (ys, j, q, f, _, on, more) =
+    (xs ++ ys, i + j, run_join a b c [] xs ys i j p q, omega (arith, length-append xs ys), inr on, all_join IsTakenPass xs ys taken more)
 
-cause_join : (after : Observed ℕ) (xs ys : List HubCall) (end : LoopEnd) → TickCause after ys end → TickCause after (xs ++ ys) end
-cause_join after xs ys ends.Finished p = p
-cause_join after xs ys ends.Turns p = tt
-cause_join after xs ys ends.Full p = last_join (IsRefusedPass faults.Full) xs ys p
-cause_join after xs ys ends.NoMemory p = last_join (IsRefusedPass faults.NoMemory) xs ys p
-cause_join after xs ys ends.ReadFault p = absurd p
-cause_join after xs ys ends.WriteFault p = absurd p
-cause_join after xs ys ends.LinkFault p = absurd p
+cause_join : (after : Observed ℕ) (before : Option GateState) (xs ys : List HubCall) (used more all : ℕ) (end : LoopEnd)
+    → all ≡ used + more → LeadsTo ys before after.gate → WentOn before used → AllByRecursion IsTakenPass xs → TickCause after ys more end → TickCause after (xs ++ ys) all end
+cause_join after before xs ys used more all ends.Finished e leads on taken (stop, rest) = (stops_join ys before after.gate used more all e leads on stop, all_join IsTakenPass xs ys taken rest)
+cause_join after before xs ys used more all ends.Turns e leads on taken (still, rest) = (still, all_join IsTakenPass xs ys taken rest)
+cause_join after before xs ys used more all ends.Full e leads on taken (still, last) = (still, at_join IsTakenPass (IsRefusedPass faults.Full) xs ys taken last)
+cause_join after before xs ys used more all ends.NoMemory e leads on taken (still, last) = (still, at_join IsTakenPass (IsRefusedPass faults.NoMemory) xs ys taken last)
+cause_join after before xs ys used more all ends.ReadFault e leads on taken p = absurd p
+cause_join after before xs ys used more all ends.WriteFault e leads on taken p = absurd p
+cause_join after before xs ys used more all ends.LinkFault e leads on taken p = absurd p
 
 pub ticks_ended : (a b c : Observed ℕ) (left turns : ℕ) (end : LoopEnd) → TickedSoFar a b left turns → TicksUntil b c left end → TicksUntil a c turns end
-ticks_ended a b c left turns end (xs, i, p, e) (ys, j, rest, q, few, leaves, used, cause) =
-    (xs ++ ys, i + j, rest, run_join a b c rest xs ys i j p q, few, leaves, uses_join end xs ys i j left turns e used, cause_join c xs ys end cause)
+ticks_ended a b c left turns end (xs, i, p, e, on, taken) (ys, j, rest, q, few, leaves, used, cause) = (
+  xs ++ ys,
+  i + j,
+  rest,
+  run_join a b c rest xs ys i j p q,
+  few,
+  leaves,
+  uses_join end xs ys i j left turns e used,
+  cause_join c b.gate xs ys (length xs + i) (length ys + j) (length (xs ++ ys) + (i + j)) end (omega (arith, length-append xs ys)) q.ran.leads on taken cause,
+)

@@ -2,20 +2,22 @@
 use Rattle.std.proofs.Common.{◌≡◌, ℕ, ◌+◌, ◌-◌, ◌≤◌, ◌<◌, ◌⊎◌, inl, inr, Bool, true, false, cond, List, [], ◌∷◌, ◌++◌, length, take, drop, refl, sym, ap, ◌∙◌, subst, append_assoc, append-nil, length-append, arith}
 use Rattle.std.specs.Prelude.{Result, Ok, Err}
 use Rattle.std.specs.declared.option.Option.{Option}
+use Rattle.std.specs.List.{AllByRecursion}
 use Rattle.std.specs.Io.KnownBytes.{append_known}
 use Rattle.std.proofs.lemmas.Grind.{flat_map-append}
 use Rattle.std.proofs.lemmas.List.{take-append-drop}
 use Rattle.push_base.specs.Causes.{CountsOne}
 use Rattle.pushserver.specs.declared.given.Given.{Given}
+use Rattle.pushserver.specs.declared.given.Given.TheVariants as givens
 use Rattle.pushserver.specs.declared.fault.HubFault.{HubFault}
 use Rattle.pushserver.specs.declared.fault.HubFault.TheVariants as faults
 use Rattle.hublock.specs.declared.loop_end.LoopEnd.{LoopEnd}
 use Rattle.hublock.specs.declared.loop_end.LoopEnd.TheVariants as ends
-use Rattle.hublock.specs.Calls.{HubCall, Gave}
-use Rattle.hublock.specs.Gates.{GateState, DoesTurn, Answers, WasDone}
+use Rattle.hublock.specs.Calls.{HubCall, Took, Gave, Received, Passed, Left, Connected}
+use Rattle.hublock.specs.Gates.{GateState, DoesTurn, Answers, GoesOn, WasDone, LeadsTo}
 use Rattle.hublock.specs.Loops.{Observed, CountsMore, UsesTurns, LeavesRest, LastWas, IsEndOf}
-use Rattle.hublock.specs.Writer.{IsGive, octets_of, given_in, octets_given, WriteRun, EndsWith, IsLastGive, IsStarvedGive, WriteCause, WritesUntil, WritesOn, TakesPiece}
-use Rattle.hublock.proofs.Leading.{known_none, known_join, counts_none, counts_one, counts_join, answers_after, ran_none, ran_one, ran_join, last_one, last_join, uses_join, leaves_none}
+use Rattle.hublock.specs.Writer.{IsGive, octets_of, given_in, octets_given, WriteRun, GoesOnWith, IsPassingGive, EndsWith, IsLastGive, IsStarvedGive, WriteCause, WritesUntil, WritesOn, TakesPiece}
+use Rattle.hublock.proofs.Leading.{known_none, known_join, counts_none, counts_one, counts_join, answers_after, ran_none, ran_one, ran_join, last_one, last_join, uses_join, all_join, at_one, at_join}
 
 -- ---- writes of one piece
 
@@ -101,40 +103,41 @@ silent session a b gate before after answer same turn none told calls =
     run_gave session a b gate before after answer [] [] 0 same turn none (told ∙ known_none a.told) counts
 
 pub silent_on : (session : ℕ) (a b : Observed ℕ) (gate : Option GateState) (before after : List ℕ) (answer : Result Given HubFault) (turns : ℕ)
-    → gate ≡ a.gate → DoesTurn (Gave session before after answer) gate b.gate → octets_of answer after ≡ [] → b.told ≡ a.told → b.calls ≡ a.calls → 0 < turns → WritesOn session a b turns (Ok (turns - 1))
-silent_on session a b gate before after answer turns same turn none told calls more =
-    (Gave session before after answer ∷ [], 0, silent session a b gate before after answer same turn none told calls, omega arith, omega arith)
+    → gate ≡ a.gate → DoesTurn (Gave session before after answer) gate b.gate → octets_of answer after ≡ [] → b.told ≡ a.told → b.calls ≡ a.calls → 0 < turns → GoesOnWith b.gate answer → WritesOn session a b turns (Ok (turns - 1))
+silent_on session a b gate before after answer turns same turn none told calls more on =
+    (Gave session before after answer ∷ [], 0, silent session a b gate before after answer same turn none told calls, omega arith, omega arith, (on, tt))
 
 pub finished : (session : ℕ) (a b : Observed ℕ) (gate : Option GateState) (before after : List ℕ) (answer : Result Given HubFault) (turns : ℕ)
     → gate ≡ a.gate → DoesTurn (Gave session before after answer) gate b.gate → octets_of answer after ≡ [] → b.told ≡ a.told → b.calls ≡ a.calls → 0 < turns → EndsWith b.gate answer → WritesUntil session a b turns ends.Finished
 finished session a b gate before after answer turns same turn none told calls more ends_so =
-    (Gave session before after answer ∷ [], 0, [], silent session a b gate before after answer same turn none told calls, refl, inl refl, omega arith, last_one (IsLastGive b.gate) (Gave session before after answer) ends_so)
+    (Gave session before after answer ∷ [], 0, [], silent session a b gate before after answer same turn none told calls, refl, inl refl, omega arith, at_one (IsPassingGive b.gate) (IsLastGive b.gate) (Gave session before after answer) ends_so)
 
 pub starved_at_give : (session : ℕ) (a b : Observed ℕ) (gate : Option GateState) (before after : List ℕ) (turns : ℕ)
     → gate ≡ a.gate → DoesTurn (Gave session before after (Err faults.NoMemory)) gate b.gate → b.told ≡ a.told → b.calls ≡ a.calls → 0 < turns → WritesUntil session a b turns ends.NoMemory
 starved_at_give session a b gate before after turns same turn told calls more =
     let answer : Result Given HubFault = Err faults.NoMemory in
-    (Gave session before after answer ∷ [], 0, [], silent session a b gate before after answer same turn refl told calls, refl, inl refl, omega arith, last_one IsStarvedGive (Gave session before after answer) refl)
+    (Gave session before after answer ∷ [], 0, [], silent session a b gate before after answer same turn refl told calls, refl, inl refl, omega arith, at_one (IsPassingGive b.gate) IsStarvedGive (Gave session before after answer) refl)
 
 -- nothing was given, and the loop waits, or ends where all was done before the call
 pub waited : (session : ℕ) (a b : Observed ℕ) (gate middle : Option GateState) (before after : List ℕ) (answer : Result Given HubFault) (turns : ℕ) (idle : Bool) (result : Result ℕ LoopEnd)
     → gate ≡ a.gate → DoesTurn (Gave session before after answer) gate middle → b.gate ≡ middle → octets_of answer after ≡ [] → b.told ≡ a.told → b.calls ≡ a.calls → 0 < turns
-    → (WasDone b.gate → EndsWith b.gate answer) → Answers a.gate idle → result ≡ cond idle (Err ends.Finished) (Ok (turns - 1)) → WritesOn session a b turns result
-waited session a b gate middle before after answer turns true result same turn later none told calls more ends_so idle is =
+    → (WasDone b.gate → EndsWith b.gate answer) → (GoesOn b.gate → GoesOnWith b.gate answer) → Answers a.gate idle → result ≡ cond idle (Err ends.Finished) (Ok (turns - 1)) → WritesOn session a b turns result
+waited session a b gate middle before after answer turns true result same turn later none told calls more ends_so goes_so idle is =
     let now : DoesTurn (Gave session before after answer) gate b.gate = subst (λ (s : Option GateState). DoesTurn (Gave session before after answer) gate s) (sym later) turn in
     let done : WasDone b.gate = answers_after (Gave session before after answer ∷ []) a.gate b.gate true (ran_one (IsGive session) (Gave session before after answer) a.gate gate b.gate refl same now).leads idle in
     subst (λ (r : Result ℕ LoopEnd). WritesOn session a b turns r) (sym is) (finished session a b gate before after answer turns same now none told calls more (ends_so done))
-waited session a b gate middle before after answer turns false result same turn later none told calls more ends_so idle is =
+waited session a b gate middle before after answer turns false result same turn later none told calls more ends_so goes_so idle is =
     let now : DoesTurn (Gave session before after answer) gate b.gate = subst (λ (s : Option GateState). DoesTurn (Gave session before after answer) gate s) (sym later) turn in
-    subst (λ (r : Result ℕ LoopEnd). WritesOn session a b turns r) (sym is) (silent_on session a b gate before after answer turns same now none told calls more)
+    let on : GoesOn b.gate = answers_after (Gave session before after answer ∷ []) a.gate b.gate false (ran_one (IsGive session) (Gave session before after answer) a.gate gate b.gate refl same now).leads idle in
+    subst (λ (r : Result ℕ LoopEnd). WritesOn session a b turns r) (sym is) (silent_on session a b gate before after answer turns same now none told calls more (goes_so on))
 
 -- a piece that was given was written, or the loop ended
 pub gave_and_wrote : (session : ℕ) (a b : Observed ℕ) (gate : Option GateState) (before after piece : List ℕ) (answer : Result Given HubFault) (turns : ℕ) (result : Result ℕ LoopEnd)
-    → gate ≡ a.gate → DoesTurn (Gave session before after answer) gate b.gate → octets_of answer after ≡ piece → 0 < turns
+    → gate ≡ a.gate → DoesTurn (Gave session before after answer) gate b.gate → octets_of answer after ≡ piece → 0 < turns → GoesOnWith b.gate answer
     → TakesPiece piece a.told b.told a.calls b.calls (turns - 1) result → WritesOn session a b turns result
-gave_and_wrote session a b gate before after piece answer turns (Ok left) same turn is more (writes, took, counts, used) =
-    (Gave session before after answer ∷ [], writes, run_gave session a b gate before after answer piece [] writes same turn (is ∙ sym (append-nil piece)) took counts, omega arith, omega arith)
-gave_and_wrote session a b gate before after piece answer turns (Err end) same turn is more (writes, front, rest, whole, took, counts, used, how) =
+gave_and_wrote session a b gate before after piece answer turns (Ok left) same turn is more on (writes, took, counts, used) =
+    (Gave session before after answer ∷ [], writes, run_gave session a b gate before after answer piece [] writes same turn (is ∙ sym (append-nil piece)) took counts, omega arith, omega arith, (on, tt))
+gave_and_wrote session a b gate before after piece answer turns (Err end) same turn is more on (writes, front, rest, whole, took, counts, used, how) =
     let call : HubCall = Gave session before after answer in (
       call ∷ [],
       writes,
@@ -151,8 +154,8 @@ gave_and_wrote session a b gate before after piece answer turns (Err end) same t
     leaves end (inr e) = subst (λ (s : LoopEnd). LeavesRest s rest) (sym e) tt
 
     cause : (end : LoopEnd) → (end ≡ ends.Turns) ⊎ (end ≡ ends.WriteFault) → WriteCause b (Gave session before after answer ∷ []) end
-    cause end (inl e) = subst (λ (s : LoopEnd). WriteCause b (Gave session before after answer ∷ []) s) (sym e) tt
-    cause end (inr e) = subst (λ (s : LoopEnd). WriteCause b (Gave session before after answer ∷ []) s) (sym e) tt
+    cause end (inl e) = subst (λ (s : LoopEnd). WriteCause b (Gave session before after answer ∷ []) s) (sym e) (on, tt)
+    cause end (inr e) = subst (λ (s : LoopEnd). WriteCause b (Gave session before after answer ∷ []) s) (sym e) (on, tt)
 
     one_more : (end : LoopEnd) (k turns : ℕ) → 0 < turns → UsesTurns end k (turns - 1) → UsesTurns end (1 + k) turns
     one_more ends.Turns k turns more p = omega arith
@@ -166,27 +169,66 @@ gave_and_wrote session a b gate before after piece answer turns (Err end) same t
 -- ---- the loop
 
 abbrev pub WroteSoFar : ℕ → Observed ℕ → Observed ℕ → ℕ → ℕ → Type 0
-WroteSoFar session a b left turns = (calls : List HubCall) × (writes : ℕ) × WriteRun session a b [] calls writes × (left + (length calls + writes) ≡ turns)
+WroteSoFar session a b left turns = (calls : List HubCall) × (writes : ℕ) × WriteRun session a b [] calls writes × (left + (length calls + writes) ≡ turns) × AllByRecursion (IsPassingGive b.gate) calls
 
 pub wrote_begun : (session : ℕ) (a : Observed ℕ) (turns : ℕ) → WroteSoFar session a a turns turns
-wrote_begun session a turns = ([], 0, run_none session a a refl refl refl, omega arith)
+wrote_begun session a turns = ([], 0, run_none session a a refl refl refl, omega arith, tt)
+
+-- an answer behind which a loop goes on is one at another gate, too, if that goes on where the first does
+with_moved : (b c : Option GateState) (answer : Result Given HubFault) → (GoesOn b → GoesOn c) → GoesOnWith b answer → GoesOnWith c answer
+with_moved b c (Ok (givens.Bytes n)) f p = tt
+with_moved b c (Ok givens.Worked) f p = tt
+with_moved b c (Ok givens.Nothing) f p = f p
+with_moved b c (Ok givens.Ending) f p = f p
+with_moved b c (Ok (givens.End reason)) f p = absurd p
+with_moved b c (Err fault) f p = absurd p
+
+give_moved : (b c : Option GateState) (call : HubCall) → (GoesOn b → GoesOn c) → IsPassingGive b call → IsPassingGive c call
+give_moved b c (Gave session before after answer) f p = with_moved b c answer f p
+give_moved b c (Took session piece count) f p = absurd p
+give_moved b c (Received link datagram answer) f p = absurd p
+give_moved b c (Passed at fault) f p = absurd p
+give_moved b c (Left session) f p = absurd p
+give_moved b c (Connected answer) f p = absurd p
+
+all_moved : (b c : Option GateState) (xs : List HubCall) → (GoesOn b → GoesOn c) → AllByRecursion (IsPassingGive b) xs → AllByRecursion (IsPassingGive c) xs
+all_moved b c [] f p = tt
+all_moved b c (x ∷ xs) f p = (give_moved b c x f p.0, all_moved b c xs f p.1)
+
+-- the calls of earlier turns, as the gate is behind later ones
+moved_by : (b c : Option GateState) (xs ys : List HubCall) → LeadsTo ys b c → AllByRecursion (IsPassingGive b) xs → AllByRecursion (IsPassingGive c) xs
+moved_by b c xs ys leads all = all_moved b c xs (answers_after ys b c false leads) all
 
 pub wrote_more : (session : ℕ) (a b c : Observed ℕ) (left less turns : ℕ) → WroteSoFar session a b left turns → WritesOn session b c left (Ok less) → WroteSoFar session a c less turns
-wrote_more session a b c left less turns (xs, i, p, e) (ys, j, q, f, _) = (xs ++ ys, i + j, run_join session a b c [] xs ys i j p q, omega (arith, length-append xs ys))
+wrote_more session a b c left less turns (xs, i, p, e, on) (ys, j, q, f, _, more) = (
+  xs ++ ys,
+  i + j,
+  run_join session a b c [] xs ys i j p q,
+  omega (arith, length-append xs ys),
+  all_join (IsPassingGive c.gate) xs ys (moved_by b.gate c.gate xs ys q.ran.leads on) more,
+)
 
-cause_join : (after : Observed ℕ) (xs ys : List HubCall) (end : LoopEnd) → WriteCause after ys end → WriteCause after (xs ++ ys) end
-cause_join after xs ys ends.Finished p = last_join (IsLastGive after.gate) xs ys p
-cause_join after xs ys ends.Turns p = tt
-cause_join after xs ys ends.WriteFault p = tt
-cause_join after xs ys ends.NoMemory p = last_join IsStarvedGive xs ys p
-cause_join after xs ys ends.Full p = absurd p
-cause_join after xs ys ends.ReadFault p = absurd p
-cause_join after xs ys ends.LinkFault p = absurd p
+cause_join : (after : Observed ℕ) (xs ys : List HubCall) (end : LoopEnd) → AllByRecursion (IsPassingGive after.gate) xs → WriteCause after ys end → WriteCause after (xs ++ ys) end
+cause_join after xs ys ends.Finished on p = at_join (IsPassingGive after.gate) (IsLastGive after.gate) xs ys on p
+cause_join after xs ys ends.Turns on p = all_join (IsPassingGive after.gate) xs ys on p
+cause_join after xs ys ends.WriteFault on p = all_join (IsPassingGive after.gate) xs ys on p
+cause_join after xs ys ends.NoMemory on p = at_join (IsPassingGive after.gate) IsStarvedGive xs ys on p
+cause_join after xs ys ends.Full on p = absurd p
+cause_join after xs ys ends.ReadFault on p = absurd p
+cause_join after xs ys ends.LinkFault on p = absurd p
 
 end_join : (rest : List ℕ) (xs ys : List HubCall) → (rest ≡ []) ⊎ LastWas (IsEndOf given_in rest) ys → (rest ≡ []) ⊎ LastWas (IsEndOf given_in rest) (xs ++ ys)
 end_join rest xs ys (inl e) = inl e
 end_join rest xs ys (inr l) = inr (last_join (IsEndOf given_in rest) xs ys l)
 
 pub wrote_ended : (session : ℕ) (a b c : Observed ℕ) (left turns : ℕ) (end : LoopEnd) → WroteSoFar session a b left turns → WritesUntil session b c left end → WritesUntil session a c turns end
-wrote_ended session a b c left turns end (xs, i, p, e) (ys, j, rest, q, leaves, of_last, used, cause) =
-    (xs ++ ys, i + j, rest, run_join session a b c rest xs ys i j p q, leaves, end_join rest xs ys of_last, uses_join end xs ys i j left turns e used, cause_join c xs ys end cause)
+wrote_ended session a b c left turns end (xs, i, p, e, on) (ys, j, rest, q, leaves, of_last, used, cause) = (
+  xs ++ ys,
+  i + j,
+  rest,
+  run_join session a b c rest xs ys i j p q,
+  leaves,
+  end_join rest xs ys of_last,
+  uses_join end xs ys i j left turns e used,
+  cause_join c xs ys end (moved_by b.gate c.gate xs ys q.ran.leads on) cause,
+)

@@ -2,6 +2,7 @@
 --     GateState      the hub that a gate holds, whether it is to stop, and the number of its calls
 --     DoesTurn, DoesApart      after one call of the hub, counted or not
 --     Answers, GoesOn, WasDone      whether it is to stop
+--     StopsAtOnce      it is to stop, and so nothing was called
 --     LeadsTo calls before after      after a list of calls of the hub
 use Rattle.std.specs.Prelude.{◌≡◌, ℕ, ◌+◌, ◌^◌, ◌-◌, ◌≤◌, ◌⊎◌, ⊤, Bool, true, false, List, [], ◌∷◌, length, None, Some}
 use Rattle.std.specs.declared.option.Option.{Option}
@@ -47,6 +48,11 @@ GoesOn state = Answers state false
 -- a gate that tells is to stop
 abbrev pub WasDone : Option GateState → Type 0
 WasDone state = Answers state true
+
+-- a gate is to stop, and where it tells that, so many turns were used, which are none
+abbrev pub StopsAtOnce : Option GateState → ℕ → Type 0
+StopsAtOnce None used = ⊤
+StopsAtOnce (Some state) used = (state.quit ≡ true) × (used ≡ 0)
 
 -- each call by the contract of the hub's call
 abbrev pub Leads : KeptHub → List HubCall → KeptHub → Type 0

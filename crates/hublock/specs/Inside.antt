@@ -4,7 +4,8 @@
 --     AcceptsNone, AcceptsChange, AcceptsMoment, AcceptsHearing      what the journal's counts and a feed's rise by
 --     is_live, marked      whether a session lives; the marks with one more
 --     is_done      whether nothing is left to do for a role
-use Rattle.std.specs.Prelude.{◌≡◌, ℕ, ◌+◌, ◌⊎◌, ◌||◌, ◌==◌, not, Bool, cond, List, [], ◌∷◌, ◌++◌, filter, is_some, Result, Ok, Err}
+--     signalled      behind a signal
+use Rattle.std.specs.Prelude.{◌≡◌, ℕ, ◌+◌, ◌-◌, ◌⊎◌, ◌||◌, ◌==◌, not, Bool, true, cond, List, [], ◌∷◌, ◌++◌, filter, is_some, Result, Ok, Err}
 use Rattle.std.specs.List.{list_any, IsDistinct}
 use Rattle.history.specs.Totals.{totals}
 use Rattle.history.specs.declared.entry.Totals.{Totals}
@@ -16,6 +17,8 @@ use Rattle.pushserver.specs.declared.given.Heard.TheVariants.{Entered, Ignored}
 use Rattle.pushserver.specs.declared.fault.HubFault.{HubFault}
 use Rattle.push_base.specs.declared.role.Role.{Role}
 use Rattle.push_base.specs.declared.role.Role.TheVariants.{Reader, Writer, Link, Clock}
+use Rattle.hublock.specs.declared.signal.Signal.{Signal}
+use Rattle.hublock.specs.declared.signal.Signal.TheVariants as signals
 use Rattle.hublock.specs.Feeds.{FeedState, one_change_more, one_hearing_more, one_moment_more}
 
 pub record LockedState : Type 0 where
@@ -102,3 +105,10 @@ is_done state (Reader session) = state.quit || not (is_live state.hub session)
 is_done state (Writer session) = state.quit || has_mark session state.over
 is_done state (Link link) = state.quit || (state.left == 0)
 is_done state Clock = state.quit || (state.left == 0)
+
+-- behind a signal
+abbrev pub signalled : Signal → LockedState → LockedState
+signalled (signals.Begun sessions) state = record state { left = sessions }
+signalled (signals.LineOver session) state = record state { over = marked state.hub session state.over }
+signalled signals.SessionOver state = record state { left = state.left - 1 }
+signalled signals.Quit state = record state { quit = true }

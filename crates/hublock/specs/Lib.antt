@@ -10,3 +10,4 @@ pub mod Writer
 pub mod LinkReader
 pub mod Ticker
 pub mod Jobs
+pub mod Registers

@@ -5,6 +5,7 @@
 --     CountsMore      a count that is told went on by so many
 --     UsesTurns, LeavesRest      the turns that a loop used, and what it may leave
 --     LastWas, IsEndOf      what is so of the last call
+--     EndsAt      the loop went on behind each call but the last, which ended it
 use Rattle.std.specs.Prelude.{◌≡◌, ◌⊎◌, ℕ, ◌≤◌, ⊤, List, [], ◌∷◌, ◌++◌, None, Some}
 use Rattle.std.specs.declared.option.Option.{Option}
 use Rattle.std.specs.List.{AllByRecursion}
@@ -50,6 +51,10 @@ LeavesRest _ rest = rest ≡ []
 -- the last call is one that passes
 abbrev pub LastWas : (HubCall → Type 0) → List HubCall → Type 0
 LastWas Passes calls = (front : List HubCall) × (call : HubCall) × (calls ≡ front ++ call ∷ []) × Passes call
+
+-- the last call is one that ends a loop, and each before it is one behind which the loop goes on
+abbrev pub EndsAt : (goes_on ends : HubCall → Type 0) → List HubCall → Type 0
+EndsAt GoesOn Ends calls = (front : List HubCall) × (call : HubCall) × (calls ≡ front ++ call ∷ []) × AllByRecursion GoesOn front × Ends call
 
 -- what is left is the end of what the last call gave
 abbrev pub IsEndOf : {A : Type 0} → (HubCall → List A) → List A → HubCall → Type 0

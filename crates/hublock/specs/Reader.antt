@@ -10,7 +10,7 @@ use Rattle.hublock.specs.declared.reader.TheConstants as reading
 use Rattle.hublock.specs.declared.loop_end.LoopEnd.{LoopEnd}
 use Rattle.hublock.specs.declared.loop_end.LoopEnd.TheVariants as ends
 use Rattle.hublock.specs.Calls.{HubCall, Took}
-use Rattle.hublock.specs.Gates.{GateState, DoesTurn, WasDone}
+use Rattle.hublock.specs.Gates.{GateState, DoesTurn, GoesOn, WasDone, StopsAtOnce}
 use Rattle.hublock.specs.Loops.{Observed, Ran, CountsMore, UsesTurns, LeavesRest}
 
 -- the octets that are read at once
@@ -40,10 +40,10 @@ abbrev pub MayLeave : Option GateState → LoopEnd → List ℕ → Type 0
 MayLeave None end rest = ⊤
 MayLeave (Some state) end rest = LeavesRest end rest
 
--- nothing is left to do, or the turns were used
+-- nothing is left to do, or the turns were used before that
 abbrev pub IsStop : Option GateState → LoopEnd → Type 0
 IsStop gate ends.Finished = WasDone gate
-IsStop gate ends.Turns = ⊤
+IsStop gate ends.Turns = GoesOn gate
 IsStop gate _ = ⊥
 
 -- a piece was offered once, or the loop ended
@@ -69,23 +69,23 @@ pub record ReadRun (session : ℕ) (before after : Observed ℕ) (rest : List �
   pub counted : CountsMore reads before.calls after.calls
 
 -- what each end comes from
-abbrev pub ReadCause : Observed ℕ → Option (List ℕ) → LoopEnd → Type 0
-ReadCause after left ends.Finished = WasDone after.gate ⊎ IsAtEnd left
-ReadCause after left ends.Turns = ⊤
-ReadCause after left ends.ReadFault = ⊤
-ReadCause after left _ = ⊥
+abbrev pub ReadCause : Observed ℕ → Option (List ℕ) → ℕ → LoopEnd → Type 0
+ReadCause after left used ends.Finished = StopsAtOnce after.gate used ⊎ (GoesOn after.gate × IsAtEnd left)
+ReadCause after left used ends.Turns = GoesOn after.gate
+ReadCause after left used ends.ReadFault = GoesOn after.gate
+ReadCause after left used _ = ⊥
 
 -- the loop ended so, and these octets are left
 abbrev pub ReadsUntil : ℕ → Observed ℕ → Observed ℕ → Option (List ℕ) → ℕ → LoopEnd → Type 0
 ReadsUntil session before after left turns end =
     (calls : List HubCall) × (reads : ℕ) × (rest : List ℕ)
     × ReadRun session before after rest calls reads
-    × (length rest ≤ max_read) × MayLeave after.gate end rest × UsesTurns end (length calls + reads) turns × ReadCause after left end
+    × (length rest ≤ max_read) × MayLeave after.gate end rest × UsesTurns end (length calls + reads) turns × ReadCause after left (length calls + reads) end
 
--- the loop goes on with so many turns, or ended
+-- the loop goes on with so many turns, as something is left to do, or ended
 abbrev pub ReadsOn : ℕ → Observed ℕ → Observed ℕ → Option (List ℕ) → ℕ → Result ℕ LoopEnd → Type 0
 ReadsOn session before after left turns (Ok less) =
     (calls : List HubCall) × (reads : ℕ)
     × ReadRun session before after [] calls reads
-    × (less + (length calls + reads) ≡ turns) × (less < turns)
+    × (less + (length calls + reads) ≡ turns) × (less < turns) × GoesOn after.gate
 ReadsOn session before after left turns (Err end) = ReadsUntil session before after left turns end

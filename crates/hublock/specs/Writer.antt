@@ -5,7 +5,7 @@
 use Rattle.std.specs.Prelude.{◌≡◌, ◌⊎◌, ℕ, ◌+◌, ◌<◌, ◌≤◌, ⊤, List, [], ◌∷◌, ◌++◌, length, take, Result, Ok, Err}
 use Rattle.std.specs.declared.option.Option.{Option}
 use Rattle.std.specs.Io.KnownBytes.{append_known}
-use Rattle.std.specs.List.{flat_map}
+use Rattle.std.specs.List.{flat_map, AllByRecursion}
 use Rattle.pushserver.specs.declared.given.Given.{Given}
 use Rattle.pushserver.specs.declared.given.Given.TheVariants as givens
 use Rattle.pushserver.specs.declared.fault.HubFault.{HubFault}
@@ -13,8 +13,8 @@ use Rattle.pushserver.specs.declared.fault.HubFault.TheVariants as faults
 use Rattle.hublock.specs.declared.loop_end.LoopEnd.{LoopEnd}
 use Rattle.hublock.specs.declared.loop_end.LoopEnd.TheVariants as ends
 use Rattle.hublock.specs.Calls.{HubCall, Gave}
-use Rattle.hublock.specs.Gates.{GateState, WasDone}
-use Rattle.hublock.specs.Loops.{Observed, Ran, CountsMore, UsesTurns, LeavesRest, LastWas, IsEndOf}
+use Rattle.hublock.specs.Gates.{GateState, GoesOn, WasDone}
+use Rattle.hublock.specs.Loops.{Observed, Ran, CountsMore, UsesTurns, LeavesRest, LastWas, EndsAt, IsEndOf}
 
 -- each call asks for a session's octets
 abbrev pub IsGive : ℕ → HubCall → Type 0
@@ -38,6 +38,18 @@ pub record WriteRun (session : ℕ) (before after : Observed ℕ) (rest : List �
   pub octets : (front : List ℕ) × (octets_given calls ≡ front ++ rest) × (after.told ≡ append_known before.told front)
   pub counted : CountsMore writes before.calls after.calls
 
+-- the loop goes on behind such an answer; behind one that has nothing to say unless all was done before the call
+abbrev pub GoesOnWith : Option GateState → Result Given HubFault → Type 0
+GoesOnWith gate (Ok (givens.Bytes n)) = ⊤
+GoesOnWith gate (Ok givens.Worked) = ⊤
+GoesOnWith gate (Ok givens.Nothing) = GoesOn gate
+GoesOnWith gate (Ok givens.Ending) = GoesOn gate
+GoesOnWith gate _ = ⊥
+
+abbrev pub IsPassingGive : Option GateState → HubCall → Type 0
+IsPassingGive gate (Gave session before after answer) = GoesOnWith gate answer
+IsPassingGive gate _ = ⊥
+
 -- the session has ended; or nothing was to be said, where all was done before the call
 abbrev pub EndsWith : Option GateState → Result Given HubFault → Type 0
 EndsWith gate (Ok (givens.End reason)) = ⊤
@@ -54,12 +66,12 @@ abbrev pub IsStarvedGive : HubCall → Type 0
 IsStarvedGive (Gave session before after answer) = answer ≡ Err faults.NoMemory
 IsStarvedGive _ = ⊥
 
--- what each end comes from
+-- what each end comes from, before which no call ended the loop
 abbrev pub WriteCause : Observed ℕ → List HubCall → LoopEnd → Type 0
-WriteCause after calls ends.Finished = LastWas (IsLastGive after.gate) calls
-WriteCause after calls ends.Turns = ⊤
-WriteCause after calls ends.WriteFault = ⊤
-WriteCause after calls ends.NoMemory = LastWas IsStarvedGive calls
+WriteCause after calls ends.Finished = EndsAt (IsPassingGive after.gate) (IsLastGive after.gate) calls
+WriteCause after calls ends.Turns = AllByRecursion (IsPassingGive after.gate) calls
+WriteCause after calls ends.WriteFault = AllByRecursion (IsPassingGive after.gate) calls
+WriteCause after calls ends.NoMemory = EndsAt (IsPassingGive after.gate) IsStarvedGive calls
 WriteCause after calls _ = ⊥
 
 -- the loop ended so
@@ -69,12 +81,12 @@ WritesUntil session before after turns end =
     × WriteRun session before after rest calls writes
     × LeavesRest end rest × ((rest ≡ []) ⊎ LastWas (IsEndOf given_in rest) calls) × UsesTurns end (length calls + writes) turns × WriteCause after calls end
 
--- the loop goes on with so many turns, or ended
+-- the loop goes on with so many turns, as no call ended it, or ended
 abbrev pub WritesOn : ℕ → Observed ℕ → Observed ℕ → ℕ → Result ℕ LoopEnd → Type 0
 WritesOn session before after turns (Ok left) =
     (calls : List HubCall) × (writes : ℕ)
     × WriteRun session before after [] calls writes
-    × (left + (length calls + writes) ≡ turns) × (left < turns)
+    × (left + (length calls + writes) ≡ turns) × (left < turns) × AllByRecursion (IsPassingGive after.gate) calls
 WritesOn session before after turns (Err end) = WritesUntil session before after turns end
 
 -- one piece was written to its end, or the loop ended before

@@ -7,7 +7,7 @@ ghost use Rattle.hublock.specs.Feeds.{each};
 ghost use Rattle.hublock.specs.Jobs.{GivesBack, role_in};
 
 use crate::{
-    Books, Ended, Feed, Gate, LoopEnd, Shared, clock_loop, link_loop, read_loop, write_loop,
+    Books, Ended, Feed, Gate, LoopEnd, Shared, Signal, clock_loop, link_loop, read_loop, write_loop,
 };
 use push_base::{Clock, Datagrams, Line, Role, Task, Wire};
 use std::alloc::Global;
@@ -139,7 +139,7 @@ fn read<R: Wait + Copy, L: Line + Drop, D: Datagrams + Drop, B: Books>(
     ensures { result.links ≡ None }
 {
     let end = read_loop(alloc, &mut shared, session, &mut line, turns);
-    shared.line_over(session);
+    shared.signal(Signal::LineOver(session));
     without_links(end, shared.into_feed())
 }
 
@@ -156,7 +156,7 @@ fn write<R: Wait + Copy, K: Wire + Drop, D: Datagrams + Drop, B: Books>(
     let end = write_loop(alloc, &mut shared, session, &mut wire, turns);
     wire.flush();
     shared.end(session);
-    shared.session_over();
+    shared.signal(Signal::SessionOver);
     let end = without_links(end, shared.into_feed());
     drop(wire);
     end

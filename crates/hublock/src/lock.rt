@@ -6,11 +6,12 @@ ghost use Rattle.pushserver.specs.Hubs.{max_sessions};
 ghost use Rattle.pushserver.specs.KeptHubs.{StandsFor};
 ghost use Rattle.hublock.specs.Feeds.{all_parts, each, parts_each, whole_seats};
 ghost use Rattle.hublock.specs.Ledgers.{AreNamed};
+ghost use Rattle.hublock.specs.Registers.{entered};
 
 use crate::books::{Books, Changes, Hearings, Moments, Sessions};
 use crate::marks::Marks;
 use crate::wakeups::{LastSeen, Wakeups};
-use crate::{Blanks, Feed, Locked, Seats};
+use crate::{Blanks, Feed, Locked, Register, Seats, Signal};
 use history::entry::Totals;
 use push_base::{NoMemory, Role};
 use pushserver::{ConnectFault, Hub};
@@ -35,7 +36,7 @@ impl<B: Books> Held<B> {
         known
     }
 
-    /// The same where something has ended.
+    /// The same where something may have ended.
     pub(crate) fn leave_at_end(&self, locked: MutexGuard<'_, Locked<B>>) {
         self.wakeups.count_ending();
         let wakes = locked.wakes();
@@ -49,6 +50,7 @@ fn opened<B: Books>(hub: Hub, blanks: Blanks, over: Marks) -> (Locked<B>, Feed<B
     requires hub { (hub.history ≡ []) × (hub.numbers_given ≡ 0) }
     requires stands { (plain : Plain) × StandsFor hub plain }
     requires names { AreNamed blanks B.names }
+    ensures hub { result.0.hub ≡ hub }
     ensures feed { result.1 ≡ all_parts }
     ensures seats { result.2 ≡ whole_seats }
 {
@@ -78,28 +80,36 @@ pub struct HubLock<B: Books> {
 }
 
 impl<B: Books> HubLock<B> {
-    /// A hub that has made no entry and no session goes behind a lock.
-    pub fn new(
+    /// A hub that has made no entry and no session goes behind a lock, which the register is told first.
+    pub fn new<W: Register>(
         alloc: Global,
         hub: Hub,
         blanks: Blanks,
+        register: &mut W,
     ) -> Result<(HubLock<B>, Feed<B>, Seats<B>), NoMemory>
         requires hub { (hub.history ≡ []) × (hub.numbers_given ≡ 0) }
         requires stands { (plain : Plain) × StandsFor hub plain }
         requires names { AreNamed blanks B.names }
+        ensures registered { W.hubs register.new ≡ entered (W.hubs register.old) hub }
         ensures feed { IfOk result (λ made. made.1 ≡ all_parts) }
         ensures seats { IfOk result (λ made. made.2 ≡ whole_seats) }
     {
+        register.enter(&hub);
         let over = Marks::new(alloc)?;
         let (locked, feed, seats) = opened(hub, blanks, over);
-        let held = Arc::new(
-            alloc,
-            Held {
-                locked: Mutex::new(locked),
-                wakeups: Wakeups::new(),
-            },
-        )?;
-        Ok((HubLock { held }, feed, seats))
+        let lock = HubLock::first(alloc, locked)?;
+        Ok((lock, feed, seats))
+    }
+
+    /// The first hold of what goes behind the lock.
+    fn first(alloc: Global, locked: Locked<B>) -> Result<HubLock<B>, NoMemory> {
+        let held = Held {
+            locked: Mutex::new(locked),
+            wakeups: Wakeups::new(),
+        };
+        Ok(HubLock {
+            held: Arc::new(alloc, held)?,
+        })
     }
 
     /// Another hold.
@@ -121,27 +131,10 @@ impl<B: Books> HubLock<B> {
         self.held.locked.lock(rt).connect(seats)
     }
 
-    /// So many sessions are still to end. No loop pauses for that: those of links and of the clock ask at each turn.
-    pub fn begin<R: Wait>(&self, rt: &R, sessions: u64) {
-        self.held.locked.lock(rt).begin(sessions);
-    }
-
-    /// The line of a session is over. Nothing happens where it doesn't live.
-    pub fn line_over<R: Wait>(&self, rt: &R, session: u64) {
+    /// Tells the loops of all. This is one call of `Locked::signal`, and then those are woken who may wait for it.
+    pub fn signal<R: Wait>(&self, rt: &R, signal: Signal) {
         let mut locked = self.held.locked.lock(rt);
-        locked.line_over(session);
-        self.held.leave_at_end(locked);
-    }
-
-    /// One session has ended. No loop pauses for that: those of links and of the clock ask at each turn.
-    pub fn session_over<R: Wait>(&self, rt: &R) {
-        self.held.locked.lock(rt).session_over();
-    }
-
-    /// All is to stop.
-    pub fn quit<R: Wait>(&self, rt: &R) {
-        let mut locked = self.held.locked.lock(rt);
-        locked.quit();
+        locked.signal(signal);
         self.held.leave_at_end(locked);
     }
 }

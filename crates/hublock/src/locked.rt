@@ -1,6 +1,6 @@
 //! The value under the lock.
 
-ghost use Rattle.std.specs.Prelude.{◌≡◌, ◌≤◌, ◌+◌, ◌-◌, true, length, IfOk, OnOk, OnErr, IsErrOf};
+ghost use Rattle.std.specs.Prelude.{◌≡◌, ◌≤◌, ◌+◌, length, IfOk, OnOk, OnErr, IsErrOf};
 ghost use Rattle.push_base.specs.Limits.{max_moment};
 ghost use Rattle.dnswire.specs.Reading.{hearing_of};
 ghost use Rattle.history.specs.Totals.{totals};
@@ -11,12 +11,12 @@ ghost use Rattle.pushserver.specs.Counting.{octets_of};
 ghost use Rattle.pushserver.specs.Observing.{SaysWhy};
 ghost use Rattle.hublock.specs.Calls.{Connected, Does, Gave, Left, Passed, Received, Took, fault_of};
 ghost use Rattle.hublock.specs.Feeds.{IsBelow, each, parts_each};
-ghost use Rattle.hublock.specs.Inside.{AcceptsAsHeard, AcceptsNone, MayAcceptChange, MayAcceptMoment, counted, is_done, marked, with_hub, without_mark};
+ghost use Rattle.hublock.specs.Inside.{AcceptsAsHeard, AcceptsNone, MayAcceptChange, MayAcceptMoment, counted, is_done, signalled, with_hub, without_mark};
 
 use crate::books::{Books, Changes, Hearings, Moments, Sessions};
 use crate::marks::Marks;
-use crate::wakeups::{Wakes, wakes_at_entry, wakes_at_give, wakes_at_take};
-use crate::{Feed, Seats};
+use crate::wakeups::{Wakes, wakes_at_entry, wakes_at_give, wakes_at_signal, wakes_at_take};
+use crate::{Feed, Seats, Signal};
 use history::entry::Totals;
 use push_base::Role;
 use pushserver::{ConnectFault, Given, Heard, Hub, HubFault};
@@ -241,35 +241,16 @@ impl<B: Books> Locked<B> {
         }
     }
 
-    /// So many sessions are still to end.
-    pub fn begin(&mut self, sessions: u64)
-        ensures { self.new ≡ record self.old { left = sessions } }
+    /// What is told to the loops of all.
+    pub fn signal(&mut self, signal: Signal)
+        ensures { self.new ≡ signalled signal self.old }
     {
-        self.left = sessions;
-        self.wakes = Wakes::Nobody;
-    }
-
-    /// The line of a session is over. Nothing happens where it doesn't live.
-    pub fn line_over(&mut self, session: u64)
-        ensures { self.new ≡ record self.old { over = marked self.old.hub session self.old.over } }
-    {
-        self.over.add(session, &self.hub);
-        self.wakes = Wakes::Session(session);
-    }
-
-    /// One session has ended.
-    pub fn session_over(&mut self)
-        ensures { self.new ≡ record self.old { left = self.old.left - 1 } }
-    {
-        self.left = self.left.saturating_sub(1);
-        self.wakes = Wakes::Nobody;
-    }
-
-    /// All is to stop.
-    pub fn quit(&mut self)
-        ensures { self.new ≡ record self.old { quit = true } }
-    {
-        self.quit = true;
-        self.wakes = Wakes::All;
+        match signal {
+            Signal::Begun(sessions) => self.left = sessions,
+            Signal::LineOver(session) => self.over.add(session, &self.hub),
+            Signal::SessionOver => self.left = self.left.saturating_sub(1),
+            Signal::Quit => self.quit = true,
+        }
+        self.wakes = wakes_at_signal(signal);
     }
 }

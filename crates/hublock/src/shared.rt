@@ -11,7 +11,7 @@ ghost use Rattle.hublock.specs.Gates.{DoesApart, DoesTurn};
 ghost use Rattle.hublock.specs.Sharing.{with_feed};
 
 use crate::wakeups::LastSeen;
-use crate::{Books, Feed, Gate, HubLock};
+use crate::{Books, Feed, Gate, HubLock, Signal};
 use push_base::{NoMemory, Role};
 use pushserver::{Given, Heard, HubFault};
 use std::marker::Model;
@@ -55,18 +55,11 @@ impl<R: Wait + Copy, B: Books> Shared<R, B> {
         })
     }
 
-    /// The line of a session is over.
-    pub fn line_over(&mut self, session: u64)
+    /// Tells the loops of all.
+    pub fn signal(&mut self, signal: Signal)
         ensures { self.new ≡ self.old }
     {
-        self.lock.line_over(&self.rt, session);
-    }
-
-    /// One session has ended.
-    pub fn session_over(&mut self)
-        ensures { self.new ≡ self.old }
-    {
-        self.lock.session_over(&self.rt);
+        self.lock.signal(&self.rt, signal);
     }
 
     /// Its feed, of one part of each ledger.

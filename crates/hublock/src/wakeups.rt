@@ -3,6 +3,7 @@
 ghost use Rattle.std.specs.Prelude.{◌<◌};
 ghost use Rattle.pushserver.specs.Hubs.{max_sessions};
 
+use crate::Signal;
 use push_base::Role;
 use pushserver::{Given, HubFault, MAX_SESSIONS};
 use std::array;
@@ -83,6 +84,15 @@ pub(crate) fn wakes_at_entry(has_entered: bool) -> Wakes {
     }
 }
 
+/// Those who may wait for what a signal tells. For the others no loop waits: those of links and of the clock ask at each turn.
+pub(crate) fn wakes_at_signal(signal: Signal) -> Wakes {
+    match signal {
+        Signal::LineOver(session) => Wakes::Session(session),
+        Signal::Quit => Wakes::All,
+        Signal::Begun(_) | Signal::SessionOver => Wakes::Nobody,
+    }
+}
+
 /// The session at whose place the loop of a role waits. Those of a link and of the clock never do: the first place stands
 /// for them.
 fn waits_with(role: Role) -> u64 {
@@ -111,8 +121,8 @@ impl LastSeen {
         }
     }
 
-    /// Whether nothing is left to do, where that is known without the lock: nothing has ended since. For a link and the
-    /// clock that isn't known, as the end of a session that never was, for want of a seat, is no such ending.
+    /// Whether nothing is left to do, where that is known without the lock: nothing has ended since. Links and the clock ask
+    /// under the lock each time.
     pub(crate) fn is_done(&self, wakeups: &Wakeups, role: Role) -> Option<bool> {
         match role {
             Role::Reader(_) | Role::Writer(_) if self.endings == wakeups.endings() => self.is_done,

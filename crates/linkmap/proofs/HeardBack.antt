@@ -74,7 +74,7 @@ all_changed p f (raw bytes ∷ fields) h = all_changed p f fields h.1
 all_changed p f (named name ∷ fields) h = (λ i. h.0 i && all_changed p f fields h.1 i)
 
 module _ (p : Labels → Bool) (f : Labels → Labels) (kind : ℕ) (rdata : List ℕ) (can : Inside (λ name. CanStand 0 (f name)) kind rdata) where
-  none_changed : Inside (λ name. p (f name) ≡ false) kind rdata → list_any p (rdata_names kind (with_names f kind rdata)) ≡ false
+  pub none_changed : Inside (λ name. p (f name) ≡ false) kind rdata → list_any p (rdata_names kind (with_names f kind rdata)) ≡ false
   unfolding names_in
   none_changed none = by (rdata_fields kind rdata) refl
     where
@@ -82,7 +82,7 @@ module _ (p : Labels → Bool) (f : Labels → Labels) (kind : ℕ) (rdata : Lis
       by (Ok fields) e = ap (λ (r : Result (List Field) ℕ). list_any p (names_in r)) (read_changed f kind rdata fields e (can fields e)) ∙ any_changed p f fields (none fields e)
       by (Err q) e = ap (λ (r : Result (List Field) ℕ). list_any p (names_in r)) (ap (rdata_fields kind) (with_names-Err f kind rdata q e) ∙ e)
 
-  each_changed : Inside (λ name. p (f name) ≡ true) kind rdata → list_all p (rdata_names kind (with_names f kind rdata)) ≡ true
+  pub each_changed : Inside (λ name. p (f name) ≡ true) kind rdata → list_all p (rdata_names kind (with_names f kind rdata)) ≡ true
   unfolding names_in
   each_changed each = by (rdata_fields kind rdata) refl
     where

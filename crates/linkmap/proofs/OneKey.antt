@@ -78,7 +78,7 @@ read_alike kind rdata other fields same e = by (rdata_fields kind other) refl
     by (Ok others) o = record { others = others; is = o; alike = same_changed lower lower kind rdata other fields others e o (low kind rdata fields e) (low kind other others o) same }
     by (Err p) o = absurd (unread kind rdata other fields p same e o)
 
-names_any : (p : Labels → Bool) → ((a b : Labels) → lower a ≡ lower b → p a ≡ p b) → (kind : ℕ) (rdata other : List ℕ) → lowered_rdata kind rdata ≡ lowered_rdata kind other → list_any p (rdata_names kind rdata) ≡ list_any p (rdata_names kind other)
+pub names_any : (p : Labels → Bool) → ((a b : Labels) → lower a ≡ lower b → p a ≡ p b) → (kind : ℕ) (rdata other : List ℕ) → lowered_rdata kind rdata ≡ lowered_rdata kind other → list_any p (rdata_names kind rdata) ≡ list_any p (rdata_names kind other)
 unfolding names_in
 names_any p alike kind rdata other same = by (rdata_fields kind rdata) (rdata_fields kind other) refl refl
   where
@@ -91,7 +91,7 @@ names_any p alike kind rdata other same = by (rdata_fields kind rdata) (rdata_fi
     by (Err p_) (Ok others) e o = absurd (unread kind other rdata others p_ (sym same) o e)
     by (Err p_) (Err q) e o = ap (λ (r : Result (List Field) ℕ). list_any p (names_in r)) e ∙ sym (ap (λ (r : Result (List Field) ℕ). list_any p (names_in r)) o)
 
-names_every : (p : Labels → Bool) → ((a b : Labels) → lower a ≡ lower b → p a ≡ p b) → (kind : ℕ) (rdata other : List ℕ) → lowered_rdata kind rdata ≡ lowered_rdata kind other → list_all p (rdata_names kind rdata) ≡ list_all p (rdata_names kind other)
+pub names_every : (p : Labels → Bool) → ((a b : Labels) → lower a ≡ lower b → p a ≡ p b) → (kind : ℕ) (rdata other : List ℕ) → lowered_rdata kind rdata ≡ lowered_rdata kind other → list_all p (rdata_names kind rdata) ≡ list_all p (rdata_names kind other)
 unfolding names_in
 names_every p alike kind rdata other same = by (rdata_fields kind rdata) (rdata_fields kind other) refl refl
   where
@@ -105,7 +105,7 @@ names_every p alike kind rdata other same = by (rdata_fields kind rdata) (rdata_
     by (Err p_) (Err q) e o = ap (λ (r : Result (List Field) ℕ). list_all p (names_in r)) e ∙ sym (ap (λ (r : Result (List Field) ℕ). list_all p (names_in r)) o)
 
 -- the names of a record fit where those of one with its key do
-translatable_alike : (old new owner again : Labels) (class kind ttl later : ℕ) (rdata other : List ℕ) → lower owner ≡ lower again → lowered_rdata kind rdata ≡ lowered_rdata kind other
+pub translatable_alike : (old new owner again : Labels) (class kind ttl later : ℕ) (rdata other : List ℕ) → lower owner ≡ lower again → lowered_rdata kind rdata ≡ lowered_rdata kind other
     → is_translatable old new (record { owner = owner; class = class; kind = kind; ttl = ttl; rdata = rdata }) ≡ is_translatable old new (record { owner = again; class = class; kind = kind; ttl = later; rdata = other })
 translatable_alike old new owner again class kind ttl later rdata other owners same =
     let none = names_any (λ name. ends_in name new) (λ a b e. ends-as a b new e) kind rdata other same in
@@ -122,7 +122,7 @@ usable_alike domain owner again class kind ttl later rdata other owners same =
     (λ i. (class == in_class && not (kind == nsec_kind) && not (is_meta kind) && ends i) && fit i)
 
 -- rdata with one key, renamed, has one key
-renamed_rdata : (old new : Labels) (kind : ℕ) (rdata other : List ℕ) → lowered_rdata kind rdata ≡ lowered_rdata kind other
+pub renamed_rdata : (old new : Labels) (kind : ℕ) (rdata other : List ℕ) → lowered_rdata kind rdata ≡ lowered_rdata kind other
     → Inside (λ name. CanStand 0 (renamed old new name)) kind rdata → Inside (λ name. CanStand 0 (renamed old new name)) kind other
     → lowered_rdata kind (with_names (renamed old new) kind rdata) ≡ lowered_rdata kind (with_names (renamed old new) kind other)
 renamed_rdata old new kind rdata other same can may = by (rdata_fields kind rdata) (rdata_fields kind other) refl refl
@@ -211,7 +211,7 @@ heard_by-keys true false hidden rr other same = refl
 heard_by-keys true true true rr other same = refl
 heard_by-keys true true false rr other same = ap Some (same refl)
 
-translatable-names : (old new : Labels) (rr : Rr) → is_translatable old new rr ≡ true → list_all (λ name. fits_a_name (renamed old new name)) (rdata_names rr.kind rr.rdata) ≡ true
+pub translatable-names : (old new : Labels) (rr : Rr) → is_translatable old new rr ≡ true → list_all (λ name. fits_a_name (renamed old new name)) (rdata_names rr.kind rr.rdata) ≡ true
 translatable-names old new rr e =
     let fit = and_true (not (list_any (λ name. ends_in name new) (rdata_names rr.kind rr.rdata))) (names_fit old new rr) e in
     (and_true (fits_a_name (renamed old new rr.owner)) (list_all (λ name. fits_a_name (renamed old new name)) (rdata_names rr.kind rr.rdata)) fit.1).1

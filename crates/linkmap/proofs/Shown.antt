@@ -18,7 +18,7 @@ use Rattle.linkmap.specs.Translation.{local, renamed, renamed_rr, fits_a_name, n
 use Rattle.linkmap.proofs.Suffixes.{there_and_back, renamed_ends, both_renamed, each_renamed, can-renamed, can-lower, can-as}
 use Rattle.linkmap.proofs.Changed.{OnNames, names_map, names_both, names_none, names_all, can-names, with_names-Ok, with_names-Err, with_names-agree, read_changed, twice, same_changed}
 
-not_true : (b : Bool) → not b ≡ true → b ≡ false
+pub not_true : (b : Bool) → not b ≡ true → b ≡ false
 not_true true h = absurd cc
 not_true false h = refl
 
@@ -204,7 +204,7 @@ field_lower first second (named name ∷ fields) (named other ∷ others) h k e 
     (λ i. octets (same i) ++ field_lower first second fields others h.1 k.1 rest i)
 
 -- rdata whose shown forms have one key has one key
-rdata_apart : (first second : Labels) (kind : ℕ) (rdata other : List ℕ) → Inside (λ name. CanStand 0 (renamed first second name)) kind rdata → Inside (λ name. CanStand 0 (renamed first second name)) kind other
+pub rdata_apart : (first second : Labels) (kind : ℕ) (rdata other : List ℕ) → Inside (λ name. CanStand 0 (renamed first second name)) kind rdata → Inside (λ name. CanStand 0 (renamed first second name)) kind other
     → Inside (λ name. ends_in name second ≡ false) kind rdata → Inside (λ name. ends_in name second ≡ false) kind other
     → lowered_rdata kind (with_names (renamed first second) kind rdata) ≡ lowered_rdata kind (with_names (renamed first second) kind other) → lowered_rdata kind rdata ≡ lowered_rdata kind other
 rdata_apart first second kind rdata other can may none never same = by (rdata_fields kind rdata) (rdata_fields kind other) refl refl

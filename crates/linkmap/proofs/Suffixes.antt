@@ -1,14 +1,15 @@
 -- Names with other last labels: what they end in, and whether they can stand.
-use Rattle.std.proofs.Common.{◌≡◌, ℕ, zero, suc, ◌+◌, ◌-◌, ◌≤◌, Bool, true, false, cond, List, [], ◌∷◌, ◌++◌, length, take, drop, map, refl, sym, ap, subst, ◌∙◌, arith}
+use Rattle.std.proofs.Common.{◌≡◌, ℕ, suc, ◌+◌, ◌-◌, ◌≤◌, Bool, true, false, cond, List, [], ◌∷◌, ◌++◌, length, take, map, refl, sym, ap, subst, ◌∙◌, arith}
 use Rattle.std.specs.Prelude.{nat_le}
 use Rattle.std.specs.List.{AllByRecursion}
 use Rattle.std.specs.Char.{to_ascii_lowercase}
 use Rattle.std.proofs.lemmas.Bool.{leb-true}
-use Rattle.std.proofs.lemmas.List.{length-append, length-map, map-append, take_at, drop_at}
+use Rattle.std.proofs.lemmas.List.{length-append, length-map, take_at}
 use Rattle.dnsname.specs.Names.{Labels, IsLabel, IsName, EndsIn, max_name, octets, lower, ends_in, swapped_suffix}
 use Rattle.dnsname.proofs.Octets.{octets-cons}
 use Rattle.dnsname.proofs.Decisions.{ends_in-Decides}
 use Rattle.dnsname.proofs.Endings.{length-lower}
+use Rattle.dnsname.proofs.Suffixes.{ends-alike, lower-append}
 use Rattle.dnsname.proofs.ReadAgain.{CanStand, fewer_labels}
 use Rattle.linkmap.specs.Translation.{renamed, fits_a_name}
 
@@ -26,32 +27,11 @@ renamed-front old new front last same =
 pub renamed-other : (old new name : Labels) → ends_in name old ≡ false → renamed old new name ≡ name
 renamed-other old new name other = ap (λ (b : Bool). cond b (swapped_suffix name old new) name) other
 
-pub lower-append : (front last : Labels) → lower (front ++ last) ≡ lower front ++ lower last
-lower-append front last = map-append (map to_ascii_lowercase) front last
-
 -- the first labels of names that are one, with as many last labels
 same_front : (a b : Labels) (x : Labels) → a ++ x ≡ b ++ x → a ≡ b
 same_front a b x e =
     let many : length a ≡ length b = omega (arith, ap length e, length-append a x, length-append b x) in
     sym (take_at a x (length a) refl) ∙ ap (take (length a)) e ∙ take_at b x (length a) (sym many)
-
--- a name ends in what another one ends in that is the same but for case
-pub ends-alike : (name other suffix : Labels) → lower name ≡ lower other → EndsIn other suffix → EndsIn name suffix
-ends-alike name other suffix same (front, last, parts, is) =
-    let n = length front in
-    let split : lower name ≡ lower front ++ lower last = same ∙ ap lower parts ∙ lower-append front last in
-    let many : length (lower front) ≡ n = length-map front (map to_ascii_lowercase) in
-    (take n name, drop n name, whole n name, lower_drop n name ∙ ap (drop n) split ∙ drop_at (lower front) (lower last) n many ∙ is)
-  where
-    whole : (n : ℕ) (name : Labels) → name ≡ take n name ++ drop n name
-    whole zero name = refl
-    whole (suc n) [] = refl
-    whole (suc n) (label ∷ name) = ap (λ (ls : Labels). label ∷ ls) (whole n name)
-
-    lower_drop : (n : ℕ) (name : Labels) → lower (drop n name) ≡ drop n (lower name)
-    lower_drop zero name = refl
-    lower_drop (suc n) [] = refl
-    lower_drop (suc n) (label ∷ name) = lower_drop n name
 
 -- ---- to the domain and back
 

@@ -148,7 +148,7 @@ unread_names p kind rdata unread = sym (all_names p kind rdata ∙ by (rdata_fie
     by (Err q) e = refl
 
 -- no name inside ends in the new labels and all fit, as one test and as two
-renamable_all : (old new : Labels) (names : List Labels) → list_all (is_renamable old new) names ≡ (not (list_any (λ name. ends_in name new) names) && list_all (λ name. fits_a_name (renamed old new name)) names)
+pub renamable_all : (old new : Labels) (names : List Labels) → list_all (is_renamable old new) names ≡ (not (list_any (λ name. ends_in name new) names) && list_all (λ name. fits_a_name (renamed old new name)) names)
 renamable_all old new [] = refl
 renamable_all old new (name ∷ names) = by (ends_in name new) (fits_a_name (renamed old new name)) (list_any (λ name. ends_in name new) names) (list_all (λ name. fits_a_name (renamed old new name)) names) (renamable_all old new names)
   where

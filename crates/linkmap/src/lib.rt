@@ -16,7 +16,9 @@ ghost use Rattle.rrset.specs.declared.record.Rr.{Rr};
 ghost use Rattle.linkmap.specs.Translation.{is_usable, shown_as, heard_as, local, renamed};
 ghost use Rattle.linkmap.specs.Worked.{lan, at_link, at_domain, long_name};
 
-pub use translation::{back, ends_in_local, show, translated, usable};
+pub use translation::{
+    back, ends_in_local, fits_back, fits_under, rdata_back, rdata_under, show, translated, usable,
+};
 
 /// Examples of what is shown under a domain.
 pub fn worked_rows()

@@ -1,6 +1,9 @@
 //! Records of a link under its domain, and back (RFC 8766, 5.5).
 
 ghost use Rattle.std.specs.Prelude.{◌≡◌, ◌==◌, ◌/◌, true, slice_index, IfOk};
+ghost use Rattle.std.specs.List.{list_all};
+ghost use Rattle.rrset.specs.Rdata.{rdata_names, with_names};
+ghost use Rattle.linkmap.specs.Names.{is_renamable};
 ghost use Rattle.dnsname.specs.Names.{SpellsName, ends_in};
 ghost use Rattle.dnsname.specs.Octets.{labels_of};
 ghost use Rattle.linkmap.specs.Translation.{local, is_of_link, is_translatable, is_usable, is_link_local, names_fit, fits_a_name, renamed, renamed_rr, shown_as, heard_as};
@@ -8,6 +11,7 @@ ghost use Rattle.linkmap.specs.Translation.{local, is_of_link, is_translatable, 
 use crate::inside::names_are_renamable;
 use crate::names::{fits_renamed, local, spelling};
 use dnsname::{Name, NameFault, spelled_ends_in};
+use push_base::Octets;
 use rrset::classes::IN;
 use rrset::kinds::{A, AAAA, NSEC, is_meta};
 use rrset::{NameChange, NoMemory, Rr, shape_fits, with_names};
@@ -73,6 +77,49 @@ pub fn usable(domain: &Name, rr: &Rr) -> bool
     ensures { result ≡ is_usable domain.now rr.now }
 {
     is_of_link(rr) && is_translatable(rr, local(), spelling(domain))
+}
+
+/// Whether no name inside a record ends in a link's domain, and its owner and these names fit with the domain in place of
+/// `local.`. It takes no memory.
+pub fn fits_under(domain: &Name, rr: &Rr) -> bool
+    ensures { result ≡ is_translatable local domain.now rr.now }
+{
+    is_translatable(rr, local(), spelling(domain))
+}
+
+/// Whether no name inside a record ends in `local.`, and each fits with `local.` in place of a link's domain. It takes no
+/// memory.
+pub fn fits_back(domain: &Name, rr: &Rr) -> bool
+    ensures { result ≡ list_all (is_renamable domain.now local) (rdata_names rr.now.kind rr.now.rdata) }
+{
+    names_are_renamable(rr.kind, rr.rdata.as_slice(), spelling(domain), local())
+}
+
+/// Rdata with the names inside that end in `local.` under a link's domain, with which they fit.
+pub fn rdata_under(alloc: Global, domain: &Name, rr: &Rr) -> Result<Octets, NoMemory>
+    requires { list_all (λ name. fits_a_name (renamed local domain.now name)) (rdata_names rr.now.kind rr.now.rdata) ≡ true }
+    ensures { IfOk result (λ rdata. rdata ≡ with_names (renamed local domain.now) rr.now.kind rr.now.rdata) }
+{
+    let local = local_name(alloc)?;
+    rdata_renamed(alloc, rr, &local, domain)
+}
+
+/// Rdata with the names inside that end in a link's domain under `local.`, with which they fit.
+pub fn rdata_back(alloc: Global, domain: &Name, rr: &Rr) -> Result<Octets, NoMemory>
+    requires { list_all (λ name. fits_a_name (renamed domain.now local name)) (rdata_names rr.now.kind rr.now.rdata) ≡ true }
+    ensures { IfOk result (λ rdata. rdata ≡ with_names (renamed domain.now local) rr.now.kind rr.now.rdata) }
+{
+    let local = local_name(alloc)?;
+    rdata_renamed(alloc, rr, domain, &local)
+}
+
+/// Rdata with one domain in place of another in its names, which fit with it.
+fn rdata_renamed(alloc: Global, rr: &Rr, old: &Name, new: &Name) -> Result<Octets, NoMemory>
+    requires { list_all (λ name. fits_a_name (renamed old.now new.now name)) (rdata_names rr.now.kind rr.now.rdata) ≡ true }
+    ensures { IfOk result (λ rdata. rdata ≡ with_names (renamed old.now new.now) rr.now.kind rr.now.rdata) }
+{
+    let change = NameChange::Suffix(old, new);
+    with_names(alloc, &change, rr.kind, rr.rdata.as_slice())
 }
 
 /// The name of the domain of every link (RFC 6762, 3).

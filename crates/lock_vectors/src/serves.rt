@@ -13,7 +13,7 @@ use crate::rows::are_octets;
 use crate::threads::{Apart, List, Listed};
 use crate::watched::{Hearings, Porter, Still, Until, Watch, Watched};
 use history::entry::Totals;
-use hublock::{Blanks, Books};
+use hublock::{Blanks, Books, NoRegister};
 use push_base::{Surroundings, hex_octets, hex_text};
 use serving::{Fed, ServeEnd, Served, Setup, serve};
 use std::alloc::Global;
@@ -22,33 +22,40 @@ use std::sync::{Arc, Mutex, Wait};
 use std::test::Fail;
 use std::thread::Threads;
 
-/// The turns of each loop.
-const TURNS: u64 = 1_000_000;
+/// The turns of each loop, which none uses up.
+const TURNS: u64 = u64::MAX;
 
 /// The octets that a line gives at once.
 const PIECE: usize = 3;
 
 /// Sessions that are served.
 struct Case {
-    /// How many.
+    /// How many are to be served.
     sessions: u16,
+    /// How many come. At the next the doors fail.
+    come: u16,
+    /// How many of these are answered. Those behind get nothing.
+    answered: u16,
     /// Whether the ID of a request is the number of its session, counted from 1. Else it is 1.
     numbered: bool,
     /// What each line waits for.
     line: Until,
+    /// Whether a line stays quiet behind its octets. Else it ends.
+    stays: bool,
     /// What the wire of the first session waits for.
     first_wire: Until,
-    /// What the doors wait for before the last session.
+    /// What the doors wait for before the last session that is to be served.
     last_session: Until,
     /// What each sends, and what it is answered.
     request: &'static str,
     answer: &'static str,
-    /// The datagrams of the links, one of each.
+    /// What the datagrams of the links wait for, and these, one of each.
+    link: Until,
     hears: &'static [&'static str],
     /// What the clock gives.
     moment: u64,
-    /// The entries that are made.
-    counts: Totals,
+    /// How the server ends.
+    end: ServeEnd,
 }
 
 /// No entries.
@@ -61,80 +68,158 @@ const NOTHING: Totals = Totals {
 /// One session.
 const ONE: Case = Case {
     sessions: 1,
+    come: 1,
+    answered: 1,
     numbered: false,
     line: Until::Now,
+    stays: false,
     first_wire: Until::Now,
     last_session: Until::Now,
     request: SUBSCRIBE,
     answer: SUBSCRIBED,
+    link: Until::Now,
     hears: &[],
     moment: 0,
-    counts: NOTHING,
+    end: ServeEnd::Served(NOTHING),
 };
 
 /// Two sessions. The wire of the first is held until that of the second took all of its 115 octets, so it is not written
 /// under the lock, nor by the thread that serves the second.
 const TWO: Case = Case {
     sessions: 2,
+    come: 2,
+    answered: 2,
     numbered: false,
     line: Until::Now,
+    stays: false,
     first_wire: Until::Written(115),
     last_session: Until::Now,
     request: SUBSCRIBE,
     answer: SUBSCRIBED,
+    link: Until::Now,
     hears: &[],
     moment: 0,
-    counts: NOTHING,
+    end: ServeEnd::Served(NOTHING),
 };
 
 /// One session, which is quiet while the link is heard and time passes.
 const HEARING: Case = Case {
     sessions: 1,
+    come: 1,
+    answered: 1,
     numbered: false,
     line: Until::HeardAndAsked(1),
+    stays: false,
     first_wire: Until::Now,
     last_session: Until::Now,
     request: SUBSCRIBE,
     answer: SUBSCRIBED,
+    link: Until::Now,
     hears: &[HOST],
     moment: 1,
-    counts: Totals {
+    end: ServeEnd::Served(Totals {
         changes: 0,
         heard: 1,
         moments: 1,
-    },
+    }),
 };
 
 /// One session, which asks for the host of the first of two links when both have told theirs.
 const HEARING_TWO: Case = Case {
     sessions: 1,
+    come: 1,
+    answered: 1,
     numbered: false,
     line: Until::HeardAndAsked(2),
+    stays: false,
     first_wire: Until::Now,
     last_session: Until::Now,
     request: OF_THE_HOST,
     answer: OF_THE_HOST_TOLD,
+    link: Until::Now,
     hears: &[HOST, OTHER_HOST],
     moment: 1,
-    counts: Totals {
+    end: ServeEnd::Served(Totals {
         changes: 0,
         heard: 2,
         moments: 1,
-    },
+    }),
+};
+
+/// Two sessions. The link is quiet until the first has ended, and the second comes once it was heard.
+const HEARING_LATER: Case = Case {
+    sessions: 2,
+    come: 2,
+    answered: 2,
+    numbered: false,
+    line: Until::Now,
+    stays: false,
+    first_wire: Until::Now,
+    last_session: Until::HeardAndAsked(1),
+    request: SUBSCRIBE,
+    answer: SUBSCRIBED,
+    link: Until::Dropped(1),
+    hears: &[HOST],
+    moment: 1,
+    end: ServeEnd::Served(Totals {
+        changes: 0,
+        heard: 1,
+        moments: 1,
+    }),
 };
 
 /// One session more than there are seats. It comes once the wires of all others were dropped, so a seat is given again.
 const ONE_MORE: Case = Case {
     sessions: 65,
+    come: 65,
+    answered: 65,
     numbered: true,
     line: Until::Now,
+    stays: false,
     first_wire: Until::Now,
     last_session: Until::Dropped(64),
     request: SUBSCRIBE,
     answer: SUBSCRIBED,
+    link: Until::Now,
     hears: &[],
     moment: 0,
-    counts: NOTHING,
+    end: ServeEnd::Served(NOTHING),
+};
+
+/// The same, but no line begins before the wire of the last was dropped, which got no seat.
+const ONE_TOO_MANY: Case = Case {
+    sessions: 65,
+    come: 65,
+    answered: 64,
+    numbered: true,
+    line: Until::Dropped(1),
+    stays: false,
+    first_wire: Until::Now,
+    last_session: Until::Now,
+    request: SUBSCRIBE,
+    answer: SUBSCRIBED,
+    link: Until::Now,
+    hears: &[],
+    moment: 0,
+    end: ServeEnd::Served(NOTHING),
+};
+
+/// Two sessions of three, which were answered and go on when the doors fail.
+const GIVEN_UP: Case = Case {
+    sessions: 3,
+    come: 2,
+    answered: 2,
+    numbered: false,
+    line: Until::Now,
+    stays: true,
+    first_wire: Until::Now,
+    last_session: Until::Written(230),
+    request: SUBSCRIBE,
+    answer: SUBSCRIBED,
+    link: Until::Now,
+    hears: &[],
+    moment: 0,
+    end: ServeEnd::OutsideFault,
 };
 
 impl Case {
@@ -180,7 +265,7 @@ fn add_line<R: Wait + Copy>(
     place: u16,
 ) -> Result<(), Fail> {
     let octets = with_id(alloc, case.request, case.id(place))?;
-    doors.add_line(Drip::new(octets, PIECE), case.line)?;
+    doors.add_line(Drip::new(octets, PIECE), case.line, case.stays)?;
     Ok(())
 }
 
@@ -199,7 +284,7 @@ fn add_wire<R: Wait + Copy>(
     Ok(())
 }
 
-/// All sessions are to come.
+/// All sessions are to come that do.
 fn add_sessions<R: Wait + Copy>(
     rt: R,
     alloc: Global,
@@ -207,7 +292,7 @@ fn add_sessions<R: Wait + Copy>(
     case: &Case,
     lists: &mut Vec<List>,
 ) -> Result<(), Fail> {
-    'sessions: for place in 0..case.sessions {
+    'sessions: for place in 0..case.come {
         add_line(alloc, doors, case, place)?;
         add_wire(rt, alloc, doors, case, place, lists)?;
     }
@@ -219,12 +304,14 @@ fn add_hearing<R: Wait + Copy>(
     alloc: Global,
     links: &mut Vec<Fed<Hearings<R>>>,
     watch: &Watch<R>,
+    until: Until,
     link: usize,
     text: &str,
 ) -> Result<(), Fail> {
     let watch = watch.again()?;
     let datagrams = Hearings {
         watch,
+        until,
         datagrams: heard(alloc, text)?,
     };
     links.push(Fed { link, datagrams })?;
@@ -239,7 +326,7 @@ fn add_hearings<R: Wait + Copy>(
     case: &Case,
 ) -> Result<(), Fail> {
     'links: for (link, text) in case.hears.iter().enumerate() {
-        add_hearing(alloc, links, watch, link, text)?;
+        add_hearing(alloc, links, watch, case.link, link, text)?;
     }
     Ok(())
 }
@@ -261,7 +348,16 @@ fn end_of<
     requires names { AreNamed blanks B.names }
 {
     let mut starter = Apart { faults: 0 };
-    let Served { end, .. } = serve::<R, O, B>(rt, alloc, &mut starter, doors, setup, blanks);
+    let register = &mut NoRegister;
+    let Served { end, .. } = serve::<R, O, B, NoRegister>(
+        rt,
+        alloc,
+        &mut starter,
+        doors,
+        setup,
+        blanks,
+        register,
+    );
     end
 }
 
@@ -285,12 +381,21 @@ fn end_over_hub<R: Threads + Wait + Copy + Send + 'static, O: Surroundings<Start
     Ok(end_of::<R, O, Brand>(rt, alloc, doors, setup, Blanks::new()))
 }
 
-/// Fails where not all sessions were served, or other entries were made.
-fn is_served(end: ServeEnd, counts: Totals) -> Result<(), Fail> {
-    if end == ServeEnd::Served(counts) {
+/// Fails where a server ended otherwise.
+fn is_end(end: ServeEnd, wanted: ServeEnd) -> Result<(), Fail> {
+    if end == wanted {
         return Ok(());
     }
     Err(Fail::new(format_args!("{end:?}")))
+}
+
+/// What a session is answered.
+fn answer_of(alloc: Global, case: &Case, place: u16) -> Result<Vec<u8>, Fail> {
+    if place < case.answered {
+        with_id(alloc, case.answer, case.id(place))
+    } else {
+        Ok(Vec::new(alloc))
+    }
 }
 
 /// Fails where a session got something else than its answer.
@@ -301,7 +406,7 @@ fn is_answered<R: Wait>(
     place: u16,
     list: &List,
 ) -> Result<(), Fail> {
-    let octets = with_id(alloc, case.answer, case.id(place))?;
+    let octets = answer_of(alloc, case, place)?;
     let wanted = hex_text(alloc, octets.as_slice())?;
     are_octets(
         alloc,
@@ -313,7 +418,7 @@ fn is_answered<R: Wait>(
 
 /// Fails where any of the sessions did.
 fn are_answered<R: Wait>(rt: &R, alloc: Global, case: &Case, lists: &[List]) -> Result<(), Fail> {
-    'sessions: for (place, list) in (0..case.sessions).zip(lists) {
+    'sessions: for (place, list) in (0..case.come).zip(lists) {
         is_answered(rt, alloc, case, place, list)?;
     }
     Ok(())
@@ -334,7 +439,7 @@ fn ends_so<R: Threads + Wait + Copy + Send + 'static>(
     let mut links = Vec::new(alloc);
     add_hearings(alloc, &mut links, watch, case)?;
     let end = end_over_hub::<R, Watched<R>>(rt, alloc, doors, links, clock, case.sessions)?;
-    is_served(end, case.counts)
+    is_end(end, case.end)
 }
 
 /// Fails where sessions aren't served so by these doors.
@@ -358,7 +463,8 @@ fn are_served<R: Threads + Wait + Copy + Send + 'static>(
     case: &Case,
 ) -> Result<(), Fail> {
     let watch = Watch::new(rt, alloc)?;
-    let mut doors = Porter::new(alloc, watch.again()?, case.last_session);
+    let last = u64::from(case.sessions);
+    let mut doors = Porter::new(alloc, watch.again()?, case.last_session, last);
     are_served_by(rt, alloc, &watch, case, &mut doors, &mut Vec::new(alloc))
 }
 
@@ -378,6 +484,11 @@ fn a_link_is_heard_beside_a_session(rt: HostRuntime) -> Result<(), Fail> {
 }
 
 #[test]
+fn a_link_is_heard_when_a_session_has_ended(rt: HostRuntime) -> Result<(), Fail> {
+    are_served(rt, rt.alloc(), &HEARING_LATER)
+}
+
+#[test]
 fn links_are_heard_as_they_are_numbered(rt: HostRuntime) -> Result<(), Fail> {
     are_served(rt, rt.alloc(), &HEARING_TWO)
 }
@@ -385,4 +496,14 @@ fn links_are_heard_as_they_are_numbered(rt: HostRuntime) -> Result<(), Fail> {
 #[test]
 fn a_freed_seat_is_given_again(rt: HostRuntime) -> Result<(), Fail> {
     are_served(rt, rt.alloc(), &ONE_MORE)
+}
+
+#[test]
+fn a_session_without_a_seat_is_over_at_once(rt: HostRuntime) -> Result<(), Fail> {
+    are_served(rt, rt.alloc(), &ONE_TOO_MANY)
+}
+
+#[test]
+fn all_jobs_stop_where_the_doors_fail(rt: HostRuntime) -> Result<(), Fail> {
+    are_served(rt, rt.alloc(), &GIVEN_UP)
 }

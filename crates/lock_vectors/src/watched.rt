@@ -38,6 +38,13 @@ pub(crate) enum Until {
     HeardAndAsked(u64),
 }
 
+impl Until {
+    /// Whether it is nothing.
+    fn is_now(&self) -> bool {
+        matches!(self, Until::Now)
+    }
+}
+
 /// What was done so far.
 #[derive(Clone, Copy)]
 struct Done {
@@ -126,12 +133,13 @@ impl<R: Wait + Copy> Watch<R> {
     }
 }
 
-/// A line that is quiet until something was done elsewhere, and then gives its octets.
+/// A line that is quiet until something was done elsewhere, and then gives its octets. Behind them it ends, or stays quiet.
 #[derive(Drop)]
 pub(crate) struct Late<R: Wait + Copy> {
     watch: Watch<R>,
     until: Until,
     drip: Drip,
+    stays: bool,
 }
 
 impl<R: Wait + Copy> Line for Late<R> {
@@ -147,7 +155,10 @@ impl<R: Wait + Copy> Line for Late<R> {
 
     fn recv(&mut self, buf: &mut [u8]) -> Result<Got, Failed> {
         match self.until {
-            Until::Now => self.drip.recv(buf),
+            Until::Now => match self.drip.recv(buf)? {
+                Got::End if self.stays => Ok(Got::Quiet),
+                got => Ok(got),
+            },
             until => {
                 self.watch.wait(until);
                 self.until = Until::Now;
@@ -194,10 +205,11 @@ impl<R: Wait + Copy> Drop for Held<R> {
     }
 }
 
-/// Datagrams that tell their end.
+/// Datagrams that are quiet until something was done elsewhere, and tell their end.
 #[derive(Drop)]
 pub(crate) struct Hearings<R: Wait + Copy> {
     pub(crate) watch: Watch<R>,
+    pub(crate) until: Until,
     pub(crate) datagrams: MemDatagrams,
 }
 
@@ -211,6 +223,12 @@ impl<R: Wait + Copy> Datagrams for Hearings<R> {
     ghost faults = { λ d. d.datagrams.calls.faults };
 
     fn recv(&mut self, buf: &mut [u8]) -> Result<Got, Failed> {
+        let until = self.until;
+        if !until.is_now() {
+            self.watch.wait(until);
+            self.until = Until::Now;
+            return Ok(Got::Quiet);
+        }
         let got = self.datagrams.recv(buf)?;
         if got == Got::End {
             self.watch.tell(Event::Heard);
@@ -243,11 +261,14 @@ impl<R: Wait + Copy> Clock for Still<R> {
     }
 }
 
-/// Doors that hold the last of their sessions back until something was done elsewhere.
+/// Doors that hold the last answer back until something was done elsewhere.
 #[derive(Drop)]
 pub(crate) struct Porter<R: Wait + Copy> {
     watch: Watch<R>,
     until: Until,
+    /// The number of that answer.
+    last: u64,
+    calls: u64,
     lines: VecDeque<Late<R>>,
     wires: VecDeque<Held<R>>,
     faults: u64,
@@ -255,10 +276,12 @@ pub(crate) struct Porter<R: Wait + Copy> {
 
 impl<R: Wait + Copy> Porter<R> {
     /// There are no sessions so far.
-    pub(crate) fn new(alloc: Global, watch: Watch<R>, until: Until) -> Porter<R> {
+    pub(crate) fn new(alloc: Global, watch: Watch<R>, until: Until, last: u64) -> Porter<R> {
         Porter {
             watch,
             until,
+            last,
+            calls: 0,
             lines: VecDeque::new(alloc),
             wires: VecDeque::new(alloc),
             faults: 0,
@@ -266,9 +289,19 @@ impl<R: Wait + Copy> Porter<R> {
     }
 
     /// A line is to come behind others.
-    pub(crate) fn add_line(&mut self, drip: Drip, until: Until) -> Result<(), NoMemory> {
+    pub(crate) fn add_line(
+        &mut self,
+        drip: Drip,
+        until: Until,
+        stays: bool,
+    ) -> Result<(), NoMemory> {
         let watch = self.watch.again()?;
-        self.lines.push_back(Late { watch, until, drip })?;
+        self.lines.push_back(Late {
+            watch,
+            until,
+            drip,
+            stays,
+        })?;
         Ok(())
     }
 
@@ -302,7 +335,8 @@ impl<R: Wait + Copy> Doors for Porter<R> {
     ghost faults = { λ s. s.faults };
 
     fn accept(&mut self) -> Result<(Late<R>, Held<R>), Failed> {
-        if self.lines.len() == 1 {
+        self.calls = self.calls.saturating_add(1);
+        if self.calls == self.last {
             self.watch.wait(self.until);
         }
         match first_of_each(&mut self.lines, &mut self.wires) {
@@ -313,6 +347,8 @@ impl<R: Wait + Copy> Doors for Porter<R> {
             }
         }
     }
+
+    fn close(&mut self) {}
 }
 
 /// The kinds of all these.

@@ -13,3 +13,4 @@ pub mod BlockParts
 pub mod BlockPlaces
 pub mod BlockSets
 pub mod Turns
+pub mod IndexRows

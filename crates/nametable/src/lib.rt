@@ -1,8 +1,9 @@
-//! Rows in tables by name, so that what a change costs doesn't grow with the names beside it.
+//! Rows in tables by name, so that what a change costs does not grow with the names beside it, and an index that counts steps.
 #![tactic(auto)]
 
 mod block;
 mod blocks;
+mod index;
 mod name_table;
 mod node;
 mod order;
@@ -10,6 +11,7 @@ mod reserving;
 mod uniting;
 
 pub use block::Block;
+pub use index::Index;
 pub use name_table::NameTable;
 pub use node::Node;
 pub use uniting::{by_names, put_all_names};

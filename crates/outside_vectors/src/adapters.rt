@@ -38,12 +38,16 @@ fn has_failed<T: Drop>(made: Result<T, OpenFault>) -> bool {
 }
 
 // Words that name nothing to be reached.
-fn reaches_nothing(system: &mut System<HostRuntime>) -> [bool; 4] {
+fn reaches_nothing<O: Outside>(outside: &mut O) -> [bool; 4]
+where
+    O::In: Drop,
+    O::Doors: Drop,
+{
     [
-        has_failed(system.open("/no/such/file")),
-        has_failed(system.doors("127.0.0.1")),
-        has_failed(system.dial("127.0.0.1:0")),
-        has_failed(system.datagrams("nowhere")),
+        has_failed(outside.open("/no/such/file")),
+        has_failed(outside.doors("127.0.0.1")),
+        has_failed(outside.dial("127.0.0.1:0")),
+        has_failed(outside.datagrams("nowhere")),
     ]
 }
 
@@ -63,12 +67,12 @@ fn goes_on<C: Clock>(clock: &mut C) -> bool {
 }
 
 // Whether no datagram comes to a free port of the loopback.
-fn is_quiet(system: &mut System<HostRuntime>) -> bool {
-    let Ok(mut links) = system.datagrams("127.0.0.1:0") else {
+fn is_quiet<O: Outside>(outside: &mut O) -> bool {
+    let Ok(mut links) = outside.datagrams("127.0.0.1:0") else {
         return false;
     };
     let got = links.recv(&mut [0; 4]);
-    system.back_links(links);
+    outside.back_links(links);
     got == Ok(Got::Quiet)
 }
 

@@ -1,6 +1,6 @@
 //! Where sessions come from.
 
-ghost use Rattle.std.specs.Prelude.{ℕ, Option};
+ghost use Rattle.std.specs.Prelude.{◌≡◌, ℕ, Option};
 ghost use Rattle.push_base.specs.Causes.{HasCause, CountsOne};
 ghost use Rattle.push_base.specs.Doors.{CountsSession};
 
@@ -28,4 +28,10 @@ pub trait Doors {
         ensures accepted { CountsSession (accepted self.old) (accepted self.new) result }
         ensures cause { HasCause (faults self.old) (faults self.new) result }
         ensures counted { CountsOne (calls self.old) (calls self.new) };
+
+    /// No further session is wanted: whoever comes from now on is turned away.
+    fn close(&mut self)
+        ensures accepted { accepted self.new ≡ accepted self.old }
+        ensures calls { calls self.new ≡ calls self.old }
+        ensures faults { faults self.new ≡ faults self.old };
 }

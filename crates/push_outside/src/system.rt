@@ -22,6 +22,7 @@ use std::alloc::Global;
 use std::fs::{File, Files};
 use std::io::{ErrorKind, Stdin, Stdout};
 use std::net::{Net, TcpListener, TcpStream};
+use std::sync::Wait;
 use std::time;
 use std::time::Instant;
 
@@ -70,14 +71,14 @@ fn file_at<R: Files>(files: &R, path: &str) -> Result<Reading<Origin<Stdin, R::F
     }
 }
 
-impl<R: time::Clock + Copy + Drop + Send + 'static> Surroundings for System<R> {
+impl<R: Wait + time::Clock + Copy + Drop + Send + 'static> Surroundings for System<R> {
     type Line = TcpLine<TcpStream>;
 
     type Wire = TcpWire;
 
     type Links = UdpLinks;
 
-    type Doors = TcpDoors;
+    type Doors = TcpDoors<R>;
 
     type Clock = MachineClock<R>;
 
@@ -88,6 +89,7 @@ impl<R> Outside for System<R>
 where
     R: Files
         + Net<Listener = TcpListener, Stream = TcpStream>
+        + Wait
         + time::Clock
         + Copy
         + Drop
@@ -112,8 +114,8 @@ where
         source
     }
 
-    fn doors(&mut self, address: &str) -> Result<TcpDoors, OpenFault> {
-        let doors = TcpDoors::bind(&self.rt, self.alloc, address);
+    fn doors(&mut self, address: &str) -> Result<TcpDoors<R>, OpenFault> {
+        let doors = TcpDoors::bind(self.rt, self.alloc, address);
         self.others = counted(self.others, &doors);
         doors
     }
@@ -150,7 +152,7 @@ where
         self.writes = raised_by(wire.faults(), self.writes);
     }
 
-    fn back_doors(&mut self, doors: TcpDoors) {
+    fn back_doors(&mut self, doors: TcpDoors<R>) {
         self.others = raised_by(doors.faults(), self.others);
     }
 

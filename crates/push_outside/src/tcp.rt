@@ -8,9 +8,11 @@ use crate::tcp_line::TcpLine;
 use crate::tcp_wire::TcpWire;
 use push_base::{Doors, Failed};
 use std::alloc::Global;
-use std::io::{self, ErrorKind};
+use std::io::{self, Error, ErrorKind};
 use std::net::{Net, TcpListener, TcpStream};
-use std::time::Duration;
+use std::sync::Wait;
+use std::thread;
+use std::time::{Clock, Duration};
 
 /// How long a read waits for octets, in milliseconds.
 const READ_WAIT: u64 = 500;
@@ -24,8 +26,13 @@ const MOST_HELD: usize = 512;
 /// The same of a connection that was dialled: whoever dials may not flush.
 const NONE_HELD: usize = 0;
 
-/// How often doors try again where a peer went away before it was accepted.
-const MOST_TRIES: u32 = 1_000;
+/// How long doors wait before they try again, in milliseconds.
+const PAUSE: u64 = 100;
+
+/// The errors of `accept` that are those of one connection, of the network or of a moment, beside those that a kind of
+/// error names: too many descriptors (of the system, of this process), a peer that spoke no protocol, no such machine on
+/// the network, an option that isn't there, an operation that isn't supported, no buffers (Linux, accept(2) and errno(3)).
+const PASSING: [i32; 7] = [23, 24, 64, 71, 92, 95, 105];
 
 /// The two ends of a connection.
 pub type TcpEnds = (TcpLine<TcpStream>, TcpWire);
@@ -69,25 +76,26 @@ pub(crate) fn dial<R: Net<Listener = TcpListener, Stream = TcpStream>>(
 
 /// A TCP listener as doors. It doesn't tell how many sessions were accepted, and counts its faults.
 #[derive(Drop)]
-pub struct TcpDoors {
+pub struct TcpDoors<R> {
+    rt: R,
     alloc: Global,
-    listener: TcpListener,
+    // None once the doors are closed.
+    listener: Option<TcpListener>,
     faults: u64,
 }
 
-impl TcpDoors {
+impl<R> TcpDoors<R> {
     /// Doors at an address, without faults so far.
-    pub fn bind<R: Net<Listener = TcpListener, Stream = TcpStream>>(
-        net: &R,
-        alloc: Global,
-        address: &str,
-    ) -> Result<Self, OpenFault>
+    pub fn bind(rt: R, alloc: Global, address: &str) -> Result<Self, OpenFault>
+    where
+        R: Net<Listener = TcpListener, Stream = TcpStream> + Drop,
         ensures { IfOk result (λ doors. doors.faults ≡ 0) }
     {
-        match TcpListener::bind(net, address) {
+        match TcpListener::bind(&rt, address) {
             Ok(listener) => Ok(TcpDoors {
+                rt,
                 alloc,
-                listener,
+                listener: Some(listener),
                 faults: 0,
             }),
             Err(error) => Err(fault_of(error.kind())),
@@ -102,24 +110,57 @@ impl TcpDoors {
     }
 }
 
-/// The next connection. One that its peer has left before is passed over.
+/// The next connection, with its two ends.
 fn accept_one(alloc: Global, listener: &TcpListener) -> io::Result<TcpEnds> {
-    for _ in 0..MOST_TRIES {
-        match listener.accept() {
-            Ok((stream, _)) => return ends_of(alloc, MOST_HELD, stream),
-            Err(error) if is_passing(error.kind()) => {}
-            Err(error) => return Err(error),
+    let (stream, _) = listener.accept()?;
+    ends_of(alloc, MOST_HELD, stream)
+}
+
+/// Whether an error is that of one connection, of the network or of a moment, so that another try may go well.
+fn is_passing(error: &Error) -> bool {
+    let is_kind = matches!(
+        error.kind(),
+        ErrorKind::ConnectionAborted
+            | ErrorKind::ConnectionReset
+            | ErrorKind::Interrupted
+            | ErrorKind::NetworkDown
+            | ErrorKind::NetworkUnreachable
+            | ErrorKind::HostUnreachable
+            | ErrorKind::OutOfMemory
+    );
+    is_kind
+        || error
+            .raw_os_error()
+            .is_some_and(|code| PASSING.contains(&code))
+}
+
+/// The next connection. Where there are no descriptors or buffers for one, where its peer has left before, or where the
+/// network is down, another is waited for.
+fn accept_next<R: Wait + Clock>(
+    rt: &R,
+    alloc: Global,
+    listener: &TcpListener,
+) -> io::Result<TcpEnds> {
+    for _ in rt.forever() {
+        match accept_one(alloc, listener) {
+            Err(error) if is_passing(&error) => {
+                thread::sleep(rt, Duration::from_millis(PAUSE));
+            }
+            accepted => return accepted,
         }
     }
-    Err(io::Error::from(ErrorKind::ConnectionAborted))
+    unreachable!()
 }
 
-/// Whether an error is that of one connection alone, or of a call that was broken off.
-fn is_passing(kind: ErrorKind) -> bool {
-    matches!(kind, ErrorKind::ConnectionAborted | ErrorKind::Interrupted)
+impl<R: Wait + Clock> TcpDoors<R> {
+    /// The next connection, if the doors are open and none of their calls fails.
+    fn next(&self) -> Option<TcpEnds> {
+        let listener = self.listener.as_ref()?;
+        accept_next(&self.rt, self.alloc, listener).ok()
+    }
 }
 
-impl Doors for TcpDoors {
+impl<R: Wait + Clock> Doors for TcpDoors<R> {
     type Line = TcpLine<TcpStream>;
 
     type Out = TcpWire;
@@ -131,12 +172,16 @@ impl Doors for TcpDoors {
     ghost faults = { λ s. s.faults };
 
     fn accept(&mut self) -> Result<TcpEnds, Failed> {
-        match accept_one(self.alloc, &self.listener) {
-            Ok(ends) => Ok(ends),
-            Err(_) => {
+        match self.next() {
+            Some(ends) => Ok(ends),
+            None => {
                 self.faults = self.faults.saturating_add(1);
                 Err(Failed)
             }
         }
+    }
+
+    fn close(&mut self) {
+        self.listener = None;
     }
 }

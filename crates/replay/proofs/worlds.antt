@@ -17,6 +17,7 @@ pub mod BetweenLines
 pub mod Seats
 pub mod SeatsFound
 pub mod TimedSeats
+pub mod SeatNumbers
 pub mod SeatWords
 pub mod Doing
 pub mod HearDoing

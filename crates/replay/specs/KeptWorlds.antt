@@ -1,6 +1,6 @@
 -- The world that a run stands for: it has a hub, words of links, peers and clients.
 --     named peers      the words of the peers with the numbers of their sessions
---     seated seats      the clients as they are kept
+--     seated seats, words_seated seats      the clients as they are kept, and their words
 --     TellsEnds kept plain      the ends of first answers, counted up to the last number
 --     StandsForSeat kept seat      what is kept of a client stands for its seat
 --     StandsForWorld kept parties world, IsWorld kept world      what is kept stands for the world
@@ -57,6 +57,9 @@ seat_kept s = record {
 
 abbrev pub seated : List program_seats.Seat → Seated
 seated seats = map seat_kept seats
+
+abbrev pub words_seated : Seated → List Word
+words_seated seats = map (λ (s : KeptSeat). s.word) seats
 
 -- the words of the links, the peers and the clients
 pub record Parties : Type 0 where

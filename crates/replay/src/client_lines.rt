@@ -7,9 +7,7 @@ ghost use Rattle.replay.specs.KeptWorlds.{Does, StandsForSeat, seat_kept, seated
 ghost use Rattle.replay.specs.KeptSeats.{Times, has_word};
 
 use crate::printed::{already_text, call_text, closing_line, noseat_text, open_text};
-use crate::seats::{
-    Seat, call_at, is_connected_at, is_lone_at, join_at, moment_at, open_at, place_of,
-};
+use crate::seats::{Seat, call_at, is_connected_at, is_lone_at, join_at, moment_at, open_at};
 use crate::world::World;
 use push_base::NoMemory;
 use pushclient::Client;
@@ -48,40 +46,40 @@ fn new_seat(alloc: Global, word: &str, is_lone: bool) -> Result<Seat, NoMemory>
     })
 }
 
-/// A call of a client, and what it answers.
+/// A call of the client of a number, which has that word, and what it answers.
 pub(crate) fn call_line(
     alloc: Global,
     world: &mut World,
+    client: usize,
     word: &str,
     call: &Call,
 ) -> Result<String, NoMemory>
+    requires at { position (has_word word.now) (seated world.old.seats.items) ≡ Some client }
+    requires within { client < length world.old.seats.items }
     ensures { IfOk result (λ text. Does (asks call.now word.now) world.old (string_bytes text) world.new) }
 {
-    match place_of(&world.seats, word) {
-        None => Ok(String::new(alloc)),
-        Some(place) => {
-            let answer = call_at(alloc, &mut world.seats, place, call)?;
-            call_text(alloc, call, word, answer.as_str())
-        }
-    }
+    let answer = call_at(alloc, &mut world.seats, client, call)?;
+    call_text(alloc, call, word, answer.as_str())
 }
 
-/// A client opens a connection, unless it has one.
-pub(crate) fn open_line(alloc: Global, world: &mut World, word: &str) -> Result<String, NoMemory>
+/// The client of a number, which has that word, opens a connection, unless it has one.
+pub(crate) fn open_line(
+    alloc: Global,
+    world: &mut World,
+    client: usize,
+    word: &str,
+) -> Result<String, NoMemory>
+    requires at { position (has_word word.now) (seated world.old.seats.items) ≡ Some client }
+    requires within { client < length world.old.seats.items }
     ensures { IfOk result (λ text. Does (opens word.now) world.old (string_bytes text) world.new) }
 {
-    match place_of(&world.seats, word) {
-        None => Ok(String::new(alloc)),
-        Some(place) => {
-            if is_connected_at(&world.seats, place) {
-                return already_text(alloc, word);
-            }
-            if is_lone_at(&world.seats, place) {
-                return open_lone(alloc, world, place, word);
-            }
-            open_hub(alloc, world, place, word)
-        }
+    if is_connected_at(&world.seats, client) {
+        return already_text(alloc, word);
     }
+    if is_lone_at(&world.seats, client) {
+        return open_lone(alloc, world, client, word);
+    }
+    open_hub(alloc, world, client, word)
 }
 
 // The lone client at a place opens a connection.

@@ -1,15 +1,18 @@
 //! The lines that events print.
 
 ghost use Rattle.push_base.specs.Limits.{max_moment};
-ghost use Rattle.std.specs.Prelude.{◌≡◌, ◌≤◌, ◌++◌, ◌∷◌, [], codes, decimal, IfOk, string_bytes};
+ghost use Rattle.std.specs.Prelude.{◌≡◌, ◌≤◌, ◌<◌, ◌++◌, ◌∷◌, [], Some, codes, decimal, length, position, IfOk, IfSome, string_bytes};
+ghost use Rattle.std.specs.Str.{bytes_eq};
 ghost use Rattle.replay.specs.TextWords.{by_notices, end_words};
-ghost use Rattle.replay.specs.Text.{client_does, cuts, exchanges, hub_does, line_does, link_does, moments, printing, sends, session_does, session_of_word, stops, updates};
+ghost use Rattle.replay.specs.Text.{client_does, cuts, exchanges, hub_does, line_does, link_does, moments, printing, sends, seated as takes_seat, session_does, session_of_word, stops, updates};
 ghost use Rattle.pushserver.specs.Hubs.{newest, now};
 ghost use Rattle.pushserver.specs.KeptHubs.{StandsFor};
 ghost use Rattle.pushserver.specs.PlainHubs.{Hub as PlainHub};
-ghost use Rattle.scripts.specs.KeptLines.{event_said};
-ghost use Rattle.replay.specs.KeptWorlds.{Does, IsWorld, parties_of};
-ghost use Rattle.replay.specs.KeptSeats.{TimesWorld};
+ghost use Rattle.scripts.specs.Lines.{Word};
+ghost use Rattle.scripts.specs.KeptLines.{words_of};
+ghost use Rattle.scripts.specs.Events.{client_at, event_said, known_clients, party_word, IsNamed, IsNamedParty};
+ghost use Rattle.replay.specs.KeptWorlds.{Does, IsWorld, parties_of, seated, words_seated};
+ghost use Rattle.replay.specs.KeptSeats.{TimesWorld, has_word};
 ghost use Rattle.replay.specs.World.{World as Plain, stopped_hub};
 
 use crate::client_lines::{call_line, joining_line, open_line, timed_lines};
@@ -21,28 +24,57 @@ use crate::printed::{
     bytes_line, cut_text, end_text, end_words, full_text, noseat_text, point_text, stop_text,
     update_text,
 };
-use crate::seats::{cut_at, place_of, session_at};
+use crate::seats::{cut_at, session_at};
 use crate::show_lines::show_lines;
 use crate::world::{Peer, World};
 use dsosession::session::EndReason;
 use push_base::NoMemory;
 use pushserver::{ConnectFault, Hub, HubFault};
-use scripts::line::{ClientEvent, Event, HubEvent, LinkEvent, SessionEvent};
+use scripts::KnownClient;
+use scripts::event::{Event, Party};
+use scripts::line::{ClientEvent, HubEvent, LinkEvent, SessionEvent};
 use std::alloc::Global;
 
-/// What an event prints, each line with its end.
-pub fn event_line(alloc: Global, world: &mut World, event: &Event) -> Result<String, NoMemory>
-    ensures { IfOk result (λ text. Does (line_does by_notices (event_said event.now)) world.old (string_bytes text) world.new) }
+/// What an event prints, each line with its end, where the script has these clients.
+pub fn event_line(
+    alloc: Global,
+    clients: &[KnownClient],
+    world: &mut World,
+    event: &Event,
+) -> Result<String, NoMemory>
+    requires { IsNamed (words_of world.old.links.items) (known_clients clients.now) (words_seated (seated world.old.seats.items)) event.now }
+    ensures { IfOk result (λ text. Does (line_does by_notices (event_said (words_of world.old.links.items) (known_clients clients.now) event.now)) world.old (string_bytes text) world.new) }
 {
     match event {
-        Event::Joining { word, is_lone } => joining_line(alloc, world, word.as_str(), *is_lone),
+        Event::Joining { client } => client_joins(alloc, world, &clients[*client]),
         Event::Hub(event) => hub_line(alloc, world, event),
-        Event::Link { word, event } => link_line(alloc, world, word.as_str(), event),
-        Event::Call { word, call } => call_line(alloc, world, word.as_str(), call),
-        Event::Passing { word, way } => passing_line(alloc, world, *way, word.as_str()),
-        Event::Client { word, event } => client_line(alloc, world, word.as_str(), event),
-        Event::Session { word, event } => session_line(alloc, world, word.as_str(), event),
+        Event::Link { link, event } => link_line(alloc, world, *link, event),
+        Event::Call { client, call } => {
+            call_line(alloc, world, *client, word_of(clients, *client), call)
+        }
+        Event::Passing { client, way } => {
+            passing_line(alloc, world, *client, word_of(clients, *client), *way)
+        }
+        Event::Client { client, event } => {
+            client_line(alloc, world, *client, word_of(clients, *client), event)
+        }
+        Event::Session { party, event } => party_line(alloc, clients, world, party, event),
     }
+}
+
+// The word of the client of a number.
+fn word_of(clients: &[KnownClient], client: usize) -> &str
+    requires { client < length clients.now }
+    ensures { result.now ≡ (client_at (known_clients clients.now) client).0 }
+{
+    clients[client].word.as_str()
+}
+
+// There is one client more.
+fn client_joins(alloc: Global, world: &mut World, client: &KnownClient) -> Result<String, NoMemory>
+    ensures { IfOk result (λ text. Does (takes_seat (string_bytes client.now.word) client.now.is_lone) world.old (string_bytes text) world.new) }
+{
+    joining_line(alloc, world, client.word.as_str(), client.is_lone)
 }
 
 // What happens at the hub.
@@ -56,51 +88,82 @@ fn hub_line(alloc: Global, world: &mut World, event: &HubEvent) -> Result<String
     }
 }
 
-// What happens on the link of a word.
+// What happens on the link of a number.
 fn link_line(
     alloc: Global,
     world: &mut World,
-    word: &str,
+    link: usize,
     event: &LinkEvent,
 ) -> Result<String, NoMemory>
-    ensures { IfOk result (λ text. Does (link_does event.now word.now) world.old (string_bytes text) world.new) }
+    ensures { (w : Word) → position (bytes_eq w) (words_of world.old.links.items) ≡ Some link → IfOk result (λ text. Does (link_does event.now w) world.old (string_bytes text) world.new) }
 {
     match event {
-        LinkEvent::Hear(datagram) => hear_line(alloc, world, word, datagram.as_slice()),
+        LinkEvent::Hear(datagram) => hear_line(alloc, world, link, datagram.as_slice()),
     }
 }
 
-// What happens to the client of a word.
+// What happens to the client of a number, which has that word.
 fn client_line(
     alloc: Global,
     world: &mut World,
+    client: usize,
     word: &str,
     event: &ClientEvent,
 ) -> Result<String, NoMemory>
+    requires at { position (has_word word.now) (seated world.old.seats.items) ≡ Some client }
+    requires within { client < length world.old.seats.items }
     ensures { IfOk result (λ text. Does (client_does by_notices event.now word.now) world.old (string_bytes text) world.new) }
 {
     match event {
-        ClientEvent::Open => open_line(alloc, world, word),
-        ClientEvent::Feed(octets) => feed_lines(alloc, world, word, octets.as_slice()),
+        ClientEvent::Open => open_line(alloc, world, client, word),
+        ClientEvent::Feed(octets) => feed_lines(alloc, world, client, word, octets.as_slice()),
         ClientEvent::Show { question, written } => {
-            show_lines(alloc, world, word, question, written.as_str())
+            show_lines(alloc, world, client, word, question, written.as_str())
         }
     }
 }
 
-// What happens to the session of a word.
+// What happens to the session of a party.
+fn party_line(
+    alloc: Global,
+    clients: &[KnownClient],
+    world: &mut World,
+    party: &Party,
+    event: &SessionEvent,
+) -> Result<String, NoMemory>
+    requires { IsNamedParty (known_clients clients.now) (words_seated (seated world.old.seats.items)) party.now }
+    ensures { IfOk result (λ text. Does (session_does event.now (party_word (known_clients clients.now) party.now)) world.old (string_bytes text) world.new) }
+{
+    match party {
+        Party::Client(client) => {
+            session_line(
+                alloc,
+                world,
+                Some(*client),
+                word_of(clients, *client),
+                event,
+            )
+        }
+        Party::Peer(word) => session_line(alloc, world, None, word.as_str(), event),
+    }
+}
+
+// What happens to the session of a word: that of a client, which stands there, or else that of a peer.
 fn session_line(
     alloc: Global,
     world: &mut World,
+    seat: Option<usize>,
     word: &str,
     event: &SessionEvent,
 ) -> Result<String, NoMemory>
+    requires at { position (has_word word.now) (seated world.old.seats.items) ≡ seat }
+    requires within { IfSome seat (λ place. place < length world.old.seats.items) }
     ensures { IfOk result (λ text. Does (session_does event.now word.now) world.old (string_bytes text) world.new) }
 {
     match event {
         SessionEvent::Send(octets) => send_lines(alloc, world, word, octets.as_slice()),
-        SessionEvent::Stop { rcode, delay } => stop_line(alloc, world, word, *rcode, *delay),
-        SessionEvent::Cut => cut_line(alloc, world, word),
+        SessionEvent::Stop { rcode, delay } => stop_line(alloc, world, seat, word, *rcode, *delay),
+        SessionEvent::Cut => cut_line(alloc, world, seat, word),
     }
 }
 
@@ -150,22 +213,27 @@ fn clients_timed(alloc: Global, world: &mut World, text: String) -> Result<Strin
 fn stop_line(
     alloc: Global,
     world: &mut World,
+    seat: Option<usize>,
     word: &str,
     rcode: u8,
     delay: u32,
 ) -> Result<String, NoMemory>
+    requires at { position (has_word word.now) (seated world.old.seats.items) ≡ seat }
+    requires within { IfSome seat (λ place. place < length world.old.seats.items) }
     ensures { IfOk result (λ text. Does (stops word.now rcode delay) world.old (string_bytes text) world.new) }
 {
-    let session = session_of_word(world, word);
+    let session = session_of_word(world, seat, word);
     stop_session(&mut world.hub, session, rcode, delay);
     stop_text(alloc, word)
 }
 
 // The session of a client, or else that of a peer.
-fn session_of_word(world: &World, word: &str) -> Option<u64>
+fn session_of_word(world: &World, seat: Option<usize>, word: &str) -> Option<u64>
+    requires at { position (has_word word.now) (seated world.now.seats.items) ≡ seat }
+    requires within { IfSome seat (λ place. place < length world.now.seats.items) }
     ensures { (plain : Plain) → IsWorld world.now plain → result ≡ session_of_word plain word.now }
 {
-    match place_of(&world.seats, word) {
+    match seat {
         Some(place) => {
             let session = session_at(&world.seats, place);
             session
@@ -187,10 +255,17 @@ fn stop_session(hub: &mut Hub, session: Option<u64>, rcode: u8, delay: u32)
 }
 
 // The connection of a client is cut, or else that of a peer.
-fn cut_line(alloc: Global, world: &mut World, word: &str) -> Result<String, NoMemory>
+fn cut_line(
+    alloc: Global,
+    world: &mut World,
+    seat: Option<usize>,
+    word: &str,
+) -> Result<String, NoMemory>
+    requires at { position (has_word word.now) (seated world.old.seats.items) ≡ seat }
+    requires within { IfSome seat (λ place. place < length world.old.seats.items) }
     ensures { IfOk result (λ text. Does (cuts word.now) world.old (string_bytes text) world.new) }
 {
-    match place_of(&world.seats, word) {
+    match seat {
         Some(place) => {
             cut_at(&mut world.hub, &mut world.seats, place);
             cut_text(alloc, word)

@@ -1,13 +1,13 @@
 //! Octets to a client, and the lines that these print.
 
-ghost use Rattle.std.specs.Prelude.{◌≡◌, ◌<◌, length, IfOk, string_bytes};
+ghost use Rattle.std.specs.Prelude.{◌≡◌, ◌<◌, Some, length, position, IfOk, string_bytes};
 ghost use Rattle.replay.specs.Text.{feeds};
 ghost use Rattle.replay.specs.KeptWorlds.{Does, seat_kept, seated};
-ghost use Rattle.replay.specs.KeptSeats.{Calls, Makes};
+ghost use Rattle.replay.specs.KeptSeats.{Calls, Makes, has_word};
 ghost use Rattle.replay.specs.KeptFeeds.{HasFed, fed_seat, fed_text};
 
 use crate::printed::{bytes_line, closing_line};
-use crate::seats::{Seat, finish, is_connected_at, place_of};
+use crate::seats::{Seat, finish, is_connected_at};
 use crate::stepping::{deliver, hand_out};
 use crate::world::World;
 use dsosession::session::CloseReason;
@@ -22,26 +22,24 @@ struct Fed {
     closing: Option<CloseReason>,
 }
 
-/// Octets go to a client, and what it has to send is told; one that closes is told too, and its connection cut. Where it
-/// has none, nothing goes in.
+/// Octets go to the client of a number, which has that word, and what it has to send is told; one that closes is told too,
+/// and its connection cut. Where it has none, nothing goes in.
 pub(crate) fn feed_lines(
     alloc: Global,
     world: &mut World,
+    client: usize,
     word: &str,
     octets: &[u8],
 ) -> Result<String, NoMemory>
+    requires at { position (has_word word.now) (seated world.old.seats.items) ≡ Some client }
+    requires within { client < length world.old.seats.items }
     ensures { IfOk result (λ text. Does (feeds word.now octets.now) world.old (string_bytes text) world.new) }
 {
-    match place_of(&world.seats, word) {
-        None => Ok(String::new(alloc)),
-        Some(place) => {
-            if !is_connected_at(&world.seats, place) {
-                return bytes_line(alloc, word, &[]);
-            }
-            let fed = feed_at(alloc, &mut world.hub, &mut world.seats, place, octets)?;
-            fed_lines(alloc, word, &fed)
-        }
+    if !is_connected_at(&world.seats, client) {
+        return bytes_line(alloc, word, &[]);
     }
+    let fed = feed_at(alloc, &mut world.hub, &mut world.seats, client, octets)?;
+    fed_lines(alloc, word, &fed)
 }
 
 // The lines of what a client had to send, and of why it closed, if it did.

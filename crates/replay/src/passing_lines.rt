@@ -1,15 +1,15 @@
 //! The lines that are printed where octets of a client pass.
 
-ghost use Rattle.std.specs.Prelude.{◌≡◌, ◌<◌, ◌++◌, length, IfOk, string_bytes};
+ghost use Rattle.std.specs.Prelude.{◌≡◌, ◌<◌, ◌++◌, Some, length, position, IfOk, string_bytes};
 ghost use Rattle.replay.specs.Text.{end_lines, passes, passes_way};
 ghost use Rattle.scripts.specs.Words.{ended_lines};
 ghost use Rattle.replay.specs.KeptWorlds.{Does, seat_kept, seated};
-ghost use Rattle.replay.specs.KeptSeats.{closing_text};
+ghost use Rattle.replay.specs.KeptSeats.{closing_text, has_word};
 ghost use Rattle.replay.specs.KeptPassings.{EndsSo, EndsAt, Moves, way_text};
 ghost use Rattle.replay.specs.PassedOctets.{max_wire};
 
 use crate::printed::{closing_line, end_line, way_text};
-use crate::seats::{Seat, finish, place_of};
+use crate::seats::{Seat, finish};
 use crate::settling::{Passage, pass};
 use crate::world::World;
 use dsosession::session::{CloseReason, EndReason};
@@ -31,23 +31,21 @@ pub struct Ending {
     pub closing: Option<CloseReason>,
 }
 
-/// Octets of a client pass one way, or each way until nothing moves, and where its session ends or it closes its
-/// connection is cut.
+/// Octets of the client of a number, which has that word, pass one way, or each way until nothing moves, and where its
+/// session ends or it closes its connection is cut.
 pub(crate) fn passing_line(
     alloc: Global,
     world: &mut World,
-    way: Way,
+    client: usize,
     word: &str,
+    way: Way,
 ) -> Result<String, NoMemory>
+    requires at { position (has_word word.now) (seated world.old.seats.items) ≡ Some client }
+    requires within { client < length world.old.seats.items }
     ensures { IfOk result (λ text. Does (passes way word.now) world.old (string_bytes text) world.new) }
 {
-    match place_of(&world.seats, word) {
-        None => Ok(String::new(alloc)),
-        Some(place) => {
-            let ending = pass_at(alloc, &mut world.hub, &mut world.seats, place, way)?;
-            passed_text(alloc, word, way, ending)
-        }
-    }
+    let ending = pass_at(alloc, &mut world.hub, &mut world.seats, client, way)?;
+    passed_text(alloc, word, way, ending)
 }
 
 // Octets of the client at a place pass.

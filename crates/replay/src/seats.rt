@@ -1,13 +1,13 @@
 //! Clients, each where it stands.
 
-ghost use Rattle.std.specs.Prelude.{◌≡◌, ◌<◌, Some, length, position, get_or, IfOk, IfSome, OnOk, string_bytes};
+ghost use Rattle.std.specs.Prelude.{◌≡◌, ◌<◌, length, get_or, IfOk, OnOk, string_bytes};
 ghost use Rattle.pushserver.specs.KeptHubs.{StandsFor};
 ghost use Rattle.pushserver.specs.PlainHubs.{Hub as PlainHub};
 ghost use Rattle.pushclient.specs.Clients.{closed_as, connected};
 ghost use Rattle.replay.specs.Text.{called, reconfirming, subscribing, unsubscribing};
 ghost use Rattle.replay.specs.World.{cut_if, cut_seat, hub_without, is_over, joined, with_client};
 ghost use Rattle.replay.specs.KeptWorlds.{KeptSeat, seat_kept, seated};
-ghost use Rattle.replay.specs.KeptSeats.{Makes, Calls, Answers, HasCut, HasTimed, HasFinished, TellsConnected, has_word, timed_seat};
+ghost use Rattle.replay.specs.KeptSeats.{Makes, Calls, Answers, HasCut, HasTimed, HasFinished, TellsConnected, timed_seat};
 
 use crate::printed::{asked_words, yes_or_no};
 use dsosession::session::{CloseReason, EndReason};
@@ -40,21 +40,6 @@ pub struct Seat {
     /// By the ID of a question, how many octets there are up to the end of its first answer (RFC 8765, 6.2.2), or the
     /// greatest number of 64 bits where they are more, as it was told last.
     pub filled: Vec<(u16, u64)>,
-}
-
-// Whether a client has that word.
-fn has_word(seat: &Seat, word: &str) -> bool
-    ensures { result ≡ has_word word.now (seat_kept seat.now) }
-{
-    seat.word.as_str() == word
-}
-
-/// Where the client of a word stands.
-pub(crate) fn place_of(seats: &[Seat], word: &str) -> Option<usize>
-    ensures place { result ≡ position (λ s. has_word word.now (seat_kept s)) seats.now }
-    ensures within { IfSome result (λ place. place < length seats.now) }
-{
-    seats.iter().position(|seat| has_word(seat, word))
 }
 
 // The same question once more.

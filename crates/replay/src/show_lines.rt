@@ -1,14 +1,15 @@
 //! The lines that show what a client knows of a question.
 
-ghost use Rattle.std.specs.Prelude.{◌≡◌, ◌++◌, ◌∷◌, [], codes, decimal, IfOk, string_bytes};
+ghost use Rattle.std.specs.Prelude.{◌≡◌, ◌<◌, ◌++◌, ◌∷◌, [], Some, codes, decimal, length, position, IfOk, string_bytes};
 ghost use Rattle.inflight.specs.Ends.{told_end};
 ghost use Rattle.replay.specs.TextWords.{by_notices, with_records};
 ghost use Rattle.scripts.specs.Words.{spaced};
 ghost use Rattle.replay.specs.Text.{shows};
-ghost use Rattle.replay.specs.KeptWorlds.{Does, seat_kept};
+ghost use Rattle.replay.specs.KeptWorlds.{Does, seat_kept, seated};
+ghost use Rattle.replay.specs.KeptSeats.{has_word};
 ghost use Rattle.replay.specs.KeptShows.{IsFilling, ShowsSeat, ShowsSet, record_lines, showing_of, showing_text};
 
-use crate::seats::{Seat, place_of};
+use crate::seats::Seat;
 use crate::world::World;
 use push_base::NoMemory;
 use pushclient::client::Held;
@@ -17,20 +18,21 @@ use rrset::record::{Key, Question, Shown};
 use scripts::octets_text;
 use std::alloc::Global;
 
-/// What a client knows of a question, whose name is written so, and where it holds a set its records, each in a line.
+/// What the client of a number, which has that word, knows of a question, whose name is written so, and where it holds a
+/// set its records, each in a line.
 pub(crate) fn show_lines(
     alloc: Global,
     world: &World,
+    client: usize,
     word: &str,
     question: &Question,
     written: &str,
 ) -> Result<String, NoMemory>
+    requires at { position (has_word word.now) (seated world.now.seats.items) ≡ Some client }
+    requires within { client < length world.now.seats.items }
     ensures { IfOk result (λ text. Does (shows by_notices word.now question.now written.now) world.now (string_bytes text) world.now) }
 {
-    match place_of(&world.seats, word) {
-        None => Ok(String::new(alloc)),
-        Some(place) => seat_lines(alloc, &world.seats[place], word, question, written),
-    }
+    seat_lines(alloc, &world.seats[client], word, question, written)
 }
 
 // What a client knows of a question.

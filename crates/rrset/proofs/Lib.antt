@@ -19,3 +19,4 @@ pub mod Retaining
 pub mod Distinct
 pub mod SameQuestions
 pub mod ReadBack
+pub mod OldValues

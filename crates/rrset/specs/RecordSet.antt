@@ -6,6 +6,7 @@
 --     matching      the part that a question asks for
 --     changes      what is shown otherwise in one set than in another
 --     with_changes      a set with such changes made to it
+--     with_values      a set with some keys as they were
 use Rattle.std.specs.Prelude.{◌≡◌, ℕ, ◌<◌, Bool, not, ◌&&◌, List, [], map, length, take, Option, Some, None, fold, sum_by, ◌==◌}
 use Rattle.std.specs.Option.{option_eq}
 use Rattle.std.specs.Cmp.Lexicographic.{pointwise}
@@ -96,6 +97,14 @@ changes old new = map (λ e. record { key = e.0; before = shown_at e.0 old; afte
 -- a set with one key shown as it is after a change
 abbrev pub with_changed : RecordSet → Changed → RecordSet
 with_changed set c = elim c.after [ None ↦ without (same_key c.key) set | Some shown ↦ put c.key shown set ]
+
+-- a set with one key as it was: shown so, or not there
+abbrev pub with_value : RecordSet → Key × Option Shown → RecordSet
+with_value set e = elim e.1 [ None ↦ without (same_key e.0) set | Some shown ↦ put e.0 shown set ]
+
+-- a set with several keys as they were, each given once
+abbrev pub with_values : Rows (Option Shown) → RecordSet → RecordSet
+with_values values set = fold with_value set values
 
 -- a set with changes made to it, one after the other
 abbrev pub with_changes : List Changed → RecordSet → RecordSet

@@ -1,9 +1,9 @@
 -- A further line behind those of a script.
 --     Taken, taken_of draft      the head, the events and the clients so far
 --     nothing_taken      no head, no events and no clients
---     known_clients clients      their words, and whether each is a lone one
 --     known_by links clients      what lines that made these alone have made
---     client_added line      the client that a line adds
+--     StandsFor links clients line event, Numbered all links clients line event      an event stands for a line, and does where the line may stand there
+--     IsParty clients w party      a party is that of a word
 --     head_taken taken, known_of taken      the head that the lines so far have made, and what is known behind them
 --     may_stand all known line      whether a line may stand there
 --     HeadGrowsBy taken line later, GrowsBy taken line later      the head, and the head and the events with a further line
@@ -20,34 +20,41 @@ use Rattle.dsosession.specs.Timing.{default_timers}
 use Rattle.zoneupdate.specs.Zones.{ZoneState, new_zone}
 use Rattle.history.specs.States.{State, LinkState}
 use Rattle.history.specs.Kept.{HomesKept, state_of}
-use Rattle.scripts.specs.Lines.{Word, ScriptLine, joining, line_of}
-use Rattle.scripts.specs.Scripts.{Known, nothing_known, fits, client_word}
+use Rattle.scripts.specs.Lines.{Word, ScriptLine, line_of}
+use Rattle.scripts.specs.Scripts.{Known, nothing_known, fits, may_follow, client_word}
 use Rattle.scripts.specs.Heads.{Head}
 use Rattle.scripts.specs.declared.line.ZoneLine.{ZoneLine}
 use Rattle.scripts.specs.declared.line.LinkLine.{LinkLine}
 use Rattle.scripts.specs.declared.line.HeadLine.{HeadLine}
 use Rattle.scripts.specs.declared.line.HeadLine.TheVariants as heads
-use Rattle.scripts.specs.declared.line.Event.{Event}
+use Rattle.scripts.specs.declared.line.EventLine.{EventLine}
+use Rattle.scripts.specs.declared.event.Event.{Event}
+use Rattle.scripts.specs.declared.event.Event.TheVariants as events
+use Rattle.scripts.specs.declared.event.Party.{Party}
 use Rattle.scripts.specs.declared.line.Line.{Line}
 use Rattle.scripts.specs.declared.line.Line.TheVariants as lines
 use Rattle.scripts.specs.declared.script.Draft.{Draft}
-use Rattle.scripts.specs.declared.clients.KnownClient.{KnownClient}
-use Rattle.scripts.specs.KeptLines.{event_said, said, words_of}
-
--- ---- clients
-
--- their words, and whether each is a lone one
-abbrev pub known_clients : List KnownClient → List (Word × Bool)
-known_clients clients = map (λ (c : KnownClient). (string_bytes c.word, c.is_lone)) clients
+use Rattle.scripts.specs.KeptLines.{happening_said, said, words_of}
+use Rattle.scripts.specs.Events.{known_clients, words_known, event_said, party_word, IsNamed, IsNamedParty}
 
 -- what lines that made these links and clients alone have made
 abbrev pub known_by : List Word → List (Word × Bool) → Known
 known_by links clients = record nothing_known { links = links; clients = clients }
 
--- the client that a line adds
-abbrev pub client_added : ScriptLine → List (Word × Bool)
-client_added (joining w is_lone) = (w, is_lone) ∷ []
-client_added _ = []
+-- ---- an event in place of a line
+
+-- it says what the line does, and its numbers are those of clients that have joined, and of links
+abbrev pub StandsFor : List Word → List (Word × Bool) → EventLine → Event → Type 0
+StandsFor links clients line event = (event_said links clients event ≡ happening_said line) × IsNamed links clients (words_known clients) event
+
+-- the line may stand there, and has that event, or it may not
+abbrev pub Numbered : List Word → List Word → List (Word × Bool) → EventLine → Option Event → Type 0
+Numbered all links clients line None = may_follow all (known_by links clients) (happening_said line) ≡ false
+Numbered all links clients line (Some event) = (may_follow all (known_by links clients) (happening_said line) ≡ true) × StandsFor links clients line event
+
+-- the party of a word
+abbrev pub IsParty : List (Word × Bool) → Word → Party → Type 0
+IsParty clients w party = (party_word clients party ≡ w) × IsNamedParty clients (words_known clients) party
 
 -- ---- a line that is taken
 
@@ -111,7 +118,8 @@ HeadGrowsBy taken (heads.Link l) later = HasLink taken.homes l later.homes × (l
 abbrev pub GrowsBy : Taken → Line → Taken → Type 0
 GrowsBy taken lines.Silent later = later ≡ taken
 GrowsBy taken (lines.Head h) later = HeadGrowsBy taken h later
-GrowsBy taken (lines.Event e) later = later ≡ record taken { events = taken.events ++ e ∷ []; clients = taken.clients ++ client_added (event_said e) }
+GrowsBy taken (lines.Joining word is_lone) later = later ≡ record taken { events = taken.events ++ events.Joining (length taken.clients) ∷ []; clients = taken.clients ++ (string_bytes word, is_lone) ∷ [] }
+GrowsBy taken (lines.Event line) later = (event : Event) × StandsFor taken.links taken.clients line event × (later ≡ record taken { events = taken.events ++ event ∷ [] })
 
 -- the line was taken, which may stand there, or wasn't, which may not
 abbrev pub TakesLine : List Word → Draft → Line → Draft → Bool → Type 0

@@ -10,8 +10,8 @@ use Rattle.scripts.specs.Lines as plain
 use Rattle.scripts.specs.Lines.{Word, ScriptLine, silent, head_line, joining, hub_event, link_event, client_call, client_passing, client_event, session_event}
 use Rattle.scripts.specs.declared.line.HeadLine.{HeadLine}
 use Rattle.scripts.specs.declared.line.HeadLine.TheVariants as heads
-use Rattle.scripts.specs.declared.line.Event.{Event}
-use Rattle.scripts.specs.declared.line.Event.TheVariants as events
+use Rattle.scripts.specs.declared.line.EventLine.{EventLine}
+use Rattle.scripts.specs.declared.line.EventLine.TheVariants as events
 use Rattle.scripts.specs.declared.line.Line.{Line}
 use Rattle.scripts.specs.declared.line.Line.TheVariants as lines
 
@@ -25,21 +25,21 @@ head_said (heads.Timers t) = plain.timers t.inactivity t.keepalive
 head_said (heads.Zone z) = plain.zone z.apex z.serial z.writable
 head_said (heads.Link l) = plain.link (string_bytes l.word) l.domain
 
--- what an event line says
-abbrev pub event_said : Event → ScriptLine
-event_said (events.Joining word is_lone) = joining (string_bytes word) is_lone
-event_said (events.Hub event) = hub_event event
-event_said (events.Link word event) = link_event (string_bytes word) event
-event_said (events.Call word call) = client_call (string_bytes word) call
-event_said (events.Passing word way) = client_passing (string_bytes word) way
-event_said (events.Client word event) = client_event (string_bytes word) event
-event_said (events.Session word event) = session_event (string_bytes word) event
+-- what a line says that happens
+abbrev pub happening_said : EventLine → ScriptLine
+happening_said (events.Hub event) = hub_event event
+happening_said (events.Link word event) = link_event (string_bytes word) event
+happening_said (events.Call word call) = client_call (string_bytes word) call
+happening_said (events.Passing word way) = client_passing (string_bytes word) way
+happening_said (events.Client word event) = client_event (string_bytes word) event
+happening_said (events.Session word event) = session_event (string_bytes word) event
 
 -- what a line that was read says
 abbrev pub said : Line → ScriptLine
 said lines.Silent = silent
 said (lines.Head h) = head_line (head_said h)
-said (lines.Event e) = event_said e
+said (lines.Joining word is_lone) = joining (string_bytes word) is_lone
+said (lines.Event e) = happening_said e
 
 -- whether a text is that of no line that speaks: it is empty or begins with #
 abbrev pub begins_silent : List ℕ → Bool

@@ -1,10 +1,12 @@
 pub mod Lines
 pub mod Scripts
+pub mod TextLines
 pub mod Heads
 pub mod Words
 pub mod Outcomes
 pub mod Reply
 pub mod Sources
 pub mod KeptLines
+pub mod Events
 pub mod Drafts
 pub mod KeptScripts

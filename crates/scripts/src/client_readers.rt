@@ -5,7 +5,7 @@ ghost use Rattle.scripts.specs.Lines.{words_in, Word, ScriptLine, joining, clien
 ghost use Rattle.scripts.specs.KeptLines.{said};
 
 use crate::line::{
-    Call, ClientEvent, Event, Line, Way, five_words, four_words, two_words, word_alone,
+    Call, ClientEvent, EventLine, Line, Way, five_words, four_words, two_words, word_alone,
     word_and_octets,
 };
 use crate::line_words::{
@@ -24,7 +24,7 @@ pub(crate) fn client_line(alloc: Global, text: &[u8]) -> Result<Option<Line>, No
         return Ok(None);
     };
     let is_lone = false;
-    Ok(Some(Line::Event(Event::Joining { word, is_lone })))
+    Ok(Some(Line::Joining { word, is_lone }))
 }
 
 /// What follows the first word of a line of a lone client: its word.
@@ -35,7 +35,7 @@ pub(crate) fn lone_line(alloc: Global, text: &[u8]) -> Result<Option<Line>, NoMe
         return Ok(None);
     };
     let is_lone = true;
-    Ok(Some(Line::Event(Event::Joining { word, is_lone })))
+    Ok(Some(Line::Joining { word, is_lone }))
 }
 
 /// What follows the first word of a line that opens a connection: the client's word.
@@ -46,7 +46,7 @@ pub(crate) fn open_line(alloc: Global, text: &[u8]) -> Result<Option<Line>, NoMe
         return Ok(None);
     };
     let event = ClientEvent::Open;
-    Ok(Some(Line::Event(Event::Client { word, event })))
+    Ok(Some(Line::Event(EventLine::Client { word, event })))
 }
 
 /// What follows the first word of a line that lets octets go from a client onto the wire: the client's word, and how many.
@@ -57,7 +57,7 @@ pub(crate) fn say_line(alloc: Global, text: &[u8]) -> Result<Option<Line>, NoMem
         return Ok(None);
     };
     let way = Way::Say(most);
-    Ok(Some(Line::Event(Event::Passing { word, way })))
+    Ok(Some(Line::Event(EventLine::Passing { word, way })))
 }
 
 /// What follows the first word of a line that lets octets go from the wire into a session: the client's word, and how many.
@@ -68,7 +68,7 @@ pub(crate) fn up_line(alloc: Global, text: &[u8]) -> Result<Option<Line>, NoMemo
         return Ok(None);
     };
     let way = Way::Up(most);
-    Ok(Some(Line::Event(Event::Passing { word, way })))
+    Ok(Some(Line::Event(EventLine::Passing { word, way })))
 }
 
 /// What follows the first word of a line that lets octets go from a session onto the wire: the client's word, and how many.
@@ -79,7 +79,7 @@ pub(crate) fn emit_line(alloc: Global, text: &[u8]) -> Result<Option<Line>, NoMe
         return Ok(None);
     };
     let way = Way::Emit(most);
-    Ok(Some(Line::Event(Event::Passing { word, way })))
+    Ok(Some(Line::Event(EventLine::Passing { word, way })))
 }
 
 /// What follows the first word of a line that lets octets go from the wire to a client: the client's word, and how many.
@@ -90,7 +90,7 @@ pub(crate) fn down_line(alloc: Global, text: &[u8]) -> Result<Option<Line>, NoMe
         return Ok(None);
     };
     let way = Way::Down(most);
-    Ok(Some(Line::Event(Event::Passing { word, way })))
+    Ok(Some(Line::Event(EventLine::Passing { word, way })))
 }
 
 /// What follows the first word of a line that settles: the client's word.
@@ -101,7 +101,7 @@ pub(crate) fn settle_line(alloc: Global, text: &[u8]) -> Result<Option<Line>, No
         return Ok(None);
     };
     let way = Way::Settle;
-    Ok(Some(Line::Event(Event::Passing { word, way })))
+    Ok(Some(Line::Event(EventLine::Passing { word, way })))
 }
 
 /// What follows the first word of a line that asks: the client's word, and the question.
@@ -112,7 +112,7 @@ pub(crate) fn ask_line(alloc: Global, text: &[u8]) -> Result<Option<Line>, NoMem
         return Ok(None);
     };
     let call = Call::Ask(question);
-    Ok(Some(Line::Event(Event::Call { word, call })))
+    Ok(Some(Line::Event(EventLine::Call { word, call })))
 }
 
 /// What follows the first word of a line that drops a question: the client's word, and the question.
@@ -123,7 +123,7 @@ pub(crate) fn drop_line(alloc: Global, text: &[u8]) -> Result<Option<Line>, NoMe
         return Ok(None);
     };
     let call = Call::Drop(question);
-    Ok(Some(Line::Event(Event::Call { word, call })))
+    Ok(Some(Line::Event(EventLine::Call { word, call })))
 }
 
 /// What follows the first word of a feed line: the client's word, and the octets.
@@ -134,7 +134,7 @@ pub(crate) fn feed_line(alloc: Global, text: &[u8]) -> Result<Option<Line>, NoMe
         return Ok(None);
     };
     let event = ClientEvent::Feed(octets);
-    Ok(Some(Line::Event(Event::Client { word, event })))
+    Ok(Some(Line::Event(EventLine::Client { word, event })))
 }
 
 /// What follows the first word of a line that doubts a record: the client's word, the record's name, TYPE and CLASS, and
@@ -155,7 +155,7 @@ pub(crate) fn reconfirm_line(alloc: Global, text: &[u8]) -> Result<Option<Line>,
         return Ok(None);
     };
     let call = Call::Reconfirm(record_of(question, rdata));
-    Ok(Some(Line::Event(Event::Call { word, call })))
+    Ok(Some(Line::Event(EventLine::Call { word, call })))
 }
 
 // The record that a question names, with that RDATA and a TTL of 0.
@@ -189,7 +189,7 @@ pub(crate) fn show_line(alloc: Global, text: &[u8]) -> Result<Option<Line>, NoMe
         return Ok(None);
     };
     let event = ClientEvent::Show { question, written };
-    Ok(Some(Line::Event(Event::Client { word, event })))
+    Ok(Some(Line::Event(EventLine::Client { word, event })))
 }
 
 // What follows the first word of a line that names a word, and then a number of octets.

@@ -2,11 +2,12 @@
 
 ghost use Rattle.std.specs.Prelude.{◌≡◌, ◌++◌, ◌∷◌, [], ◌||◌, Some, false, map, option_map, option_to_list, position, IfOk, OnOk, string_bytes};
 ghost use Rattle.std.specs.Str.{bytes_eq};
-ghost use Rattle.scripts.specs.Scripts.{client_words, lines_read, is_among, is_peer, lone_in, is_client_in, is_hub_client_in, is_lone_client_in, may_follow, may_happen_to, may_meet};
-ghost use Rattle.scripts.specs.KeptLines.{event_said, words_of};
-ghost use Rattle.scripts.specs.Drafts.{client_in, client_added, known_clients, known_by, is_any_word, is_word};
+ghost use Rattle.scripts.specs.Scripts.{client_words, lines_read, is_among, is_peer, lone_in, is_client_in, is_hub_client_in, is_lone_client_in, may_happen_to, may_meet};
+ghost use Rattle.scripts.specs.KeptLines.{words_of};
+ghost use Rattle.scripts.specs.Events.{known_clients, words_known};
+ghost use Rattle.scripts.specs.Drafts.{client_in, is_any_word, is_word};
 
-use crate::line::{ClientEvent, Event, SessionEvent};
+use crate::line::{ClientEvent, SessionEvent};
 use crate::line_words::plain_word;
 use crate::text_lines::{is_outside, is_too_long, split_line};
 use push_base::NoMemory;
@@ -14,7 +15,7 @@ use std::alloc::Global;
 
 /// A client that there is: its word, and whether it is a lone one.
 #[derive(Debug, Drop)]
-pub(crate) struct KnownClient {
+pub struct KnownClient {
     /// Its word.
     pub word: String,
     /// Whether its connections lead to no hub.
@@ -66,29 +67,8 @@ fn client_in(alloc: Global, line: &[u8]) -> Result<Option<String>, NoMemory>
     }
 }
 
-/// Whether the word of an event, if it has one, may stand there: a peer has a word that no client has anywhere, one more
-/// client a word that none has yet, and a client or a link that is spoken of one that there is.
-pub(crate) fn may_happen(
-    all: &[String],
-    links: &[String],
-    clients: &[KnownClient],
-    event: &Event,
-) -> bool
-    ensures { result ≡ may_follow (map (λ w. string_bytes w) all.now) (known_by (map (λ w. string_bytes w) links.now) (known_clients clients.now)) (event_said event.now) }
-{
-    match event {
-        Event::Joining { word, is_lone: _ } => !is_known(clients, word.as_bytes()),
-        Event::Hub(_) => true,
-        Event::Link { word, event: _ } => is_among(links, word.as_bytes()),
-        Event::Call { word, call: _ } => is_known(clients, word.as_bytes()),
-        Event::Passing { word, way: _ } => is_known(clients, word.as_bytes()),
-        Event::Client { word, event } => may_happen_to(clients, word.as_bytes(), event),
-        Event::Session { word, event } => may_meet(all, clients, word.as_bytes(), event),
-    }
-}
-
-// Whether that may happen to the client of a word: octets come to lone clients alone.
-fn may_happen_to(clients: &[KnownClient], word: &[u8], event: &ClientEvent) -> bool
+/// Whether that may happen to the client of a word: octets come to lone clients alone.
+pub(crate) fn may_happen_to(clients: &[KnownClient], word: &[u8], event: &ClientEvent) -> bool
     ensures { result ≡ may_happen_to (known_clients clients.now) word.now event.now }
 {
     match event {
@@ -98,8 +78,13 @@ fn may_happen_to(clients: &[KnownClient], word: &[u8], event: &ClientEvent) -> b
     }
 }
 
-// Whether that may happen to the session of a word.
-fn may_meet(all: &[String], clients: &[KnownClient], word: &[u8], event: &SessionEvent) -> bool
+/// Whether that may happen to the session of a word, where these are the words of all clients of the script.
+pub(crate) fn may_meet(
+    all: &[String],
+    clients: &[KnownClient],
+    word: &[u8],
+    event: &SessionEvent,
+) -> bool
     ensures { result ≡ may_meet (map (λ w. string_bytes w) all.now) (known_clients clients.now) word.now event.now }
 {
     match event {
@@ -123,8 +108,8 @@ fn may_be_stopped(all: &[String], clients: &[KnownClient], word: &[u8]) -> bool
     is_hub_client(clients, word) || !is_among(all, word)
 }
 
-// Whether a word is that of a client that there is.
-fn is_known(clients: &[KnownClient], word: &[u8]) -> bool
+/// Whether a word is that of a client that there is.
+pub(crate) fn is_known(clients: &[KnownClient], word: &[u8]) -> bool
     ensures { result ≡ is_client_in (known_clients clients.now) word.now }
 {
     lone_of(clients, word).is_some()
@@ -162,33 +147,19 @@ fn lone_of(clients: &[KnownClient], word: &[u8]) -> Option<bool>
     None
 }
 
-/// The word of the client that an event adds, if it adds one, goes to those that there are.
-pub(crate) fn add_seat(
-    alloc: Global,
-    event: &Event,
-    clients: &mut Vec<KnownClient>,
-) -> Result<(), NoMemory>
-    ensures { OnOk result (known_clients clients.new.items ≡ known_clients clients.old.items ++ client_added (event_said event.now)) }
+/// The number of the client of a word, counted from 0.
+pub(crate) fn client_of(clients: &[KnownClient], word: &[u8]) -> Option<usize>
+    ensures { result ≡ position (bytes_eq word.now) (words_known (known_clients clients.now)) }
 {
-    match event {
-        Event::Joining { word, is_lone } => push_client(alloc, word.as_str(), *is_lone, clients),
-        Event::Hub(_) | Event::Link { .. } | Event::Call { .. } => Ok(()),
-        Event::Passing { .. } | Event::Client { .. } | Event::Session { .. } => Ok(()),
-    }
+    first_client(clients, word)
 }
 
-// One client more.
-fn push_client(
-    alloc: Global,
-    word: &str,
-    is_lone: bool,
-    clients: &mut Vec<KnownClient>,
-) -> Result<(), NoMemory>
-    ensures { OnOk result (known_clients clients.new.items ≡ known_clients clients.old.items ++ (word.now, is_lone) ∷ []) }
+fn first_client(clients: &[KnownClient], word: &[u8]) -> Option<usize>
+    ensures { result ≡ position (λ c. is_word word.now c.word) clients.now }
 {
-    let word = String::from_str(alloc, word)?;
-    clients.push(KnownClient { word, is_lone })?;
-    Ok(())
+    clients
+        .iter()
+        .position(|client| is_word(&client.word, word))
 }
 
 /// Whether a word is among others.

@@ -3,6 +3,7 @@
 
 mod client_readers;
 mod clients;
+pub mod event;
 mod last_text;
 pub mod line;
 pub mod line_words;
@@ -13,11 +14,12 @@ mod text_lines;
 mod words;
 
 pub use client_readers::question_of;
+pub use clients::KnownClient;
 pub use last_text::{NO_MEMORY, READ_FAULT, tell};
 pub use line::{Line, one_word, read_line, split_word, three_words, two_words};
 pub use line_words::{number_of_word, number_up_to, plain_word};
 pub use outcome::Outcome;
 pub use read::{ReadError, read_script};
 pub use script::{Draft, ReadScript, Script, read_script_lines};
-pub use text_lines::{is_outside, is_too_long, split_line};
+pub use text_lines::{TakeLines, TakenLines, split_line, take_lines};
 pub use words::{close_words, octets_text};

@@ -120,11 +120,9 @@ pub enum SessionEvent {
     Cut,
 }
 
-/// What happens, and to whom, by a word.
+/// What a line says that happens, and to whom, by a word.
 #[derive(Debug, Drop)]
-pub enum Event {
-    /// There is one client more; whether its connections lead to no hub.
-    Joining { word: String, is_lone: bool },
+pub enum EventLine {
     /// At the hub.
     Hub(HubEvent),
     /// On the link of a word.
@@ -146,8 +144,10 @@ pub enum Line {
     Silent,
     /// It says what the server is.
     Head(HeadLine),
+    /// There is one client more; whether its connections lead to no hub.
+    Joining { word: String, is_lone: bool },
     /// Something happens.
-    Event(Event),
+    Event(EventLine),
 }
 
 // The kinds of lines that say something; what begins with no word of the grammar is `Other`.
@@ -280,7 +280,7 @@ fn single_word(kind: Kind) -> Option<Line>
     ensures exact { option_map (λ l. said l) result ≡ line_behind kind [] }
 {
     match kind {
-        Kind::Point => Some(Line::Event(Event::Hub(HubEvent::Point))),
+        Kind::Point => Some(Line::Event(EventLine::Hub(HubEvent::Point))),
         Kind::Timers | Kind::Zone | Kind::Link | Kind::At | Kind::Update | Kind::Hear => None,
         Kind::Send | Kind::Stop | Kind::Cut => None,
         Kind::Client | Kind::Lone | Kind::Open | Kind::Ask | Kind::Drop | Kind::Reconfirm => None,
@@ -381,7 +381,7 @@ fn at_line(text: &[u8]) -> Option<Line>
     ensures exact { option_map (λ l. said l) result ≡ at_line (words_in text.now) }
 {
     let moment = moment_of_word(one_word(text)?)?;
-    Some(Line::Event(Event::Hub(HubEvent::At(moment))))
+    Some(Line::Event(EventLine::Hub(HubEvent::At(moment))))
 }
 
 // What follows the first word of an update line: the octets of the message.
@@ -394,7 +394,7 @@ fn update_line(alloc: Global, text: &[u8]) -> Result<Option<Line>, NoMemory>
     let Some(octets) = octets_of_word(alloc, octets)? else {
         return Ok(None);
     };
-    Ok(Some(Line::Event(Event::Hub(HubEvent::Update(octets)))))
+    Ok(Some(Line::Event(EventLine::Hub(HubEvent::Update(octets)))))
 }
 
 /// What follows the first word of a line that names one more word alone.
@@ -434,7 +434,7 @@ fn cut_line(alloc: Global, text: &[u8]) -> Result<Option<Line>, NoMemory>
         return Ok(None);
     };
     let event = SessionEvent::Cut;
-    Ok(Some(Line::Event(Event::Session { word, event })))
+    Ok(Some(Line::Event(EventLine::Session { word, event })))
 }
 
 // What follows the first word of a send line: the peer's word, and the octets.
@@ -445,7 +445,7 @@ fn send_line(alloc: Global, text: &[u8]) -> Result<Option<Line>, NoMemory>
         return Ok(None);
     };
     let event = SessionEvent::Send(octets);
-    Ok(Some(Line::Event(Event::Session { word, event })))
+    Ok(Some(Line::Event(EventLine::Session { word, event })))
 }
 
 // What follows the first word of a line that stops a session: the word of the peer or of the client, the RCODE, and the
@@ -466,7 +466,7 @@ fn stop_line(alloc: Global, text: &[u8]) -> Result<Option<Line>, NoMemory>
         return Ok(None);
     };
     let event = SessionEvent::Stop { rcode, delay };
-    Ok(Some(Line::Event(Event::Session { word, event })))
+    Ok(Some(Line::Event(EventLine::Session { word, event })))
 }
 
 // What follows the first word of a line with a datagram: the link's word, and the octets.
@@ -477,7 +477,7 @@ fn hear_line(alloc: Global, text: &[u8]) -> Result<Option<Line>, NoMemory>
         return Ok(None);
     };
     let event = LinkEvent::Hear(octets);
-    Ok(Some(Line::Event(Event::Link { word, event })))
+    Ok(Some(Line::Event(EventLine::Link { word, event })))
 }
 
 /// The words of a text that has five.

@@ -10,8 +10,9 @@ ghost use Rattle.scripts.specs.KeptScripts.{ReadsAs};
 ghost use Rattle.scripts.specs.KeptLines.{words_of};
 ghost use Rattle.scripts.specs.Drafts.{TakesLine, taken_of, nothing_taken};
 
-use crate::clients::{KnownClient, add_seat, client_words, is_among, may_happen, place_among};
-use crate::line::{Event, HeadLine, Line, LinkLine, ZoneLine, read_line};
+use crate::clients::{KnownClient, client_words, is_among, is_known, place_among};
+use crate::event::{Event, event_of};
+use crate::line::{EventLine, HeadLine, Line, LinkLine, ZoneLine, read_line};
 use crate::text_lines::{is_outside, is_too_long, split_line};
 use dsosession::session::Timers;
 use dsosession::times::DEFAULT_TIMER;
@@ -32,6 +33,8 @@ pub struct Script {
     pub homes: Homes,
     /// The words of the links, in their order.
     pub links: Vec<String>,
+    /// The clients, in the order of their lines.
+    pub clients: Vec<KnownClient>,
     /// What happens, in order.
     pub events: Vec<Event>,
 }
@@ -104,7 +107,8 @@ impl Draft {
         match line {
             Line::Silent => Ok(true),
             Line::Head(line) => self.take_head(alloc, line),
-            Line::Event(event) => self.take_event(alloc, event, clients),
+            Line::Joining { word, is_lone } => self.take_client(word, is_lone),
+            Line::Event(line) => self.take_event(line, clients),
         }
     }
 
@@ -179,21 +183,30 @@ impl Draft {
         self.events.is_empty()
     }
 
-    // Takes a further event, if its word, where it has one, may stand there.
-    fn take_event(
-        &mut self,
-        alloc: Global,
-        event: Event,
-        clients: &[String],
-    ) -> Result<bool, NoMemory>
-        ensures { IfOk result (λ taken. TakesLine (map (λ w. string_bytes w) clients.now) self.old (lines.Event event) self.new taken) }
+    // Takes a further client, if none has its word.
+    fn take_client(&mut self, word: String, is_lone: bool) -> Result<bool, NoMemory>
+        ensures { (all : List Word) → IfOk result (λ taken. TakesLine all self.old (lines.Joining word is_lone) self.new taken) }
     {
-        if !may_happen(clients, &self.links, &self.clients, &event) {
+        if is_known(&self.clients, word.as_bytes()) {
             return Ok(false);
         }
-        add_seat(alloc, &event, &mut self.clients)?;
-        self.events.push(event)?;
+        let client = self.clients.len();
+        self.clients.push(KnownClient { word, is_lone })?;
+        self.events.push(Event::Joining { client })?;
         Ok(true)
+    }
+
+    // Takes a further event, if its word, where it has one, may stand there.
+    fn take_event(&mut self, line: EventLine, clients: &[String]) -> Result<bool, NoMemory>
+        ensures { IfOk result (λ taken. TakesLine (map (λ w. string_bytes w) clients.now) self.old (lines.Event line) self.new taken) }
+    {
+        match event_of(clients, &self.links, &self.clients, line) {
+            None => Ok(false),
+            Some(event) => {
+                self.events.push(event)?;
+                Ok(true)
+            }
+        }
     }
 
     /// The number of the link of a word, counted from 0.
@@ -209,6 +222,7 @@ impl Draft {
         ensures timers { result.timers ≡ unwrap_or self.timers default_timers }
         ensures homes { result.homes ≡ self.homes }
         ensures links { result.links.items ≡ self.links.items }
+        ensures clients { result.clients.items ≡ self.clients.items }
         ensures events { result.events.items ≡ self.events.items }
     {
         let Draft {
@@ -216,13 +230,14 @@ impl Draft {
             homes,
             links,
             events,
-            clients: _,
+            clients,
         } = self;
         Script {
             lines,
             timers: timers_or_default(timers),
             homes,
             links,
+            clients,
             events,
         }
     }

@@ -1,10 +1,63 @@
-//! The lines of a script's text.
+//! The lines of a text, and how they are taken one by one.
 
-ghost use Rattle.std.specs.Prelude.{◌≡◌, ◌<◌, ◌∷◌, ◌==◌, ◌&&◌, length, position, IfSome, nat_lt};
+ghost use Rattle.std.specs.Prelude.{◌≡◌, ℕ, ◌<◌, ◌∷◌, ◌==◌, ◌&&◌, List, Option, length, position, IfOk, IfSome, nat_lt};
 ghost use Rattle.push_base.specs.Cases.{is_empty};
 ghost use Rattle.scripts.specs.Scripts.{lines_in, max_script};
+ghost use Rattle.scripts.specs.TextLines.{Takes, TakesLines, lines_taken};
 
 use crate::read::MOST_OCTETS;
+use push_base::NoMemory;
+use std::alloc::Global;
+
+/// What is made of the lines of a text, one by one.
+pub trait TakeLines {
+    /// What the lines so far have made.
+    ghost Made: { Type 0 };
+
+    /// What a draft has of it.
+    ghost made: { Self → Self.Made };
+
+    /// What a further line makes of it, where it may stand there.
+    ghost line: { Self.Made → List ℕ → Option Self.Made };
+
+    /// Takes a further line, where it may stand behind those before it.
+    fn take(&mut self, alloc: Global, text: &[u8]) -> Result<bool, NoMemory>
+        ensures { IfOk result (λ taken. Takes (Self.line (Self.made self.old) text.now) (Self.made self.new) taken) };
+}
+
+/// How far the lines of a text were taken.
+#[derive(Clone, Copy)]
+pub enum TakenLines {
+    /// All of them; the line behind the last would have this number.
+    All(usize),
+    /// Those before the first line that is outside, which has this number, counted from 1.
+    Outside(usize),
+}
+
+/// Takes the lines of a text, up to the first one that is outside.
+pub fn take_lines<D: TakeLines>(
+    alloc: Global,
+    octets: &[u8],
+    draft: &mut D,
+) -> Result<TakenLines, NoMemory>
+    ensures { IfOk result (λ taken. TakesLines (lines_taken D.line (D.made draft.old) octets.now) (D.made draft.new) taken) }
+{
+    let too_long = is_too_long(octets);
+    let mut number = 1;
+    let mut rest = octets;
+    'lines: while !rest.is_empty() {
+        let (text, after) = split_line(rest);
+        if is_outside(after, too_long) {
+            return Ok(TakenLines::Outside(number));
+        }
+        if !draft.take(alloc, text)? {
+            return Ok(TakenLines::Outside(number));
+        }
+        number += 1;
+        rest = after;
+    }
+    Ok(TakenLines::All(number))
+}
 
 /// Whether a script is longer than a script may be.
 pub fn is_too_long(octets: &[u8]) -> bool

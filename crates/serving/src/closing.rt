@@ -14,7 +14,7 @@ use crate::running_jobs::Running;
 use crate::serve_end::{Cause, Fault, cause_of};
 use crate::server::{RunningLink, Server};
 use crate::{Fed, ServeEnd, Served};
-use hublock::{Books, Ended, Feed, HubLock, finish};
+use hublock::{Books, Ended, Feed, HubLock, Signal, finish};
 use push_base::{Datagrams, Pending, Surroundings};
 use std::sync::Wait;
 use std::thread::Threads;
@@ -187,7 +187,7 @@ pub(crate) fn close<
     ensures links { numbers_of result.links.items ≡ server.links ++ numbers_of links.items }
 {
     if opened.is_err() {
-        server.lock.quit(&server.rt);
+        server.lock.signal(&server.rt, Signal::Quit);
     }
     let Server {
         rt,

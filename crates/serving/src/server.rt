@@ -14,7 +14,7 @@ use crate::link_job::LinkJob;
 use crate::other_job::OtherJob;
 use crate::running_jobs::{Running, finish_over, flags};
 use crate::serve_end::Fault;
-use hublock::{Books, Ended, Feed, HubLock, Job, PARTS, Seats, Shared};
+use hublock::{Books, Ended, Feed, HubLock, Job, PARTS, Seats, Shared, Signal};
 use push_base::{Doors, NoMemory, Pending, Role, StartFault, Starter, Surroundings, Task, start};
 use pushserver::ConnectFault;
 use std::alloc::Global;
@@ -284,7 +284,7 @@ impl<
             Err(ConnectFault::NoSeat) => {
                 drop(line);
                 drop(wire);
-                self.lock.session_over(&self.rt);
+                self.lock.signal(&self.rt, Signal::SessionOver);
                 Ok(())
             }
             Err(ConnectFault::NoMemory) => Err(Fault::NoMemory),
@@ -313,7 +313,7 @@ impl<
         self.seat(starter, line, wire)
     }
 
-    /// Accepts so many sessions.
+    /// Accepts so many sessions. Behind the last one nobody else is let in.
     fn open_sessions(
         &mut self,
         starter: &mut O::Starter,
@@ -332,6 +332,7 @@ impl<
         'sessions: for session in 0..sessions {
             self.open_session(starter, doors)?;
         }
+        doors.close();
         Ok(())
     }
 

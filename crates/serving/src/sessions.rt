@@ -6,13 +6,14 @@ ghost use Rattle.pushserver.specs.PlainHubs.{Hub as Plain};
 ghost use Rattle.pushserver.specs.KeptHubs.{StandsFor};
 ghost use Rattle.hublock.specs.Feeds.{each, parts_each};
 ghost use Rattle.hublock.specs.Ledgers.{AreNamed};
+ghost use Rattle.hublock.specs.Registers.{entered};
 ghost use Rattle.serving.specs.Ends.{CountsAs, EndsFor};
 ghost use Rattle.serving.specs.Serving.{Accepts, CountsFault, Finishes, Returns, Starts, StartsAllUnless, has_fault, is_full_run, numbers_of};
 
 use crate::closing::close;
 use crate::server::Server;
 use crate::{ServeEnd, Served, Setup};
-use hublock::{Blanks, Books, Feed, HubLock, Seats};
+use hublock::{Blanks, Books, Feed, HubLock, Register, Seats, Signal};
 use push_base::{Datagrams, Doors, Starter, Surroundings};
 use std::alloc::Global;
 use std::sync::Wait;
@@ -28,6 +29,7 @@ pub fn serve<
     R: Threads + Wait + Copy + Send + 'static,
     O: Surroundings,
     B: Books + Send + Sync + 'static,
+    W: Register,
 >(
     rt: R,
     alloc: Global,
@@ -35,10 +37,14 @@ pub fn serve<
     doors: &mut O::Doors,
     setup: Setup<O::Links, O::Clock>,
     blanks: Blanks,
+    register: &mut W,
 ) -> Served<O::Links, B>
     requires hub { (setup.hub.history ≡ []) × (setup.hub.numbers_given ≡ 0) }
     requires stands { (plain : Plain) × StandsFor setup.hub plain }
     requires names { AreNamed blanks B.names }
+
+    // The hub of the setup went behind a lock, and no other.
+    ensures registered { W.hubs register.new ≡ entered (W.hubs register.old) setup.hub }
 
     // Which jobs were handed to the starter, in this order.
     ensures started { Starts (is_full_run result.end) setup.turns (numbers_of setup.links.items) setup.sessions (O.Starter.started starter.old) (O.Starter.started starter.new) }
@@ -75,7 +81,7 @@ pub fn serve<
     } = setup;
     let mut links = links;
     let (lock, feed, seats): (HubLock<B>, Feed<B>, Seats<B>) = match HubLock::new(
-        alloc, hub, blanks,
+        alloc, hub, blanks, register,
     ) {
         Ok(made) => made,
         Err(_) => {
@@ -87,7 +93,7 @@ pub fn serve<
             };
         }
     };
-    lock.begin(&rt, sessions);
+    lock.signal(&rt, Signal::Begun(sessions));
     let mut server: Server<R, O, B> = Server::new(rt, alloc, lock, feed, seats, turns);
     let opened = server.open(starter, doors, &mut links, clock, sessions);
     close(server, opened, links)

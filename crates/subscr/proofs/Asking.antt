@@ -40,7 +40,7 @@ left id asked are = record {
   questions = distinct_filter same_asked (λ e. not (is_id id e)) asked are.questions;
 }
 
-one_id : (id : ℕ) (e f : ℕ × Question) → is_id id e ≡ true → is_id id f ≡ true → same_id e f ≡ true
+pub one_id : (id : ℕ) (e f : ℕ × Question) → is_id id e ≡ true → is_id id f ≡ true → same_id e f ≡ true
 one_id id e f first second = eq-eqb e.0 f.0 (eqb-true e.0 id first ∙ sym (eqb-true f.0 id second))
 
 pub taken_out : (id : ℕ) (asked : Asked) (i : ℕ) (d : ℕ × Question) → AreAsked asked → position (is_id id) asked ≡ Some i → TakesOut (is_id id) asked i d

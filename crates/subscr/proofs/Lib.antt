@@ -1,1 +1,6 @@
 pub mod Asking
+pub mod Counts
+pub mod Noting
+pub mod AskedAt
+pub mod Questions
+pub mod Ids

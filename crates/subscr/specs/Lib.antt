@@ -1,1 +1,5 @@
 pub mod Asked
+pub mod ByName
+pub mod Named
+pub mod Numbers
+pub mod Watching

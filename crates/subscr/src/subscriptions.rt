@@ -1,30 +1,40 @@
 //! The questions of a session.
 
-ghost use Rattle.std.specs.Prelude.{◌≡◌, ◌<◌, ◌≤◌, ◌++◌, ◌∷◌, [], false, None, length, OnOk, OnErr};
+ghost use Rattle.std.specs.Prelude.{◌≡◌, ◌<◌, ◌≤◌, ◌++◌, ◌∷◌, [], false, None, length, position, OnOk, OnErr};
 ghost use Rattle.push_base.specs.Limits.{max_questions};
-ghost use Rattle.subscr.specs.Asked.{AreAsked, has, id_of, question_of, without, watches, wants};
+ghost use Rattle.subscr.specs.Asked.{AreAsked, has, id_of, is_id, question_of, without, watches, wants};
 
-use crate::{NoMemory, searching};
+use crate::NoMemory;
+use crate::kept::Keeping;
 use dnsname::Name;
 use rrset::record::{Key, Question};
 use std::alloc::Global;
 use std::marker::Model;
+
+/// Where an ID is.
+fn place_of(entries: &[(u16, Question)], id: u16) -> Option<usize>
+    ensures { result ≡ position (is_id id) entries.now }
+{
+    entries.iter().position(|entry| entry.0 == id)
+}
 
 /// Questions with their IDs, in the order in which they were added: at most `MAX_QUESTIONS`, no ID twice, and no
 /// question twice (names but for case).
 #[derive(Debug, Drop)]
 pub struct Subscriptions {
     entries: Vec<(u16, Question)>,
+    keeping: Keeping,
 }
 
 impl Model for Subscriptions {
     ghost use Rattle.subscr.specs.Asked.{Asked, AreAsked};
+    ghost use Rattle.subscr.specs.Named.{IsKept};
 
     ghost Value = { Asked };
 
     ghost view = { λ s. s.entries.items };
 
-    ghost invariant = { λ s. AreAsked s.entries.items };
+    ghost invariant = { λ s. AreAsked s.entries.items × IsKept s.keeping s.entries.items };
 }
 
 impl Subscriptions {
@@ -34,6 +44,7 @@ impl Subscriptions {
     {
         Subscriptions {
             entries: Vec::new(alloc),
+            keeping: Keeping::new(alloc),
         }
     }
 
@@ -45,7 +56,9 @@ impl Subscriptions {
         ensures ok { OnOk result (self.new ≡ self.old ++ (id, question) ∷ []) }
         ensures err { OnErr result (self.new ≡ self.old) }
     {
-        self.entries.push((id, question))?;
+        self.entries.reserve(1)?;
+        self.keeping.add(id, &question)?;
+        self.entries.push_reserved((id, question));
         Ok(())
     }
 
@@ -54,9 +67,11 @@ impl Subscriptions {
     pub fn remove(&mut self, id: u16) -> Option<Question>
         ensures question { result ≡ question_of id self.old }
         ensures others { self.new ≡ without id self.old }
+        ensures asked { AreAsked self.old }
     {
-        let index = searching::place_of(&self.entries, id)?;
+        let index = place_of(&self.entries, id)?;
         let (_, question) = self.entries.remove(index);
+        self.keeping.remove(id, &question.name);
         Some(question)
     }
 
@@ -64,14 +79,14 @@ impl Subscriptions {
     pub fn id_of(&self, question: &Question) -> Option<u16>
         ensures { result ≡ id_of question.now self.now }
     {
-        searching::id_of(&self.entries, question)
+        self.keeping.id_of(question)
     }
 
     /// Whether an ID is there.
     pub fn has(&self, id: u16) -> bool
         ensures { result ≡ has id self.now }
     {
-        searching::has(&self.entries, id)
+        self.keeping.has(id)
     }
 
     /// How many questions there are.
@@ -85,14 +100,14 @@ impl Subscriptions {
     pub fn watches(&self, name: &Name) -> bool
         ensures { result ≡ watches name.now self.now }
     {
-        searching::watches(&self.entries, name)
+        self.keeping.watches(name)
     }
 
     /// Whether a question asks for records of this key.
     pub fn wants(&self, key: &Key) -> bool
         ensures { result ≡ wants key.now self.now }
     {
-        searching::wants(&self.entries, key)
+        self.keeping.wants(key)
     }
 
     /// The questions with their IDs, in the order in which they were added.

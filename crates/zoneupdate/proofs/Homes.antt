@@ -2,12 +2,12 @@
 use Rattle.std.proofs.Common.{◌≡◌, ℕ, ◌+◌, ◌≤◌, ◌⊎◌, inl, inr, Bool, true, false, cond, not, ◌&&◌, ◌||◌, leb, ltb, List, [], ◌∷◌, length, filter, Option, Some, None, refl, sym, ap, subst, ◌∙◌, arith, le-leb, leb-true, leb-false, ltb-true, ltb-false}
 use Rattle.std.specs.List.{list_all, list_any}
 use Rattle.dnsname.specs.Names.{Labels, same_name, ends_in, longest}
+use Rattle.dnsname.proofs.Suffixes.{same_length, ends_in-same, ends_in-longer, ends_in-all}
 use Rattle.zoneupdate.specs.Zones.{is_inside}
 use Rattle.zoneupdate.specs.KeptZones.{lies_under, IsUnder}
 use Rattle.zoneupdate.proofs.Filters.{same_truth, and-left, and-right, and-both, not-true, not_both}
 use Rattle.zoneupdate.proofs.SomeAndAll.{all-filter, any_filter, any_more, none_all, all_itself}
 use Rattle.zoneupdate.proofs.Owners.{same_lower}
-use Rattle.zoneupdate.proofs.Suffixes.{same_length, ends_in-same, ends_in-longer, ends_in-all}
 
 -- ---- the longest of several names
 

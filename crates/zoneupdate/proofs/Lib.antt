@@ -13,9 +13,10 @@ pub mod RecordSets
 pub mod RisenParts
 pub mod TouchedParts
 pub mod LimitedParts
-pub mod Suffixes
 pub mod Homes
+pub mod NameHomes
 pub mod SoaRdata
+pub mod SoaLengths
 pub mod OneSoa
 pub mod KeptZone
 pub mod NewZone

@@ -101,11 +101,11 @@ ends-stand kept hub clients world stands hub_is clients_are =
     (subst (λ (cs : List KeptClient). EndsStandFor by_notices kept.hub cs world) (sym clients_are)
     (record { hub = stands.hub; seats = all-stand world (seated kept.seats.items) world.seats stands.seats }))
 
-pub ends-are : (octets : List ℕ) (script : Script) (kept : program.World) (ends : Ends) → IsWhole octets script → IsWorld kept (world_after (events_said script.events.items) (world_at_start script))
+pub ends-are : (octets : List ℕ) (script : Script) (kept : program.World) (ends : Ends) → IsWhole octets script → IsWorld kept (world_after (events_said script) (world_at_start script))
     → ends.hub ≡ kept.hub → ends.clients.items ≡ map (λ (k : KeptSeat). k.client) (seated kept.seats.items) → AreEnds octets ends
 unfolding AreEnds
 ends-are octets script kept ends whole stands hub_is clients_are lines read =
     let same : whole.lines ≡ lines = ap (lines_or []) (sym whole.read ∙ read) in
-    let last : world_after whole.lines (start_world whole.lines) ≡ world_after (events_said script.events.items) (world_at_start script) = leaves-so octets script whole ∙ ap (world_after (events_said script.events.items)) (sym (starts-so octets script whole)) in
+    let last : world_after whole.lines (start_world whole.lines) ≡ world_after (events_said script) (world_at_start script) = leaves-so octets script whole ∙ ap (world_after (events_said script)) (sym (starts-so octets script whole)) in
     subst (λ (ls : List ScriptLine). EndsStandFor by_notices ends.hub ends.clients.items (world_after ls (start_world ls))) same
-    (subst (EndsStandFor by_notices ends.hub ends.clients.items) (sym last) (ends-stand kept ends.hub ends.clients.items (world_after (events_said script.events.items) (world_at_start script)) stands hub_is clients_are))
+    (subst (EndsStandFor by_notices ends.hub ends.clients.items) (sym last) (ends-stand kept ends.hub ends.clients.items (world_after (events_said script) (world_at_start script)) stands hub_is clients_are))

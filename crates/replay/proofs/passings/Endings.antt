@@ -1,7 +1,7 @@
 -- A passing to its end, and the lines that it prints.
 --     passes-without, passes-then      a client without a session, and with one
 --     ends-made, ends-at, ends-moved      a passing and what follows it
---     passes-none, passes-act      the line of a passing
+--     passes-act      the line of a passing
 use Rattle.std.proofs.Common.{◌≡◌, ℕ, Bool, true, false, List, [], ◌∷◌, ◌++◌, Option, Some, None, refl, sym, ◌∙◌, ap, subst, append_assoc, codes, decimal}
 use Rattle.std.specs.Prelude.{position, IfOk, Result, Ok, Err, ◌<◌, length, set, get_or}
 use Rattle.dsosession.specs.declared.session.EndReason.{EndReason}
@@ -82,11 +82,6 @@ module _ (passing : World → Seat → Passed) where
       (subst (λ (l : List program.Seat). EndsAt passing hub (seated l) place count over closing later (seated changed)) same ends)
 
 -- ---- the line
-
-pub passes-none : (way : Way) (kept : KeptHub) (known : Parties) (w : Word) (written : List ℕ) → position (has_word w) known.seats ≡ None → written ≡ [] → Acts (passes way w) kept known written kept known
-unfolding Acts
-passes-none way kept known w written none is world s d =
-    subst (λ (o : Option Seat). HasPrinted kept known written (does_by way w world o)) (sym (absent w known.seats world.seats s.seats none)) (record { text = is; stands = s })
 
 -- behind its passings a client's connection is cut, or it isn't
 module _ (p : Passed) where

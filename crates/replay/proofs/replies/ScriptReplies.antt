@@ -21,13 +21,13 @@ told records (Err n) = (2, outside_text n)
 
 -- what the events of a script print
 abbrev pub text_said : Script → List ℕ
-text_said script = ended_lines (printed_by by_notices (events_said script.events.items) (world_at_start script))
+text_said script = ended_lines (printed_by by_notices (events_said script) (world_at_start script))
 
 whole_text : (octets : List ℕ) (script : Script) → IsWhole octets script → text_with by_notices octets ≡ (0, text_said script)
 whole_text octets script whole =
     ap (told by_notices) whole.read
     ∙ ap (λ (lines : List (List ℕ)). (0, ended_lines lines)) (prints-so octets script whole)
-    ∙ ap (λ (world : World). (0, ended_lines (printed_by by_notices (events_said script.events.items) world))) (sym (starts-so octets script whole))
+    ∙ ap (λ (world : World). (0, ended_lines (printed_by by_notices (events_said script) world))) (sym (starts-so octets script whole))
 
 -- the text of a script
 pub whole_reply : (octets text : List ℕ) (script : Script) → IsWhole octets script → text ≡ text_said script → record { status = 0; text = text } ≡ reply_to_script by_notices octets

@@ -3,7 +3,7 @@
 --     filling-unasked, filling-untold, filling-told      whether the first answer hasn't arrived whole
 --     shows-lone, shows-filling, shows-held      a set that is held
 --     shows-known, shows-set      what is known of the question
---     shows-none, shows-act      the line
+--     shows-act      the line
 use Rattle.std.proofs.Common.{◌≡◌, ℕ, ◌+◌, ◌<◌, ◌==◌, Bool, true, false, cond, ◌&&◌, List, [], ◌∷◌, min, length, drop, find, get_or, Option, Some, None, option_map, refl, sym, ◌∙◌, ap, subst, arith, codes}
 use Rattle.std.specs.Prelude.{nat_lt, position}
 use Rattle.std.proofs.lemmas.Bool.Decides.{nat_tests}
@@ -157,11 +157,6 @@ unfolding ShowsSeat ShowsSet
 shows-set kept showing rows text holds law hub seat stands = law hub seat stands (holds seat.client stands.client)
 
 -- ---- the line
-
-pub shows-none : (kept : KeptHub) (known : Parties) (w : Word) (question : Question) (written told : List ℕ) → position (has_word w) known.seats ≡ None → told ≡ [] → Acts (shows by_notices w question written) kept known told kept known
-unfolding Acts
-shows-none kept known w question written told none is world s d =
-    subst (λ (o : Option Seat). HasPrinted kept known told (shows_by by_notices w question written world o)) (sym (absent w known.seats world.seats s.seats none)) (record { text = is; stands = s })
 
 pub shows-act : (kept : KeptHub) (known : Parties) (showing : Showing) (place : ℕ) (k : KeptSeat) (told : List ℕ) → position (has_word showing.word) known.seats ≡ Some place → k ≡ get_or known.seats place k → ShowsSeat k showing told
     → Acts (shows by_notices showing.word showing.question showing.written) kept known told kept known

@@ -1,7 +1,7 @@
 -- What octets to a client print, and the world behind them.
 --     fed-does, feeds-makes      what they make of a client
 --     fed-line      the lines of what was handed out, and of a client that has closed
---     feeds-none, feeds-shut, feeds-open      the line, where no client has the word, and by whether it has a connection
+--     feeds-shut, feeds-open      the line, by whether it has a connection
 use Rattle.std.proofs.Common.{◌≡◌, ℕ, Bool, true, false, List, [], ◌∷◌, ◌++◌, get_or, Option, Some, None, refl, sym, ◌∙◌, ap, subst, codes}
 use Rattle.std.specs.Prelude.{position}
 use Rattle.dsosession.specs.declared.session.CloseReason.{CloseReason}
@@ -53,11 +53,6 @@ module _ (octets told : List ℕ) (closing : Option CloseReason) (hub : KeptHub)
 
 pub fed-line : (w : Word) (told : List ℕ) (closing : Option CloseReason) → (codes "bytes " ++ two_parts w (octets_text told)) ++ closing_text w closing ≡ fed_text w told closing
 fed-line w told closing = ap (λ (l : List ℕ). l ++ closing_text w closing) (worded (codes "bytes ") w (octets_text told))
-
-pub feeds-none : (kept : KeptHub) (known : Parties) (w : Word) (octets written : List ℕ) → position (has_word w) known.seats ≡ None → written ≡ [] → Acts (feeds w octets) kept known written kept known
-unfolding Acts
-feeds-none kept known w octets written none is world s d =
-    subst (λ (o : Option Seat). HasPrinted kept known written (feeds_by w octets world o)) (sym (absent w known.seats world.seats s.seats none)) (record { text = is; stands = s })
 
 -- without a connection nothing goes in
 pub feeds-shut : (kept : KeptHub) (known : Parties) (w : Word) (octets : List ℕ) (place : ℕ) (k : KeptSeat) (written : List ℕ) → position (has_word w) known.seats ≡ Some place → k ≡ get_or known.seats place k → TellsConnected known.seats place false

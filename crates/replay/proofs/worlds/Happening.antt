@@ -51,8 +51,8 @@ prints-happening (l ∷ ls) world = prints-by world l ls (happening ls) (prints-
 pub starts-so : (octets : List ℕ) (script : Script) (whole : IsWhole octets script) → world_at_start script ≡ start_world whole.lines
 starts-so octets script whole = ap world_of whole.head
 
-pub prints-so : (octets : List ℕ) (script : Script) (whole : IsWhole octets script) → prints whole.lines (start_world whole.lines) ≡ prints (events_said script.events.items) (start_world whole.lines)
+pub prints-so : (octets : List ℕ) (script : Script) (whole : IsWhole octets script) → prints whole.lines (start_world whole.lines) ≡ prints (events_said script) (start_world whole.lines)
 prints-so octets script whole = prints-happening whole.lines (start_world whole.lines) ∙ ap (λ (ls : List ScriptLine). prints ls (start_world whole.lines)) whole.events
 
-pub leaves-so : (octets : List ℕ) (script : Script) (whole : IsWhole octets script) → world_after whole.lines (start_world whole.lines) ≡ world_after (events_said script.events.items) (start_world whole.lines)
+pub leaves-so : (octets : List ℕ) (script : Script) (whole : IsWhole octets script) → world_after whole.lines (start_world whole.lines) ≡ world_after (events_said script) (start_world whole.lines)
 leaves-so octets script whole = after-happening whole.lines (start_world whole.lines) ∙ ap (λ (ls : List ScriptLine). world_after ls (start_world whole.lines)) whole.events

@@ -1,6 +1,5 @@
 -- What a datagram of a link prints, and the world behind it.
 --     hears-act      the law
---     link-known      the link of a word
 use Rattle.std.proofs.Common.{◌≡◌, ℕ, List, [], ◌∷◌, ◌++◌, Option, sym, ◌∙◌, ap, subst, string_bytes}
 use Rattle.std.specs.Prelude.{position}
 use Rattle.std.specs.declared.alloc.Global.{Global}
@@ -19,10 +18,6 @@ use Rattle.scripts.specs.Drafts.{is_word}
 use Rattle.replay.specs.KeptWorlds.{Parties, HasPrinted, Acts}
 use Rattle.scripts.specs.KeptLines.{words_of}
 use Rattle.replay.proofs.worlds.Doing.{one_line, with_hub}
-
--- the link of a word, by the words as they are kept
-pub link-known : (links : List (String Global)) (w : Word) → number_or_zero (position (is_word w) links) ≡ number_or_zero (position (bytes_eq w) (words_of links))
-link-known links w = ap number_or_zero (sym (position-map (λ (l : String Global). string_bytes l) (bytes_eq w) links))
 
 -- a datagram on a link
 abbrev heard_on : List ℕ → World → ℕ → Printed

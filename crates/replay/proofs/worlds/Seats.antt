@@ -104,10 +104,6 @@ stand-more (l ∷ ks) (t ∷ ss) k s h new = (h.0, stand-more ks ss k s h.1 new)
 pub seat-there : (seats : List program.Seat) (place : ℕ) (s : program.Seat) (k : KeptSeat) → place < length seats → s ≡ get_or seats place s → k ≡ get_or (seated seats) place k → seat_kept s ≡ k
 seat-there seats place s k within is there = ap seat_kept is ∙ sym (get_or-map seat_kept seats place s k within) ∙ sym there
 
--- where the client of a word stands
-pub place-known : (w : Word) (seats slice : List program.Seat) (o : Option ℕ) → slice ≡ seats → o ≡ position (λ s. has_word w (seat_kept s)) slice → position (has_word w) (seated seats) ≡ o
-place-known w seats slice o same is = position-map seat_kept (has_word w) seats ∙ ap (λ (ss : List program.Seat). position (λ s. has_word w (seat_kept s)) ss) (sym same) ∙ sym is
-
 -- a client at a place is another one
 pub calls-made : (answers : Seat → Type 0) (next : Seat → Seat) (seats later : List program.Seat) (place : ℕ) (s after : program.Seat) → place < length seats → s ≡ get_or seats place s
     → later ≡ set seats place after → Makes answers next (seat_kept (get_or seats place s)) (seat_kept after) → Calls answers next (seated seats) place (seated later)

@@ -1,7 +1,7 @@
 -- What the events of clients print, and the world behind them.
 --     seat-made      one client more
---     asks-none, asks-told      calls that answer a word
---     opens-none, opens-already, opens-as_lone, opens-as_hub      a client opens a connection, by what is known of it
+--     asks-told      calls that answer a word
+--     opens-already, opens-as_lone, opens-as_hub      a client opens a connection, by what is known of it
 --     opened-lone, opened-hub, opened-refused      the connection of a lone one, one to the hub, and one for which the hub has no seat
 --     cuts-seat      a client's connection is cut
 use Rattle.std.proofs.Common.{◌≡◌, ℕ, Bool, true, false, List, [], ◌∷◌, ◌++◌, get_or, Option, Some, None, sym, ◌∙◌, ap, subst, append_assoc, codes, string_bytes, IfOk, Result, Global}
@@ -47,11 +47,6 @@ seat-made kept known items later s w is_lone written same later_is new is world 
 
 -- ---- calls that answer a word
 
-pub asks-none : (kept : KeptHub) (known : Parties) (call : Call) (w : Word) (written : List ℕ) → position (has_word w) known.seats ≡ None → written ≡ [] → Acts (asks call w) kept known written kept known
-unfolding Acts
-asks-none kept known call w written none is world s d =
-    subst (λ (o : Option Seat). HasPrinted kept known written (asks_by call w world o)) (sym (absent w known.seats world.seats s.seats none)) (record { text = is; stands = s })
-
 pub asks-act : (kept : KeptHub) (known : Parties) (later : Seated) (call : Call) (w : Word) (place : ℕ) (answer written : List ℕ) → position (has_word w) known.seats ≡ Some place
     → Calls (Answers (λ c. answer ≡ (called call c).0)) (with_client (λ c. (called call c).1)) known.seats place later
     → ((world : World) → written ≡ ended_lines (printing (call_word call ∷ w ∷ answer ∷ []) world).1)
@@ -79,11 +74,6 @@ asks-told kept known later call w place answer told r at c same is =
     (λ written said. asks-act kept known later call w place answer written at c (λ world. said ∙ ap (λ (a : List ℕ). (call_word call ++ 32 ∷ []) ++ two_parts w a) same ∙ answer-line (call_word call) w answer)) is
 
 -- ---- a client opens a connection
-
-pub opens-none : (kept : KeptHub) (known : Parties) (w : Word) (written : List ℕ) → position (has_word w) known.seats ≡ None → written ≡ [] → Acts (opens w) kept known written kept known
-unfolding Acts
-opens-none kept known w written none is world s d =
-    subst (λ (o : Option Seat). HasPrinted kept known written (opens_by w world o)) (sym (absent w known.seats world.seats s.seats none)) (record { text = is; stands = s })
 
 -- what is told of the client at a place
 abbrev pub Tells : {X : Type 0} → (KeptSeat → X) → Seated → ℕ → X → Type 0

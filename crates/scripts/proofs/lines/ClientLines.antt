@@ -19,7 +19,8 @@ use Rattle.scripts.specs.declared.line.Kind.TheVariants as kinds
 use Rattle.history.proofs.Positions.{position-map}
 use Rattle.scripts.specs.KeptLines.{words_of}
 use Rattle.scripts.specs.Scripts.{onto_line, lines_in, client_word, client_words, is_among, last_is_outside, lone_in, lines_left}
-use Rattle.scripts.specs.Drafts.{client_in, is_any_word, known_clients, is_word}
+use Rattle.scripts.specs.Events.{known_clients, words_known}
+use Rattle.scripts.specs.Drafts.{client_in, is_any_word, is_word}
 use Rattle.scripts.specs.declared.clients.KnownClient.{KnownClient}
 use Rattle.scripts.proofs.lines.Readers.{EachReads, AllSuch, chosen_such, head_reads, hub_reads, on_link_reads, session_reads, call_reads, way_reads, client_reads}
 use Rattle.scripts.proofs.lines.SameWords.{same_word}
@@ -190,6 +191,10 @@ any_word (c ∷ cs) w = ap (λ (b : Bool). bytes_eq w (string_bytes c) || b) (an
 -- its place among these
 pub place_of : (words : List (String Global)) (w : Word) → position (is_word w) words ≡ position (bytes_eq w) (words_of words)
 place_of words w = sym (position-map (λ (c : String Global). string_bytes c) (bytes_eq w) words)
+
+-- the number of a client among these
+pub client_of : (clients : List KnownClient) (w : Word) → position (λ (c : KnownClient). is_word w c.word) clients ≡ position (bytes_eq w) (words_known (known_clients clients))
+client_of clients w = sym (position-map (λ (e : Word × Bool). e.0) (bytes_eq w) (known_clients clients) ∙ position-map (λ (c : KnownClient). (string_bytes c.word, c.is_lone)) (λ (e : Word × Bool). bytes_eq w e.0) clients)
 
 -- ---- a client that there is
 

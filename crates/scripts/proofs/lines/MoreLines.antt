@@ -1,9 +1,11 @@
 -- A further line behind others.
 --     AreLines front taken      the lines so far make the head and the events
 --     adds      what a line that may stand there makes of them
-use Rattle.std.proofs.Common.{◌≡◌, ℕ, ◌+◌, Bool, true, false, cond, not, ◌||◌, ◌==◌, Option, Some, None, List, [], ◌∷◌, ◌++◌, map, find, length, zero, suc, refl, sym, ◌∙◌, ap, subst, arith, length-append}
+use Rattle.std.proofs.Common.{◌≡◌, ℕ, ◌+◌, Bool, true, false, cond, not, ◌||◌, ◌==◌, Option, Some, None, List, [], ◌∷◌, ◌++◌, map, find, length, zero, suc, refl, sym, ◌∙◌, ap, subst, arith, length-append, append_assoc}
 use Rattle.std.specs.Prelude.{is_some, option_map, option_to_list, string_bytes, All, filter_map}
-use Rattle.std.specs.List.{list_any, cons_option}
+use Rattle.std.specs.List.{list_any}
+use Rattle.std.specs.declared.alloc.Global.{Global}
+use Rattle.std.specs.declared.string.String.{String}
 use Rattle.std.specs.Str.{bytes_eq}
 use Rattle.std.proofs.lemmas.Bool.Decides.{nat_tests}
 use Rattle.std.proofs.lemmas.List.{append-nil, map-append}
@@ -12,25 +14,29 @@ use Rattle.std.proofs.lemmas.List.Sums.{fold-append}
 use Rattle.rrset.proofs.Distinct.{distinct_push, distinct_none}
 use Rattle.dsosession.specs.declared.session.Timers.{Timers}
 use Rattle.dnsname.specs.Names.{Labels}
+use Rattle.dnsname.proofs.Decisions.{and_true}
 use Rattle.zoneupdate.specs.Zones.{ZoneState, new_zone}
 use Rattle.history.specs.Homes.{NamedHome}
 use Rattle.history.specs.States.{State, LinkState}
 use Rattle.history.specs.Plans.{IsStart}
 use Rattle.history.specs.Kept.{HomesKept, state_of}
-use Rattle.scripts.specs.Lines.{Word, ScriptLine, head_line}
-use Rattle.scripts.specs.Scripts.{Known, fits, may_follow, known_in_head, allowed, client_word, lone_in, is_head, happening, AreDistinct}
+use Rattle.scripts.specs.Lines.{Word, ScriptLine, head_line, joining}
+use Rattle.scripts.specs.Scripts.{Known, fits, may_follow, may_head, known_in_head, allowed, client_word, lone_in, is_head, happening, AreDistinct}
 use Rattle.scripts.specs.Heads.{Head, empty_head, with_head, with_head_line, head_behind}
 use Rattle.scripts.specs.declared.line.ZoneLine.{ZoneLine}
 use Rattle.scripts.specs.declared.line.LinkLine.{LinkLine}
 use Rattle.scripts.specs.declared.line.HeadLine.{HeadLine}
 use Rattle.scripts.specs.declared.line.HeadLine.TheVariants as heads
-use Rattle.scripts.specs.declared.line.Event.{Event}
-use Rattle.scripts.specs.declared.line.Event.TheVariants as events
+use Rattle.scripts.specs.declared.line.EventLine.{EventLine}
+use Rattle.scripts.specs.declared.line.EventLine.TheVariants as event_lines
+use Rattle.scripts.specs.declared.event.Event.{Event}
+use Rattle.scripts.specs.declared.event.Event.TheVariants as events
 use Rattle.scripts.specs.declared.line.Line.{Line}
 use Rattle.scripts.specs.declared.line.Line.TheVariants as lines
-use Rattle.scripts.specs.KeptLines.{head_said, event_said, said}
-use Rattle.scripts.specs.KeptScripts.{events_said}
-use Rattle.scripts.specs.Drafts.{Taken, no_homes, nothing_taken, head_of, head_taken, known_of, known_by, client_added, may_stand, with_zone, HasZone, with_link, HasLink, HeadGrowsBy, GrowsBy}
+use Rattle.scripts.specs.KeptLines.{head_said, happening_said, said}
+use Rattle.scripts.specs.Events.{words_known, client_at, event_said, IsNamed, Follow}
+use Rattle.scripts.specs.Drafts.{Taken, no_homes, nothing_taken, head_of, head_taken, known_of, known_by, may_stand, StandsFor, with_zone, HasZone, with_link, HasLink, HeadGrowsBy, GrowsBy}
+use Rattle.scripts.proofs.lines.Numbers.{onto_words, named-more, follow-more, client-here, few-here}
 use Rattle.scripts.proofs.lines.SameWords.{same_word, word_itself, other_way}
 
 -- the lines that happen, and the head, behind a further line
@@ -40,22 +46,28 @@ happening-more lines line = filter-append (λ (l : ScriptLine). not (is_head l))
 head-more : (head : Head) (lines : List ScriptLine) (line : ScriptLine) → head_behind head (lines ++ line ∷ []) ≡ with_head_line (head_behind head lines) line
 head-more head lines line = fold-append with_head_line head lines (line ∷ [])
 
-abbrev pub words_known : List (Word × Bool) → List Word
-words_known clients = map (λ e. e.0) clients
+-- what events say, by the words of the links and of these clients
+abbrev pub each_said : List Word → List (Word × Bool) → List Event → List ScriptLine
+each_said links clients events = map (event_said links clients) events
 
--- the lines so far make this head, and those that happen are these events
+-- the lines so far that happen are these events, by which the clients of these words have joined
+pub record AreEvents (front : List ScriptLine) (links joined : List Word) (clients : List (Word × Bool)) (events : List Event) : Type 0 where
+  pub happen : happening front ≡ each_said links clients events
+  pub named : filter_map client_word (each_said links clients events) ≡ joined
+  pub follow : Follow links clients [] events
+
+-- the lines so far make this head, and those that happen are these events, whichever clients are still to join
 pub record AreLines (front : List ScriptLine) (taken : Taken) : Type 0 where
-  pub happen : happening front ≡ events_said taken.events
+  pub events : (more : List (Word × Bool)) → AreEvents front taken.links (words_known taken.clients) (taken.clients ++ more) taken.events
   pub head : head_behind empty_head front ≡ head_taken taken
   pub start : IsStart (state_of taken.homes)
-  pub named : filter_map client_word (events_said taken.events) ≡ words_known taken.clients
   pub distinct : AreDistinct (words_known taken.clients)
 
 no_start : IsStart (state_of no_homes)
 no_start = record { zones = λ k d before. absurd (omega (arith, before)); links = λ k d before. absurd (omega (arith, before)); now = refl }
 
 pub no_lines : AreLines [] nothing_taken
-no_lines = record { happen = refl; head = refl; start = no_start; named = refl; distinct = distinct_none bytes_eq }
+no_lines = record { events = λ more. record { happen = refl; named = refl; follow = tt }; head = refl; start = no_start; distinct = distinct_none bytes_eq }
 
 -- what a line that may stand there makes of the head and the events
 pub record Adds (all : List Word) (taken : Taken) (line : Line) (later : Taken) : Type 0 where
@@ -70,16 +82,39 @@ allowed_some false known h = absurd cc
 head-then : (front : List ScriptLine) (taken : Taken) (line : ScriptLine) → AreLines front taken → head_behind empty_head (front ++ line ∷ []) ≡ with_head_line (head_taken taken) line
 head-then front taken line are = head-more empty_head front line ∙ ap (λ (h : Head). with_head_line h line) are.head
 
+some-allowed : (b : Bool) (known : Known) → is_some (allowed b known) ≡ b
+some-allowed true known = refl
+some-allowed false known = refl
+
 -- a line that doesn't happen
-happen-head : (front : List ScriptLine) (taken : Taken) (line : ScriptLine) → AreLines front taken → happening (line ∷ []) ≡ [] → happening (front ++ line ∷ []) ≡ events_said taken.events
-happen-head front taken line are quiet = happening-more front line ∙ ap (λ (ls : List ScriptLine). happening front ++ ls) quiet ∙ append-nil (happening front) ∙ are.happen
+quiet-line : (front : List ScriptLine) (line : ScriptLine) (links joined : List Word) (clients : List (Word × Bool)) (happened : List Event) → happening (line ∷ []) ≡ [] → AreEvents front links joined clients happened
+    → AreEvents (front ++ line ∷ []) links joined clients happened
+quiet-line front line links joined clients happened quiet are = record {
+  happen = happening-more front line ∙ ap (λ (ls : List ScriptLine). happening front ++ ls) quiet ∙ append-nil (happening front) ∙ are.happen;
+  named = are.named;
+  follow = are.follow;
+}
+
+-- before all events the links are of no account
+before-events : (front : List ScriptLine) (links links_then joined : List Word) (clients : List (Word × Bool)) (happened : List Event) → (length happened == 0) ≡ true → AreEvents front links joined clients happened
+    → AreEvents front links_then joined clients happened
+before-events front links links_then joined clients [] none are = record { happen = are.happen; named = are.named; follow = tt }
+before-events front links links_then joined clients (e ∷ es) none are =
+    let some : false ≡ (length (e ∷ es) == 0) = grind (arith, nat_tests) in
+    let wrong : false ≡ true = some ∙ none in
+    absurd cc
 
 -- ---- a line that says nothing
 
 silent_adds : (all : List Word) (taken : Taken) → Adds all taken lines.Silent taken
 silent_adds all taken = record {
   fit = refl;
-  lines = λ front are. record { happen = happen-head front taken _ are refl; head = head-then front taken _ are; start = are.start; named = are.named; distinct = are.distinct };
+  lines = λ front are. record {
+    events = λ more. quiet-line front _ taken.links (words_known taken.clients) (taken.clients ++ more) taken.events refl (are.events more);
+    head = head-then front taken _ are;
+    start = are.start;
+    distinct = are.distinct;
+  };
 }
 
 -- ---- the head
@@ -95,16 +130,19 @@ record AddsHead (taken : Taken) (line : HeadLine) (timers : Option Timers) (home
 
 head_adds : (all : List Word) (taken : Taken) (line : HeadLine) (timers : Option Timers) (homes : HomesKept) (links : List Word) → may_stand all (known_of taken) (head_line (head_said line)) ≡ true
     → AddsHead taken line timers homes links → Adds all taken (lines.Head line) (with_start taken timers homes links)
-head_adds all taken line timers homes links h added = record {
-  fit = allowed_some _ _ h ∙ ap (λ (known : Known). Some known) added.known;
-  lines = λ front are. record {
-    happen = happen-head front taken (head_line (head_said line)) are refl;
-    head = head-then front taken (head_line (head_said line)) are ∙ added.head;
-    start = added.start are.start;
-    named = are.named;
-    distinct = are.distinct;
-  };
-}
+head_adds all taken line timers homes links h added =
+    let none : (length taken.events == 0) ≡ true = (and_true (length taken.events == 0) (may_head (known_of taken) (head_said line)) (sym (some-allowed _ _) ∙ h)).0 in
+    record {
+      fit = allowed_some _ _ h ∙ ap (λ (known : Known). Some known) added.known;
+      lines = λ front are. record {
+        events = λ more.
+            before-events (front ++ head_line (head_said line) ∷ []) taken.links links (words_known taken.clients) (taken.clients ++ more) taken.events none
+            (quiet-line front (head_line (head_said line)) taken.links (words_known taken.clients) (taken.clients ++ more) taken.events refl (are.events more));
+        head = head-then front taken (head_line (head_said line)) are ∙ added.head;
+        start = added.start are.start;
+        distinct = are.distinct;
+      };
+    }
 
 timers_added : (taken : Taken) (t : Timers) → AddsHead taken (heads.Timers t) (Some t) taken.homes taken.links
 timers_added taken t = record { known = refl; head = refl; start = λ is. is }
@@ -154,8 +192,8 @@ link_added taken homes l has = record {
 
 -- ---- an event
 
-abbrev with_event : Taken → Event → Taken
-with_event taken e = record taken { events = taken.events ++ e ∷ []; clients = taken.clients ++ client_added (event_said e) }
+abbrev with_events : Taken → List Event → List (Word × Bool) → Taken
+with_events taken happened clients = record taken { events = happened; clients = clients }
 
 not_empty : {X : Type 0} (xs : List X) (x : X) → false ≡ (length (xs ++ x ∷ []) == 0)
 not_empty xs x = let size : length (xs ++ x ∷ []) ≡ length xs + 1 = length-append xs (x ∷ []) in grind (arith, nat_tests)
@@ -164,60 +202,90 @@ not_empty xs x = let size : length (xs ++ x ∷ []) ≡ length xs + 1 = length-a
 abbrev known_with : Taken → List (Word × Bool) → Bool → Known
 known_with taken clients head = record (known_of taken) { in_head = head; clients = clients }
 
-known_then : (taken : Taken) (e : Event) (clients : List (Word × Bool)) → taken.clients ++ client_added (event_said e) ≡ clients → Some (known_with taken clients false) ≡ Some (known_of (with_event taken e))
-known_then taken e clients same = λ i. Some (known_with taken (sym same i) (not_empty taken.events e i))
-
-some-allowed : (b : Bool) (known : Known) → is_some (allowed b known) ≡ b
-some-allowed true known = refl
-some-allowed false known = refl
+known_then : (taken : Taken) (event : Event) (clients : List (Word × Bool)) → Some (known_with taken clients false) ≡ Some (known_of (with_events taken (taken.events ++ event ∷ []) clients))
+known_then taken event clients = λ i. Some (known_with taken clients (not_empty taken.events event i))
 
 -- an event may stand there as its word may
-pub may-happen : (all : List Word) (taken : Taken) (e : Event) → may_stand all (known_of taken) (event_said e) ≡ may_follow all (known_by taken.links taken.clients) (event_said e)
-may-happen all taken (events.Joining word is_lone) = some-allowed _ _
-may-happen all taken (events.Hub event) = refl
-may-happen all taken (events.Link word event) = some-allowed _ _
-may-happen all taken (events.Call word call) = some-allowed _ _
-may-happen all taken (events.Passing word way) = some-allowed _ _
-may-happen all taken (events.Client word event) = some-allowed _ _
-may-happen all taken (events.Session word event) = some-allowed _ _
+may-happen : (all : List Word) (taken : Taken) (e : EventLine) → may_stand all (known_of taken) (happening_said e) ≡ may_follow all (known_by taken.links taken.clients) (happening_said e)
+may-happen all taken (event_lines.Hub event) = refl
+may-happen all taken (event_lines.Link word event) = some-allowed _ _
+may-happen all taken (event_lines.Call word call) = some-allowed _ _
+may-happen all taken (event_lines.Passing word way) = some-allowed _ _
+may-happen all taken (event_lines.Client word event) = some-allowed _ _
+may-happen all taken (event_lines.Session word event) = some-allowed _ _
 
-event_fits : (all : List Word) (taken : Taken) (e : Event) → is_some (fits all (known_of taken) (event_said e)) ≡ true → fits all (known_of taken) (event_said e) ≡ Some (known_of (with_event taken e))
-event_fits all taken (events.Joining word is_lone) h = allowed_some _ _ h ∙ known_then taken (events.Joining word is_lone) (taken.clients ++ (string_bytes word, is_lone) ∷ []) refl
-event_fits all taken (events.Hub event) h = known_then taken (events.Hub event) taken.clients (append-nil taken.clients)
-event_fits all taken (events.Link word event) h = allowed_some _ _ h ∙ known_then taken (events.Link word event) taken.clients (append-nil taken.clients)
-event_fits all taken (events.Call word call) h = allowed_some _ _ h ∙ known_then taken (events.Call word call) taken.clients (append-nil taken.clients)
-event_fits all taken (events.Passing word way) h = allowed_some _ _ h ∙ known_then taken (events.Passing word way) taken.clients (append-nil taken.clients)
-event_fits all taken (events.Client word event) h = allowed_some _ _ h ∙ known_then taken (events.Client word event) taken.clients (append-nil taken.clients)
-event_fits all taken (events.Session word event) h = allowed_some _ _ h ∙ known_then taken (events.Session word event) taken.clients (append-nil taken.clients)
+event_fits : (all : List Word) (taken : Taken) (e : EventLine) (x : Event) → may_stand all (known_of taken) (happening_said e) ≡ true
+    → fits all (known_of taken) (happening_said e) ≡ Some (known_of (with_events taken (taken.events ++ x ∷ []) taken.clients))
+event_fits all taken (event_lines.Hub event) x h = known_then taken x taken.clients
+event_fits all taken (event_lines.Link word event) x h = allowed_some _ _ h ∙ known_then taken x taken.clients
+event_fits all taken (event_lines.Call word call) x h = allowed_some _ _ h ∙ known_then taken x taken.clients
+event_fits all taken (event_lines.Passing word way) x h = allowed_some _ _ h ∙ known_then taken x taken.clients
+event_fits all taken (event_lines.Client word event) x h = allowed_some _ _ h ∙ known_then taken x taken.clients
+event_fits all taken (event_lines.Session word event) x h = allowed_some _ _ h ∙ known_then taken x taken.clients
 
-event_happens : (e : Event) → happening (event_said e ∷ []) ≡ event_said e ∷ []
-event_happens (events.Joining word is_lone) = refl
-event_happens (events.Hub event) = refl
-event_happens (events.Link word event) = refl
-event_happens (events.Call word call) = refl
-event_happens (events.Passing word way) = refl
-event_happens (events.Client word event) = refl
-event_happens (events.Session word event) = refl
+-- it happens, makes nothing of the head, and names no client that joins
+event_happens : (e : EventLine) → happening (happening_said e ∷ []) ≡ happening_said e ∷ []
+event_happens (event_lines.Hub event) = refl
+event_happens (event_lines.Link word event) = refl
+event_happens (event_lines.Call word call) = refl
+event_happens (event_lines.Passing word way) = refl
+event_happens (event_lines.Client word event) = refl
+event_happens (event_lines.Session word event) = refl
 
-event_heads : (head : Head) (e : Event) → with_head_line head (event_said e) ≡ head
-event_heads head (events.Joining word is_lone) = refl
-event_heads head (events.Hub event) = refl
-event_heads head (events.Link word event) = refl
-event_heads head (events.Call word call) = refl
-event_heads head (events.Passing word way) = refl
-event_heads head (events.Client word event) = refl
-event_heads head (events.Session word event) = refl
+event_heads : (head : Head) (e : EventLine) → with_head_line head (happening_said e) ≡ head
+event_heads head (event_lines.Hub event) = refl
+event_heads head (event_lines.Link word event) = refl
+event_heads head (event_lines.Call word call) = refl
+event_heads head (event_lines.Passing word way) = refl
+event_heads head (event_lines.Client word event) = refl
+event_heads head (event_lines.Session word event) = refl
 
--- ---- the words of the clients
+none-joins : (e : EventLine) → client_word (happening_said e) ≡ None
+none-joins (event_lines.Hub event) = refl
+none-joins (event_lines.Link word event) = refl
+none-joins (event_lines.Call word call) = refl
+none-joins (event_lines.Passing word way) = refl
+none-joins (event_lines.Client word event) = refl
+none-joins (event_lines.Session word event) = refl
 
--- a word, if there is one, in front of others
-pub onto_words : (word : Option Word) (words : List Word) → cons_option word words ≡ option_to_list word ++ words
-onto_words None words = refl
-onto_words (Some w) words = refl
+-- a line that happens, and its event
+events-then : (front : List ScriptLine) (line : ScriptLine) (links joined : List Word) (clients : List (Word × Bool)) (happened : List Event) (x : Event) → event_said links clients x ≡ line → happening (line ∷ []) ≡ line ∷ []
+    → IsNamed links clients joined x → AreEvents front links joined clients happened → AreEvents (front ++ line ∷ []) links (joined ++ option_to_list (client_word line)) clients (happened ++ x ∷ [])
+events-then front line links joined clients happened x says happens named are =
+    let more : each_said links clients (happened ++ x ∷ []) ≡ each_said links clients happened ++ line ∷ [] =
+    map-append (event_said links clients) happened (x ∷ []) ∙ ap (λ (l : ScriptLine). each_said links clients happened ++ l ∷ []) says in
+    record {
+      happen =
+          happening-more front line
+          ∙ ap (λ (ls : List ScriptLine). happening front ++ ls) happens
+          ∙ ap (λ (ls : List ScriptLine). ls ++ line ∷ []) are.happen
+          ∙ sym more;
+      named =
+          ap (filter_map client_word) more
+          ∙ filter_map-append client_word (each_said links clients happened) (line ∷ [])
+          ∙ (λ i. are.named i ++ (onto_words (client_word line) [] ∙ append-nil (option_to_list (client_word line))) i);
+      follow = follow-more links clients [] happened x are.follow (subst (λ (ws : List Word). IsNamed links clients ws x) (sym are.named) named);
+    }
 
-not_true : (b : Bool) → not b ≡ true → b ≡ false
-not_true true h = absurd cc
-not_true false h = refl
+event_adds : (all : List Word) (taken : Taken) (e : EventLine) (x : Event) → may_stand all (known_of taken) (happening_said e) ≡ true → StandsFor taken.links taken.clients e x
+    → Adds all taken (lines.Event e) (with_events taken (taken.events ++ x ∷ []) taken.clients)
+event_adds all taken e x h stands =
+    let joined = words_known taken.clients in
+    let same : joined ++ option_to_list (client_word (happening_said e)) ≡ joined = ap (λ (o : Option Word). joined ++ option_to_list o) (none-joins e) ∙ append-nil joined in
+    record {
+      fit = event_fits all taken e x h;
+      lines = λ front are. record {
+        events = λ more. (
+            let named = named-more taken.links joined taken.clients more x stands.1 in
+            subst (λ (ws : List Word). AreEvents (front ++ happening_said e ∷ []) taken.links ws (taken.clients ++ more) (taken.events ++ x ∷ [])) same
+            (events-then front (happening_said e) taken.links joined (taken.clients ++ more) taken.events x (named.0 ∙ stands.0) (event_happens e) named.1 (are.events more)));
+        head = head-then front taken (happening_said e) are ∙ event_heads (head_taken taken) e;
+        start = are.start;
+        distinct = are.distinct;
+      };
+    }
+
+-- ---- a client that joins
 
 -- no client has the word of one that is new
 among-known : (clients : List (Word × Bool)) (w : Word) → list_any (λ (v : Word). bytes_eq v w) (words_known clients) ≡ is_some (lone_in clients w)
@@ -233,53 +301,34 @@ among-known (e ∷ es) w = by (bytes_eq w e.0) refl (among-known es w)
     by true h rest = ap (λ (b : Bool). b || list_any (λ (v : Word). bytes_eq v w) (words_known es)) (either true h) ∙ ap (λ (b : Bool). is_some (option_map (λ (x : Word × Bool). x.1) (cond b (Some e) (find (λ (x : Word × Bool). bytes_eq w x.0) es)))) (sym h)
     by false h rest = ap (λ (b : Bool). b || list_any (λ (v : Word). bytes_eq v w) (words_known es)) (either false h) ∙ rest ∙ ap (λ (b : Bool). is_some (option_map (λ (x : Word × Bool). x.1) (cond b (Some e) (find (λ (x : Word × Bool). bytes_eq w x.0) es)))) (sym h)
 
--- the words with those of a client more
-words-more : (clients : List (Word × Bool)) (line : ScriptLine) → words_known (clients ++ client_added line) ≡ words_known clients ++ words_known (client_added line)
-words-more clients line = map-append (λ (e : Word × Bool). e.0) clients (client_added line)
-
-words-added : (e : Event) → words_known (client_added (event_said e)) ≡ option_to_list (client_word (event_said e))
-words-added (events.Joining word is_lone) = refl
-words-added (events.Hub event) = refl
-words-added (events.Link word event) = refl
-words-added (events.Call word call) = refl
-words-added (events.Passing word way) = refl
-words-added (events.Client word event) = refl
-words-added (events.Session word event) = refl
-
-words-then : (taken : Taken) (e : Event) → words_known (taken.clients ++ client_added (event_said e)) ≡ words_known taken.clients ++ option_to_list (client_word (event_said e))
-words-then taken e = words-more taken.clients (event_said e) ∙ ap (λ (ws : List Word). words_known taken.clients ++ ws) (words-added e)
+not_true : (b : Bool) → not b ≡ true → b ≡ false
+not_true true h = absurd cc
+not_true false h = refl
 
 distinct-new : (clients : List (Word × Bool)) (w : Word) → not (is_some (lone_in clients w)) ≡ true → AreDistinct (words_known clients) → AreDistinct (words_known clients ++ w ∷ [])
 distinct-new clients w h d = distinct_push bytes_eq (words_known clients) w d (among-known clients w ∙ not_true (is_some (lone_in clients w)) h)
 
-distinct-more : (all : List Word) (taken : Taken) (e : Event) → may_follow all (known_by taken.links taken.clients) (event_said e) ≡ true → AreDistinct (words_known taken.clients) → AreDistinct (words_known taken.clients ++ option_to_list (client_word (event_said e)))
-distinct-more all taken (events.Joining word is_lone) h d = distinct-new taken.clients (string_bytes word) h d
-distinct-more all taken (events.Hub event) h d = subst AreDistinct (sym (append-nil (words_known taken.clients))) d
-distinct-more all taken (events.Link word event) h d = subst AreDistinct (sym (append-nil (words_known taken.clients))) d
-distinct-more all taken (events.Call word call) h d = subst AreDistinct (sym (append-nil (words_known taken.clients))) d
-distinct-more all taken (events.Passing word way) h d = subst AreDistinct (sym (append-nil (words_known taken.clients))) d
-distinct-more all taken (events.Client word event) h d = subst AreDistinct (sym (append-nil (words_known taken.clients))) d
-distinct-more all taken (events.Session word event) h d = subst AreDistinct (sym (append-nil (words_known taken.clients))) d
-
-event_adds : (all : List Word) (taken : Taken) (e : Event) → may_stand all (known_of taken) (event_said e) ≡ true → Adds all taken (lines.Event e) (with_event taken e)
-event_adds all taken e h =
-    let more : events_said (taken.events ++ e ∷ []) ≡ events_said taken.events ++ event_said e ∷ [] = map-append event_said taken.events (e ∷ []) in
+joining_adds : (all : List Word) (taken : Taken) (word : String Global) (is_lone : Bool) → may_stand all (known_of taken) (joining (string_bytes word) is_lone) ≡ true
+    → Adds all taken (lines.Joining word is_lone) (with_events taken (taken.events ++ events.Joining (length taken.clients) ∷ []) (taken.clients ++ (string_bytes word, is_lone) ∷ []))
+joining_adds all taken word is_lone h =
+    let w = string_bytes word in
+    let number = length taken.clients in
+    let joined = words_known taken.clients in
+    let then = taken.clients ++ (w, is_lone) ∷ [] in
+    let words : words_known then ≡ joined ++ w ∷ [] = map-append (λ (e : Word × Bool). e.0) taken.clients ((w, is_lone) ∷ []) in
     record {
-      fit = event_fits all taken e h;
+      fit = allowed_some _ _ h ∙ known_then taken (events.Joining number) then;
       lines = λ front are. record {
-        happen =
-            happening-more front (event_said e)
-            ∙ ap (λ (ls : List ScriptLine). happening front ++ ls) (event_happens e)
-            ∙ ap (λ (ls : List ScriptLine). ls ++ event_said e ∷ []) are.happen
-            ∙ sym more;
-        head = head-then front taken (event_said e) are ∙ event_heads (head_taken taken) e;
+        events = λ more. (
+            let whole = taken.clients ++ (w, is_lone) ∷ more in
+            let same : whole ≡ then ++ more = sym (append_assoc taken.clients ((w, is_lone) ∷ []) more) in
+            let here : client_at whole number ≡ (w, is_lone) = client-here taken.clients (w, is_lone) more in
+            subst (λ (cs : List (Word × Bool)). AreEvents (front ++ joining w is_lone ∷ []) taken.links (words_known then) cs (taken.events ++ events.Joining number ∷ [])) same
+            (subst (λ (ws : List Word). AreEvents (front ++ joining w is_lone ∷ []) taken.links ws whole (taken.events ++ events.Joining number ∷ [])) (sym words)
+            (events-then front (joining w is_lone) taken.links joined whole taken.events (events.Joining number) (ap (λ (c : Word × Bool). joining c.0 c.1) here) refl (few-here taken.clients (w, is_lone) more) (are.events ((w, is_lone) ∷ more)))));
+        head = head-then front taken (joining w is_lone) are;
         start = are.start;
-        named =
-            ap (filter_map client_word) more
-            ∙ filter_map-append client_word (events_said taken.events) (event_said e ∷ [])
-            ∙ (λ i. are.named i ++ (onto_words (client_word (event_said e)) [] ∙ append-nil (option_to_list (client_word (event_said e)))) i)
-            ∙ sym (words-then taken e);
-        distinct = subst AreDistinct (sym (words-then taken e)) (distinct-more all taken e (sym (may-happen all taken e) ∙ h) are.distinct);
+        distinct = subst AreDistinct (sym words) (distinct-new taken.clients w (sym (some-allowed _ _) ∙ h) are.distinct);
       };
     }
 
@@ -296,4 +345,5 @@ adds all taken later (lines.Head line) h grows = by line h grows
     by (heads.Timers t) h grows = moved all taken _ later (lines.Head (heads.Timers t)) grows (head_adds all taken (heads.Timers t) _ _ _ h (timers_added taken t))
     by (heads.Zone z) h grows = moved all taken _ later (lines.Head (heads.Zone z)) grows.1 (head_adds all taken (heads.Zone z) _ _ _ h (zone_added taken later.homes z grows.0))
     by (heads.Link l) h grows = moved all taken _ later (lines.Head (heads.Link l)) grows.1 (head_adds all taken (heads.Link l) _ _ _ h (link_added taken later.homes l grows.0))
-adds all taken later (lines.Event e) h grows = moved all taken (with_event taken e) later (lines.Event e) grows (event_adds all taken e h)
+adds all taken later (lines.Joining word is_lone) h grows = moved all taken _ later (lines.Joining word is_lone) grows (joining_adds all taken word is_lone h)
+adds all taken later (lines.Event e) h grows = moved all taken _ later (lines.Event e) grows.2 (event_adds all taken e grows.0 h grows.1)

@@ -13,10 +13,11 @@ use Rattle.scripts.specs.Heads.{Head}
 use Rattle.scripts.specs.declared.line.Line.{Line}
 use Rattle.scripts.specs.declared.script.Script.{Script}
 use Rattle.scripts.specs.KeptLines.{said, words_of}
+use Rattle.scripts.specs.Events.{known_clients, words_known, Follow}
 use Rattle.scripts.specs.KeptScripts.{IsWhole, events_said, head_kept}
 use Rattle.scripts.specs.Drafts.{Taken, nothing_taken, known_of, may_stand, GrowsBy, head_of}
 use Rattle.scripts.proofs.lines.ClientLines.{left_more, left_none, outside_last}
-use Rattle.scripts.proofs.lines.MoreLines.{AreLines, no_lines, adds}
+use Rattle.scripts.proofs.lines.MoreLines.{AreLines, AreEvents, each_said, no_lines, adds}
 
 -- lines before those that are left
 abbrev pub onto : List ScriptLine → Result (List ScriptLine) ℕ → Result (List ScriptLine) ℕ
@@ -137,6 +138,7 @@ pub record IsOf (script : Script) (taken : Taken) : Type 0 where
   pub timers : script.timers ≡ unwrap_or taken.timers default_timers
   pub homes : script.homes ≡ taken.homes
   pub links : words_of script.links.items ≡ taken.links
+  pub clients : known_clients script.clients.items ≡ taken.clients
   pub events : script.events.items ≡ taken.events
 
 abbrev head_by : Timers → HomesKept → List Word → Head
@@ -145,6 +147,9 @@ head_by t homes links = record { timers = t; start = state_of homes; links = lin
 head_is : (script : Script) (taken : Taken) → IsOf script taken → head_kept script ≡ head_of taken.timers (state_of taken.homes) taken.links
 head_is script taken is = λ i. head_by (is.timers i) (is.homes i) (is.links i)
 
+follow_of : (script : Script) (taken : Taken) → IsOf script taken → Follow taken.links taken.clients [] taken.events → Follow (words_of script.links.items) (known_clients script.clients.items) [] script.events.items
+follow_of script taken is follow = subst (λ (t : Taken). Follow t.links t.clients [] t.events) (λ i. record taken { links = sym is.links i; clients = sym is.clients i; events = sym is.events i }) follow
+
 counted_all : (number : ℕ) (octets rest : List ℕ) → length rest ≡ 0 → number + length (lines_in rest) ≡ length (lines_in octets) → number ≡ length (lines_in octets)
 counted_all number octets [] none count = omega (arith, count)
 counted_all number octets (o ∷ os) none count = absurd (omega (arith, none))
@@ -152,7 +157,8 @@ counted_all number octets (o ∷ os) none count = absurd (omega (arith, none))
 pub ends : (octets : List ℕ) (script : Script) (taken : Taken) (number : ℕ) (rest : List ℕ) → IsOf script taken → script.lines ≡ number → SoFar octets taken number rest → length rest ≡ 0 → IsWhole octets script
 ends octets script taken number rest of lines so none =
     let is = left_none (too_long_of octets) rest none in
-    let happen : events_said taken.events ≡ events_said script.events.items = ap events_said (sym of.events) in
+    let are = subst (λ (cs : List (Word × Bool)). AreEvents so.front taken.links (words_known taken.clients) cs taken.events) (append-nil taken.clients) (so.are.events []) in
+    let happen : each_said taken.links taken.clients taken.events ≡ events_said script = λ i. each_said (sym of.links i) (sym of.clients i) (sym of.events i) in
     record {
       lines = so.front;
       read =
@@ -161,7 +167,8 @@ ends octets script taken number rest of lines so none =
           ∙ ap (λ (ls : List ScriptLine). Ok ls) (append-nil so.front);
       count = lines ∙ counted_all number octets rest none so.count;
       head = head_is script taken of ∙ sym so.are.head;
-      events = so.are.happen ∙ happen;
+      events = are.happen ∙ happen;
       start = subst (λ (hs : HomesKept). IsStart (state_of hs)) (sym of.homes) so.are.start;
-      distinct = subst AreDistinct (sym so.are.named ∙ ap (filter_map client_word) happen) so.are.distinct;
+      distinct = subst AreDistinct (sym are.named ∙ ap (filter_map client_word) happen) so.are.distinct;
+      follow = follow_of script taken of are.follow;
     }

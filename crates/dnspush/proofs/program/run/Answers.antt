@@ -1,4 +1,4 @@
-use Rattle.std.proofs.Common.{Some, None, sym, ◌∙◌, ap}
+use Rattle.std.proofs.Common.{Some, None, refl, sym, ◌∙◌, ap}
 use Rattle.scripts.proofs.ReadPieces.{lost_none}
 use Rattle.dnspush.specs.Command.{asked}
 use Rattle.dnspush.proofs.Running.{usage_answered, input_answered, path_answered, number_answered}
@@ -6,6 +6,7 @@ use Rattle.dnspush.proofs.Promises.{replies_written, promises_kept}
 use Rattle.dnspush.proofs.Following.{followed, not-followed, none-known}
 use Rattle.dnspush.proofs.Serving.{serves_so, not-served, none-known as none-known-served}
 use Rattle.dnspush.specs.Words.{On_input, At_path, Big, Serve, Subscribe}
+use Rattle.dnspush.proofs.Sharing.{not-shared, shares_so}
 use Rattle.dnspush.proofs.program.run.Goals as goal
 
 pub returns-in-None-clause-replied : goal.returns-in-None-clause-replied
@@ -119,3 +120,31 @@ returns-in-Some-Subscribe-clause-serves g c = λ octets.
 
 pub returns-in-Some-Big-clause-most : goal.returns-in-Some-Big-clause-most
 returns-in-Some-Big-clause-most g c = lost_none _ _
+
+pub returns-in-None-clause-shared : goal.returns-in-None-clause-shared
+returns-in-None-clause-shared g c = λ octets. not-shared _ None _ _ _ _ _ octets c.in-None.ensures refl
+
+pub returns-in-Some-OnInput-clause-shared : goal.returns-in-Some-OnInput-clause-shared
+returns-in-Some-OnInput-clause-shared g c = λ octets.
+    let is = ap (λ x. Some (asked x)) (sym c.in-Some-OnInput.field-0-is) ∙ c.in-Some-OnInput.ensures in
+    not-shared _ (Some (On_input c.in-Some-OnInput.task)) _ _ _ _ _ octets is refl
+
+pub returns-in-Some-AtPath-clause-shared : goal.returns-in-Some-AtPath-clause-shared
+returns-in-Some-AtPath-clause-shared g c = λ octets.
+    let is = ap (λ x. Some (asked x)) (sym c.in-Some-AtPath.field-0-is) ∙ c.in-Some-AtPath.ensures in
+    not-shared _ (Some (At_path c.in-Some-AtPath.task c.in-Some-AtPath.path.now)) _ _ _ _ _ octets is refl
+
+pub returns-in-Some-Big-clause-shared : goal.returns-in-Some-Big-clause-shared
+returns-in-Some-Big-clause-shared g c = λ octets.
+    let is = ap (λ x. Some (asked x)) (sym c.in-Some-Big.field-0-is) ∙ c.in-Some-Big.ensures in
+    not-shared _ (Some (Big c.in-Some-Big.number)) _ _ _ _ _ octets is refl
+
+pub returns-in-Some-Subscribe-clause-shared : goal.returns-in-Some-Subscribe-clause-shared
+returns-in-Some-Subscribe-clause-shared g c = λ octets.
+    let is = ap (λ x. Some (asked x)) (sym c.in-Some-Subscribe.field-0-is) ∙ c.in-Some-Subscribe.ensures in
+    not-shared _ (Some (Subscribe c.in-Some-Subscribe.path.now)) _ _ _ _ _ octets is refl
+
+pub returns-in-Some-Serve-clause-shared : goal.returns-in-Some-Serve-clause-shared
+returns-in-Some-Serve-clause-shared g c = λ octets.
+    let is = ap (λ x. Some (asked x)) (sym c.in-Some-Serve.field-0-is) ∙ c.in-Some-Serve.ensures in
+    shares_so _ c.in-Some-Serve.path.now _ _ _ _ _ _ octets is c.code-in-Some-Serve.ensures (c.serve_at.ensures.shared octets)

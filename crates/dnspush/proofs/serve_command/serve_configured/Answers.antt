@@ -1,11 +1,13 @@
-use Rattle.std.proofs.Common.{Bool, Err, sym, subst}
+use Rattle.std.proofs.Common.{Bool, Err, refl, sym, subst}
 use Rattle.push_outside.specs.Opening.{TellsWords}
 use Rattle.push_outside.specs.Outside.{Adds}
 use Rattle.scripts.specs.Lines.{Word}
-use Rattle.configurations.specs.Kept.{serving_kept}
+use Rattle.configurations.specs.Kept.{head_kept, serving_kept}
 use Rattle.serving.specs.Serving.{is_full_run}
-use Rattle.dnspush.specs.Serving.{ServesBy}
+use Rattle.pushserver.specs.KeptHubs.{KeptHub}
+use Rattle.dnspush.specs.Serving.{BeginsBy, ServesBy, first_hub}
 use Rattle.dnspush.proofs.Serving.{addresses_kept, links_kept, serves_listening, serves_through}
+use Rattle.dnspush.proofs.Sharing.{begins_none}
 use Rattle.dnspush.proofs.serve_command.serve_configured.Goals as goal
 
 pub returns-in-Ok-doors-clause-served : goal.returns-in-Ok-doors-clause-served
@@ -23,3 +25,10 @@ returns-clause-served g c =
     (serves_listening g.row.O-Doors.Denot (g.O.Outside.told c.args.outside.now) (g.O.Outside.told c.doors.new.self) (serving_kept c.args.configuration) c.in-Err.fault
     c.in-Err.ensures.told
     (subst (λ (w : Word). TellsWords {A = g.row.O-Doors.Denot} (g.O.Outside.told c.args.outside.now).listened (g.O.Outside.told c.doors.new.self).listened (Err c.in-Err.fault) w) c.as_str.ensures.value c.in-Err.ensures.listened))
+
+pub returns-in-Ok-doors-clause-shared : goal.returns-in-Ok-doors-clause-shared
+returns-in-Ok-doors-clause-shared g c =
+    subst (λ (h : KeptHub). BeginsBy (is_full_run c.serve_doors-end.result) h (g.W.Register.hubs c.args.register.now) (g.W.Register.hubs c.serve_doors-end.new.register)) c.in-Ok.ensures.kept c.serve_doors-end.ensures.shared
+
+pub returns-clause-shared : goal.returns-clause-shared
+returns-clause-shared g c = begins_none (is_full_run c.end_of.result) (first_hub (head_kept c.args.configuration)) (g.W.Register.hubs c.args.register.now) (g.W.Register.hubs c.args.register.now) c.end_of.ensures.less refl

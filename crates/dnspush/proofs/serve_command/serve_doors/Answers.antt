@@ -1,7 +1,8 @@
-use Rattle.std.proofs.Common.{Bool, map, string_bytes, sym, subst}
+use Rattle.std.proofs.Common.{Bool, map, string_bytes, refl, sym, subst}
 use Rattle.configurations.specs.declared.server_config.FedLink.{FedLink}
 use Rattle.serving.specs.Serving.{Accepts, is_full_run}
 use Rattle.dnspush.proofs.Serving.{accepted_none, hears_through}
+use Rattle.dnspush.proofs.Sharing.{begins_none, begins_one}
 use Rattle.dnspush.proofs.serve_command.serve_doors.Goals as goal
 
 pub returns-in-Ok-clause-heard : goal.returns-in-Ok-clause-heard
@@ -13,3 +14,9 @@ pub returns-in-Err-clause-accepted : goal.returns-in-Err-clause-accepted
 returns-in-Err-clause-accepted g c =
     subst (λ (t : Bool). Accepts t c.args.sessions (g.O.Doors.Doors.accepted c.args.doors.now) (g.O.Doors.Doors.accepted c.args.doors.now)) (sym c.end_of.ensures.less)
     (accepted_none c.args.sessions (g.O.Doors.Doors.accepted c.args.doors.now))
+
+pub returns-in-Ok-clause-shared : goal.returns-in-Ok-clause-shared
+returns-in-Ok-clause-shared g c = begins_one (is_full_run c.serve_setup.result) c.args.hub (g.W.Register.hubs c.args.register.now) (g.W.Register.hubs c.serve_setup.new.register) c.serve_setup.ensures.registered
+
+pub returns-in-Err-clause-shared : goal.returns-in-Err-clause-shared
+returns-in-Err-clause-shared g c = begins_none (is_full_run c.end_of.result) c.args.hub (g.W.Register.hubs c.args.register.now) (g.W.Register.hubs c.args.register.now) c.end_of.ensures.less refl

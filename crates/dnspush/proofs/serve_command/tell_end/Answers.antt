@@ -7,6 +7,7 @@ use Rattle.dnspush.specs.Status.{code_of}
 use Rattle.dnspush.specs.declared.status.Status.{Status}
 use Rattle.dnspush.specs.declared.status.Status.TheVariants as statuses
 use Rattle.dnspush.proofs.Serving.{tells_end}
+use Rattle.dnspush.proofs.Sharing.{gives_up, told_not}
 use Rattle.dnspush.proofs.serve_command.tell_end.Goals as goal
 
 pub returns-in-OutsideFault-clause-told : goal.returns-in-OutsideFault-clause-told
@@ -17,3 +18,9 @@ returns-in-NoMemory-clause-told g c = tells_end Outcome status_of outcomes.NoMem
 
 pub returns-in-Full-clause-told : goal.returns-in-Full-clause-told
 returns-in-Full-clause-told g c = tells_end Status code_of statuses.Full (statuses.Ended outcomes.WriteFault) _ _ _ _ _ ends.Full _ refl refl refl (inl (sym c.in-Full.is)) c.tell_status-in-Full.ensures.told
+
+pub returns-in-OutsideFault-clause-full_run : goal.returns-in-OutsideFault-clause-full_run
+returns-in-OutsideFault-clause-full_run g c = told_not _ _ (gives_up Status code_of statuses.OutsideFault (statuses.Ended outcomes.WriteFault) c.tell_status.result _ refl refl c.tell_status.ensures.cause)
+
+pub returns-in-NoMemory-clause-full_run : goal.returns-in-NoMemory-clause-full_run
+returns-in-NoMemory-clause-full_run g c = told_not _ _ (gives_up Outcome status_of outcomes.NoMemory outcomes.WriteFault c.tell.result _ refl refl c.tell.ensures.cause)

@@ -1,4 +1,5 @@
 use Rattle.std.proofs.Common.{arith, ◌<◌}
+use Rattle.hublock.proofs.Leading.{goes_on_by}
 use Rattle.hublock.proofs.LineReads.{ended_at_once, ended_at_turns, ended_after_none}
 use Rattle.hublock.proofs.reader.offer.Goals as goal
 
@@ -6,7 +7,7 @@ pub returns-then-done : goal.returns-then-done
 returns-then-done g c = record { run = ended_at_once c.args.session (g.G.Gate.state c.args.gate.now) (g.G.Gate.state c.done.new.self) c.args.piece.now c.args.turns c.done.result c.done.ensures.same c.done.ensures.answer c.if-done.true c.requires.goes_on }
 
 pub returns-then-turns-eq0 : goal.returns-then-turns-eq0
-returns-then-turns-eq0 g c = record { run = ended_at_turns c.args.session (g.G.Gate.state c.args.gate.now) (g.G.Gate.state c.done.new.self) c.args.piece.now c.args.turns c.done.ensures.same c.if-turns-eq0.true }
+returns-then-turns-eq0 g c = record { run = ended_at_turns c.args.session (g.G.Gate.state c.args.gate.now) (g.G.Gate.state c.done.new.self) c.args.piece.now c.args.turns c.done.ensures.same c.if-turns-eq0.true (goes_on_by (g.G.Gate.state c.args.gate.now) (g.G.Gate.state c.done.new.self) c.done.result c.done.ensures.same c.done.ensures.answer c.if-done.false) }
 
 pub returns-then-done-2 : goal.returns-then-done-2
 returns-then-done-2 g c =

@@ -5,7 +5,7 @@ use Rattle.replay.specs.Text.{cuts}
 use Rattle.replay.specs.KeptWorlds.{parties_of}
 use Rattle.replay.specs.KeptSeats.{HasCut}
 use Rattle.replay.proofs.worlds.Doing.{if_acts, cuts-act}
-use Rattle.replay.proofs.worlds.Seats.{place-known, calls-moved}
+use Rattle.replay.proofs.worlds.Seats.{calls-moved}
 use Rattle.replay.proofs.worlds.SeatsDoing.{cuts-seat}
 use Rattle.replay.proofs.event_lines.cut_line.Goals as goal
 
@@ -18,7 +18,7 @@ returns-in-Some c =
     let known = parties_of world in
     let place = c.in-Some.place in
     let changed = c.cut_at.new.seats in
-    let at = place-known w seats c.deref.result.now c.place_of.result c.deref.ensures.value c.place_of.ensures.place ∙ c.in-Some.is in
+    let at = c.requires.at ∙ c.in-Some.is in
     let calls = calls-moved (HasCut world.hub c.cut_at.new.hub) cut_seat seats c.deref_mut.result.now changed _ place c.deref_mut.ensures.value
     (with_items_is world.seats changed (c.cut_at.auto.seats ∙ c.deref_mut.ensures.len)) c.cut_at.ensures in
     if_acts (cuts w) world.hub c.cut_at.new.hub known _ (codes "cut " ++ (w ++ 10 ∷ [])) c.cut_text.result
@@ -31,6 +31,6 @@ returns-in-None c =
     let world = c.args.world.now in
     let known = parties_of world in
     let known_later = parties_of c.cut.new.self in
-    let none = place-known w world.seats.items c.deref.result.now c.place_of.result c.deref.ensures.value c.place_of.ensures.place ∙ c.in-None.is in
+    let none = c.requires.at ∙ c.in-None.is in
     if_acts (cuts w) world.hub c.cut.new.self.hub known known_later (codes "cut " ++ (w ++ 10 ∷ [])) c.cut_text-in-None.result
     (λ written is. cuts-act world.hub c.cut.new.self.hub known known_later w written none c.cut.ensures is) c.cut_text-in-None.ensures

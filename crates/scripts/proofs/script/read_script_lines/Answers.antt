@@ -6,6 +6,7 @@ use Rattle.push_base.specs.Cases.{is_empty}
 use Rattle.scripts.specs.Lines.{Word, ScriptLine}
 use Rattle.scripts.specs.KeptLines.{said, words_of}
 use Rattle.scripts.specs.declared.line.Line.{Line}
+use Rattle.scripts.specs.Events.{known_clients}
 use Rattle.scripts.specs.Drafts.{taken_of, TakesLine}
 use Rattle.scripts.proofs.lines.SoFar.{IsOf, clients_of, begun, outside, unread, unfit, more, ends}
 use Rattle.scripts.proofs.script.read_script_lines.Goals as goal
@@ -51,5 +52,5 @@ lines-preserved c =
 pub returns : goal.returns
 returns c =
     let none : length c.lines.rest.now ≡ 0 = grind arith in
-    let of : IsOf c.finish.result (taken_of c.lines.draft) = record { timers = c.finish.ensures.timers; homes = c.finish.ensures.homes; links = ap words_of c.finish.ensures.links; events = c.finish.ensures.events } in
+    let of : IsOf c.finish.result (taken_of c.lines.draft) = record { timers = c.finish.ensures.timers; homes = c.finish.ensures.homes; links = ap words_of c.finish.ensures.links; clients = ap known_clients c.finish.ensures.clients; events = c.finish.ensures.events } in
     ends c.args.octets.now c.finish.result (taken_of c.lines.draft) c.lines.number c.lines.rest.now of c.finish.ensures.lines c.lines.invariant none

@@ -1,0 +1,120 @@
+use Rattle.std.proofs.Common.{◌≡◌, ℕ, Bool, List, Some, sym, ap, subst, ◌∙◌}
+use Rattle.std.specs.Prelude.{position}
+use Rattle.scripts.specs.Lines.{Word}
+use Rattle.scripts.specs.KeptLines.{words_of}
+use Rattle.scripts.specs.Events.{client_at, known_clients, link_at, IsNamed}
+use Rattle.replay.specs.KeptWorlds.{seated, words_seated}
+use Rattle.replay.specs.KeptSeats.{has_word}
+use Rattle.replay.proofs.worlds.SeatNumbers.{seat-at, seat-within, known-at, few-known}
+use Rattle.replay.proofs.event_lines.event_line.Goals as goal
+
+pub bounds-clients-client : goal.bounds-clients-client
+bounds-clients-client c =
+    let links = words_of c.args.world.now.links.items in
+    let clients = known_clients c.args.clients.now in
+    let items = c.args.world.now.seats.items in
+    let before = words_seated (seated items) in
+    few-known c.args.clients.now c.in-Joining.client (subst (IsNamed links clients before) c.in-Joining.is c.requires)
+
+pub word_of-requires : goal.word_of-requires
+word_of-requires c =
+    let links = words_of c.args.world.now.links.items in
+    let clients = known_clients c.args.clients.now in
+    let items = c.args.world.now.seats.items in
+    let before = words_seated (seated items) in
+    few-known c.args.clients.now c.in-Call.client (subst (IsNamed links clients before) c.in-Call.is c.requires).0
+
+pub call_line-requires-clause-at : goal.call_line-requires-clause-at
+call_line-requires-clause-at c =
+    let links = words_of c.args.world.now.links.items in
+    let clients = known_clients c.args.clients.now in
+    let items = c.args.world.now.seats.items in
+    let before = words_seated (seated items) in
+    subst (λ (w : Word). position (has_word w) (seated items) ≡ Some c.in-Call.client) (sym c.word_of.ensures) (seat-at items (client_at clients c.in-Call.client).0 c.in-Call.client (subst (IsNamed links clients before) c.in-Call.is c.requires).1)
+
+pub call_line-requires-clause-within : goal.call_line-requires-clause-within
+call_line-requires-clause-within c =
+    let links = words_of c.args.world.now.links.items in
+    let clients = known_clients c.args.clients.now in
+    let items = c.args.world.now.seats.items in
+    let before = words_seated (seated items) in
+    seat-within items (client_at clients c.in-Call.client).0 c.in-Call.client (subst (IsNamed links clients before) c.in-Call.is c.requires).1
+
+pub returns-in-Call : goal.returns-in-Call
+returns-in-Call c = rw (c.in-Call.is, ← c.word_of.ensures) c.call_line.ensures
+
+pub word_of-requires-in-Passing : goal.word_of-requires-in-Passing
+word_of-requires-in-Passing c =
+    let links = words_of c.args.world.now.links.items in
+    let clients = known_clients c.args.clients.now in
+    let items = c.args.world.now.seats.items in
+    let before = words_seated (seated items) in
+    few-known c.args.clients.now c.in-Passing.client (subst (IsNamed links clients before) c.in-Passing.is c.requires).0
+
+pub passing_line-requires-clause-at : goal.passing_line-requires-clause-at
+passing_line-requires-clause-at c =
+    let links = words_of c.args.world.now.links.items in
+    let clients = known_clients c.args.clients.now in
+    let items = c.args.world.now.seats.items in
+    let before = words_seated (seated items) in
+    subst (λ (w : Word). position (has_word w) (seated items) ≡ Some c.in-Passing.client) (sym c.word_of-in-Passing.ensures) (seat-at items (client_at clients c.in-Passing.client).0 c.in-Passing.client (subst (IsNamed links clients before) c.in-Passing.is c.requires).1)
+
+pub passing_line-requires-clause-within : goal.passing_line-requires-clause-within
+passing_line-requires-clause-within c =
+    let links = words_of c.args.world.now.links.items in
+    let clients = known_clients c.args.clients.now in
+    let items = c.args.world.now.seats.items in
+    let before = words_seated (seated items) in
+    seat-within items (client_at clients c.in-Passing.client).0 c.in-Passing.client (subst (IsNamed links clients before) c.in-Passing.is c.requires).1
+
+pub returns-in-Passing : goal.returns-in-Passing
+returns-in-Passing c = rw (c.in-Passing.is, ← c.word_of-in-Passing.ensures) c.passing_line.ensures
+
+pub word_of-requires-in-Client : goal.word_of-requires-in-Client
+word_of-requires-in-Client c =
+    let links = words_of c.args.world.now.links.items in
+    let clients = known_clients c.args.clients.now in
+    let items = c.args.world.now.seats.items in
+    let before = words_seated (seated items) in
+    few-known c.args.clients.now c.in-Client.client (subst (IsNamed links clients before) c.in-Client.is c.requires).0
+
+pub client_line-requires-clause-at : goal.client_line-requires-clause-at
+client_line-requires-clause-at c =
+    let links = words_of c.args.world.now.links.items in
+    let clients = known_clients c.args.clients.now in
+    let items = c.args.world.now.seats.items in
+    let before = words_seated (seated items) in
+    subst (λ (w : Word). position (has_word w) (seated items) ≡ Some c.in-Client.client) (sym c.word_of-in-Client.ensures) (seat-at items (client_at clients c.in-Client.client).0 c.in-Client.client (subst (IsNamed links clients before) c.in-Client.is c.requires).1)
+
+pub client_line-requires-clause-within : goal.client_line-requires-clause-within
+client_line-requires-clause-within c =
+    let links = words_of c.args.world.now.links.items in
+    let clients = known_clients c.args.clients.now in
+    let items = c.args.world.now.seats.items in
+    let before = words_seated (seated items) in
+    seat-within items (client_at clients c.in-Client.client).0 c.in-Client.client (subst (IsNamed links clients before) c.in-Client.is c.requires).1
+
+pub returns-in-Client : goal.returns-in-Client
+returns-in-Client c = rw (c.in-Client.is, ← c.word_of-in-Client.ensures) c.client_line.ensures
+
+pub returns-in-Joining : goal.returns-in-Joining
+returns-in-Joining c = rw (c.in-Joining.is, known-at c.args.clients.now c.in-Joining.client c.index-clients-client.result (few-known c.args.clients.now c.in-Joining.client (subst (IsNamed (words_of c.args.world.now.links.items) (known_clients c.args.clients.now) (words_seated (seated c.args.world.now.seats.items))) c.in-Joining.is c.requires)) c.index-clients-client.is) c.client_joins.ensures
+
+pub returns-in-Link : goal.returns-in-Link
+returns-in-Link c =
+    let links = words_of c.args.world.now.links.items in
+    let clients = known_clients c.args.clients.now in
+    let items = c.args.world.now.seats.items in
+    let before = words_seated (seated items) in
+    rw c.in-Link.is (c.link_line.ensures (link_at links c.in-Link.link) (subst (IsNamed links clients before) c.in-Link.is c.requires))
+
+pub party_line-requires : goal.party_line-requires
+party_line-requires c =
+    let links = words_of c.args.world.now.links.items in
+    let clients = known_clients c.args.clients.now in
+    let items = c.args.world.now.seats.items in
+    let before = words_seated (seated items) in
+    subst (IsNamed links clients before) c.in-Session.is c.requires
+
+pub returns-in-Session : goal.returns-in-Session
+returns-in-Session c = rw c.in-Session.is c.party_line.ensures

@@ -1,0 +1,3 @@
+pub mod KindsApart
+pub mod RdataKeys
+pub mod ShownBoth

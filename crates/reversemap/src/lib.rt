@@ -1,0 +1,30 @@
+//! Records of a link under its reverse domains (RFC 8766, 5.4).
+#![tactic(auto)]
+
+pub mod laws;
+mod reverse;
+
+ghost use Rattle.std.specs.Prelude.{◌≡◌, ◌∷◌, [], true, false, codes, Some, None};
+ghost use Rattle.push_base.specs.Hexadecimal.{hex};
+ghost use Rattle.dnsname.specs.Names.{octets};
+ghost use Rattle.dnsname.specs.Text.{name};
+ghost use Rattle.reversemap.specs.Reverse.{is_reverse_domain, is_reverse_usable, reverse_shown_as, reverse_heard_as};
+ghost use Rattle.reversemap.specs.BothKinds.{is_used, shown_of};
+ghost use Rattle.reversemap.specs.Worked.{lan, reverses, no_cap, at_address, pointing_to};
+
+pub use reverse::{is_reverse_domain, reverse_back, reverse_show, reverse_usable};
+
+/// Examples of what is shown under a reverse domain, and heard back.
+pub fn worked_rows()
+    ensures form { is_reverse_domain (name (codes "2.0.192.IN-ADDR.arpa.")) ≡ true }
+    ensures other_form { is_reverse_domain (name (codes "example.org.")) ≡ false }
+    ensures usable { is_reverse_usable lan reverses (pointing_to (codes "h.local.")) ≡ true }
+    ensures names_the_domain { is_used lan reverses (pointing_to (codes "h.lan.example.com.")) ≡ false }
+    ensures elsewhere { is_used lan reverses (record (pointing_to (codes "h.local.")) { owner = name (codes "1.3.0.192.in-addr.arpa.") }) ≡ false }
+    ensures shown { reverse_shown_as lan no_cap (pointing_to (codes "h.local.")) ≡ pointing_to (codes "h.lan.example.com.") }
+    ensures capped { shown_of lan 10 (pointing_to (codes "h.local.")) ≡ Some (record (pointing_to (codes "h.lan.example.com.")) { ttl = 10 }) }
+    ensures other_name { reverse_shown_as lan no_cap (pointing_to (codes "h.example.net.")) ≡ pointing_to (codes "h.example.net.") }
+    ensures back { reverse_heard_as lan (record (pointing_to (codes "h.LAN.example.com.")) { ttl = 0 }) ≡ Some (record (pointing_to (codes "h.local.")) { ttl = 0 }) }
+    ensures not_back { reverse_heard_as lan (pointing_to (codes "h.local.")) ≡ None }
+    ensures address { shown_of lan no_cap (at_address 1 (hex (codes "a9fe0102"))) ≡ Some (at_address 1 (hex (codes "a9fe0102"))) }
+{}
