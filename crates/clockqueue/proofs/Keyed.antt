@@ -243,9 +243,6 @@ slice_get-here [] n x within is = absurd (omega arith)
 slice_get-here (y ∷ ys) zero x within is = ap Some (sym is)
 slice_get-here (y ∷ ys) (suc n) x within is = slice_get-here ys n x (omega arith) is
 
-pub slice_get-seen : {X : Type 0} (xs now : List X) (n : ℕ) (x : X) → now ≡ xs → n < length now → ((d : X) → x ≡ get_or now n d) → slice_get xs n ≡ Some x
-slice_get-seen xs now n x seen within is = ap (λ l. slice_get l n) (sym seen) ∙ slice_get-here now n x within (is x)
-
 -- ---- the map that deadlines are
 
 module _ {K : Type 0} {cmp : K → K → Ordering} (o : IsTotalOrder cmp) where

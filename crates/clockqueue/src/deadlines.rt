@@ -1,33 +1,37 @@
 //! A finite map from keys to moments, kept in the order in which the keys fall due.
 
-ghost use Rattle.std.specs.Prelude.{◌≡◌, ◌≤◌, ◌+◌, ◌⊎◌, [], Some, None, MatchOption, IsOk, IsTrue, OnOk, OnErr, is_some, option_map, slice_get, find, position, drop, if◌then◌else◌};
+ghost use Rattle.std.specs.Prelude.{◌≡◌, ◌≤◌, ◌<◌, ◌+◌, ◌⊎◌, [], length, Some, None, MatchOption, IsOk, IsTrue, OnOk, OnErr, is_some, option_map, slice_get, slice_index_or, find, position, drop, if◌then◌else◌};
+ghost use Rattle.std.specs.List.{remove};
 ghost use Rattle.std.specs.Result.{IfOk, IfErr};
+ghost use Rattle.std.specs.VecDeque.{deque_len, deque_capacity};
 ghost use Rattle.clockqueue.specs.Deadlines.{AreDeadlines, due_cmp, is_of, is_set_to, moment_of, without, with_deadline, due, first_moment};
 ghost use Rattle.clockqueue.specs.Places.{IsAt, IsGapFor};
 
 use crate::NoMemory;
 use std::alloc::Global;
 use std::cmp::Ordering;
+use std::collections::VecDeque;
 use std::marker::Model;
 
 /// Moments in milliseconds, one for each key: a finite map from keys to moments, listed by moment and then by key. It
 /// has room for a number of further keys.
 ///
-/// It is kept as a vector in the order in which the keys fall due. `add` and `take_at`, which know the moment, find its
-/// place by halving; `set` and `drop_key` look at each key. What lies behind a place moves where a deadline comes or goes.
+/// It is kept as a queue with two ends, in the order in which the keys fall due. `add` and `take_at`, which know the
+/// moment, find its place by halving; `set` and `drop_key` look at each key. Where a deadline comes or goes, those before
+/// its place or those behind it move, whichever are fewer: a key that goes from first to last moves no other.
 #[derive(Debug, Drop)]
 pub struct Deadlines<K: Ord> {
-    entries: Vec<(u64, K)>,
+    entries: VecDeque<(u64, K)>,
 }
 
 impl<K: Ord> Model for Deadlines<K> {
     ghost use Rattle.std.specs.Prelude.{◌-◌};
-    ghost use Rattle.std.specs.Vec.{vec_len, vec_capacity};
+    ghost use Rattle.std.specs.VecDeque.{deque_len, deque_capacity};
     ghost use Rattle.clockqueue.specs.Deadlines.{DeadlinesState, AreDeadlines};
 
     ghost Value = { DeadlinesState K };
 
-    ghost view = { λ d. record { deadlines = d.entries.items; spare = vec_capacity d.entries - vec_len d.entries } };
+    ghost view = { λ d. record { deadlines = d.entries.items; spare = deque_capacity d.entries - deque_len d.entries } };
 
     ghost invariant = { λ d. AreDeadlines K.cmp d.entries.items };
 }
@@ -40,21 +44,45 @@ fn compare<K: Ord>(deadline: &(u64, K), moment: u64, key: &K) -> Ordering
 }
 
 /// Where a deadline is, or where it would go.
-fn search<K: Ord>(entries: &[(u64, K)], moment: u64, key: &K) -> Result<usize, usize>
-    requires { AreDeadlines K.cmp entries.now }
-    ensures found { IfOk result (IsAt K.cmp moment key.now entries.now) }
-    ensures absent { IfErr result (IsGapFor K.cmp moment key.now entries.now) }
+fn search<K: Ord>(entries: &VecDeque<(u64, K)>, moment: u64, key: &K) -> Result<usize, usize>
+    requires { AreDeadlines K.cmp entries.now.items }
+    ensures found { IfOk result (IsAt K.cmp moment key.now entries.now.items) }
+    ensures absent { IfErr result (IsGapFor K.cmp moment key.now entries.now.items) }
 {
     entries.binary_search_by(|deadline| compare(deadline, moment, key))
 }
 
 /// Where a key's deadline is.
-fn position<K: Ord>(entries: &[(u64, K)], key: &K) -> Option<usize>
-    ensures { result ≡ position (is_of K.cmp key.now) entries.now }
+fn position<K: Ord>(entries: &VecDeque<(u64, K)>, key: &K) -> Option<usize>
+    ensures { result ≡ position (is_of K.cmp key.now) entries.now.items }
 {
-    entries
-        .iter()
-        .position(|deadline| deadline.1.cmp(key).is_eq())
+    'places: for index in 0..entries.len() {
+        if entries[index].1.cmp(key).is_eq() {
+            return Some(index);
+        }
+    }
+    None
+}
+
+/// The deadline with a number, counted from 0.
+fn nth<K>(entries: &VecDeque<(u64, K)>, number: usize) -> Option<&(u64, K)>
+    ensures { MatchOption result (slice_get entries.now.items number ≡ None) (λ d. slice_get entries.now.items number ≡ Some d.now) }
+{
+    entries.get(number)
+}
+
+/// Takes out the deadline at an index.
+fn remove_at<K: Drop>(entries: &mut VecDeque<(u64, K)>, index: usize) -> (u64, K)
+    requires { index < length entries.old.items }
+    ensures value { result ≡ slice_index_or entries.old.items index result }
+    ensures items { entries.new.items ≡ remove entries.old.items index }
+    ensures len { deque_len entries.new + 1 ≡ deque_len entries.old }
+    ensures capacity { deque_capacity entries.new ≡ deque_capacity entries.old }
+{
+    match entries.remove(index) {
+        Some(deadline) => deadline,
+        None => unreachable!(),
+    }
 }
 
 impl<K: Ord + Drop> Deadlines<K> {
@@ -63,7 +91,7 @@ impl<K: Ord + Drop> Deadlines<K> {
         ensures { result.deadlines ≡ [] }
     {
         Deadlines {
-            entries: Vec::new(alloc),
+            entries: VecDeque::new(alloc),
         }
     }
 
@@ -72,15 +100,25 @@ impl<K: Ord + Drop> Deadlines<K> {
         requires { AreDeadlines K.cmp entries.items }
         ensures { result.deadlines ≡ entries.items }
     {
-        Deadlines { entries }
+        Deadlines {
+            entries: VecDeque::from_vec(entries),
+        }
     }
 
-    /// All deadlines, in the order in which they fall due.
-    pub fn entries(&self) -> &[(u64, K)]
-        ensures deadlines { result.now ≡ self.now.deadlines }
-        ensures order { AreDeadlines K.cmp result.now }
+    /// How many deadlines there are.
+    pub fn len(&self) -> usize
+        ensures length { result ≡ length self.now.deadlines }
+        ensures order { AreDeadlines K.cmp self.now.deadlines }
     {
-        &self.entries
+        self.entries.len()
+    }
+
+    /// The deadline with a number, counted from 0 in the order in which they fall due.
+    pub fn at(&self, number: usize) -> &(u64, K)
+        requires { number < length self.now.deadlines }
+        ensures { result.now ≡ slice_index_or self.now.deadlines number result.now }
+    {
+        &self.entries[number]
     }
 
     /// Makes room for so many further keys. Where memory runs out the deadlines and the room stay.
@@ -129,7 +167,7 @@ impl<K: Ord + Drop> Deadlines<K> {
     {
         match position(&self.entries, key) {
             Some(index) => {
-                self.entries.remove(index);
+                remove_at(&mut self.entries, index);
                 true
             }
             None => false,
@@ -145,7 +183,7 @@ impl<K: Ord + Drop> Deadlines<K> {
     {
         match search(&self.entries, moment, key) {
             Ok(index) => {
-                let (_, key) = self.entries.remove(index);
+                let (_, key) = remove_at(&mut self.entries, index);
                 Some(key)
             }
             Err(_) => None,
@@ -160,11 +198,11 @@ impl<K: Ord + Drop> Deadlines<K> {
         ensures room { IsTrue (is_some result) → self.old.spare + 1 ≤ self.new.spare }
         ensures kept { self.old.spare ≤ self.new.spare }
     {
-        let first = self.entries.first()?;
+        let first = nth(&self.entries, 0)?;
         if first.0 > moment {
             return None;
         }
-        let (_, key) = self.entries.remove(0);
+        let (_, key) = remove_at(&mut self.entries, 0);
         Some(key)
     }
 
@@ -173,7 +211,7 @@ impl<K: Ord + Drop> Deadlines<K> {
     pub fn due(&self, moment: u64, number: usize) -> Option<&K>
         ensures { MatchOption result (slice_get (due moment self.now.deadlines) number ≡ None) (λ key. option_map (λ d. d.1) (slice_get (due moment self.now.deadlines) number) ≡ Some key.now) }
     {
-        let deadline = self.entries.get(number)?;
+        let deadline = nth(&self.entries, number)?;
         if deadline.0 > moment {
             return None;
         }
@@ -185,7 +223,7 @@ impl<K: Ord + Drop> Deadlines<K> {
         ensures moment { result ≡ first_moment self.now.deadlines }
         ensures order { AreDeadlines K.cmp self.now.deadlines }
     {
-        let first = self.entries.first()?;
+        let first = nth(&self.entries, 0)?;
         Some(first.0)
     }
 }

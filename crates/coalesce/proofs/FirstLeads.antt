@@ -26,7 +26,7 @@ use Rattle.dsotlv.specs.declared.message.Notice.TheVariants.{RemoveClass}
 use Rattle.dsotlv.specs.Answers.{push_message}
 use Rattle.coalesce.specs.Net.{additions, all_anew, max_net_message}
 use Rattle.coalesce.specs.Laws.{can_be_sent, is_side, speaks_of}
-use Rattle.coalesce.specs.Waiting.{WaitingName, differs, is_changed, is_named, old_side, new_side}
+use Rattle.coalesce.specs.Waiting.{WaitingName, differs, is_changed, is_named, old_side, new_side, records_then}
 use Rattle.coalesce.specs.FirstAnswers.{wanted_with, told_first}
 use Rattle.coalesce.specs.FirstLaws.{IsAskedWith, FirstFillsTheNew, FirstLeadsTheOthers, FirstAnewLeadsFromAny, FirstAddsNothingKnown, FirstLeavesOtherNames, FirstFitsOneMessage, FirstIsReadBack}
 use Rattle.coalesce.proofs.AtKeys.{in_order-applied_all, shown_at-additions}
@@ -130,10 +130,10 @@ at_name-same a b rows same = ap (λ (l : Labels). only (λ key. bytes_eq (octets
 
 -- what a question was sent of a name that has not changed is what it matches now
 sent_is_now : (asked : Asked) (rows : RecordSet) (name : Labels) (w : WaitingName) (id : ℕ) (other : Question) → is_named name w ≡ true → Contains asked (id, other) → is_changed asked rows w ≡ false
-    → matching other w.old ≡ matching other (at_name name rows)
+    → matching other (records_then rows w) ≡ matching other (at_name name rows)
 sent_is_now asked rows name w id other named among same =
-    sym (matching-only (λ k. wants k asked) other (wants_of asked id other among) w.old)
-    ∙ ap (matching other) (same_rows-same (old_side asked w) (new_side asked rows w) (not-false (same_rows (old_side asked w) (new_side asked rows w)) same))
+    sym (matching-only (λ k. wants k asked) other (wants_of asked id other among) (records_then rows w))
+    ∙ ap (matching other) (same_rows-same (old_side asked rows w) (new_side asked rows w) (not-false (same_rows (old_side asked rows w) (new_side asked rows w)) same))
     ∙ matching-only (λ k. wants k asked) other (wants_of asked id other among) (at_name w.name rows)
     ∙ ap (matching other) (at_name-same w.name name rows named)
 
@@ -147,11 +147,11 @@ first_leads_the_others question asked rows (Some w) id other one waits among = b
     is : Side one.0 there
     is = side one.0 there one.1
 
-    was : Side w.name w.old
-    was = side w.name w.old waits.1
+    was : Side w.name (records_then rows w)
+    was = side w.name (records_then rows w) waits.1
 
-    by : (b : Bool) → is_changed asked rows w ≡ b → applied_all (told_first b question (λ key. wants key asked) there) other (matching other w.old) ≡ matching other there
-    by true changed = anew_leads_any question asked there w.old other is.order is.own was.order (takes_side w.name question.name w.old waits.0 was) (inr (id, among))
+    by : (b : Bool) → is_changed asked rows w ≡ b → applied_all (told_first b question (λ key. wants key asked) there) other (matching other (records_then rows w)) ≡ matching other there
+    by true changed = anew_leads_any question asked there (records_then rows w) other is.order is.own was.order (takes_side w.name question.name (records_then rows w) waits.0 was) (inr (id, among))
     by false same =
         ap (applied_all (additions (matching question there)) other) (sent_is_now asked rows question.name w id other waits.0 among same)
         ∙ additions_known question other there is.order is.own

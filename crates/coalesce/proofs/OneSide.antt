@@ -1,5 +1,5 @@
 -- What is found among the records of one name.
-use Rattle.std.proofs.Common.{◌≡◌, ℕ, ◌<◌, ◌^◌, Bool, true, false, cond, not, ◌||◌, ◌&&◌, [], ◌∷◌, length, get_or, Result, Some, None, Ok, Err, subst, sym, ap, refl, ◌∙◌}
+use Rattle.std.proofs.Common.{◌≡◌, ℕ, ◌<◌, ◌^◌, Bool, true, false, cond, not, ◌||◌, ◌&&◌, [], ◌∷◌, length, Result, None, Ok, Err, subst, sym, ap, refl, ◌∙◌}
 use Rattle.std.specs.Prelude.{◌==◌}
 use Rattle.std.specs.Ordering.{is_gt, ordering_index}
 use Rattle.std.specs.FinMap.Entries.{below_all}
@@ -9,16 +9,17 @@ use Rattle.std.proofs.lemmas.Bool.{and_parts}
 use Rattle.std.proofs.lemmas.List.Sorted.{searchable_from_sorted}
 use Rattle.push_base.specs.Cases.{is_empty}
 use Rattle.rrset.specs.Records.{key_cmp}
+use Rattle.rrset.specs.KeyedRows.{Rows, is_rising}
 use Rattle.rrset.specs.RecordSet.{RecordSet, is_in_order, shows_its_key, only, shown_at}
 use Rattle.rrset.specs.declared.record.Key.{Key}
 use Rattle.rrset.specs.declared.record.Shown.{Shown}
-use Rattle.rrset.proofs.InOrder.{InOrder}
 use Rattle.rrset.proofs.KeyOrder.{key_cmp_total}
 use Rattle.rrset.proofs.Sets.{shown_at-only}
-use Rattle.rrset.proofs.Places.{and_right, sorted_by, stands_at, goes_to}
+use Rattle.rrset.proofs.Places.{and_right, sorted_by, StandsAt, stands_at, GoesTo, goes_to}
 use Rattle.coalesce.specs.Laws.{is_sent_so}
 use Rattle.coalesce.specs.Net.{of_kind}
 use Rattle.coalesce.specs.Sides.{IsOneSide}
+use Rattle.coalesce.proofs.Filters.{truth, holds}
 use Rattle.coalesce.proofs.Sides.{sent, side, is_side-from, parts_stay_sides}
 
 -- the first of them has rdata as short as a message's
@@ -41,6 +42,9 @@ rest_side rows e es is same = by (subst IsOneSide same is)
             sent = (and_parts (is_sent_so name e) (list_all (is_sent_so name) es) all.sent).1;
           }),
         )
+
+pub one_side_order : (rows : RecordSet) → IsOneSide rows → is_in_order rows ≡ true
+one_side_order rows (name, one) = truth (is_in_order rows) (side name rows one).order
 
 pub some_of_kind : (p : Key → Bool) (kind : ℕ) (rows : RecordSet) → list_any (λ e. e.0.kind == kind && p e.0) rows ≡ not (is_empty (of_kind kind (only p rows)))
 some_of_kind p kind [] = refl
@@ -69,20 +73,21 @@ asked p key rows is = shown_at-only p key rows ∙ ap (λ (b : Bool). cond b (sh
 pub only_one_side : (p : Key → Bool) (rows : RecordSet) → IsOneSide rows → IsOneSide (only p rows)
 only_one_side p rows (name, one) = (name, (parts_stay_sides name p rows one).0)
 
--- ---- a search
+-- ---- a search, whatever stands at the keys
 
-keys_rise : (key : Key) (rows : RecordSet) → InOrder rows → IsNonDecreasingBy (λ e. ordering_index (key_cmp e.0 key)) rows
-keys_rise key rows order =
-    searchable_from_sorted key_cmp_total (λ (e : Key × Shown). e.0) rows key
-    (sorted_by key_cmp_total key_cmp key_cmp_total (λ e. e.0) (λ a b e. ap is_gt e) rows order)
+module _ {X : Type 0} where
+  keys_rise : (key : Key) (rows : Rows X) → is_rising rows ≡ true → IsNonDecreasingBy (λ e. ordering_index (key_cmp e.0 key)) rows
+  keys_rise key rows order =
+      searchable_from_sorted key_cmp_total (λ (e : Key × X). e.0) rows key
+      (sorted_by key_cmp_total key_cmp key_cmp_total (λ e. e.0) (λ a b e. ap is_gt e) rows (holds _ order))
 
-pub found_at : (key : Key) (rows : RecordSet) (r : Result ℕ ℕ) (index : ℕ) (d : Key × Shown) → IsOneSide rows → r ≡ Ok index
-    → IsSearchInRange r (length rows) → IsBinarySearchResult (λ e. key_cmp e.0 key) rows r → shown_at key rows ≡ Some (get_or rows index d).1
-found_at key rows r index d one is within found =
-    (stands_at key_cmp_total key rows (side one.0 rows one.1).order index d (subst (λ q. IsSearchInRange q (length rows)) is within) (subst (IsBinarySearchResult (λ e. key_cmp e.0 key) rows) is found d)).found
+  pub stands : (key : Key) (rows : Rows X) (r : Result ℕ ℕ) (index : ℕ) (d : Key × X) → is_rising rows ≡ true → r ≡ Ok index
+      → IsSearchInRange r (length rows) → IsBinarySearchResult (λ e. key_cmp e.0 key) rows r → StandsAt key_cmp key rows index d
+  stands key rows r index d order is within found =
+      stands_at key_cmp_total key rows (holds _ order) index d (subst (λ q. IsSearchInRange q (length rows)) is within) (subst (IsBinarySearchResult (λ e. key_cmp e.0 key) rows) is found d)
 
-pub found_none : (key : Key) (rows : RecordSet) (r : Result ℕ ℕ) (index : ℕ) → IsOneSide rows → r ≡ Err index
-    → IsSearchInRange r (length rows) → IsBinarySearchResult (λ e. key_cmp e.0 key) rows r → shown_at key rows ≡ None
-found_none key rows r index one is within found =
-    let parted = subst (IsBinarySearchResult (λ e. key_cmp e.0 key) rows) is found (keys_rise key rows (side one.0 rows one.1).order) in
-    (goes_to key_cmp_total key rows index (subst (λ q. IsSearchInRange q (length rows)) is within) parted.0 parted.1).none
+  pub goes : (key : Key) (rows : Rows X) (r : Result ℕ ℕ) (index : ℕ) → is_rising rows ≡ true → r ≡ Err index
+      → IsSearchInRange r (length rows) → IsBinarySearchResult (λ e. key_cmp e.0 key) rows r → GoesTo key_cmp key rows index
+  goes key rows r index order is within found =
+      let parted = subst (IsBinarySearchResult (λ e. key_cmp e.0 key) rows) is found (keys_rise key rows order) in
+      goes_to key_cmp_total key rows index (subst (λ q. IsSearchInRange q (length rows)) is within) parted.0 parted.1

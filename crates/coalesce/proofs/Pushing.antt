@@ -15,7 +15,7 @@ use Rattle.coalesce.specs.Laws.{all_notices, can_be_sent}
 use Rattle.coalesce.specs.Net.{net, packed, packed_behind, max_push, size_of_notices, push_frame, max_net_frame, max_net_size, Nets}
 use Rattle.coalesce.specs.Sides.{AreOfOneName, frame_octets}
 use Rattle.coalesce.specs.Steps.{head_of}
-use Rattle.coalesce.specs.Waiting.{WaitingName, old_side, new_side, IsPackable, asked_net, nets_in, packed_of}
+use Rattle.coalesce.specs.Waiting.{WaitingName, old_side, new_side, IsPackable, asked_net, nets_in, packed_of, records_then}
 use Rattle.coalesce.proofs.NetSizes.{size_of_notices-append, net-takes, length-push_message}
 use Rattle.coalesce.proofs.Sides.{parts_stay_sides}
 use Rattle.coalesce.proofs.Forms.{net_small}
@@ -29,14 +29,14 @@ pub record IsReady (asked : Asked) (rows : RecordSet) (w : WaitingName) (left ri
   pub same : net left right ≡ asked_net asked rows w
   pub small : size_of_notices (asked_net asked rows w) ≤ max_net_size
 
-pub ready : (asked : Asked) (rows : RecordSet) (w : WaitingName) (left right : RecordSet) → IsPackable rows w → left ≡ old_side asked w → right ≡ new_side asked rows w → IsReady asked rows w left right
+pub ready : (asked : Asked) (rows : RecordSet) (w : WaitingName) (left right : RecordSet) → IsPackable rows w → left ≡ old_side asked rows w → right ≡ new_side asked rows w → IsReady asked rows w left right
 ready asked rows w left right ((name, old, new), can) left-is right-is =
-    let before = (parts_stay_sides name (λ key. wants key asked) w.old old).0 in
+    let before = (parts_stay_sides name (λ key. wants key asked) (records_then rows w) old).0 in
     let after = parts_stay_sides name (λ key. wants key asked) (at_name w.name rows) new in
-    let sides : AreOfOneName (old_side asked w) (new_side asked rows w) = (name, before, after.0) in
-    let small = net_small (old_side asked w) (new_side asked rows w) sides (after.1 can) in
+    let sides : AreOfOneName (old_side asked rows w) (new_side asked rows w) = (name, before, after.0) in
+    let small = net_small (old_side asked rows w) (new_side asked rows w) sides (after.1 can) in
     record {
-      sides = subst (λ l. AreOfOneName l right) (sym left-is) (subst (AreOfOneName (old_side asked w)) (sym right-is) sides);
+      sides = subst (λ l. AreOfOneName l right) (sym left-is) (subst (AreOfOneName (old_side asked rows w)) (sym right-is) sides);
       sent = subst (λ l. IsTrue (can_be_sent l)) (sym right-is) (after.1 can);
       same = λ i. net (left-is i) (right-is i);
       small = omega (arith, small);

@@ -4,6 +4,7 @@ use Rattle.std.specs.Str.{bytes_eq}
 use Rattle.dnsname.specs.Names.{Labels, octets, lower, same_name}
 use Rattle.dnsname.proofs.Decisions.{same_name-Decides}
 use Rattle.rrset.proofs.LowerNames.{lower-twice}
+use Rattle.rrset.proofs.WithChanges.{both_ways}
 
 pub same_name-swapped : (a b : Labels) → same_name a b ≡ true → same_name b a ≡ true
 same_name-swapped a b e = (same_name-Decides b a).1 (sym ((same_name-Decides a b).0 e))
@@ -21,3 +22,6 @@ same_name-apart a b c e f = by (same_name a c) refl
     by : (t : Bool) → same_name a c ≡ t → t ≡ false
     by true g = sym (same_name-joined a c b g (same_name-swapped b c f)) ∙ e
     by false g = refl
+
+pub same_name-turned : (a b : Labels) → same_name a b ≡ same_name b a
+same_name-turned a b = both_ways (same_name a b) (same_name b a) (same_name-swapped a b) (same_name-swapped b a)

@@ -18,7 +18,7 @@ use Rattle.dsotlv.specs.Notices.{applied_all}
 use Rattle.dsotlv.specs.declared.message.Notice.{Notice}
 use Rattle.coalesce.specs.Laws.{is_side, NothingToTell}
 use Rattle.coalesce.specs.Net.{all_anew, all_gone, kinds_of, net, owner_of, shorter, single_changes}
-use Rattle.coalesce.specs.Waiting.{WaitingName, CanBePacked, IsPackable, asked_net, differs, is_changed, is_named, new_side, old_side, tells}
+use Rattle.coalesce.specs.Waiting.{WaitingName, CanBePacked, IsPackable, asked_net, differs, is_changed, is_named, new_side, old_side, records_then, tells}
 use Rattle.coalesce.proofs.Leads.{is_of, is_empty-nothing}
 use Rattle.coalesce.proofs.Sides.{net_leads_to_new, parts_stay_sides, side, side-of}
 
@@ -69,7 +69,7 @@ nothing_to_tell name old new h g = by (same_rows old new) refl (is_empty (net ol
 
 changed_tells : (asked : Asked) (rows : RecordSet) (w : WaitingName) → IsPackable rows w → is_changed asked rows w ≡ not (is_empty (asked_net asked rows w))
 changed_tells asked rows w ((name, old, new), can) =
-    sym (ap not (nothing_to_tell name (old_side asked w) (new_side asked rows w) (parts_stay_sides name (λ key. wants key asked) w.old old).0 (parts_stay_sides name (λ key. wants key asked) (at_name w.name rows) new).0))
+    sym (ap not (nothing_to_tell name (old_side asked rows w) (new_side asked rows w) (parts_stay_sides name (λ key. wants key asked) (records_then rows w) old).0 (parts_stay_sides name (λ key. wants key asked) (at_name w.name rows) new).0))
 
 pub differs_tells : (asked : Asked) (rows : RecordSet) (name : Labels) (queue : List WaitingName) → CanBePacked rows queue
     → differs asked rows (find (is_named name) queue) ≡ tells asked rows (find (is_named name) queue)

@@ -1,6 +1,6 @@
 -- What follows the answer to a SUBSCRIBE (RFC 8765, 6.2.2).
 --     told_first changed question others there      the notices that follow it, whatever tells whether the name has changed and what the others ask for
---     first_notices question asked rows waiting      the same where copies tell it of names that wait
+--     first_notices question asked rows waiting      the same where old values tell it of names that wait
 --     wanted_with question others set      the records that the question or others ask for
 use Rattle.std.specs.Prelude.{Bool, List, Option, if◌then◌else◌}
 use Rattle.dnsname.specs.Names.{lower}

@@ -17,18 +17,18 @@ use Rattle.dsotlv.specs.Answers.{push_message}
 use Rattle.coalesce.specs.Net.{max_net_message}
 use Rattle.coalesce.specs.Laws.{is_side, can_be_sent}
 use Rattle.coalesce.specs.Sides.{IsOneSide}
-use Rattle.coalesce.specs.Waiting.{WaitingName, is_named, differs}
+use Rattle.coalesce.specs.Waiting.{WaitingName, is_named, differs, records_then}
 use Rattle.coalesce.specs.FirstAnswers.{first_notices}
 
 -- the records of a name before its first change where it waits, and else those that are there
 abbrev pub sent_of : Labels → RecordSet → Option WaitingName → RecordSet
 sent_of name rows None = at_name name rows
-sent_of name rows (Some w) = w.old
+sent_of name rows (Some w) = records_then rows w
 
 -- what waits is the name, and the records that it had are such as nets are made of
-abbrev pub WaitsAs : Labels → Option WaitingName → Type 0
-WaitsAs name None = Unit {0}
-WaitsAs name (Some w) = IsTrue (is_named name w) × IsTrue (is_side w.name w.old)
+abbrev pub WaitsAs : Labels → RecordSet → Option WaitingName → Type 0
+WaitsAs name rows None = Unit {0}
+WaitsAs name rows (Some w) = IsTrue (is_named name w) × IsTrue (is_side w.name (records_then rows w))
 
 -- the new question, or one of the others
 abbrev pub IsAskedWith : Question → Asked → Question → Type 0
@@ -42,7 +42,7 @@ FirstFillsTheNew = (question : Question) (asked : Asked) (rows : RecordSet) (wai
 -- each other question goes from what it was sent to what it matches now
 abbrev pub FirstLeadsTheOthers : Type 0
 FirstLeadsTheOthers = (question : Question) (asked : Asked) (rows : RecordSet) (waiting : Option WaitingName) (id : ℕ) (other : Question)
-    → IsOneSide (at_name question.name rows) → WaitsAs question.name waiting → Contains asked (id, other)
+    → IsOneSide (at_name question.name rows) → WaitsAs question.name rows waiting → Contains asked (id, other)
     → applied_all (first_notices question asked rows waiting) other (matching other (sent_of question.name rows waiting)) ≡ matching other (at_name question.name rows)
 
 -- where the records have changed, each question goes from any older set to what it matches now

@@ -71,9 +71,9 @@ pub fn first_answers_are_read_back()
 /// Examples of what follows the answer to a SUBSCRIBE, where another question is asked: for addresses, and for long ones.
 pub fn worked_first_answers()
     ensures nothing_waits { first_data 1 28 four None ≡ hex (codes "0178076578616d706c6503636f6d000001000100000078000401020304") }
-    ensures nothing_changed { first_data 1 28 four (waits_with four) ≡ hex (codes "0178076578616d706c6503636f6d000001000100000078000401020304") }
-    ensures others_unchanged { first_data 1 28 four (waits_with (record_of 28 (replicate 16 7) ∷ [])) ≡ hex (codes "0178076578616d706c6503636f6d000001000100000078000401020304") }
-    ensures changed { first_data 1 28 four (waits_with []) ≡ hex (codes "0178076578616d706c6503636f6d0000ff0001fffffffe0000") ++ hex (codes "0178076578616d706c6503636f6d000001000100000078000401020304") ++ hex (codes "0178076578616d706c6503636f6d00001c000100000078001007070707070707070707070707070707") }
-    ensures all_gone { first_data 1 28 [] (waits_with four) ≡ hex (codes "0178076578616d706c6503636f6d0000ff0001fffffffe0000") }
+    ensures nothing_changed { first_data 1 28 four (waits_with four four) ≡ hex (codes "0178076578616d706c6503636f6d000001000100000078000401020304") }
+    ensures others_unchanged { first_data 1 28 four (waits_with (record_of 28 (replicate 16 7) ∷ []) four) ≡ hex (codes "0178076578616d706c6503636f6d000001000100000078000401020304") }
+    ensures changed { first_data 1 28 four (waits_with [] four) ≡ hex (codes "0178076578616d706c6503636f6d0000ff0001fffffffe0000") ++ hex (codes "0178076578616d706c6503636f6d000001000100000078000401020304") ++ hex (codes "0178076578616d706c6503636f6d00001c000100000078001007070707070707070707070707070707") }
+    ensures all_gone { first_data 1 28 [] (waits_with four []) ≡ hex (codes "0178076578616d706c6503636f6d0000ff0001fffffffe0000") }
     ensures nothing_there { first_data 1 28 [] None ≡ [] }
 {}

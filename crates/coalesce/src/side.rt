@@ -1,15 +1,18 @@
 //! One side of a net.
 
-ghost use Rattle.std.specs.Prelude.{◌≡◌, [], ◌∷◌, ◌==◌, ◌&&◌, not, filter, MatchOption, None, Some};
-ghost use Rattle.std.specs.List.{list_any};
+ghost use Rattle.std.specs.Prelude.{◌≡◌, [], ◌∷◌, ◌==◌, ◌&&◌, not, filter, IsTrue, MatchOption, None, Some};
 ghost use Rattle.push_base.specs.Cases.{is_empty};
-ghost use Rattle.rrset.specs.RecordSet.{matching, only, shown_at};
+ghost use Rattle.rrset.specs.KeyedRows.{is_rising};
+ghost use Rattle.rrset.specs.RecordSet.{is_in_order, matching, only, shown_at, with_values};
 ghost use Rattle.subscr.specs.Asked.{wants};
 ghost use Rattle.coalesce.specs.FirstAnswers.{wanted_with};
 ghost use Rattle.coalesce.specs.Net.{of_kind};
 ghost use Rattle.coalesce.specs.Sides.{IsOneSide, is_asked};
+ghost use Rattle.coalesce.specs.Waiting.{values_of};
 
 use crate::asking::{Asking, is_asked};
+use crate::merged::{Merged, any_of_kind};
+use crate::old_record::{OldRecord, old_at};
 use rrset::{Key, Question, Shown, compare_keys};
 use std::marker::Model;
 use subscr::Subscriptions;
@@ -17,7 +20,7 @@ use subscr::Subscriptions;
 /// Records that are asked for, in their order.
 #[derive(Drop)]
 pub(crate) struct Records<'a> {
-    rows: &'a [(Key, Shown)],
+    merged: Merged<'a>,
     asking: Asking<'a>,
 }
 
@@ -27,16 +30,30 @@ impl<'a> Model for Records<'a> {
 
     ghost Value = { RecordSet };
 
-    ghost view = { λ s. only (is_asked s.asking) s.rows.now };
+    ghost view = { λ s. only (is_asked s.asking) s.merged };
 }
 
 impl<'a> Records<'a> {
     /// The records that questions ask for.
     pub(crate) fn asked(rows: &'a [(Key, Shown)], questions: &'a Subscriptions) -> Self
+        requires { IsTrue (is_in_order rows.now) }
         ensures { result ≡ only (λ key. wants key questions.now) rows.now }
     {
+        Records::asked_before(rows, &[], questions)
+    }
+
+    /// The records that questions ask for, as they were before the changes of old values.
+    pub(crate) fn asked_before(
+        rows: &'a [(Key, Shown)],
+        old: &'a [OldRecord],
+        questions: &'a Subscriptions,
+    ) -> Self
+        requires rows { IsTrue (is_in_order rows.now) }
+        requires old { IsTrue (is_rising old.now) }
+        ensures { result ≡ only (λ key. wants key questions.now) (with_values (values_of old.now) rows.now) }
+    {
         Records {
-            rows,
+            merged: Merged::new(rows, old),
             asking: Asking::Questions(questions),
         }
     }
@@ -45,8 +62,7 @@ impl<'a> Records<'a> {
     pub(crate) fn next(&mut self) -> Option<&'a (Key, Shown)>
         ensures rest { MatchOption result ((self.old ≡ []) × (self.new ≡ [])) (λ entry. self.old ≡ entry.now ∷ self.new) }
     {
-        'rows: while let Some((entry, after)) = self.rows.split_first() {
-            self.rows = after;
+        'rows: while let Some(entry) = self.merged.next() {
             if is_asked(self.asking, &entry.0) {
                 return Some(entry);
             }
@@ -59,63 +75,107 @@ impl<'a> Records<'a> {
 #[derive(Drop)]
 pub(crate) struct Side<'a> {
     rows: &'a [(Key, Shown)],
+    values: &'a [OldRecord],
     asking: Asking<'a>,
 }
 
 impl<'a> Model for Side<'a> {
-    ghost use Rattle.rrset.specs.RecordSet.{RecordSet, only};
+    ghost use Rattle.std.specs.Prelude.{IsTrue};
+    ghost use Rattle.rrset.specs.KeyedRows.{is_rising};
+    ghost use Rattle.rrset.specs.RecordSet.{RecordSet, is_in_order, only, with_values};
     ghost use Rattle.coalesce.specs.Sides.{IsOneSide, is_asked};
+    ghost use Rattle.coalesce.specs.Waiting.{values_of};
 
     ghost Value = { RecordSet };
 
-    ghost view = { λ s. only (is_asked s.asking) s.rows.now };
+    ghost view = { λ s. only (is_asked s.asking) (with_values (values_of s.values.now) s.rows.now) };
 
-    ghost invariant = { λ s. IsOneSide s.rows.now };
+    ghost invariant = { λ s. IsTrue (is_in_order s.rows.now) × IsTrue (is_rising s.values.now) × IsOneSide (with_values (values_of s.values.now) s.rows.now) };
 }
 
-/// Whether a record of this kind is asked for.
-fn any_of_kind(rows: &[(Key, Shown)], asking: Asking, kind: u16) -> bool
-    ensures { result ≡ list_any (λ e. e.0.kind == kind && is_asked asking.entry e.0) rows.now }
+/// What is shown of a key among rows.
+fn shown_in<'a>(rows: &'a [(Key, Shown)], key: &Key) -> Option<&'a Shown>
+    requires { IsTrue (is_in_order rows.now) }
+    ensures { MatchOption result (shown_at key.now rows.now ≡ None) (λ shown. shown_at key.now rows.now ≡ Some shown.now) }
 {
-    rows.iter()
-        .any(|entry| entry.0.kind == kind && is_asked(asking, &entry.0))
+    match rows.binary_search_by(|entry| compare_keys(&entry.0, key)) {
+        Ok(index) => Some(&rows[index].1),
+        Err(_) => None,
+    }
+}
+
+/// What was shown of a key among rows, before the changes of old values.
+fn shown_before<'a>(rows: &'a [(Key, Shown)], old: &'a [OldRecord], key: &Key) -> Option<&'a Shown>
+    requires rows { IsTrue (is_in_order rows.now) }
+    requires old { IsTrue (is_rising old.now) }
+    ensures { MatchOption result (shown_at key.now (with_values (values_of old.now) rows.now) ≡ None) (λ shown. shown_at key.now (with_values (values_of old.now) rows.now) ≡ Some shown.now) }
+{
+    match old_at(old, key) {
+        Some(kept) => kept.shown(),
+        None => shown_in(rows, key),
+    }
 }
 
 impl<'a> Side<'a> {
     /// All records.
+    #[tactic(auto, using(crate::proofs::OneSide::one_side_order))]
     pub(crate) fn new(rows: &'a [(Key, Shown)]) -> Self
         requires { IsOneSide rows.now }
         ensures { result ≡ rows.now }
     {
         Side {
             rows,
+            values: &[],
             asking: Asking::All,
         }
     }
 
     /// The records that questions ask for.
+    #[tactic(auto, using(crate::proofs::OneSide::one_side_order))]
     pub(crate) fn asked(rows: &'a [(Key, Shown)], questions: &'a Subscriptions) -> Self
         requires { IsOneSide rows.now }
         ensures { result ≡ only (λ key. wants key questions.now) rows.now }
     {
         Side {
             rows,
+            values: &[],
+            asking: Asking::Questions(questions),
+        }
+    }
+
+    /// The records that questions ask for, as they were before the changes of old values.
+    pub(crate) fn asked_before(
+        rows: &'a [(Key, Shown)],
+        old: &'a [OldRecord],
+        questions: &'a Subscriptions,
+    ) -> Self
+        requires rows { IsTrue (is_in_order rows.now) }
+        requires old { IsTrue (is_rising old.now) }
+        requires side { IsOneSide (with_values (values_of old.now) rows.now) }
+        ensures { result ≡ only (λ key. wants key questions.now) (with_values (values_of old.now) rows.now) }
+    {
+        Side {
+            rows,
+            values: old,
             asking: Asking::Questions(questions),
         }
     }
 
     /// The records that one question asks for.
+    #[tactic(auto, using(crate::proofs::OneSide::one_side_order))]
     pub(crate) fn matching(rows: &'a [(Key, Shown)], question: &'a Question) -> Self
         requires { IsOneSide rows.now }
         ensures { result ≡ matching question.now rows.now }
     {
         Side {
             rows,
+            values: &[],
             asking: Asking::One(question),
         }
     }
 
     /// The records that one question or others ask for.
+    #[tactic(auto, using(crate::proofs::OneSide::one_side_order))]
     pub(crate) fn matching_or_asked(
         rows: &'a [(Key, Shown)],
         question: &'a Question,
@@ -126,6 +186,7 @@ impl<'a> Side<'a> {
     {
         Side {
             rows,
+            values: &[],
             asking: Asking::OneOr(question, questions),
         }
     }
@@ -136,7 +197,7 @@ impl<'a> Side<'a> {
         ensures side { IsOneSide self.now }
     {
         Records {
-            rows: self.rows,
+            merged: Merged::new(self.rows, self.values),
             asking: self.asking,
         }
     }
@@ -153,7 +214,7 @@ impl<'a> Side<'a> {
     pub(crate) fn has_kind(&self, kind: u16) -> bool
         ensures { result ≡ not (is_empty (of_kind kind self.now)) }
     {
-        any_of_kind(self.rows, self.asking, kind)
+        any_of_kind(Merged::new(self.rows, self.values), self.asking, kind)
     }
 
     /// What is shown of a key.
@@ -163,10 +224,6 @@ impl<'a> Side<'a> {
         if !is_asked(self.asking, key) {
             return None;
         }
-        let rows = self.rows;
-        match rows.binary_search_by(|entry| compare_keys(&entry.0, key)) {
-            Ok(index) => Some(&rows[index].1),
-            Err(_) => None,
-        }
+        shown_before(self.rows, self.values, key)
     }
 }

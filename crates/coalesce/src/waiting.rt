@@ -1,148 +1,153 @@
-//! Names that wait, each with a copy of its records.
+//! What is kept of a name that waits.
 
-ghost use Rattle.std.specs.Prelude.{◌≡◌, ◌+◌, ◌≤◌, ◌++◌, find, flat_map, length, IfOk, MatchOption, None, Some};
+ghost use Rattle.std.specs.Prelude.{◌≡◌, ◌+◌, ◌≤◌, ◌++◌, [], ◌∷◌, nat_lt, flat_map, length, IfOk, IsTrue, OnErr, OnOk};
 ghost use Rattle.dsotlv.specs.Notices.{notice_octets};
+ghost use Rattle.rrset.specs.KeyedRows.{is_rising};
 ghost use Rattle.coalesce.specs.Net.{size_of_notices, max_net_size};
 ghost use Rattle.coalesce.specs.Sides.{frame_octets};
-ghost use Rattle.coalesce.specs.Waiting.{IsPackable, asked_net, before_point, is_changed, is_named, waits, without_name};
+ghost use Rattle.coalesce.specs.Waiting.{IsPackable, and_value, asked_net, is_changed, values_before, waiting_of};
 
 use crate::NoMemory;
 use crate::form::{append_net, net_size, same_records};
 use crate::frame::Frame;
+use crate::old_record::OldRecord;
 use crate::side::{Records, Side};
 use dnsname::Name;
-use nametable::NameTable;
-use rrset::{Key, Shown};
+use nametable::Index;
+use push_base::Steps;
+use rrset::compare_keys;
 use std::alloc::Global;
 use std::marker::Model;
+use std::sync::ledger::Ledger;
 use subscr::Subscriptions;
 
-/// A name that waits, with the point before its first change and its records as they were then.
+/// What is kept of a name that waits: the point before its first change, and of each key that changed since what it showed before.
 #[derive(Debug, Drop)]
 pub(crate) struct Waiting {
-    /// The name.
-    pub name: Name,
     /// The point before its first change.
     pub point: u64,
-    /// Its records as they were then, in key order.
-    pub old: Vec<(Key, Shown)>,
+    /// What the keys showed, in key order.
+    pub values: Vec<OldRecord>,
 }
 
 impl Model for Waiting {
-    ghost use Rattle.coalesce.specs.Waiting.{WaitingName};
+    ghost use Rattle.std.specs.Prelude.{IsTrue};
+    ghost use Rattle.rrset.specs.KeyedRows.{is_rising};
+    ghost use Rattle.coalesce.specs.Waiting.{OldValues};
 
-    ghost Value = { WaitingName };
+    ghost Value = { OldValues };
 
-    ghost view = { λ w. record { name = w.name; point = w.point; old = w.old.items } };
+    ghost view = { λ w. record { point = w.point; values = w.values.items } };
+
+    ghost invariant = { λ w. IsTrue (is_rising w.values.items) };
 }
 
-/// The same records.
-fn copied(alloc: Global, rows: &[(Key, Shown)]) -> Result<Vec<(Key, Shown)>, NoMemory>
-    ensures { IfOk result (λ copy. copy.items ≡ rows.now) }
+/// Keeps what a key showed, where nothing is kept of it yet.
+fn keep_value(values: &mut Vec<OldRecord>, old: &OldRecord) -> Result<(), NoMemory>
+    requires { IsTrue (is_rising values.old.items) }
+    ensures ok { OnOk result (values.new.items ≡ and_value old.now values.old.items) }
+    ensures err { OnErr result (values.new.items ≡ values.old.items) }
 {
-    let mut copy = Vec::new(alloc);
-    'rows: for row in rows {
-        let key = row.0.copy()?;
-        let shown = row.1.copy()?;
-        copy.push((key, shown))?;
-    }
-    Ok(copy)
-}
-
-/// Whether a name waits.
-pub(crate) fn waits(names: &[Waiting], name: &Name) -> bool
-    ensures { result ≡ waits name.now names.now }
-{
-    names.iter().any(|waiting| waiting.named(name))
-}
-
-/// The name as it waits.
-pub(crate) fn waiting_at<'a>(names: &'a [Waiting], name: &Name) -> Option<&'a Waiting>
-    ensures { MatchOption result (find (is_named name.now) names.now ≡ None) (λ w. find (is_named name.now) names.now ≡ Some w.now) }
-{
-    'names: for waiting in names {
-        if waiting.named(name) {
-            return Some(waiting);
+    match values.binary_search_by(|kept| compare_keys(kept.key(), old.key())) {
+        Ok(_) => Ok(()),
+        Err(place) => {
+            let shared = old.share()?;
+            values.insert(place, shared)?;
+            Ok(())
         }
     }
-    None
 }
 
-/// Takes a name out of those that wait.
-pub(crate) fn take_out(names: &mut Vec<Waiting>, name: &Name)
-    ensures { names.new.items ≡ without_name name.now names.old.items }
+/// Lets go what was kept at a point or a later one.
+fn keep_before(values: &mut Vec<OldRecord>, point: u64)
+    ensures { values.new.items ≡ values_before point values.old.items }
 {
-    names.retain(|waiting| !waiting.named(name));
-}
-
-/// Takes out the names that wait since a point or a later one.
-pub(crate) fn keep_before(names: &mut Vec<Waiting>, point: u64)
-    ensures { names.new.items ≡ before_point point names.old.items }
-{
-    names.retain(|waiting| waiting.point < point);
+    values.retain(|old| old.point() < point);
 }
 
 impl Waiting {
-    /// A name that waits from now on.
-    pub(crate) fn new(
-        alloc: Global,
-        name: &Name,
-        sent: &[(Key, Shown)],
-        point: u64,
-    ) -> Result<Self, NoMemory>
-        ensures { IfOk result (λ w. w ≡ record { name = name.now; point = point; old = sent.now }) }
+    /// What is kept of a name at its first change.
+    pub(crate) fn new(alloc: Global, old: &OldRecord) -> Result<Self, NoMemory>
+        ensures { IfOk result (λ w. w ≡ record { point = old.now.1.point; values = old.now ∷ [] }) }
     {
+        let mut values = Vec::new(alloc);
+        values.push(old.share()?)?;
         Ok(Waiting {
-            name: name.copy()?,
-            point,
-            old: copied(alloc, sent)?,
+            point: old.point(),
+            values,
         })
     }
 
-    /// Whether it has this name, but for case.
-    pub(crate) fn named(&self, name: &Name) -> bool
-        ensures { result ≡ is_named name.now self.now }
+    /// Keeps what a key showed, where nothing is kept of it yet. Where memory runs out nothing changes.
+    pub(crate) fn keep(&mut self, old: &OldRecord) -> Result<(), NoMemory>
+        ensures ok { OnOk result (self.new ≡ record { point = self.old.point; values = and_value old.now self.old.values }) }
+        ensures err { OnErr result (self.new ≡ self.old) }
     {
-        self.name.same(name)
+        keep_value(&mut self.values, old)
     }
 
-    /// Whether its records differ, as questions ask for them.
-    pub(crate) fn is_changed<'a>(
-        &'a self,
-        questions: &'a Subscriptions,
-        index: &'a NameTable,
-    ) -> bool
-        ensures { result ≡ is_changed questions.now index.now.rows self.now }
+    /// Lets go what was kept at a point or a later one, and says whether the name waits since an earlier one.
+    pub(crate) fn keep_before(&mut self, point: u64) -> bool
+        ensures earlier { result ≡ nat_lt self.old.point point }
+        ensures values { self.new ≡ record { point = self.old.point; values = values_before point self.old.values } }
     {
-        let old = Records::asked(&self.old, questions);
-        let new = Records::asked(index.at(&self.name), questions);
+        keep_before(&mut self.values, point);
+        self.point < point
+    }
+
+    /// Whether the records of the name differ from what they were, as questions ask for them.
+    pub(crate) fn is_changed<'a, L: Ledger>(
+        &'a self,
+        name: &'a Name,
+        questions: &'a Subscriptions,
+        index: &'a Index,
+        steps: &mut Steps<L>,
+    ) -> bool
+        ensures changed { result ≡ is_changed questions.now index.now.rows (waiting_of (name.now, self.now)) }
+        ensures steps { steps.new ≡ steps.old + 1 }
+    {
+        let rows = index.at(name, steps);
+        let old = Records::asked_before(rows, &self.values, questions);
+        let new = Records::asked(rows, questions);
         !same_records(old, new)
     }
 
     /// The octets of its net's records, as questions ask for them.
-    pub(crate) fn size<'a>(&'a self, questions: &'a Subscriptions, index: &'a NameTable) -> u64
-        requires { IsPackable index.now.rows self.now }
-        ensures size { result ≡ size_of_notices (asked_net questions.now index.now.rows self.now) }
+    pub(crate) fn size<'a, L: Ledger>(
+        &'a self,
+        name: &'a Name,
+        questions: &'a Subscriptions,
+        index: &'a Index,
+        steps: &mut Steps<L>,
+    ) -> u64
+        requires { IsPackable index.now.rows (waiting_of (name.now, self.now)) }
+        ensures size { result ≡ size_of_notices (asked_net questions.now index.now.rows (waiting_of (name.now, self.now))) }
         ensures most { result ≤ max_net_size }
+        ensures steps { steps.new ≡ steps.old + 1 }
     {
-        let old = Side::asked(&self.old, questions);
-        let new = Side::asked(index.at(&self.name), questions);
+        let rows = index.at(name, steps);
+        let old = Side::asked_before(rows, &self.values, questions);
+        let new = Side::asked(rows, questions);
         net_size(&old, &new)
     }
 
     /// Appends its net's records, as questions ask for them.
-    pub(crate) fn append_to<'a>(
+    pub(crate) fn append_to<'a, L: Ledger>(
         &'a self,
+        name: &'a Name,
         out: &mut Frame,
         questions: &'a Subscriptions,
-        index: &'a NameTable,
+        index: &'a Index,
+        steps: &mut Steps<L>,
     )
-        requires sides { IsPackable index.now.rows self.now }
-        requires room { length out.old + size_of_notices (asked_net questions.now index.now.rows self.now) ≤ frame_octets }
-        ensures { out.new ≡ out.old ++ flat_map notice_octets (asked_net questions.now index.now.rows self.now) }
+        requires sides { IsPackable index.now.rows (waiting_of (name.now, self.now)) }
+        requires room { length out.old + size_of_notices (asked_net questions.now index.now.rows (waiting_of (name.now, self.now))) ≤ frame_octets }
+        ensures written { out.new ≡ out.old ++ flat_map notice_octets (asked_net questions.now index.now.rows (waiting_of (name.now, self.now))) }
+        ensures steps { steps.new ≡ steps.old + 1 }
     {
-        let old = Side::asked(&self.old, questions);
-        let new = Side::asked(index.at(&self.name), questions);
+        let rows = index.at(name, steps);
+        let old = Side::asked_before(rows, &self.values, questions);
+        let new = Side::asked(rows, questions);
         append_net(out, &old, &new);
     }
 }

@@ -5,13 +5,13 @@ use Rattle.std.specs.List.{position}
 use Rattle.std.specs.Str.{bytes_eq}
 use Rattle.push_base.specs.Optional.{◌>>=◌}
 use Rattle.scripts.specs.Lines as script
-use Rattle.scripts.specs.Lines.{Word, HeadLine, timers, zone, link, ScriptLine, silent, number, words_in, line_of}
+use Rattle.scripts.specs.Lines.{Word, HeadLine, timers, zone, link, ScriptLine, silent, words_in, line_of}
 use Rattle.scripts.specs.Scripts.{Known, is_head, fits}
 use Rattle.scripts.specs.Heads.{empty_head, with_head, with_head_line}
 use Rattle.scripts.specs.TextLines.{lines_taken}
 use Rattle.scripts.proofs.lines.LineByLine.{kept}
 use Rattle.scripts.proofs.lines.MoreLines.{start_more, start_linked}
-use Rattle.configurations.specs.Configurations.{Serving, ServingDraft, no_serving, max_accepted, max_turns, address, number_from, once, is_fed, listen_line, sessions_line, turns_line, feed_line, head_line, serving_kind, serving_behind, serving_words, serving_line, serving_whole, serving_of, unless_missing}
+use Rattle.configurations.specs.Configurations.{Serving, ServingDraft, no_serving, max_accepted, max_turns, address, number_once, once, is_fed, listen_line, sessions_line, turns_line, feed_line, head_line, serving_kind, serving_behind, serving_words, serving_line, serving_whole, serving_of, unless_missing}
 use Rattle.configurations.specs.declared.server_config.ServingKind.{ServingKind}
 use Rattle.configurations.specs.declared.server_config.ServingKind.TheVariants as of_server
 use Rattle.configurations.specs.Kept.{CanServe}
@@ -60,14 +60,10 @@ listen_serves d (a ∷ []) s = only_bind Serves (address a) _ (λ w. only_once S
 listen_serves d (a ∷ b ∷ ws) s = only_none Serves
 
 sessions_serves : (d : ServingDraft) (ws : List Word) → Serves d → Only Serves (sessions_line d ws)
-sessions_serves d [] s = only_none Serves
-sessions_serves d (n ∷ []) s = only_bind Serves (number_from 1 max_accepted n) _ (λ k. only_once Serves d.sessions (record d { sessions = Some k }) s)
-sessions_serves d (n ∷ m ∷ ws) s = only_none Serves
+sessions_serves d ws s = only_map Serves (number_once 1 max_accepted d.sessions ws) (λ n. record d { sessions = n }) (λ n. s)
 
 turns_serves : (d : ServingDraft) (ws : List Word) → Serves d → Only Serves (turns_line d ws)
-turns_serves d [] s = only_none Serves
-turns_serves d (n ∷ []) s = only_bind Serves (number max_turns n) _ (λ k. only_once Serves d.turns (record d { turns = Some k }) s)
-turns_serves d (n ∷ m ∷ ws) s = only_none Serves
+turns_serves d ws s = only_map Serves (number_once 0 max_turns d.turns ws) (λ n. record d { turns = n }) (λ n. s)
 
 feed_serves : (d : ServingDraft) (ws : List Word) → Serves d → Only Serves (feed_line d ws)
 feed_serves d [] s = only_none Serves

@@ -41,6 +41,11 @@ abbrev pub once : {X Y : Type 0} → Option X → Y → Option Y
 once None y = Some y
 once (Some x) y = None
 
+-- the words of a line that is one number from one to another, where no line before has said it
+abbrev pub number_once : ℕ → ℕ → Option ℕ → List Word → Option (Option ℕ)
+number_once least greatest said (n ∷ []) = number_from least greatest n >>= λ k. once said (Some k)
+number_once least greatest said _ = None
+
 -- What is missing counts as the line behind the last.
 abbrev pub unless_missing : {D X : Type 0} → (D → Option X) → Result (D × ℕ) ℕ → Result X ℕ
 unless_missing whole (Err n) = Err n
@@ -76,12 +81,10 @@ listen_line d (a ∷ []) = address a >>= λ w. once d.listen (record d { listen 
 listen_line d _ = None
 
 abbrev pub sessions_line : ServingDraft → List Word → Option ServingDraft
-sessions_line d (n ∷ []) = number_from 1 max_accepted n >>= λ k. once d.sessions (record d { sessions = Some k })
-sessions_line d _ = None
+sessions_line d words = option_map (λ n. record d { sessions = n }) (number_once 1 max_accepted d.sessions words)
 
 abbrev pub turns_line : ServingDraft → List Word → Option ServingDraft
-turns_line d (n ∷ []) = number max_turns n >>= λ k. once d.turns (record d { turns = Some k })
-turns_line d _ = None
+turns_line d words = option_map (λ n. record d { turns = n }) (number_once 0 max_turns d.turns words)
 
 -- one socket for each link, which a line before it has named
 abbrev pub is_fed : List (ℕ × Word) → ℕ → Bool
@@ -159,12 +162,10 @@ question_line d (n ∷ k ∷ c ∷ []) = question n k c >>= λ q. if may_ask d q
 question_line d _ = None
 
 abbrev pub messages_line : SubscribingDraft → List Word → Option SubscribingDraft
-messages_line d (n ∷ []) = number max_number n >>= λ k. once d.messages (record d { messages = Some k })
-messages_line d _ = None
+messages_line d words = option_map (λ n. record d { messages = n }) (number_once 0 max_number d.messages words)
 
 abbrev pub reads_line : SubscribingDraft → List Word → Option SubscribingDraft
-reads_line d (n ∷ []) = number max_turns n >>= λ k. once d.turns (record d { turns = Some k })
-reads_line d _ = None
+reads_line d words = option_map (λ n. record d { turns = n }) (number_once 0 max_turns d.turns words)
 
 -- a line that is empty or begins with # says nothing
 abbrev pub unless_silent : SubscribingDraft → Option ScriptLine → Option SubscribingDraft

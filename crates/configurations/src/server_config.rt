@@ -5,17 +5,17 @@ ghost use Rattle.scripts.specs.Lines.{words_in};
 ghost use Rattle.scripts.specs.Scripts.{is_head};
 ghost use Rattle.scripts.specs.KeptLines.{said};
 ghost use Rattle.scripts.specs.TextLines.{Takes};
-ghost use Rattle.configurations.specs.Configurations.{ServingDraft, feed_line, head_line, is_fed, listen_line, no_serving, serving_behind, serving_kind, serving_line, sessions_line, turns_line};
+ghost use Rattle.configurations.specs.Configurations.{ServingDraft, feed_line, head_line, is_fed, listen_line, no_serving, serving_behind, serving_kind, serving_line};
 ghost use Rattle.configurations.specs.Kept.{EndsServing, ReadsServing, fed_links, is_any_fed, serving_drafted};
 
 use crate::limits::{MAX_ACCEPTED, MAX_TURNS};
-use crate::words::{address_of_word, number_from};
+use crate::words::{address_of_word, take_number};
 use dsosession::session::Timers;
 use history::Homes;
 use push_base::NoMemory;
 use scripts::{
-    Draft, Line, Script, TakeLines, TakenLines, number_up_to, one_word, read_line, split_word,
-    take_lines, two_words,
+    Draft, Line, Script, TakeLines, TakenLines, one_word, read_line, split_word, take_lines,
+    two_words,
 };
 use std::alloc::Global;
 
@@ -92,19 +92,12 @@ pub fn read_serve(alloc: Global, octets: &[u8]) -> Result<ReadServe, NoMemory>
 impl TakeLines for ServeDraft {
     ghost Made = { ServingDraft };
 
-    ghost made = { serving_drafted };
+    ghost Holds = { λ draft made. made ≡ serving_drafted draft };
 
     ghost line = { serving_line };
 
     fn take(&mut self, alloc: Global, text: &[u8]) -> Result<bool, NoMemory> {
-        match split_word(text) {
-            Some((word, rest)) => self.take_words(alloc, kind_of(word), text, rest),
-            None => match kind_of(text) {
-                ServingKind::Head => self.take_head(alloc, text),
-                ServingKind::Listen | ServingKind::Sessions => Ok(false),
-                ServingKind::Feed | ServingKind::Turns => Ok(false),
-            },
-        }
+        self.take_text(alloc, text)
     }
 }
 
@@ -122,6 +115,20 @@ impl ServeDraft {
         }
     }
 
+    // Takes a further line.
+    fn take_text(&mut self, alloc: Global, text: &[u8]) -> Result<bool, NoMemory>
+        ensures { IfOk result (λ taken. Takes (serving_line (serving_drafted self.old) text.now) (serving_drafted self.new) taken) }
+    {
+        match split_word(text) {
+            Some((word, rest)) => self.take_words(alloc, kind_of(word), text, rest),
+            None => match kind_of(text) {
+                ServingKind::Head => self.take_head(alloc, text),
+                ServingKind::Listen | ServingKind::Sessions => Ok(false),
+                ServingKind::Feed | ServingKind::Turns => Ok(false),
+            },
+        }
+    }
+
     // Takes a line of this kind, with those words behind its first.
     fn take_words(
         &mut self,
@@ -134,9 +141,9 @@ impl ServeDraft {
     {
         match kind {
             ServingKind::Listen => self.take_listen(alloc, rest),
-            ServingKind::Sessions => Ok(self.take_sessions(rest)),
+            ServingKind::Sessions => Ok(take_number(&mut self.sessions, 1, MAX_ACCEPTED, rest)),
             ServingKind::Feed => self.take_feed(alloc, rest),
-            ServingKind::Turns => Ok(self.take_turns(rest)),
+            ServingKind::Turns => Ok(take_number(&mut self.turns, 0, MAX_TURNS, rest)),
             ServingKind::Head => self.take_head(alloc, text),
         }
     }
@@ -171,23 +178,6 @@ impl ServeDraft {
         Ok(true)
     }
 
-    // Takes the number of sessions, once.
-    fn take_sessions(&mut self, words: &[u8]) -> bool
-        ensures { Takes (sessions_line (serving_drafted self.old) (words_in words.now)) (serving_drafted self.new) result }
-    {
-        let Some(word) = one_word(words) else {
-            return false;
-        };
-        let Some(count) = number_from(1, MAX_ACCEPTED, word) else {
-            return false;
-        };
-        if self.sessions.is_some() {
-            return false;
-        }
-        self.sessions = Some(count);
-        true
-    }
-
     // Takes the datagram socket of a link that was named before and has none yet.
     fn take_feed(&mut self, alloc: Global, words: &[u8]) -> Result<bool, NoMemory>
         ensures { IfOk result (λ taken. Takes (feed_line (serving_drafted self.old) (words_in words.now)) (serving_drafted self.new) taken) }
@@ -206,23 +196,6 @@ impl ServeDraft {
         }
         add_feed(&mut self.feeds, link, address)?;
         Ok(true)
-    }
-
-    // Takes the turns of each loop, once.
-    fn take_turns(&mut self, words: &[u8]) -> bool
-        ensures { Takes (turns_line (serving_drafted self.old) (words_in words.now)) (serving_drafted self.new) result }
-    {
-        let Some(word) = one_word(words) else {
-            return false;
-        };
-        let Some(count) = number_up_to(MAX_TURNS, word) else {
-            return false;
-        };
-        if self.turns.is_some() {
-            return false;
-        }
-        self.turns = Some(count);
-        true
     }
 
     // The configuration whose lines were all taken, unless one is missing behind the last.

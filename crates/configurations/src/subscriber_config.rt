@@ -6,18 +6,18 @@ ghost use Rattle.rrset.specs.Records.{same_question};
 ghost use Rattle.scripts.specs.KeptLines.{said};
 ghost use Rattle.scripts.specs.Lines.{words_in};
 ghost use Rattle.scripts.specs.TextLines.{Takes};
-ghost use Rattle.configurations.specs.Configurations.{SubscribingDraft, may_ask, messages_line, no_subscribing, question_line, reads_line, server_line, subscribing_behind, subscribing_kind, subscribing_line};
+ghost use Rattle.configurations.specs.Configurations.{SubscribingDraft, may_ask, no_subscribing, question_line, server_line, subscribing_behind, subscribing_kind, subscribing_line};
 ghost use Rattle.configurations.specs.Kept.{EndsSubscribing, ReadsSubscribing, is_silent, says_nothing, subscribing_drafted};
 
 use crate::limits::MAX_TURNS;
-use crate::words::address_of_word;
+use crate::words::{address_of_word, take_number};
 use push_base::NoMemory;
 use push_base::limits::{MAX_NUMBER, MAX_QUESTIONS};
 use rrset::record::Question;
 use rrset::same_question;
 use scripts::{
-    Line, TakeLines, TakenLines, number_up_to, one_word, question_of, read_line, split_word,
-    take_lines, three_words,
+    Line, TakeLines, TakenLines, one_word, question_of, read_line, split_word, take_lines,
+    three_words,
 };
 use std::alloc::Global;
 
@@ -78,19 +78,12 @@ pub fn read_subscribe(alloc: Global, octets: &[u8]) -> Result<ReadSubscribe, NoM
 impl TakeLines for SubscribeDraft {
     ghost Made = { SubscribingDraft };
 
-    ghost made = { subscribing_drafted };
+    ghost Holds = { λ draft made. made ≡ subscribing_drafted draft };
 
     ghost line = { subscribing_line };
 
     fn take(&mut self, alloc: Global, text: &[u8]) -> Result<bool, NoMemory> {
-        match split_word(text) {
-            Some((word, rest)) => self.take_words(alloc, kind_of(word), text, rest),
-            None => match kind_of(text) {
-                SubscribingKind::Other => is_silent(alloc, text),
-                SubscribingKind::Server | SubscribingKind::Question => Ok(false),
-                SubscribingKind::Messages | SubscribingKind::Turns => Ok(false),
-            },
-        }
+        self.take_text(alloc, text)
     }
 }
 
@@ -107,6 +100,20 @@ impl SubscribeDraft {
         }
     }
 
+    // Takes a further line.
+    fn take_text(&mut self, alloc: Global, text: &[u8]) -> Result<bool, NoMemory>
+        ensures { IfOk result (λ taken. Takes (subscribing_line (subscribing_drafted self.old) text.now) (subscribing_drafted self.new) taken) }
+    {
+        match split_word(text) {
+            Some((word, rest)) => self.take_words(alloc, kind_of(word), text, rest),
+            None => match kind_of(text) {
+                SubscribingKind::Other => is_silent(alloc, text),
+                SubscribingKind::Server | SubscribingKind::Question => Ok(false),
+                SubscribingKind::Messages | SubscribingKind::Turns => Ok(false),
+            },
+        }
+    }
+
     // Takes a line of this kind, with those words behind its first.
     fn take_words(
         &mut self,
@@ -120,8 +127,8 @@ impl SubscribeDraft {
         match kind {
             SubscribingKind::Server => self.take_server(alloc, rest),
             SubscribingKind::Question => self.take_question(alloc, rest),
-            SubscribingKind::Messages => Ok(self.take_messages(rest)),
-            SubscribingKind::Turns => Ok(self.take_turns(rest)),
+            SubscribingKind::Messages => Ok(take_number(&mut self.messages, 0, MAX_NUMBER, rest)),
+            SubscribingKind::Turns => Ok(take_number(&mut self.turns, 0, MAX_TURNS, rest)),
             SubscribingKind::Other => is_silent(alloc, text),
         }
     }
@@ -165,40 +172,6 @@ impl SubscribeDraft {
         ensures { result ≡ may_ask (subscribing_drafted self.now) question.now }
     {
         !is_asked(&self.questions, question) && self.questions.len() < MAX_QUESTIONS
-    }
-
-    // Takes the number of messages, once.
-    fn take_messages(&mut self, words: &[u8]) -> bool
-        ensures { Takes (messages_line (subscribing_drafted self.old) (words_in words.now)) (subscribing_drafted self.new) result }
-    {
-        let Some(word) = one_word(words) else {
-            return false;
-        };
-        let Some(count) = number_up_to(MAX_NUMBER, word) else {
-            return false;
-        };
-        if self.messages.is_some() {
-            return false;
-        }
-        self.messages = Some(count);
-        true
-    }
-
-    // Takes the number of reads, once.
-    fn take_turns(&mut self, words: &[u8]) -> bool
-        ensures { Takes (reads_line (subscribing_drafted self.old) (words_in words.now)) (subscribing_drafted self.new) result }
-    {
-        let Some(word) = one_word(words) else {
-            return false;
-        };
-        let Some(count) = number_up_to(MAX_TURNS, word) else {
-            return false;
-        };
-        if self.turns.is_some() {
-            return false;
-        }
-        self.turns = Some(count);
-        true
     }
 
     // The configuration whose lines were all taken, unless one is missing behind the last.

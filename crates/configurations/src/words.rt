@@ -1,10 +1,12 @@
 //! Words of configurations.
 
 ghost use Rattle.std.specs.Prelude.{◌≡◌, IfOk, option_map, string_bytes};
-ghost use Rattle.configurations.specs.Configurations.{address, number_from};
+ghost use Rattle.scripts.specs.Lines.{words_in};
+ghost use Rattle.scripts.specs.TextLines.{Takes};
+ghost use Rattle.configurations.specs.Configurations.{address, number_from, number_once};
 
 use push_base::NoMemory;
-use scripts::number_up_to;
+use scripts::{number_up_to, one_word};
 use std::alloc::Global;
 
 /// An address: one word, which is handed on as it is.
@@ -20,8 +22,25 @@ pub(crate) fn address_of_word(alloc: Global, text: &[u8]) -> Result<Option<Strin
     Ok(Some(String::from_str(alloc, text)?))
 }
 
+/// Takes the words of a line that is a number from one to another, once.
+pub(crate) fn take_number(said: &mut Option<u64>, least: u64, greatest: u64, words: &[u8]) -> bool
+    ensures { Takes (number_once least greatest said.old (words_in words.now)) said.new result }
+{
+    let Some(word) = one_word(words) else {
+        return false;
+    };
+    let Some(number) = number_from(least, greatest, word) else {
+        return false;
+    };
+    if said.is_some() {
+        return false;
+    }
+    *said = Some(number);
+    true
+}
+
 /// The decimal number that a word is, without leading zeros, from one to another.
-pub(crate) fn number_from(least: u64, greatest: u64, text: &[u8]) -> Option<u64>
+fn number_from(least: u64, greatest: u64, text: &[u8]) -> Option<u64>
     ensures { result ≡ number_from least greatest text.now }
 {
     let number = number_up_to(greatest, text)?;

@@ -100,6 +100,7 @@ conversed t0 t1 t2 t3 t4 printed printed_now r0 r1 r2 r3 r4 o0 o4 faults faults_
       wires = subst (λ b. AddsTold b t4.wires (Some said.wire.0)) wires_first
           (subst (λ a. AddsTold t2.wires a (Some said.wire.0)) wires_last (told-taken sent sent_now t2.wires t3.wires said.wire.0 fresh_wire said.wire.1 wires));
       open_before = said.open_before;
+      often = said.often;
       out = (said.out.0, said.out.1, answers-with (Rose faults faults_now) (Rose r0 r4) _ outcome said.out.0 rose said.out.2);
       wire = said.wire.2;
     }
@@ -189,6 +190,7 @@ conversation-later t0 t1 t printed printed_now r0 r1 r o0 o1 o configuration out
   moments = subst (λ b. AddsTold b t.moments (Some h.asked)) moments h.moments;
   wires = subst (λ b. AddsTold b t.wires (Some h.sent)) wires h.wires;
   open_before = h.open_before;
+  often = h.often;
   out = (h.out.0, h.out.1, answers-with (Rose r1 r) (Rose r0 r) _ outcome h.out.0 (rose-before r0 r1 r later) h.out.2);
   wire = h.wire;
 }

@@ -1,16 +1,16 @@
 -- What a run answers where a script is asked for of which a promise speaks.
 --     replies_written      the replies that are promised are the one to the octets
---     promises_kept      the script keeps its promises
+--     promises_kept      what holds throughout the script
 use Rattle.std.proofs.Common.{◌≡◌, ℕ, List, Option, Some, None, refl, ◌∙◌, subst}
 use Rattle.replay.specs.TextWords.{by_history}
 use Rattle.scripts.specs.Sources.{front_read}
 use Rattle.replay.specs.ScriptReplies.{reply_to_script}
-use Rattle.replay.specs.Promises.{KeepsPromises, EveryScriptKeepsPromises}
 use Rattle.replay.specs.FedLines.{FeedsAsMessages}
 use Rattle.scripts.specs.Lines.{ScriptLine}
 use Rattle.scripts.specs.Reply.{Reply}
 use Rattle.replay.proofs.pieces.SentPieces.{pieces-told}
 use Rattle.script_laws.specs.Sending.{AsksAreAnswered}
+use Rattle.script_laws.specs.Throughout.{HoldsThroughout, EveryScriptHolds}
 use Rattle.dnspush.specs.Runs.{AsksReplay, AsksFor, WritesReplies, reply_to}
 use Rattle.dnspush.specs.Words.{Request, On_input, At_path, Big, Serve, Subscribe}
 use Rattle.dnspush.specs.declared.script_command.ScriptCommand.TheVariants.{Replay, Check}
@@ -38,5 +38,5 @@ replies_written ask feed written request reply = record {
     moved : (octets : List ℕ) (promised : Reply) → AsksReplay request → reply_to_script by_history (front_read octets) ≡ promised → written octets promised
     moved octets promised asks is = subst (written octets) (replay_reply-is request octets asks ∙ is) (reply octets)
 
-pub promises_kept : EveryScriptKeepsPromises → (request : Option Request) (octets : List ℕ) (script : List ScriptLine) → AsksFor request (front_read octets) script → KeepsPromises script
-promises_kept keep request octets script asks = keep (front_read octets) script asks.1
+pub promises_kept : EveryScriptHolds → (request : Option Request) (octets : List ℕ) (script : List ScriptLine) → AsksFor request (front_read octets) script → HoldsThroughout script
+promises_kept hold request octets script asks = hold (front_read octets) script asks.1

@@ -1,12 +1,13 @@
 -- What a run answers, by what is told of its source.
-use Rattle.std.proofs.Common.{◌≡◌, ◌⊎◌, inl, inr, ⊎_elim, ℕ, Option, Some, None, Err, List, [], ◌∷◌, ◌++◌, length, refl, sym, ◌∙◌, ap, subst, arith, length-append}
+use Rattle.std.proofs.Common.{◌≡◌, ◌⊎◌, inl, inr, ⊎_elim, ℕ, ◌+◌, ◌-◌, ◌≤◌, drop, Option, Some, None, Err, List, [], ◌∷◌, ◌++◌, length, refl, sym, ◌∙◌, ap, subst, arith, length-append, length-drop}
 use Rattle.std.proofs.lemmas.List.{append_cancel_left}
 use Rattle.std.specs.Prelude.{fold}
 use Rattle.push_base.specs.Causes.{Rose}
 use Rattle.scripts.specs.declared.outcome.Outcome.{Outcome}
 use Rattle.scripts.specs.declared.outcome.Outcome.TheVariants.{WriteFault}
 use Rattle.replay.specs.TextWords.{by_history, by_notices}
-use Rattle.scripts.specs.Sources.{front_read, Gave}
+use Rattle.scripts.specs.Scripts.{max_script}
+use Rattle.scripts.specs.Sources.{front_read, Gave, LostAtMost}
 use Rattle.scripts.specs.Outcomes.{status_of}
 use Rattle.push_base.specs.Written.{IsFrontOf, Took}
 use Rattle.scripts.specs.Reply.{Answers, In_full}
@@ -22,7 +23,7 @@ use Rattle.dnspush.specs.declared.status.Status.{Status}
 use Rattle.dnspush.specs.declared.status.Status.TheVariants.{Usage, Ended}
 use Rattle.push_outside.specs.Opening.{CountsFailure}
 use Rattle.push_outside.specs.Outside.{Used, AddsUse, IsFresh, RaisedBy}
-use Rattle.dnspush.specs.Runs.{reply_to, MayBeOctets, MayHaveGiven, SourceRose}
+use Rattle.dnspush.specs.Runs.{reply_to, MayBeOctets, MayHaveGiven, SourceRose, UsesAtMost}
 use Rattle.dnspush.specs.Status.{code_of}
 use Rattle.dnspush.specs.ScriptCommands.{task_reply}
 use Rattle.dnspush.specs.Words.{Request, On_input, At_path, Big, usage}
@@ -66,6 +67,25 @@ replied_back task cause wider left (Some rest) given (Some gave) taken taken_now
     let had : gave ++ rest ≡ octets = one_added before now (record { gave = gave; left = rest }) octets adds may in
     let told = subst (RepliedTo task cause taken taken_now result) had (subst (λ l. Replied (task_reply by_notices task) cause l taken taken_now result) all replied) in
     (told.0, told.1, answers_with_cause cause wider _ _ _ brings told.2)
+
+-- how far it was read
+pub used_most : (left left_now given given_now : Option (List ℕ)) (before now : Option (List Used)) → IsFresh given → Gave left left_now given given_now → LostAtMost (max_script + 1) left left_now → AddsUse before now given_now left_now → UsesAtMost before now
+used_most left left_now given given_now None now fresh moved lost adds = tt
+used_most left left_now given given_now (Some before) None fresh moved lost adds = tt
+used_most left left_now given None (Some before) (Some now) fresh moved lost adds = absurd adds
+used_most left None given (Some gave) (Some before) (Some now) fresh moved lost adds = absurd adds
+used_most left (Some rest) given (Some gave) (Some before) (Some now) fresh moved lost adds =
+    let front : (n : ℕ) × (n ≤ max_script + 1) × (Some rest ≡ Some (drop n (gave ++ rest))) = subst (λ (l : Option (List ℕ)). LostAtMost (max_script + 1) l (Some rest)) (all_had left given gave rest fresh moved) lost in
+    let is : rest ≡ drop front.0 (gave ++ rest) = cc front.2 in
+    inr (record { gave = gave; left = rest }, adds, most_of (length gave) (length rest) front.0 (max_script + 1) (ap length is ∙ length-drop front.0 (gave ++ rest) ∙ ap (λ (n : ℕ). n - front.0) (length-append gave rest)) front.1)
+  where
+    most_of : (gave rest n most : ℕ) → rest ≡ gave + rest - n → n ≤ most → gave ≤ most
+    most_of gave rest n most is few = omega (arith, is, few)
+
+-- where none was taken back
+pub used_none : (o : Option (List Used)) → UsesAtMost o o
+used_none None = tt
+used_none (Some used) = inl refl
 
 -- a fault of a source that was taken back
 pub brought : (fault_before fault_now before opened now : ℕ) → fault_before ≡ 0 → opened ≡ before → RaisedBy fault_now opened now → Rose fault_before fault_now → Rose before now

@@ -4,12 +4,12 @@
 --     AsksAccepted request script asked, AsksInPieces request script sent, AsksFed request script fed, AsksFor request octets script      the script that is to be run is one of which a promise speaks
 --     WritesReplies request written      each reply that is promised is written, where `written octets reply` says that this one is, for these octets of the source
 --     IsAnswered request .. octets reply      where these may be the octets of the source, this reply was written, or what a fault leaves of it
---     LeavesRest, OpensPath, Reaches, InputStays      what becomes of the source, the path, all else that the outside tells, and the input
-use Rattle.std.specs.Prelude.{◌≡◌, ◌⊎◌, ⊤, ℕ, Some, None, Ok, List, [], ◌∷◌, ◌++◌}
+--     LeavesRest, TakesAtMost, OpensPath, Reaches, InputStays      what becomes of the source, the path, all else that the outside tells, and the input
+use Rattle.std.specs.Prelude.{◌≡◌, ◌⊎◌, ◌≤◌, ◌+◌, ⊤, ℕ, Some, None, Ok, List, [], ◌∷◌, ◌++◌, length}
 use Rattle.std.specs.declared.option.Option.{Option}
 use Rattle.push_base.specs.Causes.{Rose}
 use Rattle.scripts.specs.Lines.{ScriptLine}
-use Rattle.scripts.specs.Scripts.{script_of}
+use Rattle.scripts.specs.Scripts.{max_script, script_of}
 use Rattle.scripts.specs.Reply.{Reply, Answers}
 use Rattle.push_base.specs.Written.{Took}
 use Rattle.replay.specs.TextWords.{by_history}
@@ -134,6 +134,21 @@ LeavesRest (Some (At_path task path)) status left now before after = HasRead sta
 LeavesRest (Some (Big number)) status left now before after = ⊤
 LeavesRest (Some (Serve path)) status left now before after = HasRead status ⊎ ((status ≡ 6) ⊎ (status ≡ 7)) → UsesWhole before after
 LeavesRest (Some (Subscribe path)) status left now before after = HasRead status ⊎ (status ≡ 6) → UsesWhole before after
+
+-- where the sources that were taken back are told, no more than one was, and it gave no more than the octets up to that with which a script is too long
+abbrev pub UsesAtMost : Option (List Used) → Option (List Used) → Type 0
+UsesAtMost None now = ⊤
+UsesAtMost (Some before) None = ⊤
+UsesAtMost (Some before) (Some now) = (now ≡ before) ⊎ ((u : Used) × (now ≡ before ++ u ∷ []) × (length u.gave ≤ max_script + 1))
+
+-- with any status a path's source is read no further
+abbrev pub TakesAtMost : Option Request → Option (List Used) → Option (List Used) → Type 0
+TakesAtMost None before after = ⊤
+TakesAtMost (Some (On_input task)) before after = ⊤
+TakesAtMost (Some (At_path task path)) before after = UsesAtMost before after
+TakesAtMost (Some (Big number)) before after = ⊤
+TakesAtMost (Some (Serve path)) before after = UsesAtMost before after
+TakesAtMost (Some (Subscribe path)) before after = UsesAtMost before after
 
 -- the path alone is handed to `open`, once; with 4 and 5 perhaps not
 abbrev pub OpensPath : Option Request → Option (List (List ℕ)) → Option (List (List ℕ)) → ℕ → Type 0

@@ -17,7 +17,7 @@ use Rattle.scripts.specs.Words.{line}
 use Rattle.replay.specs.Text.{outside_text}
 use Rattle.configurations.specs.Configurations.{Subscribing, subscribing_of}
 use Rattle.subscriber.specs.Said.{saying}
-use Rattle.subscriber.specs.Subscribed.{AnswersSaying, IsOpenUntil, IsSent}
+use Rattle.subscriber.specs.Subscribed.{AnswersSaying, AsksClock, IsOpenUntil, IsSent, MayStopWithin}
 use Rattle.dnspush.specs.Observed.{Observed, IsTold}
 use Rattle.dnspush.specs.Runs.{MayHaveGiven}
 use Rattle.dnspush.specs.Status.{code_of}
@@ -53,6 +53,7 @@ pub record Conversation (before now : Observed) (configuration : Subscribing) (o
   pub moments : AddsTold before.told.moments now.told.moments (Some asked)
   pub wires : AddsTold before.told.wires now.told.wires (Some sent)
   pub open_before : IsOpenUntil configuration read asked
+  pub often : AsksClock configuration read asked (MayStopWithin outcome)
   pub out : Took before.printed now.printed (AnswersSaying (Rose before.reads now.reads) (saying configuration read asked) outcome)
   pub wire : IsSent (saying configuration read asked) outcome sent
 

@@ -5,7 +5,7 @@ ghost use Rattle.push_base.specs.Causes.{Rose};
 ghost use Rattle.push_outside.specs.Outside.{Adds};
 ghost use Rattle.scripts.specs.Sources.{front_read};
 ghost use Rattle.replay.specs.Text.{outside_text};
-ghost use Rattle.dnspush.specs.Runs.{MayHaveGiven, UsesWhole};
+ghost use Rattle.dnspush.specs.Runs.{MayHaveGiven, UsesAtMost, UsesWhole};
 ghost use Rattle.dnspush.specs.Observed.{TellsNumber};
 
 use push_base::{NoMemory, Sink};
@@ -26,6 +26,7 @@ pub fn read_path<O: Outside>(
     ensures writes { O.writes outside.new ≡ O.writes outside.old }
     ensures others { O.others outside.new ≡ O.others outside.old }
     ensures rest { OnOk result (UsesWhole (O.told outside.old).used (O.told outside.new).used) }
+    ensures used { UsesAtMost (O.told outside.old).used (O.told outside.new).used }
     ensures opened { Adds (O.told outside.old).opened (O.told outside.new).opened path.now
         ⊎ (((O.told outside.new).opened ≡ (O.told outside.old).opened) × IsErrOf result ReadError.NoMemory) }
     ensures told { O.told outside.new ≡ record (O.told outside.old) { opened = (O.told outside.new).opened; used = (O.told outside.new).used } }

@@ -3,6 +3,8 @@
 
 mod command_line;
 mod configured;
+mod line_causes;
+mod log_lines;
 mod program;
 mod script_command;
 mod serve_command;
@@ -13,7 +15,9 @@ mod subscribe_command;
 #[cfg(test)]
 mod tests;
 
+use crate::log_lines::{Lines, level_chosen};
 use hublock::NoRegister;
+use log::Logged;
 use push_outside::{Origin, Reading, System, Writing};
 use std::env;
 use std::fs::File;
@@ -29,12 +33,13 @@ fn main(rt: HostRuntime) -> ExitCode {
         File::open(&rt, "/"),
     );
     let words = given_words(&rt);
+    let logged = Logged::new(rt, level_chosen(&rt), Lines(rt));
     let mut input = Reading::new(Origin::Input(rt.stdin()));
     let mut out = Writing::new(rt.stdout());
-    let mut system = System::new(rt, alloc);
+    let mut system = System::new(rt, logged, alloc);
     let register = &mut NoRegister;
     let status = program::run(
-        rt,
+        logged,
         alloc,
         &words,
         &mut input,

@@ -2,12 +2,12 @@
 
 ghost use Rattle.std.specs.Prelude.{◌≡◌, ◌+◌, ◌⊎◌, ℕ, List, IsNone};
 ghost use Rattle.push_base.specs.Causes.{Rose};
-ghost use Rattle.replay.specs.Promises.{KeepsPromises};
 ghost use Rattle.scripts.specs.Lines.{ScriptLine};
 ghost use Rattle.scripts.specs.Scripts.{max_script};
 ghost use Rattle.scripts.specs.Sources.{front_read, LostAtMost};
 ghost use Rattle.push_base.specs.Written.{IsFrontOf, Took};
-ghost use Rattle.dnspush.specs.Runs.{AsksFor, AsksServer, InputStays, IsAnswered, LeavesRest, OpensPath, ReachRose, Reaches, SinkRose, SourceRose, WritesReplies};
+ghost use Rattle.script_laws.specs.Throughout.{HoldsThroughout};
+ghost use Rattle.dnspush.specs.Runs.{AsksFor, AsksServer, InputStays, IsAnswered, LeavesRest, OpensPath, ReachRose, Reaches, SinkRose, SourceRose, TakesAtMost, WritesReplies};
 ghost use Rattle.dnspush.specs.Serving.{IsServed, IsShared};
 ghost use Rattle.dnspush.specs.Status.{code_of};
 ghost use Rattle.dnspush.specs.Subscribing.{IsFollowed};
@@ -21,9 +21,10 @@ use crate::status::{Status, tell_status};
 use crate::subscribe_command::subscribe_at;
 use big_scripts::tell_sums;
 use hublock::Register;
+use log::Log;
 use push_outside::Outside;
 use replay::laws::lone_clients_react_to_each_message;
-use script_laws::{replies_are_one, scripts_keep_promises, sends_are_answered};
+use script_laws::{replies_are_one, scripts_hold_throughout, sends_are_answered};
 use std::alloc::Global;
 use std::sync::Wait;
 use std::thread::Threads;
@@ -34,7 +35,7 @@ pub const USAGE: &[u8] =
 
 /// All that the program does: reads the words of the command line, does what they ask, and answers the status. A server
 /// may wait without an end; each other command is a call of its own that returns.
-pub fn run<R: Threads + Wait + Copy + Send + 'static, O: Outside, W: Register>(
+pub fn run<R: Log + Threads + Wait + Copy + Send + 'static, O: Outside, W: Register>(
     rt: R,
     alloc: Global,
     words: &[String],
@@ -50,8 +51,10 @@ pub fn run<R: Threads + Wait + Copy + Send + 'static, O: Outside, W: Register>(
         (O.In.faults input.old) (O.In.faults input.new) (O.reads outside.old) (O.reads outside.new) result) }
 
     // In every script no `held` line shows an earlier point than one before it of that client and question, and right after a settle each
-    // question that a client wants, and that is served, is held with the newest records.
-    ensures promises { (octets : List ℕ) (script : List ScriptLine) → AsksFor (request_in words.now) (front_read octets) script → KeepsPromises script }
+    // question that a client wants, and that is served, is held with the newest records. After each line what is under way fits, and what
+    // clients hold is the history; no message ends a session or closes its client, but a Retry Delay; and each message that comes to a session
+    // has its turn, in which what the server's table tells is done.
+    ensures promises { (octets : List ℕ) (script : List ScriptLine) → AsksFor (request_in words.now) (front_read octets) script → HoldsThroughout script }
 
     // A subscriber dials the server of its configuration, says what it reads, and sends what is to be sent for that.
     ensures followed { (octets : List ℕ) → IsFollowed (request_in words.now) (record { told = O.told outside.old; printed = O.Out.taken out.old; reads = O.reads outside.old; others = O.others outside.old })
@@ -81,6 +84,7 @@ pub fn run<R: Threads + Wait + Copy + Send + 'static, O: Outside, W: Register>(
     // A script is read to its end, or to the octet with which it is too long.
     ensures rest { LeavesRest (request_in words.now) result (O.In.left input.old) (O.In.left input.new) (O.told outside.old).used (O.told outside.new).used }
     ensures most { LostAtMost (max_script + 1) (O.In.left input.old) (O.In.left input.new) }
+    ensures used { TakesAtMost (request_in words.now) (O.told outside.old).used (O.told outside.new).used }
 
     // What is handed to the outside and taken from it, and that the input isn't read unasked.
     ensures opened { OpensPath (request_in words.now) (O.told outside.old).opened (O.told outside.new).opened result }
@@ -90,7 +94,7 @@ pub fn run<R: Threads + Wait + Copy + Send + 'static, O: Outside, W: Register>(
     replies_are_one();
     sends_are_answered();
     lone_clients_react_to_each_message();
-    scripts_keep_promises();
+    scripts_hold_throughout();
     match read_words(words) {
         None => tell_status(out, Status::Usage, USAGE).code(),
         Some(Command::OnInput(task)) => Status::Ended(on_source(alloc, task, input, out)).code(),
@@ -100,6 +104,6 @@ pub fn run<R: Threads + Wait + Copy + Send + 'static, O: Outside, W: Register>(
         }
         Some(Command::Big(number)) => Status::Ended(tell_sums(alloc, number, out)).code(),
         Some(Command::Serve(path)) => serve_at(rt, alloc, path, out, outside, register).code(),
-        Some(Command::Subscribe(path)) => subscribe_at(alloc, path, out, outside).code(),
+        Some(Command::Subscribe(path)) => subscribe_at(&rt, alloc, path, out, outside).code(),
     }
 }

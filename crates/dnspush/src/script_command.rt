@@ -9,7 +9,7 @@ ghost use Rattle.scripts.specs.Reply.{Answers};
 ghost use Rattle.push_base.specs.Written.{Took};
 ghost use Rattle.replay.specs.TextWords.{by_notices};
 ghost use Rattle.push_outside.specs.Outside.{Adds};
-ghost use Rattle.dnspush.specs.Runs.{MayHaveGiven, UsesWhole};
+ghost use Rattle.dnspush.specs.Runs.{MayHaveGiven, UsesAtMost, UsesWhole};
 ghost use Rattle.dnspush.specs.ScriptCommands.{task_reply};
 
 use push_base::{Sink, Source};
@@ -63,6 +63,7 @@ pub fn at_path<O: Outside>(
     ensures read_fault { result ≡ Outcome.ReadFault → Rose (O.reads outside.old) (O.reads outside.new) }
     ensures write_fault { result ≡ Outcome.WriteFault → Rose (O.Out.faults out.old) (O.Out.faults out.new) }
     ensures rest { HasRead (status_of result) → UsesWhole (O.told outside.old).used (O.told outside.new).used }
+    ensures used { UsesAtMost (O.told outside.old).used (O.told outside.new).used }
     ensures opened { Adds (O.told outside.old).opened (O.told outside.new).opened path.now
         ⊎ (((O.told outside.new).opened ≡ (O.told outside.old).opened) × ((result ≡ Outcome.NoMemory) ⊎ (result ≡ Outcome.WriteFault))) }
     ensures told { O.told outside.new ≡ record (O.told outside.old) { opened = (O.told outside.new).opened; used = (O.told outside.new).used } }

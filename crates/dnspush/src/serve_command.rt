@@ -13,17 +13,20 @@ ghost use Rattle.scripts.specs.Outcomes.{HasRead};
 ghost use Rattle.configurations.specs.Configurations.{serving_of};
 ghost use Rattle.configurations.specs.Kept.{CanServe, head_kept, serving_kept};
 ghost use Rattle.serving.specs.Serving.{Accepts, has_fault, is_full_run, numbers_of};
-ghost use Rattle.dnspush.specs.Runs.{MayHaveGiven, UsesWhole};
+ghost use Rattle.dnspush.specs.Runs.{MayHaveGiven, UsesAtMost, UsesWhole};
 ghost use Rattle.dnspush.specs.Serving.{AddsAll, BeginsBy, HasCause, HearsBy, Serves, ServesBy, Shares, StartsBy, TellsEnd, end_text, first_hub, tells_full_run};
 ghost use Rattle.dnspush.specs.Status.{code_of};
 ghost use Rattle.dnspush.specs.declared.status.Status.TheVariants as statuses;
 ghost use Rattle.serving.specs.declared.serve_end.ServeEnd.TheVariants as ends;
 
 use crate::configured::{read_path, tell_line};
+use crate::line_causes::{SERVE, tell_cause};
+use crate::log_lines::{tell_links, tell_listening, tell_server_end};
 use crate::status::{OUTSIDE_FAULT, Status, tell_status};
 use configurations::{FedLink, ReadServe, ServeConfiguration, read_serve};
 use history::entry::Totals;
 use hublock::{Blanks, Books, Register};
+use log::Log;
 use push_base::{NoMemory, Sink};
 use push_outside::{OpenFault, Outside};
 use pushserver::Hub;
@@ -38,7 +41,7 @@ use std::thread::Threads;
 const FULL: &[u8] = b"full\n";
 
 /// Reads the configuration at a path, hands its source back, and serves what it says.
-pub fn serve_at<R: Threads + Wait + Copy + Send + 'static, O: Outside, W: Register>(
+pub fn serve_at<R: Log + Threads + Wait + Copy + Send + 'static, O: Outside, W: Register>(
     rt: R,
     alloc: Global,
     path: &str,
@@ -58,6 +61,7 @@ pub fn serve_at<R: Threads + Wait + Copy + Send + 'static, O: Outside, W: Regist
     ensures write_fault { result ≡ statuses.Ended Outcome.WriteFault → Rose (O.Out.faults out.old) (O.Out.faults out.new) }
     ensures outside_fault { result ≡ statuses.OutsideFault → Rose (O.others outside.old) (O.others outside.new) }
     ensures rest { HasRead (code_of result) ⊎ ((code_of result ≡ 6) ⊎ (code_of result ≡ 7)) → UsesWhole (O.told outside.old).used (O.told outside.new).used }
+    ensures used { UsesAtMost (O.told outside.old).used (O.told outside.new).used }
     ensures opened { Adds (O.told outside.old).opened (O.told outside.new).opened path.now
         ⊎ (((O.told outside.new).opened ≡ (O.told outside.old).opened) × ((code_of result ≡ 4) ⊎ (code_of result ≡ 5))) }
     ensures told { O.told outside.new ≡ record (O.told outside.old) {
@@ -77,7 +81,7 @@ pub fn serve_at<R: Threads + Wait + Copy + Send + 'static, O: Outside, W: Regist
 }
 
 // Serves what a configuration says, or tells its first line outside.
-fn serve_text<R: Threads + Wait + Copy + Send + 'static, O: Outside, W: Register>(
+fn serve_text<R: Log + Threads + Wait + Copy + Send + 'static, O: Outside, W: Register>(
     rt: R,
     alloc: Global,
     octets: &[u8],
@@ -104,11 +108,16 @@ fn serve_text<R: Threads + Wait + Copy + Send + 'static, O: Outside, W: Register
 {
     match read_serve(alloc, octets) {
         Ok(ReadServe::Whole(configuration)) => {
+            tell_links(&rt, &configuration);
             let sessions = configuration.sessions;
             let end = serve_configured(rt, alloc, configuration, outside, register);
+            tell_server_end(&rt, end);
             tell_end(alloc, sessions, end, out)
         }
-        Ok(ReadServe::Outside(number)) => Status::Ended(tell_line(alloc, number, out)),
+        Ok(ReadServe::Outside(number)) => {
+            tell_cause(&rt, SERVE, octets, number);
+            Status::Ended(tell_line(alloc, number, out))
+        }
         Err(NoMemory) => Status::Ended(tell(out, Outcome::NoMemory, NO_MEMORY)),
     }
 }
@@ -182,7 +191,7 @@ fn end_of(fault: OpenFault) -> ServeEnd
 }
 
 // Opens what a configuration names, and serves. All is handed back that no job holds.
-fn serve_configured<R: Threads + Wait + Copy + Send + 'static, O: Outside, W: Register>(
+fn serve_configured<R: Log + Threads + Wait + Copy + Send + 'static, O: Outside, W: Register>(
     rt: R,
     alloc: Global,
     configuration: ServeConfiguration,
@@ -215,6 +224,7 @@ fn serve_configured<R: Threads + Wait + Copy + Send + 'static, O: Outside, W: Re
     };
     match outside.doors(listen.as_str()) {
         Ok(mut doors) => {
+            tell_listening(&rt, &listen);
             let feeds = feeds.as_slice();
             let end = serve_doors(
                 rt, alloc, hub, feeds, sessions, turns, &mut doors, outside, register,
@@ -227,7 +237,7 @@ fn serve_configured<R: Threads + Wait + Copy + Send + 'static, O: Outside, W: Re
 }
 
 // Opens the sockets of the links, and serves those whom the doors let in.
-fn serve_doors<R: Threads + Wait + Copy + Send + 'static, O: Outside, W: Register>(
+fn serve_doors<R: Log + Threads + Wait + Copy + Send + 'static, O: Outside, W: Register>(
     rt: R,
     alloc: Global,
     hub: Hub,
@@ -269,7 +279,7 @@ fn serve_doors<R: Threads + Wait + Copy + Send + 'static, O: Outside, W: Registe
 
 // Serves with all that is needed for it.
 fn serve_setup<
-    R: Threads + Wait + Copy + Send + 'static,
+    R: Log + Threads + Wait + Copy + Send + 'static,
     O: Outside,
     B: Books + Send + Sync + 'static,
     W: Register,

@@ -5,6 +5,7 @@ ghost use Rattle.push_base.specs.Items.{HasOctets};
 ghost use Rattle.push_outside.specs.MemOutside.{AreNewLinks, IsNewClock, IsNewDoors, IsNewSource, IsNewStarter};
 
 use crate::tests::{Case, file, runs_so};
+use log::Log;
 use push_base::{
     MemClock, MemDatagrams, MemDoors, MemItem, MemLine, MemSink, MemSource, MemStarter, Octets,
 };
@@ -219,7 +220,7 @@ fn served_outside(alloc: Global, failing: &Failing) -> Result<MemOutside, AllocE
     with_doors(alloc, failing, files, listeners)
 }
 
-fn serves_so<R: Threads + Wait + Copy + Send + 'static>(
+fn serves_so<R: Log + Threads + Wait + Copy + Send + 'static>(
     rt: R,
     alloc: Global,
     failing: &Failing,

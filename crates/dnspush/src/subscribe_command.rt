@@ -8,14 +8,16 @@ ghost use Rattle.configurations.specs.Kept.{subscribing_kept};
 ghost use Rattle.scripts.specs.Sources.{front_read};
 ghost use Rattle.scripts.specs.Outcomes.{HasRead};
 ghost use Rattle.replay.specs.Text.{outside_text};
-ghost use Rattle.dnspush.specs.Runs.{MayHaveGiven, UsesWhole};
+ghost use Rattle.dnspush.specs.Runs.{MayHaveGiven, UsesAtMost, UsesWhole};
 ghost use Rattle.dnspush.specs.Status.{code_of};
 ghost use Rattle.dnspush.specs.Subscribing.{Conversation, Follows};
 ghost use Rattle.dnspush.specs.declared.status.Status.TheVariants as statuses;
 
 use crate::configured::{read_path, tell_line};
+use crate::line_causes::{SUBSCRIBE, tell_cause};
 use crate::status::{OUTSIDE_FAULT, Status, tell_status};
 use configurations::{ReadSubscribe, SubscribeConfiguration, read_subscribe};
+use log::Log;
 use push_base::NoMemory;
 use push_outside::{OpenFault, Outside};
 use scripts::{NO_MEMORY, Outcome, READ_FAULT, ReadError, tell};
@@ -23,7 +25,8 @@ use std::alloc::Global;
 use subscriber::subscribe;
 
 /// Reads the configuration at a path, hands its source back, and follows what it says.
-pub fn subscribe_at<O: Outside>(
+pub fn subscribe_at<R: Log, O: Outside>(
+    rt: &R,
     alloc: Global,
     path: &str,
     out: &mut O::Out,
@@ -41,6 +44,7 @@ pub fn subscribe_at<O: Outside>(
         → Rose (O.Out.faults out.old) (O.Out.faults out.new) ⊎ Rose (O.writes outside.old) (O.writes outside.new) }
     ensures outside_fault { result ≡ statuses.OutsideFault → Rose (O.others outside.old) (O.others outside.new) }
     ensures rest { HasRead (code_of result) ⊎ (code_of result ≡ 6) → UsesWhole (O.told outside.old).used (O.told outside.new).used }
+    ensures used { UsesAtMost (O.told outside.old).used (O.told outside.new).used }
     ensures opened { Adds (O.told outside.old).opened (O.told outside.new).opened path.now
         ⊎ (((O.told outside.new).opened ≡ (O.told outside.old).opened) × ((code_of result ≡ 4) ⊎ (code_of result ≡ 5))) }
     ensures told { O.told outside.new ≡ record (O.told outside.old) {
@@ -53,14 +57,20 @@ pub fn subscribe_at<O: Outside>(
     } }
 {
     match read_path(alloc, path, outside) {
-        Ok(octets) => follow(alloc, &octets, out, outside),
+        Ok(octets) => follow(rt, alloc, &octets, out, outside),
         Err(ReadError::Failed) => Status::Ended(tell(out, Outcome::ReadFault, READ_FAULT)),
         Err(ReadError::NoMemory) => Status::Ended(tell(out, Outcome::NoMemory, NO_MEMORY)),
     }
 }
 
 // Follows a configuration, or tells its first line outside.
-fn follow<O: Outside>(alloc: Global, octets: &[u8], out: &mut O::Out, outside: &mut O) -> Status
+fn follow<R: Log, O: Outside>(
+    rt: &R,
+    alloc: Global,
+    octets: &[u8],
+    out: &mut O::Out,
+    outside: &mut O,
+) -> Status
     ensures followed { Follows
         (record { told = O.told outside.old; printed = O.Out.taken out.old; reads = O.reads outside.old; others = O.others outside.old })
         (record { told = O.told outside.new; printed = O.Out.taken out.new; reads = O.reads outside.new; others = O.others outside.new })
@@ -80,7 +90,10 @@ fn follow<O: Outside>(alloc: Global, octets: &[u8], out: &mut O::Out, outside: &
 {
     match read_subscribe(alloc, octets) {
         Ok(ReadSubscribe::Whole(configuration)) => dial_server(alloc, &configuration, out, outside),
-        Ok(ReadSubscribe::Outside(number)) => Status::Ended(tell_line(alloc, number, out)),
+        Ok(ReadSubscribe::Outside(number)) => {
+            tell_cause(rt, SUBSCRIBE, octets, number);
+            Status::Ended(tell_line(alloc, number, out))
+        }
         Err(NoMemory) => Status::Ended(tell(out, Outcome::NoMemory, NO_MEMORY)),
     }
 }

@@ -6,6 +6,7 @@ ghost use Rattle.push_outside.specs.MemOutside.{IsNewPair, IsNewSource};
 
 use crate::program::run;
 use hublock::NoRegister;
+use log::Log;
 use push_base::{MemItem, MemLine, MemSink, MemSource, Octets};
 use push_outside::{MemObjects, MemOutside};
 use std::alloc::{AllocError, Global};
@@ -199,7 +200,7 @@ fn shows(case: &Case, status: u8, wrote: &[u8]) -> Result<(), Fail> {
 }
 
 // Whether a run over this outside is so.
-pub(crate) fn runs_so<R: Threads + Wait + Copy + Send + 'static>(
+pub(crate) fn runs_so<R: Log + Threads + Wait + Copy + Send + 'static>(
     rt: R,
     alloc: Global,
     case: &Case,
@@ -214,7 +215,7 @@ pub(crate) fn runs_so<R: Threads + Wait + Copy + Send + 'static>(
 }
 
 // Whether a run that reaches nothing else is so.
-fn is_so<R: Threads + Wait + Copy + Send + 'static>(
+fn is_so<R: Log + Threads + Wait + Copy + Send + 'static>(
     rt: R,
     alloc: Global,
     case: &Case,
@@ -247,7 +248,7 @@ fn tells_two_paths(outside: &MemOutside) -> Result<(), Fail> {
     Err(Fail::new(format_args!("{} reads", outside.reads())))
 }
 
-fn reads_paths<R: Threads + Wait + Copy + Send + 'static>(
+fn reads_paths<R: Log + Threads + Wait + Copy + Send + 'static>(
     rt: R,
     alloc: Global,
     outside: &mut MemOutside,
@@ -315,7 +316,7 @@ fn tells_one_connection(outside: &MemOutside) -> Result<(), Fail> {
     Err(Fail::new(format_args!("{dialled} {lines} {wires} {clocks}")))
 }
 
-fn subscribes<R: Threads + Wait + Copy + Send + 'static>(
+fn subscribes<R: Log + Threads + Wait + Copy + Send + 'static>(
     rt: R,
     alloc: Global,
     outside: &mut MemOutside,

@@ -12,7 +12,7 @@ use Rattle.flight_laws.specs.Laws.{EntriesLeaveIt, SessionsEnd, StopsAreAskedFor
 
 -- neither the history nor the names that wait are known at both ends
 pub entries-leave : EntriesLeaveIt
-entries-leave hub entry changed rows point told session client c up_wire down_wire i = i
+entries-leave hub entry changed point told session client c up_wire down_wire i = i
 
 module _ (hub : Hub) (reason : EndReason) (told : List (ℕ × ℕ)) (session : Session) (client : Client) (c : Connection) (up down : List ℕ)
     (i : InFlight (ends_of hub told session client c) up down) where

@@ -19,7 +19,7 @@ use Rattle.pushsession.specs.declared.session_status.SessionStatus.TheVariants.{
 use Rattle.pushsession.specs.Sessions.{without_first, copied, noted, answers}
 use Rattle.pushsession.specs.Subscribing.{subscribed, says_first_answer}
 use Rattle.pushserver.specs.declared.given.Given.TheVariants.{Bytes, Worked}
-use Rattle.pushserver.specs.Hubs.{newest, now, state_now, records_now, keeps_now, session_of, in_session, entry_changes, entered, can_enter}
+use Rattle.pushserver.specs.Hubs.{newest, now, state_now, keeps_now, session_of, in_session, entry_changes, entered, can_enter}
 use Rattle.pushserver.specs.Giving.{is_served_at, reacted, did, copies, copies_or, given_after, after_reaction, by_standing, give}
 use Rattle.pushserver.specs.PlainHubs.{Session, Subscription, Hub, Giving, leaves_queue, note_of, first_answer}
 use Rattle.pushserver.proofs.SessionLists.{found-all, found-in, found-elsewhere}
@@ -140,7 +140,7 @@ module _ (hub between : Hub) (number : ℕ) (later : Session) (has : HasAfter hu
   }
     where
       note : Session → Session
-      note s = noted (keeps_now between) (entry_changes (entries.Reconfirm link key) between) (records_now between) (newest between) s
+      note s = noted (keeps_now between) (entry_changes (entries.Reconfirm link key) between) (newest between) s
 
       itself : (o : Option Session) → option_map note o ≡ o
       itself None = refl

@@ -45,10 +45,10 @@ module _ (number : ℕ) (told : List (ℕ × ℕ)) (client : Client) (c : Connec
     behind-entry : (entry : Entry) → Stays hub → Stays (entered entry hub)
     behind-entry entry (session, there, i) =
         let later : Hub = record hub { history = hub.history ++ entry ∷ [] } in
-        let note : Session → Session = noted (keeps_now hub) (changes (records_now hub) (records_now later)) (records_now hub) (newest hub) in (
+        let note : Session → Session = noted (keeps_now hub) (changes (records_now hub) (records_now later)) (newest hub) in (
           note session,
           found-all note number hub.sessions ∙ ap (option_map note) there,
-          entries-leave hub entry (changes (records_now hub) (records_now later)) (records_now hub) (newest hub) told session client c up_wire down_wire i,
+          entries-leave hub entry (changes (records_now hub) (records_now later)) (newest hub) told session client c up_wire down_wire i,
         )
 
     -- sessions end by their timers

@@ -19,5 +19,5 @@ module _ (hub : Hub) (link : ℕ) (key : Key) where
       let same : records_now (with_entry (entries.Reconfirm link key) hub) ≡ records_now hub = ap records (now-entered (past_of hub) (entries.Reconfirm link key)) ∙ records-reconfirmed (state_now hub) link key in
       ap (changes (records_now hub)) same ∙ changes-self (records_now hub)
 
-  pub session-reconfirmed : (s : Session) → noted (keeps_now hub) (entry_changes (entries.Reconfirm link key) hub) (records_now hub) (newest hub) s ≡ s
-  session-reconfirmed s = ap (λ (changed : List Changed). noted (keeps_now hub) changed (records_now hub) (newest hub) s) changes-nothing
+  pub session-reconfirmed : (s : Session) → noted (keeps_now hub) (entry_changes (entries.Reconfirm link key) hub) (newest hub) s ≡ s
+  session-reconfirmed s = ap (λ (changed : List Changed). noted (keeps_now hub) changed (newest hub) s) changes-nothing

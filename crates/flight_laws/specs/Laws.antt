@@ -12,7 +12,6 @@ use Rattle.std.specs.Prelude.{◌≡◌, ℕ, true, not, ◌&&◌, ◌||◌, con
 use Rattle.std.specs.List.{list_any, IsDistinct}
 use Rattle.dnsname.specs.Names.{is_name}
 use Rattle.rrset.specs.Rcodes.{notauth}
-use Rattle.rrset.specs.RecordSet.{RecordSet}
 use Rattle.rrset.specs.Records.{same_question}
 use Rattle.rrset.specs.declared.record.Changed.{Changed}
 use Rattle.rrset.specs.declared.record.Question.{Question}
@@ -201,8 +200,8 @@ AcceptedOnesAreEnded = (e : BothEnds) (taken : List Made) (fs : List Flying) (up
 
 -- an entry goes to the end of the history, and the names that it touches wait
 abbrev pub EntriesLeaveIt : Type 0
-EntriesLeaveIt = (hub : Hub) (entry : Entry) (changed : List Changed) (rows : RecordSet) (point : ℕ) (told : List (ℕ × ℕ)) (session : Session) (client : Client) (c : Connection) (up_wire down_wire : List ℕ)
-    → let later : Session = noted (keeps_now hub) changed rows point session in
+EntriesLeaveIt = (hub : Hub) (entry : Entry) (changed : List Changed) (point : ℕ) (told : List (ℕ × ℕ)) (session : Session) (client : Client) (c : Connection) (up_wire down_wire : List ℕ)
+    → let later : Session = noted (keeps_now hub) changed point session in
     InFlight (ends_of hub told session client c) (going_up session c up_wire) (going_down session c down_wire)
     → InFlight (ends_of (record hub { history = hub.history ++ entry ∷ [] }) told later client c) (going_up later c up_wire) (going_down later c down_wire)
 

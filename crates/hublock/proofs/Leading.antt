@@ -1,6 +1,6 @@
 -- Lists of calls, one behind the other.
 use Rattle.std.proofs.Common.{◌≡◌, ℕ, ◌+◌, ◌-◌, ◌^◌, ◌≤◌, ◌<◌, ◌⊎◌, inl, inr, Bool, true, false, List, [], ◌∷◌, ◌++◌, length, refl, sym, ap, ◌∙◌, subst, append_assoc, append-nil, length-append, arith}
-use Rattle.std.specs.Prelude.{None, Some, Ok, Err}
+use Rattle.std.specs.Prelude.{None, Some, Ok, Err, ◌==◌}
 use Rattle.std.specs.declared.option.Option.{Option}
 use Rattle.std.specs.List.{AllByRecursion}
 use Rattle.std.specs.Io.KnownBytes.{append_known}
@@ -10,7 +10,7 @@ use Rattle.pushserver.specs.KeptHubs.{KeptHub}
 use Rattle.hublock.specs.declared.loop_end.LoopEnd.{LoopEnd}
 use Rattle.hublock.specs.declared.loop_end.LoopEnd.TheVariants as ends
 use Rattle.hublock.specs.Calls.{HubCall}
-use Rattle.hublock.specs.Gates.{GateState, DoesTurn, Answers, GoesOn, WasDone, StopsAtOnce, Leads, LeadsTo, RoseBy}
+use Rattle.hublock.specs.Gates.{GateState, DoesTurn, Answers, GoesOn, WasDone, StopsAtOnce, IsIdle, Waits, WaitsUnless, Leads, LeadsTo, RoseBy}
 use Rattle.hublock.specs.Loops.{Ran, CountsMore, UsesTurns, LeavesRest, LastWas, EndsAt}
 
 -- ---- counts
@@ -75,7 +75,7 @@ leads_join a b c (x ∷ xs) ys p q = (p.0, p.1, leads_join p.0 b c xs ys p.2 q)
 pub to_none : (s : Option GateState) → LeadsTo [] s s
 unfolding LeadsTo
 to_none None = tt
-to_none (Some s) = record { leads = refl; quit = refl; counted = rose_none s.calls }
+to_none (Some s) = record { leads = refl; quit = refl; counted = rose_none s.calls; over = refl }
 
 pub to_one : (call : HubCall) (a b : Option GateState) → DoesTurn call a b → LeadsTo (call ∷ []) a b
 unfolding LeadsTo
@@ -86,6 +86,7 @@ to_one call (Some a) (Some b) m = record {
   leads = (b.hub, m.does, refl);
   quit = m.quit;
   counted = rose_more 0 a.calls a.calls b.calls (rose_none a.calls) m.counted;
+  over = m.over;
 }
 
 pub to_join : (xs ys : List HubCall) (a b c : Option GateState) → LeadsTo xs a b → LeadsTo ys b c → LeadsTo (xs ++ ys) a c
@@ -99,7 +100,22 @@ to_join xs ys (Some a) (Some b) (Some c) p q = record {
   leads = leads_join a.hub b.hub c.hub xs ys p.leads q.leads;
   quit = q.quit ∙ p.quit;
   counted = subst (λ (n : ℕ). RoseBy n a.calls c.calls) (sym (length-append xs ys)) (rose_join (length xs) (length ys) a.calls b.calls c.calls p.counted q.counted);
+  over = q.over ∙ p.over;
 }
+
+-- a call behind which the caller waited
+pub turn_waits : (call : HubCall) (a b c : Option GateState) → DoesTurn call a b → Waits b c → DoesTurn call a c
+turn_waits call a None c p w = subst (λ (s : Option GateState). DoesTurn call a s) (sym w) p
+turn_waits call None (Some b) c p w = absurd p
+turn_waits call (Some a) (Some b) c p w = subst (λ (s : Option GateState). DoesTurn call (Some a) s) (sym w) (record { does = p.does; quit = p.quit; counted = p.counted; over = p.over })
+
+pub turn_may_wait : (idle : Bool) (call : HubCall) (a b c : Option GateState) → DoesTurn call a b → WaitsUnless idle b c → DoesTurn call a c
+turn_may_wait true call a b c p w = subst (λ (s : Option GateState). DoesTurn call a s) (sym w) p
+turn_may_wait false call a b c p w = turn_waits call a b c p w
+
+-- where nothing was taken the caller may wait, behind a test that changed nothing
+pub idle_after_none : (a b : Option GateState) (count : ℕ) → count ≡ 0 → b ≡ a → IsIdle (count == 0) a → IsIdle true b
+idle_after_none a b count none e idle = subst (λ (s : Option GateState). IsIdle true s) (sym e) (subst (λ (n : ℕ). IsIdle (n == 0) a) none idle)
 
 -- whether it is to stop stays
 pub answers_after : (xs : List HubCall) (a b : Option GateState) (answer : Bool) → LeadsTo xs a b → Answers a answer → Answers b answer

@@ -6,3 +6,5 @@ pub mod Writes
 pub mod LineReads
 pub mod Receipts
 pub mod Marking
+pub mod Leaving
+pub mod Working

@@ -9,10 +9,10 @@ use Rattle.push_base.specs.Causes.{CountsOne}
 use Rattle.hublock.specs.declared.loop_end.LoopEnd.{LoopEnd}
 use Rattle.hublock.specs.declared.loop_end.LoopEnd.TheVariants as ends
 use Rattle.hublock.specs.Calls.{HubCall, Took}
-use Rattle.hublock.specs.Gates.{GateState, DoesTurn, Answers, GoesOn, WasDone, LeadsTo}
+use Rattle.hublock.specs.Gates.{GateState, DoesTurn, Answers, GoesOn, WasDone, Waits, LeadsTo}
 use Rattle.hublock.specs.Loops.{Observed, CountsMore, UsesTurns, LeavesRest}
 use Rattle.hublock.specs.Reader.{IsTake, taken_in, octets_taken, HandsOn, MayLeave, IsStop, Offers, HandsAll, ReadRun, ReadCause, ReadsUntil, ReadsOn, max_read}
-use Rattle.hublock.proofs.Leading.{known_none, known_join, counts_none, counts_one, counts_join, answers_after, ran_none, ran_one, ran_join, uses_more, uses_join, leaves_none, goes_on_by, done_by, stops_now, stops_where_on, WentOn, stops_join}
+use Rattle.hublock.proofs.Leading.{known_none, known_join, counts_none, counts_one, counts_join, answers_after, turn_waits, ran_none, ran_one, ran_join, uses_more, uses_join, leaves_none, goes_on_by, done_by, stops_now, stops_where_on, WentOn, stops_join}
 
 -- ---- octets that are handed on
 
@@ -69,6 +69,15 @@ ended_after_none session a b m c piece turns count answer some more none same tu
     let done : WasDone m = done_by m answer told is in
     let still : GoesOn m = answers_after (Took session piece count ∷ []) a m false one.ran.leads on in
     subst P (sym e) (Took session piece count ∷ [], subst R none one, may_where_done m piece done still, omega arith, done)
+
+-- nothing was taken, and the loop waited
+pub offered_none : (session : ℕ) (a b m d c : Option GateState) (piece : List ℕ) (turns count : ℕ)
+    → count ≡ 0 → 0 < turns → b ≡ a → DoesTurn (Took session piece count) b m → d ≡ m → Waits d c → Offers a c session piece turns (Ok 0)
+offered_none session a b m d c piece turns count none more same turn e w =
+    let call : HubCall = Took session piece count in
+    let there : DoesTurn call b d = subst (λ (s : Option GateState). DoesTurn call b s) (sym e) turn in
+    let here : DoesTurn call a c = subst (λ (s : Option GateState). DoesTurn call s c) same (turn_waits call b d c there w) in
+    (subst (λ (n : ℕ). DoesTurn (Took session piece n) a c) none here, omega arith, more)
 
 -- the loop has handed on these octets
 abbrev pub HandedSoFar : Option GateState → Option GateState → ℕ → List ℕ → List ℕ → ℕ → ℕ → Type 0

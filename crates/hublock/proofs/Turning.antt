@@ -4,15 +4,16 @@ use Rattle.push_base.specs.Causes.{next_count}
 use Rattle.pushserver.specs.KeptHubs.{KeptHub}
 use Rattle.hublock.specs.Calls.{HubCall, Does}
 use Rattle.hublock.specs.Gates.{GateState, Made}
+use Rattle.hublock.specs.declared.signal.Overs.{Overs}
 
-abbrev state : KeptHub → Bool → ℕ → GateState
-state hub quit calls = record { hub = hub; quit = quit; calls = calls }
+abbrev state : KeptHub → Bool → ℕ → Bool → Overs → GateState
+state hub quit calls idle over = record { hub = hub; quit = quit; calls = calls; idle = idle; over = over }
 
 -- the gate's state before is that of its parts
-pub made_of : (call : HubCall) (before : GateState) (hub : KeptHub) (quit : Bool) (calls count : ℕ) (after : KeptHub)
-    → state hub quit calls ≡ before → count ≡ next_count calls → Does hub call after → Made call before (state after quit count) (next_count before.calls)
-made_of call before hub quit calls count after e counted does = rw (← e) (record { does = does; quit = refl; counted = counted })
+pub made_of : (call : HubCall) (before : GateState) (hub : KeptHub) (quit : Bool) (calls : ℕ) (idle : Bool) (over : Overs) (count : ℕ) (after : KeptHub) (idle_now : Bool)
+    → state hub quit calls idle over ≡ before → count ≡ next_count calls → Does hub call after → Made call before (state after quit count idle_now over) (next_count before.calls)
+made_of call before hub quit calls idle over count after idle_now e counted does = rw (← e) (record { does = does; quit = refl; counted = counted; over = refl })
 
-pub made_apart : (call : HubCall) (before : GateState) (hub : KeptHub) (quit : Bool) (calls : ℕ) (after : KeptHub)
-    → state hub quit calls ≡ before → Does hub call after → Made call before (state after quit calls) before.calls
-made_apart call before hub quit calls after e does = rw (← e) (record { does = does; quit = refl; counted = refl })
+pub made_apart : (call : HubCall) (before : GateState) (hub : KeptHub) (quit : Bool) (calls : ℕ) (idle : Bool) (over : Overs) (after : KeptHub)
+    → state hub quit calls idle over ≡ before → Does hub call after → Made call before (state after quit calls idle over) before.calls
+made_apart call before hub quit calls idle over after e does = rw (← e) (record { does = does; quit = refl; counted = refl; over = refl })

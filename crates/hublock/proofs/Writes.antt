@@ -14,10 +14,10 @@ use Rattle.pushserver.specs.declared.fault.HubFault.TheVariants as faults
 use Rattle.hublock.specs.declared.loop_end.LoopEnd.{LoopEnd}
 use Rattle.hublock.specs.declared.loop_end.LoopEnd.TheVariants as ends
 use Rattle.hublock.specs.Calls.{HubCall, Took, Gave, Received, Passed, Left, Connected}
-use Rattle.hublock.specs.Gates.{GateState, DoesTurn, Answers, GoesOn, WasDone, LeadsTo}
+use Rattle.hublock.specs.Gates.{GateState, DoesTurn, Answers, GoesOn, WasDone, WaitsUnless, LeadsTo}
 use Rattle.hublock.specs.Loops.{Observed, CountsMore, UsesTurns, LeavesRest, LastWas, IsEndOf}
 use Rattle.hublock.specs.Writer.{IsGive, octets_of, given_in, octets_given, WriteRun, GoesOnWith, IsPassingGive, EndsWith, IsLastGive, IsStarvedGive, WriteCause, WritesUntil, WritesOn, TakesPiece}
-use Rattle.hublock.proofs.Leading.{known_none, known_join, counts_none, counts_one, counts_join, answers_after, ran_none, ran_one, ran_join, last_one, last_join, uses_join, all_join, at_one, at_join}
+use Rattle.hublock.proofs.Leading.{known_none, known_join, counts_none, counts_one, counts_join, answers_after, turn_may_wait, ran_none, ran_one, ran_join, last_one, last_join, uses_join, all_join, at_one, at_join}
 
 -- ---- writes of one piece
 
@@ -120,14 +120,14 @@ starved_at_give session a b gate before after turns same turn told calls more =
 
 -- nothing was given, and the loop waits, or ends where all was done before the call
 pub waited : (session : ℕ) (a b : Observed ℕ) (gate middle : Option GateState) (before after : List ℕ) (answer : Result Given HubFault) (turns : ℕ) (idle : Bool) (result : Result ℕ LoopEnd)
-    → gate ≡ a.gate → DoesTurn (Gave session before after answer) gate middle → b.gate ≡ middle → octets_of answer after ≡ [] → b.told ≡ a.told → b.calls ≡ a.calls → 0 < turns
+    → gate ≡ a.gate → DoesTurn (Gave session before after answer) gate middle → WaitsUnless idle middle b.gate → octets_of answer after ≡ [] → b.told ≡ a.told → b.calls ≡ a.calls → 0 < turns
     → (WasDone b.gate → EndsWith b.gate answer) → (GoesOn b.gate → GoesOnWith b.gate answer) → Answers a.gate idle → result ≡ cond idle (Err ends.Finished) (Ok (turns - 1)) → WritesOn session a b turns result
 waited session a b gate middle before after answer turns true result same turn later none told calls more ends_so goes_so idle is =
-    let now : DoesTurn (Gave session before after answer) gate b.gate = subst (λ (s : Option GateState). DoesTurn (Gave session before after answer) gate s) (sym later) turn in
+    let now : DoesTurn (Gave session before after answer) gate b.gate = turn_may_wait true (Gave session before after answer) gate middle b.gate turn later in
     let done : WasDone b.gate = answers_after (Gave session before after answer ∷ []) a.gate b.gate true (ran_one (IsGive session) (Gave session before after answer) a.gate gate b.gate refl same now).leads idle in
     subst (λ (r : Result ℕ LoopEnd). WritesOn session a b turns r) (sym is) (finished session a b gate before after answer turns same now none told calls more (ends_so done))
 waited session a b gate middle before after answer turns false result same turn later none told calls more ends_so goes_so idle is =
-    let now : DoesTurn (Gave session before after answer) gate b.gate = subst (λ (s : Option GateState). DoesTurn (Gave session before after answer) gate s) (sym later) turn in
+    let now : DoesTurn (Gave session before after answer) gate b.gate = turn_may_wait false (Gave session before after answer) gate middle b.gate turn later in
     let on : GoesOn b.gate = answers_after (Gave session before after answer ∷ []) a.gate b.gate false (ran_one (IsGive session) (Gave session before after answer) a.gate gate b.gate refl same now).leads idle in
     subst (λ (r : Result ℕ LoopEnd). WritesOn session a b turns r) (sym is) (silent_on session a b gate before after answer turns same now none told calls more (goes_so on))
 

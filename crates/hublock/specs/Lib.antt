@@ -9,5 +9,6 @@ pub mod Reader
 pub mod Writer
 pub mod LinkReader
 pub mod Ticker
+pub mod Runs
 pub mod Jobs
 pub mod Registers

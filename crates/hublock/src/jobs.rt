@@ -1,26 +1,26 @@
 //! The jobs of the loops.
 
-ghost use Rattle.std.specs.Prelude.{◌≡◌, ◌<◌, IsSome, IsSomeAnd, None};
+ghost use Rattle.std.specs.Prelude.{◌≡◌, ◌<◌, ℕ, List, Option, None, IsSomeAnd};
 ghost use Rattle.push_base.specs.declared.role.Role.TheVariants as roles;
 ghost use Rattle.hublock.specs.declared.loop_end.LoopEnd.TheVariants.{LinkFault};
-ghost use Rattle.hublock.specs.Feeds.{each};
+ghost use Rattle.hublock.specs.Gates.{IsFor};
 ghost use Rattle.hublock.specs.Jobs.{GivesBack, role_in};
+ghost use Rattle.hublock.specs.Loops.{observed};
+ghost use Rattle.hublock.specs.Runs.{DoesWork, HearsLink, ReadsSession, WritesSession};
+ghost use Rattle.hublock.specs.Ticker.{TicksUntil};
 
-use crate::{
-    Books, Ended, Feed, Gate, LoopEnd, Shared, Signal, clock_loop, link_loop, read_loop, write_loop,
-};
+use crate::runs::{hand_moments, hear_link, read_session, write_session};
+use crate::{Ended, Gate};
 use push_base::{Clock, Datagrams, Line, Role, Task, Wire};
 use std::alloc::Global;
-use std::sync::Wait;
 
-/// What a job answers: how its loop ended, its feed of one part of each ledger, and the datagrams of a link's job. After
-/// `LinkFault` they are there, with a count of faults above 0.
+/// What a job answers: how its loop ended, what is left of its gate, and the datagrams of a link's job. After `LinkFault` they
+/// are there, with a count of faults above 0.
 #[derive(Drop)]
-pub struct JobEnd<D: Datagrams + Drop, B: Books> {
+pub struct JobEnd<D: Datagrams + Drop, X: Drop> {
     pub end: Ended,
-    pub feed: Feed<B>,
+    pub left: X,
     pub links: Option<D>,
-    pub ghost one: { feed.parts ≡ each 1 },
     pub ghost failed: { ∥ (end ≡ LinkFault → IsSomeAnd links (λ d. 0 < D.faults d)) ∥₁ },
 }
 
@@ -37,38 +37,30 @@ pub(crate) enum Work<L: Line + Drop, K: Wire + Drop, D: Datagrams + Drop, T: Clo
     Tick(T),
 }
 
-/// One loop over the hub behind its lock, with so many turns.
+/// One loop over a gate, with so many turns.
 #[derive(Drop)]
-pub struct Job<
-    R: Wait + Copy,
-    L: Line + Drop,
-    K: Wire + Drop,
-    D: Datagrams + Drop,
-    T: Clock + Drop,
-    B: Books,
-> {
+pub struct Job<G: Gate, L: Line + Drop, K: Wire + Drop, D: Datagrams + Drop, T: Clock + Drop> {
     alloc: Global,
-    shared: Shared<R, B>,
+    gate: G,
     work: Work<L, K, D, T>,
     turns: u64,
 }
 
-impl<
-    R: Wait + Copy,
-    L: Line + Drop,
-    K: Wire + Drop,
-    D: Datagrams + Drop,
-    T: Clock + Drop,
-    B: Books,
-> Job<R, L, K, D, T, B> {
+impl<G: Gate, L: Line + Drop, K: Wire + Drop, D: Datagrams + Drop, T: Clock + Drop> Job<
+    G,
+    L,
+    K,
+    D,
+    T,
+> {
     /// Reads the line of a session, which is marked as over at the end.
-    pub fn reader(alloc: Global, shared: Shared<R, B>, session: u64, line: L, turns: u64) -> Self
-        requires { shared.role ≡ roles.Reader session }
+    pub fn reader(alloc: Global, gate: G, session: u64, line: L, turns: u64) -> Self
+        requires { IsFor (G.role gate) (roles.Reader session) }
         ensures { (role_in result.work ≡ roles.Reader session) × (result.turns ≡ turns) }
     {
         Job {
             alloc,
-            shared,
+            gate,
             work: Work::Read(session, line),
             turns,
         }
@@ -76,131 +68,134 @@ impl<
 
     /// Writes what a session says to its wire. At the end the session goes, and is counted as ended, and last the wire is
     /// dropped.
-    pub fn writer(alloc: Global, shared: Shared<R, B>, session: u64, wire: K, turns: u64) -> Self
-        requires { shared.role ≡ roles.Writer session }
+    pub fn writer(alloc: Global, gate: G, session: u64, wire: K, turns: u64) -> Self
+        requires { IsFor (G.role gate) (roles.Writer session) }
         ensures { (role_in result.work ≡ roles.Writer session) × (result.turns ≡ turns) }
     {
         Job {
             alloc,
-            shared,
+            gate,
             work: Work::Write(session, wire),
             turns,
         }
     }
 
     /// Hears the datagrams of a link, which are given back.
-    pub fn link(alloc: Global, shared: Shared<R, B>, link: usize, datagrams: D, turns: u64) -> Self
-        requires { shared.role ≡ roles.Link link }
+    pub fn link(alloc: Global, gate: G, link: usize, datagrams: D, turns: u64) -> Self
+        requires { IsFor (G.role gate) (roles.Link link) }
         ensures { (role_in result.work ≡ roles.Link link) × (result.turns ≡ turns) }
     {
         Job {
             alloc,
-            shared,
+            gate,
             work: Work::Hear(link, datagrams),
             turns,
         }
     }
 
     /// Hands on the moments of a clock.
-    pub fn clock(alloc: Global, shared: Shared<R, B>, clock: T, turns: u64) -> Self
-        requires { shared.role ≡ roles.Clock }
+    pub fn clock(alloc: Global, gate: G, clock: T, turns: u64) -> Self
+        requires { IsFor (G.role gate) roles.Clock }
         ensures { (role_in result.work ≡ roles.Clock) × (result.turns ≡ turns) }
     {
         Job {
             alloc,
-            shared,
+            gate,
             work: Work::Tick(clock),
             turns,
         }
     }
 }
 
-/// The end of a job without datagrams.
-fn without_links<D: Datagrams + Drop, B: Books>(end: LoopEnd, feed: Feed<B>) -> JobEnd<D, B>
-    requires feed { feed.parts ≡ each 1 }
-    requires end { end ≡ LinkFault → ⊥ }
-    ensures { result.links ≡ None }
+/// Reads a line.
+fn read<G: Gate, L: Line + Drop, D: Datagrams + Drop>(
+    alloc: Global,
+    mut gate: G,
+    session: u64,
+    mut line: L,
+    turns: u64,
+) -> JobEnd<D, G::Left>
+    ensures links { result.links ≡ None }
+    ensures run { (told : Option (List ℕ)) × (calls : Option ℕ) × (rest : Option (List ℕ)) × ReadsSession session (observed (G.state gate) (L.given line) (L.calls line)) (observed (G.left result.left) told calls) rest turns result.end }
 {
+    let end = read_session(alloc, &mut gate, session, &mut line, turns);
+    let left = gate.leave();
     JobEnd {
-        end: Ended::of_loop(end),
-        feed,
+        end,
+        left,
         links: None,
     }
 }
 
-/// Reads a line to the end of its loop.
-fn read<R: Wait + Copy, L: Line + Drop, D: Datagrams + Drop, B: Books>(
+/// Writes to a wire, which is dropped last.
+fn write<G: Gate, K: Wire + Drop, D: Datagrams + Drop>(
     alloc: Global,
-    mut shared: Shared<R, B>,
-    session: u64,
-    mut line: L,
-    turns: u64,
-) -> JobEnd<D, B>
-    ensures { result.links ≡ None }
-{
-    let end = read_loop(alloc, &mut shared, session, &mut line, turns);
-    shared.signal(Signal::LineOver(session));
-    without_links(end, shared.into_feed())
-}
-
-/// Writes to a wire to the end of its loop, and lets go out what it has taken. The wire is dropped last.
-fn write<R: Wait + Copy, K: Wire + Drop, D: Datagrams + Drop, B: Books>(
-    alloc: Global,
-    mut shared: Shared<R, B>,
+    mut gate: G,
     session: u64,
     mut wire: K,
     turns: u64,
-) -> JobEnd<D, B>
-    ensures { result.links ≡ None }
+) -> JobEnd<D, G::Left>
+    ensures links { result.links ≡ None }
+    ensures run { (told : Option (List ℕ)) × (calls : Option ℕ) × WritesSession session (observed (G.state gate) (K.taken wire) (K.calls wire)) (observed (G.left result.left) told calls) turns result.end }
 {
-    let end = write_loop(alloc, &mut shared, session, &mut wire, turns);
-    wire.flush();
-    shared.end(session);
-    shared.signal(Signal::SessionOver);
-    let end = without_links(end, shared.into_feed());
+    let end = write_session(alloc, &mut gate, session, &mut wire, turns);
+    let left = gate.leave();
     drop(wire);
-    end
+    JobEnd {
+        end,
+        left,
+        links: None,
+    }
 }
 
-/// Hears datagrams to the end of their loop.
-fn hear<R: Wait + Copy, D: Datagrams + Drop, B: Books>(
+/// Hears datagrams, which are given back.
+fn hear<G: Gate, D: Datagrams + Drop>(
     alloc: Global,
-    mut shared: Shared<R, B>,
+    mut gate: G,
     link: usize,
     mut datagrams: D,
     turns: u64,
-) -> JobEnd<D, B>
-    ensures { IsSome result.links }
+) -> JobEnd<D, G::Left>
+    ensures run { IsSomeAnd result.links (λ links. HearsLink link (observed (G.state gate) (D.given datagrams) (D.calls datagrams)) (observed (G.left result.left) (D.given links) (D.calls links)) (D.left links) turns result.end) }
 {
-    let end = link_loop(alloc, &mut shared, link, &mut datagrams, turns);
+    let end = hear_link(alloc, &mut gate, link, &mut datagrams, turns);
+    let left = gate.leave();
     JobEnd {
-        end: Ended::of_loop(end),
-        feed: shared.into_feed(),
+        end,
+        left,
         links: Some(datagrams),
     }
 }
 
-/// Hands on moments to the end of the clock's loop.
-fn tick<R: Wait + Copy, T: Clock + Drop, D: Datagrams + Drop, B: Books>(
-    mut shared: Shared<R, B>,
+/// Hands on moments.
+fn tick<G: Gate, T: Clock + Drop, D: Datagrams + Drop>(
+    mut gate: G,
     mut clock: T,
     turns: u64,
-) -> JobEnd<D, B>
-    ensures { result.links ≡ None }
+) -> JobEnd<D, G::Left>
+    ensures links { result.links ≡ None }
+    ensures run { (told : Option (List ℕ)) × (calls : Option ℕ) × TicksUntil (observed (G.state gate) (T.moments clock) (T.calls clock)) (observed (G.left result.left) told calls) turns result.end }
 {
-    let end = clock_loop(&mut shared, &mut clock, turns);
-    without_links(end, shared.into_feed())
+    let end = hand_moments(&mut gate, &mut clock, turns);
+    let left = gate.leave();
+    JobEnd {
+        end,
+        left,
+        links: None,
+    }
 }
 
 impl<
-    R: Wait + Copy,
+    G: Gate,
     L: Line + Drop,
     K: Wire + Drop,
     D: Datagrams + Drop + Send + 'static,
     T: Clock + Drop,
-    B: Books + 'static,
-> Task for Job<R, L, K, D, T, B> {
-    type Out = JobEnd<D, B>;
+> Task for Job<G, L, K, D, T>
+where
+    G::Left: Send + 'static,
+{
+    type Out = JobEnd<D, G::Left>;
 
     ghost role_of = { λ j. role_in j.work };
 
@@ -219,20 +214,24 @@ impl<
         self.turns
     }
 
-    fn run(self) -> JobEnd<D, B>
+    fn run(self) -> JobEnd<D, G::Left>
         ensures links { GivesBack (role_in self.work) result.links }
+
+        // Over any gate that tells: the loop of its work ended so, over its own object, with its turns, and what others are told then.
+        ensures run { DoesWork (λ gate line. observed gate (L.given line) (L.calls line)) (λ gate wire. observed gate (K.taken wire) (K.calls wire)) (λ gate links. observed gate (D.given links) (D.calls links)) D.left (λ gate clock. observed gate (T.moments clock) (T.calls clock))
+            self.work result.links (G.state self.gate) (G.left result.left) self.turns result.end }
     {
         let Job {
             alloc,
-            shared,
+            gate,
             work,
             turns,
         } = self;
         match work {
-            Work::Read(session, line) => read(alloc, shared, session, line, turns),
-            Work::Write(session, wire) => write(alloc, shared, session, wire, turns),
-            Work::Hear(link, datagrams) => hear(alloc, shared, link, datagrams, turns),
-            Work::Tick(clock) => tick(shared, clock, turns),
+            Work::Read(session, line) => read(alloc, gate, session, line, turns),
+            Work::Write(session, wire) => write(alloc, gate, session, wire, turns),
+            Work::Hear(link, datagrams) => hear(alloc, gate, link, datagrams, turns),
+            Work::Tick(clock) => tick(gate, clock, turns),
         }
     }
 }

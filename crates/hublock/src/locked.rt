@@ -111,7 +111,7 @@ impl<B: Books> Locked<B> {
         ensures err { OnErr result (AcceptsNone self.old.hub self.new.hub feed.old feed.new) }
     {
         let before = self.hub.counts();
-        let answer = self.hub.give(session, buf);
+        let answer = self.hub.give_uncounted(session, buf);
         let after = self.hub.counts();
         feed.record(
             &mut self.changes,
@@ -138,7 +138,7 @@ impl<B: Books> Locked<B> {
         ensures unread { IfOk result (λ heard. SaysWhy heard (hearing_of datagram.now)) }
     {
         let before = self.hub.counts();
-        let answer = self.hub.hear(link, datagram);
+        let answer = self.hub.hear_uncounted(link, datagram);
         let after = self.hub.counts();
         feed.record(
             &mut self.changes,
@@ -160,7 +160,7 @@ impl<B: Books> Locked<B> {
         ensures err { OnErr result (AcceptsNone self.old.hub self.new.hub feed.old feed.new) }
     {
         let before = self.hub.counts();
-        let answer = self.hub.moment(at);
+        let answer = self.hub.moment_uncounted(at);
         let after = self.hub.counts();
         feed.record(
             &mut self.changes,

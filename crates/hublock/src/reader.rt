@@ -26,13 +26,14 @@ fn offer<G: Gate>(gate: &mut G, session: u64, piece: &[u8], turns: u64) -> Resul
         return Err(LoopEnd::Turns);
     }
     let count = gate.take(session, piece);
-    if count == 0 {
-        if gate.done() {
-            return Err(LoopEnd::Finished);
-        }
-        gate.pause();
+    if count > 0 {
+        return Ok(count);
     }
-    Ok(count)
+    if gate.done() {
+        return Err(LoopEnd::Finished);
+    }
+    gate.pause();
+    Ok(0)
 }
 
 /// Hands octets to a session, each until it was taken. Gives the turns that are left.

@@ -1,21 +1,31 @@
 //! A hub behind its lock, as one thread calls it.
 
-ghost use Rattle.std.specs.Prelude.{◌≡◌, ◌≤◌, ◌⊎◌, None, length, IfOk, IsErrOf, OnErr};
+ghost use Rattle.std.specs.Prelude.{◌≡◌, ◌==◌, ◌≤◌, ◌⊎◌, None, Some, false, true, length, IfOk, IsErrOf, OnErr};
 ghost use Rattle.push_base.specs.Limits.{max_moment};
 ghost use Rattle.dnswire.specs.Reading.{hearing_of};
 ghost use Rattle.pushserver.specs.Counting.{octets_of};
 ghost use Rattle.pushserver.specs.Observing.{SaysWhy};
 ghost use Rattle.hublock.specs.Calls.{Gave, Left, Passed, Received, Took, fault_of};
 ghost use Rattle.hublock.specs.Feeds.{each, one_change_more, one_moment_more, RisesAsHeard};
-ghost use Rattle.hublock.specs.Gates.{DoesApart, DoesTurn};
+ghost use Rattle.hublock.specs.Gates.{DoesApart, DoesTurn, IsIdle, Tells, Waits, has_nothing, with_line, with_session};
 ghost use Rattle.hublock.specs.Sharing.{with_feed};
 
+use crate::log_lines::{reason_in, tell_change, tell_end, tell_hearing};
 use crate::wakeups::LastSeen;
 use crate::{Books, Feed, Gate, HubLock, Signal};
+use dsosession::session::EndReason;
+use log::Log;
 use push_base::{NoMemory, Role};
 use pushserver::{Given, Heard, HubFault};
 use std::marker::Model;
 use std::sync::Wait;
+
+/// A feed of one part of each ledger.
+#[derive(Drop)]
+pub struct OnePart<B: Books> {
+    pub feed: Feed<B>,
+    pub ghost one: { feed.parts ≡ each 1 },
+}
 
 /// A hold of the hub behind its lock, for one role, with a feed of its own. It tells nothing of the hub.
 #[derive(Drop)]
@@ -24,8 +34,9 @@ pub struct Shared<R: Wait + Copy, B: Books> {
     lock: HubLock<B>,
     feed: Feed<B>,
     role: Role,
-    // What it knows since it called the hub last. Contracts don't see it.
+    // What it knows since it called the hub last, and why the hub ended its session, once that was told. Contracts see neither.
     known: LastSeen,
+    why: Option<EndReason>,
 }
 
 impl<R: Wait + Copy, B: Books> Model for Shared<R, B> {
@@ -52,37 +63,23 @@ impl<R: Wait + Copy, B: Books> Shared<R, B> {
             feed,
             role,
             known: LastSeen::nothing(),
+            why: None,
         })
-    }
-
-    /// Tells the loops of all.
-    pub fn signal(&mut self, signal: Signal)
-        ensures { self.new ≡ self.old }
-    {
-        self.lock.signal(&self.rt, signal);
-    }
-
-    /// Its feed, of one part of each ledger.
-    pub fn into_feed(self) -> Feed<B>
-        ensures feed { result ≡ self.feed }
-        ensures one { result.parts ≡ each 1 }
-    {
-        let Shared {
-            rt: _,
-            lock: _,
-            feed,
-            role: _,
-            known: _,
-        } = self;
-        feed
     }
 }
 
-impl<R: Wait + Copy, B: Books> Gate for Shared<R, B> {
+impl<R: Log + Wait + Copy, B: Books> Gate for Shared<R, B> {
+    type Left = OnePart<B>;
+
     ghost state = { λ _. None };
+
+    ghost left = { λ _. None };
+
+    ghost role = { λ s. Some s.role };
 
     fn take(&mut self, session: u64, piece: &[u8]) -> usize
         ensures call { DoesTurn (Took session piece.now result) None None }
+        ensures idle { IsIdle (result == 0) None }
         ensures bound { result ≤ length piece.now }
         ensures feed { self.new ≡ self.old }
     {
@@ -94,6 +91,7 @@ impl<R: Wait + Copy, B: Books> Gate for Shared<R, B> {
 
     fn give(&mut self, session: u64, buf: &mut [u8]) -> Result<Given, HubFault>
         ensures call { DoesTurn (Gave session buf.old buf.new result) None None }
+        ensures idle { IsIdle (has_nothing result) None }
         ensures bound { IfOk result (λ given. octets_of given ≤ length buf.old) }
         ensures never { IsErrOf result HubFault.Full → ⊥ }
         ensures feed { (self.new ≡ self.old) ⊎ (self.new ≡ with_feed self.old (one_change_more self.old.feed)) }
@@ -101,12 +99,16 @@ impl<R: Wait + Copy, B: Books> Gate for Shared<R, B> {
     {
         let mut locked = self.lock.held.locked.lock(&self.rt);
         let answer = locked.give(session, buf, &mut self.feed);
+        let wakes = locked.wakes();
         self.known = self.lock.held.leave(self.role, locked);
+        self.why = reason_in(&answer, self.why);
+        tell_change(&self.rt, session, wakes);
         answer
     }
 
     fn hear(&mut self, link: usize, datagram: &[u8]) -> Result<Heard, HubFault>
         ensures call { DoesTurn (Received link datagram.now result) None None }
+        ensures idle { IsIdle false None }
         ensures unread { IfOk result (λ heard. SaysWhy heard (hearing_of datagram.now)) }
         ensures feed { RisesAsHeard result self.old.feed self.new.feed }
         ensures role { self.new.role ≡ self.old.role }
@@ -114,12 +116,14 @@ impl<R: Wait + Copy, B: Books> Gate for Shared<R, B> {
         let mut locked = self.lock.held.locked.lock(&self.rt);
         let answer = locked.hear(link, datagram, &mut self.feed);
         self.known = self.lock.held.leave(self.role, locked);
+        tell_hearing(&self.rt, link, datagram.len(), &answer);
         answer
     }
 
     fn moment(&mut self, at: u64) -> Result<(), HubFault>
         requires { at ≤ max_moment }
         ensures call { DoesTurn (Passed at (fault_of result)) None None }
+        ensures idle { IsIdle false None }
         ensures feed { (self.new ≡ self.old) ⊎ (self.new ≡ with_feed self.old (one_moment_more self.old.feed)) }
         ensures err { OnErr result (self.new ≡ self.old) }
     {
@@ -136,9 +140,25 @@ impl<R: Wait + Copy, B: Books> Gate for Shared<R, B> {
         let mut locked = self.lock.held.locked.lock(&self.rt);
         locked.end(session);
         self.lock.held.leave_at_end(locked);
+        tell_end(&self.rt, session, self.why);
+    }
+
+    fn line_over(&mut self, session: u64)
+        ensures tells { Tells (with_line session) None None }
+        ensures feed { self.new ≡ self.old }
+    {
+        self.lock.signal(&self.rt, Signal::LineOver(session));
+    }
+
+    fn session_over(&mut self)
+        ensures tells { Tells with_session None None }
+        ensures feed { self.new ≡ self.old }
+    {
+        self.lock.signal(&self.rt, Signal::SessionOver);
     }
 
     fn pause(&mut self)
+        ensures waits { Waits None None }
         ensures feed { self.new ≡ self.old }
     {
         self.lock.held.wakeups.wait(&self.rt, self.role, self.known);
@@ -151,5 +171,12 @@ impl<R: Wait + Copy, B: Books> Gate for Shared<R, B> {
             Some(is_done) => is_done,
             None => self.lock.held.locked.lock(&self.rt).is_done(self.role),
         }
+    }
+
+    fn leave(self) -> OnePart<B>
+        ensures feed { result.feed ≡ self.feed }
+    {
+        let Shared { feed, .. } = self;
+        OnePart { feed }
     }
 }

@@ -1,7 +1,8 @@
 //! The loop of a session's wire.
 
-ghost use Rattle.std.specs.Prelude.{◌≡◌, ◌<◌, ◌≤◌, ◌⊎◌, length, Ok, Err, IsErrOf, if◌then◌else◌};
+ghost use Rattle.std.specs.Prelude.{◌≡◌, ◌<◌, ◌≤◌, ◌⊎◌, length, true, Ok, Err, IsErrOf, if◌then◌else◌};
 ghost use Rattle.push_base.specs.Causes.{Rose};
+ghost use Rattle.hublock.specs.Gates.{IsIdle, WaitsUnless};
 ghost use Rattle.hublock.specs.Loops.{Starves, observed};
 ghost use Rattle.hublock.specs.Writer.{TakesPiece, WritesOn, WritesUntil};
 
@@ -42,7 +43,8 @@ fn wait_on<G: Gate, K: Wire>(
     idle: bool,
     left: u64,
 ) -> Result<u64, LoopEnd>
-    ensures state { G.state gate.new ≡ G.state gate.old }
+    requires { IsIdle true (G.state gate.old) }
+    ensures state { WaitsUnless idle (G.state gate.old) (G.state gate.new) }
     ensures taken { K.taken sink.new ≡ K.taken sink.old }
     ensures calls { K.calls sink.new ≡ K.calls sink.old }
     ensures faults { K.faults sink.new ≡ K.faults sink.old }

@@ -8,6 +8,5 @@ pub mod FirstDue
 pub mod Asking
 pub mod Keeping
 pub mod Lowering
-mod InLowerCase
 mod AtOne
 mod ReasonSteps

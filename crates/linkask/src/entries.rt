@@ -1,10 +1,7 @@
 //! Questions in the order of names and kinds, and the reasons for them.
 
-ghost use Rattle.std.specs.Prelude.{◌≡◌, ◌+◌, ◌<◌, ◌≤◌, map, IsTrue, OnOk, OnErr};
-ghost use Rattle.std.specs.Char.{to_ascii_lowercase};
+ghost use Rattle.std.specs.Prelude.{◌≡◌, ◌+◌, ◌<◌, ◌≤◌, IsTrue, OnOk, OnErr};
 ghost use Rattle.std.specs.Result.{IfOk, IfErr};
-ghost use Rattle.dnsname.specs.Names.{lower, octets};
-ghost use Rattle.rrset.specs.Records.{octets_cmp};
 ghost use Rattle.linkask.specs.Asking.{asked_cmp, asked_for};
 ghost use Rattle.linkask.specs.Bounds.{IsAt, IsGapFor, are_kept, begun_anew, with_reason, without_reason};
 
@@ -14,34 +11,12 @@ use dnsname::Name;
 use rrset::Question;
 use std::cmp::Ordering;
 
-/// The order of octets in lower case.
-fn compare_in_lower_case(first: &[u8], second: &[u8]) -> Ordering
-    ensures { result ≡ octets_cmp (map to_ascii_lowercase first.now) (map to_ascii_lowercase second.now) }
-{
-    let shared = first.len().min(second.len());
-    'octets: for index in 0..shared {
-        let lower = first[index].to_ascii_lowercase();
-        let order = lower.cmp(&second[index].to_ascii_lowercase());
-        if order.is_ne() {
-            return order;
-        }
-    }
-    first.len().cmp(&second.len())
-}
-
-/// The order of names in lower case.
-fn compare_names(first: &Name, second: &Name) -> Ordering
-    ensures { result ≡ octets_cmp (octets (lower first.now)) (octets (lower second.now)) }
-{
-    compare_in_lower_case(first.octets(), second.octets())
-}
-
 /// The order of a question and of the one for a name and a kind: by name in lower case, and then by kind.
 fn compare(question: &Question, name: &Name, kind: u16) -> Ordering
     ensures { result ≡ asked_cmp question.now (asked_for name.now kind) }
 {
     let kinds = question.kind.cmp(&kind);
-    compare_names(&question.name, name).then(kinds)
+    question.name.cmp(name).then(kinds)
 }
 
 /// Where the question for a name and a kind is, or where it would go.

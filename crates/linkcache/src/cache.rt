@@ -42,12 +42,14 @@ impl Model for Cache {
 }
 
 /// The same moments and keys.
-fn copied_ends(alloc: Global, ends: &[(u64, EndKey)]) -> Result<Vec<(u64, EndKey)>, NoMemory>
-    ensures { IfOk result (λ copy. copy.items ≡ ends.now) }
+fn copied_ends(alloc: Global, ends: &Deadlines<EndKey>) -> Result<Vec<(u64, EndKey)>, NoMemory>
+    ensures same { IfOk result (λ copy. copy.items ≡ ends.now.deadlines) }
+    ensures order { IfOk result (λ copy. AreDeadlines key_cmp copy.items) }
 {
     let mut copy = Vec::new(alloc);
-    'ends: for (moment, key) in ends {
-        copy.push((*moment, EndKey::copied(alloc, key.key())?))?;
+    'ends: for number in 0..ends.len() {
+        let end = ends.at(number);
+        copy.push((end.0, EndKey::copied(alloc, end.1.key())?))?;
     }
     Ok(copy)
 }
@@ -174,7 +176,7 @@ impl Cache {
     pub fn copy(&self, alloc: Global) -> Result<Cache, NoMemory>
         ensures { IfOk result (λ cache. cache.state ≡ self.now.state) }
     {
-        let ends = copied_ends(alloc, self.ends.entries())?;
+        let ends = copied_ends(alloc, &self.ends)?;
         Ok(Cache {
             domain: self.domain.copy()?,
             rows: self.rows.copy()?,

@@ -100,11 +100,12 @@ pub(crate) fn due_rows(
     ensures { IfOk result (λ part. part.rows ≡ fold (λ part d. copied rows.now.rows part d.1) [] (due now ends.now.deadlines)) }
 {
     let mut part = Table::new(alloc);
-    'ends: for (moment, key) in ends.entries() {
-        if *moment > now {
+    'ends: for number in 0..ends.len() {
+        let end = ends.at(number);
+        if end.0 > now {
             return Ok(part);
         }
-        copy_row(&mut part, rows, key.key())?;
+        copy_row(&mut part, rows, end.1.key())?;
     }
     Ok(part)
 }

@@ -2,9 +2,13 @@
 #![tactic(auto)]
 
 #[cfg(test)]
+mod counted;
+#[cfg(test)]
 mod hubs;
 #[cfg(test)]
 mod loops;
+#[cfg(test)]
+mod order;
 #[cfg(test)]
 mod rows;
 #[cfg(test)]

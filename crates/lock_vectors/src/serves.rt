@@ -14,6 +14,7 @@ use crate::threads::{Apart, List, Listed};
 use crate::watched::{Hearings, Porter, Still, Until, Watch, Watched};
 use history::entry::Totals;
 use hublock::{Blanks, Books, NoRegister};
+use log::Log;
 use push_base::{Surroundings, hex_octets, hex_text};
 use serving::{Fed, ServeEnd, Served, Setup, serve};
 use std::alloc::Global;
@@ -333,7 +334,7 @@ fn add_hearings<R: Wait + Copy>(
 
 /// Serves the sessions of doors. Gives how the server ends.
 fn end_of<
-    R: Threads + Wait + Copy + Send + 'static,
+    R: Log + Threads + Wait + Copy + Send + 'static,
     O: Surroundings<Starter = Apart>,
     B: Books + Send + Sync + 'static,
 >(
@@ -362,7 +363,7 @@ fn end_of<
 }
 
 /// The same over the hub of one zone and two links.
-fn end_over_hub<R: Threads + Wait + Copy + Send + 'static, O: Surroundings<Starter = Apart>>(
+fn end_over_hub<R: Log + Threads + Wait + Copy + Send + 'static, O: Surroundings<Starter = Apart>>(
     rt: R,
     alloc: Global,
     doors: &mut O::Doors,
@@ -425,7 +426,7 @@ fn are_answered<R: Wait>(rt: &R, alloc: Global, case: &Case, lists: &[List]) -> 
 }
 
 /// Fails where a server ends otherwise.
-fn ends_so<R: Threads + Wait + Copy + Send + 'static>(
+fn ends_so<R: Log + Threads + Wait + Copy + Send + 'static>(
     rt: R,
     alloc: Global,
     watch: &Watch<R>,
@@ -443,7 +444,7 @@ fn ends_so<R: Threads + Wait + Copy + Send + 'static>(
 }
 
 /// Fails where sessions aren't served so by these doors.
-fn are_served_by<R: Threads + Wait + Copy + Send + 'static>(
+fn are_served_by<R: Log + Threads + Wait + Copy + Send + 'static>(
     rt: R,
     alloc: Global,
     watch: &Watch<R>,
@@ -457,7 +458,7 @@ fn are_served_by<R: Threads + Wait + Copy + Send + 'static>(
 }
 
 /// Fails where sessions aren't served so.
-fn are_served<R: Threads + Wait + Copy + Send + 'static>(
+fn are_served<R: Log + Threads + Wait + Copy + Send + 'static>(
     rt: R,
     alloc: Global,
     case: &Case,

@@ -53,7 +53,7 @@ where
 
 #[test]
 fn nothing_is_reached(rt: HostRuntime) -> Result<(), Fail> {
-    let mut system = System::new(rt, rt.alloc());
+    let mut system = System::new(rt, rt, rt.alloc());
     if reaches_nothing(&mut system) == [true; 4] {
         return Ok(());
     }
@@ -78,7 +78,7 @@ fn is_quiet<O: Outside>(outside: &mut O) -> bool {
 
 #[test]
 fn a_quiet_link(rt: HostRuntime) -> Result<(), Fail> {
-    let mut system = System::new(rt, rt.alloc());
+    let mut system = System::new(rt, rt, rt.alloc());
     let is_quiet = is_quiet(&mut system);
     let mut clock = system.clock();
     let goes_on = goes_on(&mut clock);

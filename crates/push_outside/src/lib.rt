@@ -2,6 +2,7 @@
 #![tactic(auto)]
 
 mod counts;
+mod log_lines;
 mod machine_clock;
 mod mem_objects;
 mod mem_outside;

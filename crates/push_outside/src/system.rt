@@ -7,6 +7,7 @@ ghost use Rattle.std.specs.Prelude.{◌≡◌, None, IfOk};
 ghost use Rattle.push_outside.specs.System.{nothing_told};
 
 use crate::counts::{counted, raised_by};
+use crate::log_lines::fault_at;
 use crate::machine_clock::MachineClock;
 use crate::origin::Origin;
 use crate::reading::Reading;
@@ -17,19 +18,23 @@ use crate::thread_starter::ThreadStarter;
 use crate::udp_links::UdpLinks;
 use crate::writing::Writing;
 use crate::{OpenFault, Outside};
+use log::Log;
 use push_base::Surroundings;
 use std::alloc::Global;
 use std::fs::{File, Files};
 use std::io::{ErrorKind, Stdin, Stdout};
 use std::net::{Net, TcpListener, TcpStream};
 use std::sync::Wait;
+use std::thread::Threads;
 use std::time;
 use std::time::Instant;
 
-/// The real outside, as a runtime reaches it. It counts how often a file, an address or a thread couldn't be had, or
-/// one of its objects failed, and tells neither the words that it was handed nor what came of its objects.
+/// The real outside, as a network and a runtime reach it. It counts how often a file, an address or a thread couldn't be
+/// had, or one of its objects failed, and tells neither the words that it was handed nor what came of its objects. The
+/// runtime logs why a file or an address couldn't be had.
 #[derive(Drop)]
-pub struct System<R> {
+pub struct System<N, R> {
+    net: N,
     rt: R,
     alloc: Global,
     start: Option<Instant>,
@@ -38,11 +43,12 @@ pub struct System<R> {
     others: u64,
 }
 
-impl<R: time::Clock> System<R> {
-    /// The outside that this runtime reaches, without faults so far. Its clocks begin now.
-    pub fn new(rt: R, alloc: Global) -> Self {
+impl<N, R: time::Clock> System<N, R> {
+    /// The outside that these reach, without faults so far. Its clocks begin now.
+    pub fn new(net: N, rt: R, alloc: Global) -> Self {
         let start = Instant::now(&rt).ok();
         System {
+            net,
             rt,
             alloc,
             start,
@@ -62,16 +68,22 @@ pub(crate) fn fault_of(kind: ErrorKind) -> OpenFault {
 }
 
 /// The file at a path.
-fn file_at<R: Files>(files: &R, path: &str) -> Result<Reading<Origin<Stdin, R::File>>, OpenFault>
+fn file_at<R: Log + Files>(
+    files: &R,
+    path: &str,
+) -> Result<Reading<Origin<Stdin, R::File>>, OpenFault>
     ensures { IfOk result (λ source. source.faults ≡ 0) }
 {
     match File::open(files, path) {
         Ok(file) => Ok(Reading::new(Origin::File(file))),
-        Err(error) => Err(fault_of(error.kind())),
+        Err(error) => Err(fault_at(files, "read", path, &error)),
     }
 }
 
-impl<R: Wait + time::Clock + Copy + Drop + Send + 'static> Surroundings for System<R> {
+impl<N, R> Surroundings for System<N, R>
+where
+    R: Log + Threads + Wait + time::Clock + Copy + Drop + Send + 'static,
+{
     type Line = TcpLine<TcpStream>;
 
     type Wire = TcpWire;
@@ -82,19 +94,13 @@ impl<R: Wait + time::Clock + Copy + Drop + Send + 'static> Surroundings for Syst
 
     type Clock = MachineClock<R>;
 
-    type Starter = ThreadStarter;
+    type Starter = ThreadStarter<R>;
 }
 
-impl<R> Outside for System<R>
+impl<N, R> Outside for System<N, R>
 where
-    R: Files
-        + Net<Listener = TcpListener, Stream = TcpStream>
-        + Wait
-        + time::Clock
-        + Copy
-        + Drop
-        + Send
-        + 'static,
+    N: Net<Listener = TcpListener, Stream = TcpStream>,
+    R: Log + Files + Threads + Wait + time::Clock + Copy + Drop + Send + 'static,
 {
     type In = Reading<Origin<Stdin, R::File>>;
 
@@ -115,19 +121,19 @@ where
     }
 
     fn doors(&mut self, address: &str) -> Result<TcpDoors<R>, OpenFault> {
-        let doors = TcpDoors::bind(self.rt, self.alloc, address);
+        let doors = TcpDoors::bind(&self.net, self.rt, self.alloc, address);
         self.others = counted(self.others, &doors);
         doors
     }
 
     fn dial(&mut self, address: &str) -> Result<TcpEnds, OpenFault> {
-        let ends = dial(&self.rt, self.alloc, address);
+        let ends = dial(&self.net, &self.rt, self.alloc, address);
         self.others = counted(self.others, &ends);
         ends
     }
 
     fn datagrams(&mut self, address: &str) -> Result<UdpLinks, OpenFault> {
-        let links = UdpLinks::bind(&self.rt, address);
+        let links = UdpLinks::bind(&self.net, &self.rt, address);
         self.others = counted(self.others, &links);
         links
     }
@@ -136,8 +142,8 @@ where
         MachineClock::new(self.rt, self.start)
     }
 
-    fn starter(&mut self) -> ThreadStarter {
-        ThreadStarter::new()
+    fn starter(&mut self) -> ThreadStarter<R> {
+        ThreadStarter::new(self.rt)
     }
 
     fn back_in(&mut self, source: Self::In) {
@@ -162,7 +168,7 @@ where
 
     fn back_clock(&mut self, _clock: MachineClock<R>) {}
 
-    fn back_starter(&mut self, starter: ThreadStarter) {
+    fn back_starter(&mut self, starter: ThreadStarter<R>) {
         self.others = raised_by(starter.faults(), self.others);
     }
 }

@@ -3,9 +3,10 @@
 ghost use Rattle.std.specs.Prelude.{◌≡◌, None, IfOk};
 
 use crate::OpenFault;
-use crate::system::fault_of;
+use crate::log_lines::{fault_at, tell_deaf, tell_peer};
 use crate::tcp_line::TcpLine;
 use crate::tcp_wire::TcpWire;
+use log::Log;
 use push_base::{Doors, Failed};
 use std::alloc::Global;
 use std::io::{self, Error, ErrorKind};
@@ -29,10 +30,13 @@ const NONE_HELD: usize = 0;
 /// How long doors wait before they try again, in milliseconds.
 const PAUSE: u64 = 100;
 
-/// The errors of `accept` that are those of one connection, of the network or of a moment, beside those that a kind of
-/// error names: too many descriptors (of the system, of this process), a peer that spoke no protocol, no such machine on
-/// the network, an option that isn't there, an operation that isn't supported, no buffers (Linux, accept(2) and errno(3)).
-const PASSING: [i32; 7] = [23, 24, 64, 71, 92, 95, 105];
+/// The errors of `accept` for want of what the machine has, beside those that a kind of error names: too many descriptors
+/// (of the system, of this process), a machine that isn't on the network, no buffers (Linux, accept(2) and errno(3)).
+const WANTING: [i32; 4] = [23, 24, 64, 105];
+
+/// The same of one connection alone, which it then takes out of the queue: a peer that spoke no protocol, an option that
+/// isn't there, an operation that isn't supported, a peer that is down.
+const OF_ONE: [i32; 4] = [71, 92, 95, 112];
 
 /// The two ends of a connection.
 pub type TcpEnds = (TcpLine<TcpStream>, TcpWire);
@@ -56,8 +60,9 @@ fn ends_of(alloc: Global, most: usize, stream: TcpStream) -> io::Result<TcpEnds>
 }
 
 /// A connection to an address.
-pub(crate) fn dial<R: Net<Listener = TcpListener, Stream = TcpStream>>(
-    net: &R,
+pub(crate) fn dial<N: Net<Listener = TcpListener, Stream = TcpStream>, R: Log>(
+    net: &N,
+    rt: &R,
     alloc: Global,
     address: &str,
 ) -> Result<TcpEnds, OpenFault>
@@ -66,11 +71,11 @@ pub(crate) fn dial<R: Net<Listener = TcpListener, Stream = TcpStream>>(
 {
     let stream = match TcpStream::connect(net, address) {
         Ok(stream) => stream,
-        Err(error) => return Err(fault_of(error.kind())),
+        Err(error) => return Err(fault_at(rt, "connect to", address, &error)),
     };
     match ends_of(alloc, NONE_HELD, stream) {
         Ok(ends) => Ok(ends),
-        Err(error) => Err(fault_of(error.kind())),
+        Err(error) => Err(fault_at(rt, "connect to", address, &error)),
     }
 }
 
@@ -86,19 +91,20 @@ pub struct TcpDoors<R> {
 
 impl<R> TcpDoors<R> {
     /// Doors at an address, without faults so far.
-    pub fn bind(rt: R, alloc: Global, address: &str) -> Result<Self, OpenFault>
+    pub fn bind<N>(net: &N, rt: R, alloc: Global, address: &str) -> Result<Self, OpenFault>
     where
-        R: Net<Listener = TcpListener, Stream = TcpStream> + Drop,
+        N: Net<Listener = TcpListener, Stream = TcpStream>,
+        R: Log + Drop,
         ensures { IfOk result (λ doors. doors.faults ≡ 0) }
     {
-        match TcpListener::bind(&rt, address) {
+        match TcpListener::bind(net, address) {
             Ok(listener) => Ok(TcpDoors {
                 rt,
                 alloc,
                 listener: Some(listener),
                 faults: 0,
             }),
-            Err(error) => Err(fault_of(error.kind())),
+            Err(error) => Err(fault_at(&rt, "listen on", address, &error)),
         }
     }
 
@@ -111,39 +117,51 @@ impl<R> TcpDoors<R> {
 }
 
 /// The next connection, with its two ends.
-fn accept_one(alloc: Global, listener: &TcpListener) -> io::Result<TcpEnds> {
-    let (stream, _) = listener.accept()?;
+fn accept_one<R: Log>(rt: &R, alloc: Global, listener: &TcpListener) -> io::Result<TcpEnds> {
+    let (stream, peer) = listener.accept()?;
+    tell_peer(rt, &peer);
     ends_of(alloc, MOST_HELD, stream)
 }
 
-/// Whether an error is that of one connection, of the network or of a moment, so that another try may go well.
-fn is_passing(error: &Error) -> bool {
+/// Whether the system's number of an error is among these.
+fn has_code(error: &Error, codes: &[i32]) -> bool {
+    error
+        .raw_os_error()
+        .is_some_and(|code| codes.contains(&code))
+}
+
+/// Whether descriptors, buffers or memory are wanting, or the network is down, which lasts for a while.
+fn is_wanting(error: &Error) -> bool {
+    let is_kind = matches!(
+        error.kind(),
+        ErrorKind::NetworkDown | ErrorKind::NetworkUnreachable | ErrorKind::OutOfMemory
+    );
+    is_kind || has_code(error, &WANTING)
+}
+
+/// Whether an error is that of one connection, whose peer has left or can't be reached, or of a call that was interrupted.
+fn is_of_one(error: &Error) -> bool {
     let is_kind = matches!(
         error.kind(),
         ErrorKind::ConnectionAborted
             | ErrorKind::ConnectionReset
-            | ErrorKind::Interrupted
-            | ErrorKind::NetworkDown
-            | ErrorKind::NetworkUnreachable
             | ErrorKind::HostUnreachable
-            | ErrorKind::OutOfMemory
+            | ErrorKind::Interrupted
     );
-    is_kind
-        || error
-            .raw_os_error()
-            .is_some_and(|code| PASSING.contains(&code))
+    is_kind || has_code(error, &OF_ONE)
 }
 
-/// The next connection. Where there are no descriptors or buffers for one, where its peer has left before, or where the
-/// network is down, another is waited for.
-fn accept_next<R: Wait + Clock>(
+/// The next connection. One whose peer has left holds no other up. Where there are no descriptors or buffers, or where the
+/// network is down, the next is waited for.
+fn accept_next<R: Log + Wait + Clock>(
     rt: &R,
     alloc: Global,
     listener: &TcpListener,
 ) -> io::Result<TcpEnds> {
     for _ in rt.forever() {
-        match accept_one(alloc, listener) {
-            Err(error) if is_passing(&error) => {
+        match accept_one(rt, alloc, listener) {
+            Err(error) if is_of_one(&error) => {}
+            Err(error) if is_wanting(&error) => {
                 thread::sleep(rt, Duration::from_millis(PAUSE));
             }
             accepted => return accepted,
@@ -152,15 +170,21 @@ fn accept_next<R: Wait + Clock>(
     unreachable!()
 }
 
-impl<R: Wait + Clock> TcpDoors<R> {
+impl<R: Log + Wait + Clock> TcpDoors<R> {
     /// The next connection, if the doors are open and none of their calls fails.
     fn next(&self) -> Option<TcpEnds> {
         let listener = self.listener.as_ref()?;
-        accept_next(&self.rt, self.alloc, listener).ok()
+        match accept_next(&self.rt, self.alloc, listener) {
+            Ok(ends) => Some(ends),
+            Err(error) => {
+                tell_deaf(&self.rt, &error);
+                None
+            }
+        }
     }
 }
 
-impl<R: Wait + Clock> Doors for TcpDoors<R> {
+impl<R: Log + Wait + Clock> Doors for TcpDoors<R> {
     type Line = TcpLine<TcpStream>;
 
     type Out = TcpWire;

@@ -3,8 +3,9 @@
 ghost use Rattle.std.specs.Prelude.{◌≡◌, None, IfOk};
 
 use crate::OpenFault;
-use crate::system::fault_of;
+use crate::log_lines::{fault_at, warn_of_strangers};
 use crate::tcp_line::is_quiet;
+use log::Log;
 use push_base::{Datagrams, Failed, Got};
 use std::io;
 use std::net::{Net, UdpSocket};
@@ -29,12 +30,15 @@ fn socket_at<R: Net>(net: &R, address: &str) -> io::Result<UdpSocket> {
 
 impl UdpLinks {
     /// The datagrams that come to an address, without faults so far.
-    pub fn bind<R: Net>(net: &R, address: &str) -> Result<Self, OpenFault>
+    pub fn bind<N: Net, R: Log>(net: &N, rt: &R, address: &str) -> Result<Self, OpenFault>
         ensures { IfOk result (λ links. links.faults ≡ 0) }
     {
         match socket_at(net, address) {
-            Ok(socket) => Ok(UdpLinks { socket, faults: 0 }),
-            Err(error) => Err(fault_of(error.kind())),
+            Ok(socket) => {
+                warn_of_strangers(rt, address, &socket);
+                Ok(UdpLinks { socket, faults: 0 })
+            }
+            Err(error) => Err(fault_at(rt, "hear at", address, &error)),
         }
     }
 

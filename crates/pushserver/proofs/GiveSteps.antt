@@ -17,6 +17,8 @@ use Rattle.pushserver.specs.declared.given.Given.{Given}
 use Rattle.pushserver.specs.declared.hub_state.HubState.{HubState}
 use Rattle.pushserver.specs.declared.turning.Turn.{Turn}
 use Rattle.pushserver.specs.declared.turning.Turn.TheVariants as turnings
+use Rattle.subscr.specs.Watching.{KeptWatching, watching_of}
+use Rattle.pushserver.specs.Watched.{Watches}
 use Rattle.pushserver.proofs.NumberedSessions.{alike, itself}
 
 pub on_some : {A : Type 0} {P : Type 0} (r : Option A) (x : A) → r ≡ Some x → OnSome r P → P
@@ -31,6 +33,11 @@ on_each_err (Err e) p = p
 
 pub seat-of : (keeping : HubState) (number : ℕ) (s : KeptSession) → IsSound keeping → session_in number keeping.sessions ≡ Some s → AreApart keeping.sessions → IsSeated (kept_of keeping) number s keeping.points.past keeping.timers keeping.index.rows
 seat-of keeping number s sound there apart = record { there = there; apart = apart; past_is = refl; timers_is = refl; rows_is = sound.index }
+
+-- the sessions are as they were, and watch so
+pub sound-later : (keeping : HubState) (watchers : KeptWatching) (xs : Numbered KeptSession) → xs ≡ keeping.sessions → Watches (watching_of watchers) xs → IsSound keeping → IsSound (record keeping { sessions = xs; watchers = watchers })
+sound-later keeping watchers xs same w s = subst (λ (ys : Numbered KeptSession). Watches (watching_of watchers) ys → IsSound (record keeping { sessions = ys; watchers = watchers })) (sym same)
+    (λ v. record { apart = s.apart; index = s.index; home = s.home; below = s.below; waiting = s.waiting; told = s.told; packable = s.packable; watched = v }) w
 
 -- a session that is as it was stands as before
 pub as_before : (number : ℕ) (xs ys : Numbered KeptSession) (s t : KeptSession) → session_in number xs ≡ Some s → AreApart xs → t ≡ s → ys ≡ in_sessions number (λ _. t) xs → ys ≡ xs

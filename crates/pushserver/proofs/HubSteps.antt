@@ -12,6 +12,8 @@ use Rattle.pushserver.specs.KeptHubs.{KeptHub, StandsFor}
 use Rattle.dsotlv.specs.Laws.{AreOctets}
 use Rattle.pushserver.specs.Simulation.{BothAnswer}
 use Rattle.pushserver.specs.HubState.{Gave, IsHub, kept_of}
+use Rattle.pushserver.specs.Watched.{Watches}
+use Rattle.subscr.specs.Watching.{watching_of}
 use Rattle.pushserver.proofs.hub_steps.Calls.{updates_stand, hears_stand, moments_stand, connects_stand, takes_stand, stops_stand, ends_stand}
 use Rattle.pushserver.proofs.hub_steps.Giving.{gives_stand}
 
@@ -24,11 +26,11 @@ pub seen : (k now : KeptHub) → k ≡ now → (hub : Hub) → StandsFor now hub
 seen k now view hub stands = stays now k view hub stands
 
 -- what was kept stood for a plain hub; what is kept then does so, too
-pub keeps-hub : (keeping later : HubState) (step : Hub → Hub) → later.index.rows ≡ records_now (kept_of later) → ((hub : Hub) → StandsFor (kept_of keeping) hub → StandsFor (kept_of later) (step hub)) → IsHub keeping → IsHub later
-keeps-hub keeping later step index stands is = record { index = index; hub = step is.hub; stands = stands is.hub is.stands }
+pub keeps-hub : (keeping later : HubState) (step : Hub → Hub) → later.index.rows ≡ records_now (kept_of later) → Watches (watching_of later.watchers) later.sessions → ((hub : Hub) → StandsFor (kept_of keeping) hub → StandsFor (kept_of later) (step hub)) → IsHub keeping → IsHub later
+keeps-hub keeping later step index watched stands is = record { index = index; watched = watched; hub = step is.hub; stands = stands is.hub is.stands }
 
-pub same-hub : (keeping later : HubState) → later.index.rows ≡ records_now (kept_of later) → kept_of later ≡ kept_of keeping → IsHub keeping → IsHub later
-same-hub keeping later index same is = keeps-hub keeping later (λ hub. hub) index (stays (kept_of keeping) (kept_of later) same) is
+pub same-hub : (keeping later : HubState) → later.index.rows ≡ records_now (kept_of later) → Watches (watching_of later.watchers) later.sessions → kept_of later ≡ kept_of keeping → IsHub keeping → IsHub later
+same-hub keeping later index watched same is = keeps-hub keeping later (λ hub. hub) index watched (stays (kept_of keeping) (kept_of later) same) is
 
 -- an answer, and what is kept then
 answers : {X : Type 0} (a : X) (later : KeptHub) (k : X × KeptHub) (p : X × Hub) → a ≡ k.0 → later ≡ k.1 → BothAnswer k p → (a ≡ p.0) × StandsFor later p.1

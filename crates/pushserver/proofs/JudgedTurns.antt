@@ -34,7 +34,7 @@ use Rattle.pushserver.proofs.SessionTurns.{HandsOn, gave-as}
 
 -- an entry makes names wait, and changes nothing else of it
 abbrev pub noted_by : Entry → KeptHub → KeptSession → KeptSession
-noted_by entry k session = noted keeping (entry_changes entry k) (records_now k) (newest k) session
+noted_by entry k session = noted keeping (entry_changes entry k) (newest k) session
 
 abbrev pub Found : KeptHub → ℕ → KeptSession → Type 0
 Found k number s = (q : List WaitingName) × (session_in number k.sessions ≡ Some (record s { queue = q }))

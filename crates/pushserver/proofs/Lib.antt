@@ -11,7 +11,7 @@ pub mod Subscribing
 pub mod Wanting
 pub mod Walks
 pub mod NumberedSessions
-pub mod Noting
+pub mod NotedSessions
 pub mod SessionTurns
 pub mod JudgedTurns
 pub mod ReconfirmTurns
@@ -21,3 +21,5 @@ pub mod GiveSteps
 pub mod Soundness
 pub mod HubSteps
 pub mod AddedEntries
+pub mod Watched
+pub mod Stepping

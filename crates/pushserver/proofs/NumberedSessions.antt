@@ -50,6 +50,10 @@ turn-here f old now i e new h is new_is so_far =
 pub turn : (f : KeptSession → KeptSession) (old now : Numbered) (i : ℕ) (d : ℕ × KeptSession) (new : KeptSession) → i < length now → d ≡ get_or now i d → new ≡ f (get_or now i d).1 → now ≡ front f i old → set now i ((get_or now i d).0, new) ≡ front f (i + 1) old
 turn f old now i d new h is new_is so_far = turn-here f old now i (get_or now i d) new h (ap (get_or now i) is) new_is so_far
 
+-- the same, where the number and the session are one entry
+pub turn-entry : (f : KeptSession → KeptSession) (old now : Numbered) (i : ℕ) (d e : ℕ × KeptSession) → i < length now → d ≡ get_or now i d → e ≡ ((get_or now i d).0, f (get_or now i d).1) → now ≡ front f i old → set now i e ≡ front f (i + 1) old
+turn-entry f old now i d e h is e_is so_far = ap (set now i) e_is ∙ turn f old now i d (f (get_or now i d).1) h is refl so_far
+
 pub ends : (f : KeptSession → KeptSession) (old now : Numbered) (i : ℕ) → length now ≤ i → now ≡ front f i old → now ≡ all_sessions f old
 ends f old now i h so_far = so_far ∙ front-all f i old (omega (arith, h, ap length so_far, front-length f i old))
 

@@ -3,7 +3,7 @@
 --     plan-held, plan-changes, offered-room      what is entered from a plan that is held
 --     update-offered, hear-offered, reconfirm-offered, moment-offered      each call that makes an entry offers it
 --     moment-made      a later moment, which is one for each session, too
---     unread-is      a datagram that can't be read
+--     unread-is, read-is      a datagram that can't be read, and one that can
 use Rattle.std.proofs.Common.{◌≡◌, ℕ, ◌<◌, Bool, true, false, cond, not, ◌&&◌, List, Option, Some, Result, Ok, Err, refl, sym, ap, subst, ◌∙◌, nat_lt, lt-ltb}
 use Rattle.std.specs.Prelude.{is_some}
 use Rattle.push_base.specs.Cases.{◌>>=◌, fault_as}
@@ -146,6 +146,13 @@ module _ {A Q M : Type 0} {kind : SessionKind A Q M} (hub : HubOf kind) where
       by : (r : Result Hearing HearFault) → fault_as why_not r ≡ Err why → hear_as hub link r ≡ (Some (Ignored why), hub)
       by (Err fault) e = ap (λ (w : Why). (Some (Ignored w), hub)) (same_why (why_not fault) e)
       by (Ok hearing) e = cc
+
+pub read-is : (r : Result Hearing HearFault) (hearing : Hearing) → fault_as why_not r ≡ Ok hearing → r ≡ Ok hearing
+read-is (Ok h) hearing e = ap (λ (x : Hearing). Ok x) (same h e)
+  where
+    same : (h : Hearing) → ◌≡◌ {A = Result Hearing Why} (Ok h) (Ok hearing) → h ≡ hearing
+    same h e = cc
+read-is (Err fault) hearing e = absurd cc
 
 -- a later moment that was offered where there is room, and then one for each session
 pub moment-made : (k mid : KeptHub) (t before : ℕ) (sessions : Numbered KeptSession) (room : Bool) → before ≡ now k → before < t → room ≡ can_enter k (entries.Moment t) → room ≡ true

@@ -33,7 +33,7 @@ module _ (other number : ℕ) (apart : other ≡ number → ⊥) where
 
   -- what an entry does to each session
   abbrev by_entry : Entry → Hub → Session → Session
-  by_entry entry hub = noted (keeps_now hub) (changes (records_now hub) (records_now (record hub { history = hub.history ++ entry ∷ [] }))) (records_now hub) (newest hub)
+  by_entry entry hub = noted (keeps_now hub) (changes (records_now hub) (records_now (record hub { history = hub.history ++ entry ∷ [] }))) (newest hub)
 
   -- an entry does to what stayed what it does to what was
   entered-stays : (entry : Entry) (hub later : Hub) → StaysOther hub later → StaysOther (entered entry hub) (entered entry later)

@@ -2,16 +2,18 @@
 use Rattle.std.proofs.Common.{◌≡◌, ℕ, ◌<◌, false, List, [], ◌∷◌, map, length, sym, subst, ◌∙◌, arith}
 use Rattle.std.specs.Prelude.{◌==◌}
 use Rattle.std.specs.List.{AllByRecursion, AllZip, IsDistinct}
-use Rattle.coalesce.specs.Waiting.{WaitingName, CanBePacked}
+use Rattle.coalesce.specs.Waiting.{WaitingName, CanBePacked, IsOlder}
 use Rattle.rrset.specs.RecordSet.{RecordSet}
 use Rattle.history.specs.AtHome.{AreAtHome}
 use Rattle.history.specs.States.{state_at}
 use Rattle.history.specs.declared.entry.Entry.{Entry}
 use Rattle.pushsession.specs.Kept.{KeptSession}
 use Rattle.pushserver.specs.PlainHubs.{Hub, Session}
-use Rattle.pushserver.specs.Hubs.{Numbered, newest, state_now}
+use Rattle.pushserver.specs.Hubs.{Numbered, newest, past_of, state_now}
 use Rattle.pushserver.specs.Rows.{AreTold}
-use Rattle.pushserver.specs.KeptHubs.{KeptHub, StandsFor}
+use Rattle.history.specs.Kept.{Past}
+use Rattle.subscr.specs.Asked.{Asked}
+use Rattle.pushserver.specs.KeptHubs.{KeptHub, KeepsSent, StandsFor}
 use Rattle.pushserver.specs.NumberedSessions.{AreApart, AreBelow, WaitBefore}
 use Rattle.pushserver.specs.HubState.{IsHub, IsSound, kept_of}
 use Rattle.pushserver.specs.declared.hub_state.HubState.{HubState}
@@ -36,14 +38,14 @@ are_below hub [] ps zip = tt
 are_below hub (k ∷ ks) [] zip = absurd zip
 are_below hub (k ∷ ks) (p ∷ ps) zip = (subst (λ n. n < hub.numbers_given) (sym zip.0.stands.number) zip.0.sound.below, are_below hub ks ps zip.1)
 
-waiting-past : (point : ℕ) (ws : List WaitingName) → ArePast point (map (λ w. (w.name, w.point)) ws) → AllByRecursion (λ w. w.point < point) ws
-waiting-past point [] all = tt
-waiting-past point (w ∷ ws) all = (all.0, waiting-past point ws all.1)
+waiting-past : (past : Past) (asked : Asked) (ws : List WaitingName) → ArePast (length past.history) (map (λ w. (w.name, w.point)) ws) → AllByRecursion (KeepsSent past asked) ws → AllByRecursion (IsOlder (length past.history)) ws
+waiting-past past asked [] all keeps = tt
+waiting-past past asked (w ∷ ws) all keeps = ((all.0, keeps.0.older), waiting-past past asked ws all.1 keeps.1)
 
 wait_before : (hub : Hub) (ks : Numbered KeptSession) (ps : Numbered Session) → AllZip (SessionFits hub) ks ps → WaitBefore (newest hub) ks
 wait_before hub [] ps zip = tt
 wait_before hub (k ∷ ks) [] zip = absurd zip
-wait_before hub (k ∷ ks) (p ∷ ps) zip = (waiting-past (newest hub) k.1.queue (subst (ArePast (newest hub)) (sym zip.0.stands.queue) zip.0.sound.points), wait_before hub ks ps zip.1)
+wait_before hub (k ∷ ks) (p ∷ ps) zip = (waiting-past (past_of hub) k.1.subscriptions.asked k.1.queue (subst (ArePast (newest hub)) (sym zip.0.stands.queue) zip.0.sound.points) zip.0.stands.keeps, wait_before hub ks ps zip.1)
 
 -- the state of what is kept is that of the plain hub
 same_state : (k : KeptHub) (hub : Hub) → StandsFor k hub → state_now hub ≡ state_now k
@@ -60,5 +62,6 @@ sound keeping is =
       below = subst (λ n. AreBelow n keeping.sessions) (sym is.stands.numbers_given) (are_below is.hub keeping.sessions is.hub.sessions (fitting is.stands));
       waiting = subst (λ (h : List Entry). WaitBefore (length h) keeping.sessions) (sym is.stands.history) (wait_before is.hub keeping.sessions is.hub.sessions (fitting is.stands));
       told = subst AreTold (sym is.index) told.0;
+      watched = is.watched;
       packable = λ number session at. subst (λ (rows : RecordSet). CanBePacked rows session.queue) (sym is.index) (told.1 number session at);
     }

@@ -2,6 +2,7 @@
 pub mod Pairs
 pub mod Standing
 pub mod Names
+pub mod Noted
 pub mod Queued
 pub mod Entering
 pub mod Cases

@@ -1,5 +1,6 @@
 -- That each rule does to a session as it is kept what it does to the plain one.
 pub mod Lists
+pub mod OldValues
 pub mod Octets
 pub mod Parts
 pub mod Standing

@@ -25,6 +25,8 @@ use Rattle.pushserver.specs.PlainHubs.{Hub}
 use Rattle.pushserver.specs.KeptHubs.{KeptHub, KeptGiving, StandsFor}
 use Rattle.pushserver.specs.Rows.{AreTold}
 use Rattle.pushserver.specs.NumberedSessions.{AreApart, AreBelow, WaitBefore}
+use Rattle.pushserver.specs.Watched.{Watches}
+use Rattle.subscr.specs.Watching.{watching_of}
 use Rattle.pushserver.specs.declared.given.Given.{Given}
 use Rattle.pushserver.specs.declared.hub_state.HubState.{HubState}
 use Rattle.pushserver.specs.declared.turning.Turn.{Turn}
@@ -33,7 +35,8 @@ use Rattle.pushserver.specs.declared.turning.Turn.TheVariants as turns
 abbrev pub kept_of : HubState → KeptHub
 kept_of keeping = record { start = keeping.points.past.start; timers = keeping.timers; history = keeping.points.past.history; sessions = keeping.sessions; numbers_given = keeping.numbers_given }
 
--- no number twice, and all were given out; the table has all records, each at home; names wait since the past, and can be told
+-- no number twice, and all were given out; the table has all records, each at home; names wait since the past, and can be told; each
+-- session watches the names that it asks for
 pub record IsSound (keeping : HubState) : Type 0 where
   pub apart : AreApart keeping.sessions
   pub index : keeping.index.rows ≡ records_now (kept_of keeping)
@@ -42,10 +45,12 @@ pub record IsSound (keeping : HubState) : Type 0 where
   pub waiting : WaitBefore (newest (kept_of keeping)) keeping.sessions
   pub told : AreTold keeping.index.rows
   pub packable : (number : ℕ) (session : KeptSession) → session_in number keeping.sessions ≡ Some session → CanBePacked keeping.index.rows session.queue
+  pub watched : Watches (watching_of keeping.watchers) keeping.sessions
 
--- the table has all records, and there is a plain hub for which the parts stand
+-- the table has all records, each session watches the names that it asks for, and there is a plain hub for which the parts stand
 pub record IsHub (keeping : HubState) : Type 0 where
   pub index : keeping.index.rows ≡ records_now (kept_of keeping)
+  pub watched : Watches (watching_of keeping.watchers) keeping.sessions
   pub hub : Hub
   pub stands : StandsFor (kept_of keeping) hub
 

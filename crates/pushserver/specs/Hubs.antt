@@ -108,7 +108,7 @@ entry_changes entry hub = changes (records_now hub) (records_now (with_entry ent
 
 -- an entry is made, and of each session the names that it touches wait
 abbrev pub entered : {A Q M : Type 0} {kind : SessionKind A Q M} → Entry → HubOf kind → HubOf kind
-entered entry hub = each_session (noted (keeps_now hub) (entry_changes entry hub) (records_now hub) (newest hub)) (with_entry entry hub)
+entered entry hub = each_session (noted (keeps_now hub) (entry_changes entry hub) (newest hub)) (with_entry entry hub)
 
 abbrev pub can_enter : {A Q M : Type 0} {kind : SessionKind A Q M} → HubOf kind → Entry → Bool
 can_enter hub entry = journal_has_room hub.history (entry_size entry)

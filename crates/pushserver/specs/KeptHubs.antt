@@ -1,22 +1,29 @@
 -- What the server keeps, and the plain hub that it stands for.
 --     kept, KeptHub      its sessions as they are kept; the hub
+--     KeepsSent past asked w      what counts as sent of a name that waits is told by old values and the records now
 --     StandsFor kept hub      what is kept is what the plain hub's history tells
-use Rattle.std.specs.Prelude.{◌≡◌, ℕ, List, map, min}
+use Rattle.std.specs.Prelude.{◌≡◌, ℕ, ◌<◌, true, List, map, length, min, IsTrue, IfSome}
 use Rattle.std.specs.List.{AllByRecursion, AllZip}
 use Rattle.push_base.specs.Limits.{max_number}
-use Rattle.rrset.specs.RecordSet.{at_name}
-use Rattle.coalesce.specs.Waiting.{WaitingName}
-use Rattle.history.specs.Kept.{records_now}
+use Rattle.dnsname.specs.Names.{Labels, same_name}
+use Rattle.rrset.specs.KeyedRows.{is_rising}
+use Rattle.rrset.specs.RecordSet.{only, at_name, shows_its_key}
+use Rattle.rrset.specs.declared.record.Key.{Key}
+use Rattle.subscr.specs.Asked.{Asked, wants}
+use Rattle.coalesce.specs.Waiting.{WaitingName, OldValue, old_side}
+use Rattle.history.specs.Kept as pasts
+use Rattle.history.specs.Kept.{Past}
 use Rattle.history.specs.States.{records_at}
 use Rattle.pushsession.specs.Kept.{KeptSession, KeptQuestions, Filled, keeping, telling}
 use Rattle.pushserver.specs.PlainHubs.{Hub, Session, Subscription, Queue, written, asked_of}
 use Rattle.pushserver.specs.SoundHubs.{IsSoundHub}
-use Rattle.pushserver.specs.Hubs.{SessionKind, HubOf}
+use Rattle.pushserver.specs.Hubs.{SessionKind, HubOf, past_of}
+use Rattle.pushserver.specs.Rows.{is_tellable}
 use Rattle.pushserver.specs.Giving.{GivingOf}
 
 -- what is kept of its sessions, and what is told to them
 abbrev pub kept : SessionKind KeptQuestions (List WaitingName) ℕ
-kept = record { keeps = λ newest. keeping; tells = λ start history. telling (records_now (record { start = start; history = history })) }
+kept = record { keeps = λ newest. keeping; tells = λ start history. telling (pasts.records_now (record { start = start; history = history })) }
 
 abbrev pub KeptHub : Type 0
 KeptHub = HubOf kept
@@ -32,9 +39,17 @@ filled_kept subscriptions = map (λ s. (s.id, min s.filled max_number)) subscrip
 abbrev pub queue_of : List WaitingName → Queue
 queue_of waiting = map (λ w. (w.name, w.point)) waiting
 
--- a name that waits has the records that it had at its point
-abbrev pub IsCopy : Hub → WaitingName → Type 0
-IsCopy hub w = w.old ≡ at_name w.name (records_at hub.start hub.history w.point)
+-- a key was shown so at its name, and could be told
+abbrev pub IsOldOf : Labels → Key × OldValue → Type 0
+IsOldOf name e = (same_name name e.0.owner ≡ true) × IfSome e.1.before (λ shown. IsTrue (is_tellable (e.0, shown)) × IsTrue (shows_its_key (e.0, shown)))
+
+-- What is kept of a name that waits: old values in key order, by which its records now become, as the questions ask for them,
+-- those that it had at its point. Of keys that no question asks for nothing is said.
+pub record KeepsSent (past : Past) (asked : Asked) (w : WaitingName) : Type 0 where
+  pub rising : is_rising w.values ≡ true
+  pub values : AllByRecursion (IsOldOf w.name) w.values
+  pub older : AllByRecursion (λ e. e.1.point < length past.history) w.values
+  pub sent : old_side asked (pasts.records_now past) w ≡ only (λ key. wants key asked) (at_name w.name (records_at past.start past.history w.point))
 
 -- a session is kept as the plain one
 pub record SessionStandsFor (hub : Hub) (kept : ℕ × KeptSession) (plain : ℕ × Session) : Type 0 where
@@ -42,7 +57,7 @@ pub record SessionStandsFor (hub : Hub) (kept : ℕ × KeptSession) (plain : ℕ
   pub asked : kept.1.subscriptions.asked ≡ asked_of plain.1.subscriptions
   pub filled : kept.1.subscriptions.filled ≡ filled_kept plain.1.subscriptions
   pub queue : queue_of kept.1.queue ≡ plain.1.queue
-  pub copies : AllByRecursion (IsCopy hub) kept.1.queue
+  pub keeps : AllByRecursion (KeepsSent (past_of hub) kept.1.subscriptions.asked) kept.1.queue
   pub clocks : kept.1.clocks ≡ plain.1.clocks
   pub established : kept.1.established ≡ plain.1.established
   pub standing : kept.1.standing ≡ plain.1.standing

@@ -1,8 +1,10 @@
 -- An entry that is offered to a hub: it is made where it is accepted and the journal has room for it.
 --     offered entry hub      what became of it, and the hub after it
+--     offered_changes entry hub      the keys that it would change
 --     code_of, heard_of      what that says of an update, which is never idle; of a hearing, which is never refused
-use Rattle.std.specs.Prelude.{ℕ, Option, Some, None, if◌then◌else◌}
+use Rattle.std.specs.Prelude.{ℕ, List, [], Option, Some, None, if◌then◌else◌}
 use Rattle.rrset.specs.Rcodes.{noerror, servfail}
+use Rattle.rrset.specs.declared.record.Changed.{Changed}
 use Rattle.history.specs.Plans.{Plan, refuse, idle, accept, planned}
 use Rattle.history.specs.declared.entry.Entry.{Entry}
 use Rattle.pushserver.specs.declared.entering.Offered.{Offered}
@@ -29,3 +31,12 @@ abbrev pub heard_of : Offered → Option Heard
 heard_of offers.Idle = Some (Ignored whys.Nothing)
 heard_of offers.Made = Some Entered
 heard_of _ = None
+
+-- the keys that an entry which is offered would change: none where it isn't accepted
+abbrev pub changes_by : Plan → List Changed
+changes_by (refuse code) = []
+changes_by idle = []
+changes_by (accept changed) = changed
+
+abbrev pub offered_changes : {A Q M : Type 0} {kind : SessionKind A Q M} → Entry → HubOf kind → List Changed
+offered_changes entry hub = changes_by (planned (state_now hub) entry)

@@ -129,7 +129,7 @@ plain_keeps newest = record {
   with_question = λ id question end subscriptions. subscriptions ++ (record { id = id; question = question; filled = end }) ∷ [];
   without_id = λ id subscriptions. filter (λ s. not (s.id == id)) subscriptions;
   no_names = [];
-  with_name = λ point rows queue name. enqueued point queue name;
+  with_change = λ point queue c. enqueued point queue c.key.owner;
   without_name = leaves_queue;
   least_point = λ queue. least_of (map (λ e. e.1) queue);
   no_messages = [];

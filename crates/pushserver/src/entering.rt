@@ -6,15 +6,21 @@ ghost use Rattle.history.specs.Kept.{IsHeld};
 ghost use Rattle.history.specs.States.{entry_size, journal_has_room};
 ghost use Rattle.pushserver.specs.Hubs.{can_enter, entered, entry_changes, records_now};
 ghost use Rattle.pushserver.specs.HubState.{IsSound, kept_of};
-ghost use Rattle.pushserver.specs.Offering.{code_of, heard_of, offered};
+ghost use Rattle.pushserver.specs.Offering.{code_of, heard_of, offered, offered_changes};
+ghost use Rattle.pushserver.specs.Watched.{Watches, allowed};
+ghost use Rattle.push_base.specs.Counted.{CountsUpTo};
+ghost use Rattle.subscr.specs.Watching.{watching_of};
 
 use crate::given::{Heard, Why};
 use crate::hub_state::HubState;
+use crate::making::make_changes;
+use crate::noting::note;
 use history::entry::Entry;
 use history::{ChangedKeys, PastFault, Planned, Points};
+use push_base::Steps;
 use pushsession::NoMemory;
 use rrset::rcodes::{NOERROR, SERVFAIL};
-use zoneupdate::make_changes;
+use std::sync::ledger::Ledger;
 
 /// What became of an entry that was offered.
 #[derive(Clone, Copy, Debug)]
@@ -73,9 +79,14 @@ impl HubState {
         self.points.room(entry.size())
     }
 
-    /// Enters the entry whose plan is held, and for which the journal has room: each session notes what the entry
-    /// changes, and then the history, and the table of all records, have it. Where memory runs out nothing changes.
-    pub(crate) fn enter(&mut self, entry: Entry, changed: ChangedKeys) -> Result<(), NoMemory>
+    /// Enters the entry whose plan is held, and for which the journal has room: each session that watches its names notes
+    /// what it changes, and then the history, and the table of all records, have it. Where memory runs out nothing changes.
+    pub(crate) fn enter<L: Ledger>(
+        &mut self,
+        entry: Entry,
+        changed: ChangedKeys,
+        steps: &mut Steps<L>,
+    ) -> Result<(), NoMemory>
         requires sound { IsSound self.old }
         requires held { IsHeld self.old.points entry }
         requires room { can_enter (kept_of self.old) entry ≡ true }
@@ -83,25 +94,40 @@ impl HubState {
         ensures ok { OnOk result (kept_of self.new ≡ entered entry (kept_of self.old)) }
         ensures err { OnErr result (kept_of self.new ≡ kept_of self.old) }
         ensures index { self.new.index.rows ≡ records_now (kept_of self.new) }
+        ensures watched { Watches (watching_of self.new.watchers) self.new.sessions }
+        ensures steps { CountsUpTo (allowed (kept_of self.old) (entry_changes entry (kept_of self.old))) steps.old steps.new }
     {
         let point = self.points.point();
-        self.index.reserve_for(changed.as_slice())?;
-        self.sessions.note(changed.as_slice(), &self.index, point)?;
+        self.index.reserve_for(changed.as_slice(), steps)?;
+        note(
+            &mut self.sessions,
+            &self.watchers,
+            changed.as_slice(),
+            point,
+            steps,
+        )?;
         if append(&mut self.points, entry).is_err() {
             self.sessions.take_back(point);
             return Err(NoMemory);
         }
-        make_changes(&mut self.index, changed.into_vec());
+        make_changes(&mut self.index, changed.into_vec(), steps);
         Ok(())
     }
+
     /// Enters an entry where it is accepted and the journal has room for it. Where memory runs out nothing changes.
-    pub(crate) fn offer(&mut self, entry: Entry) -> Result<Offered, NoMemory>
+    pub(crate) fn offer<L: Ledger>(
+        &mut self,
+        entry: Entry,
+        steps: &mut Steps<L>,
+    ) -> Result<Offered, NoMemory>
         requires sound { IsSound self.old }
         requires timely { IsTimely entry }
         ensures offered { IfOk result (λ o. o ≡ (offered entry (kept_of self.old)).0) }
         ensures hub { IfOk result (λ o. kept_of self.new ≡ (offered entry (kept_of self.old)).1) }
         ensures err { OnErr result (kept_of self.new ≡ kept_of self.old) }
         ensures index { self.new.index.rows ≡ records_now (kept_of self.new) }
+        ensures watched { Watches (watching_of self.new.watchers) self.new.sessions }
+        ensures steps { CountsUpTo (allowed (kept_of self.old) (offered_changes entry (kept_of self.old))) steps.old steps.new }
     {
         let alloc = self.allocator();
         match self.points.plan(alloc, &entry)? {
@@ -111,7 +137,7 @@ impl HubState {
                 if !self.can_enter(&entry) {
                     return Ok(Offered::Full);
                 }
-                self.enter(entry, changed)?;
+                self.enter(entry, changed, steps)?;
                 Ok(Offered::Made)
             }
         }

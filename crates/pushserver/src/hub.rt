@@ -1,6 +1,6 @@
 //! The server's core: one history, and the sessions that are told of it.
 
-ghost use Rattle.std.specs.Prelude.{◌≡◌, ◌≤◌, ◌+◌, ◌++◌, None, Some, drop, false, length, true, IfOk, IsErrOf, OnErr, OnOk};
+ghost use Rattle.std.specs.Prelude.{◌≡◌, ◌≤◌, ◌<◌, ◌+◌, ◌++◌, None, Some, drop, false, length, true, IfOk, IsErrOf, OnErr, OnOk};
 ghost use Rattle.push_base.specs.Limits.{max_moment};
 ghost use Rattle.dnswire.specs.Reading.{hearing_of};
 ghost use Rattle.history.specs.Kept.{state_of};
@@ -12,14 +12,18 @@ ghost use Rattle.pushserver.specs.Laws.{MayWantMemory};
 ghost use Rattle.pushserver.specs.Observing.{SaysWhy};
 ghost use Rattle.pushserver.specs.KeptHubs.{StandsFor, kept};
 ghost use Rattle.pushserver.specs.PlainHubs.{Hub as Plain, new_hub};
+ghost use Rattle.pushserver.specs.Watched.{allowed, hear_changes, update_changes};
+ghost use Rattle.push_base.specs.Counted.{CountsUpTo};
 
 use crate::fault::{ConnectFault, HubFault};
 use crate::given::{Given, Heard};
 use crate::hub_state::HubState;
 use dsosession::session::Timers;
 use history::Homes;
+use push_base::Steps;
 use pushsession::NoMemory;
-use std::marker::Model;
+use std::marker::{Brand, Model};
+use std::sync::ledger::{Blank, Ledger};
 
 /// One history of all homes, and the sessions, each told of what it asks for (RFC 8765). It stands for a plain hub, which
 /// keeps nothing that the history tells. All moments are milliseconds of one clock.
@@ -53,20 +57,78 @@ impl Hub {
 
     /// Judges an update message, and enters it where it is accepted (RFC 2136, 3). Gives its RCODE: FORMERR for what is
     /// no update, SERVFAIL where the journal has no room. It is never `Full`.
-    pub fn update(&mut self, message: &[u8]) -> Result<u8, HubFault>
+    /// At most 8 steps are counted, and 8 for each key that it changes, and 4 for each session that watches the key's name,
+    /// whatever the answer is.
+    pub fn update<L: Ledger>(
+        &mut self,
+        message: &[u8],
+        steps: &mut Steps<L>,
+    ) -> Result<u8, HubFault>
+        ensures ok { IfOk result (λ code. (hub : Plain) → StandsFor self.old hub → (code ≡ (update hub message.now).0) × StandsFor self.new (update hub message.now).1) }
+        ensures never { IsErrOf result HubFault.Full → ⊥ }
+        ensures err { OnErr result ((hub : Plain) → StandsFor self.old hub → StandsFor self.new hub) }
+        ensures kept { IfOk result (λ code. (code ≡ (update self.old message.now).0) × (self.new ≡ (update self.old message.now).1)) }
+        ensures same { OnErr result (self.new ≡ self.old) }
+        ensures steps { CountsUpTo (allowed self.old (update_changes self.old message.now)) steps.old steps.new }
+    {
+        Ok(self.keeping.update(message, steps)?)
+    }
+
+    /// The same where nobody counts steps.
+    pub fn update_uncounted(&mut self, message: &[u8]) -> Result<u8, HubFault>
         ensures ok { IfOk result (λ code. (hub : Plain) → StandsFor self.old hub → (code ≡ (update hub message.now).0) × StandsFor self.new (update hub message.now).1) }
         ensures never { IsErrOf result HubFault.Full → ⊥ }
         ensures err { OnErr result ((hub : Plain) → StandsFor self.old hub → StandsFor self.new hub) }
         ensures kept { IfOk result (λ code. (code ≡ (update self.old message.now).0) × (self.new ≡ (update self.old message.now).1)) }
         ensures same { OnErr result (self.new ≡ self.old) }
     {
-        Ok(self.keeping.update(message)?)
+        self.update_under::<Brand>(Blank::new(1), message)
+    }
+
+    /// The same with a counter of its own.
+    fn update_under<L: Ledger>(&mut self, blank: Blank, message: &[u8]) -> Result<u8, HubFault>
+        requires name { blank.name ≡ L.name }
+        requires parts { blank.parts ≡ L.parts }
+        requires some { 0 < blank.parts }
+        ensures ok { IfOk result (λ code. (hub : Plain) → StandsFor self.old hub → (code ≡ (update hub message.now).0) × StandsFor self.new (update hub message.now).1) }
+        ensures never { IsErrOf result HubFault.Full → ⊥ }
+        ensures err { OnErr result ((hub : Plain) → StandsFor self.old hub → StandsFor self.new hub) }
+        ensures kept { IfOk result (λ code. (code ≡ (update self.old message.now).0) × (self.new ≡ (update self.old message.now).1)) }
+        ensures same { OnErr result (self.new ≡ self.old) }
+    {
+        let mut steps = Steps::<L>::begin(blank);
+        self.update(message, &mut steps)
     }
 
     /// Hears a datagram of a link, counted from 0 (RFC 6762, 18), and enters it where a record of it is used. `Ignored`: it is
     /// no hearing, or none of its records is used, as where there is no such link. `Full`: it could be entered, and the journal
     /// has no room for it.
-    pub fn hear(&mut self, link: usize, datagram: &[u8]) -> Result<Heard, HubFault>
+    /// At most 8 steps are counted, and 8 for each key that it changes, and 4 for each session that watches the key's name,
+    /// whatever the answer is.
+    pub fn hear<L: Ledger>(
+        &mut self,
+        link: usize,
+        datagram: &[u8],
+        steps: &mut Steps<L>,
+    ) -> Result<Heard, HubFault>
+        ensures ok { IfOk result (λ heard. (hub : Plain) → StandsFor self.old hub → ((hear hub link datagram.now).0 ≡ Some heard) × StandsFor self.new (hear hub link datagram.now).1) }
+        ensures full { IsErrOf result HubFault.Full → (hub : Plain) → StandsFor self.old hub → ((hear hub link datagram.now).0 ≡ None) × StandsFor self.new (hear hub link datagram.now).1 }
+        ensures err { OnErr result ((hub : Plain) → StandsFor self.old hub → StandsFor self.new hub) }
+        ensures kept { IfOk result (λ heard. ((hear self.old link datagram.now).0 ≡ Some heard) × (self.new ≡ (hear self.old link datagram.now).1)) }
+        ensures no_room { IsErrOf result HubFault.Full → (hear self.old link datagram.now).0 ≡ None }
+        ensures same { OnErr result (self.new ≡ self.old) }
+        ensures unread { IfOk result (λ heard. SaysWhy heard (hearing_of datagram.now)) }
+        ensures counts { AddsHearing result self.old self.new }
+        ensures steps { CountsUpTo (allowed self.old (hear_changes self.old link datagram.now)) steps.old steps.new }
+    {
+        let Some(heard) = self.keeping.hear(link, datagram, steps)? else {
+            return Err(HubFault::Full);
+        };
+        Ok(heard)
+    }
+
+    /// The same where nobody counts steps.
+    pub fn hear_uncounted(&mut self, link: usize, datagram: &[u8]) -> Result<Heard, HubFault>
         ensures ok { IfOk result (λ heard. (hub : Plain) → StandsFor self.old hub → ((hear hub link datagram.now).0 ≡ Some heard) × StandsFor self.new (hear hub link datagram.now).1) }
         ensures full { IsErrOf result HubFault.Full → (hub : Plain) → StandsFor self.old hub → ((hear hub link datagram.now).0 ≡ None) × StandsFor self.new (hear hub link datagram.now).1 }
         ensures err { OnErr result ((hub : Plain) → StandsFor self.old hub → StandsFor self.new hub) }
@@ -76,15 +138,35 @@ impl Hub {
         ensures unread { IfOk result (λ heard. SaysWhy heard (hearing_of datagram.now)) }
         ensures counts { AddsHearing result self.old self.new }
     {
-        let Some(heard) = self.keeping.hear(link, datagram)? else {
-            return Err(HubFault::Full);
-        };
-        Ok(heard)
+        self.hear_under::<Brand>(Blank::new(1), link, datagram)
+    }
+
+    /// The same with a counter of its own.
+    fn hear_under<L: Ledger>(
+        &mut self,
+        blank: Blank,
+        link: usize,
+        datagram: &[u8],
+    ) -> Result<Heard, HubFault>
+        requires name { blank.name ≡ L.name }
+        requires parts { blank.parts ≡ L.parts }
+        requires some { 0 < blank.parts }
+        ensures ok { IfOk result (λ heard. (hub : Plain) → StandsFor self.old hub → ((hear hub link datagram.now).0 ≡ Some heard) × StandsFor self.new (hear hub link datagram.now).1) }
+        ensures full { IsErrOf result HubFault.Full → (hub : Plain) → StandsFor self.old hub → ((hear hub link datagram.now).0 ≡ None) × StandsFor self.new (hear hub link datagram.now).1 }
+        ensures err { OnErr result ((hub : Plain) → StandsFor self.old hub → StandsFor self.new hub) }
+        ensures kept { IfOk result (λ heard. ((hear self.old link datagram.now).0 ≡ Some heard) × (self.new ≡ (hear self.old link datagram.now).1)) }
+        ensures no_room { IsErrOf result HubFault.Full → (hear self.old link datagram.now).0 ≡ None }
+        ensures same { OnErr result (self.new ≡ self.old) }
+        ensures unread { IfOk result (λ heard. SaysWhy heard (hearing_of datagram.now)) }
+        ensures counts { AddsHearing result self.old self.new }
+    {
+        let mut steps = Steps::<L>::begin(blank);
+        self.hear(link, datagram, &mut steps)
     }
 
     /// It is a moment: where it is a later one, it is entered, and sessions end by their timers (RFC 8490, 6.4 to 6.6).
     /// `Full`: the journal has no room for it, which is told before any memory is taken.
-    pub fn moment(&mut self, at: u64) -> Result<(), HubFault>
+    pub fn moment<L: Ledger>(&mut self, at: u64, steps: &mut Steps<L>) -> Result<(), HubFault>
         requires { at ≤ max_moment }
         ensures ok { OnOk result ((hub : Plain) → StandsFor self.old hub → ((moment hub at).0 ≡ false) × StandsFor self.new (moment hub at).1) }
         ensures full { IsErrOf result HubFault.Full → (hub : Plain) → StandsFor self.old hub → ((moment hub at).0 ≡ true) × StandsFor self.new (moment hub at).1 }
@@ -95,10 +177,44 @@ impl Hub {
         ensures no_room { IsErrOf result HubFault.Full → (moment self.old at).0 ≡ true }
         ensures counts { MayAddMoment self.old self.new }
     {
-        if self.keeping.moment(at)? {
+        if self.keeping.moment(at, steps)? {
             return Err(HubFault::Full);
         }
         Ok(())
+    }
+
+    /// The same where nobody counts steps.
+    pub fn moment_uncounted(&mut self, at: u64) -> Result<(), HubFault>
+        requires { at ≤ max_moment }
+        ensures ok { OnOk result ((hub : Plain) → StandsFor self.old hub → ((moment hub at).0 ≡ false) × StandsFor self.new (moment hub at).1) }
+        ensures full { IsErrOf result HubFault.Full → (hub : Plain) → StandsFor self.old hub → ((moment hub at).0 ≡ true) × StandsFor self.new (moment hub at).1 }
+        ensures err { OnErr result ((hub : Plain) → StandsFor self.old hub → StandsFor self.new hub) }
+        ensures kept { OnOk result (((moment self.old at).0 ≡ false) × (self.new ≡ (moment self.old at).1)) }
+        ensures same { OnErr result (self.new ≡ self.old) }
+        ensures room { IsErrOf result HubFault.NoMemory → (moment self.old at).0 ≡ false }
+        ensures no_room { IsErrOf result HubFault.Full → (moment self.old at).0 ≡ true }
+        ensures counts { MayAddMoment self.old self.new }
+    {
+        self.moment_under::<Brand>(Blank::new(1), at)
+    }
+
+    /// The same with a counter of its own.
+    fn moment_under<L: Ledger>(&mut self, blank: Blank, at: u64) -> Result<(), HubFault>
+        requires name { blank.name ≡ L.name }
+        requires parts { blank.parts ≡ L.parts }
+        requires some { 0 < blank.parts }
+        requires timely { at ≤ max_moment }
+        ensures ok { OnOk result ((hub : Plain) → StandsFor self.old hub → ((moment hub at).0 ≡ false) × StandsFor self.new (moment hub at).1) }
+        ensures full { IsErrOf result HubFault.Full → (hub : Plain) → StandsFor self.old hub → ((moment hub at).0 ≡ true) × StandsFor self.new (moment hub at).1 }
+        ensures err { OnErr result ((hub : Plain) → StandsFor self.old hub → StandsFor self.new hub) }
+        ensures kept { OnOk result (((moment self.old at).0 ≡ false) × (self.new ≡ (moment self.old at).1)) }
+        ensures same { OnErr result (self.new ≡ self.old) }
+        ensures room { IsErrOf result HubFault.NoMemory → (moment self.old at).0 ≡ false }
+        ensures no_room { IsErrOf result HubFault.Full → (moment self.old at).0 ≡ true }
+        ensures counts { MayAddMoment self.old self.new }
+    {
+        let mut steps = Steps::<L>::begin(blank);
+        self.moment(at, &mut steps)
     }
 
     /// A new session. Gives its number; no two sessions have one number. `NoSeat`: there are as many sessions as there may
@@ -133,7 +249,12 @@ impl Hub {
     /// One piece of work for a session, in its order: octets of its output that wait, its stop, the reaction to one whole
     /// message, or a PUSH of what has changed. Octets are written to the front of `buf`. It is never `Full`.
     /// Want of memory comes only where a SUBSCRIBE, a RECONFIRM or an update is reacted to.
-    pub fn give(&mut self, session: u64, buf: &mut [u8]) -> Result<Given, HubFault>
+    pub fn give<L: Ledger>(
+        &mut self,
+        session: u64,
+        buf: &mut [u8],
+        steps: &mut Steps<L>,
+    ) -> Result<Given, HubFault>
         ensures ok { IfOk result (λ given. (hub : Plain) → StandsFor self.old hub → (given ≡ (give hub session (length buf.old)).given) × (buf.new ≡ (give hub session (length buf.old)).octets ++ drop (length (give hub session (length buf.old)).octets) buf.old) × StandsFor self.new (give hub session (length buf.old)).hub) }
         ensures never { IsErrOf result HubFault.Full → ⊥ }
         ensures err { OnErr result ((hub : Plain) → StandsFor self.old hub → StandsFor self.new hub) }
@@ -143,7 +264,44 @@ impl Hub {
         ensures bound { IfOk result (λ given. octets_of given ≤ length buf.old) }
         ensures counts { MayAddChange self.old self.new }
     {
-        Ok(self.keeping.give(session, buf)?)
+        Ok(self.keeping.give(session, buf, steps)?)
+    }
+
+    /// The same where nobody counts steps.
+    pub fn give_uncounted(&mut self, session: u64, buf: &mut [u8]) -> Result<Given, HubFault>
+        ensures ok { IfOk result (λ given. (hub : Plain) → StandsFor self.old hub → (given ≡ (give hub session (length buf.old)).given) × (buf.new ≡ (give hub session (length buf.old)).octets ++ drop (length (give hub session (length buf.old)).octets) buf.old) × StandsFor self.new (give hub session (length buf.old)).hub) }
+        ensures never { IsErrOf result HubFault.Full → ⊥ }
+        ensures err { OnErr result ((hub : Plain) → StandsFor self.old hub → StandsFor self.new hub) }
+        ensures memory { OnErr result ((hub : Plain) → StandsFor self.old hub → MayWantMemory hub session) }
+        ensures kept { OnOk result (self.new ≡ (give self.old session (length buf.old)).hub) }
+        ensures same { OnErr result (self.new ≡ self.old) }
+        ensures bound { IfOk result (λ given. octets_of given ≤ length buf.old) }
+        ensures counts { MayAddChange self.old self.new }
+    {
+        self.give_under::<Brand>(Blank::new(1), session, buf)
+    }
+
+    /// The same with a counter of its own.
+    fn give_under<L: Ledger>(
+        &mut self,
+        blank: Blank,
+        session: u64,
+        buf: &mut [u8],
+    ) -> Result<Given, HubFault>
+        requires name { blank.name ≡ L.name }
+        requires parts { blank.parts ≡ L.parts }
+        requires some { 0 < blank.parts }
+        ensures ok { IfOk result (λ given. (hub : Plain) → StandsFor self.old hub → (given ≡ (give hub session (length buf.old)).given) × (buf.new ≡ (give hub session (length buf.old)).octets ++ drop (length (give hub session (length buf.old)).octets) buf.old) × StandsFor self.new (give hub session (length buf.old)).hub) }
+        ensures never { IsErrOf result HubFault.Full → ⊥ }
+        ensures err { OnErr result ((hub : Plain) → StandsFor self.old hub → StandsFor self.new hub) }
+        ensures memory { OnErr result ((hub : Plain) → StandsFor self.old hub → MayWantMemory hub session) }
+        ensures kept { OnOk result (self.new ≡ (give self.old session (length buf.old)).hub) }
+        ensures same { OnErr result (self.new ≡ self.old) }
+        ensures bound { IfOk result (λ given. octets_of given ≤ length buf.old) }
+        ensures counts { MayAddChange self.old self.new }
+    {
+        let mut steps = Steps::<L>::begin(blank);
+        self.give(session, buf, &mut steps)
     }
 
     /// A session's connection is gone: the session goes with its number.

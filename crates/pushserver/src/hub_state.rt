@@ -14,6 +14,9 @@ ghost use Rattle.pushserver.specs.Hubs.{connect, empty_hub, disconnect, hear, mo
 ghost use Rattle.pushserver.specs.Giving.{reconfirm};
 ghost use Rattle.pushserver.specs.KeptHubs.{kept};
 ghost use Rattle.pushserver.specs.HubState.{IsSound, kept_of};
+ghost use Rattle.pushserver.specs.Watched.{Watches, allowed, hear_changes, update_changes};
+ghost use Rattle.push_base.specs.Counted.{CountsUpTo};
+ghost use Rattle.subscr.specs.Watching.{watching_of};
 
 use crate::decode::{read_datagram, read_message};
 use crate::entering::{code_of, heard_of};
@@ -23,20 +26,25 @@ use dnswire::Update;
 use dsosession::session::Timers;
 use history::entry::Entry;
 use history::{Homes, Points};
-use nametable::{NameTable, by_names};
+use nametable::{Index, by_names};
+use push_base::Steps;
 use push_base::limits::MAX_NUMBER;
 use pushsession::{NoMemory, PushSession};
 use rrset::rcodes::FORMERR;
 use rrset::{Hearing, Rr};
 use std::alloc::Global;
+use std::sync::ledger::Ledger;
+use subscr::Watchers;
 
-/// The history, what is granted, all records in one table, the sessions, and the number of the next one.
+/// The history, what is granted, all records in one table, the sessions and who of them watches a name, and the number of
+/// the next one.
 #[derive(Debug, Drop)]
 pub(crate) struct HubState {
     pub(crate) points: Points,
     pub(crate) timers: Timers,
-    pub(crate) index: NameTable,
+    pub(crate) index: Index,
     pub(crate) sessions: Sessions,
+    pub(crate) watchers: Watchers,
     pub(crate) numbers_given: u64,
 }
 
@@ -46,18 +54,20 @@ impl HubState {
         requires { IsStart (state_of homes) }
         ensures kept { IfOk result (λ keeping. kept_of keeping ≡ empty_hub kept (state_of homes) timers) }
         ensures index { IfOk result (λ keeping. keeping.index.rows ≡ records_now (kept_of keeping)) }
+        ensures watched { IfOk result (λ keeping. Watches (watching_of keeping.watchers) keeping.sessions) }
         ensures home { AreAtHome (state_of homes) }
         ensures names { AllByRecursion (λ h. IsTrue (is_name h.0)) (homes_in (state_of homes)) }
     {
         homes.tell_names();
         let alloc = homes.allocator();
         let points = Points::new(homes)?;
-        let index = by_names(alloc, points.table(alloc)?)?;
+        let rows = by_names(alloc, points.table(alloc)?)?;
         Ok(HubState {
             points,
             timers,
-            index,
+            index: Index::from_table(rows),
             sessions: Sessions::new(alloc),
+            watchers: Watchers::new(alloc),
             numbers_given: 0,
         })
     }
@@ -69,79 +79,114 @@ impl HubState {
 
     /// Judges the update that a message is, if it is one, and enters it where it is accepted and the journal has room.
     /// Gives its RCODE: FORMERR for what is no update, SERVFAIL where the journal has no room (RFC 2136, 2.2).
-    pub(crate) fn judge(&mut self, found: Option<Update>) -> Result<u8, NoMemory>
+    pub(crate) fn judge<L: Ledger>(
+        &mut self,
+        found: Option<Update>,
+        steps: &mut Steps<L>,
+    ) -> Result<u8, NoMemory>
         requires { IsSound self.old }
         ensures code { IfOk result (λ code. (message : List ℕ) → update_in message ≡ ok_or found formerr → code ≡ (update (kept_of self.old) message).0) }
         ensures hub { IfOk result (λ code. (message : List ℕ) → update_in message ≡ ok_or found formerr → kept_of self.new ≡ (update (kept_of self.old) message).1) }
         ensures err { OnErr result (kept_of self.new ≡ kept_of self.old) }
         ensures index { self.new.index.rows ≡ records_now (kept_of self.new) }
+        ensures watched { Watches (watching_of self.new.watchers) self.new.sessions }
+        ensures steps { (message : List ℕ) → update_in message ≡ ok_or found formerr → CountsUpTo (allowed (kept_of self.old) (update_changes (kept_of self.old) message)) steps.old steps.new }
     {
         let Some(update) = found else {
             return Ok(FORMERR);
         };
-        let offered = self.offer(Entry::Update(update))?;
+        let offered = self.offer(Entry::Update(update), steps)?;
         Ok(code_of(offered))
     }
 
     /// Judges an update message.
-    pub(crate) fn update(&mut self, message: &[u8]) -> Result<u8, NoMemory>
+    pub(crate) fn update<L: Ledger>(
+        &mut self,
+        message: &[u8],
+        steps: &mut Steps<L>,
+    ) -> Result<u8, NoMemory>
         requires { IsSound self.old }
         ensures code { IfOk result (λ code. code ≡ (update (kept_of self.old) message.now).0) }
         ensures hub { IfOk result (λ code. kept_of self.new ≡ (update (kept_of self.old) message.now).1) }
         ensures err { OnErr result (kept_of self.new ≡ kept_of self.old) }
         ensures index { self.new.index.rows ≡ records_now (kept_of self.new) }
+        ensures watched { Watches (watching_of self.new.watchers) self.new.sessions }
+        ensures steps { CountsUpTo (allowed (kept_of self.old) (update_changes (kept_of self.old) message.now)) steps.old steps.new }
     {
         let alloc = self.allocator();
         let found = read_message(alloc, message)?;
-        self.judge(found)
+        self.judge(found, steps)
     }
 
     /// Enters what a datagram of a link said where a record of it can be used and the journal has room. Nothing where the
     /// journal is full.
-    fn enter_hearing(&mut self, link: usize, hearing: Hearing) -> Result<Option<Heard>, NoMemory>
+    fn enter_hearing<L: Ledger>(
+        &mut self,
+        link: usize,
+        hearing: Hearing,
+        steps: &mut Steps<L>,
+    ) -> Result<Option<Heard>, NoMemory>
         requires { IsSound self.old }
         ensures heard { IfOk result (λ heard. (datagram : List ℕ) → hearing_of datagram ≡ Ok hearing → heard ≡ (hear (kept_of self.old) link datagram).0) }
         ensures hub { IfOk result (λ heard. (datagram : List ℕ) → hearing_of datagram ≡ Ok hearing → kept_of self.new ≡ (hear (kept_of self.old) link datagram).1) }
         ensures err { OnErr result (kept_of self.new ≡ kept_of self.old) }
         ensures index { self.new.index.rows ≡ records_now (kept_of self.new) }
+        ensures watched { Watches (watching_of self.new.watchers) self.new.sessions }
+        ensures steps { (datagram : List ℕ) → hearing_of datagram ≡ Ok hearing → CountsUpTo (allowed (kept_of self.old) (hear_changes (kept_of self.old) link datagram)) steps.old steps.new }
     {
         let entry = Entry::Heard(link, hearing);
-        let offered = self.offer(entry)?;
+        let offered = self.offer(entry, steps)?;
         Ok(heard_of(offered))
     }
 
     /// Hears a datagram of a link, counted from 0 (RFC 6762, 18). Nothing where the journal is full.
-    pub(crate) fn hear(&mut self, link: usize, datagram: &[u8]) -> Result<Option<Heard>, NoMemory>
+    pub(crate) fn hear<L: Ledger>(
+        &mut self,
+        link: usize,
+        datagram: &[u8],
+        steps: &mut Steps<L>,
+    ) -> Result<Option<Heard>, NoMemory>
         requires { IsSound self.old }
         ensures heard { IfOk result (λ heard. heard ≡ (hear (kept_of self.old) link datagram.now).0) }
         ensures hub { IfOk result (λ heard. kept_of self.new ≡ (hear (kept_of self.old) link datagram.now).1) }
         ensures err { OnErr result (kept_of self.new ≡ kept_of self.old) }
         ensures index { self.new.index.rows ≡ records_now (kept_of self.new) }
+        ensures watched { Watches (watching_of self.new.watchers) self.new.sessions }
+        ensures steps { CountsUpTo (allowed (kept_of self.old) (hear_changes (kept_of self.old) link datagram.now)) steps.old steps.new }
     {
         let alloc = self.allocator();
         match read_datagram(alloc, datagram)? {
-            Ok(hearing) => self.enter_hearing(link, hearing),
+            Ok(hearing) => self.enter_hearing(link, hearing, steps),
             Err(why) => Ok(Some(Heard::Ignored(why))),
         }
     }
 
     /// Reconfirms a record where a link shows it and the journal has room; else it is ignored (RFC 8765, 6.5).
-    pub(crate) fn reconfirm(&mut self, rr: &Rr) -> Result<(), NoMemory>
+    pub(crate) fn reconfirm<L: Ledger>(
+        &mut self,
+        rr: &Rr,
+        steps: &mut Steps<L>,
+    ) -> Result<(), NoMemory>
         requires { IsSound self.old }
         ensures hub { OnOk result (kept_of self.new ≡ reconfirm (kept_of self.old) rr.now) }
         ensures err { OnErr result (kept_of self.new ≡ kept_of self.old) }
         ensures index { self.new.index.rows ≡ records_now (kept_of self.new) }
+        ensures watched { Watches (watching_of self.new.watchers) self.new.sessions }
     {
         let alloc = self.allocator();
         let Some((link, key)) = self.points.reconfirm_key(alloc, rr)? else {
             return Ok(());
         };
-        self.offer(Entry::Reconfirm(link, key))?;
+        self.offer(Entry::Reconfirm(link, key), steps)?;
         Ok(())
     }
 
     /// It is a moment, in milliseconds. Gives whether the journal was full, which is told before any memory is taken.
-    pub(crate) fn moment(&mut self, at: u64) -> Result<bool, NoMemory>
+    pub(crate) fn moment<L: Ledger>(
+        &mut self,
+        at: u64,
+        steps: &mut Steps<L>,
+    ) -> Result<bool, NoMemory>
         requires sound { IsSound self.old }
         requires timely { at ≤ max_moment }
         ensures full { IfOk result (λ full. full ≡ (moment (kept_of self.old) at).0) }
@@ -149,6 +194,7 @@ impl HubState {
         ensures err { OnErr result (kept_of self.new ≡ kept_of self.old) }
         ensures room { OnErr result ((moment (kept_of self.old) at).0 ≡ false) }
         ensures index { self.new.index.rows ≡ records_now (kept_of self.new) }
+        ensures watched { Watches (watching_of self.new.watchers) self.new.sessions }
     {
         if at <= self.points.now() {
             return Ok(false);
@@ -157,8 +203,8 @@ impl HubState {
         if !self.can_enter(&entry) {
             return Ok(true);
         }
-        self.offer(entry)?;
-        self.sessions.moment(at);
+        self.offer(entry, steps)?;
+        self.sessions.moment(at, &mut self.watchers);
         Ok(false)
     }
 
@@ -170,6 +216,7 @@ impl HubState {
         ensures err { OnErr result (kept_of self.new ≡ kept_of self.old) }
         ensures seat { OnErr result ((connect (kept_of self.old)).0 ≡ Some self.old.numbers_given) }
         ensures index { self.new.index.rows ≡ records_now (kept_of self.new) }
+        ensures watched { Watches (watching_of self.new.watchers) self.new.sessions }
     {
         if self.sessions.len() >= MAX_SESSIONS || self.numbers_given == MAX_NUMBER {
             return Ok(None);
@@ -186,7 +233,9 @@ impl HubState {
         requires { IsSound self.old }
         ensures hub { kept_of self.new ≡ disconnect (kept_of self.old) number }
         ensures index { self.new.index.rows ≡ records_now (kept_of self.new) }
+        ensures watched { Watches (watching_of self.new.watchers) self.new.sessions }
     {
+        self.sessions.unwatch(number, &mut self.watchers);
         self.sessions.remove(number);
     }
 
@@ -197,6 +246,7 @@ impl HubState {
         ensures hub { kept_of self.new ≡ take_octets (kept_of self.old) number piece.now }
         ensures bound { result ≤ length piece.now }
         ensures index { self.new.index.rows ≡ records_now (kept_of self.new) }
+        ensures watched { Watches (watching_of self.new.watchers) self.new.sessions }
     {
         match self.sessions.get_mut(number) {
             Some(session) => session.take(piece),
@@ -209,6 +259,7 @@ impl HubState {
         requires { IsSound self.old }
         ensures hub { kept_of self.new ≡ stop (kept_of self.old) number rcode delay }
         ensures index { self.new.index.rows ≡ records_now (kept_of self.new) }
+        ensures watched { Watches (watching_of self.new.watchers) self.new.sessions }
     {
         if let Some(session) = self.sessions.get_mut(number) {
             session.stop(rcode, delay);

@@ -3,17 +3,19 @@
 ghost use Rattle.std.specs.Prelude.{◌≡◌, ◌==◌, ◌++◌, ◌∷◌, [], false, None, Some, filter, length, not, position, IfOk, MatchOption, OnOk, OnErr};
 ghost use Rattle.std.specs.Borrow.{sem};
 ghost use Rattle.std.specs.List.{list_any};
-ghost use Rattle.pushsession.specs.Sessions.{noted, timed};
+ghost use Rattle.subscr.specs.Watching.{watching_of};
+ghost use Rattle.pushsession.specs.Sessions.{timed};
 ghost use Rattle.pushsession.specs.Kept.{keeping, taken_back};
+ghost use Rattle.pushsession.specs.Watched.{Rewatches};
 ghost use Rattle.pushserver.specs.Hubs.{all_sessions, session_in, without_session};
 ghost use Rattle.pushserver.specs.Lending.{LendsSession};
-ghost use Rattle.pushserver.specs.NumberedSessions.{AreApart, WaitBefore};
+ghost use Rattle.pushserver.specs.NumberedSessions.{AreApart};
+ghost use Rattle.pushserver.specs.Watched.{Watches};
 
-use nametable::NameTable;
 use pushsession::{NoMemory, PushSession};
-use rrset::Changed;
 use std::alloc::Global;
 use std::marker::Model;
+use subscr::Watchers;
 
 /// The most sessions at a time; this project's own.
 pub const MAX_SESSIONS: usize = 64;
@@ -43,22 +45,6 @@ fn place_of(numbered: &[(u64, PushSession)], number: u64) -> Option<usize>
     numbered.iter().position(|entry| entry.0 == number)
 }
 
-/// Each session notes what an entry is about to change, as far as there is memory.
-fn note_all(
-    numbered: &mut [(u64, PushSession)],
-    changed: &[Changed],
-    index: &NameTable,
-    point: u64,
-) -> Result<(), NoMemory>
-    ensures ok { OnOk result (numbered.new ≡ all_sessions (noted keeping changed.now index.now.rows point) numbered.old) }
-    ensures err { OnErr result (all_sessions (taken_back point) numbered.new ≡ all_sessions (taken_back point) numbered.old) }
-{
-    'numbered: for place in 0..numbered.len() {
-        numbered[place].1.note(changed, index, point)?;
-    }
-    Ok(())
-}
-
 /// Takes out the names that wait since a point or a later one.
 fn take_back_all(numbered: &mut [(u64, PushSession)], point: u64)
     ensures { numbered.new ≡ all_sessions (taken_back point) numbered.old }
@@ -68,32 +54,21 @@ fn take_back_all(numbered: &mut [(u64, PushSession)], point: u64)
     }
 }
 
-/// Each session notes what an entry is about to change at a point, or none does.
-fn note_or_none(
-    numbered: &mut [(u64, PushSession)],
-    changed: &[Changed],
-    index: &NameTable,
-    point: u64,
-) -> Result<(), NoMemory>
-    requires { WaitBefore point numbered.old }
-    ensures ok { OnOk result (numbered.new ≡ all_sessions (noted keeping changed.now index.now.rows point) numbered.old) }
-    ensures err { OnErr result (numbered.new ≡ numbered.old) }
+/// It is a moment for one session, in milliseconds.
+fn time_one(entry: &mut (u64, PushSession), at: u64, watchers: &mut Watchers)
+    ensures timed { entry.new ≡ (entry.old.0, timed keeping at entry.old.1) }
+    ensures watched { Rewatches entry.old.0 (watching_of watchers.old) (watching_of watchers.new) entry.old.1 entry.new.1 }
 {
-    match note_all(numbered, changed, index, point) {
-        Ok(()) => Ok(()),
-        Err(_) => {
-            take_back_all(numbered, point);
-            Err(NoMemory)
-        }
-    }
+    entry.1.moment(at, watchers, entry.0);
 }
 
 /// It is a moment for each session, in milliseconds.
-fn time_all(numbered: &mut [(u64, PushSession)], at: u64)
-    ensures { numbered.new ≡ all_sessions (timed keeping at) numbered.old }
+fn time_all(numbered: &mut [(u64, PushSession)], at: u64, watchers: &mut Watchers)
+    ensures timed { numbered.new ≡ all_sessions (timed keeping at) numbered.old }
+    ensures watched { AreApart numbered.old → Watches (watching_of watchers.old) numbered.old → Watches (watching_of watchers.new) numbered.new }
 {
     'numbered: for place in 0..numbered.len() {
-        numbered[place].1.moment(at);
+        time_one(&mut numbered[place], at, watchers);
     }
 }
 
@@ -157,25 +132,21 @@ impl Sessions {
         Ok(self.numbered.push((number, session))?)
     }
 
+    /// The session of a number, which is to go, watches no name any more.
+    pub(crate) fn unwatch(&self, number: u64, watchers: &mut Watchers)
+        ensures { Watches (watching_of watchers.old) self.now → Watches (watching_of watchers.new) (without_session number self.now) }
+    {
+        match self.get(number) {
+            Some(session) => session.unwatch(watchers, number),
+            None => {}
+        }
+    }
+
     /// The session of a number goes.
     pub(crate) fn remove(&mut self, number: u64)
         ensures { self.new ≡ without_session number self.old }
     {
         without(&mut self.numbered, number);
-    }
-
-    /// Each session notes what an entry is about to change at a point, or none does (RFC 8765, 6.3).
-    pub(crate) fn note(
-        &mut self,
-        changed: &[Changed],
-        index: &NameTable,
-        point: u64,
-    ) -> Result<(), NoMemory>
-        requires { WaitBefore point self.old }
-        ensures ok { OnOk result (self.new ≡ all_sessions (noted keeping changed.now index.now.rows point) self.old) }
-        ensures err { OnErr result (self.new ≡ self.old) }
-    {
-        note_or_none(&mut self.numbered, changed, index, point)
     }
 
     /// Takes out the names that wait since a point or a later one, where the entry at the point wasn't made.
@@ -186,9 +157,10 @@ impl Sessions {
     }
 
     /// It is a moment for each session, in milliseconds (RFC 8490, 6.4 to 6.6).
-    pub(crate) fn moment(&mut self, at: u64)
-        ensures { self.new ≡ all_sessions (timed keeping at) self.old }
+    pub(crate) fn moment(&mut self, at: u64, watchers: &mut Watchers)
+        ensures timed { self.new ≡ all_sessions (timed keeping at) self.old }
+        ensures watched { Watches (watching_of watchers.old) self.old → Watches (watching_of watchers.new) self.new }
     {
-        time_all(&mut self.numbered, at);
+        time_all(&mut self.numbered, at, watchers);
     }
 }

@@ -9,6 +9,8 @@ ghost use Rattle.pushserver.specs.HubState.{IsSeated, Turns};
 ghost use Rattle.pushserver.specs.Laws.{WantsMemoryFor};
 ghost use Rattle.pushserver.specs.Rows.{AreTold};
 ghost use Rattle.pushserver.specs.KeptHubs.{KeptHub};
+ghost use Rattle.subscr.specs.Watching.{watching_of};
+ghost use Rattle.pushsession.specs.Watched.{Rewatches};
 ghost use Rattle.pushsession.specs.declared.session_status.SessionStatus.TheVariants.{Live};
 
 use crate::decode::read_message;
@@ -16,10 +18,13 @@ use crate::given::Given;
 use dnswire::Update;
 use dsosession::session::Timers;
 use history::Points;
-use nametable::NameTable;
+use nametable::Index;
+use push_base::Steps;
 use pushsession::{NoMemory, PushSession, Request, SessionStatus};
 use rrset::{Question, Rr};
 use std::alloc::Global;
+use std::sync::ledger::Ledger;
+use subscr::Watchers;
 
 /// What a session's turn came to.
 #[derive(Drop)]
@@ -80,13 +85,16 @@ fn has_home(points: &Points, question: &Option<Question>) -> bool
 
 /// A session without output that goes on: it reacts to a whole message, or packs a PUSH (RFC 8765, 6.3). Where memory
 /// runs out nothing changes.
-fn work(
+fn work<L: Ledger>(
     session: &mut PushSession,
     alloc: Global,
     points: &Points,
-    index: &NameTable,
+    index: &Index,
     timers: Timers,
+    watchers: &mut Watchers,
+    number: u64,
     buf: &mut [u8],
+    steps: &mut Steps<L>,
 ) -> Result<Turn, NoMemory>
     requires live { session.old.standing ≡ Live }
     requires silent { session.old.output ≡ [] }
@@ -95,20 +103,21 @@ fn work(
     ensures ok { IfOk result (λ turn. (kept : KeptHub) (number : ℕ) → IsSeated kept number session.old points.now.past timers index.now.rows → Turns kept number turn buf.old buf.new session.old session.new) }
     ensures err { OnErr result (session.new ≡ session.old) }
     ensures memory { OnErr result (WantsMemoryFor session.old) }
+    ensures watched { Rewatches number (watching_of watchers.old) (watching_of watchers.new) session.old session.new }
 {
     let now = points.now();
     let Some(request) = session.request(alloc)? else {
-        session.pack(index, now);
+        session.pack(index, now, steps);
         return Ok(Turn::Did(copy_output(session, buf, Given::Nothing)));
     };
     match request {
         Request::Update => return Ok(Turn::Judge(read_message(alloc, session.message())?)),
         Request::Reconfirm(Some(rr)) => return Ok(Turn::Reconfirm(rr)),
-        Request::Reconfirm(None) => session.reconfirm(None, now),
-        Request::Itself => session.react(timers, now),
+        Request::Reconfirm(None) => session.reconfirm(None, now, watchers, number),
+        Request::Itself => session.react(timers, now, watchers, number),
         Request::Subscribe(question) => {
             let has_home = has_home(points, &question);
-            session.subscribe(question, has_home, index, now)?;
+            session.subscribe(question, has_home, index, now, watchers, number, steps)?;
         }
     }
     Ok(Turn::Did(after_reaction(session, buf)))
@@ -116,19 +125,23 @@ fn work(
 
 /// One piece of work for a session, in its order: octets of its output that wait, its stop, the reaction to one whole
 /// message, or a PUSH of what has changed. Where memory runs out nothing changes.
-pub(crate) fn take_turn(
+pub(crate) fn take_turn<L: Ledger>(
     session: &mut PushSession,
     alloc: Global,
     points: &Points,
-    index: &NameTable,
+    index: &Index,
     timers: Timers,
+    watchers: &mut Watchers,
+    number: u64,
     buf: &mut [u8],
+    steps: &mut Steps<L>,
 ) -> Result<Turn, NoMemory>
     requires told { AreTold index.now.rows }
     requires packable { CanBePacked index.now.rows session.old.queue }
     ensures ok { IfOk result (λ turn. (kept : KeptHub) (number : ℕ) → IsSeated kept number session.old points.now.past timers index.now.rows → Turns kept number turn buf.old buf.new session.old session.new) }
     ensures err { OnErr result (session.new ≡ session.old) }
     ensures memory { OnErr result (WantsMemoryFor session.old) }
+    ensures watched { Rewatches number (watching_of watchers.old) (watching_of watchers.new) session.old session.new }
 {
     if session.has_output() {
         return Ok(Turn::Did(Given::Bytes(session.copy(buf))));
@@ -137,9 +150,11 @@ pub(crate) fn take_turn(
         SessionStatus::Ended(reason) => Ok(Turn::Did(Given::End(reason))),
         SessionStatus::Stopped(_) => Ok(Turn::Did(Given::Ending)),
         SessionStatus::AskedToStop(rcode, delay) => {
-            session.carry_out_stop(rcode, delay, points.now());
+            session.carry_out_stop(rcode, delay, points.now(), watchers, number);
             Ok(Turn::Did(after_reaction(session, buf)))
         }
-        SessionStatus::Live => work(session, alloc, points, index, timers, buf),
+        SessionStatus::Live => work(
+            session, alloc, points, index, timers, watchers, number, buf, steps,
+        ),
     }
 }

@@ -3,3 +3,4 @@ pub mod Ends
 pub mod Numbers
 pub mod Passing
 pub mod SessionLaws
+pub mod WatchMoves

@@ -1,45 +1,20 @@
 -- The laws of sessions.
-use Rattle.std.proofs.Common.{◌≡◌, ◌∙◌, ℕ, zero, suc, ◌-◌, ◌<◌, Bool, true, false, cond, List, [], ◌∷◌, ◌++◌, map, length, take, Option, Some, is_some, refl, sym, ap, arith, append_assoc}
-use Rattle.std.specs.Prelude.{◌||◌, ◌==◌, nat_lt, fold, find, option_map}
-use Rattle.std.specs.List.{AllByRecursion, list_any}
-use Rattle.std.proofs.lemmas.Bool.{lt-ltb, le-ltb}
+use Rattle.std.proofs.Common.{◌≡◌, ◌∙◌, ℕ, zero, suc, ◌-◌, Bool, true, false, cond, List, [], ◌∷◌, ◌++◌, map, length, take, Option, Some, is_some, refl, sym, ap, arith, append_assoc}
+use Rattle.std.specs.Prelude.{◌||◌, ◌==◌, find, option_map}
+use Rattle.std.specs.List.{list_any}
 use Rattle.std.proofs.lemmas.List.{append-nil, length-append, length-take}
-use Rattle.std.proofs.lemmas.List.Elements.{filter-append}
 use Rattle.push_base.specs.Limits.{max_input}
-use Rattle.dnsname.specs.Names.{Labels}
-use Rattle.rrset.specs.RecordSet.{RecordSet}
-use Rattle.coalesce.specs.Waiting.{WaitingName, with_copy, waits, before_point}
+use Rattle.coalesce.specs.Waiting.{WaitingName}
+use Rattle.coalesce.proofs.GoingBack.{changes_go, older_stay}
 use Rattle.pushsession.specs.Sessions.{SessionOf, is_open, with_piece, touched}
 use Rattle.pushsession.specs.Kept.{Filled, filled_of, keeping}
 use Rattle.pushsession.specs.Laws.{NotesGoBack, PiecesAreOne, EachQuestionHasItsEnd}
 
--- ---- names that were noted
-
-copy_goes : (name : Labels) (sent : RecordSet) (point : ℕ) (queue : List WaitingName) → before_point point (with_copy name sent point queue) ≡ before_point point queue
-copy_goes name sent point queue = by (waits name queue)
-  where
-    new : WaitingName
-    new = record { name = name; point = point; old = sent }
-
-    by : (b : Bool) → before_point point (cond b queue (queue ++ new ∷ [])) ≡ before_point point queue
-    by true = refl
-    by false =
-        filter-append (λ (w : WaitingName). nat_lt w.point point) queue (new ∷ [])
-        ∙ ap (λ (b : Bool). before_point point queue ++ cond b (new ∷ []) []) (le-ltb point point (omega arith))
-        ∙ append-nil (before_point point queue)
-
-names_go : (rows : RecordSet) (point : ℕ) (names : List Labels) (queue : List WaitingName) → before_point point (fold (keeping.with_name point rows) queue names) ≡ before_point point queue
-names_go rows point [] queue = refl
-names_go rows point (name ∷ names) queue = names_go rows point names (keeping.with_name point rows queue name) ∙ copy_goes name _ point queue
-
-older_stay : (point : ℕ) (queue : List WaitingName) → AllByRecursion (λ w. w.point < point) queue → before_point point queue ≡ queue
-older_stay point [] older = refl
-older_stay point (w ∷ ws) older =
-    ap (λ (b : Bool). cond b (w ∷ before_point point ws) (before_point point ws)) (lt-ltb w.point point older.0) ∙ ap (λ (l : List WaitingName). w ∷ l) (older_stay point ws older.1)
+-- ---- what was noted
 
 pub notes_go_back : NotesGoBack
-notes_go_back changed rows point session older =
-    ap (λ (q : List WaitingName). record session { queue = q }) (names_go rows point (touched keeping session.subscriptions changed) session.queue ∙ older_stay point session.queue older)
+notes_go_back changed point session older =
+    ap (λ (q : List WaitingName). record session { queue = q }) (changes_go point (touched keeping session.subscriptions changed) session.queue ∙ older_stay point session.queue older)
 
 -- ---- pieces
 

@@ -1,16 +1,16 @@
--- A session of the server as it is kept: of each question the end of its first answer, of each name that waits a copy of its records,
--- and of the messages how many octets they had.
+-- A session of the server as it is kept: of each question the end of its first answer, of each name that waits what its keys
+-- showed before they changed, and of the messages how many octets they had.
 --     KeptSession, keeping      what is kept, and what the rules of sessions ask of it
 --     telling rows      what is to be told where these are the records
 --     filled_of id filled      the end of the first answer of an ID
 --     taken_back point      an entry that was noted wasn't made
 use Rattle.std.specs.Prelude.{◌≡◌, ℕ, ◌+◌, ◌==◌, not, List, [], ◌∷◌, ◌++◌, map, length, filter, find, Option, option_map}
-use Rattle.rrset.specs.RecordSet.{RecordSet, at_name}
+use Rattle.rrset.specs.RecordSet.{RecordSet}
 use Rattle.rrset.specs.Tables.{counted}
 use Rattle.dsotlv.specs.Messages.{frame}
 use Rattle.subscr.specs.Asked.{Asked, has, id_of, wants, without}
 use Rattle.coalesce.specs.FirstAnswers.{first_notices}
-use Rattle.coalesce.specs.Waiting.{WaitingName, with_copy, without_name, before_point, is_named, packed_of, left_in}
+use Rattle.coalesce.specs.Waiting.{WaitingName, with_old, without_name, before_point, is_named, packed_of, left_in}
 use Rattle.pushsession.specs.Sessions.{SessionOf, Keeps, least_of}
 use Rattle.pushsession.specs.Subscribing.{Tells}
 
@@ -49,7 +49,7 @@ keeping = record {
   with_question = λ id question end q. record { asked = q.asked ++ (id, question) ∷ []; filled = q.filled ++ (id, end) ∷ [] };
   without_id = λ id q. record { asked = without id q.asked; filled = without_filled id q.filled };
   no_names = [];
-  with_name = λ point rows queue name. with_copy name (at_name name rows) point queue;
+  with_change = with_old;
   without_name = without_name;
   least_point = λ queue. least_of (map (λ w. w.point) queue);
   no_messages = 0;

@@ -2,18 +2,18 @@
 --     NotesGoBack      an entry that wasn't made leaves no trace
 --     PiecesAreOne      octets come in by pieces as they would by one
 --     EachQuestionHasItsEnd      of each ID the end of its first answer is known
-use Rattle.std.specs.Prelude.{◌≡◌, ℕ, ◌<◌, List, ◌++◌, is_some}
+use Rattle.std.specs.Prelude.{◌≡◌, ℕ, List, ◌++◌, is_some}
 use Rattle.std.specs.List.{AllByRecursion}
-use Rattle.rrset.specs.RecordSet.{RecordSet}
 use Rattle.rrset.specs.declared.record.Changed.{Changed}
 use Rattle.subscr.specs.Asked.{Asked, has}
+use Rattle.coalesce.specs.Waiting.{IsOlder}
 use Rattle.pushsession.specs.Sessions.{noted, with_piece}
 use Rattle.pushsession.specs.Kept.{KeptSession, Filled, HasEnds, filled_of, keeping, taken_back}
 
--- the names that are noted at a point go when it is taken back, where all others wait since before it
+-- what is noted at a point goes when it is taken back, where all others wait since before it
 abbrev pub NotesGoBack : Type 0
-NotesGoBack = (changed : List Changed) (rows : RecordSet) (point : ℕ) (session : KeptSession) → AllByRecursion (λ w. w.point < point) session.queue
-    → taken_back point (noted keeping changed rows point session) ≡ session
+NotesGoBack = (changed : List Changed) (point : ℕ) (session : KeptSession) → AllByRecursion (IsOlder point) session.queue
+    → taken_back point (noted keeping changed point session) ≡ session
 
 -- two pieces are taken as one (RFC 7766, 8)
 abbrev pub PiecesAreOne : Type 0

@@ -5,3 +5,4 @@ pub mod Kept
 pub mod Requests
 pub mod Laws
 pub mod Worked
+pub mod Watched

@@ -8,10 +8,9 @@
 --     touched, noted      an entry changes keys, and their names wait
 --     with_frame, answers      a message is written; with the names that wait then
 --     says_stop, stopped      the Retry Delay; what a session does that was asked to stop
-use Rattle.std.specs.Prelude.{ℕ, ◌-◌, Bool, true, false, cond, List, [], ◌∷◌, ◌++◌, map, length, take, drop, filter, fold, min, Option, Some, None, if◌then◌else◌}
+use Rattle.std.specs.Prelude.{ℕ, ◌-◌, Bool, true, false, cond, List, [], ◌∷◌, ◌++◌, length, take, drop, filter, fold, min, Option, Some, None, if◌then◌else◌}
 use Rattle.push_base.specs.Limits.{max_input}
 use Rattle.dnsname.specs.Names.{Labels}
-use Rattle.rrset.specs.RecordSet.{RecordSet}
 use Rattle.rrset.specs.declared.record.Key.{Key}
 use Rattle.rrset.specs.declared.record.Question.{Question}
 use Rattle.rrset.specs.declared.record.Changed.{Changed}
@@ -45,9 +44,9 @@ pub record Keeps (Asked Queue Messages : Type 0) : Type 0 where
   -- one more question with its ID, whose first answer ends behind so many octets of the output; without that of an ID
   pub with_question : ℕ → Question → ℕ → Asked → Asked
   pub without_id : ℕ → Asked → Asked
-  -- no names; a name waits since a point, when these were the records; a name waits no longer
+  -- no names; a key that is asked for changes at a point, and its name waits; a name waits no longer
   pub no_names : Queue
-  pub with_name : ℕ → RecordSet → Queue → Labels → Queue
+  pub with_change : ℕ → Queue → Changed → Queue
   pub without_name : Labels → Queue → Queue
   -- the least point since which a name waits
   pub least_point : Queue → Option ℕ
@@ -136,13 +135,13 @@ timed keeps t session = ended_where keeps (due keeps t session) session
 
 -- ---- names wait
 
--- the names at which a key that a question asks for is shown otherwise
-abbrev pub touched : {A Q M : Type 0} → Keeps A Q M → A → List Changed → List Labels
-touched keeps subscriptions changed = map (λ c. c.key.owner) (filter (λ c. keeps.wants subscriptions c.key) changed)
+-- the changes of keys that a question asks for
+abbrev pub touched : {A Q M : Type 0} → Keeps A Q M → A → List Changed → List Changed
+touched keeps subscriptions changed = filter (λ c. keeps.wants subscriptions c.key) changed
 
--- an entry at a point, before which these were the records, changes these keys: each name that it touches waits
-abbrev pub noted : {A Q M : Type 0} → Keeps A Q M → List Changed → RecordSet → ℕ → SessionOf A Q M → SessionOf A Q M
-noted keeps changed rows point session = record session { queue = fold (keeps.with_name point rows) session.queue (touched keeps session.subscriptions changed) }
+-- an entry at a point changes these keys: each name at which it changes one that is asked for waits
+abbrev pub noted : {A Q M : Type 0} → Keeps A Q M → List Changed → ℕ → SessionOf A Q M → SessionOf A Q M
+noted keeps changed point session = record session { queue = fold (keeps.with_change point) session.queue (touched keeps session.subscriptions changed) }
 
 -- ---- messages are written
 

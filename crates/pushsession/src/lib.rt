@@ -13,6 +13,7 @@ pub mod session_status;
 mod short_messages;
 mod subscribe;
 mod taking;
+mod watching;
 
 ghost use Rattle.std.specs.Prelude.{◌≡◌, ◌++◌, [], ◌∷◌, true, false, codes, None, Some};
 ghost use Rattle.push_base.specs.Hexadecimal.{hex};
@@ -41,8 +42,8 @@ pub fn worked_rows()
     ensures granted { (reacted timers 7 (with_piece keepalive (new_session keeping 0))).clocks ≡ record { timers = timers; last_message = 7; last_other = 0 } }
     ensures established { (reacted timers 7 (with_piece keepalive (new_session keeping 0))).established ≡ true }
     ensures short { (reacted timers 7 (with_piece (0 ∷ 1 ∷ 0 ∷ []) (new_session keeping 0))).standing ≡ SessionStatus.Ended EndReason.Short }
-    ensures waiting { since (noted keeping gone rows 3 asking).queue question.name ≡ Some 3 }
-    ensures removed { (with_next_push keeping (telling []) 8 (noted keeping gone rows 3 asking)).output ≡ hex (codes "001d000030000000000000000000004100") ++ hex (codes "0d01780000010001fffffffe0000") }
+    ensures waiting { since (noted keeping gone 3 asking).queue question.name ≡ Some 3 }
+    ensures removed { (with_next_push keeping (telling []) 8 (noted keeping gone 3 asking)).output ≡ hex (codes "001d000030000000000000000000004100") ++ hex (codes "0d01780000010001fffffffe0000") }
     ensures stop { (stopped keeping 0 7000 9 asking).output ≡ hex (codes "001400003000000000000000000000020004") ++ hex (codes "00001b58") }
     ensures stopped { (timed keeping 5009 (stopped keeping 0 7000 9 asking)).standing ≡ SessionStatus.Ended EndReason.Stopped }
 {}

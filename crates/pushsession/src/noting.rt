@@ -1,55 +1,38 @@
 //! What an entry makes wait (RFC 8765, 6.3).
 
-ghost use Rattle.std.specs.Prelude.{◌≡◌, [], fold, OnOk, OnErr};
-ghost use Rattle.coalesce.specs.Waiting.{before_point};
-ghost use Rattle.pushsession.specs.Sessions.{noted, touched};
+ghost use Rattle.std.specs.Prelude.{◌≡◌, ◌+◌, ◌∷◌, [], ℕ, OnOk, OnErr};
+ghost use Rattle.coalesce.specs.Waiting.{old_value};
+ghost use Rattle.pushsession.specs.Sessions.{noted};
 ghost use Rattle.pushsession.specs.Kept.{keeping, taken_back};
 
 use crate::NoMemory;
 use crate::session::PushSession;
-use coalesce::Queue;
-use nametable::NameTable;
+use coalesce::OldRecord;
+use push_base::Steps;
 use rrset::Changed;
-use subscr::Subscriptions;
-
-/// Each name at which a key that the questions ask for changes waits from now on.
-fn note_names(
-    queue: &mut Queue,
-    questions: &Subscriptions,
-    changed: &[Changed],
-    index: &NameTable,
-    point: u64,
-) -> Result<(), NoMemory>
-    ensures ok { OnOk result (queue.new ≡ fold (keeping.with_name point index.now.rows) queue.old (touched keeping (record { asked = questions.now; filled = [] }) changed.now)) }
-    ensures err { OnErr result (before_point point queue.new ≡ before_point point queue.old) }
-{
-    'keys: for change in changed {
-        if questions.wants(&change.key) {
-            let name = &change.key.owner;
-            queue.note_copy(name, index.at(name), point)?;
-        }
-    }
-    Ok(())
-}
+use std::sync::ledger::Ledger;
 
 impl PushSession {
-    /// Notes what an entry is about to change, before it is made at a point: each name at which it changes a key that
-    /// a question asks for waits from now on, in the order of the changes, with its records as they are. Where memory
-    /// runs out, some may wait; `take_back` of the point undoes that, where all others wait since
-    /// an earlier one.
-    pub fn note(
+    /// Notes a change that an entry is about to make, with what the key showed before: where a question asks for the key,
+    /// its name waits from now on. It counts one step. Where memory runs out nothing changes.
+    pub fn note<L: Ledger>(
         &mut self,
-        changed: &[Changed],
-        index: &NameTable,
-        point: u64,
+        change: &Changed,
+        old: &OldRecord,
+        steps: &mut Steps<L>,
     ) -> Result<(), NoMemory>
-        ensures ok { OnOk result (self.new ≡ noted keeping changed.now index.now.rows point self.old) }
-        ensures err { OnErr result (taken_back point self.new ≡ taken_back point self.old) }
+        ensures ok { OnOk result ((point : ℕ) → old.now ≡ (change.now.key, old_value point change.now) → self.new ≡ noted keeping (change.now ∷ []) point self.old) }
+        ensures err { OnErr result (self.new ≡ self.old) }
+        ensures steps { steps.new ≡ steps.old + 1 }
     {
-        note_names(&mut self.queue, &self.subscriptions, changed, index, point)
+        steps.tick();
+        if self.subscriptions.wants(&change.key) {
+            self.queue.keep(old)?;
+        }
+        Ok(())
     }
 
-    /// Takes out the names that wait since a point or a later one, where the entry at the point wasn't made.
+    /// Takes out what was noted at a point or a later one, where the entry at the point wasn't made.
     pub fn take_back(&mut self, point: u64)
         ensures { self.new ≡ taken_back point self.old }
     {

@@ -6,6 +6,8 @@ ghost use Rattle.rrset.specs.Header.{header_octets};
 ghost use Rattle.dsotlv.specs.Messages.{primary_data};
 ghost use Rattle.dsotlv.specs.TlvKinds.{unsubscribe_size};
 ghost use Rattle.pushsession.specs.Kept.{keeping, without_filled};
+ghost use Rattle.subscr.specs.Watching.{watching_of};
+ghost use Rattle.pushsession.specs.Watched.{Rewatches};
 ghost use Rattle.pushsession.specs.Reactions.{granted, unsubscribed};
 ghost use Rattle.pushsession.specs.Requests.{reacted, reconfirmed, request_of, updated};
 ghost use Rattle.pushsession.specs.declared.request.Request.TheVariants as requests;
@@ -13,12 +15,14 @@ ghost use Rattle.pushsession.specs.declared.request.Request.TheVariants as reque
 use crate::session::PushSession;
 use crate::short_messages::{answer, header, keepalive};
 use crate::taking::Taken;
+use crate::watching::unask;
 use dsosession::session::{EndReason, Reaction, Timers};
 use dsotlv::kinds::RECONFIRM;
 use dsotlv::primary_data;
 use rrset::Rr;
 use rrset::header::{HEADER, KEPT_FLAGS, RESPONSE, UPDATE_ANSWER};
 use rrset::rcodes::{NOERROR, NOTIMP};
+use subscr::Watchers;
 
 /// The ID in the first TLV of a message, where its data has the size of one (RFC 8765, 6.4.1).
 fn first_number(message: &[u8]) -> Option<u16>
@@ -50,23 +54,25 @@ impl PushSession {
     }
 
     /// Takes out an ID with its question (RFC 8765, 6.4). An unknown ID is ignored.
-    fn unsubscribe(&mut self, id: u16)
-        ensures { self.new ≡ unsubscribed keeping id self.old }
+    fn unsubscribe(&mut self, id: u16, watchers: &mut Watchers, number: u64)
+        ensures session { self.new ≡ unsubscribed keeping id self.old }
+        ensures watched { Rewatches number (watching_of watchers.old) (watching_of watchers.new) self.old self.new }
     {
-        let _ = self.subscriptions.remove(id);
+        unask(&mut self.subscriptions, id, watchers, number);
         take_out(&mut self.filled, id);
     }
 
     /// Reacts to a message for which it needs nothing: the server's timers are given where it asks for them. One without a
     /// whole header ends the session.
-    pub fn react(&mut self, timers: Timers, now: u64)
+    pub fn react(&mut self, timers: Timers, now: u64, watchers: &mut Watchers, number: u64)
         requires output { self.old.output ≡ [] }
         requires request { request_of self.old ≡ Some requests.Itself }
-        ensures { self.new ≡ reacted timers now self.old }
+        ensures session { self.new ≡ reacted timers now self.old }
+        ensures watched { Rewatches number (watching_of watchers.old) (watching_of watchers.new) self.old self.new }
     {
-        let number = first_number(self.message());
+        let unsubscribed = first_number(self.message());
         match self.take_up(now) {
-            None => self.end(EndReason::Short),
+            None => self.end(EndReason::Short, watchers, number),
             Some(Taken { head, reaction }) => match reaction {
                 Reaction::Answer(rcode) => {
                     let answer = answer(head.id, rcode);
@@ -77,9 +83,9 @@ impl PushSession {
                     self.say(true, now, &answer, &keepalive(timers));
                     self.grant(timers);
                 }
-                Reaction::Abort(reason) => self.end(reason),
-                Reaction::Unsubscribe => match number {
-                    Some(id) => self.unsubscribe(id),
+                Reaction::Abort(reason) => self.end(reason, watchers, number),
+                Reaction::Unsubscribe => match unsubscribed {
+                    Some(id) => self.unsubscribe(id, watchers, number),
                     None => unreachable!(),
                 },
                 Reaction::NotImplemented => {
@@ -105,13 +111,14 @@ impl PushSession {
     }
 
     /// Takes up a RECONFIRM whose data is a record, or ends where it is none (RFC 8765, 6.5).
-    pub fn reconfirm(&mut self, rr: Option<Rr>, now: u64)
+    pub fn reconfirm(&mut self, rr: Option<Rr>, now: u64, watchers: &mut Watchers, number: u64)
         requires { request_of self.old ≡ Some (requests.Reconfirm rr) }
-        ensures { self.new ≡ reconfirmed (is_some rr) now self.old }
+        ensures session { self.new ≡ reconfirmed (is_some rr) now self.old }
+        ensures watched { Rewatches number (watching_of watchers.old) (watching_of watchers.new) self.old self.new }
     {
         let _ = self.take_up(now);
         if rr.is_none() {
-            self.end(EndReason::BadData(RECONFIRM));
+            self.end(EndReason::BadData(RECONFIRM), watchers, number);
         }
     }
 }

@@ -13,21 +13,26 @@ ghost use Rattle.pushsession.specs.Sessions.{answers, ended_with};
 ghost use Rattle.pushsession.specs.Kept.{keeping, telling};
 ghost use Rattle.pushsession.specs.Subscribing.{Accept, with_accepted, first_answer_octets, is_served, verdict_on};
 ghost use Rattle.pushsession.specs.Requests.{CanBeTold, request_of, subscribed_by, taken_up};
+ghost use Rattle.subscr.specs.Watching.{watching_of};
+ghost use Rattle.pushsession.specs.Watched.{Rewatches};
 ghost use Rattle.pushsession.specs.declared.request.Request.TheVariants as requests;
 
 use crate::NoMemory;
 use crate::session::PushSession;
 use crate::short_messages::{answer, append_message, retry_delay};
+use crate::watching::ask;
 use coalesce::{Frame, Queue};
 use dsosession::session::EndReason;
 use dsotlv::LENGTH;
 use dsotlv::delays::REFUSAL;
-use nametable::NameTable;
+use nametable::Index;
+use push_base::Steps;
 use rrset::Question;
 use rrset::classes::{ANY, IN};
 use rrset::header::HEADER;
 use rrset::rcodes::{FORMERR, NOERROR, NOTAUTH, REFUSED};
-use subscr::{MAX_QUESTIONS, Subscriptions};
+use std::sync::ledger::Ledger;
+use subscr::{MAX_QUESTIONS, Subscriptions, Watchers};
 
 /// Whether records of a class are served.
 fn is_served(class: u16) -> bool
@@ -37,13 +42,14 @@ fn is_served(class: u16) -> bool
 }
 
 /// Appends NOERROR and the PUSH that follows it, if there is one (RFC 8765, 6.2.2), and gives the octets of the PUSH.
-fn append_first_answer(
+fn append_first_answer<L: Ledger>(
     out: &mut Frame,
     id: u16,
     question: &Question,
     queue: &Queue,
     questions: &Subscriptions,
-    index: &NameTable,
+    index: &Index,
+    steps: &mut Steps<L>,
 ) -> usize
     requires empty { out.old ≡ [] }
     requires side { IsOneSide (at_name question.now.name index.now.rows) }
@@ -52,7 +58,7 @@ fn append_first_answer(
     ensures size { result ≡ length (push_frame (first_notices question.now questions.now index.now.rows (find (is_named question.now.name) queue.now))) }
 {
     append_message(out, &answer(id, NOERROR), &[]);
-    queue.first_answer(question, questions, index, out)
+    queue.first_answer(question, questions, index, out, steps)
 }
 
 impl PushSession {
@@ -66,22 +72,32 @@ impl PushSession {
     }
 
     /// Takes up a SUBSCRIBE, and ends the session.
-    fn abort(&mut self, reason: EndReason, now: u64)
-        ensures { self.new ≡ ended_with keeping reason (taken_up now self.old) }
+    fn abort(&mut self, reason: EndReason, now: u64, watchers: &mut Watchers, number: u64)
+        ensures session { self.new ≡ ended_with keeping reason (taken_up now self.old) }
+        ensures watched { Rewatches number (watching_of watchers.old) (watching_of watchers.new) self.old self.new }
     {
         let _ = self.take_up(now);
-        self.end(reason);
+        self.end(reason, watchers, number);
     }
 
     /// What of accepting a SUBSCRIBE can run out of memory: all but that the message is taken up, the timers restart and
     /// the session is established. Where it does, nothing changes.
-    fn hold(&mut self, id: u16, question: Question, index: &NameTable) -> Result<(), NoMemory>
+    fn hold<L: Ledger>(
+        &mut self,
+        id: u16,
+        question: Question,
+        index: &Index,
+        watchers: &mut Watchers,
+        number: u64,
+        steps: &mut Steps<L>,
+    ) -> Result<(), NoMemory>
         requires output { self.old.output ≡ [] }
         requires accepted { verdict_on keeping id (Some question) true self.old.subscriptions ≡ Accept question }
         requires side { IsOneSide (at_name question.name index.now.rows) }
         requires sent { IsTrue (can_be_sent (at_name question.name index.now.rows)) }
         ensures ok { OnOk result (self.new ≡ record (with_accepted keeping (telling index.now.rows) 0 id question self.old) { clocks = self.old.clocks; established = self.old.established }) }
         ensures err { OnErr result (self.new ≡ self.old) }
+        ensures watched { Rewatches number (watching_of watchers.old) (watching_of watchers.new) self.old self.new }
     {
         let name = question.name.copy()?;
         self.filled.reserve(1)?;
@@ -92,8 +108,10 @@ impl PushSession {
             &self.queue,
             &self.subscriptions,
             index,
+            steps,
         );
-        if self.subscriptions.add(id, question).is_err() {
+        let questions = &mut self.subscriptions;
+        if ask(questions, id, question, &name, watchers, number).is_err() {
             self.output.clear();
             return Err(NoMemory);
         }
@@ -107,12 +125,15 @@ impl PushSession {
     }
 
     /// Accepts a SUBSCRIBE with NOERROR and the PUSH that follows it. Where memory runs out nothing changes.
-    fn accept(
+    fn accept<L: Ledger>(
         &mut self,
         id: u16,
         question: Question,
-        index: &NameTable,
+        index: &Index,
         now: u64,
+        watchers: &mut Watchers,
+        number: u64,
+        steps: &mut Steps<L>,
     ) -> Result<(), NoMemory>
         requires output { self.old.output ≡ [] }
         requires accepted { verdict_on keeping id (Some question) true self.old.subscriptions ≡ Accept question }
@@ -120,8 +141,9 @@ impl PushSession {
         requires sent { IsTrue (can_be_sent (at_name question.name index.now.rows)) }
         ensures ok { OnOk result (self.new ≡ with_accepted keeping (telling index.now.rows) now id question (taken_up now self.old)) }
         ensures err { OnErr result (self.new ≡ self.old) }
+        ensures watched { Rewatches number (watching_of watchers.old) (watching_of watchers.new) self.old self.new }
     {
-        self.hold(id, question, index)?;
+        self.hold(id, question, index, watchers, number, steps)?;
         let _ = self.take_up(now);
         self.state.wrote(false, now);
         self.state.establish();
@@ -131,18 +153,22 @@ impl PushSession {
     /// Answers a SUBSCRIBE with this question, or none, where its name has a home or not (RFC 8765, 6.2): an ID in use
     /// and a question asked twice end the session; else it is refused, or accepted. Where memory runs out nothing
     /// changes.
-    pub fn subscribe(
+    pub fn subscribe<L: Ledger>(
         &mut self,
         question: Option<Question>,
         has_home: bool,
-        index: &NameTable,
+        index: &Index,
         now: u64,
+        watchers: &mut Watchers,
+        number: u64,
+        steps: &mut Steps<L>,
     ) -> Result<(), NoMemory>
         requires output { self.old.output ≡ [] }
         requires request { request_of self.old ≡ Some (requests.Subscribe question) }
         requires told { CanBeTold question has_home index.now.rows }
         ensures ok { OnOk result (self.new ≡ subscribed_by question has_home index.now.rows now self.old) }
         ensures err { OnErr result (self.new ≡ self.old) }
+        ensures watched { Rewatches number (watching_of watchers.old) (watching_of watchers.new) self.old self.new }
     {
         let id = self.id();
         let Some(question) = question else {
@@ -150,11 +176,11 @@ impl PushSession {
             return Ok(());
         };
         if self.subscriptions.has(id) {
-            self.abort(EndReason::IdInUse(id), now);
+            self.abort(EndReason::IdInUse(id), now, watchers, number);
             return Ok(());
         }
         if let Some(active) = self.subscriptions.id_of(&question) {
-            self.abort(EndReason::Twice(active), now);
+            self.abort(EndReason::Twice(active), now, watchers, number);
             return Ok(());
         }
         if !(is_served(question.class) && has_home) {
@@ -165,6 +191,6 @@ impl PushSession {
             self.refuse(id, REFUSED, now);
             return Ok(());
         }
-        self.accept(id, question, index, now)
+        self.accept(id, question, index, now, watchers, number, steps)
     }
 }

@@ -26,14 +26,13 @@ use Rattle.pushserver.specs.Giving.{has_home}
 use Rattle.pushserver.specs.Hubs.{newest, now, keeps_now, tells_now, session_of, in_session, entered, update}
 use Rattle.pushserver.specs.PlainHubs.{Hub, Session, Made, Queue, told, note_of, nets_of, plain_keeps}
 use Rattle.pushserver.specs.ToldMessages.{IsNoEarlier}
-use Rattle.pushserver.proofs.Queues.{touched_by}
 use Rattle.pushserver.proofs.Subscribing.{verdict-holds}
 use Rattle.pushserver.proofs.Walks.{AnyMessage, bring_any, Step, restarts, reacts, answers_subscribe, answers_update, packs_names, comes_to_stop, ends_with, copies_front, IsKept, keeps-calls}
 use Rattle.pushserver.proofs.hub_steps.Cases.{itself_as}
 use Rattle.pushserver.proofs.hub_steps.Pairs.{all-map, all-weaken}
 use Rattle.pushserver.proofs.hub_steps.Queued.{points-fold}
 use Rattle.pushsession.specs.Reactions.{reacts_itself, by_itself}
-use Rattle.pushsession.specs.Sessions.{with_piece, is_open, asked_to_stop, ended_with, due, ended_where, timed, with_frame, answers, says_stop, without_first}
+use Rattle.pushsession.specs.Sessions.{with_piece, is_open, asked_to_stop, ended_with, due, ended_where, timed, with_frame, answers, says_stop, touched, without_first}
 use Rattle.pushsession.specs.Subscribing.{Verdict, says_notices, subscribed, says_first_answer, first_answer_size, decided, answered}
 use Rattle.pushsession.specs.declared.session_status.SessionStatus.TheVariants.{AskedToStop}
 use Rattle.rrset.proofs.Places.{all_filter}
@@ -77,7 +76,7 @@ between-entered low hub entry order session h =
     let grown : length hub.history ≤ length (hub.history ++ entry ∷ []) = subst (λ n. length hub.history ≤ n) (sym (length-append hub.history (entry ∷ []))) (omega arith) in
     record {
       notes = all-weaken (λ (m : Made). LiesBetween low (newest hub) m.note) (λ (m : Made). LiesBetween low (length (hub.history ++ entry ∷ [])) m.note) (λ m lies name. ((lies name).0, le_trans (lies name).1 grown)) session.made h.notes;
-      names = points-fold (λ (e : Labels × ℕ). (low ≤ e.1) × (e.1 ≤ length (hub.history ++ entry ∷ []))) (length hub.history) (λ n. (order, grown)) (touched_by session.subscriptions (changes_by hub.start hub.history entry)) session.queue
+      names = points-fold (λ (e : Labels × ℕ). (low ≤ e.1) × (e.1 ≤ length (hub.history ++ entry ∷ []))) (length hub.history) (λ n. (order, grown)) (touched (plain_keeps 0) session.subscriptions (changes_by hub.start hub.history entry)) session.queue
           (all-weaken (λ (e : Labels × ℕ). (low ≤ e.1) × (e.1 ≤ newest hub)) (λ (e : Labels × ℕ). (low ≤ e.1) × (e.1 ≤ length (hub.history ++ entry ∷ []))) (λ e lies. (lies.0, le_trans lies.1 grown)) session.queue h.names);
     }
 

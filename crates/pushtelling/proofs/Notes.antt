@@ -6,9 +6,11 @@ use Rattle.std.specs.Option.{option_or}
 use Rattle.std.proofs.Math.Nat.{le_trans}
 use Rattle.std.proofs.lemmas.List.{append_assoc, map-append}
 use Rattle.dnsname.specs.Names.{Labels, same_name}
-use Rattle.pushserver.specs.PlainHubs.{Made, Note, Queue, told, point_in, enqueued}
+use Rattle.rrset.specs.declared.record.Changed.{Changed}
+use Rattle.pushserver.specs.PlainHubs.{Made, Note, Queue, told, point_in}
 use Rattle.pushserver.specs.ToldMessages.{IsNoEarlier, NotesRise}
-use Rattle.pushserver.proofs.Queues.{point_in-queued}
+use Rattle.pushserver.proofs.Queues.{changes-names, point_in-queued}
+use Rattle.pushserver.proofs.hub_steps.Queued.{plain_change}
 
 -- the last note may be a later one
 pub NotesRise-later : (notes : List Note) (n m : Note) → NotesRise (notes ++ n ∷ []) → IsNoEarlier n m → NotesRise (notes ++ m ∷ [])
@@ -46,11 +48,16 @@ told-below newest (e ∷ es) low name = by (same_name name e.0) low.0 (told-belo
     by false first rest = rest
 
 -- an entry lowers no point
-pub told-entered : (newest later : ℕ) (queue : Queue) (names : List Labels) → newest ≤ later
-    → IsNoEarlier (record { queue = queue; newest = newest }) (record { queue = fold (enqueued newest) queue names; newest = later })
-told-entered newest later queue names higher name =
-    subst (λ o. unwrap_or (point_in queue name) newest ≤ unwrap_or o later) (sym (point_in-queued newest queue names name)) (by (point_in queue name) (list_any (λ m. same_name name m) names))
+pub told-entered : (newest later : ℕ) (queue : Queue) (changed : List Changed) → newest ≤ later
+    → IsNoEarlier (record { queue = queue; newest = newest }) (record { queue = fold (plain_change newest) queue changed; newest = later })
+told-entered newest later queue changed higher name =
+    subst (λ o. unwrap_or (point_in queue name) newest ≤ unwrap_or o later)
+    (sym (ap (λ (q : Queue). point_in q name) (changes-names newest changed queue) ∙ point_in-queued newest queue names name))
+    (by (point_in queue name) (list_any (λ m. same_name name m) names))
   where
+    names : List Labels
+    names = map (λ (c : Changed). c.key.owner) changed
+
     by : (o : Option ℕ) (b : Bool) → unwrap_or o newest ≤ unwrap_or (option_or o (cond b (Some newest) None)) later
     by (Some p) b = omega arith
     by None true = omega arith

@@ -20,10 +20,9 @@ use Rattle.history.specs.declared.entry.Entry.{Entry}
 use Rattle.pushsession.specs.declared.session_status.SessionStatus.{SessionStatus}
 use Rattle.rrset.proofs.Distinct.{distinct_filter}
 use Rattle.rrset.proofs.Places.{all_filter}
-use Rattle.pushsession.specs.Sessions.{noted, new_session, cleared, answers}
+use Rattle.pushsession.specs.Sessions.{noted, touched, new_session, cleared, answers}
 use Rattle.pushserver.specs.PlainHubs.{Session, Subscription, Queue, Made, told, note_of, size_of_made, plain_keeps, written}
 use Rattle.pushserver.proofs.AskedFor.{IsAsked, all_asked}
-use Rattle.pushserver.proofs.Queues.{touched_by}
 use Rattle.pushserver.proofs.hub_steps.Pairs.{all-weaken}
 use Rattle.pushserver.proofs.hub_steps.Queued.{points-fold, names-fold}
 use Rattle.pushserver.proofs.session_steps.Names.{AreApart}
@@ -78,7 +77,7 @@ changes_by start history entry = changes (records_at start history (length histo
 
 -- what an entry does to a session
 abbrev pub by_entry : State → List Entry → Entry → Session → Session
-by_entry start history entry session = noted (plain_keeps (length history)) (changes_by start history entry) (records_at start history (length history)) (length history) session
+by_entry start history entry session = noted (plain_keeps (length history)) (changes_by start history entry) (length history) session
 
 -- an entry keeps it
 pub tells-entered : (start : State) (history : List Entry) (entry : Entry) (session : Session) → Tells start history session
@@ -86,15 +85,15 @@ pub tells-entered : (start : State) (history : List Entry) (entry : Entry) (sess
 tells-entered start history entry session h =
     let longer = history ++ entry ∷ [] in
     let later = by_entry start history entry session in
-    let touched = touched_by session.subscriptions (changes_by start history entry) in
+    let changed : List Changed = touched (plain_keeps 0) session.subscriptions (changes_by start history entry) in
     let grown : length history ≤ length longer = subst (λ n. length history ≤ n) (sym (length-append history (entry ∷ []))) (omega arith) in
     record {
       most = record {
         each = each_right-later start history (entry ∷ []) [] session.made (points-made start history session h.most) h.most.each;
         notes = NotesRise-later (map (λ m. m.note) session.made) (note_of (length history) session) (note_of (length longer) later) h.most.notes
-            (told-entered (length history) (length longer) session.queue touched grown);
-        names = names-fold (length history) touched session.queue h.most.names;
-        points = points-fold (λ (e : Labels × ℕ). e.1 ≤ length longer) (length history) (λ n. grown) touched session.queue
+            (told-entered (length history) (length longer) session.queue changed grown);
+        names = names-fold (length history) changed session.queue h.most.names;
+        points = points-fold (λ (e : Labels × ℕ). e.1 ≤ length longer) (length history) (λ n. grown) changed session.queue
             (all-weaken (λ (e : Labels × ℕ). e.1 ≤ length history) (λ (e : Labels × ℕ). e.1 ≤ length longer) (λ e low. le_trans low grown) session.queue h.most.points);
         asked = h.most.asked;
       };

@@ -171,7 +171,7 @@ fn session_line(
 fn update_line(alloc: Global, world: &mut World, message: &[u8]) -> Result<String, NoMemory>
     ensures { IfOk result (λ text. Does (updates message.now) world.old (string_bytes text) world.new) }
 {
-    match world.hub.update(message) {
+    match world.hub.update_uncounted(message) {
         Ok(code) => update_text(alloc, code),
         Err(HubFault::NoMemory) => Err(NoMemory),
         Err(HubFault::Full) => unreachable!(),
@@ -190,7 +190,7 @@ fn moment_lines(alloc: Global, world: &mut World, moment: u64) -> Result<String,
     requires { moment ≤ max_moment }
     ensures { IfOk result (λ text. Does (moments moment) world.old (string_bytes text) world.new) }
 {
-    match world.hub.moment(moment) {
+    match world.hub.moment_uncounted(moment) {
         Ok(()) => clients_timed(alloc, world, String::new(alloc)),
         Err(HubFault::Full) => {
             let text = full_text(alloc)?;

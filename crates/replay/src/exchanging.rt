@@ -190,7 +190,7 @@ fn give(
     ensures short { length octets.new.items < 2 ^ 63 }
     ensures bound { IfOk result (λ given. octets_of given ≤ length buffer.old) }
 {
-    let given = match hub.give(session, buffer) {
+    let given = match hub.give_uncounted(session, buffer) {
         Ok(given) => given,
         Err(HubFault::NoMemory) => return Err(NoMemory),
         Err(HubFault::Full) => unreachable!(),

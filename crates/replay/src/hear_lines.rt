@@ -22,7 +22,7 @@ pub(crate) fn hear_line(
 ) -> Result<String, NoMemory>
     ensures { (w : Word) → position (bytes_eq w) (words_of world.old.links.items) ≡ Some link → IfOk result (λ text. Does (hears w datagram.now) world.old (string_bytes text) world.new) }
 {
-    match world.hub.hear(link, datagram) {
+    match world.hub.hear_uncounted(link, datagram) {
         Ok(heard) => heard_text(alloc, heard),
         Err(HubFault::Full) => full_text(alloc),
         Err(HubFault::NoMemory) => Err(NoMemory),

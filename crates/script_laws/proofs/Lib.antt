@@ -7,6 +7,7 @@ pub mod settles
 pub mod newest
 pub mod ends
 pub mod Scripts
+pub mod Throughout
 pub mod sizes
 pub mod turns
 pub mod calls

@@ -94,7 +94,7 @@ pub lines-hold : LinesHold
 lines-hold = holds-after-each-line all-laws stands-after
 
 pub holds-after : HoldsAfterEachLine
-holds-after text script before after read split = lines-hold script before after (are-lines text script read) split
+holds-after text script before after read split = lines-hold script (are-lines text script read) before after split
 
 pub lines-tell : LinesTellOneText
 lines-tell = one-text reached-sessions stands-after
@@ -109,7 +109,7 @@ pub lines-end : NoMessageEndsLines
 lines-end = no-ends all-laws
 
 pub no-message-ends : NoMessageEnds
-no-message-ends text script before after line w seat read split found joins = lines-end script before after line w seat (are-lines text script read) split found joins
+no-message-ends text script before after line w seat read split found joins = lines-end script (are-lines text script read) before after line w seat split found joins
 
 pub only-lone-fed : OnlyLoneOnesAreFed
 only-lone-fed = only-lone all-laws
@@ -133,7 +133,7 @@ pub lines-settle : SettlesOfLines
 lines-settle = settles-of-zones reached-go-on rounds (quiet-at-last reached-go-on stopped-said-so says-pass ups emitting) stands-after turns-are-enough
 
 pub settles-empty : EverySettleEmptiesBothWays
-settles-empty text script before after w seat read are alone = lines-settle script before after w seat (are-lines text script read) are alone
+settles-empty text script before after w seat read are alone = lines-settle script (are-lines text script read) before after w seat are alone
 
 pub lines-keep : LinesKeepPromises
 lines-keep = keeps-promises reached-sessions reached-sound settling stands-after never-go-back lines-settle

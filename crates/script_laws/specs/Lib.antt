@@ -14,3 +14,4 @@ pub mod EachMessage
 pub mod InTurn
 pub mod Sending
 pub mod WorkedSends
+pub mod Throughout

@@ -3,8 +3,8 @@
 --     QuietAtLast      where a round moves no octet and reacts to nothing
 --     RoundsFall, FewRoundsEnd      what falls in each other round; so rounds come to an end
 --     SettlesEmpty      rounds that come to one that is still
---     TurnsSuffice, IsLittleAtSettles      each settle of a script does, by a number that falls
---     SettlesOfLines      where it has printed its line alone nothing is under way behind it
+--     TurnsSufficeIn script, TurnsSuffice, IsLittleAtSettles      each settle of a script does, by a number that falls
+--     SettlesEmptyIn script, SettlesOfLines      where it has printed its line alone nothing is under way behind it
 use Rattle.std.specs.Prelude.{◌≡◌, ℕ, zero, suc, ◌<◌, Bool, true, false, List, [], ◌∷◌, ◌++◌, Option, Some, None, IsTrue}
 use Rattle.dsotlv.specs.Answers.{stop_message}
 use Rattle.pushsession.specs.declared.session_status.SessionStatus.{SessionStatus}
@@ -78,10 +78,13 @@ SettlesEmpty = (turns number : ℕ) (over : Option EndReason) (world : World) (s
 -- ---- whole scripts
 
 -- of each settle of a client with a session
-abbrev pub TurnsSuffice : Type 0
-TurnsSuffice = (script before after : List ScriptLine) (w : Word) (seat : Seat) (number : ℕ) → AreLines script → script ≡ before ++ settle w ∷ after
+abbrev pub TurnsSufficeIn : List ScriptLine → Type 0
+TurnsSufficeIn script = (before after : List ScriptLine) (w : Word) (seat : Seat) (number : ℕ) → script ≡ before ++ settle w ∷ after
     → let world = world_after before (start_world script) in
     seat_of world w ≡ Some seat → seat.session ≡ Some number → ends_still enough number world seat ≡ true
+
+abbrev pub TurnsSuffice : Type 0
+TurnsSuffice = (script : List ScriptLine) → AreLines script → TurnsSufficeIn script
 
 -- a number that falls is less than the turns there
 abbrev pub IsLittleAtSettles : (ℕ → World → Seat → ℕ) → Type 0
@@ -90,8 +93,11 @@ IsLittleAtSettles size = (script before after : List ScriptLine) (w : Word) (sea
     seat_of world w ≡ Some seat → seat.session ≡ Some number → size number world seat < enough
 
 -- a settle that has printed its line alone leaves nothing under way
-abbrev pub SettlesOfLines : Type 0
-SettlesOfLines = (script before after : List ScriptLine) (w : Word) (seat : Seat) → AreLines script → script ≡ before ++ settle w ∷ after
+abbrev pub SettlesEmptyIn : List ScriptLine → Type 0
+SettlesEmptyIn script = (before after : List ScriptLine) (w : Word) (seat : Seat) → script ≡ before ++ settle w ∷ after
     → IsTrue (settles_alone w (settle w) (world_after before (start_world script)))
     → let world = world_after (before ++ settle w ∷ []) (start_world script) in
     seat_of world w ≡ Some seat → SeatIsQuiet world.hub seat
+
+abbrev pub SettlesOfLines : Type 0
+SettlesOfLines = (script : List ScriptLine) → AreLines script → SettlesEmptyIn script

@@ -1,6 +1,7 @@
 -- What is so of the lines of whole scripts, whatever text they are read from.
 --     StandsAfterEachLine      after each line the world stands, with the points that `held` lines have shown
 --     ScriptsNeverGoBack      no `held` line shows an earlier point than one before it
+--     FitsAfterEachLine script, NoMessageEndsIn script      of one script: what is under way fits; no message ends or closes anything
 --     LinesKeepPromises, LinesTellOneText, LinesHold, NoMessageEndsLines      what `replay` says of a text holds of its lines
 --     OnlyLoneOnesAreFed      each client that a line of a text feeds is a lone one
 use Rattle.std.specs.Prelude.{◌≡◌, ℕ, true, false, List, ◌∷◌, ◌++◌, Some, Ok}
@@ -38,14 +39,20 @@ abbrev pub LinesTellOneText : Type 0
 LinesTellOneText = (script : List ScriptLine) → AreLines script → text_by by_history script ≡ text_by by_notices script
 
 -- after each line what is under way fits
+abbrev pub FitsAfterEachLine : List ScriptLine → Type 0
+FitsAfterEachLine script = (before after : List ScriptLine) → script ≡ before ++ after → HoldsAfter before (start_world script)
+
 abbrev pub LinesHold : Type 0
-LinesHold = (script before after : List ScriptLine) → AreLines script → script ≡ before ++ after → HoldsAfter before (start_world script)
+LinesHold = (script : List ScriptLine) → AreLines script → FitsAfterEachLine script
 
 -- no line tells an end or a close of a client of the hub but those that come by themselves
-abbrev pub NoMessageEndsLines : Type 0
-NoMessageEndsLines = (script before after : List ScriptLine) (line : ScriptLine) (w : Word) (seat : Seat) → AreLines script → script ≡ before ++ line ∷ after
+abbrev pub NoMessageEndsIn : List ScriptLine → Type 0
+NoMessageEndsIn script = (before after : List ScriptLine) (line : ScriptLine) (w : Word) (seat : Seat) → script ≡ before ++ line ∷ after
     → let world = world_after before (start_world script) in
     seat_of world w ≡ Some seat → seat.is_lone ≡ false → EndsByItself world line seat
+
+abbrev pub NoMessageEndsLines : Type 0
+NoMessageEndsLines = (script : List ScriptLine) → AreLines script → NoMessageEndsIn script
 
 -- in a script each client that a line `feed` feeds is a lone one
 abbrev pub OnlyLoneOnesAreFed : Type 0

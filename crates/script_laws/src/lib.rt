@@ -9,6 +9,7 @@ ghost use Rattle.script_laws.specs.LineCalls.{LinesAreCalls, ScriptsAreCalls};
 ghost use Rattle.script_laws.specs.Replies.{RepliesAreOne};
 ghost use Rattle.script_laws.specs.Sending.{SendsAreAnswered, AsksAreAnswered, EachIsBroughtUp, FirstOnesAskAnywhere};
 ghost use Rattle.script_laws.specs.Settling.{TurnsSuffice};
+ghost use Rattle.script_laws.specs.Throughout.{EveryScriptHolds, ReplaysMirrorHistory};
 ghost use Rattle.script_laws.specs.Whole.{OnlyLoneOnesAreFed, ScriptsNeverGoBack};
 ghost use Rattle.script_laws.specs.WorkedSends.{second_line};
 
@@ -60,6 +61,17 @@ pub fn settles_empty_both_ways()
 /// `show` of a question that the client wants prints the records of the newest point.
 pub fn scripts_keep_promises()
     ensures promises { EveryScriptKeepsPromises }
+{}
+
+/// All that holds throughout a script: its promises; after each line what is under way, what clients hold, and that no message ends
+/// anything; each message's turn in its session; and how settles end. The program's `run` says so of each script that it is asked to run.
+pub fn scripts_hold_throughout()
+    ensures throughout { EveryScriptHolds }
+{}
+
+/// The sets of the clients that a replay hands back are the records of the history, at the point of the last message that each has taken.
+pub fn mirrors_are_the_history()
+    ensures mirrors { ReplaysMirrorHistory }
 {}
 
 /// What a script is answered is the same, told from the history or from the notices that its clients took.

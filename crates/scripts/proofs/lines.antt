@@ -2,12 +2,12 @@
 pub mod SameWords
 pub mod ClientLines
 pub mod Joined
-pub mod Lines
+pub mod Pieces
 pub mod Readers
 pub mod LineWords
 pub mod Splits
 pub mod Numbers
 pub mod MoreLines
-pub mod SoFar
+pub mod TakenScripts
 pub mod LineByLine
 pub mod SentOctets

@@ -8,8 +8,11 @@
 --     may_stand all known line      whether a line may stand there
 --     HeadGrowsBy taken line later, GrowsBy taken line later      the head, and the head and the events with a further line
 --     TakesLine all draft line later taken      the line is taken where it may stand there
+--     HaveMade lines taken      the lines so far have made the head and the events
+--     LinesSoFar, script_line so_far text      the lines so far, and with a further one
+--     HoldsLines draft so_far      a draft holds what they have made
 --     client_in line, is_any_word w words      the client that a line names, and whether a word is among others
-use Rattle.std.specs.Prelude.{◌≡◌, ℕ, Bool, true, false, ◌==◌, List, [], ◌∷◌, ◌++◌, map, length, Option, Some, None, is_some, unwrap_or, string_bytes}
+use Rattle.std.specs.Prelude.{◌≡◌, ℕ, Bool, true, false, ◌==◌, List, [], ◌∷◌, ◌++◌, map, length, Option, Some, None, filter_map, is_some, option_map, unwrap_or, string_bytes}
 use Rattle.std.specs.List.{list_any}
 use Rattle.std.specs.Str.{bytes_eq}
 use Rattle.std.specs.declared.alloc.Global.{Global}
@@ -20,9 +23,10 @@ use Rattle.dsosession.specs.Timing.{default_timers}
 use Rattle.zoneupdate.specs.Zones.{ZoneState, new_zone}
 use Rattle.history.specs.States.{State, LinkState}
 use Rattle.history.specs.Kept.{HomesKept, state_of}
+use Rattle.history.specs.Plans.{IsStart}
 use Rattle.scripts.specs.Lines.{Word, ScriptLine, line_of}
-use Rattle.scripts.specs.Scripts.{Known, nothing_known, fits, may_follow, client_word}
-use Rattle.scripts.specs.Heads.{Head}
+use Rattle.scripts.specs.Scripts.{Known, nothing_known, fits, may_follow, client_word, happening, AreDistinct}
+use Rattle.scripts.specs.Heads.{Head, empty_head, head_behind}
 use Rattle.scripts.specs.declared.line.ZoneLine.{ZoneLine}
 use Rattle.scripts.specs.declared.line.LinkLine.{LinkLine}
 use Rattle.scripts.specs.declared.line.HeadLine.{HeadLine}
@@ -34,8 +38,9 @@ use Rattle.scripts.specs.declared.event.Party.{Party}
 use Rattle.scripts.specs.declared.line.Line.{Line}
 use Rattle.scripts.specs.declared.line.Line.TheVariants as lines
 use Rattle.scripts.specs.declared.script.Draft.{Draft}
+use Rattle.scripts.specs.declared.script.ScriptDraft.{ScriptDraft}
 use Rattle.scripts.specs.KeptLines.{happening_said, said, words_of}
-use Rattle.scripts.specs.Events.{known_clients, words_known, event_said, party_word, IsNamed, IsNamedParty}
+use Rattle.scripts.specs.Events.{known_clients, words_known, event_said, each_said, party_word, IsNamed, IsNamedParty, Follow}
 
 -- what lines that made these links and clients alone have made
 abbrev pub known_by : List Word → List (Word × Bool) → Known
@@ -125,6 +130,41 @@ GrowsBy taken (lines.Event line) later = (event : Event) × StandsFor taken.link
 abbrev pub TakesLine : List Word → Draft → Line → Draft → Bool → Type 0
 TakesLine all draft line later true = (may_stand all (known_of (taken_of draft)) (said line) ≡ true) × GrowsBy (taken_of draft) line (taken_of later)
 TakesLine all draft line later false = may_stand all (known_of (taken_of draft)) (said line) ≡ false
+
+-- ---- all lines
+
+-- the lines so far that happen are these events, by which the clients of these words have joined
+pub record AreEvents (lines : List ScriptLine) (links joined : List Word) (clients : List (Word × Bool)) (events : List Event) : Type 0 where
+  pub happen : happening lines ≡ each_said links clients events
+  pub named : filter_map client_word (each_said links clients events) ≡ joined
+  pub follow : Follow links clients [] events
+
+-- the lines so far have made this head, and those that happen are these events, whichever clients are still to join
+pub record HaveMade (lines : List ScriptLine) (taken : Taken) : Type 0 where
+  pub events : (more : List (Word × Bool)) → AreEvents lines taken.links (words_known taken.clients) (taken.clients ++ more) taken.events
+  pub head : head_behind empty_head lines ≡ head_taken taken
+  pub start : IsStart (state_of taken.homes)
+  pub distinct : AreDistinct (words_known taken.clients)
+
+-- the words of all clients of a script, the lines so far, and what is known behind them
+pub record LinesSoFar : Type 0 where
+  pub all : List Word
+  pub known : Known
+  pub lines : List ScriptLine
+
+-- before the first line
+abbrev pub nothing_so_far : List Word → LinesSoFar
+nothing_so_far all = record { all = all; known = nothing_known; lines = [] }
+
+-- a further line, where it may stand there
+abbrev pub script_line : LinesSoFar → List ℕ → Option LinesSoFar
+script_line so_far text = line_of text >>= λ line. option_map (λ known. record so_far { known = known; lines = so_far.lines ++ line ∷ [] }) (fits so_far.all so_far.known line)
+
+-- a draft holds what the lines so far have made
+pub record HoldsLines (draft : ScriptDraft) (so_far : LinesSoFar) : Type 0 where
+  pub all : so_far.all ≡ words_of draft.clients.items
+  pub known : so_far.known ≡ known_of (taken_of draft.draft)
+  pub lines : HaveMade so_far.lines (taken_of draft.draft)
 
 -- ---- words
 

@@ -1,7 +1,7 @@
 -- Events of a script, which tell clients and links by their numbers.
 --     known_clients clients, words_known clients      clients as they are kept, each with whether it is a lone one; their words
 --     client_at clients number, link_at links number      the client, and the word of the link, of a number
---     event_said links clients event      what an event says
+--     event_said links clients event, each_said links clients events      what an event says, and events
 --     IsNamed links clients before event      its numbers are those of clients that have joined before, and of links
 --     Follow links clients before events      so it is of each event, behind those that have joined before it
 use Rattle.std.specs.Prelude.{◌≡◌, ◌<◌, ⊤, ℕ, Bool, false, List, [], ◌∷◌, ◌++◌, map, length, get_or, position, Some, None, option_to_list, string_bytes}
@@ -41,6 +41,10 @@ event_said links clients (events.Call number call) = client_call (client_at clie
 event_said links clients (events.Passing number way) = client_passing (client_at clients number).0 way
 event_said links clients (events.Client number event) = client_event (client_at clients number).0 event
 event_said links clients (events.Session party event) = session_event (party_word clients party) event
+
+-- what events say
+abbrev pub each_said : List Word → List (Word × Bool) → List Event → List ScriptLine
+each_said links clients events = map (event_said links clients) events
 
 -- a client of that number has joined before
 abbrev pub HasJoined : List (Word × Bool) → List Word → ℕ → Type 0

@@ -3,7 +3,7 @@
 --     head_kept script      the timers, the homes and the links' words
 --     IsWhole octets script      no line is outside: the head lines make the script's head, and those that happen are its events
 --     ReadsAs octets read      what was read of octets
-use Rattle.std.specs.Prelude.{◌≡◌, ℕ, List, [], map, filter_map, length, Ok, Err}
+use Rattle.std.specs.Prelude.{◌≡◌, ℕ, List, [], filter_map, length, Ok, Err}
 use Rattle.history.specs.Kept.{state_of}
 use Rattle.history.specs.Plans.{IsStart}
 use Rattle.scripts.specs.Lines.{ScriptLine}
@@ -13,11 +13,11 @@ use Rattle.scripts.specs.declared.script.Script.{Script}
 use Rattle.scripts.specs.declared.script.ReadScript.{ReadScript}
 use Rattle.scripts.specs.declared.script.ReadScript.TheVariants.{Whole, Outside}
 use Rattle.scripts.specs.KeptLines.{words_of}
-use Rattle.scripts.specs.Events.{known_clients, event_said, Follow}
+use Rattle.scripts.specs.Events.{known_clients, each_said, Follow}
 
 -- what the events say
 abbrev pub events_said : Script → List ScriptLine
-events_said script = map (event_said (words_of script.links.items) (known_clients script.clients.items)) script.events.items
+events_said script = each_said (words_of script.links.items) (known_clients script.clients.items) script.events.items
 
 -- the head of a script that was read
 abbrev pub head_kept : Script → Head

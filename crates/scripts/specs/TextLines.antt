@@ -1,7 +1,7 @@
 -- Texts that are taken line by line, whatever their lines say.
 --     lines_taken line draft text      what the lines of a text make of a draft, or the number of the first line outside
---     Takes later draft taken      a further line was taken where it may stand
---     TakesLines all draft taken      how far the lines of a text were taken
+--     Takes later draft taken, TakesHeld later IsHeld taken      a further line was taken where it may stand
+--     TakesLines all IsHeld taken      how far the lines of a text were taken
 use Rattle.std.specs.Prelude.{◌≡◌, ℕ, ◌+◌, Bool, true, false, ◌&&◌, List, [], ◌∷◌, length, Option, Some, None, Result, Ok, Err, nat_lt}
 use Rattle.push_base.specs.Cases.{is_empty}
 use Rattle.scripts.specs.Scripts.{lines_in, max_script}
@@ -28,7 +28,12 @@ abbrev pub Takes : {D : Type 0} → Option D → D → Bool → Type 0
 Takes later draft true = later ≡ Some draft
 Takes later draft false = later ≡ None
 
--- what all lines make of the draft, or which of them is the first outside
-abbrev pub TakesLines : {D : Type 0} → Result (D × ℕ) ℕ → D → TakenLines → Type 0
-TakesLines all draft (far.All behind) = all ≡ Ok (draft, behind)
-TakesLines all draft (far.Outside n) = all ≡ Err n
+-- the same, where what the line makes is known by what is held of it
+abbrev pub TakesHeld : {D : Type 0} → Option D → (D → Type 0) → Bool → Type 0
+TakesHeld {D} later IsHeld true = (draft : D) × IsHeld draft × (later ≡ Some draft)
+TakesHeld {D} later IsHeld false = later ≡ None
+
+-- what all lines make of the draft, by what is held of it, or which of them is the first outside
+abbrev pub TakesLines : {D : Type 0} → Result (D × ℕ) ℕ → (D → Type 0) → TakenLines → Type 0
+TakesLines {D} all IsHeld (far.All behind) = (draft : D) × IsHeld draft × (all ≡ Ok (draft, behind))
+TakesLines {D} all IsHeld (far.Outside n) = all ≡ Err n

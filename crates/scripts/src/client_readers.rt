@@ -1,6 +1,6 @@
 //! What the lines of clients say, by what follows their first word.
 
-ghost use Rattle.std.specs.Prelude.{◌≡◌, false, true, IfOk, option_map, string_bytes, ℕ};
+ghost use Rattle.std.specs.Prelude.{◌≡◌, IfOk, option_map, string_bytes, ℕ};
 ghost use Rattle.scripts.specs.Lines.{words_in, Word, ScriptLine, joining, client_call, client_passing, client_event, reconfirm_line, show_line, of_word, of_word_and_octets, of_word_and_question, of_word_and_number, question};
 ghost use Rattle.scripts.specs.KeptLines.{said};
 
@@ -16,25 +16,17 @@ use push_base::NoMemory;
 use rrset::record::{Question, Rr};
 use std::alloc::Global;
 
-/// What follows the first word of a line of a client of the hub: its word.
-pub(crate) fn client_line(alloc: Global, text: &[u8]) -> Result<Option<Line>, NoMemory>
-    ensures exact { IfOk result (λ found. option_map (λ l. said l) found ≡ of_word (λ w. joining w false) (words_in text.now)) }
+/// What follows the first word of a line of a client, of the hub or a lone one: its word.
+pub(crate) fn joining_line(
+    alloc: Global,
+    is_lone: bool,
+    text: &[u8],
+) -> Result<Option<Line>, NoMemory>
+    ensures exact { IfOk result (λ found. option_map (λ l. said l) found ≡ of_word (λ w. joining w is_lone) (words_in text.now)) }
 {
     let Some(word) = word_alone(alloc, text)? else {
         return Ok(None);
     };
-    let is_lone = false;
-    Ok(Some(Line::Joining { word, is_lone }))
-}
-
-/// What follows the first word of a line of a lone client: its word.
-pub(crate) fn lone_line(alloc: Global, text: &[u8]) -> Result<Option<Line>, NoMemory>
-    ensures exact { IfOk result (λ found. option_map (λ l. said l) found ≡ of_word (λ w. joining w true) (words_in text.now)) }
-{
-    let Some(word) = word_alone(alloc, text)? else {
-        return Ok(None);
-    };
-    let is_lone = true;
     Ok(Some(Line::Joining { word, is_lone }))
 }
 

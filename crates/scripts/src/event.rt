@@ -1,6 +1,8 @@
 //! What happens in a script, and to whom, by numbers.
 
-ghost use Rattle.std.specs.Prelude.{string_bytes};
+ghost use Rattle.std.specs.Prelude.{Bool, List, string_bytes};
+ghost use Rattle.scripts.specs.Lines.{Word};
+ghost use Rattle.scripts.specs.declared.line.EventLine.TheVariants as event_lines;
 ghost use Rattle.scripts.specs.KeptLines.{words_of};
 ghost use Rattle.scripts.specs.Events.{known_clients};
 ghost use Rattle.scripts.specs.Drafts.{IsParty, Numbered};
@@ -48,33 +50,63 @@ pub(crate) fn event_of(
 {
     match line {
         EventLine::Hub(event) => Some(Event::Hub(event)),
-        EventLine::Link { word, event } => {
-            let link = place_among(links, word.as_bytes())?;
-            Some(Event::Link { link, event })
-        }
-        EventLine::Call { word, call } => {
-            let client = client_of(clients, word.as_bytes())?;
-            Some(Event::Call { client, call })
-        }
-        EventLine::Passing { word, way } => {
-            let client = client_of(clients, word.as_bytes())?;
-            Some(Event::Passing { client, way })
-        }
-        EventLine::Client { word, event } => {
-            let client = client_of(clients, word.as_bytes())?;
-            if !may_happen_to(clients, word.as_bytes(), &event) {
-                return None;
-            }
-            Some(Event::Client { client, event })
-        }
-        EventLine::Session { word, event } => {
-            if !may_meet(all, clients, word.as_bytes(), &event) {
-                return None;
-            }
-            let party = party_of(clients, word);
-            Some(Event::Session { party, event })
-        }
+        EventLine::Link { word, event } => on_link(links, word, event),
+        EventLine::Call { word, call } => call_of(clients, word, call),
+        EventLine::Passing { word, way } => passing_of(clients, word, way),
+        EventLine::Client { word, event } => to_client(clients, word, event),
+        EventLine::Session { word, event } => to_session(all, clients, word, event),
     }
+}
+
+// What happens on the link of a word.
+fn on_link(links: &[String], word: String, event: LinkEvent) -> Option<Event>
+    ensures { (all : List Word) (clients : List (Word × Bool)) → Numbered all (words_of links.now) clients (event_lines.Link word event) result }
+{
+    let link = place_among(links, word.as_bytes())?;
+    Some(Event::Link { link, event })
+}
+
+// A call of the client of a word.
+fn call_of(clients: &[KnownClient], word: String, call: Call) -> Option<Event>
+    ensures { (all links : List Word) → Numbered all links (known_clients clients.now) (event_lines.Call word call) result }
+{
+    let client = client_of(clients, word.as_bytes())?;
+    Some(Event::Call { client, call })
+}
+
+// Octets of the client of a word that pass.
+fn passing_of(clients: &[KnownClient], word: String, way: Way) -> Option<Event>
+    ensures { (all links : List Word) → Numbered all links (known_clients clients.now) (event_lines.Passing word way) result }
+{
+    let client = client_of(clients, word.as_bytes())?;
+    Some(Event::Passing { client, way })
+}
+
+// What happens to the client of a word, if it may.
+fn to_client(clients: &[KnownClient], word: String, event: ClientEvent) -> Option<Event>
+    ensures { (all links : List Word) → Numbered all links (known_clients clients.now) (event_lines.Client word event) result }
+{
+    let client = client_of(clients, word.as_bytes())?;
+    if !may_happen_to(clients, word.as_bytes(), &event) {
+        return None;
+    }
+    Some(Event::Client { client, event })
+}
+
+// What happens to the session of a word, if it may.
+fn to_session(
+    all: &[String],
+    clients: &[KnownClient],
+    word: String,
+    event: SessionEvent,
+) -> Option<Event>
+    ensures { (links : List Word) → Numbered (words_of all.now) links (known_clients clients.now) (event_lines.Session word event) result }
+{
+    if !may_meet(all, clients, word.as_bytes(), &event) {
+        return None;
+    }
+    let party = party_of(clients, word);
+    Some(Event::Session { party, event })
 }
 
 // The party of a word: a client, or else a peer.

@@ -5,8 +5,8 @@ ghost use Rattle.scripts.specs.Lines.{words_in, Word, ScriptLine, hub_event, lin
 ghost use Rattle.scripts.specs.KeptLines.{said, one_in, two_in, three_in, four_in, five_in, begins_silent};
 
 use crate::client_readers::{
-    ask_line, client_line, down_line, drop_line, emit_line, feed_line, lone_line, open_line,
-    reconfirm_line, say_line, settle_line, show_line, up_line,
+    ask_line, down_line, drop_line, emit_line, feed_line, joining_line, open_line, reconfirm_line,
+    say_line, settle_line, show_line, up_line,
 };
 use crate::line_words::{
     Moment, Written, moment_of_word, name_of_word, number_of_word, octets_of_word, plain_word,
@@ -303,8 +303,8 @@ fn longer_line(alloc: Global, kind: Kind, text: &[u8]) -> Result<Option<Line>, N
         Kind::Send => send_line(alloc, text),
         Kind::Stop => stop_line(alloc, text),
         Kind::Cut => cut_line(alloc, text),
-        Kind::Client => client_line(alloc, text),
-        Kind::Lone => lone_line(alloc, text),
+        Kind::Client => joining_line(alloc, false, text),
+        Kind::Lone => joining_line(alloc, true, text),
         Kind::Open => open_line(alloc, text),
         Kind::Ask => ask_line(alloc, text),
         Kind::Drop => drop_line(alloc, text),

@@ -8,12 +8,12 @@ ghost use Rattle.scripts.specs.declared.line.HeadLine.TheVariants as heads;
 ghost use Rattle.scripts.specs.declared.line.Line.TheVariants as lines;
 ghost use Rattle.scripts.specs.KeptScripts.{ReadsAs};
 ghost use Rattle.scripts.specs.KeptLines.{words_of};
-ghost use Rattle.scripts.specs.Drafts.{TakesLine, taken_of, nothing_taken};
+ghost use Rattle.scripts.specs.Drafts.{TakesLine, taken_of, nothing_taken, LinesSoFar, HoldsLines, script_line};
 
 use crate::clients::{KnownClient, client_words, is_among, is_known, place_among};
 use crate::event::{Event, event_of};
 use crate::line::{EventLine, HeadLine, Line, LinkLine, ZoneLine, read_line};
-use crate::text_lines::{is_outside, is_too_long, split_line};
+use crate::text_lines::{TakeLines, TakenLines, take_lines};
 use dsosession::session::Timers;
 use dsosession::times::DEFAULT_TIMER;
 use history::Homes;
@@ -58,6 +58,13 @@ pub struct Draft {
     clients: Vec<KnownClient>,
 }
 
+// What was read of a script so far, and the words of all clients that it has.
+#[derive(Drop)]
+struct ScriptDraft {
+    draft: Draft,
+    clients: Vec<String>,
+}
+
 /// Reads a script: all of it, or the number of the first line that is outside the grammar, or may not stand where it
 /// does, counted from 1. The zones and links may then stand side by side, no peer has the word of a
 /// client, and no two clients have one word.
@@ -65,25 +72,30 @@ pub fn read_script_lines(alloc: Global, octets: &[u8]) -> Result<ReadScript, NoM
     ensures { IfOk result (λ read. ReadsAs octets.now read) }
 {
     let clients = client_words(alloc, octets)?;
-    let too_long = is_too_long(octets);
-    let mut draft = Draft::new(alloc);
-    let mut number = 0;
-    let mut rest = octets;
-    'lines: while !rest.is_empty() {
-        let (text, after) = split_line(rest);
-        number += 1;
-        if is_outside(after, too_long) {
-            return Ok(ReadScript::Outside(number));
-        }
-        let Some(line) = read_line(alloc, text)? else {
-            return Ok(ReadScript::Outside(number));
-        };
-        if !draft.take(alloc, line, &clients)? {
-            return Ok(ReadScript::Outside(number));
-        }
-        rest = after;
+    let mut draft = ScriptDraft {
+        draft: Draft::new(alloc),
+        clients,
+    };
+    let taken = take_lines(alloc, octets, &mut draft)?;
+    match taken {
+        TakenLines::All(behind) => Ok(ReadScript::Whole(draft.draft.finish(behind - 1))),
+        TakenLines::Outside(number) => Ok(ReadScript::Outside(number)),
     }
-    Ok(ReadScript::Whole(draft.finish(number)))
+}
+
+impl TakeLines for ScriptDraft {
+    ghost Made = { LinesSoFar };
+
+    ghost Holds = { HoldsLines };
+
+    ghost line = { script_line };
+
+    fn take(&mut self, alloc: Global, text: &[u8]) -> Result<bool, NoMemory> {
+        let Some(line) = read_line(alloc, text)? else {
+            return Ok(false);
+        };
+        self.draft.take(alloc, line, &self.clients)
+    }
 }
 
 impl Draft {

@@ -3,7 +3,7 @@
 ghost use Rattle.std.specs.Prelude.{◌≡◌, ℕ, ◌<◌, ◌∷◌, ◌==◌, ◌&&◌, List, Option, length, position, IfOk, IfSome, nat_lt};
 ghost use Rattle.push_base.specs.Cases.{is_empty};
 ghost use Rattle.scripts.specs.Scripts.{lines_in, max_script};
-ghost use Rattle.scripts.specs.TextLines.{Takes, TakesLines, lines_taken};
+ghost use Rattle.scripts.specs.TextLines.{TakesHeld, TakesLines, lines_taken};
 
 use crate::read::MOST_OCTETS;
 use push_base::NoMemory;
@@ -14,15 +14,15 @@ pub trait TakeLines {
     /// What the lines so far have made.
     ghost Made: { Type 0 };
 
-    /// What a draft has of it.
-    ghost made: { Self → Self.Made };
+    /// That a draft holds it.
+    ghost Holds: { Self → Self.Made → Type 0 };
 
     /// What a further line makes of it, where it may stand there.
     ghost line: { Self.Made → List ℕ → Option Self.Made };
 
     /// Takes a further line, where it may stand behind those before it.
     fn take(&mut self, alloc: Global, text: &[u8]) -> Result<bool, NoMemory>
-        ensures { IfOk result (λ taken. Takes (Self.line (Self.made self.old) text.now) (Self.made self.new) taken) };
+        ensures { IfOk result (λ taken. (made : Self.Made) → Self.Holds self.old made → TakesHeld (Self.line made text.now) (Self.Holds self.new) taken) };
 }
 
 /// How far the lines of a text were taken.
@@ -40,7 +40,7 @@ pub fn take_lines<D: TakeLines>(
     octets: &[u8],
     draft: &mut D,
 ) -> Result<TakenLines, NoMemory>
-    ensures { IfOk result (λ taken. TakesLines (lines_taken D.line (D.made draft.old) octets.now) (D.made draft.new) taken) }
+    ensures { IfOk result (λ taken. (made : D.Made) → D.Holds draft.old made → TakesLines (lines_taken D.line made octets.now) (D.Holds draft.new) taken) }
 {
     let too_long = is_too_long(octets);
     let mut number = 1;

@@ -9,12 +9,14 @@ ghost use Rattle.serving.specs.Servers.{IsWhole};
 ghost use Rattle.serving.specs.Serving.{has_fault, numbers_of};
 
 use crate::link_job::LinkJob;
+use crate::log_lines::tell_stop;
 use crate::other_job::OtherJob;
 use crate::running_jobs::Running;
 use crate::serve_end::{Cause, Fault, cause_of};
 use crate::server::{RunningLink, Server};
 use crate::{Fed, ServeEnd, Served};
 use hublock::{Books, Ended, Feed, HubLock, Signal, finish};
+use log::Log;
 use push_base::{Datagrams, Pending, Surroundings};
 use std::sync::Wait;
 use std::thread::Threads;
@@ -46,7 +48,7 @@ fn note_over(noted: &mut Noted, ends: Vec<Ended>)
 
 /// Finishes the job of a link. Gives how its loop ended, the feed with the job's, and its datagrams.
 fn finish_link<
-    R: Threads + Wait + Copy + Send + 'static,
+    R: Log + Threads + Wait + Copy + Send + 'static,
     O: Surroundings,
     B: Books + Send + Sync + 'static,
 >(
@@ -78,7 +80,7 @@ fn put_back<G: Drop>(links: &mut Vec<Fed<G>>, place: usize, fed: Fed<G>)
 /// Finishes the jobs of the links, in the order of their starts, and notes how their loops ended. Their datagrams are given
 /// back before those that no job has.
 fn finish_links<
-    R: Threads + Wait + Copy + Send + 'static,
+    R: Log + Threads + Wait + Copy + Send + 'static,
     O: Surroundings,
     B: Books + Send + Sync + 'static,
 >(
@@ -110,7 +112,7 @@ fn finish_links<
 
 /// Finishes a job that isn't a link's. Gives how its loop ended, and the feed with the job's.
 fn finish_job<
-    R: Threads + Wait + Copy + Send + 'static,
+    R: Log + Threads + Wait + Copy + Send + 'static,
     O: Surroundings,
     B: Books + Send + Sync + 'static,
 >(
@@ -127,7 +129,7 @@ fn finish_job<
 
 /// Finishes all jobs that aren't links', in the order of their starts, and notes how their loops ended.
 fn finish_jobs<
-    R: Threads + Wait + Copy + Send + 'static,
+    R: Log + Threads + Wait + Copy + Send + 'static,
     O: Surroundings,
     B: Books + Send + Sync + 'static,
 >(rt: R, jobs: Vec<Running<R, O, B>>, feed: Feed<B>, noted: &mut Noted) -> Feed<B>
@@ -169,7 +171,7 @@ fn end_of<R: Wait, B: Books>(
 /// Finishes all jobs that aren't finished yet, in the order of their starts. Where the server is given up, they are told to
 /// stop.
 pub(crate) fn close<
-    R: Threads + Wait + Copy + Send + 'static,
+    R: Log + Threads + Wait + Copy + Send + 'static,
     O: Surroundings,
     B: Books + Send + Sync + 'static,
 >(
@@ -187,6 +189,7 @@ pub(crate) fn close<
     ensures links { numbers_of result.links.items ≡ server.links ++ numbers_of links.items }
 {
     if opened.is_err() {
+        tell_stop(&server.rt);
         server.lock.signal(&server.rt, Signal::Quit);
     }
     let Server {

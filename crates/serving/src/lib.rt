@@ -3,6 +3,7 @@
 
 mod closing;
 mod link_job;
+mod log_lines;
 mod other_job;
 mod running_jobs;
 mod serve_end;

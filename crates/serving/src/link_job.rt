@@ -6,7 +6,9 @@ ghost use Rattle.hublock.specs.Feeds.{each};
 ghost use Rattle.hublock.specs.Jobs.{role_in};
 ghost use Rattle.serving.specs.Ends.{tells_fault};
 
-use hublock::{Books, Ended, Feed, Job, JobEnd, Shared};
+use crate::log_lines::tell_loop_end;
+use hublock::{Books, Ended, Feed, Job, JobEnd, OnePart, Shared};
+use log::Log;
 use push_base::{Clock, Datagrams, Line, Role, Task, Wire};
 use std::alloc::Global;
 use std::sync::Wait;
@@ -25,20 +27,21 @@ pub(crate) struct LinkEnd<G: Datagrams + Drop, B: Books> {
 /// A job that hears the datagrams of a link.
 #[derive(Drop)]
 pub(crate) struct LinkJob<
-    R: Wait + Copy,
+    R: Log + Wait + Copy,
     L: Line + Drop,
     K: Wire + Drop,
     G: Datagrams + Drop,
     T: Clock + Drop,
     B: Books,
 > {
+    rt: R,
     link: usize,
-    job: Job<R, L, K, G, T, B>,
+    job: Job<Shared<R, B>, L, K, G, T>,
     ghost hears: { role_in job.work ≡ roles.Link link },
 }
 
 impl<
-    R: Wait + Copy,
+    R: Log + Wait + Copy,
     L: Line + Drop,
     K: Wire + Drop,
     G: Datagrams + Drop,
@@ -47,6 +50,7 @@ impl<
 > LinkJob<R, L, K, G, T, B> {
     /// Hears the datagrams of a link.
     pub(crate) fn new(
+        rt: R,
         alloc: Global,
         shared: Shared<R, B>,
         link: usize,
@@ -57,6 +61,7 @@ impl<
         ensures { (role_in result.job.work ≡ roles.Link link) × (result.job.turns ≡ turns) }
     {
         LinkJob {
+            rt,
             link,
             job: Job::link(alloc, shared, link, datagrams, turns),
         }
@@ -64,7 +69,7 @@ impl<
 }
 
 impl<
-    R: Wait + Copy,
+    R: Log + Wait + Copy,
     L: Line + Drop,
     K: Wire + Drop,
     G: Datagrams + Drop + Send + 'static,
@@ -86,8 +91,10 @@ impl<
     }
 
     fn run(self) -> LinkEnd<G, B> {
-        let LinkJob { link: _, job } = self;
-        let JobEnd { end, feed, links } = job.run();
+        let LinkJob { rt, link, job } = self;
+        let JobEnd { end, left, links } = job.run();
+        tell_loop_end(&rt, Role::Link(link), end.end());
+        let OnePart { feed } = left;
         match links {
             Some(datagrams) => LinkEnd {
                 end,

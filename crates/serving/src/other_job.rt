@@ -6,7 +6,9 @@ ghost use Rattle.hublock.specs.Jobs.{role_in};
 ghost use Rattle.serving.specs.Ends.{is_link_fault};
 ghost use Rattle.serving.specs.Jobs.{is_link};
 
-use hublock::{Books, Ended, Feed, Job, JobEnd};
+use crate::log_lines::tell_loop_end;
+use hublock::{Books, Ended, Feed, Job, JobEnd, OnePart, Shared};
+use log::Log;
 use push_base::{Clock, Datagrams, Line, Role, Task, Wire};
 use std::sync::atomic::{AtomicBool, Ordering};
 use std::sync::{Arc, Wait};
@@ -24,20 +26,21 @@ pub(crate) struct OtherEnd<B: Books> {
 /// A job of a session, or the clock's, which tells when it is over.
 #[derive(Drop)]
 pub(crate) struct OtherJob<
-    R: Wait + Copy,
+    R: Log + Wait + Copy,
     L: Line + Drop,
     K: Wire + Drop,
     G: Datagrams + Drop,
     T: Clock + Drop,
     B: Books,
 > {
-    job: Job<R, L, K, G, T, B>,
+    rt: R,
+    job: Job<Shared<R, B>, L, K, G, T>,
     over: Arc<AtomicBool>,
     ghost other: { is_link (role_in job.work) ≡ false },
 }
 
 impl<
-    R: Wait + Copy,
+    R: Log + Wait + Copy,
     L: Line + Drop,
     K: Wire + Drop,
     G: Datagrams + Drop,
@@ -45,16 +48,16 @@ impl<
     B: Books,
 > OtherJob<R, L, K, G, T, B> {
     /// That job, and where it tells that it is over.
-    pub(crate) fn new(job: Job<R, L, K, G, T, B>, over: Arc<AtomicBool>) -> Self
+    pub(crate) fn new(rt: R, job: Job<Shared<R, B>, L, K, G, T>, over: Arc<AtomicBool>) -> Self
         requires { is_link (role_in job.work) ≡ false }
         ensures { result.job ≡ job }
     {
-        OtherJob { job, over }
+        OtherJob { rt, job, over }
     }
 }
 
 impl<
-    R: Wait + Copy,
+    R: Log + Wait + Copy,
     L: Line + Drop,
     K: Wire + Drop,
     G: Datagrams + Drop + Send + 'static,
@@ -76,9 +79,12 @@ impl<
     }
 
     fn run(self) -> OtherEnd<B> {
-        let OtherJob { job, over } = self;
-        let JobEnd { end, feed, links } = job.run();
+        let OtherJob { rt, job, over } = self;
+        let role = job.role();
+        let JobEnd { end, left, links } = job.run();
+        tell_loop_end(&rt, role, end.end());
         over.store(true, Ordering::SeqCst);
+        let OnePart { feed } = left;
         match links {
             None => OtherEnd { end, feed },
             Some(_) => unreachable!(),

@@ -8,6 +8,7 @@ ghost use Rattle.serving.specs.Running.{IsMovedOn};
 
 use crate::other_job::OtherJob;
 use hublock::{Books, Ended, Feed};
+use log::Log;
 use push_base::{NoMemory, Pending, Surroundings};
 use std::alloc::Global;
 use std::sync::atomic::{AtomicBool, Ordering};
@@ -16,7 +17,7 @@ use std::thread::Threads;
 
 /// A job that was started, and where it tells that it is over.
 #[derive(Drop)]
-pub(crate) struct Running<R: Wait + Copy + 'static, O: Surroundings, B: Books + 'static> {
+pub(crate) struct Running<R: Log + Wait + Copy + 'static, O: Surroundings, B: Books + 'static> {
     pub(crate) job: Pending<OtherJob<R, O::Line, O::Wire, O::Links, O::Clock, B>>,
     pub(crate) over: Arc<AtomicBool>,
 }
@@ -30,7 +31,7 @@ pub(crate) fn flags(alloc: Global) -> Result<(Arc<AtomicBool>, Arc<AtomicBool>),
 
 /// Finishes the job at a place, if it is over and there is memory to keep how its loop ended.
 fn finish_at<
-    R: Threads + Wait + Copy + Send + 'static,
+    R: Log + Threads + Wait + Copy + Send + 'static,
     O: Surroundings,
     B: Books + Send + Sync + 'static,
 >(rt: R, jobs: &mut Vec<Running<R, O, B>>, place: usize, feed: &mut Feed<B>, ends: &mut Vec<Ended>)
@@ -55,7 +56,7 @@ fn finish_at<
 
 /// Finishes the jobs that are over, and keeps how their loops ended.
 pub(crate) fn finish_over<
-    R: Threads + Wait + Copy + Send + 'static,
+    R: Log + Threads + Wait + Copy + Send + 'static,
     O: Surroundings,
     B: Books + Send + Sync + 'static,
 >(rt: R, jobs: &mut Vec<Running<R, O, B>>, feed: &mut Feed<B>, ends: &mut Vec<Ended>)

@@ -11,10 +11,12 @@ ghost use Rattle.serving.specs.Serving.{Accepts, Returns, Starts, StartsAll, num
 
 use crate::Fed;
 use crate::link_job::LinkJob;
+use crate::log_lines::{tell_no_seat, tell_session};
 use crate::other_job::OtherJob;
 use crate::running_jobs::{Running, finish_over, flags};
 use crate::serve_end::Fault;
 use hublock::{Books, Ended, Feed, HubLock, Job, PARTS, Seats, Shared, Signal};
+use log::Log;
 use push_base::{Doors, NoMemory, Pending, Role, StartFault, Starter, Surroundings, Task, start};
 use pushserver::ConnectFault;
 use std::alloc::Global;
@@ -24,14 +26,14 @@ use std::thread::Threads;
 
 /// The job of a link that was started.
 #[derive(Drop)]
-pub(crate) struct RunningLink<R: Wait + Copy + 'static, O: Surroundings, B: Books + 'static> {
+pub(crate) struct RunningLink<R: Log + Wait + Copy + 'static, O: Surroundings, B: Books + 'static> {
     pub(crate) link: usize,
     pub(crate) job: Pending<LinkJob<R, O::Line, O::Wire, O::Links, O::Clock, B>>,
 }
 
 /// The jobs that were started, and what is left for those that are still to be: a feed, the seats, the lock and the turns.
 #[derive(Drop)]
-pub(crate) struct Server<R: Wait + Copy + 'static, O: Surroundings, B: Books + 'static> {
+pub(crate) struct Server<R: Log + Wait + Copy + 'static, O: Surroundings, B: Books + 'static> {
     pub(crate) rt: R,
     pub(crate) alloc: Global,
     pub(crate) lock: HubLock<B>,
@@ -45,7 +47,8 @@ pub(crate) struct Server<R: Wait + Copy + 'static, O: Surroundings, B: Books + '
     left: u64,
 }
 
-impl<R: Wait + Copy + 'static, O: Surroundings, B: Books + 'static> Model for Server<R, O, B> {
+impl<R: Log + Wait + Copy + 'static, O: Surroundings, B: Books + 'static> Model
+    for Server<R, O, B> {
     ghost use Rattle.std.specs.Prelude.{◌≡◌, ◌≤◌, ◌+◌, ◌-◌, map, vec_len, false};
     ghost use Rattle.std.specs.List.{list_any};
     ghost use Rattle.serving.specs.Ends.{is_link_fault};
@@ -60,7 +63,7 @@ impl<R: Wait + Copy + 'static, O: Surroundings, B: Books + 'static> Model for Se
 }
 
 /// Hands a job to the starter. One that couldn't be started is dropped.
-fn hand<R: Threads + Wait + Copy + Send + 'static, A: Starter, J: Task + Send + 'static>(
+fn hand<R: Log + Threads + Wait + Copy + Send + 'static, A: Starter, J: Task + Send + 'static>(
     rt: R,
     alloc: Global,
     starter: &mut A,
@@ -89,7 +92,7 @@ fn first_link<G>(links: &[Fed<G>]) -> usize
 }
 
 impl<
-    R: Threads + Wait + Copy + Send + 'static,
+    R: Log + Threads + Wait + Copy + Send + 'static,
     O: Surroundings,
     B: Books + Send + Sync + 'static,
 > Server<R, O, B> {
@@ -139,7 +142,7 @@ impl<
     fn start(
         &mut self,
         starter: &mut O::Starter,
-        job: Job<R, O::Line, O::Wire, O::Links, O::Clock, B>,
+        job: Job<Shared<R, B>, O::Line, O::Wire, O::Links, O::Clock>,
     ) -> Result<(), Fault>
         requires { is_link (role_in job.work) ≡ false }
         ensures started { HandsOver ((role_in job.work, job.turns) ∷ []) (O.Starter.started starter.old) (O.Starter.started starter.new) result }
@@ -151,7 +154,12 @@ impl<
     {
         let (over, tells) = flags(self.alloc)?;
         self.jobs.reserve(1)?;
-        let job = hand(self.rt, self.alloc, starter, OtherJob::new(job, tells))?;
+        let job = hand(
+            self.rt,
+            self.alloc,
+            starter,
+            OtherJob::new(self.rt, job, tells),
+        )?;
         self.jobs.push_reserved(Running { job, over });
         Ok(())
     }
@@ -174,7 +182,7 @@ impl<
         let shared = self.hold(Role::Link(link))?;
         self.hearings.reserve(1)?;
         let Fed { link: _, datagrams } = links.remove(0);
-        let job = LinkJob::new(self.alloc, shared, link, datagrams, self.turns);
+        let job = LinkJob::new(self.rt, self.alloc, shared, link, datagrams, self.turns);
         let job = hand(self.rt, self.alloc, starter, job)?;
         self.hearings.push_reserved(RunningLink { link, job });
         Ok(())
@@ -280,8 +288,12 @@ impl<
         ensures cause { IsErrOf result Fault.Outside → Rose (O.Starter.faults starter.old) (O.Starter.faults starter.new) }
     {
         match self.lock.connect(&self.rt, &mut self.seats) {
-            Ok(session) => self.start_session(starter, session, line, wire),
+            Ok(session) => {
+                tell_session(&self.rt, session);
+                self.start_session(starter, session, line, wire)
+            }
             Err(ConnectFault::NoSeat) => {
+                tell_no_seat(&self.rt);
                 drop(line);
                 drop(wire);
                 self.lock.signal(&self.rt, Signal::SessionOver);

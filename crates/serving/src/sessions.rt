@@ -14,6 +14,7 @@ use crate::closing::close;
 use crate::server::Server;
 use crate::{ServeEnd, Served, Setup};
 use hublock::{Blanks, Books, Feed, HubLock, Register, Seats, Signal};
+use log::Log;
 use push_base::{Datagrams, Doors, Starter, Surroundings};
 use std::alloc::Global;
 use std::sync::Wait;
@@ -26,7 +27,7 @@ use std::thread::Threads;
 ///
 /// The end is the first whose cause is there: want of memory, a fault of the outside, a full journal.
 pub fn serve<
-    R: Threads + Wait + Copy + Send + 'static,
+    R: Log + Threads + Wait + Copy + Send + 'static,
     O: Surroundings,
     B: Books + Send + Sync + 'static,
     W: Register,

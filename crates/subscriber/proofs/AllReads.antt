@@ -2,7 +2,7 @@
 --     Following      so far
 --     following-begins, following-more      its turns
 --     follows-ended, follows-unread, follows-stopped, follows-spent, follows-unspoken      its exits
-use Rattle.std.proofs.Common.{◌≡◌, inl, inr, ℕ, suc, ne_eqb, ◌-◌, ◌<◌, Bool, true, false, Option, Some, None, Result, Ok, Err, List, [], ◌∷◌, ◌++◌, length, refl, sym, ◌∙◌, ap, subst, arith, append_assoc, append-nil, length-append}
+use Rattle.std.proofs.Common.{◌≡◌, ◌⊎◌, inl, inr, ℕ, suc, ne_eqb, ◌+◌, ◌-◌, ◌<◌, Bool, true, false, Option, Some, None, Result, Ok, Err, List, [], ◌∷◌, ◌++◌, length, refl, sym, ◌∙◌, ap, subst, arith, append_assoc, append-nil, length-append}
 use Rattle.std.specs.Prelude.{codes, fold, OnOk, OnErr, IsErrOf}
 use Rattle.std.specs.Io.KnownBytes.{append_known}
 use Rattle.std.proofs.lemmas.List.Sums.{fold-append}
@@ -15,10 +15,10 @@ use Rattle.subscriber.specs.declared.fault.Fault.{Fault}
 use Rattle.subscriber.specs.declared.fault.Fault.TheVariants as faults
 use Rattle.subscriber.specs.Said.{Saying, text_of, ends_with, is_used_up, takes_read, at_moment, ends_without_turns, spends_turn, turn, paired}
 use Rattle.subscriber.specs.Standing.{Waits}
-use Rattle.subscriber.specs.Turning.{TookAll, Turned, Stopped, Unheard, AtSome, Heard, HeardOn, TurnsAs, Turns, said_after, IsOpenBefore, IsDone, IsUnread, EndsAs, Followed, Follows}
+use Rattle.subscriber.specs.Turning.{EndsInRead, StopsWithin, AsksBehind, TookAll, Turned, Stopped, Unheard, AtSome, Heard, HeardOn, TurnsAs, Turns, said_after, IsOpenBefore, IsDone, IsUnread, EndsAs, Followed, Follows}
 use Rattle.subscriber.proofs.Steps.{said-more}
 use Rattle.subscriber.proofs.MessageTurns.{ends-at}
-use Rattle.subscriber.proofs.Growing.{left_by, grows-spent, turns-heard}
+use Rattle.subscriber.proofs.Growing.{left_by, going-before, grows-spent, turns-heard}
 use Rattle.subscriber.proofs.OneTurn.{is_write, took-nothing, took-text, took-part, all-is-front, front-wider, took-both, took-all-then}
 
 -- ---- what is told
@@ -79,6 +79,33 @@ snoc-front [] (b ∷ ys) x y e = absurd (omega (arith, ap length e, length-appen
 snoc-front (a ∷ xs) [] x y e = absurd (omega (arith, ap length e, length-append xs (x ∷ [])))
 snoc-front (a ∷ xs) (b ∷ ys) x y e = (let tails : xs ++ x ∷ [] ≡ ys ++ y ∷ [] = cc in let heads : a ≡ b = cc in (λ i. heads i ∷ snoc-front xs ys x y tails i))
 
+snoc-last : {A : Type 0} (xs ys : List A) (x y : A) → xs ++ x ∷ [] ≡ ys ++ y ∷ [] → x ≡ y
+snoc-last [] [] x y e = cc
+snoc-last [] (b ∷ ys) x y e = absurd (omega (arith, ap length e, length-append ys (y ∷ [])))
+snoc-last (a ∷ xs) [] x y e = absurd (omega (arith, ap length e, length-append xs (x ∷ [])))
+snoc-last (a ∷ xs) (b ∷ ys) x y e = (let tails : xs ++ x ∷ [] ≡ ys ++ y ∷ [] = cc in snoc-last xs ys x y tails)
+
+-- ---- how often the clock is asked
+
+-- behind a read in which no ending was said
+not-in-read : (says : List Read → Saying) (front : List Read) (r : Read) (s : Saying) → says front ≡ s → (takes_read r s).over ≡ false → EndsInRead says (front ++ r ∷ []) → ⊥
+not-in-read says front r s is going (before, last, e, over) = absurd (both (sym going ∙ ap (λ (x : Saying). (takes_read r x).over) (sym is) ∙ (λ i. (takes_read (snoc-last front before r last e i) (says (snoc-front front before r last e i))).over) ∙ over))
+  where
+    both : false ≡ true → ⊥
+    both h = absurd cc
+
+one-more : {A : Type 0} (xs : List A) (x : A) (n : ℕ) → n ≡ length xs → n + 1 ≡ length (xs ++ x ∷ [])
+one-more xs x n is = omega (arith, is, length-append xs (x ∷ []))
+
+ends-as : (says same : List Read → Saying) {read : List Read} → ((front : List Read) → says front ≡ same front) → EndsInRead says read → EndsInRead same read
+ends-as says same is (front, last, e, over) = (front, last, e, ap (λ (x : Saying). (takes_read last x).over) (sym (is front)) ∙ over)
+
+-- what else may stop it, and what is said in another way
+pub asks-with : (says same : List Read → Saying) (read : List Read) (count : ℕ) (stopped wider : Type 0) → ((front : List Read) → says front ≡ same front) → (stopped → wider) → AsksBehind says read count stopped → AsksBehind same read count wider
+asks-with says same read count stopped wider is brings (inl (each, unended)) = inl (each, λ h. unended (ends-as same says (λ front. sym (is front)) h))
+asks-with says same read count stopped wider is brings (inr (but_last, inl ended)) = inr (but_last, inl (ends-as says same is ended))
+asks-with says same read count stopped wider is brings (inr (but_last, inr stop)) = inr (but_last, inr (brings stop))
+
 -- ---- turns
 
 unused : (n : ℕ) → 0 < n → is_used_up (Some n) ≡ false
@@ -111,6 +138,7 @@ pub record IsFollowing (s : Saying) (t turns : ℕ) (kept : KeptClient) (message
   pub reads : TellsMore given given_now read
   pub moments : TellsMore clock clock_now asked
   pub open_before : IsOpenBefore s t read asked
+  pub unended : EndsInRead (λ front. said_after s t front asked) read → ⊥
   pub out : TookAll printed printed_now (text_of s) (text_of so_far)
   pub wire : TookAll sent_to sent_to_now s.wire so_far.wire
 
@@ -131,6 +159,7 @@ following-begins turns start messages reads moments out wire s t w is = record {
   reads = tells-none reads;
   moments = tells-none moments;
   open_before = λ front last e. absurd (snoc-none front last e);
+  unended = λ h. snoc-none h.0 h.1 h.2;
   out = took-nothing out (text_of s);
   wire = took-nothing wire s.wire;
 }
@@ -148,44 +177,66 @@ module _ (s : Saying) (t left : ℕ) (kept : KeptClient) (messages : Option ℕ)
     open-here = f.is ∙ turns-left f.so_far going (omega (arith, some, f.left))
 
     -- the reads, the moments, and the one that came last
-    record Further (r : Read) (reads_then : Option (List Read)) (moments_then : Option (List ℕ)) (P : Saying → Type 0) : Type 0 where
+    record Further (r : Read) (moments_then : Option (List ℕ)) (stopped : Type 0) (P : Saying → Type 0) : Type 0 where
       pub asked : List ℕ
       pub moment : ℕ
       pub told : TellsMore moments moments_then asked
+      pub often : AsksBehind (λ front. said_after s t front asked) (f.read ++ r ∷ []) (length asked) stopped
       pub is : said_after s t (f.read ++ r ∷ []) asked ≡ spends_turn (at_moment moment (takes_read r f.so_far))
       pub open_before : IsOpenBefore s t (f.read ++ r ∷ []) asked
       pub holds : P (at_moment moment (takes_read r f.so_far))
 
-    further : (r : Read) (reads_then : Option (List Read)) (moments_then : Option (List ℕ)) (P : Saying → Type 0) (asked : List ℕ) (u : ℕ) → TellsMore moments moments_then asked
-        → paired t (f.read ++ r ∷ []) asked ≡ paired t f.read f.asked ++ (r, u) ∷ [] → paired t f.read asked ≡ paired t f.read f.asked → P (at_moment u (takes_read r f.so_far)) → Further r reads_then moments_then P
-    further r reads_then moments_then P asked u told pairs front holds = record {
+    further : (r : Read) (moments_then : Option (List ℕ)) (stopped : Type 0) (P : Saying → Type 0) (asked : List ℕ) (u : ℕ) → TellsMore moments moments_then asked
+        → paired t (f.read ++ r ∷ []) asked ≡ paired t f.read f.asked ++ (r, u) ∷ [] → paired t f.read asked ≡ paired t f.read f.asked → AsksBehind (λ front. said_after s t front asked) (f.read ++ r ∷ []) (length asked) stopped
+        → P (at_moment u (takes_read r f.so_far)) → Further r moments_then stopped P
+    further r moments_then stopped P asked u told pairs front often holds = record {
       asked = asked;
       moment = u;
       told = told;
+      often = often;
       is = ap (fold turn (ends_without_turns s)) pairs ∙ fold-append turn (ends_without_turns s) (paired t f.read f.asked) ((r, u) ∷ []) ∙ ap (λ (x : Saying). turn x (r, u)) open-here ∙ ap (turn_by f.so_far (r, u)) going;
       open_before = λ before last e.
           ap (λ (l : List Read). (said_after s t l asked).over) (sym (snoc-front f.read before r last e)) ∙ ap (λ (l : List (Read × ℕ)). (fold turn (ends_without_turns s) l).over) front ∙ ap (λ (x : Saying). x.over) open-here ∙ going;
       holds = holds;
     }
 
-    further-on : (r : Read) (reads_then : Option (List Read)) (moments_then : Option (List ℕ)) (P : Saying → Type 0) (u : ℕ) → TellsMore moments_now moments_then (u ∷ []) → P (at_moment u (takes_read r f.so_far)) → Further r reads_then moments_then P
-    further-on r reads_then moments_then P u told holds =
-        further r reads_then moments_then P (f.asked ++ u ∷ []) u (tells-more moments moments_now moments_then f.asked (u ∷ []) f.moments told) (paired-more t f.read f.asked r u f.together) (paired-unread t f.read f.asked u f.together) holds
+    -- what was said before the read, with a further moment
+    with-moment : (u : ℕ) → said_after s t f.read (f.asked ++ u ∷ []) ≡ f.so_far
+    with-moment u = ap (fold turn (ends_without_turns s)) (paired-unread t f.read f.asked u f.together) ∙ open-here
 
-    further-some : (r : Read) (reads_then : Option (List Read)) (moments_then : Option (List ℕ)) (P : Saying → Type 0) → AtSome moments_now moments_then (λ u. P (at_moment u (takes_read r f.so_far))) → Further r reads_then moments_then P
-    further-some r reads_then moments_then P (inl same) =
-        further r reads_then moments_then P f.asked (last_of t f.asked) (subst (λ (o : Option (List ℕ)). TellsMore moments o f.asked) (sym same.0) f.moments) (paired-last t f.read f.asked r f.together) refl (same.1 (last_of t f.asked))
-    further-some r reads_then moments_then P (inr one) = further-on r reads_then moments_then P one.0 one.1 one.2
+    unended-on : (r : Read) (u : ℕ) → (takes_read r f.so_far).over ≡ false → EndsInRead (λ front. said_after s t front (f.asked ++ u ∷ [])) (f.read ++ r ∷ []) → ⊥
+    unended-on r u still = not-in-read (λ front. said_after s t front (f.asked ++ u ∷ [])) f.read r f.so_far (with-moment u) still
+
+    together-on : (r : Read) (u : ℕ) → length (f.asked ++ u ∷ []) ≡ length (f.read ++ r ∷ [])
+    together-on r u = omega (arith, f.together, length-append f.read (r ∷ []), length-append f.asked (u ∷ []))
+
+    further-on : (r : Read) (moments_then : Option (List ℕ)) (stopped : Type 0) (P : Saying → Type 0) (u : ℕ) → TellsMore moments_now moments_then (u ∷ []) → (takes_read r f.so_far).over ≡ false
+        → P (at_moment u (takes_read r f.so_far)) → Further r moments_then stopped P
+    further-on r moments_then stopped P u told still holds =
+        further r moments_then stopped P (f.asked ++ u ∷ []) u (tells-more moments moments_now moments_then f.asked (u ∷ []) f.moments told) (paired-more t f.read f.asked r u f.together) (paired-unread t f.read f.asked u f.together)
+        (inl (together-on r u, unended-on r u still)) holds
+
+    -- an ending that was said in the read, or what stopped it there
+    often-but-last : (r : Read) (stopped : Type 0) → ((takes_read r f.so_far).over ≡ true) ⊎ stopped → AsksBehind (λ front. said_after s t front f.asked) (f.read ++ r ∷ []) (length f.asked) stopped
+    often-but-last r stopped (inl over) = inr (one-more f.read r (length f.asked) (sym f.together), inl (f.read, r, refl, ap (λ (x : Saying). (takes_read r x).over) open-here ∙ over))
+    often-but-last r stopped (inr stop) = inr (one-more f.read r (length f.asked) (sym f.together), inr stop)
+
+    further-some : (r : Read) (moments_then : Option (List ℕ)) (stopped : Type 0) (P : Saying → Type 0) → AtSome (takes_read r f.so_far).over stopped moments_now moments_then (λ u. P (at_moment u (takes_read r f.so_far)))
+        → Further r moments_then stopped P
+    further-some r moments_then stopped P (inl same) =
+        further r moments_then stopped P f.asked (last_of t f.asked) (subst (λ (o : Option (List ℕ)). TellsMore moments o f.asked) (sym same.0) f.moments) (paired-last t f.read f.asked r f.together) refl
+        (often-but-last r stopped same.1) (same.2 (last_of t f.asked))
+    further-some r moments_then stopped P (inr one) = further-on r moments_then stopped P one.1 one.2 one.0 one.3
 
     module _ (later : KeptClient) (messages_then : Option ℕ) (reads_then : Option (List Read)) (moments_then out_then wire_then : Option (List ℕ)) where
       reads-told : (r : Read) → TellsMore reads_now reads_then (r ∷ []) → TellsMore reads reads_then (f.read ++ r ∷ [])
       reads-told r told = tells-more reads reads_now reads_then f.read (r ∷ []) f.reads told
 
       -- an ending
-      pub is-ended : {A : Type 0} (done : A) → Heard reads_now reads_then moments_now moments_then f.so_far (λ end. Turned f.so_far end later messages_then out_now out_then wire_now wire_then true)
+      pub is-ended : {A : Type 0} (done : A) → Heard ⊥ reads_now reads_then moments_now moments_then f.so_far (λ end. Turned f.so_far end later messages_then out_now out_then wire_now wire_then true)
           → Followed {A = A} s t reads reads_then moments moments_then out out_then wire wire_then (Ok done)
       is-ended done h =
-          let g = further-some h.0 reads_then moments_then (λ end. Turned f.so_far end later messages_then out_now out_then wire_now wire_then true) h.2 in
+          let g = further-some h.0 moments_then ⊥ (λ end. Turned f.so_far end later messages_then out_now out_then wire_now wire_then true) h.2 in
           let e = at_moment g.moment (takes_read h.0 f.so_far) in
           let spent : Saying = record e { turns_left = e.turns_left - 1 } in
           let end : said_after s t (f.read ++ h.0 ∷ []) g.asked ≡ spent = g.is ∙ turns-over spent (sym g.holds.over) in
@@ -195,6 +246,7 @@ module _ (s : Saying) (t left : ℕ) (kept : KeptClient) (messages : Option ℕ)
             reads = reads-told h.0 h.1;
             moments = g.told;
             open_before = g.open_before;
+            often = g.often;
             ends = subst (λ (x : Saying). IsDone (text_of s) s.wire x out out_then wire wire_then) (sym end) (record {
               over = sym g.holds.over;
               out = took-both out out_now out_then (text_of s) (text_of f.so_far) (text_of e) f.out g.holds.out;
@@ -203,9 +255,9 @@ module _ (s : Saying) (t left : ℕ) (kept : KeptClient) (messages : Option ℕ)
           }
 
       -- want of memory, or a failed write
-      stops : (r : Read) (g : Further r reads_then moments_then (λ end. Stopped (text_of f.so_far) f.so_far.wire end out_now out_then wire_now wire_then))
+      stops : (r : Read) (stopped : Type 0) (g : Further r moments_then stopped (λ end. Stopped (text_of f.so_far) f.so_far.wire end out_now out_then wire_now wire_then))
           → Stopped (text_of s) s.wire (said_after s t (f.read ++ r ∷ []) g.asked) out out_then wire wire_then
-      stops r g =
+      stops r stopped g =
           let e = at_moment g.moment (takes_read r f.so_far) in
           let w = grows-spent e in
           let x = spends_turn e in
@@ -214,18 +266,19 @@ module _ (s : Saying) (t left : ℕ) (kept : KeptClient) (messages : Option ℕ)
             wire = front-wider wire wire_then s.wire e.wire x.wire (took-all-then wire wire_now wire_then s.wire f.so_far.wire e.wire f.wire g.holds.wire) w.wire;
           })
 
-      stopped-at : {A : Type 0} (result : Result A Fault) → Heard reads_now reads_then moments_now moments_then f.so_far (λ end. Stopped (text_of f.so_far) f.so_far.wire end out_now out_then wire_now wire_then)
+      stopped-at : {A : Type 0} (result : Result A Fault) → Heard (StopsWithin result) reads_now reads_then moments_now moments_then f.so_far (λ end. Stopped (text_of f.so_far) f.so_far.wire end out_now out_then wire_now wire_then)
           → ((x : Saying) → Stopped (text_of s) s.wire x out out_then wire wire_then → EndsAs (text_of s) s.wire x out out_then wire wire_then result)
           → Followed s t reads reads_then moments moments_then out out_then wire wire_then result
-      stopped-at result h ends-as =
-          let g = further-some h.0 reads_then moments_then (λ end. Stopped (text_of f.so_far) f.so_far.wire end out_now out_then wire_now wire_then) h.2 in
+      stopped-at result h ends =
+          let g = further-some h.0 moments_then (StopsWithin result) (λ end. Stopped (text_of f.so_far) f.so_far.wire end out_now out_then wire_now wire_then) h.2 in
           record {
             read = f.read ++ h.0 ∷ [];
             asked = g.asked;
             reads = reads-told h.0 h.1;
             moments = g.told;
             open_before = g.open_before;
-            ends = ends-as (said_after s t (f.read ++ h.0 ∷ []) g.asked) (stops h.0 g);
+            often = g.often;
+            ends = ends (said_after s t (f.read ++ h.0 ∷ []) g.asked) (stops h.0 (StopsWithin result) g);
           }
 
       -- a read that failed
@@ -236,6 +289,7 @@ module _ (s : Saying) (t left : ℕ) (kept : KeptClient) (messages : Option ℕ)
         reads = subst (TellsMore reads reads_then) (append-nil f.read) (tells-more reads reads_now reads_then f.read [] f.reads u.reads);
         moments = subst (λ (o : Option (List ℕ)). TellsMore moments o f.asked) (sym u.moments) f.moments;
         open_before = f.open_before;
+        often = inl (sym f.together, f.unended);
         ends = subst (λ (x : Saying). IsUnread (text_of s) s.wire x out out_then wire wire_then) (sym open-here) (record {
           going = going;
           out = subst (λ (o : Option (List ℕ)). TookAll out o (text_of s) (text_of f.so_far)) (sym u.out) f.out;
@@ -254,14 +308,15 @@ module _ (s : Saying) (t left : ℕ) (kept : KeptClient) (messages : Option ℕ)
           → IsFollowing s t fewer later messages_then reads reads_then moments moments_then out out_then wire wire_then
       unfolding further-on further
       is-going fewer less h =
-          let g = further-on h.0 reads_then moments_then (λ end. Turned f.so_far end later messages_then out_now out_then wire_now wire_then false) h.2 h.3 h.4 in
           let e = at_moment h.2 (takes_read h.0 f.so_far) in
+          let still = going-before h.2 (takes_read h.0 f.so_far) (sym h.4.over) in
+          let g = further-on h.0 moments_then ⊥ (λ end. Turned f.so_far end later messages_then out_now out_then wire_now wire_then false) h.2 h.3 still h.4 in
           let w = h.4.waits (sym h.4.over) in
           record {
             so_far = record e { turns_left = e.turns_left - 1 };
             read = f.read ++ h.0 ∷ [];
             asked = f.asked ++ h.2 ∷ [];
-            together = omega (arith, f.together, length-append f.read (h.0 ∷ []), length-append f.asked (h.2 ∷ []));
+            together = sym (together-on h.0 h.2);
             is = g.is;
             waits = record {
               stands = record { connection = w.stands.connection; there = w.stands.there; bare = w.stands.bare; stands = w.stands.stands; octets = w.stands.octets; going = w.stands.going; messages_left = w.stands.messages_left };
@@ -271,6 +326,7 @@ module _ (s : Saying) (t left : ℕ) (kept : KeptClient) (messages : Option ℕ)
             reads = reads-told h.0 h.1;
             moments = g.told;
             open_before = g.open_before;
+            unended = unended-on h.0 h.2 still;
             out = took-both out out_now out_then (text_of s) (text_of f.so_far) (text_of e) f.out h.4.out;
             wire = took-both wire wire_now wire_then s.wire f.so_far.wire e.wire f.wire h.4.wire;
           }
@@ -290,6 +346,7 @@ module _ (s : Saying) (t left : ℕ) (kept : KeptClient) (messages : Option ℕ)
       reads = f.reads;
       moments = f.moments;
       open_before = f.open_before;
+      often = inl (sym f.together, f.unended);
       ends = subst (λ (x : Saying). IsDone (text_of s) s.wire x out out_then wire wire_now) (sym ended-here) (record {
         over = refl;
         out = took-both out out_now out_then (text_of s) (text_of f.so_far) (text_of (ends_with (codes "ended turns") f.so_far)) f.out (took-text out_now out_then (text_of f.so_far) text (text_of (ends_with (codes "ended turns") f.so_far)) said behind);
@@ -304,6 +361,7 @@ module _ (s : Saying) (t left : ℕ) (kept : KeptClient) (messages : Option ℕ)
       reads = f.reads;
       moments = f.moments;
       open_before = f.open_before;
+      often = inl (sym f.together, f.unended);
       ends = subst (λ (x : Saying). Stopped (text_of s) s.wire x out out_then wire wire_now) (sym ended-here) (record {
         out = took-all-then out out_now out_then (text_of s) (text_of f.so_far) (text_of (ends_with (codes "ended turns") f.so_far)) f.out (took-part out_now out_then (text_of f.so_far) text (text_of (ends_with (codes "ended turns") f.so_far)) took behind);
         wire = all-is-front wire wire_now s.wire f.so_far.wire f.wire;

@@ -1,8 +1,8 @@
 -- A subscriber from its connection to its end.
 --     converses-starved, converses-unsent, converses-counted, converses-unspoken, converses-followed      how it ends
 --     subscribed-done, subscribed-unread, subscribed-starved, subscribed-unwritten      with what a fault says
-use Rattle.std.proofs.Common.{◌≡◌, ◌⊎◌, inl, inr, ℕ, true, false, Option, Result, Ok, Err, List, [], ◌∷◌, ◌++◌, refl, sym, ◌∙◌, ap, subst}
-use Rattle.std.specs.Prelude.{codes, fold, OnOk, OnErr, IsErrOf}
+use Rattle.std.proofs.Common.{◌≡◌, ◌⊎◌, inl, inr, ℕ, true, false, Option, Result, Ok, Err, List, [], ◌∷◌, ◌++◌, length, refl, sym, ◌∙◌, ap, subst}
+use Rattle.std.specs.Prelude.{⊤, codes, fold, OnOk, OnErr, IsErrOf}
 use Rattle.std.specs.Io.KnownBytes.{append_known}
 use Rattle.push_base.specs.Line.{Read}
 use Rattle.push_base.specs.Told.{TellsMore}
@@ -17,12 +17,12 @@ use Rattle.subscriber.specs.declared.fault.Fault.{Fault}
 use Rattle.subscriber.specs.declared.fault.Fault.TheVariants as faults
 use Rattle.subscriber.specs.Said.{Saying, text_of, ends_with, is_used_up, counted, writes_out, ends_without_turns, turn, connected_at, begun, paired, saying}
 use Rattle.subscriber.specs.Standing.{Begins}
-use Rattle.subscriber.specs.Turning.{Grows, TookAll, Stopped, IsDone, EndsAs, Follows}
-use Rattle.subscriber.specs.Subscribed.{Conversed, TellsSaying, Whole, Unread, Starved, AnswersSaying, IsSent, Subscribed}
+use Rattle.subscriber.specs.Turning.{StopsWithin, said_after, Grows, TookAll, Stopped, IsDone, EndsAs, Follows}
+use Rattle.subscriber.specs.Subscribed.{Conversed, TellsSaying, Whole, Unread, Starved, AnswersSaying, AsksClock, MayStopWithin, IsSent, Subscribed}
 use Rattle.subscriber.proofs.MessageTurns.{ends-at}
 use Rattle.subscriber.proofs.Growing.{front-refl, front-behind, grows-trans, grows-ends_at, grows-without_turns}
 use Rattle.subscriber.proofs.OneTurn.{is_write, took-none, took-part, all-is-front, front-wider, took-both, took-all-then}
-use Rattle.subscriber.proofs.AllReads.{no_read, no_memory, tells-none, tells-more, snoc-none, turns-over}
+use Rattle.subscriber.proofs.AllReads.{asks-with, no_read, no_memory, tells-none, tells-more, snoc-none, turns-over}
 
 -- ---- before the first read
 
@@ -43,6 +43,7 @@ module _ (configuration : Subscribing) (t : ℕ) where
       reads = tells-none reads;
       moments = told;
       open_before = λ front last e. absurd (snoc-none front last e);
+      often = inl (refl, λ h. snoc-none h.0 h.1 h.2);
       ends = ends;
     }
 
@@ -111,6 +112,7 @@ module _ (configuration : Subscribing) (t : ℕ) where
               reads = f.reads;
               moments = tells-more moments moments_now moments_then (t ∷ []) f.asked told f.moments;
               open_before = λ front last e. ap (λ (x : Saying). x.over) (sym (is front)) ∙ f.open_before front last e;
+              often = asks-with (λ front. said_after asked_out t front f.asked) (λ front. saying configuration front (t ∷ f.asked)) f.read (length f.asked) (StopsWithin result) (StopsWithin result) is (λ stop. stop) f.often;
               ends = behind (saying configuration f.read (t ∷ f.asked)) out_now wire_then result (subst (λ (x : Saying). EndsAs [] asked_out.wire x out out_now wire_now wire_then result) (is f.read) f.ends);
             }
 
@@ -128,6 +130,7 @@ module _ (cause : Type 0) (configuration : Subscribing) (reads reads_now : Optio
     reads = c.reads;
     moments = c.moments;
     open_before = c.open_before;
+    often = c.often;
     out = (c.ends.out.0, c.ends.out.1, inl (Whole c.ends.over refl c.ends.out.2));
     wire = (c.ends.wire.0, c.ends.wire.1, c.ends.wire.2);
   }
@@ -139,6 +142,7 @@ module _ (cause : Type 0) (configuration : Subscribing) (reads reads_now : Optio
     reads = c.reads;
     moments = c.moments;
     open_before = c.open_before;
+    often = c.often;
     out = (c.ends.out.0, c.ends.out.1, inr (refl, inl c.ends.out.2));
     wire = (c.ends.wire.0, c.ends.wire.1, c.ends.wire.2);
   }
@@ -163,6 +167,17 @@ module _ (cause : Type 0) (configuration : Subscribing) (reads reads_now : Optio
         by (inl full) = subst (λ (o : Outcome). IsSent s o wrote) (sym full.0) sent
         by (inr cut) = subst (λ (o : Outcome). IsSent s o wrote) (sym cut.0) front
 
+    often-then : (read : List Read) (asked : List ℕ) → AsksClock configuration read asked (MayStopWithin outcome) → AsksClock configuration read asked (MayStopWithin result)
+    often-then read asked often = by said.2
+      where
+        widened : (moments : List ℕ) → AsksClock configuration read moments (MayStopWithin outcome) → AsksClock configuration read moments ⊤
+        widened [] none = none
+        widened (t ∷ moments) often = asks-with (λ front. saying configuration front (t ∷ moments)) (λ front. saying configuration front (t ∷ moments)) read (length moments) (MayStopWithin outcome) ⊤ (λ front. refl) (λ any. tt) often
+
+        by : ((result ≡ outcome) × (said.0 ≡ text)) ⊎ ((result ≡ outcomes.WriteFault) × IsFrontOf said.0 text) → AsksClock configuration read asked (MayStopWithin result)
+        by (inl full) = subst (λ (o : Outcome). AsksClock configuration read asked (MayStopWithin o)) (sym full.0) often
+        by (inr cut) = subst (λ (o : Outcome). AsksClock configuration read asked (MayStopWithin o)) (sym cut.0) (widened asked often)
+
   module _ (result : Outcome) (text : List ℕ) (out_then : Option (List ℕ)) where
     pub subscribed-unread : {A : Type 0} → cause → text ≡ line (codes "read fault") → Conversed {A = A} configuration reads reads_now moments moments_now out out_now wire wire_now (Err faults.Read) → Said out_now out_then outcomes.ReadFault text result
         → Subscribed cause configuration reads reads_now moments moments_now out out_then wire wire_now result
@@ -175,6 +190,7 @@ module _ (cause : Type 0) (configuration : Subscribing) (reads reads_now : Optio
           reads = c.reads;
           moments = c.moments;
           open_before = c.open_before;
+          often = often-then s outcomes.ReadFault result text out_then said c.read c.asked c.often;
           out = told-behind s outcomes.ReadFault result text out_then said c.ends.out.0 (c.ends.out.0 ++ text) c.ends.out.1 refl (Unread why c.ends.going refl (λ i. c.ends.out.2 i ++ text_is i));
           wire = (c.ends.wire.0, c.ends.wire.1, sent-front s outcomes.ReadFault result text out_then said c.ends.wire.0 sent sent);
         }
@@ -189,6 +205,7 @@ module _ (cause : Type 0) (configuration : Subscribing) (reads reads_now : Optio
           reads = c.reads;
           moments = c.moments;
           open_before = c.open_before;
+          often = often-then s outcomes.NoMemory result text out_then said c.read c.asked c.often;
           out = told-behind s outcomes.NoMemory result text out_then said c.ends.out.0 (c.ends.out.0 ++ text) c.ends.out.1 refl (Starved c.ends.out.0 c.ends.out.2 refl (ap (λ (l : List ℕ). c.ends.out.0 ++ l) text_is));
           wire = (c.ends.wire.0, c.ends.wire.1, sent-front s outcomes.NoMemory result text out_then said c.ends.wire.0 c.ends.wire.2 c.ends.wire.2);
         }

@@ -1,5 +1,6 @@
 -- What was said and sent stays in front of what is said and sent later.
 --     grows-read, grows-moment      behind a read, behind a moment
+--     moment-over, going-before      where an ending was said, no moment changes anything
 --     wire-read, turns-read      no read puts octets onto the wire, or spends a turn
 --     front-refl, front-behind, front-trans      fronts of lists
 use Rattle.std.proofs.Common.{◌≡◌, ℕ, ◌-◌, Bool, true, false, Option, Some, None, List, [], ◌∷◌, ◌++◌, refl, sym, ◌∙◌, ap, subst, append_assoc, append-nil}
@@ -160,6 +161,14 @@ grows-moment t s = by s.over
 -- what was over stays
 pub moment-over : (t : ℕ) (s : Saying) → s.over ≡ true → at_moment t s ≡ s
 moment-over t s e = ap (moved_by t s) e
+
+-- what goes on behind a moment went on before it
+pub going-before : (t : ℕ) (s : Saying) → (at_moment t s).over ≡ false → s.over ≡ false
+going-before t s going = by s.over refl
+  where
+    by : (over : Bool) → s.over ≡ over → s.over ≡ false
+    by true e = sym (ap (λ (x : Saying). x.over) (moment-over t s e)) ∙ going
+    by false e = e
 
 -- no moment spends a turn
 turns-closing : (s : Saying) → (closed_by_moment s).turns_left ≡ s.turns_left

@@ -80,6 +80,7 @@ module _ (kept later : KeptClient) (messages messages_now : Option ℕ) (reads r
         told,
         inl (
           refl,
+          inr tt,
           λ t. (let h = grows-moment t x in record {
             out = took-none out (text_of s) (text_of (at_moment t x)) (front-trans (text_of s) (text_of x) (text_of (at_moment t x)) g.text h.text);
             wire = took-none wire s.wire (at_moment t x).wire (front-trans s.wire x.wire (at_moment t x).wire g.wire h.wire);
@@ -98,6 +99,7 @@ module _ (kept later : KeptClient) (messages messages_now : Option ℕ) (reads r
           told,
           inl (
             refl,
+            inr tt,
             λ t. (let m = grows-moment t x in record {
               out = front-wider out out_now (text_of s) (text_of x) (text_of (at_moment t x)) (took-part out out_now (text_of s) text (text_of x) took h.says) m.text;
               wire = took-none wire s.wire (at_moment t x).wire (front-trans s.wire x.wire (at_moment t x).wire g.wire m.wire);
@@ -118,6 +120,7 @@ module _ (kept between : KeptClient) (messages messages_now : Option ℕ) (reads
         told,
         inl (
           refl,
+          inl (sym h.ends ∙ is),
           λ t. subst (λ (e : Saying). Turned s e between messages_now out out_between wire wire true) (sym (moment-over t x (sym h.ends ∙ is))) (record {
             out = took-text out out_between (text_of s) text (text_of x) said h.says;
             wire = subst (TookAll wire wire s.wire) (sym (wire-read read s)) (took-nothing wire s.wire);
@@ -128,10 +131,15 @@ module _ (kept between : KeptClient) (messages messages_now : Option ℕ) (reads
       )
 
   module _ (over : Bool) (going : over ≡ false) (hears : Hears kept messages read between messages_now text over) (moments_now : Option (List ℕ)) (t : ℕ) (asked : TellsMore moments moments_now (t ∷ [])) where
+    -- no ending was said in the read
+    unended : (s : Saying) → Waits s kept messages → (takes_read read s).over ≡ false
+    unfolding Hears
+    unended s w = sym (hears s w).ends ∙ going
+
     -- the client waits before its moment
     waiting : (s : Saying) → Waits s kept messages → Waits (takes_read read s) between messages_now
     unfolding Hears
-    waiting s w = (let h = hears s w in h.waits (sym h.ends ∙ going))
+    waiting s w = (hears s w).waits (unended s w)
 
     before : (s : Saying) → Waits s kept messages → TookAll out out_between (text_of s) (text_of (takes_read read s))
     unfolding Hears
@@ -149,6 +157,7 @@ module _ (kept between : KeptClient) (messages messages_now : Option ℕ) (reads
           read,
           told,
           inr (
+            unended s w,
             t,
             asked,
             record {
@@ -169,6 +178,7 @@ module _ (kept between : KeptClient) (messages messages_now : Option ℕ) (reads
             read,
             told,
             inr (
+              unended s w,
               t,
               asked,
               record {
@@ -195,6 +205,7 @@ module _ (kept between : KeptClient) (messages messages_now : Option ℕ) (reads
               read,
               told,
               inr (
+                unended s w,
                 t,
                 asked,
                 record {
@@ -222,5 +233,5 @@ module _ (kept between : KeptClient) (messages messages_now : Option ℕ) (reads
         turns-passed said_then s w = by over_then (turned s w said_then)
           where
             by : (result : Bool) → Turned s (at_moment t (takes_read read s)) later messages_now out out_now wire wire_now result → TurnsAs s later messages_now reads reads_now moments moments_now out out_now wire wire_now (Ok result)
-            by true h = (read, told, inr (t, asked, h))
+            by true h = (read, told, inr (unended s w, t, asked, h))
             by false h = (read, told, t, asked, h)

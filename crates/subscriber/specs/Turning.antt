@@ -1,9 +1,10 @@
 -- What a subscriber does with its line, its wire, its clock and its output.
 --     Grows s later      what was said and sent is a front of what is said and sent later
---     AtSome before now P      the clock was asked once, at a moment of which P holds; or it wasn't, and P holds of each
+--     AsksBehind says read count stopped      how often the clock was asked behind reads
+--     AtSome over stopped before now P      the clock was asked once, at a moment of which P holds; or it wasn't, and P holds of each
 --     Turns      one read, and what follows it
 --     Follows      reads until an ending is said
-use Rattle.std.specs.Prelude.{◌≡◌, ◌⊎◌, ℕ, Bool, true, false, List, [], ◌∷◌, ◌++◌, fold, Option, Result, Ok, Err}
+use Rattle.std.specs.Prelude.{◌≡◌, ◌⊎◌, ⊤, ℕ, ◌+◌, Bool, true, false, List, [], ◌∷◌, ◌++◌, length, fold, Option, Result, Ok, Err}
 use Rattle.push_base.specs.Line.{Read}
 use Rattle.push_base.specs.Told.{TellsMore}
 use Rattle.pushclient.specs.Rule.{KeptClient}
@@ -18,8 +19,29 @@ pub record Grows (s later : Saying) : Type 0 where
   pub text : IsFrontOf (text_of s) (text_of later)
   pub wire : IsFrontOf s.wire later.wire
 
-abbrev pub AtSome : Option (List ℕ) → Option (List ℕ) → (ℕ → Type 0) → Type 0
-AtSome before now P = ((now ≡ before) × ((t : ℕ) → P t)) ⊎ ((t : ℕ) × TellsMore before now (t ∷ []) × P t)
+-- ---- how often the clock is asked
+
+-- the messages of the last read said the ending, where `says front` is what was said before it
+abbrev pub EndsInRead : (List Read → Saying) → List Read → Type 0
+EndsInRead says read = (front : List Read) × (last : Read) × (read ≡ front ++ last ∷ []) × ((takes_read last (says front)).over ≡ true)
+
+-- a failed write and want of memory may come between a read and its moment
+abbrev pub StopsWithin : {A : Type 0} → Result A Fault → Type 0
+StopsWithin (Ok done) = ⊥
+StopsWithin (Err faults.Read) = ⊥
+StopsWithin (Err faults.Write) = ⊤
+StopsWithin (Err faults.NoMemory) = ⊤
+
+-- once behind each read; but not behind the last, where its messages said the ending, or all stopped before
+abbrev pub AsksBehind : (List Read → Saying) → List Read → ℕ → Type 0 → Type 0
+AsksBehind says read count stopped = ((count ≡ length read) × (EndsInRead says read → ⊥)) ⊎ ((count + 1 ≡ length read) × (EndsInRead says read ⊎ stopped))
+
+-- behind one read, of which an ending was said or not
+abbrev pub AtSome : Bool → Type 0 → Option (List ℕ) → Option (List ℕ) → (ℕ → Type 0) → Type 0
+AtSome over stopped before now P =
+    ((now ≡ before) × ((over ≡ true) ⊎ stopped) × ((t : ℕ) → P t)) ⊎ ((over ≡ false) × (t : ℕ) × TellsMore before now (t ∷ []) × P t)
+
+-- ---- one turn
 
 -- what an output and a wire took, behind what was said and sent before: all, or a front
 abbrev pub TookAll : Option (List ℕ) → Option (List ℕ) → List ℕ → List ℕ → Type 0
@@ -41,8 +63,9 @@ pub record Stopped (text sent : List ℕ) (end : Saying) (printed printed_now se
   pub wire : TookFront sent_to sent_to_now sent end.wire
 
 -- a read was made, and the client heard it
-abbrev pub Heard : Option (List Read) → Option (List Read) → Option (List ℕ) → Option (List ℕ) → Saying → (Saying → Type 0) → Type 0
-Heard reads reads_now moments moments_now s P = (read : Read) × TellsMore reads reads_now (read ∷ []) × AtSome moments moments_now (λ t. P (at_moment t (takes_read read s)))
+abbrev pub Heard : Type 0 → Option (List Read) → Option (List Read) → Option (List ℕ) → Option (List ℕ) → Saying → (Saying → Type 0) → Type 0
+Heard stopped reads reads_now moments moments_now s P =
+    (read : Read) × TellsMore reads reads_now (read ∷ []) × AtSome (takes_read read s).over stopped moments moments_now (λ t. P (at_moment t (takes_read read s)))
 
 -- and then a moment came
 abbrev pub HeardOn : Option (List Read) → Option (List Read) → Option (List ℕ) → Option (List ℕ) → Saying → (Saying → Type 0) → Type 0
@@ -56,11 +79,11 @@ pub record Unheard (given given_now : Option (List Read)) (clock clock_now print
   pub wire : sent_to_now ≡ sent_to
 
 abbrev pub TurnsAs : Saying → KeptClient → Option ℕ → Option (List Read) → Option (List Read) → Option (List ℕ) → Option (List ℕ) → Option (List ℕ) → Option (List ℕ) → Option (List ℕ) → Option (List ℕ) → Result Bool Fault → Type 0
-TurnsAs s kept messages reads reads_now moments moments_now out out_now wire wire_now (Ok true) = Heard reads reads_now moments moments_now s (λ end. Turned s end kept messages out out_now wire wire_now true)
+TurnsAs s kept messages reads reads_now moments moments_now out out_now wire wire_now (Ok true) = Heard ⊥ reads reads_now moments moments_now s (λ end. Turned s end kept messages out out_now wire wire_now true)
 TurnsAs s kept messages reads reads_now moments moments_now out out_now wire wire_now (Ok false) = HeardOn reads reads_now moments moments_now s (λ end. Turned s end kept messages out out_now wire wire_now false)
 TurnsAs s kept messages reads reads_now moments moments_now out out_now wire wire_now (Err faults.Read) = Unheard reads reads_now moments moments_now out out_now wire wire_now
-TurnsAs s kept messages reads reads_now moments moments_now out out_now wire wire_now (Err faults.Write) = Heard reads reads_now moments moments_now s (λ end. Stopped (text_of s) s.wire end out out_now wire wire_now)
-TurnsAs s kept messages reads reads_now moments moments_now out out_now wire wire_now (Err faults.NoMemory) = Heard reads reads_now moments moments_now s (λ end. Stopped (text_of s) s.wire end out out_now wire wire_now)
+TurnsAs s kept messages reads reads_now moments moments_now out out_now wire wire_now (Err faults.Write) = Heard ⊤ reads reads_now moments moments_now s (λ end. Stopped (text_of s) s.wire end out out_now wire wire_now)
+TurnsAs s kept messages reads reads_now moments moments_now out out_now wire wire_now (Err faults.NoMemory) = Heard ⊤ reads reads_now moments moments_now s (λ end. Stopped (text_of s) s.wire end out out_now wire wire_now)
 
 -- of all that may have been said before
 unfoldable pub Turns : KeptClient → Option ℕ → KeptClient → Option ℕ → Option (List Read) → Option (List Read) → Option (List ℕ) → Option (List ℕ) → Option (List ℕ) → Option (List ℕ) → Option (List ℕ) → Option (List ℕ) → Result Bool Fault → Type 0
@@ -102,6 +125,7 @@ pub record Followed {A : Type 0} (s : Saying) (t : ℕ) (given given_now : Optio
   pub reads : TellsMore given given_now read
   pub moments : TellsMore clock clock_now asked
   pub open_before : IsOpenBefore s t read asked
+  pub often : AsksBehind (λ front. said_after s t front asked) read (length asked) (StopsWithin result)
   pub ends : EndsAs (text_of s) s.wire (said_after s t read asked) printed printed_now sent_to sent_to_now result
 
 unfoldable pub Follows : {A : Type 0} → ℕ → KeptClient → Option ℕ → Option (List Read) → Option (List Read) → Option (List ℕ) → Option (List ℕ) → Option (List ℕ) → Option (List ℕ) → Option (List ℕ) → Option (List ℕ) → Result A Fault → Type 0

@@ -1,15 +1,19 @@
 -- An entry of the hub that is kept is the entry of the plain one.
---     session-entered      the names that the entry touches wait in a session
+--     session-entered      the names that the entry touches wait in a session, with old values
 --     entered-stands      the hub after the entry
-use Rattle.std.proofs.Common.{◌≡◌, ℕ, ◌+◌, ◌<◌, ◌≤◌, List, [], ◌∷◌, ◌++◌, map, filter, Option, sym, ◌∙◌, ap, subst, refl, arith}
+use Rattle.std.proofs.Common.{◌≡◌, ℕ, ◌+◌, ◌<◌, ◌≤◌, true, List, [], ◌∷◌, ◌++◌, filter, Option, sym, ◌∙◌, ap, subst, refl, arith}
 use Rattle.std.proofs.lemmas.List.{length-append, length-map}
 use Rattle.std.specs.Prelude.{fold, is_some, IsSome, IsTrue}
 use Rattle.std.specs.List.{AllByRecursion, AllZip}
 use Rattle.dnsname.specs.Names.{Labels}
-use Rattle.rrset.specs.RecordSet.{at_name, changes}
+use Rattle.rrset.specs.RecordSet.{changes, shown_at}
+use Rattle.rrset.specs.declared.record.Key.{Key}
+use Rattle.rrset.proofs.OldValues.{told, first_before, first-filter, first-changes}
+use Rattle.rrset.proofs.Places.{all_filter}
+use Rattle.subscr.specs.Asked.{Asked, wants}
 use Rattle.rrset.specs.declared.record.Changed.{Changed}
 use Rattle.rrset.specs.declared.record.Question.{Question}
-use Rattle.coalesce.specs.Waiting.{WaitingName}
+use Rattle.coalesce.specs.Waiting.{WaitingName, OldValue, values_of}
 use Rattle.history.specs.AtHome.{AreAtHome}
 use Rattle.history.specs.States.{after, home_of}
 use Rattle.history.specs.declared.entry.Entry.{Entry}
@@ -20,20 +24,24 @@ use Rattle.pushsession.specs.Sessions.{touched, noted}
 use Rattle.pushsession.specs.Subscribing.{is_served}
 use Rattle.zoneupdate.proofs.Filters.{and-left, and-right, and-both}
 use Rattle.pushserver.specs.PlainHubs.{Hub, Session, Queue, enqueued, plain_keeps}
-use Rattle.pushserver.specs.Hubs.{newest, state_now, records_now, entered, all_sessions, max_sessions}
+use Rattle.pushserver.specs.Hubs.{newest, past_of, state_now, records_now, entered, all_sessions, max_sessions}
 use Rattle.pushserver.specs.Giving.{is_served_at}
 use Rattle.pushserver.specs.Rows.{IsTellable}
-use Rattle.pushserver.specs.KeptHubs.{StandsFor, IsCopy}
+use Rattle.pushserver.specs.KeptHubs.{StandsFor, KeepsSent}
 use Rattle.pushserver.proofs.session_steps.Lists.{each-both, each-map}
+use Rattle.pushserver.proofs.session_steps.Names.{AreApart}
 use Rattle.pushserver.proofs.session_steps.Nets.{wants-alike}
+use Rattle.pushserver.proofs.session_steps.OldValues.{sent-keys, sent-whole}
 use Rattle.pushserver.specs.KeptHubs.{queue_of}
 use Rattle.pushserver.specs.SoundHubs.{HasHome}
 use Rattle.pushserver.proofs.session_steps.Parts.{SessionFits, Asks, Waits, reads, writes, of_parts}
 use Rattle.pushserver.proofs.told_rows.Histories.{state_at-last, states-more}
+use Rattle.pushserver.proofs.told_rows.Told.{tellable-told}
 use Rattle.pushserver.proofs.hub_steps.Pairs.{zip-map, all-weaken, distinct-map}
 use Rattle.pushserver.proofs.hub_steps.Standing.{kept_of, Stands, fitting, fits-stand, fits-sound, session-moved}
 use Rattle.pushserver.proofs.hub_steps.Names.{home-after_entry}
-use Rattle.pushserver.proofs.hub_steps.Queued.{queue-fold, copies-fold, points-fold, names-fold}
+use Rattle.pushserver.proofs.hub_steps.Noted.{CanBeKept, Going, LeadBack, can-be-kept}
+use Rattle.pushserver.proofs.hub_steps.Queued.{plain_change, queue-fold, points-fold, names-fold, going-fold}
 
 -- ---- the history with one more
 
@@ -50,10 +58,10 @@ module _ (hub : Hub) (entry : Entry) where
   changed_by = changes (records_now hub) (records_now (longer hub entry))
 
   abbrev pub kept_noted : KeptSession → KeptSession
-  kept_noted session = noted keeping changed_by (records_now hub) (newest hub) session
+  kept_noted session = noted keeping changed_by (newest hub) session
 
   abbrev pub plain_noted : Session → Session
-  plain_noted session = noted (plain_keeps (newest hub)) changed_by (records_now hub) (newest hub) session
+  plain_noted session = noted (plain_keeps (newest hub)) changed_by (newest hub) session
 
   home-stays : AreAtHome (state_now hub) → (name : Labels) → IsSome (home_of (state_now hub) name) → IsSome (home_of (state_now (longer hub entry)) name)
   home-stays at_home name h = subst (λ (o : Option Home). IsSome o) (sym (ap (λ s. home_of s name) (state_now-longer hub entry) ∙ home-after_entry (state_now hub) at_home entry name)) h
@@ -64,47 +72,71 @@ module _ (hub : Hub) (entry : Entry) where
       let home = is_some (home_of (state_now hub) question.name) in
       and-both class (is_some (home_of (state_now (longer hub entry)) question.name)) (and-left class home served) (home-stays at_home question.name (and-right class home served))
 
-  -- a copy of the past stays one
-  copy-longer : (w : WaitingName) → w.point ≤ newest hub → IsCopy hub w → IsCopy (longer hub entry) w
-  copy-longer w within copy = copy ∙ ap (at_name w.name) (sym (records_at-append hub.start hub.history (entry ∷ []) w.point within))
-
   more : newest (longer hub entry) ≡ newest hub + 1
   more = length-append hub.history (entry ∷ [])
 
-  session-entered : AreAtHome (state_now hub) → (k : ℕ × KeptSession) (p : ℕ × Session) → SessionFits hub k p → SessionFits (longer hub entry) (k.0, kept_noted k.1) (p.0, plain_noted p.1)
-  session-entered at_home k p s = of_parts (longer hub entry) (k.0, kept_noted k.1) (p.0, plain_noted p.1) s.stands.number s.sound.below asked waiting (reads hub k p s) (writes hub k p s) s.stands.clocks s.stands.established s.stands.standing
+  -- changes that are asked for lead back to the records before
+  leads-back : (asked : Asked) (q : Key) → wants q asked ≡ true → first_before q (filter (λ c. wants c.key asked) changed_by) (shown_at q (records_now (longer hub entry))) ≡ shown_at q (records_now hub)
+  leads-back asked q wanted = first-filter (λ key. wants key asked) q wanted changed_by (shown_at q (records_now (longer hub entry))) ∙ first-changes q (records_now hub) (records_now (longer hub entry))
+
+  -- old values that tell what was sent go on through the changes that a session asks for
+  begins : (asked : Asked) (w : WaitingName) → w.point < newest hub → KeepsSent (past_of hub) asked w → Going asked (past_of hub) (records_now (longer hub entry)) (filter (λ c. wants c.key asked) changed_by) w
+  begins asked w low k = record {
+    rising = k.rising;
+    values = k.values;
+    older = all-weaken (λ (e : Key × OldValue). e.1.point < newest hub) (λ (e : Key × OldValue). e.1.point < newest hub + 1) (λ e h. omega (arith, h)) w.values k.older;
+    within = omega (arith, low);
+    leads = λ q wanted at. ap (told q (values_of w.values)) (leads-back asked q wanted) ∙ sent-keys (past_of hub) asked w k.sent q wanted at;
+  }
+
+  -- and tell it behind the entry
+  arrives : (asked : Asked) (w : WaitingName) → Going asked (past_of hub) (records_now (longer hub entry)) [] w → KeepsSent (past_of (longer hub entry)) asked w
+  arrives asked w g = record {
+    rising = g.rising;
+    values = g.values;
+    older = subst (λ (n : ℕ). AllByRecursion (λ (e : Key × OldValue). e.1.point < n) w.values) (sym more) g.older;
+    sent = sent-whole (past_of (longer hub entry)) asked w g.values (λ q wanted at. g.leads q wanted at ∙ ap (shown_at q) (sym (records_at-append hub.start hub.history (entry ∷ []) w.point g.within)));
+  }
+
+  session-entered : IsTellable (state_now hub) → (k : ℕ × KeptSession) (p : ℕ × Session) → SessionFits hub k p → SessionFits (longer hub entry) (k.0, kept_noted k.1) (p.0, plain_noted p.1)
+  session-entered tellable k p s = of_parts (longer hub entry) (k.0, kept_noted k.1) (p.0, plain_noted p.1) s.stands.number s.sound.below asked waiting (reads hub k p s) (writes hub k p s) s.stands.clocks s.stands.established s.stands.standing
     where
       asked : Asks (state_now (longer hub entry)) k.1.subscriptions p.1.subscriptions
       asked = record {
         asked = s.stands.asked;
         filled = s.stands.filled;
         are_asked = s.sound.asked;
-        homes = all-weaken (HasHome (state_now hub)) (HasHome (state_now (longer hub entry))) (λ u served. served-stays at_home u.question served) p.1.subscriptions s.sound.homes;
+        homes = all-weaken (HasHome (state_now hub)) (HasHome (state_now (longer hub entry))) (λ u served. served-stays tellable.home u.question served) p.1.subscriptions s.sound.homes;
       }
 
-      names : List Labels
-      names = touched (plain_keeps (newest hub)) p.1.subscriptions changed_by
+      kept_changes : List Changed
+      kept_changes = touched keeping k.1.subscriptions changed_by
 
-      same_names : touched keeping k.1.subscriptions changed_by ≡ names
-      same_names = λ i. map (λ (c : Changed). c.key.owner) (filter (λ (c : Changed). wants-alike hub k p s c.key i) changed_by)
+      plain_changes : List Changed
+      plain_changes = touched (plain_keeps (newest hub)) p.1.subscriptions changed_by
+
+      same_changes : kept_changes ≡ plain_changes
+      same_changes = λ i. filter (λ (c : Changed). wants-alike hub k p s c.key i) changed_by
 
       past : AllByRecursion (λ (w : WaitingName). w.point < newest hub) k.1.queue
       past = each-map (λ (w : WaitingName). (w.name, w.point)) (λ (e : Labels × ℕ). e.1 < newest hub) k.1.queue (subst (AllByRecursion (λ (e : Labels × ℕ). e.1 < newest hub)) (sym s.stands.queue) s.sound.points)
 
-      new_copy : (n : Labels) → IsCopy (longer hub entry) (record { name = n; point = newest hub; old = at_name n (records_now hub) })
-      new_copy n = ap (at_name n) (sym (records_at-append hub.start hub.history (entry ∷ []) (newest hub) (omega arith)))
+      going : AllByRecursion (Going k.1.subscriptions.asked (past_of hub) (records_now (longer hub entry)) []) (kept_noted k.1).queue
+      going = going-fold k.1.subscriptions.asked (past_of hub) (records_now (longer hub entry)) kept_changes k.1.queue
+          (all_filter CanBeKept (λ c. wants c.key k.1.subscriptions.asked) changed_by (can-be-kept (records_now hub) (records_now (longer hub entry)) (tellable-told (state_now hub) tellable)))
+          (subst AreApart (sym s.stands.queue) s.sound.names)
+          (each-both (KeepsSent (past_of hub) k.1.subscriptions.asked) (λ (w : WaitingName). w.point < newest hub) (Going k.1.subscriptions.asked (past_of hub) (records_now (longer hub entry)) kept_changes) (λ w keeps low. begins k.1.subscriptions.asked w low keeps) k.1.queue s.stands.keeps past)
+          (λ q wanted none. leads-back k.1.subscriptions.asked q wanted)
 
-      waiting : Waits hub.start (longer hub entry).history (kept_noted k.1).queue (plain_noted p.1).queue
+      waiting : Waits (past_of (longer hub entry)) k.1.subscriptions.asked (kept_noted k.1).queue (plain_noted p.1).queue
       waiting = record {
         queue =
-            ap (λ ns. queue_of (fold (keeping.with_name (newest hub) (records_now hub)) k.1.queue ns)) same_names
-            ∙ queue-fold (records_now hub) (newest hub) names k.1.queue
-            ∙ ap (λ (q : Queue). fold (enqueued (newest hub)) q names) s.stands.queue;
-        copies = copies-fold (IsCopy (longer hub entry)) (records_now hub) (newest hub) new_copy (touched keeping k.1.subscriptions changed_by) k.1.queue
-            (each-both (IsCopy hub) (λ (w : WaitingName). w.point < newest hub) (IsCopy (longer hub entry)) (λ w copy low. copy-longer w (omega (arith, low)) copy) k.1.queue s.stands.copies past);
-        points = points-fold (λ (e : Labels × ℕ). e.1 < newest (longer hub entry)) (newest hub) (λ n. omega (arith, more)) names p.1.queue
+            queue-fold (newest hub) kept_changes k.1.queue
+            ∙ (λ i. fold (plain_change (newest hub)) (s.stands.queue i) (same_changes i));
+        keeps = all-weaken (Going k.1.subscriptions.asked (past_of hub) (records_now (longer hub entry)) []) (KeepsSent (past_of (longer hub entry)) k.1.subscriptions.asked) (λ w g. arrives k.1.subscriptions.asked w g) (kept_noted k.1).queue going;
+        points = points-fold (λ (e : Labels × ℕ). e.1 < newest (longer hub entry)) (newest hub) (λ n. omega (arith, more)) plain_changes p.1.queue
             (all-weaken (λ (e : Labels × ℕ). e.1 < newest hub) (λ (e : Labels × ℕ). e.1 < newest (longer hub entry)) (λ e low. omega (arith, more, low)) p.1.queue s.sound.points);
-        names = names-fold (newest hub) names p.1.queue s.sound.names;
+        names = names-fold (newest hub) plain_changes p.1.queue s.sound.names;
       }
 
 -- ---- the hub
@@ -131,4 +163,4 @@ entered-stands hub ks entry last h = record {
 
     fit : AllZip (SessionFits (entered entry hub)) later (entered entry hub).sessions
     fit = zip-map (SessionFits hub) (SessionFits (entered entry hub)) (λ (e : ℕ × KeptSession). (e.0, kept_noted hub entry e.1)) (λ (e : ℕ × Session). (e.0, plain_noted hub entry e.1))
-        (λ k p s. session-moved (longer hub entry) (all_sessions (plain_noted hub entry) hub.sessions) hub.numbers_given (omega arith) (k.0, kept_noted hub entry k.1) (p.0, plain_noted hub entry p.1) (session-entered hub entry (h.sound.states (newest hub) (omega arith)).home k p s)) ks hub.sessions (fitting h)
+        (λ k p s. session-moved (longer hub entry) (all_sessions (plain_noted hub entry) hub.sessions) hub.numbers_given (omega arith) (k.0, kept_noted hub entry k.1) (p.0, plain_noted hub entry p.1) (session-entered hub entry (h.sound.states (newest hub) (omega arith)) k p s)) ks hub.sessions (fitting h)

@@ -61,7 +61,7 @@ module _ (number : ℕ) (output : List ℕ) where
   entered-keeps : (hub : Hub) → HasOutput hub → (entry : Entry) → HasOutput (entered entry hub)
   entered-keeps hub has entry = (
       let later : Hub = record hub { history = hub.history ++ entry ∷ [] } in
-      changed (λ m. noted (keeps_now hub) (changes (records_now hub) (records_now later)) (records_now hub) (newest hub)) (λ m s. refl) hub.sessions has
+      changed (λ m. noted (keeps_now hub) (changes (records_now hub) (records_now later)) (newest hub)) (λ m s. refl) hub.sessions has
       )
 
   timed-keeps : (hub : Hub) (point t : ℕ) → HasOutput hub → HasOutput (each_session (timed (plain_keeps point) t) hub)

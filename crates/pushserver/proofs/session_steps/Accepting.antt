@@ -1,14 +1,18 @@
 -- A kept session and the plain one: the reaction to a SUBSCRIBE.
 --     verdict-alike      the verdict
 --     answered-keeps      what each verdict does
-use Rattle.std.proofs.Common.{◌≡◌, ℕ, ◌+◌, ◌-◌, ◌≤◌, ◌^◌, Bool, false, cond, not, List, [], ◌∷◌, ◌++◌, length, min, Option, Some, None, refl, sym, ◌∙◌, ap, subst, arith}
+use Rattle.std.proofs.Common.{◌≡◌, ℕ, ◌+◌, ◌-◌, ◌≤◌, ◌^◌, Bool, true, false, cond, not, ◌||◌, List, [], ◌∷◌, ◌++◌, length, min, Option, Some, None, refl, sym, ◌∙◌, ap, subst, arith}
+use Rattle.std.specs.List.{AllByRecursion}
 use Rattle.std.specs.Prelude.{IsTrue, find, filter, option_map, nat_le, ◌==◌}
 use Rattle.std.proofs.lemmas.Bool.{leb-false}
-use Rattle.zoneupdate.proofs.Filters.{and-both}
+use Rattle.zoneupdate.proofs.Filters.{and-both, and-left}
+use Rattle.zoneupdate.proofs.Owners.{same_name-on}
 use Rattle.std.proofs.lemmas.List.{length-append, length-map, map-append}
 use Rattle.std.proofs.lemmas.List.Elements.{filter_agree}
 use Rattle.push_base.specs.Limits.{max_questions, max_number}
-use Rattle.dnsname.specs.Names.{is_name, same_name}
+use Rattle.dnsname.specs.Names.{Labels, is_name, same_name}
+use Rattle.rrset.specs.Records.{matches}
+use Rattle.rrset.specs.declared.record.Key.{Key}
 use Rattle.rrset.specs.Rcodes.{noerror, notauth, refused}
 use Rattle.rrset.specs.declared.record.Question.{Question}
 use Rattle.rrset.proofs.Distinct.{distinct_filter}
@@ -17,7 +21,8 @@ use Rattle.dsotlv.specs.Messages.{frame}
 use Rattle.dsotlv.specs.Answers.{answer_to, refusal_to, push_message}
 use Rattle.dsotlv.specs.declared.message.Notice.{Notice}
 use Rattle.dsosession.specs.declared.session.EndReason.TheVariants as ends
-use Rattle.subscr.specs.Asked.{Asked, AreAsked, has, is_id, is_question, id_of}
+use Rattle.history.specs.Kept.{Past}
+use Rattle.subscr.specs.Asked.{Asked, AreAsked, has, is_id, is_question, id_of, wants}
 use Rattle.subscr.proofs.Asking.{added}
 use Rattle.coalesce.specs.FirstAnswers.{first_notices}
 use Rattle.coalesce.specs.Net.{max_net_message}
@@ -31,12 +36,13 @@ use Rattle.pushsession.specs.Subscribing as subscribing
 use Rattle.pushsession.specs.Subscribing.{Verdict, is_served, may_be_served, verdict_on, subscribed, says_first_answer, first_answer_size, with_accepted, decided, answered}
 use Rattle.pushsession.proofs.Passing.{Passed, passed}
 use Rattle.pushserver.specs.PlainHubs.{Hub, Session, Subscription, Queue, size_of_made, asked_of, subscription_for, leaves_queue, plain_keeps, plain_tells}
-use Rattle.pushserver.specs.Hubs.{state_now, records_now}
+use Rattle.pushserver.specs.Hubs.{past_of, state_now, records_now}
 use Rattle.pushserver.specs.Giving.{has_home}
-use Rattle.pushserver.specs.KeptHubs.{IsCopy}
+use Rattle.pushserver.specs.KeptHubs.{KeepsSent}
 use Rattle.pushserver.specs.Rows.{AreTold}
 use Rattle.pushserver.proofs.session_steps.Parts.{SessionFits, Asks, Waits, kept_asked, reads, writes, stands}
-use Rattle.pushserver.proofs.session_steps.Lists.{filter-map, find-map, some-find}
+use Rattle.pushserver.proofs.session_steps.Lists.{filter-map, find-map, some-find, any-append}
+use Rattle.pushserver.proofs.session_steps.OldValues.{keeps-fewer}
 use Rattle.pushserver.specs.KeptHubs.{queue_of}
 use Rattle.pushserver.proofs.session_steps.Standing.{ended-keeps}
 use Rattle.pushserver.proofs.session_steps.Saying.{with_frame-keeps, answers-keeps}
@@ -75,6 +81,27 @@ module _ (hub : Hub) (n : ℕ) (k : ℕ × KeptSession) (p : ℕ × Session) (s 
 
 -- ---- one subscription more
 
+-- a question asks for no keys of other names
+asks-elsewhere : (asked : Asked) (id : ℕ) (question : Question) (name : Labels) (q : Key) → same_name name question.name ≡ false → same_name name q.owner ≡ true → wants q (asked ++ (id, question) ∷ []) ≡ true → wants q asked ≡ true
+asks-elsewhere asked id question name q other at wanted = by (matches question q) refl (wants q asked) (sym (any-append (λ (e : ℕ × Question). matches e.1 q) asked ((id, question) ∷ [])) ∙ wanted)
+  where
+    by : (b : Bool) → matches question q ≡ b → (a : Bool) → (a || (b || false)) ≡ true → a ≡ true
+    by true is a e =
+        let named : same_name question.name q.owner ≡ true = and-left (same_name question.name q.owner) _ (and-left _ _ is) in
+        let wrong : true ≡ false = sym (same_name-on name q.owner question.name at (sym (same_name-turned question.name q.owner) ∙ named)) ∙ other in absurd cc
+    by false is true e = refl
+    by false is false e = absurd cc
+
+-- what is kept of the other names tells what was sent where the question is asked, too
+others-keep : (past : Past) (asked : Asked) (id : ℕ) (question : Question) (queue : List WaitingName) → AllByRecursion (KeepsSent past asked) queue → AllByRecursion (KeepsSent past (asked ++ (id, question) ∷ [])) (without_name question.name queue)
+others-keep past asked id question [] all = tt
+others-keep past asked id question (w ∷ ws) all = by (is_named question.name w) refl (others-keep past asked id question ws all.1)
+  where
+    by : (b : Bool) → is_named question.name w ≡ b → AllByRecursion (KeepsSent past (asked ++ (id, question) ∷ [])) (without_name question.name ws)
+        → AllByRecursion (KeepsSent past (asked ++ (id, question) ∷ [])) (cond (not b) (w ∷ without_name question.name ws) (without_name question.name ws))
+    by true is rest = rest
+    by false is rest = (keeps-fewer past asked (asked ++ (id, question) ∷ []) w (λ q wanted at. asks-elsewhere asked id question w.name q is at wanted) all.0, rest)
+
 module _ (hub : Hub) (n : ℕ) (k : ℕ × KeptSession) (p : ℕ × Session) (s : SessionFits hub k p) where
   leaves_alike : (question : Question) → queue_of (without_name question.name k.1.queue) ≡ leaves_queue question.name p.1.queue
   leaves_alike question =
@@ -102,10 +129,10 @@ module _ (hub : Hub) (n : ℕ) (k : ℕ × KeptSession) (p : ℕ × Session) (s 
         homes = each-append _ p.1.subscriptions (new ∷ []) s.sound.homes (and-both (is_served question.class) (has_home hub (Some question)) can.class can.home, tt);
       }
 
-      others : Waits hub.start hub.history (without_name question.name k.1.queue) (leaves_queue question.name p.1.queue)
+      others : Waits (past_of hub) (keeping.with_question id question (min end max_number) k.1.subscriptions).asked (without_name question.name k.1.queue) (leaves_queue question.name p.1.queue)
       others = record {
         queue = leaves_alike question;
-        copies = all_filter (IsCopy hub) (λ w. not (is_named question.name w)) k.1.queue s.stands.copies;
+        keeps = others-keep (past_of hub) k.1.subscriptions.asked id question k.1.queue s.stands.keeps;
         points = all_filter _ (λ e. not (same_name question.name e.0)) p.1.queue s.sound.points;
         names = distinct_filter _ (λ e. not (same_name question.name e.0)) p.1.queue s.sound.names;
       }

@@ -1,4 +1,4 @@
--- What follows the answer to a SUBSCRIBE, as it is made of a copy and as the plain session makes it.
+-- What follows the answer to a SUBSCRIBE, as it is made of old values and as the plain session makes it.
 --     first-alike      the notices
 use Rattle.std.proofs.Common.{◌≡◌, ℕ, Bool, not, Option, Some, None, refl, sym, ◌∙◌, ap}
 use Rattle.std.specs.Prelude.{find, option_map}
@@ -12,8 +12,8 @@ use Rattle.history.proofs.Together.{same_name-turned}
 use Rattle.history.specs.States.{records_at}
 use Rattle.pushsession.specs.Kept.{KeptSession}
 use Rattle.pushserver.specs.PlainHubs.{Hub, Session, point_in, wanted, sent, first_answer}
-use Rattle.pushserver.specs.Hubs.{records_now}
-use Rattle.pushserver.specs.KeptHubs.{IsCopy}
+use Rattle.pushserver.specs.Hubs.{past_of, records_now}
+use Rattle.pushserver.specs.KeptHubs.{KeepsSent}
 use Rattle.pushserver.proofs.session_steps.Lists.{find-map, find-alike, found-each}
 use Rattle.pushserver.proofs.session_steps.Names.{at_name-alike}
 use Rattle.pushserver.proofs.session_steps.Nets.{wants-alike, wanted-alike, sent-at}
@@ -43,17 +43,17 @@ module _ (hub : Hub) (k : ℕ × KeptSession) (p : ℕ × Session) (s : SessionF
   abbrev is_up_to_date : Bool
   is_up_to_date = same_rows (sent hub p.1 name) there
 
-  -- what counts as sent of a name that waits is what its copy has, as the questions ask for it
-  sent-waiting : (w : WaitingName) → find (is_named name) k.1.queue ≡ Some w → sent hub p.1 name ≡ old_side k.1.subscriptions.asked w
+  -- what counts as sent of a name that waits is what its old values tell, as the questions ask for it
+  sent-waiting : (w : WaitingName) → find (is_named name) k.1.queue ≡ Some w → sent hub p.1 name ≡ old_side k.1.subscriptions.asked rows w
   sent-waiting w is =
-      let found = found-each (IsCopy hub) (is_named name) k.1.queue w s.stands.copies is in
+      let found = found-each (KeepsSent (past_of hub) k.1.subscriptions.asked) (is_named name) k.1.queue w s.stands.keeps is in
       sent-at hub k p s name (Some w.point) (point-found ∙ ap (λ (o : Option WaitingName). option_map (λ (v : WaitingName). v.point) o) is)
-      ∙ ap (λ (r : RecordSet). wanted p.1.subscriptions r) (sym (at_name-alike w.name name found.1 (records_at hub.start hub.history w.point)) ∙ sym found.0)
-      ∙ sym (wanted-alike hub k p s w.old)
+      ∙ ap (λ (r : RecordSet). wanted p.1.subscriptions r) (sym (at_name-alike w.name name found.1 (records_at hub.start hub.history w.point)))
+      ∙ sym (found.0.sent ∙ wanted-alike hub k p s (at_name w.name (records_at hub.start hub.history w.point)))
 
   now-waiting : (w : WaitingName) → find (is_named name) k.1.queue ≡ Some w → there ≡ new_side k.1.subscriptions.asked rows w
   now-waiting w is =
-      let found = found-each (IsCopy hub) (is_named name) k.1.queue w s.stands.copies is in
+      let found = found-each (KeepsSent (past_of hub) k.1.subscriptions.asked) (is_named name) k.1.queue w s.stands.keeps is in
       ap (λ (r : RecordSet). wanted p.1.subscriptions r) (sym (at_name-alike w.name name found.1 rows)) ∙ sym (wanted-alike hub k p s (at_name w.name rows))
 
   differs-alike : (o : Option WaitingName) → find (is_named name) k.1.queue ≡ o → differs k.1.subscriptions.asked rows o ≡ not is_up_to_date

@@ -1,5 +1,5 @@
 -- Lists that are taken from, left, and seen through a function.
-use Rattle.std.proofs.Common.{◌≡◌, ℕ, zero, suc, Bool, true, false, cond, ◌||◌, List, [], ◌∷◌, map, drop, Some, is_some, refl, sym, ◌∙◌, ap, subst}
+use Rattle.std.proofs.Common.{◌≡◌, ℕ, zero, suc, Bool, true, false, cond, ◌||◌, List, [], ◌∷◌, ◌++◌, map, drop, Some, is_some, refl, sym, ◌∙◌, ap, subst}
 use Rattle.std.specs.Prelude.{find, filter, option_map}
 use Rattle.std.specs.List.{list_any, AllByRecursion}
 
@@ -60,3 +60,21 @@ found-each P p (y ∷ ys) x all is = by (p y) refl is (found-each P p ys x all.1
     by : (b : Bool) → p y ≡ b → cond b (Some y) (find p ys) ≡ Some x → (find p ys ≡ Some x → P x × (p x ≡ true)) → P x × (p x ≡ true)
     by true passes e rest = let same : y ≡ x = cc in (subst P same all.0, ap p (sym same) ∙ passes)
     by false fails e rest = rest e
+
+-- what one of those that stay passes one of all passes, and of two lists behind one another one of either
+pub any-filter : {X : Type 0} (f p : X → Bool) (xs : List X) → list_any f (filter p xs) ≡ true → list_any f xs ≡ true
+any-filter f p [] any = any
+any-filter f p (x ∷ xs) any = by (p x) (f x) refl any (any-filter f p xs)
+  where
+    by : (b c : Bool) → f x ≡ c → list_any f (cond b (x ∷ filter p xs) (filter p xs)) ≡ true → (list_any f (filter p xs) ≡ true → list_any f xs ≡ true) → (c || list_any f xs) ≡ true
+    by b true is e rest = refl
+    by true false is e rest = rest (ap (λ t. t || list_any f (filter p xs)) (sym is) ∙ e)
+    by false false is e rest = rest e
+
+pub any-append : {X : Type 0} (f : X → Bool) (xs ys : List X) → list_any f (xs ++ ys) ≡ (list_any f xs || list_any f ys)
+any-append f [] ys = refl
+any-append f (x ∷ xs) ys = by (f x) (any-append f xs ys)
+  where
+    by : (b : Bool) → list_any f (xs ++ ys) ≡ (list_any f xs || list_any f ys) → (b || list_any f (xs ++ ys)) ≡ ((b || list_any f xs) || list_any f ys)
+    by true rest = refl
+    by false rest = rest

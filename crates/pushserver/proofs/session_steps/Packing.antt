@@ -12,15 +12,15 @@ use Rattle.dsotlv.specs.declared.message.Notice.{Notice}
 use Rattle.subscr.specs.Asked.{Asked, wants}
 use Rattle.coalesce.specs.Net.{packed, max_net_message, Nets}
 use Rattle.coalesce.specs.Laws.{IsPacked}
-use Rattle.coalesce.specs.Waiting.{WaitingName, CanBePacked, IsPackable, asked_net, nets_in, packed_of, left_in}
+use Rattle.coalesce.specs.Waiting.{WaitingName, CanBePacked, IsPackable, asked_net, nets_in, packed_of, left_in, records_then}
 use Rattle.coalesce.proofs.NetSizes.{net_fits_one_message}
 use Rattle.coalesce.proofs.Packing.{packs_the_front, packed_fits_one_message}
 use Rattle.coalesce.proofs.Sides.{parts_stay_sides}
 use Rattle.pushsession.specs.Kept.{KeptSession, keeping, telling}
 use Rattle.pushsession.specs.Subscribing.{says_notices, with_next_push}
 use Rattle.pushserver.specs.PlainHubs.{Hub, Session, Queue, stays_queued, plain_keeps, plain_tells}
-use Rattle.pushserver.specs.Hubs.{records_now}
-use Rattle.pushserver.specs.KeptHubs.{IsCopy}
+use Rattle.pushserver.specs.Hubs.{past_of, records_now}
+use Rattle.pushserver.specs.KeptHubs.{KeepsSent}
 use Rattle.pushserver.proofs.session_steps.Parts.{SessionFits, Waits, asks, reads, writes, stands}
 use Rattle.pushserver.proofs.session_steps.Lists.{each-drop}
 use Rattle.pushserver.proofs.session_steps.Names.{names_of, stays-last}
@@ -32,9 +32,9 @@ use Rattle.pushserver.proofs.session_steps.Saying.{says_notices-keeps}
 
 one_fits : (asked : Asked) (rows : RecordSet) (w : WaitingName) → IsPackable rows w → length (push_message (asked_net asked rows w)) ≤ max_net_message
 one_fits asked rows w ((name, old, new), can) =
-    let before = parts_stay_sides name (λ key. wants key asked) w.old old in
+    let before = parts_stay_sides name (λ key. wants key asked) (records_then rows w) old in
     let after = parts_stay_sides name (λ key. wants key asked) (at_name w.name rows) new in
-    net_fits_one_message name (only (λ key. wants key asked) w.old) (only (λ key. wants key asked) (at_name w.name rows)) before.0 after.0 (after.1 can)
+    net_fits_one_message name (only (λ key. wants key asked) (records_then rows w)) (only (λ key. wants key asked) (at_name w.name rows)) before.0 after.0 (after.1 can)
 
 all_fit : (asked : Asked) (rows : RecordSet) (queue : List WaitingName) → CanBePacked rows queue → AllByRecursion (λ e. length (push_message e.1) ≤ max_net_message) (nets_in asked rows queue)
 all_fit asked rows [] can = tt
@@ -100,10 +100,10 @@ module _ (hub : Hub) (k : ℕ × KeptSession) (p : ℕ × Session) (s : SessionF
       stands hub k p s (record k.1 { queue = left_in k.1.subscriptions.asked rows k.1.queue }) (record p.1 { queue = stays_queued (packed_of k.1.subscriptions.asked rows k.1.queue).1 p.1.queue }) (asks hub k p s) fewer (reads hub k p s) (writes hub k p s)
       s.stands.clocks s.stands.established s.stands.standing
     where
-      fewer : Waits hub.start hub.history (left_in k.1.subscriptions.asked rows k.1.queue) (stays_queued (packed_of k.1.subscriptions.asked rows k.1.queue).1 p.1.queue)
+      fewer : Waits (past_of hub) k.1.subscriptions.asked (left_in k.1.subscriptions.asked rows k.1.queue) (stays_queued (packed_of k.1.subscriptions.asked rows k.1.queue).1 p.1.queue)
       fewer = record {
         queue = stays_alike;
-        copies = each-drop (IsCopy hub) (length k.1.queue - length (packed_of k.1.subscriptions.asked rows k.1.queue).1) k.1.queue s.stands.copies;
+        keeps = each-drop (KeepsSent (past_of hub) k.1.subscriptions.asked) (length k.1.queue - length (packed_of k.1.subscriptions.asked rows k.1.queue).1) k.1.queue s.stands.keeps;
         points = all_filter _ (λ e. list_any (same_name e.0) (packed_of k.1.subscriptions.asked rows k.1.queue).1) p.1.queue s.sound.points;
         names = distinct_filter _ (λ e. list_any (same_name e.0) (packed_of k.1.subscriptions.asked rows k.1.queue).1) p.1.queue s.sound.names;
       }

@@ -9,19 +9,18 @@ use Rattle.std.specs.List.{AllByRecursion, IsDistinct}
 use Rattle.push_base.specs.Limits.{max_input, max_number}
 use Rattle.std.proofs.lemmas.List.Elements.{All-nil}
 use Rattle.dnsname.specs.Names.{same_name}
-use Rattle.rrset.specs.RecordSet.{at_name}
 use Rattle.rrset.proofs.Distinct.{distinct_none}
 use Rattle.dsotlv.specs.Laws.{AreOctets}
-use Rattle.subscr.specs.Asked.{AreAsked}
+use Rattle.subscr.specs.Asked.{Asked, AreAsked}
 use Rattle.subscr.proofs.Asking.{none_asked}
 use Rattle.coalesce.specs.Sides.{frame_octets}
 use Rattle.coalesce.specs.Waiting.{WaitingName}
-use Rattle.history.specs.States.{State, records_at}
-use Rattle.history.specs.declared.entry.Entry.{Entry}
+use Rattle.history.specs.Kept.{Past}
+use Rattle.history.specs.States.{State}
 use Rattle.pushsession.specs.Kept.{KeptSession, KeptQuestions}
 use Rattle.pushserver.specs.PlainHubs.{Hub, Session, Subscription, Queue, Made, size_of_made, asked_of}
-use Rattle.pushserver.specs.Hubs.{state_now}
-use Rattle.pushserver.specs.KeptHubs.{SessionStandsFor, filled_kept, queue_of}
+use Rattle.pushserver.specs.Hubs.{past_of, state_now}
+use Rattle.pushserver.specs.KeptHubs.{KeepsSent, SessionStandsFor, filled_kept, queue_of}
 use Rattle.pushserver.specs.SoundHubs.{ArePast, HasHome, IsSoundSession}
 
 pub record SessionFits (hub : Hub) (kept : ℕ × KeptSession) (plain : ℕ × Session) : Type 0 where
@@ -38,11 +37,11 @@ pub record Asks (state : State) (kept : KeptQuestions) (plain : List Subscriptio
   pub are_asked : AreAsked (asked_of plain)
   pub homes : AllByRecursion (HasHome state) plain
 
--- the names that wait
-pub record Waits (start : State) (history : List Entry) (kept : List WaitingName) (plain : Queue) : Type 0 where
+-- the names that wait, where a session asks so
+pub record Waits (past : Past) (asked : Asked) (kept : List WaitingName) (plain : Queue) : Type 0 where
   pub queue : queue_of kept ≡ plain
-  pub copies : AllByRecursion (λ w. w.old ≡ at_name w.name (records_at start history w.point)) kept
-  pub points : ArePast (length history) plain
+  pub keeps : AllByRecursion (KeepsSent past asked) kept
+  pub points : ArePast (length past.history) plain
   pub names : IsDistinct (λ d e. same_name e.0 d.0) plain
 
 -- the octets that came
@@ -58,7 +57,7 @@ pub record Writes (kept plain : List ℕ) (count : ℕ) (made : List Made) : Typ
   pub fits : length plain ≤ frame_octets
 
 -- a pair of sessions whose parts stand for each other
-pub of_parts : (hub : Hub) (k : ℕ × KeptSession) (p : ℕ × Session) → k.0 ≡ p.0 → p.0 < hub.numbers_given → Asks (state_now hub) k.1.subscriptions p.1.subscriptions → Waits hub.start hub.history k.1.queue p.1.queue
+pub of_parts : (hub : Hub) (k : ℕ × KeptSession) (p : ℕ × Session) → k.0 ≡ p.0 → p.0 < hub.numbers_given → Asks (state_now hub) k.1.subscriptions p.1.subscriptions → Waits (past_of hub) k.1.subscriptions.asked k.1.queue p.1.queue
     → Reads k.1.input p.1.input → Writes k.1.output p.1.output k.1.made p.1.made
     → k.1.clocks ≡ p.1.clocks → k.1.established ≡ p.1.established → k.1.standing ≡ p.1.standing → SessionFits hub k p
 of_parts hub k p number below a w r o clocks established standing = record {
@@ -67,7 +66,7 @@ of_parts hub k p number below a w r o clocks established standing = record {
     asked = a.asked;
     filled = a.filled;
     queue = w.queue;
-    copies = w.copies;
+    keeps = w.keeps;
     clocks = clocks;
     established = established;
     standing = standing;
@@ -95,8 +94,8 @@ module _ (hub : Hub) (k : ℕ × KeptSession) (p : ℕ × Session) (s : SessionF
   pub kept_asked : AreAsked k.1.subscriptions.asked
   kept_asked = subst AreAsked (sym s.stands.asked) s.sound.asked
 
-  pub waits : Waits hub.start hub.history k.1.queue p.1.queue
-  waits = record { queue = s.stands.queue; copies = s.stands.copies; points = s.sound.points; names = s.sound.names }
+  pub waits : Waits (past_of hub) k.1.subscriptions.asked k.1.queue p.1.queue
+  waits = record { queue = s.stands.queue; keeps = s.stands.keeps; points = s.sound.points; names = s.sound.names }
 
   pub reads : Reads k.1.input p.1.input
   reads = record { input = s.stands.input; octets = s.sound.octets; fits = s.sound.input_fits }
@@ -105,7 +104,7 @@ module _ (hub : Hub) (k : ℕ × KeptSession) (p : ℕ × Session) (s : SessionF
   writes = record { output = s.stands.output; counted = s.stands.written; fits = s.sound.output_fits }
 
   -- another pair of sessions under the same numbers
-  pub stands : (kept : KeptSession) (plain : Session) → Asks (state_now hub) kept.subscriptions plain.subscriptions → Waits hub.start hub.history kept.queue plain.queue
+  pub stands : (kept : KeptSession) (plain : Session) → Asks (state_now hub) kept.subscriptions plain.subscriptions → Waits (past_of hub) kept.subscriptions.asked kept.queue plain.queue
       → Reads kept.input plain.input → Writes kept.output plain.output kept.made plain.made
       → kept.clocks ≡ plain.clocks → kept.established ≡ plain.established → kept.standing ≡ plain.standing → SessionFits hub (k.0, kept) (p.0, plain)
   stands kept plain = of_parts hub (k.0, kept) (p.0, plain) s.stands.number s.sound.below
@@ -113,8 +112,8 @@ module _ (hub : Hub) (k : ℕ × KeptSession) (p : ℕ × Session) (s : SessionF
 pub asks_nothing : {state : State} → Asks state (record { asked = []; filled = [] }) []
 asks_nothing = record { asked = refl; filled = refl; are_asked = none_asked; homes = tt }
 
-pub none_waits : {start : State} {history : List Entry} → Waits start history [] []
-none_waits = record { queue = refl; copies = tt; points = tt; names = distinct_none _ }
+pub none_waits : {past : Past} {asked : Asked} → Waits past asked [] []
+none_waits = record { queue = refl; keeps = tt; points = tt; names = distinct_none _ }
 
 pub reads_nothing : Reads [] []
 reads_nothing = record { input = refl; octets = All-nil (λ o. o < 256); fits = omega arith }

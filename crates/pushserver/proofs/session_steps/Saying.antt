@@ -21,10 +21,15 @@ use Rattle.pushsession.specs.Sessions.{SessionOf, Keeps, with_frame, answers, en
 use Rattle.pushsession.specs.Subscribing.{says_notices}
 use Rattle.pushsession.specs.Reactions.{restarted_by, granted, unsubscribed}
 use Rattle.pushserver.specs.PlainHubs.{Hub, Session, Subscription, Queue, frame_of, size_of_made, asked_of, plain_keeps}
-use Rattle.pushserver.specs.Hubs.{state_now}
+use Rattle.pushserver.specs.Hubs.{past_of, state_now}
+use Rattle.pushserver.specs.KeptHubs.{KeepsSent}
+use Rattle.pushserver.proofs.hub_steps.Pairs.{all-weaken}
+use Rattle.pushserver.proofs.session_steps.Lists.{any-filter}
+use Rattle.pushserver.proofs.session_steps.OldValues.{keeps-fewer}
+use Rattle.rrset.specs.Records.{matches}
 use Rattle.pushserver.proofs.hub_steps.Cases.{clocks_as}
 use Rattle.pushserver.proofs.session_steps.Standing.{ended-keeps}
-use Rattle.pushserver.proofs.session_steps.Parts.{SessionFits, SessionKeeps, Asks, Reads, Writes, kept_asked, asks, waits, reads, writes, stands, asks_nothing, none_waits}
+use Rattle.pushserver.proofs.session_steps.Parts.{SessionFits, SessionKeeps, Asks, Waits, Reads, Writes, kept_asked, asks, waits, reads, writes, stands, asks_nothing, none_waits}
 use Rattle.pushserver.proofs.session_steps.Lists.{filter-map}
 use Rattle.pushserver.proofs.session_steps.Octets.{rest_is, rest_octets}
 
@@ -76,7 +81,7 @@ module _ (hub : Hub) (n : ℕ) where
       by false = ended-keeps hub n ends.Stopped k p s
 
   pub unsubscribes-keeps : (id : ℕ) → SessionKeeps hub (unsubscribed keeping id) (unsubscribed (plain_keeps n) id)
-  unsubscribes-keeps id k p s = stands hub k p s (unsubscribed keeping id k.1) (unsubscribed (plain_keeps n) id p.1) fewer (waits hub k p s) (reads hub k p s) (writes hub k p s) s.stands.clocks s.stands.established s.stands.standing
+  unsubscribes-keeps id k p s = stands hub k p s (unsubscribed keeping id k.1) (unsubscribed (plain_keeps n) id p.1) fewer waiting (reads hub k p s) (writes hub k p s) s.stands.clocks s.stands.established s.stands.standing
     where
       others : Subscription → Bool
       others q = not (q.id == id)
@@ -90,6 +95,16 @@ module _ (hub : Hub) (n : ℕ) where
         filled = ap (λ f. without_filled id f) s.stands.filled ∙ filter-map (λ (q : Subscription). (q.id, min q.filled max_number)) (λ e. not (e.0 == id)) p.1.subscriptions;
         are_asked = subst AreAsked is_less (left id k.1.subscriptions.asked (kept_asked hub k p s));
         homes = all_filter _ others p.1.subscriptions s.sound.homes;
+      }
+
+      waiting : Waits (past_of hub) (without id k.1.subscriptions.asked) k.1.queue p.1.queue
+      waiting = record {
+        queue = s.stands.queue;
+        keeps = all-weaken (KeepsSent (past_of hub) k.1.subscriptions.asked) (KeepsSent (past_of hub) (without id k.1.subscriptions.asked))
+            (λ w keeps. keeps-fewer (past_of hub) k.1.subscriptions.asked (without id k.1.subscriptions.asked) w (λ q wanted at. any-filter (λ e. matches e.1 q) (λ e. not (is_id id e)) k.1.subscriptions.asked wanted) keeps)
+            k.1.queue s.stands.keeps;
+        points = s.sound.points;
+        names = s.sound.names;
       }
 
 -- ---- a message that is taken up

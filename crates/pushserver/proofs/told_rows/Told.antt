@@ -35,7 +35,7 @@ pub record RowsTell (rows : RecordSet) : Type 0 where
   pub tellable : list_all is_tellable rows ≡ true
   pub room : HaveRoom rows
 
-sent-from : (name : Labels) (e : Key × Shown) → same_name name e.0.owner ≡ true → is_tellable e ≡ true → is_sent_so name e ≡ true
+pub sent-from : (name : Labels) (e : Key × Shown) → same_name name e.0.owner ≡ true → is_tellable e ≡ true → is_sent_so name e ≡ true
 sent-from name e at h =
     let both = tellable-parts e h in
     let is = both.0 in

@@ -14,11 +14,10 @@ use Rattle.replay.specs.declared.world.World as program
 use Rattle.scripts.specs.Lines.{Word, ScriptLine}
 use Rattle.scripts.specs.Scripts.{client_word, AreDistinct}
 use Rattle.scripts.specs.KeptLines.{words_of}
-use Rattle.scripts.specs.Events.{event_said, IsNamed, Follow}
+use Rattle.scripts.specs.Events.{event_said, each_said, IsNamed, Follow}
 use Rattle.replay.specs.KeptWorlds.{Seated, seated, words_seated, StandForSeats, IsWorld, words_in, Acts, Does}
 use Rattle.replay.proofs.worlds.OneWorld.{one-world}
 use Rattle.replay.proofs.worlds.SeatWords.{distinct-front, words-line, links-line}
-use Rattle.scripts.proofs.lines.MoreLines.{each_said}
 use Rattle.scripts.proofs.lines.Numbers.{onto_words}
 
 -- the text from a world on

@@ -36,7 +36,7 @@ use Rattle.pushsession.specs.declared.session_status.SessionStatus.TheVariants.{
 use Rattle.pushserver.specs.declared.given.Given.{Given}
 use Rattle.pushserver.specs.declared.given.Given.TheVariants.{Worked}
 use Rattle.pushserver.specs.PlainHubs.{Hub, Session, Subscription, Made, Giving, asked_of, first_answer}
-use Rattle.pushserver.specs.Hubs.{now, state_now, newest, keeps_now, tells_now, records_now, session_of, in_session, entered, entry_changes, can_enter, update}
+use Rattle.pushserver.specs.Hubs.{now, state_now, newest, keeps_now, tells_now, session_of, in_session, entered, entry_changes, can_enter, update}
 use Rattle.pushserver.specs.Giving.{has_home, copies_or, given_after, reconfirm, reconfirms, by_request, give, reacted, after_reaction}
 use Rattle.pushserver.specs.Calls.{HubCall, updates, hears, moves, connects, takes, gives, stops, ends as ending, called, after_calls}
 use Rattle.pushserver.specs.Laws.{IsAcceptable}
@@ -320,10 +320,10 @@ module _ (number : ℕ) where
 
     -- an entry leaves all but the queue
     abbrev noted_by : Entry → Session
-    noted_by entry = noted (keeps_now h) (entry_changes entry h) (records_now h) (newest h) s
+    noted_by entry = noted (keeps_now h) (entry_changes entry h) (newest h) s
 
     entered-there : (entry : Entry) → session_of (entered entry h) number ≡ Some (noted_by entry)
-    entered-there entry = found-all (noted (keeps_now h) (entry_changes entry h) (records_now h) (newest h)) number h.sessions ∙ ap (option_map (noted (keeps_now h) (entry_changes entry h) (records_now h) (newest h))) there
+    entered-there entry = found-all (noted (keeps_now h) (entry_changes entry h) (newest h)) number h.sessions ∙ ap (option_map (noted (keeps_now h) (entry_changes entry h) (newest h))) there
 
     says-reconfirm : (rr : Option Rr) → Says number (reconfirms rr number h) s (effect_of_reconfirm h s rr)
     says-reconfirm None =

@@ -142,7 +142,7 @@ module _ (laws : LineLaws) (all : List Word) (words : AllByRecursion IsWord all)
   line-says (session_event v event) is e = session-says v event is.within (is_allowed (may_meet all known.clients v event) (in_events known) next e).0
 
 pub no-ends : LineLaws → NoMessageEndsLines
-no-ends laws script before after line w seat are split found joins =
+no-ends laws script are before after line w seat split found joins =
     let b = stands-before laws script before after line are split in
     let world = world_after before (start_world script) in
     let says = line-says laws are.all are.words b.known b.next nothing_shown world b.walked w seat found joins line b.is b.fits in

@@ -111,7 +111,7 @@ module _ (laws : LineLaws) (hub : Hub) (reached : IsReached hub) where
       by (Some number) h = connection-holds (shown seat.word) seat number h
 
 pub holds-after-each-line : LineLaws → StandsAfterEachLine → LinesHold
-holds-after-each-line laws each script before after are split =
+holds-after-each-line laws each script are before after split =
     let world = world_after before (start_world script) in
     let shown : ShownToEach = λ w question. held_points_from w question before (start_world script) in
     let stands = each script before after are split in

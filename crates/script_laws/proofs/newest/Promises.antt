@@ -113,6 +113,6 @@ module _ (sessions : ReachedSessions) (sound : ReachedOnesAreSound) (settles : S
     λ question. never script w question are,
     λ before after split is. settled-stays (start_world script) w (λ front v question. held_points_from v question front (start_world script)) [] before false
         (λ front back parts. stands script front (back ++ after) are (split ∙ ap (λ ls. ls ++ after) parts ∙ append_assoc front back after))
-        (λ front back v parts alone seat there. quiet script front (back ++ after) v seat are (split ∙ ap (λ ls. ls ++ after) parts ∙ append_assoc front (settle v ∷ back) after) alone there)
+        (λ front back v parts alone seat there. quiet script are front (back ++ after) v seat (split ∙ ap (λ ls. ls ++ after) parts ∙ append_assoc front (settle v ∷ back) after) alone there)
         (λ no. absurd (true≢false (sym no))) is,
   )

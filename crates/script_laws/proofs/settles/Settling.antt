@@ -154,7 +154,7 @@ module _ (w : Word) (world : World) where
 -- ---- whole scripts
 
 pub turns-suffice : ReachedOnesGoOn → RoundsPass → StandsAfterEachLine → (size : ℕ → World → Seat → ℕ) → RoundsFall size → IsLittleAtSettles size → TurnsSuffice
-turns-suffice reached-on rounds stand size fall little script before after w seat number lines are found has =
+turns-suffice reached-on rounds stand size fall little script lines before after w seat number are found has =
     let world : World = world_after before (start_world script) in
     let stands = stand script before (settle w ∷ after) lines are in
     let here = stands-with world.hub _ seat number has (seat-stands _ world w seat stands found) in
@@ -162,8 +162,8 @@ turns-suffice reached-on rounds stand size fall little script before after w sea
     (little script before after w seat number lines are found has)
 
 pub settles-of-zones : ReachedOnesGoOn → RoundsPass → QuietAtLast → StandsAfterEachLine → TurnsSuffice → SettlesOfLines
-settles-of-zones reached-on rounds quiet stand suffice script before after w seat lines are alone =
+settles-of-zones reached-on rounds quiet stand suffice script lines before after w seat are alone =
     let world : World = world_after before (start_world script) in
     subst (λ (later : World). seat_of later w ≡ Some seat → SeatIsQuiet later.hub seat) (sym (after-append before (settle w ∷ []) (start_world script)))
     (line-quiet w world reached-on rounds quiet _ (stand script before (settle w ∷ after) lines are)
-    (λ s number found has. suffice script before after w s number lines are found has) alone seat)
+    (λ s number found has. suffice script lines before after w s number are found has) alone seat)

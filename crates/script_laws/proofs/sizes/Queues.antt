@@ -27,7 +27,7 @@ use Rattle.pushsession.specs.declared.session_status.SessionStatus.TheVariants.{
 use Rattle.pushserver.specs.Giving.{has_home}
 use Rattle.pushserver.specs.Hubs.{newest, now, keeps_now, tells_now, in_session}
 use Rattle.pushserver.specs.PlainHubs.{Hub, Session, Subscription, Queue, plain_keeps, asks_for, point_in, enqueued, new_hub}
-use Rattle.pushserver.proofs.Queues.{point_in-same, point_in-enqueued}
+use Rattle.pushserver.proofs.Queues.{changes-names, point_in-same, point_in-enqueued}
 use Rattle.pushserver.proofs.SessionLists.{each-changed, found-one}
 use Rattle.pushserver.proofs.Walks.{AnyMessage, Step, restarts, reacts, answers_subscribe, answers_update, packs_names, comes_to_stop, ends_with, copies_front, IsKept, keeps-calls, bring_any}
 use Rattle.pushserver.proofs.hub_steps.Cases.{itself_as}
@@ -129,7 +129,7 @@ matched-asked (s ∷ ss) key asks = by (same_name s.question.name key.owner) ref
     by true same asks rest = refl
     by false same asks rest = rest (sym (ap (λ (b : Bool). b && (s.question.kind == key.kind || s.question.kind == any_kind) && (s.question.class == key.class || s.question.class == any_class) || asks_for ss key) same) ∙ asks)
 
-touched-asked : (point : ℕ) (subscriptions : List Subscription) (changed : List Changed) → AllByRecursion (λ n. is_asked subscriptions n ≡ true) (touched (plain_keeps point) subscriptions changed)
+touched-asked : (point : ℕ) (subscriptions : List Subscription) (changed : List Changed) → AllByRecursion (λ n. is_asked subscriptions n ≡ true) (map (λ (c : Changed). c.key.owner) (touched (plain_keeps point) subscriptions changed))
 touched-asked point subscriptions [] = tt
 touched-asked point subscriptions (c ∷ cs) = by (asks_for subscriptions c.key) refl (touched-asked point subscriptions cs)
   where
@@ -156,7 +156,9 @@ entry-short : (hub : Hub) (entry : Entry) (session : Session) → IsShort (newes
 entry-short hub entry session h =
     let later : Session = by_entry hub.start hub.history entry session in
     let changed : List Changed = changes_by hub.start hub.history entry in
-    let all = all-queued (newest hub) session.queue session.subscriptions (touched (plain_keeps (newest hub)) session.subscriptions changed) (touched-asked (newest hub) session.subscriptions changed) in (
+    let asked : List Changed = touched (plain_keeps (newest hub)) session.subscriptions changed in
+    let all = subst (λ (q : Queue). length q + free_in q session.subscriptions ≤ length session.queue + free_in session.queue session.subscriptions) (sym (changes-names (newest hub) asked session.queue))
+    (all-queued (newest hub) session.queue session.subscriptions (map (λ (c : Changed). c.key.owner) asked) (touched-asked (newest hub) session.subscriptions changed)) in (
       sums (length later.queue) (free_in later.queue session.subscriptions) (length session.queue) (free_in session.queue session.subscriptions) (length session.subscriptions) (newest hub) (length (hub.history ++ entry ∷ []))
           all (filter-short (is_free session.queue) session.subscriptions) h.0 h.1 (length-append hub.history (entry ∷ [])),
       h.1,

@@ -1,5 +1,5 @@
 -- A further line behind others.
---     AreLines front taken      the lines so far make the head and the events
+--     no_lines      before the first line
 --     adds      what a line that may stand there makes of them
 use Rattle.std.proofs.Common.{◌≡◌, ℕ, ◌+◌, Bool, true, false, cond, not, ◌||◌, ◌==◌, Option, Some, None, List, [], ◌∷◌, ◌++◌, map, find, length, zero, suc, refl, sym, ◌∙◌, ap, subst, arith, length-append, append_assoc}
 use Rattle.std.specs.Prelude.{is_some, option_map, option_to_list, string_bytes, All, filter_map}
@@ -34,8 +34,8 @@ use Rattle.scripts.specs.declared.event.Event.TheVariants as events
 use Rattle.scripts.specs.declared.line.Line.{Line}
 use Rattle.scripts.specs.declared.line.Line.TheVariants as lines
 use Rattle.scripts.specs.KeptLines.{head_said, happening_said, said}
-use Rattle.scripts.specs.Events.{words_known, client_at, event_said, IsNamed, Follow}
-use Rattle.scripts.specs.Drafts.{Taken, no_homes, nothing_taken, head_of, head_taken, known_of, known_by, may_stand, StandsFor, with_zone, HasZone, with_link, HasLink, HeadGrowsBy, GrowsBy}
+use Rattle.scripts.specs.Events.{words_known, client_at, event_said, each_said, IsNamed, Follow}
+use Rattle.scripts.specs.Drafts.{Taken, no_homes, nothing_taken, head_of, head_taken, known_of, known_by, may_stand, StandsFor, with_zone, HasZone, with_link, HasLink, HeadGrowsBy, GrowsBy, AreEvents, HaveMade}
 use Rattle.scripts.proofs.lines.Numbers.{onto_words, named-more, follow-more, client-here, few-here}
 use Rattle.scripts.proofs.lines.SameWords.{same_word, word_itself, other_way}
 
@@ -46,40 +46,23 @@ happening-more lines line = filter-append (λ (l : ScriptLine). not (is_head l))
 head-more : (head : Head) (lines : List ScriptLine) (line : ScriptLine) → head_behind head (lines ++ line ∷ []) ≡ with_head_line (head_behind head lines) line
 head-more head lines line = fold-append with_head_line head lines (line ∷ [])
 
--- what events say, by the words of the links and of these clients
-abbrev pub each_said : List Word → List (Word × Bool) → List Event → List ScriptLine
-each_said links clients events = map (event_said links clients) events
-
--- the lines so far that happen are these events, by which the clients of these words have joined
-pub record AreEvents (front : List ScriptLine) (links joined : List Word) (clients : List (Word × Bool)) (events : List Event) : Type 0 where
-  pub happen : happening front ≡ each_said links clients events
-  pub named : filter_map client_word (each_said links clients events) ≡ joined
-  pub follow : Follow links clients [] events
-
--- the lines so far make this head, and those that happen are these events, whichever clients are still to join
-pub record AreLines (front : List ScriptLine) (taken : Taken) : Type 0 where
-  pub events : (more : List (Word × Bool)) → AreEvents front taken.links (words_known taken.clients) (taken.clients ++ more) taken.events
-  pub head : head_behind empty_head front ≡ head_taken taken
-  pub start : IsStart (state_of taken.homes)
-  pub distinct : AreDistinct (words_known taken.clients)
-
 no_start : IsStart (state_of no_homes)
 no_start = record { zones = λ k d before. absurd (omega (arith, before)); links = λ k d before. absurd (omega (arith, before)); now = refl }
 
-pub no_lines : AreLines [] nothing_taken
+pub no_lines : HaveMade [] nothing_taken
 no_lines = record { events = λ more. record { happen = refl; named = refl; follow = tt }; head = refl; start = no_start; distinct = distinct_none bytes_eq }
 
 -- what a line that may stand there makes of the head and the events
 pub record Adds (all : List Word) (taken : Taken) (line : Line) (later : Taken) : Type 0 where
   pub fit : fits all (known_of taken) (said line) ≡ Some (known_of later)
-  pub lines : (front : List ScriptLine) → AreLines front taken → AreLines (front ++ said line ∷ []) later
+  pub lines : (front : List ScriptLine) → HaveMade front taken → HaveMade (front ++ said line ∷ []) later
 
 allowed_some : (b : Bool) (known : Known) → is_some (allowed b known) ≡ true → allowed b known ≡ Some known
 allowed_some true known h = refl
 allowed_some false known h = absurd cc
 
 -- the head behind a further line
-head-then : (front : List ScriptLine) (taken : Taken) (line : ScriptLine) → AreLines front taken → head_behind empty_head (front ++ line ∷ []) ≡ with_head_line (head_taken taken) line
+head-then : (front : List ScriptLine) (taken : Taken) (line : ScriptLine) → HaveMade front taken → head_behind empty_head (front ++ line ∷ []) ≡ with_head_line (head_taken taken) line
 head-then front taken line are = head-more empty_head front line ∙ ap (λ (h : Head). with_head_line h line) are.head
 
 some-allowed : (b : Bool) (known : Known) → is_some (allowed b known) ≡ b

@@ -1,70 +1,19 @@
--- The words of a line, from its front.
-use Rattle.std.proofs.Common.{◌≡◌, ℕ, suc, ◌+◌, ◌-◌, ◌<◌, ◌==◌, ◌⊎◌, Bool, cond, Option, Some, None, List, [], ◌∷◌, length, take, drop, refl, sym, subst, ◌∙◌, ap, arith, inl, inr}
-use Rattle.std.specs.List.{position, position_from, onto_first}
+-- Lines with too many words, or too few.
+use Rattle.std.proofs.Common.{◌≡◌, ℕ, ◌+◌, ◌-◌, ◌<◌, ◌==◌, ◌⊎◌, Bool, cond, Option, Some, None, List, [], ◌∷◌, length, take, drop, refl, sym, subst, ◌∙◌, ap, arith, inl, inr}
+use Rattle.std.specs.List.{position, onto_first}
 use Rattle.std.proofs.lemmas.Bool.{cases_Bool}
-use Rattle.std.proofs.lemmas.List.{take_rest}
-use Rattle.std.proofs.lemmas.Iterator.Adapters.{position_from-zero}
 use Rattle.scripts.specs.Lines.{words_in, Word, ScriptLine, hub_event, alone, line_behind}
 use Rattle.scripts.specs.declared.line.HubEvent.TheVariants as hub_events
 use Rattle.scripts.specs.declared.line.Kind.{Kind}
 use Rattle.scripts.specs.declared.line.Kind.TheVariants as kinds
 use Rattle.scripts.specs.KeptLines.{one_in, two_in, three_in, four_in, five_in}
+use Rattle.scripts.proofs.lines.Pieces.{word_at}
 
 abbrev point : ScriptLine
 point = hub_event hub_events.Point
 
 abbrev is_space : ℕ → Bool
 is_space octet = octet == 32
-
--- the first space stands n octets from here
-record EndsAt (i : ℕ) (octets : List ℕ) (place : ℕ) : Type 0 where
-  n : ℕ
-  is : place ≡ i + n
-  words : words_in octets ≡ take n octets ∷ words_in (drop (n + 1) octets)
-
-ends_at : (i : ℕ) (octets : List ℕ) (place : ℕ) → position_from is_space i octets ≡ Some place → EndsAt i octets place
-ends_at i [] place h = cc h
-ends_at i (x ∷ xs) place h = elim (cases_Bool (is_space x)) [
-  | inl end ↦
-      let found : Some i ≡ Some place = sym (ap (λ b. cond b (Some i) (position_from is_space (i + 1) xs)) end) ∙ h in
-      let here : i ≡ place = cc found in
-      record { n = 0; is = omega arith; words = ap (λ b. cond b ([] ∷ words_in xs) (onto_first x (words_in xs))) end }
-  | inr on ↦
-      let further = ends_at (i + 1) xs place (sym (ap (λ b. cond b (Some i) (position_from is_space (i + 1) xs)) on) ∙ h) in
-      let next : suc (further.n + 1) ≡ suc further.n + 1 = omega arith in
-      record {
-        n = suc further.n;
-        is = omega (arith, further.is);
-        words =
-            ap (λ b. cond b ([] ∷ words_in xs) (onto_first x (words_in xs))) on
-            ∙ ap (onto_first x) further.words
-            ∙ ap (λ k. (x ∷ take further.n xs) ∷ words_in (drop k (x ∷ xs))) next;
-      }
-]
-
--- the first word ends at the first space
-pub word_at : (octets : List ℕ) (n : ℕ) → Some n ≡ position is_space octets → words_in octets ≡ take n octets ∷ words_in (take (length octets - (n + 1)) (drop (n + 1) octets))
-word_at octets n h =
-    let there = ends_at 0 octets n (sym (h ∙ position_from-zero is_space octets)) in
-    let same : there.n ≡ n = omega (arith, there.is) in
-    there.words
-    ∙ ap (λ k. take k octets ∷ words_in (drop (k + 1) octets)) same
-    ∙ ap (λ l. take n octets ∷ words_in l) (sym (take_rest octets (n + 1)))
-
-one_word : (i : ℕ) (octets : List ℕ) → position_from is_space i octets ≡ None → words_in octets ≡ octets ∷ []
-one_word i [] h = refl
-one_word i (x ∷ xs) h = elim (cases_Bool (is_space x)) [
-  | inl end ↦ let found : Some i ≡ None = sym (ap (λ b. cond b (Some i) (position_from is_space (i + 1) xs)) end) ∙ h in cc found
-  | inr on ↦
-      let rest = one_word (i + 1) xs (sym (ap (λ b. cond b (Some i) (position_from is_space (i + 1) xs)) on) ∙ h) in
-      ap (λ b. cond b ([] ∷ words_in xs) (onto_first x (words_in xs))) on ∙ ap (onto_first x) rest
-]
-
--- without a space there is one word
-pub word_alone : (octets : List ℕ) → None ≡ position is_space octets → words_in octets ≡ octets ∷ []
-word_alone octets h = one_word 0 octets (sym (h ∙ position_from-zero is_space octets))
-
--- ---- lines with too many words, or too few
 
 onto_some : (x : ℕ) (ws : List Word) → 0 < length (onto_first x ws)
 onto_some x [] = omega arith

@@ -27,13 +27,13 @@ returns-in-Some-AtPath-clause-replied g c =
     (λ octets may. path_answered c.replies_are_one.ensures.one _ _ _ c.in-Some-AtPath.task c.in-Some-AtPath.path.now _ _ _ _ _ octets _ _ is c.code-in-Some-AtPath.ensures (c.at_path-outcome.ensures.replied octets) may)
 
 pub returns-in-None-clause-promises : goal.returns-in-None-clause-promises
-returns-in-None-clause-promises g c = λ octets script asks. promises_kept c.scripts_keep_promises.ensures.promises _ octets script asks
+returns-in-None-clause-promises g c = λ octets script asks. promises_kept c.scripts_hold_throughout.ensures.throughout _ octets script asks
 
 pub returns-in-Some-OnInput-clause-promises : goal.returns-in-Some-OnInput-clause-promises
-returns-in-Some-OnInput-clause-promises g c = λ octets script asks. promises_kept c.scripts_keep_promises.ensures.promises _ octets script asks
+returns-in-Some-OnInput-clause-promises g c = λ octets script asks. promises_kept c.scripts_hold_throughout.ensures.throughout _ octets script asks
 
 pub returns-in-Some-AtPath-clause-promises : goal.returns-in-Some-AtPath-clause-promises
-returns-in-Some-AtPath-clause-promises g c = λ octets script asks. promises_kept c.scripts_keep_promises.ensures.promises _ octets script asks
+returns-in-Some-AtPath-clause-promises g c = λ octets script asks. promises_kept c.scripts_hold_throughout.ensures.throughout _ octets script asks
 
 pub returns-in-Some-Big-clause-replied : goal.returns-in-Some-Big-clause-replied
 returns-in-Some-Big-clause-replied g c =
@@ -42,7 +42,7 @@ returns-in-Some-Big-clause-replied g c =
     (λ octets may. number_answered c.replies_are_one.ensures.one _ _ _ c.in-Some-Big.number _ _ octets _ _ is c.code-in-Some-Big.ensures c.tell_sums.ensures.replied)
 
 pub returns-in-Some-Big-clause-promises : goal.returns-in-Some-Big-clause-promises
-returns-in-Some-Big-clause-promises g c = λ octets script asks. promises_kept c.scripts_keep_promises.ensures.promises _ octets script asks
+returns-in-Some-Big-clause-promises g c = λ octets script asks. promises_kept c.scripts_hold_throughout.ensures.throughout _ octets script asks
 
 pub returns-in-Some-Subscribe-clause-replied : goal.returns-in-Some-Subscribe-clause-replied
 returns-in-Some-Subscribe-clause-replied g c =
@@ -51,7 +51,7 @@ returns-in-Some-Subscribe-clause-replied g c =
     (λ octets may. absurd (none-known _ c.in-Some-Subscribe.path.now _ _ _ octets is may))
 
 pub returns-in-Some-Subscribe-clause-promises : goal.returns-in-Some-Subscribe-clause-promises
-returns-in-Some-Subscribe-clause-promises g c = λ octets script asks. promises_kept c.scripts_keep_promises.ensures.promises _ octets script asks
+returns-in-Some-Subscribe-clause-promises g c = λ octets script asks. promises_kept c.scripts_hold_throughout.ensures.throughout _ octets script asks
 
 pub returns-in-Some-Subscribe-clause-followed : goal.returns-in-Some-Subscribe-clause-followed
 returns-in-Some-Subscribe-clause-followed g c = λ octets.
@@ -83,7 +83,7 @@ returns-in-Some-Serve-clause-replied g c =
     (λ octets may. absurd (none-known-served _ c.in-Some-Serve.path.now _ _ _ octets is may))
 
 pub returns-in-Some-Serve-clause-promises : goal.returns-in-Some-Serve-clause-promises
-returns-in-Some-Serve-clause-promises g c = λ octets script asks. promises_kept c.scripts_keep_promises.ensures.promises _ octets script asks
+returns-in-Some-Serve-clause-promises g c = λ octets script asks. promises_kept c.scripts_hold_throughout.ensures.throughout _ octets script asks
 
 pub returns-in-Some-Serve-clause-followed : goal.returns-in-Some-Serve-clause-followed
 returns-in-Some-Serve-clause-followed g c = λ octets.

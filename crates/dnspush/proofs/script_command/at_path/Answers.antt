@@ -1,11 +1,11 @@
 use Rattle.std.proofs.Common.{subst, sym, ap}
 use Rattle.push_outside.specs.Outside.{Telling}
-use Rattle.dnspush.specs.Runs.{MayHaveGiven}
+use Rattle.dnspush.specs.Runs.{MayHaveGiven, UsesAtMost}
 use Rattle.replay.specs.TextWords.{by_notices}
 use Rattle.scripts.specs.Sources.{front_read}
 use Rattle.scripts.proofs.Written.{answered, unread_is, starved_is}
 use Rattle.dnspush.specs.ScriptCommands.{task_reply}
-use Rattle.dnspush.proofs.Running.{replied_back, brought, failed_open}
+use Rattle.dnspush.proofs.Running.{replied_back, brought, failed_open, used_most, used_none}
 use Rattle.dnspush.proofs.script_command.at_path.Goals as goal
 
 pub returns-in-Ok-clause-replied : goal.returns-in-Ok-clause-replied
@@ -22,3 +22,14 @@ pub returns-in-Err-NoMemory-clause-replied : goal.returns-in-Err-NoMemory-clause
 returns-in-Err-NoMemory-clause-replied g c = λ octets may.
     let reply = task_reply by_notices c.args.task (front_read octets) in
     answered _ reply _ _ _ _ _ (starved_is _ reply) c.tell-in-Err-NoMemory.ensures.told
+
+pub returns-in-Ok-clause-used : goal.returns-in-Ok-clause-used
+returns-in-Ok-clause-used g c =
+    subst (λ before. UsesAtMost before (g.O.Outside.told c.back_in.new.self).used) (ap (λ (t : Telling). t.used) c.in-Ok.ensures.told)
+    (used_most _ _ _ _ _ _ c.in-Ok.ensures.fresh c.on_source-outcome.ensures.gave c.on_source-outcome.ensures.most c.back_in.ensures.used)
+
+pub returns-in-Err-Failed-clause-used : goal.returns-in-Err-Failed-clause-used
+returns-in-Err-Failed-clause-used g c = subst (UsesAtMost (g.O.Outside.told c.args.outside.now).used) (sym (ap (λ (t : Telling). t.used) c.in-Err-Failed.ensures.told)) (used_none _)
+
+pub returns-in-Err-NoMemory-clause-used : goal.returns-in-Err-NoMemory-clause-used
+returns-in-Err-NoMemory-clause-used g c = subst (UsesAtMost (g.O.Outside.told c.args.outside.now).used) (sym (ap (λ (t : Telling). t.used) c.in-Err-NoMemory.ensures.told)) (used_none _)

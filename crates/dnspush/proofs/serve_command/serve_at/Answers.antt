@@ -1,4 +1,4 @@
-use Rattle.std.proofs.Common.{ℕ, List, Err, refl, ◌∙◌, ap, subst}
+use Rattle.std.proofs.Common.{ℕ, List, Err, refl, ◌∙◌, ap, subst, sym}
 use Rattle.push_outside.specs.Outside.{Telling}
 use Rattle.scripts.specs.declared.read.ReadError.{ReadError}
 use Rattle.scripts.specs.Outcomes.{status_of}
@@ -6,7 +6,7 @@ use Rattle.scripts.specs.Sources.{front_read}
 use Rattle.scripts.specs.declared.outcome.Outcome.{Outcome}
 use Rattle.scripts.specs.declared.outcome.Outcome.TheVariants as outcomes
 use Rattle.configurations.specs.Configurations.{serving_of}
-use Rattle.dnspush.specs.Runs.{MayHaveGiven}
+use Rattle.dnspush.specs.Runs.{MayHaveGiven, UsesAtMost}
 use Rattle.dnspush.specs.Serving.{Shares}
 use Rattle.dnspush.specs.Status.{code_of}
 use Rattle.dnspush.proofs.Serving.{serves-read, starved, unread, unserved_reading}
@@ -40,3 +40,6 @@ pub returns-in-Err-NoMemory-clause-shared : goal.returns-in-Err-NoMemory-clause-
 returns-in-Err-NoMemory-clause-shared g c = λ octets may.
     shares_nothing (serving_of (front_read octets)) (status_of c.tell-in-Err-NoMemory.result) (g.W.Register.hubs c.args.register.now) (g.W.Register.hubs c.args.register.now)
     (gives_up Outcome status_of outcomes.NoMemory outcomes.WriteFault c.tell-in-Err-NoMemory.result _ refl refl c.tell-in-Err-NoMemory.ensures.cause) refl
+
+pub returns-in-Ok-clause-used : goal.returns-in-Ok-clause-used
+returns-in-Ok-clause-used g c = subst (UsesAtMost (g.O.Outside.told c.args.outside.now).used) (sym (ap (λ (t : Telling). t.used) c.serve_text.ensures.told)) c.read_path.ensures.used

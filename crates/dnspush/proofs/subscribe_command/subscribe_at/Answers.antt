@@ -1,7 +1,7 @@
-use Rattle.std.proofs.Common.{Err, ◌∙◌, ap, subst}
+use Rattle.std.proofs.Common.{Err, ◌∙◌, ap, subst, sym}
 use Rattle.push_outside.specs.Outside.{Telling}
 use Rattle.scripts.specs.declared.read.ReadError.{ReadError}
-use Rattle.dnspush.specs.Runs.{MayHaveGiven}
+use Rattle.dnspush.specs.Runs.{MayHaveGiven, UsesAtMost}
 use Rattle.dnspush.proofs.Following.{follows-read, starved, not-read}
 use Rattle.dnspush.proofs.subscribe_command.subscribe_at.Goals as goal
 
@@ -19,3 +19,6 @@ pub returns-in-Err-NoMemory-clause-followed : goal.returns-in-Err-NoMemory-claus
 returns-in-Err-NoMemory-clause-followed g c = λ octets may.
     starved _ _ _ _ (ap (λ (t : Telling). t.dialled) c.read_path.ensures.told) (ap (λ (t : Telling). t.lines) c.read_path.ensures.told) (ap (λ (t : Telling). t.wires) c.read_path.ensures.told) (ap (λ (t : Telling). t.moments) c.read_path.ensures.told)
     c.tell-in-Err-NoMemory.ensures.told
+
+pub returns-in-Ok-clause-used : goal.returns-in-Ok-clause-used
+returns-in-Ok-clause-used g c = subst (UsesAtMost (g.O.Outside.told c.args.outside.now).used) (sym (ap (λ (t : Telling). t.used) c.follow.ensures.told)) c.read_path.ensures.used

@@ -1,6 +1,6 @@
-use Rattle.std.proofs.Common.{arith, ◌<◌}
-use Rattle.hublock.proofs.Leading.{goes_on_by}
-use Rattle.hublock.proofs.LineReads.{ended_at_once, ended_at_turns, ended_after_none}
+use Rattle.std.proofs.Common.{arith, ◌<◌, ◌≡◌}
+use Rattle.hublock.proofs.Leading.{goes_on_by, idle_after_none}
+use Rattle.hublock.proofs.LineReads.{ended_at_once, ended_at_turns, ended_after_none, offered_none}
 use Rattle.hublock.proofs.reader.offer.Goals as goal
 
 pub returns-then-done : goal.returns-then-done
@@ -12,4 +12,16 @@ returns-then-turns-eq0 g c = record { run = ended_at_turns c.args.session (g.G.G
 pub returns-then-done-2 : goal.returns-then-done-2
 returns-then-done-2 g c =
     let more : 0 < c.args.turns = omega (arith, c.if-turns-eq0.false) in
-    record { run = ended_after_none c.args.session (g.G.Gate.state c.args.gate.now) (g.G.Gate.state c.done.new.self) (g.G.Gate.state c.take-count.new.self) (g.G.Gate.state c.done-then-count-eq0.new.self) c.args.piece.now c.args.turns c.take-count.result c.done-then-count-eq0.result c.requires.some more c.if-count-eq0.true c.done.ensures.same c.take-count.ensures.call c.done-then-count-eq0.ensures.same c.done-then-count-eq0.ensures.answer c.if-done-2.true c.requires.goes_on }
+    let none : c.take-count.result ≡ 0 = omega (arith, c.if-count-gt0.false) in
+    record { run = ended_after_none c.args.session (g.G.Gate.state c.args.gate.now) (g.G.Gate.state c.done.new.self) (g.G.Gate.state c.take-count.new.self) (g.G.Gate.state c.done-2.new.self) c.args.piece.now c.args.turns c.take-count.result c.done-2.result c.requires.some more none c.done.ensures.same c.take-count.ensures.call c.done-2.ensures.same c.done-2.ensures.answer c.if-done-2.true c.requires.goes_on }
+
+pub pause-requires : goal.pause-requires
+pause-requires g c =
+    let none : c.take-count.result ≡ 0 = omega (arith, c.if-count-gt0.false) in
+    idle_after_none (g.G.Gate.state c.take-count.new.self) (g.G.Gate.state c.done-2.new.self) c.take-count.result none c.done-2.ensures.same c.take-count.ensures.idle
+
+pub returns : goal.returns
+returns g c =
+    let more : 0 < c.args.turns = omega (arith, c.if-turns-eq0.false) in
+    let none : c.take-count.result ≡ 0 = omega (arith, c.if-count-gt0.false) in
+    record { run = offered_none c.args.session (g.G.Gate.state c.args.gate.now) (g.G.Gate.state c.done.new.self) (g.G.Gate.state c.take-count.new.self) (g.G.Gate.state c.done-2.new.self) (g.G.Gate.state c.pause.new.self) c.args.piece.now c.args.turns c.take-count.result none more c.done.ensures.same c.take-count.ensures.call c.done-2.ensures.same c.pause.ensures }

@@ -38,3 +38,9 @@ pub returns-in-Err-NoMemory-clause-run : goal.returns-in-Err-NoMemory-clause-run
 returns-in-Err-NoMemory-clause-run g c =
     let more : 0 < c.args.turns = omega (arith, c.if-turns-eq0.false) in
     starved_at_give c.args.session (observed (g.G.Gate.state c.args.gate.now) (g.K.Sink.taken c.args.sink.now) (g.K.Sink.calls c.args.sink.now)) (observed (g.G.Gate.state c.give.new.self) (g.K.Sink.taken c.args.sink.now) (g.K.Sink.calls c.args.sink.now)) (g.G.Gate.state c.done-idle.new.self) c.args.buf.now c.give.new.buf c.args.turns c.done-idle.ensures.same (rw c.in-Err-NoMemory.field-0-is at c.in-Err-NoMemory.ensures.call) refl refl more
+
+pub wait_on-requires : goal.wait_on-requires
+wait_on-requires g c = rw c.in-Ok-Nothing.field-0-is at c.in-Ok-Nothing.ensures.idle
+
+pub wait_on-requires-in-Ok-Ending : goal.wait_on-requires-in-Ok-Ending
+wait_on-requires-in-Ok-Ending g c = rw c.in-Ok-Ending.field-0-is at c.in-Ok-Ending.ensures.idle

@@ -1,4 +1,4 @@
-use Rattle.std.proofs.Common.{◌≡◌, ◌∙◌, fold, sym, ap, subst}
+use Rattle.std.proofs.Common.{◌∙◌, fold, sym, ap, subst}
 use Rattle.std.proofs.lemmas.List.{drop_all}
 use Rattle.rrset.specs.Tables.{TableState}
 use Rattle.nametable.specs.Nodes.{Nodes, all_rows}

@@ -9,7 +9,7 @@ pub returns-in-Ok : goal.returns-in-Ok
 returns-in-Ok c =
     let known = parties_of c.args.world.now in
     let hub = c.args.world.now.hub in
-    let between = c.moment.new.self in
+    let between = c.moment_uncounted.new.self in
     let text = string_bytes c.new.result in
     let later = c.clients_timed.new.world.hub in
     let known_later = parties_of c.clients_timed.new.world in
@@ -21,7 +21,7 @@ pub returns-in_ok-text-in-Err-Full : goal.returns-in_ok-text-in-Err-Full
 returns-in_ok-text-in-Err-Full c =
     let known = parties_of c.args.world.now in
     let hub = c.args.world.now.hub in
-    let between = c.moment.new.self in
+    let between = c.moment_uncounted.new.self in
     let text = string_bytes c.in_ok-text-in-Err-Full.text in
     let later = c.clients_timed-in-Err-Full.new.world.hub in
     let known_later = parties_of c.clients_timed-in-Err-Full.new.world in

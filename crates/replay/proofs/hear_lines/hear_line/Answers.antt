@@ -10,14 +10,14 @@ returns-in-Ok c = λ w at.
     let world = c.args.world.now in
     let known = parties_of world in
     let heard = Some c.in-Ok.heard in
-    if_acts (hears w c.args.datagram.now) world.hub c.hear.new.self known known (heard_words heard ++ 10 ∷ []) c.heard_text.result
-    (λ written is. hears-act world.hub c.hear.new.self known w c.args.link c.args.datagram.now written heard
+    if_acts (hears w c.args.datagram.now) world.hub c.hear_uncounted.new.self known known (heard_words heard ++ 10 ∷ []) c.heard_text.result
+    (λ written is. hears-act world.hub c.hear_uncounted.new.self known w c.args.link c.args.datagram.now written heard
     (ap number_or_zero (sym at)) c.in-Ok.ensures.ok is) c.heard_text.ensures
 
 pub returns-in-Err-Full : goal.returns-in-Err-Full
 returns-in-Err-Full c = λ w at.
     let world = c.args.world.now in
     let known = parties_of world in
-    if_acts (hears w c.args.datagram.now) world.hub c.hear.new.self known known (heard_words None ++ 10 ∷ []) c.full_text.result
-    (λ written is. hears-act world.hub c.hear.new.self known w c.args.link c.args.datagram.now written None
+    if_acts (hears w c.args.datagram.now) world.hub c.hear_uncounted.new.self known known (heard_words None ++ 10 ∷ []) c.full_text.result
+    (λ written is. hears-act world.hub c.hear_uncounted.new.self known w c.args.link c.args.datagram.now written None
     (ap number_or_zero (sym at)) (c.in-Err-Full.ensures.full (is_err _ _ c.in-Err-Full.field-0-is)) is) c.full_text.ensures

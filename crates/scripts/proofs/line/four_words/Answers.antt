@@ -1,5 +1,6 @@
 use Rattle.std.proofs.Common.{◌∷◌, ap, ◌∙◌}
-use Rattle.scripts.proofs.lines.Splits.{word_alone, four_of_more}
+use Rattle.scripts.proofs.lines.Pieces.{word_alone}
+use Rattle.scripts.proofs.lines.Splits.{four_of_more}
 use Rattle.scripts.proofs.line.four_words.Goals as goal
 
 pub returns-in-Some-clause-none : goal.returns-in-Some-clause-none

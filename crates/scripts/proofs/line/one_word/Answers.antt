@@ -1,4 +1,5 @@
-use Rattle.scripts.proofs.lines.Splits.{word_alone, one_of_more}
+use Rattle.scripts.proofs.lines.Pieces.{word_alone}
+use Rattle.scripts.proofs.lines.Splits.{one_of_more}
 use Rattle.scripts.proofs.line.one_word.Goals as goal
 
 pub returns-in-Some-clause-none : goal.returns-in-Some-clause-none

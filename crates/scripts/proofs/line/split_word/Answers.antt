@@ -1,4 +1,4 @@
-use Rattle.scripts.proofs.lines.Splits.{word_at, word_alone}
+use Rattle.scripts.proofs.lines.Pieces.{word_at, word_alone}
 use Rattle.scripts.proofs.line.split_word.Goals as goal
 
 pub returns-in-Some-clause-found : goal.returns-in-Some-clause-found

@@ -1,5 +1,6 @@
 use Rattle.std.proofs.Common.{◌∷◌, ap, ◌∙◌}
-use Rattle.scripts.proofs.lines.Splits.{word_alone, three_of_more}
+use Rattle.scripts.proofs.lines.Pieces.{word_alone}
+use Rattle.scripts.proofs.lines.Splits.{three_of_more}
 use Rattle.scripts.proofs.line.three_words.Goals as goal
 
 pub returns-in-Some-clause-none : goal.returns-in-Some-clause-none

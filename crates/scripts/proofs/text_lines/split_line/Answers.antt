@@ -1,4 +1,4 @@
-use Rattle.scripts.proofs.lines.Lines.{line_at, line_alone}
+use Rattle.scripts.proofs.lines.Pieces.{line_at, line_alone}
 use Rattle.scripts.proofs.text_lines.split_line.Goals as goal
 
 pub returns-in-Some-clause-lines : goal.returns-in-Some-clause-lines

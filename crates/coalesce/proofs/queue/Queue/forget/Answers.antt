@@ -1,7 +1,7 @@
-use Rattle.std.proofs.Common.{subst, sym}
-use Rattle.coalesce.specs.Waiting.{AreApart}
-use Rattle.coalesce.proofs.Waits.{others_wait}
+use Rattle.std.proofs.Common.{◌∙◌, ap}
+use Rattle.coalesce.specs.Waiting.{names_waiting, without_name}
+use Rattle.coalesce.proofs.Entries.{removed}
 use Rattle.coalesce.proofs.queue.Queue.forget.Goals as goal
 
-pub invariant_of-self : goal.invariant_of-self
-invariant_of-self c = subst AreApart (sym c.take_out.ensures) (others_wait c.args.name.now c.self.inside.names.items c.self.invariant)
+pub returns : goal.returns
+returns c = ap names_waiting c.shift_remove.ensures.entries ∙ removed c.args.name.now c.self.inside.names.entries c.len-len.ensures.unique ∙ ap (without_name c.args.name.now) c.self.view_is

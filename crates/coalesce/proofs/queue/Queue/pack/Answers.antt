@@ -1,7 +1,18 @@
-use Rattle.std.proofs.Common.{subst, sym}
-use Rattle.coalesce.specs.Waiting.{AreApart}
-use Rattle.coalesce.proofs.Waits.{last_wait}
+use Rattle.std.proofs.Common.{◌≡◌, ℕ, ◌-◌, List, length, drop, ap, sym, ◌∙◌}
+use Rattle.coalesce.specs.Waiting.{names_waiting, packed_of, left_in}
+use Rattle.coalesce.proofs.Entries.{Entry, names-dropped, count-waiting}
 use Rattle.coalesce.proofs.queue.Queue.pack.Goals as goal
 
-pub invariant_of-self : goal.invariant_of-self
-invariant_of-self c = subst AreApart (sym c.drop_front.ensures) (last_wait c.front_of-front.result.names c.self.inside.names.items c.self.invariant)
+pub returns-clause-left : goal.returns-clause-left
+returns-clause-left g c =
+    let asked = c.args.questions.now in
+    let rows = c.args.index.now.rows in
+    let entries = c.self.inside.names.entries in
+    let count : c.front_of-front.result.names ≡ length (names_waiting entries) - length (packed_of asked rows (names_waiting entries)).1 =
+    c.front_of-front.ensures.names
+    ∙ ap (λ (l : List Entry). length l - length (packed_of asked rows (names_waiting l)).1) c.as_slice.ensures.entries
+    ∙ ap (λ (n : ℕ). n - length (packed_of asked rows (names_waiting entries)).1) (sym (count-waiting entries)) in
+    ap names_waiting c.drop_front.ensures
+    ∙ names-dropped c.front_of-front.result.names entries
+    ∙ ap (λ (n : ℕ). drop n (names_waiting entries)) count
+    ∙ ap (left_in asked rows) c.self.view_is

@@ -22,7 +22,7 @@ returns-in_default-clause-many c = λ err.
 
 pub invariant_of-self-2 : goal.invariant_of-self-2
 invariant_of-self-2 c =
-    keeps-hub c.self.inside.keeping c.connect.new.self (λ hub. (connect hub).1) c.connect.ensures.index
+    keeps-hub c.self.inside.keeping c.connect.new.self (λ hub. (connect hub).1) c.connect.ensures.index c.connect.ensures.watched
     (λ hub stands. (connect-stands (kept_of c.self.inside.keeping) (kept_of c.connect.new.self) c.in_ok-number.field-0 c.in_ok-number.ensures.number c.in_ok-number.ensures.hub hub stands).1) c.self.invariant
 
 pub returns-clause-ok : goal.returns-clause-ok

@@ -9,7 +9,7 @@ pub end-requires : goal.end-requires
 end-requires c = sound c.self.inside.keeping c.self.invariant
 
 pub invariant_of-self : goal.invariant_of-self
-invariant_of-self c = keeps-hub c.self.inside.keeping c.end.new.self (λ hub. disconnect hub c.args.session) c.end.ensures.index (end-stands (kept_of c.self.inside.keeping) (kept_of c.end.new.self) c.args.session c.end.ensures.hub) c.self.invariant
+invariant_of-self c = keeps-hub c.self.inside.keeping c.end.new.self (λ hub. disconnect hub c.args.session) c.end.ensures.index c.end.ensures.watched (end-stands (kept_of c.self.inside.keeping) (kept_of c.end.new.self) c.args.session c.end.ensures.hub) c.self.invariant
 
 pub returns-clause-hub : goal.returns-clause-hub
 returns-clause-hub c = λ hub stands. end-stands (kept_of c.self.inside.keeping) (kept_of c.end.new.self) c.args.session c.end.ensures.hub hub (seen (kept_of c.self.inside.keeping) c.args.self.now c.self.view_is hub stands)

@@ -7,19 +7,19 @@ use Rattle.pushserver.proofs.HubSteps.{keeps-hub, same-hub, moment-stands, seen}
 use Rattle.pushserver.proofs.hub.Hub.moment.Goals as goal
 
 pub moment-requires-clause-sound : goal.moment-requires-clause-sound
-moment-requires-clause-sound c = sound c.self.inside.keeping c.self.invariant
+moment-requires-clause-sound g c = sound c.self.inside.keeping c.self.invariant
 
 pub invariant_of-self : goal.invariant_of-self
-invariant_of-self c = same-hub c.self.inside.keeping c.moment.new.self c.moment.ensures.index c.in_err-moment.ensures.err c.self.invariant
+invariant_of-self g c = same-hub c.self.inside.keeping c.moment.new.self c.moment.ensures.index c.moment.ensures.watched c.in_err-moment.ensures.err c.self.invariant
 
 pub invariant_of-self-2 : goal.invariant_of-self-2
-invariant_of-self-2 c =
-    keeps-hub c.self.inside.keeping c.moment.new.self (λ hub. (moment hub c.args.at).1) c.moment.ensures.index
+invariant_of-self-2 g c =
+    keeps-hub c.self.inside.keeping c.moment.new.self (λ hub. (moment hub c.args.at).1) c.moment.ensures.index c.moment.ensures.watched
     (λ hub stands. (moment-stands (kept_of c.self.inside.keeping) (kept_of c.moment.new.self) c.args.at c.in_ok-moment.field-0 c.in_ok-moment.ensures.full c.in_ok-moment.ensures.hub hub stands).1) c.self.invariant
 
 pub returns-clause-ok : goal.returns-clause-ok
-returns-clause-ok c = λ hub stands.
+returns-clause-ok g c = λ hub stands.
     moment-stands (kept_of c.self.inside.keeping) (kept_of c.moment.new.self) c.args.at false (sym c.if-branch.false ∙ c.in_ok-moment.ensures.full) c.in_ok-moment.ensures.hub hub (seen (kept_of c.self.inside.keeping) c.args.self.now c.self.view_is hub stands)
 
 pub returns-clause-kept : goal.returns-clause-kept
-returns-clause-kept c = rw (← c.self.view_is) (sym c.in_ok-moment.ensures.full ∙ c.if-branch.false, c.in_ok-moment.ensures.hub)
+returns-clause-kept g c = rw (← c.self.view_is) (sym c.in_ok-moment.ensures.full ∙ c.if-branch.false, c.in_ok-moment.ensures.hub)

@@ -9,7 +9,7 @@ pub stop-requires : goal.stop-requires
 stop-requires c = sound c.self.inside.keeping c.self.invariant
 
 pub invariant_of-self : goal.invariant_of-self
-invariant_of-self c = keeps-hub c.self.inside.keeping c.stop.new.self (λ hub. stop hub c.args.session c.args.rcode c.args.delay) c.stop.ensures.index (stop-stands (kept_of c.self.inside.keeping) (kept_of c.stop.new.self) c.args.session c.args.rcode c.args.delay c.stop.ensures.hub) c.self.invariant
+invariant_of-self c = keeps-hub c.self.inside.keeping c.stop.new.self (λ hub. stop hub c.args.session c.args.rcode c.args.delay) c.stop.ensures.index c.stop.ensures.watched (stop-stands (kept_of c.self.inside.keeping) (kept_of c.stop.new.self) c.args.session c.args.rcode c.args.delay c.stop.ensures.hub) c.self.invariant
 
 pub returns-clause-hub : goal.returns-clause-hub
 returns-clause-hub c = λ hub stands. stop-stands (kept_of c.self.inside.keeping) (kept_of c.stop.new.self) c.args.session c.args.rcode c.args.delay c.stop.ensures.hub hub (seen (kept_of c.self.inside.keeping) c.args.self.now c.self.view_is hub stands)

@@ -13,7 +13,7 @@ take-requires c = sound c.self.inside.keeping c.self.invariant
 pub invariant_of-self : goal.invariant_of-self
 invariant_of-self c =
     let octets = are_octets c.args.piece.now (λ i h. omega (arith, c.type_inv.piece i)) in
-    keeps-hub c.self.inside.keeping c.take.new.self (λ hub. take_octets hub c.args.session c.args.piece.now) c.take.ensures.index
+    keeps-hub c.self.inside.keeping c.take.new.self (λ hub. take_octets hub c.args.session c.args.piece.now) c.take.ensures.index c.take.ensures.watched
     (λ hub stands. (take-stands (kept_of c.self.inside.keeping) (kept_of c.take.new.self) c.args.session c.args.piece.now c.take.result octets c.take.ensures.count c.take.ensures.hub hub stands).1) c.self.invariant
 
 pub returns-clause-count : goal.returns-clause-count

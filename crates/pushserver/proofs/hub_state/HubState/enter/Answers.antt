@@ -1,44 +1,85 @@
 -- What an entry makes of the table, and how it is undone.
-use Rattle.std.proofs.Common.{ℕ, List, sym, ap, subst, ◌∙◌}
+use Rattle.std.proofs.Common.{ℕ, ◌+◌, List, length, refl, sym, ap, subst, ◌∙◌}
 use Rattle.rrset.specs.RecordSet.{with_changes}
 use Rattle.rrset.specs.declared.record.Changed.{Changed}
 use Rattle.nametable.specs.Nodes.{HasRoomFor, HaveRisingKeys, keys_put}
 use Rattle.zoneupdate.proofs.Plans.{HaveLowerKeys}
 use Rattle.history.specs.Kept.{records_now}
-use Rattle.pushsession.specs.Kept.{taken_back}
-use Rattle.pushserver.specs.Hubs.{all_sessions, entry_changes}
+use Rattle.pushsession.specs.Kept.{KeptSession, keeping, taken_back}
+use Rattle.pushserver.specs.Hubs.{Numbered, all_sessions, entry_changes}
 use Rattle.pushserver.specs.HubState.{kept_of}
+use Rattle.subscr.specs.Watching.{watching_of}
+use Rattle.pushsession.specs.Sessions.{noted}
 use Rattle.pushserver.specs.NumberedSessions.{WaitBefore}
+use Rattle.push_base.specs.Counted.{CountsUpTo}
+use Rattle.pushserver.specs.Watched.{Watches, noting_steps}
+use Rattle.pushserver.proofs.Watched.{watched-all}
+use Rattle.pushserver.proofs.Stepping.{within-reserved, within-noted, within-made}
 use Rattle.pushserver.proofs.EntrySteps.{entry-lower, entry-rising, entry-rows, on_is_err, on_not_err}
-use Rattle.pushserver.proofs.Noting.{all_back-noted, all_back-kept}
+use Rattle.pushserver.proofs.NotedSessions.{all_back-noted, all_back-kept}
 use Rattle.pushserver.proofs.hub_state.HubState.enter.Goals as goal
 
 pub returns-then-is_err-clause-err : goal.returns-then-is_err-clause-err
-returns-then-is_err-clause-err c =
+returns-then-is_err-clause-err g c =
     let past = on_is_err c.append.result c.is_err.result c.is_err.ensures.value c.if-is_err.true c.append.ensures.err in
     let sessions =
     c.take_back.ensures ∙ ap (all_sessions (taken_back c.point-point.result)) c.in_ok-note.ensures.ok
-    ∙ all_back-noted c.as_slice-2.result.now c.reserve_for.new.self.rows c.point-point.result c.args.self.now.sessions
+    ∙ all_back-noted c.as_slice-2.result.now c.point-point.result c.args.self.now.sessions
     ∙ all_back-kept c.point-point.result c.args.self.now.sessions (subst (λ (n : ℕ). WaitBefore n c.args.self.now.sessions) (sym c.point-point.ensures) c.requires.sound.waiting) in
     λ i. record { start = (past i).start; timers = c.args.self.now.timers; history = (past i).history; sessions = sessions i; numbers_given = c.args.self.now.numbers_given }
 
 pub reserve_for-requires-clause-lower : goal.reserve_for-requires-clause-lower
-reserve_for-requires-clause-lower c = subst HaveLowerKeys (sym (c.as_slice.ensures ∙ c.requires.changes)) (entry-lower c.args.self.now.points.past c.args.entry c.requires.sound.home)
+reserve_for-requires-clause-lower g c = subst HaveLowerKeys (sym (c.as_slice.ensures ∙ c.requires.changes)) (entry-lower c.args.self.now.points.past c.args.entry c.requires.sound.home)
 
 pub reserve_for-requires-clause-order : goal.reserve_for-requires-clause-order
-reserve_for-requires-clause-order c = subst HaveRisingKeys (sym (c.as_slice.ensures ∙ c.requires.changes)) (entry-rising c.args.self.now.points.past c.args.entry c.requires.sound.home)
+reserve_for-requires-clause-order g c = subst HaveRisingKeys (sym (c.as_slice.ensures ∙ c.requires.changes)) (entry-rising c.args.self.now.points.past c.args.entry c.requires.sound.home)
 
 pub make_changes-requires-clause-room : goal.make_changes-requires-clause-room
-make_changes-requires-clause-room c =
+make_changes-requires-clause-room g c =
     subst (λ (changed : List Changed). HasRoomFor (keys_put changed) c.reserve_for.new.self.nodes) (c.as_slice.ensures ∙ sym c.into_vec.ensures) c.in_ok-reserve_for.ensures.room
 
 pub make_changes-requires-clause-lower : goal.make_changes-requires-clause-lower
-make_changes-requires-clause-lower c = subst HaveLowerKeys (sym (c.into_vec.ensures ∙ c.requires.changes)) (entry-lower c.args.self.now.points.past c.args.entry c.requires.sound.home)
+make_changes-requires-clause-lower g c = subst HaveLowerKeys (sym (c.into_vec.ensures ∙ c.requires.changes)) (entry-lower c.args.self.now.points.past c.args.entry c.requires.sound.home)
 
 pub returns-clause-index : goal.returns-clause-index
-returns-clause-index c =
+returns-clause-index g c =
     let past = on_not_err c.append.result c.is_err.result c.is_err.ensures.value c.if-is_err.false c.append.ensures.ok in
-    c.make_changes.ensures ∙ ap (λ cs. with_changes cs c.reserve_for.new.self.rows) (c.into_vec.ensures ∙ c.requires.changes)
+    c.make_changes.ensures.rows ∙ ap (λ cs. with_changes cs c.reserve_for.new.self.rows) (c.into_vec.ensures ∙ c.requires.changes)
     ∙ ap (with_changes (entry_changes c.args.entry (kept_of c.args.self.now))) (c.in_ok-reserve_for.ensures.rows ∙ c.requires.sound.index)
     ∙ entry-rows c.args.self.now.points.past c.args.entry c.requires.sound.home
     ∙ ap records_now (sym past)
+
+pub returns-in_err-reserve_for-clause-steps : goal.returns-in_err-reserve_for-clause-steps
+returns-in_err-reserve_for-clause-steps g c =
+    let same = c.as_slice.ensures ∙ c.requires.changes in
+    within-reserved (kept_of c.args.self.now) (entry_changes c.args.entry (kept_of c.args.self.now)) c.args.steps.now c.reserve_for.new.steps (c.reserve_for.ensures.steps ∙ ap (λ (cs : List Changed). c.args.steps.now + length cs) same)
+
+pub returns-in_err-note-clause-watched : goal.returns-in_err-note-clause-watched
+returns-in_err-note-clause-watched g c = subst (λ (xs : Numbered KeptSession). Watches (watching_of c.args.self.now.watchers) xs) (sym c.in_err-note.ensures.err) c.requires.sound.watched
+
+pub returns-then-is_err-clause-watched : goal.returns-then-is_err-clause-watched
+returns-then-is_err-clause-watched g c =
+    subst (λ (xs : Numbered KeptSession). Watches (watching_of c.args.self.now.watchers) xs) (sym (c.take_back.ensures ∙ ap (all_sessions (taken_back c.point-point.result)) c.in_ok-note.ensures.ok))
+    (watched-all (taken_back c.point-point.result) (λ s. refl) (watching_of c.args.self.now.watchers) (all_sessions (noted keeping c.as_slice-2.result.now c.point-point.result) c.args.self.now.sessions)
+    (watched-all (noted keeping c.as_slice-2.result.now c.point-point.result) (λ s. refl) (watching_of c.args.self.now.watchers) c.args.self.now.sessions c.requires.sound.watched))
+
+pub returns-clause-watched : goal.returns-clause-watched
+returns-clause-watched g c =
+    subst (λ (xs : Numbered KeptSession). Watches (watching_of c.args.self.now.watchers) xs) (sym c.in_ok-note.ensures.ok)
+    (watched-all (noted keeping c.as_slice-2.result.now c.point-point.result) (λ s. refl) (watching_of c.args.self.now.watchers) c.args.self.now.sessions c.requires.sound.watched)
+
+pub returns-in_err-note-clause-steps : goal.returns-in_err-note-clause-steps
+returns-in_err-note-clause-steps g c =
+    within-noted (kept_of c.args.self.now) (entry_changes c.args.entry (kept_of c.args.self.now)) c.args.steps.now c.reserve_for.new.steps c.note.new.steps (c.in_ok-reserve_for.ensures.steps ∙ ap (λ (cs : List Changed). c.args.steps.now + length cs) (c.as_slice.ensures ∙ c.requires.changes))
+    (subst (λ (cs : List Changed). CountsUpTo (noting_steps cs c.args.self.now.sessions) c.reserve_for.new.steps c.note.new.steps) (c.as_slice-2.ensures ∙ c.requires.changes) c.in_err-note.ensures.steps)
+
+pub returns-then-is_err-clause-steps : goal.returns-then-is_err-clause-steps
+returns-then-is_err-clause-steps g c =
+    within-noted (kept_of c.args.self.now) (entry_changes c.args.entry (kept_of c.args.self.now)) c.args.steps.now c.reserve_for.new.steps c.note.new.steps (c.in_ok-reserve_for.ensures.steps ∙ ap (λ (cs : List Changed). c.args.steps.now + length cs) (c.as_slice.ensures ∙ c.requires.changes))
+    (subst (λ (cs : List Changed). CountsUpTo (noting_steps cs c.args.self.now.sessions) c.reserve_for.new.steps c.note.new.steps) (c.as_slice-2.ensures ∙ c.requires.changes) c.in_ok-note.ensures.steps)
+
+pub returns-clause-steps : goal.returns-clause-steps
+returns-clause-steps g c =
+    within-made (kept_of c.args.self.now) (entry_changes c.args.entry (kept_of c.args.self.now)) c.args.steps.now c.reserve_for.new.steps c.note.new.steps c.make_changes.new.steps (c.in_ok-reserve_for.ensures.steps ∙ ap (λ (cs : List Changed). c.args.steps.now + length cs) (c.as_slice.ensures ∙ c.requires.changes))
+    (subst (λ (cs : List Changed). CountsUpTo (noting_steps cs c.args.self.now.sessions) c.reserve_for.new.steps c.note.new.steps) (c.as_slice-2.ensures ∙ c.requires.changes) c.in_ok-note.ensures.steps)
+    (c.make_changes.ensures.steps ∙ ap (λ (cs : List Changed). c.note.new.steps + length cs) (c.into_vec.ensures ∙ c.requires.changes))

@@ -1,5 +1,8 @@
 -- The session of the number alone takes octets.
-use Rattle.std.proofs.Common.{ap, ◌∙◌}
+use Rattle.std.proofs.Common.{ap, sym, subst, ◌∙◌}
+use Rattle.subscr.specs.Watching.{watching_of}
+use Rattle.pushserver.specs.Watched.{Watches}
+use Rattle.pushserver.proofs.Watched.{watched-same}
 use Rattle.pushsession.specs.Kept.{KeptSession}
 use Rattle.pushsession.specs.Sessions.{with_piece}
 use Rattle.pushserver.specs.Hubs.{Numbered}
@@ -21,3 +24,11 @@ returns-in-None-clause-count c = taken-none (kept_of c.args.self.now) c.args.num
 
 pub returns-in-None-clause-hub : goal.returns-in-None-clause-hub
 returns-in-None-clause-hub c = ap (λ (xs : Numbered KeptSession). record (kept_of c.args.self.now) { sessions = xs }) (c.get_mut.follows.holds-at-none ∙ absent c.args.number c.args.self.now.sessions (with_piece c.args.piece.now) c.in-None.ensures.value)
+
+pub returns-in-Some-clause-watched : goal.returns-in-Some-clause-watched
+returns-in-Some-clause-watched c =
+    subst (λ (xs : Numbered KeptSession). Watches (watching_of c.args.self.now.watchers) xs) (sym (on_some c.get_mut.result c.in-Some.session c.in-Some.is (c.get_mut.follows.holds c.take.new.self)))
+    (watched-same c.args.number c.in-Some.session.now c.take.new.self (watching_of c.args.self.now.watchers) c.args.self.now.sessions c.in-Some.ensures.value (ap (λ (s : KeptSession). s.subscriptions.asked) c.take.ensures.taken) c.requires.watched)
+
+pub returns-in-None-clause-watched : goal.returns-in-None-clause-watched
+returns-in-None-clause-watched c = subst (λ (xs : Numbered KeptSession). Watches (watching_of c.args.self.now.watchers) xs) (sym c.get_mut.follows.holds-at-none) c.requires.watched

@@ -10,5 +10,5 @@ use Rattle.pushserver.proofs.numbered_sessions.Sessions.moment.Goals as goal
 
 pub invariant_of-self : goal.invariant_of-self
 invariant_of-self c =
-    subst AreApart (sym (with_items_is c.self.inside.numbered c.time_all.new.numbered (c.time_all.auto.numbered ∙ c.deref_mut.ensures.len) ∙ c.time_all.ensures ∙ ap (all_sessions (timed keeping c.args.at)) c.deref_mut.ensures.value))
+    subst AreApart (sym (with_items_is c.self.inside.numbered c.time_all.new.numbered (c.time_all.auto.numbered ∙ c.deref_mut.ensures.len) ∙ c.time_all.ensures.timed ∙ ap (all_sessions (timed keeping c.args.at)) c.deref_mut.ensures.value))
     (apart-all (timed keeping c.args.at) c.self.inside.numbered.items c.self.invariant)

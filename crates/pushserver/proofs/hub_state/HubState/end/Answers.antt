@@ -1,0 +1,10 @@
+-- What it watched goes with it.
+use Rattle.std.proofs.Common.{sym, subst}
+use Rattle.subscr.specs.Watching.{watching_of}
+use Rattle.pushsession.specs.Kept.{KeptSession}
+use Rattle.pushserver.specs.Hubs.{Numbered}
+use Rattle.pushserver.specs.Watched.{Watches}
+use Rattle.pushserver.proofs.hub_state.HubState.end.Goals as goal
+
+pub returns-clause-watched : goal.returns-clause-watched
+returns-clause-watched c = subst (λ (xs : Numbered KeptSession). Watches (watching_of c.unwatch.new.watchers) xs) (sym c.remove.ensures) (c.unwatch.ensures c.requires.watched)
