@@ -40,7 +40,10 @@ impl<K: Ord> Model for Deadlines<K> {
 fn compare<K: Ord>(deadline: &(u64, K), moment: u64, key: &K) -> Ordering
     ensures { result ≡ due_cmp K.cmp deadline.now (moment, key.now) }
 {
-    deadline.0.cmp(&moment).then(deadline.1.cmp(key))
+    match deadline.0.cmp(&moment) {
+        Ordering::Equal => deadline.1.cmp(key),
+        unequal => unequal,
+    }
 }
 
 /// Where a deadline is, or where it would go.

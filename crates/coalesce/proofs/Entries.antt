@@ -1,6 +1,6 @@
 -- A map in insertion order as the names that wait: what is found in it, and what changes of it do to them.
 use Rattle.std.proofs.Common.{◌≡◌, ℕ, zero, suc, length, take, drop, Bool, true, false, cond, not, List, [], ◌∷◌, map, Some, None, refl, sym, ap, subst, ◌∙◌}
-use Rattle.std.specs.Prelude.{Result, Ok, Err, OnOk, OnErr, find, filter, nat_lt, option_map}
+use Rattle.std.specs.Prelude.{Result, Ok, Err, OnOk, OnErr, find, filter, nat_lt, option_map, slice_get}
 use Rattle.std.specs.List.{IsDistinct, AllByRecursion}
 use Rattle.std.specs.Map.{keys_of, lookup, lookup_key, remove_entry, set_value}
 use Rattle.std.specs.Map.Calls.{RetainsPairs}
@@ -8,7 +8,7 @@ use Rattle.indexmap.specs.IndexMap.{insert_entry}
 use Rattle.dnsname.specs.Names.{Labels, same_name}
 use Rattle.rrset.specs.RecordSet.{RecordSet}
 use Rattle.rrset.specs.declared.record.Key.{Key}
-use Rattle.coalesce.specs.Waiting.{WaitingName, OldValue, OldValues, waiting_of, names_waiting, is_named, since, without_name, and_value, and_old_value, with_old_value, values_before, old_before, before_point, CanBePacked}
+use Rattle.coalesce.specs.Waiting.{WaitingName, OldValue, OldValues, waiting_of, names_waiting, is_named, since, first_point, without_name, and_value, and_old_value, with_old_value, values_before, old_before, before_point, CanBePacked}
 use Rattle.coalesce.proofs.SameNames.{same_name-turned, same_name-joined, same_name-swapped}
 
 abbrev pub Entry : Type 0
@@ -173,3 +173,8 @@ pub can-first : (rows : RecordSet) (n : ℕ) (queue : List WaitingName) → CanB
 can-first rows zero queue h = tt
 can-first rows (suc n) [] h = tt
 can-first rows (suc n) (w ∷ ws) h = (h.0, can-first rows n ws h.1)
+
+-- the point of the first entry is that of the first name
+pub first-waiting : (entries : List Entry) → option_map (λ (e : Entry). e.1.point) (slice_get entries 0) ≡ first_point (names_waiting entries)
+first-waiting [] = refl
+first-waiting (e ∷ es) = refl

@@ -5,6 +5,7 @@
 --     OldValues, names_waiting      what is kept of a name; the names that wait with it
 --     with_old point queue change      the queue where a key changes at a point
 --     since queue name, without_name name queue      the point of a name; the queue without it
+--     first_point queue      the point of the name that waits first
 --     before_point point queue, IsOlder point w      what was kept at earlier points; all that is kept of a name was
 --     is_changed, asked_net      whether a name's records differ, and its net, as questions ask for them
 --     tells      whether a name waits with something to tell
@@ -72,6 +73,11 @@ and_old_value old w = record w { values = and_value old w.values }
 abbrev pub with_old_value : List WaitingName → Key × OldValue → List WaitingName
 with_old_value [] old = (record { name = old.0.owner; point = old.1.point; values = old ∷ [] }) ∷ []
 with_old_value (w ∷ ws) old = if is_named old.0.owner w then and_old_value old w ∷ ws else w ∷ with_old_value ws old
+
+-- the point of the name that waits first
+abbrev pub first_point : List WaitingName → Option ℕ
+first_point [] = None
+first_point (w ∷ ws) = Some w.point
 
 -- a key changes at a point
 abbrev pub with_old : ℕ → List WaitingName → Changed → List WaitingName

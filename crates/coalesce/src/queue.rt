@@ -10,7 +10,7 @@ ghost use Rattle.coalesce.specs.FirstAnswers.{first_notices};
 ghost use Rattle.coalesce.specs.Laws.{can_be_sent};
 ghost use Rattle.coalesce.specs.Net.{push_frame, max_net_frame};
 ghost use Rattle.coalesce.specs.Sides.{IsOneSide, frame_octets};
-ghost use Rattle.coalesce.specs.Waiting.{CanBePacked, IsOlder, before_point, differs, is_named, left_in, names_waiting, old_value, packed_of, since, tells, values_before, with_old, with_old_value, without_name};
+ghost use Rattle.coalesce.specs.Waiting.{CanBePacked, IsOlder, before_point, differs, first_point, is_named, left_in, names_waiting, old_value, packed_of, since, tells, values_before, with_old, with_old_value, without_name};
 
 use crate::NoMemory;
 use crate::first::append_first;
@@ -88,6 +88,16 @@ fn keep_before(names: &mut IndexMap<Name, Waiting>, point: u64)
     );
 }
 
+/// The point of the first of the names.
+fn first_point_of(names: &IndexMap<Name, Waiting>) -> Option<u64>
+    ensures { result ≡ first_point (names_waiting names.now.entries) }
+{
+    match names.first() {
+        Some((_, waiting)) => Some(waiting.point),
+        None => None,
+    }
+}
+
 impl Queue {
     /// No names.
     pub fn new(alloc: Global) -> Self
@@ -131,6 +141,13 @@ impl Queue {
             Some(waiting) => Some(waiting.point),
             None => None,
         }
+    }
+
+    /// The point of the name that waits first: the least, where points rise.
+    pub fn least(&self) -> Option<u64>
+        ensures { result ≡ first_point self.now }
+    {
+        first_point_of(&self.names)
     }
 
     /// Takes a name out. The others stay in their order.

@@ -1,10 +1,8 @@
-//! What is logged of a server as a whole, and where the lines go.
+//! Where lines of the log go, and which.
 
-use configurations::{FedLink, ServeConfiguration};
 use log::kv::Source;
 use log::span::Spans;
-use log::{LevelFilter, Line, Log, Metadata, Record, error, info, warn};
-use serving::ServeEnd;
+use log::{LevelFilter, Line, Log, Metadata, Record, warn};
 use std::env;
 use std::env::Env;
 use std::fmt::Display;
@@ -46,34 +44,5 @@ pub(crate) fn level_chosen<R: Env + Eprint + Alloc>(rt: &R) -> LevelFilter {
             warn!(Lines(rt); "{VARIABLE} is no level");
             LevelFilter::Info
         }
-    }
-}
-
-/// The links that a server is to hear.
-pub(crate) fn tell_links<R: Log>(rt: &R, configuration: &ServeConfiguration) {
-    'feeds: for feed in &configuration.feeds {
-        tell_link(rt, feed, configuration.links.get(feed.link));
-    }
-}
-
-// One of them, and its word.
-fn tell_link<R: Log>(rt: &R, feed: &FedLink, word: Option<&String>) {
-    if let Some(word) = word {
-        info!(rt; "link {} is {word}, heard at {}", feed.link, feed.address);
-    }
-}
-
-/// That a server listens.
-pub(crate) fn tell_listening<R: Log>(rt: &R, address: &String) {
-    info!(rt; "listening on {address}");
-}
-
-/// How a server ended.
-pub(crate) fn tell_server_end<R: Log>(rt: &R, end: ServeEnd) {
-    match end {
-        ServeEnd::Served(_) => info!(rt; "all sessions are over"),
-        ServeEnd::OutsideFault => error!(rt; "the server ends for a fault of the system"),
-        ServeEnd::NoMemory => error!(rt; "the server ends for want of memory"),
-        ServeEnd::Full => error!(rt; "the server ends as the journal is full"),
     }
 }

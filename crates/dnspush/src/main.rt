@@ -1,19 +1,7 @@
 //! Serves DNS Push, follows a server as a subscriber, and replays scripts of DNS Push sessions and checks them.
 #![tactic(auto)]
 
-mod command_line;
-mod configured;
-mod line_causes;
 mod log_lines;
-mod program;
-mod script_command;
-mod serve_command;
-#[cfg(test)]
-mod serve_tests;
-mod status;
-mod subscribe_command;
-#[cfg(test)]
-mod tests;
 
 use crate::log_lines::{Lines, level_chosen};
 use hublock::NoRegister;
@@ -38,7 +26,7 @@ fn main(rt: HostRuntime) -> ExitCode {
     let mut out = Writing::new(rt.stdout());
     let mut system = System::new(rt, logged, alloc);
     let register = &mut NoRegister;
-    let status = program::run(
+    let status = commands::run(
         logged,
         alloc,
         &words,

@@ -32,7 +32,7 @@ use Rattle.pushserver.proofs.Walks.{AnyMessage, bring_any, Step, restarts, react
 use Rattle.pushserver.proofs.hub_steps.Cases.{itself_as}
 use Rattle.pushserver.proofs.hub_steps.Pairs.{all-weaken}
 use Rattle.pushsession.specs.Reactions.{reacts_itself, by_itself}
-use Rattle.pushsession.specs.Sessions.{new_session, with_piece, is_open, asked_to_stop, ended_with, due, ended_where, timed, with_frame, answers, says_stop, without_first}
+use Rattle.pushsession.specs.Sessions.{new_session, with_piece, is_open, asked_to_stop, ended_with, ended_where, with_frame, answers, says_stop, without_first}
 use Rattle.pushsession.specs.Subscribing.{Verdict, says_notices, subscribed, says_first_answer, first_answer_size, decided, answered}
 use Rattle.pushsession.specs.declared.session_status.SessionStatus.TheVariants.{AskedToStop}
 use Rattle.pushtelling.proofs.Tells.{by_entry}
@@ -177,12 +177,9 @@ module _ (hub : Hub) where
   ends-step (ends_with reason) session h = none_left session h
   ends-step (copies_front room) session h = h
 
-ends-timed : (point t : ℕ) (session : Session) → Ends session → Ends (timed (plain_keeps point) t session)
-ends-timed point t session h = by (due (plain_keeps point) t session)
-  where
-    by : (o : Option EndReason) → Ends (ended_where (plain_keeps point) o session)
-    by None = h
-    by (Some reason) = none_left session h
+ends-ended_where : (point : ℕ) (reason : Option EndReason) (session : Session) → Ends session → Ends (ended_where (plain_keeps point) reason session)
+ends-ended_where point None session h = h
+ends-ended_where point (Some reason) session h = none_left session h
 
 ends-asked : (rcode delay : ℕ) (session : Session) → Ends session → Ends (asked_to_stop rcode delay session)
 ends-asked rcode delay session h = by (is_open session.standing)
@@ -209,7 +206,7 @@ ends_kept = record {
   takes_up = λ hub number session found there is h. in-ends hub number (without_first found.1) (λ s e. e) h;
   changes = λ hub number f step h. in-ends hub number f (λ s e. ends-step hub step s e) h;
   enters = λ hub entry by h. each-changed Ends Ends (λ n. by_entry hub.start hub.history entry) (λ n s e. e) hub.sessions h;
-  times = λ hub point t h. each-changed Ends Ends (λ n. timed (plain_keeps point) t) (λ n. ends-timed point t) hub.sessions h;
+  ends = λ hub point reason h. each-changed Ends Ends (λ n s. ended_where (plain_keeps point) (reason s) s) (λ n s. ends-ended_where point (reason s) s) hub.sessions h;
   takes_in = λ hub number piece any h. in-ends hub number (with_piece piece) (λ s e. e) h;
   asks_stop = λ hub number rcode delay h. in-ends hub number (asked_to_stop rcode delay) (ends-asked rcode delay) h;
   makes = λ hub h. each-append (λ (e : ℕ × Session). Ends e.1) hub.sessions ((hub.numbers_given, new_session (keeps_now hub) (now hub)) ∷ []) h (record { active = tt; before = tt }, tt);

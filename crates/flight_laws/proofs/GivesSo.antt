@@ -1,8 +1,8 @@
 -- What a session has after a message, and what `give` does with one.
 --     after-is      its fields, and what comes down
 --     gives-so      `give`
-use Rattle.std.proofs.Common.{◌≡◌, ℕ, Bool, true, false, cond, List, [], ◌∷◌, ◌++◌, map, length, take, drop, min, Option, Some, None, ◌&&◌, refl, sym, ap, subst, ◌∙◌, append_assoc, append-nil}
-use Rattle.std.specs.Prelude.{option_map, if◌then◌else◌}
+use Rattle.std.proofs.Common.{◌≡◌, ℕ, Bool, true, false, cond, List, [], ◌∷◌, ◌++◌, map, length, take, drop, Option, Some, None, ◌&&◌, refl, sym, ap, subst, ◌∙◌, append_assoc, append-nil}
+use Rattle.std.specs.Prelude.{option_map, nat_lt, if◌then◌else◌}
 use Rattle.std.proofs.Math.Seq.{take-nil, drop-nil}
 use Rattle.push_base.specs.Cases.{is_empty}
 use Rattle.rrset.specs.Rcodes.{noerror, notauth}
@@ -11,23 +11,25 @@ use Rattle.dsotlv.specs.Answers.{answer_to, grant_to, refusal_to, push_message}
 use Rattle.dsotlv.specs.Messages.{frame}
 use Rattle.dsotlv.specs.declared.message.Notice.{Notice}
 use Rattle.rrset.specs.declared.record.Key.{Key}
-use Rattle.history.specs.States.{State, state_at, accepts, reconfirm_key, entry_size, journal_has_room}
+use Rattle.push_base.specs.Limits.{max_number}
+use Rattle.dsosession.specs.declared.session.EndReason.TheVariants as ends
+use Rattle.history.specs.States.{State, state_at, accepts, reconfirm_key}
 use Rattle.history.specs.declared.entry.Entry.{Entry}
 use Rattle.history.specs.declared.entry.Entry.TheVariants as entries
 use Rattle.pushsession.specs.declared.session_status.SessionStatus.{SessionStatus}
-use Rattle.pushsession.specs.declared.session_status.SessionStatus.TheVariants.{Live}
-use Rattle.pushsession.specs.Sessions.{without_first, copied, noted, answers}
+use Rattle.pushsession.specs.Sessions.{without_first, copied, ended_where, noted, answers}
 use Rattle.pushsession.specs.Subscribing.{subscribed, says_first_answer}
-use Rattle.pushserver.specs.declared.given.Given.TheVariants.{Bytes, Worked}
-use Rattle.pushserver.specs.Hubs.{newest, now, state_now, keeps_now, session_of, in_session, entry_changes, entered, can_enter}
-use Rattle.pushserver.specs.Giving.{is_served_at, reacted, did, copies, copies_or, given_after, after_reaction, by_standing, give}
+use Rattle.pushserver.specs.declared.given.Given.{Given}
+use Rattle.pushserver.specs.declared.given.Given.TheVariants.{Worked}
+use Rattle.pushserver.specs.Hubs.{newest, now, state_now, keeps_now, session_of, in_session, entry_changes, behind_at, ended_behind, ends_behind, entered_keeping, can_enter}
+use Rattle.pushserver.specs.Giving.{is_served_at, reacted, did, bytes_of, given_of, copies, copies_or, given_after, after_reaction, by_standing, give}
 use Rattle.pushserver.specs.PlainHubs.{Session, Subscription, Hub, Giving, leaves_queue, note_of, first_answer}
 use Rattle.pushserver.proofs.SessionLists.{found-all, found-in, found-elsewhere}
 use Rattle.pushserver.proofs.hub_steps.Cases.{found_as, works_as, output_as, give_as, key_as}
 use Rattle.pushclient.specs.ServerMessages.{accepts as accepting, refuses, grants}
 use Rattle.inflight.specs.Messages.{ClientMessage, subscribes, unsubscribes, reconfirms, requests_keepalive, message_octets, Flying, made_of, flying_octets}
 use Rattle.flight_laws.specs.Laws.{flies}
-use Rattle.flight_laws.specs.Meeting.{as_carried, heard, after, HasAfter, asks_hub, accepted_as, subscriptions_after, established_after, tells_some, said_after, IsAfter, AfterIs, given_for, GivesSo}
+use Rattle.flight_laws.specs.Meeting.{as_carried, heard, after, HasAfter, asks_hub, behind_point, falls_behind, after_entry, accepted_as, subscriptions_after, established_after, tells_some, said_after, IsAfter, AfterIs, GivesSo}
 use Rattle.flight_laws.proofs.Reacts.{reacts-so}
 use Rattle.flight_laws.proofs.Reconfirmed.{session-reconfirmed}
 
@@ -123,84 +125,113 @@ after-is hub (requests_keepalive id) session = is-said hub session (requests_kee
 
 -- ---- what a RECONFIRM asks for
 
-module _ (hub between : Hub) (number : ℕ) (later : Session) (has : HasAfter hub between hub.history number later) where
-  -- another hub with this session, and these entries
-  abbrev Has : Hub → List Entry → Type 0
-  Has h entries = HasAfter hub h entries number later
+module _ (hub between : Hub) (number : ℕ) (later : Session) (has : HasAfter hub between hub.history (λ other. other) number later) where
+  -- another hub with these entries, and each session changed so
+  abbrev Has : Hub → List Entry → (Session → Session) → Type 0
+  Has h entries f = HasAfter hub h entries (option_map f) number (f later)
 
-  -- a hub like this one where there is an entry in which nobody waits
-  entry-made : (link : ℕ) (key : Key) → Has (entered (entries.Reconfirm link key) between) (hub.history ++ entries.Reconfirm link key ∷ [])
+  -- nobody is changed
+  has-still : Has between hub.history (λ s. s)
+  has-still = record {
+    start = has.start;
+    timers = has.timers;
+    history = has.history;
+    numbers_given = has.numbers_given;
+    session = has.session;
+    others = λ other apart. has.others other apart ∙ itself (session_of hub other);
+  }
+    where
+      itself : (o : Option Session) → o ≡ option_map (λ s. s) o
+      itself None = refl
+      itself (Some s) = refl
+
+  -- a hub like this one where there is an entry for which nobody waits: some end as behind
+  entry-made : (link : ℕ) (key : Key) → Has (entered_keeping (entries.Reconfirm link key) between) (hub.history ++ entries.Reconfirm link key ∷ []) (ended_behind hub (entries.Reconfirm link key))
   entry-made link key = record {
     start = has.start;
     timers = has.timers;
-    history = ap (λ (es : List Entry). es ++ entries.Reconfirm link key ∷ []) has.history;
+    history = ap (λ (es : List Entry). es ++ entry ∷ []) has.history;
     numbers_given = has.numbers_given;
-    session = found number ∙ has.session;
-    others = λ other apart. found other ∙ has.others other apart;
+    session = found number ∙ ap (option_map (ended_behind between entry)) has.session ∙ alike (Some later);
+    others = λ other apart. found other ∙ ap (option_map (ended_behind between entry)) (has.others other apart) ∙ alike (session_of hub other);
   }
     where
+      entry : Entry
+      entry = entries.Reconfirm link key
+
       note : Session → Session
-      note s = noted (keeps_now between) (entry_changes (entries.Reconfirm link key) between) (newest between) s
+      note s = noted (keeps_now between) (entry_changes entry between) (newest between) s
 
       itself : (o : Option Session) → option_map note o ≡ o
       itself None = refl
       itself (Some s) = ap Some (session-reconfirmed between link key s)
 
-      found : (n : ℕ) → session_of (entered (entries.Reconfirm link key) between) n ≡ session_of between n
-      found n = found-all note n between.sessions ∙ itself (session_of between n)
+      found : (n : ℕ) → session_of (entered_keeping entry between) n ≡ option_map (ended_behind between entry) (session_of between n)
+      found n = found-all note n (ends_behind entry between).sessions ∙ itself (session_of (ends_behind entry between) n) ∙ found-all (ended_behind between entry) n between.sessions
+
+      alike : (o : Option Session) → option_map (ended_behind between entry) o ≡ option_map (ended_behind hub entry) o
+      alike o = λ i. option_map (ended_behind (record hub { start = has.start i; history = has.history i }) entry) o
 
   -- the state is the same, and so are the tests
   state-same : state_now between ≡ state_now hub
   state-same = λ i. state_at (has.start i) (has.history i) (length (has.history i))
 
   abbrev enters : Hub → ℕ × Key → Bool
-  enters h found = accepts (state_now h) (entries.Reconfirm found.0 found.1) && can_enter h (entries.Reconfirm found.0 found.1)
+  enters h found = accepts (state_now h) (entries.Reconfirm found.0 found.1) && can_enter h
 
   tested-same : (found : ℕ × Key) → enters between found ≡ enters hub found
-  tested-same found = λ i. accepts (state-same i) (entries.Reconfirm found.0 found.1) && journal_has_room (has.history i) (entry_size (entries.Reconfirm found.0 found.1))
+  tested-same found = λ i. accepts (state-same i) (entries.Reconfirm found.0 found.1) && nat_lt (length (has.history i)) max_number
 
-  by_key : (o : Option (ℕ × Key)) → Has (key_as between o) (key_as hub o).history
-  by_key None = has
+  -- those that fall behind by it, where it is made
+  abbrev ends_by : ℕ × Key → Bool → Session → Session
+  ends_by found b s = ended_where (keeps_now hub) (option_map (λ p. ends.Behind p) (cond b (behind_at hub (entries.Reconfirm found.0 found.1) s) None)) s
+
+  by_key : (o : Option (ℕ × Key)) → Has (key_as between o) (key_as hub o).history (λ s. ended_where (keeps_now hub) (option_map (λ p. ends.Behind p) (behind_point hub s o)) s)
+  by_key None = has-still
   by_key (Some found) =
-      subst (λ (b : Bool). Has (cond b (entered (entries.Reconfirm found.0 found.1) between) between) (key_as hub (Some found)).history) (sym (tested-same found)) (by_test (enters hub found))
+      subst (λ (b : Bool). Has (cond b (entered_keeping (entries.Reconfirm found.0 found.1) between) between) (key_as hub (Some found)).history (ends_by found (enters hub found))) (sym (tested-same found)) (by_test (enters hub found))
     where
-      by_test : (b : Bool) → Has (cond b (entered (entries.Reconfirm found.0 found.1) between) between) (cond b (entered (entries.Reconfirm found.0 found.1) hub) hub).history
+      by_test : (b : Bool) → Has (cond b (entered_keeping (entries.Reconfirm found.0 found.1) between) between) (cond b (entered_keeping (entries.Reconfirm found.0 found.1) hub) hub).history (ends_by found b)
       by_test true = entry-made found.0 found.1
-      by_test false = has
+      by_test false = has-still
 
-  asked-so : (m : ClientMessage) → Has (asks_hub m number between) (asks_hub m number hub).history
-  asked-so (subscribes id question) = has
-  asked-so (unsubscribes id) = has
+  asked-so : (m : ClientMessage) → Has (asks_hub m number between) (asks_hub m number hub).history (falls_behind m hub)
+  asked-so (subscribes id question) = has-still
+  asked-so (unsubscribes id) = has-still
   asked-so (reconfirms rr) =
-      subst (λ (s : State). Has (key_as between (reconfirm_key s (as_carried rr))) (asks_hub (reconfirms rr) number hub).history) (sym state-same) (by_key (reconfirm_key (state_now hub) (as_carried rr)))
-  asked-so (requests_keepalive id) = has
+      subst (λ (s : State). Has (key_as between (reconfirm_key s (as_carried rr))) (asks_hub (reconfirms rr) number hub).history (falls_behind (reconfirms rr) hub)) (sym state-same) (by_key (reconfirm_key (state_now hub) (as_carried rr)))
+  asked-so (requests_keepalive id) = has-still
 
 -- ---- `give`
 
 -- what is handed out of a session that was changed
-module _ (hub between : Hub) (entries : List Entry) (number room : ℕ) (later : Session) (has : HasAfter hub between entries number later) where
+module _ (hub between : Hub) (entries : List Entry) (elsewhere : Session → Session) (number room : ℕ) (later : Session) (has : HasAfter hub between entries (option_map elsewhere) number later) where
   -- the output that fits is gone
   abbrev left : Session
   left = record later { output = drop room later.output }
 
+  -- what is said where there is no output
+  abbrev otherwise : Given
+  otherwise = given_after later.standing
+
   record HandsOut (giving : Giving) : Type 0 where
     pub octets : giving.octets ≡ take room later.output
-    pub given : giving.given ≡ given_for room later.output
-    pub hub_after : HasAfter hub giving.hub entries number left
+    pub given : giving.given ≡ given_of otherwise room later
+    pub hub_after : HasAfter hub giving.hub entries (option_map elsewhere) number left
 
-  hands-nothing : later.output ≡ [] → HandsOut (did Worked between)
+  hands-nothing : later.output ≡ [] → HandsOut (did otherwise between)
   hands-nothing none =
       let same : left ≡ later = ap (λ (o : List ℕ). record later { output = o }) (ap (drop room) none ∙ drop-nil room ∙ sym none) in
       record {
         octets = sym (ap (take room) none ∙ take-nil room);
-        given = sym (ap (given_for room) none);
-        hub_after = subst (λ (s : Session). HasAfter hub between entries number s) (sym same) has;
+        given = sym (ap (λ (b : Bool). if b then otherwise else bytes_of room later) (ap is_empty none));
+        hub_after = subst (λ (s : Session). HasAfter hub between entries (option_map elsewhere) number s) (sym same) has;
       }
 
   hands-some : (o : ℕ) (os : List ℕ) → later.output ≡ o ∷ os → HandsOut (copies number room later between)
   hands-some o os some = record {
     octets = refl;
-    given = sym (ap (λ (b : Bool). if b then Worked else Bytes (min room (length later.output))) (ap is_empty some));
+    given = sym (ap (λ (b : Bool). if b then otherwise else bytes_of room later) (ap is_empty some));
     hub_after = record {
       start = has.start;
       timers = has.timers;
@@ -211,15 +242,15 @@ module _ (hub between : Hub) (entries : List Entry) (number room : ℕ) (later :
     };
   }
 
-  hands-out : HandsOut (copies_or Worked number room later between)
+  hands-out : HandsOut (copies_or otherwise number room later between)
   hands-out = by later.output refl
     where
-      by : (output : List ℕ) → later.output ≡ output → HandsOut (cond (is_empty later.output) (did Worked between) (copies number room later between))
-      by [] none = subst (λ (b : Bool). HandsOut (cond b (did Worked between) (copies number room later between))) (sym (ap is_empty none)) (hands-nothing none)
-      by (o ∷ os) some = subst (λ (b : Bool). HandsOut (cond b (did Worked between) (copies number room later between))) (sym (ap is_empty some)) (hands-some o os some)
+      by : (output : List ℕ) → later.output ≡ output → HandsOut (cond (is_empty later.output) (did otherwise between) (copies number room later between))
+      by [] none = subst (λ (b : Bool). HandsOut (cond b (did otherwise between) (copies number room later between))) (sym (ap is_empty none)) (hands-nothing none)
+      by (o ∷ os) some = subst (λ (b : Bool). HandsOut (cond b (did otherwise between) (copies number room later between))) (sym (ap is_empty some)) (hands-some o os some)
 
 -- as before, from the session without its first message on
-since-taken : (hub later : Hub) (number : ℕ) (rest : List ℕ) (s : Session) → HasAfter (in_session number (without_first rest) hub) later hub.history number s → HasAfter hub later hub.history number s
+since-taken : (hub later : Hub) (number : ℕ) (rest : List ℕ) (s : Session) → HasAfter (in_session number (without_first rest) hub) later hub.history (λ other. other) number s → HasAfter hub later hub.history (λ other. other) number s
 since-taken hub later number rest s has = record {
   start = has.start;
   timers = has.timers;
@@ -235,15 +266,13 @@ gives-so hub number room session m rest met =
     let s : Session = without_first rest session in
     let there : session_of taken_out number ≡ Some s = found-in number (without_first rest) hub.sessions ∙ ap (option_map (without_first rest)) met.there in
     let r = reacts-so taken_out number m s there met.taken in
-    let later : Session = after hub m s in
-    let is = after-is hub m s in
+    let later : Session = after_entry hub m s in
     let reaches : give hub number room ≡ after_reaction number room (reacted (message_octets m) number taken_out) =
     ap (give_as hub number room) met.there ∙ ap (λ (l : List ℕ). output_as hub number room session (is_empty l)) met.silent
     ∙ ap (λ (standing : SessionStatus). by_standing standing number room session hub) met.live ∙ ap (works_as hub number room) met.first in
     let asked : Hub = asks_hub m number r.between in
-    let has = asked-so hub r.between number later (since-taken hub r.between number rest later r.reacts) m in
-    let live : later.standing ≡ Live = is.standing ∙ met.live in
-    let whole : give hub number room ≡ copies_or Worked number room later asked =
-    reaches ∙ ap (after_reaction number room) r.asks ∙ ap (found_as asked number room Worked given_after) has.session ∙ ap (λ (standing : SessionStatus). copies_or (given_after standing) number room later asked) live in
-    let h = subst (λ (g : Giving). HandsOut hub asked (asks_hub m number hub).history number room later has g) (sym whole) (hands-out hub asked (asks_hub m number hub).history number room later has) in
+    let has = asked-so hub r.between number (after hub m s) (since-taken hub r.between number rest (after hub m s) r.reacts) m in
+    let whole : give hub number room ≡ copies_or (given_after later.standing) number room later asked =
+    reaches ∙ ap (after_reaction number room) r.asks ∙ ap (found_as asked number room Worked given_after) has.session in
+    let h = subst (λ (g : Giving). HandsOut hub asked (asks_hub m number hub).history (falls_behind m hub) number room later has g) (sym whole) (hands-out hub asked (asks_hub m number hub).history (falls_behind m hub) number room later has) in
     record { octets = h.octets; given = h.given; leaves = h.hub_after }

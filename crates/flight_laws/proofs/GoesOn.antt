@@ -6,12 +6,14 @@ use Rattle.push_base.specs.Cases.{is_empty}
 use Rattle.dsotlv.specs.Messages.{first_message}
 use Rattle.dsotlv.specs.declared.message.Notice.{Notice}
 use Rattle.dsosession.specs.declared.session.CloseReason.{CloseReason}
+use Rattle.dsosession.specs.declared.session.EndReason.TheVariants as ends
 use Rattle.pushsession.specs.declared.session_status.SessionStatus.{SessionStatus}
 use Rattle.pushsession.specs.declared.session_status.SessionStatus.TheVariants.{Live}
-use Rattle.pushsession.specs.Sessions.{is_open, copied, without_first}
+use Rattle.pushsession.specs.Sessions.{is_open, copied, ended_where, without_first}
 use Rattle.pushsession.specs.Subscribing.{with_next_push, says_notices}
-use Rattle.pushserver.specs.declared.given.Given.TheVariants.{Nothing}
-use Rattle.pushserver.specs.Giving.{did, copies, copies_or, by_standing, give}
+use Rattle.pushserver.specs.declared.given.Given.{Given}
+use Rattle.pushserver.specs.declared.given.Given.TheVariants.{Worked, Nothing, End}
+use Rattle.pushserver.specs.Giving.{did, bytes_of, given_of, given_after, copies, copies_or, by_standing, give}
 use Rattle.pushserver.specs.Hubs.{now, keeps_now, tells_now, session_of, in_session}
 use Rattle.pushserver.specs.PlainHubs.{Session, Hub, Giving}
 use Rattle.pushserver.proofs.SessionLists.{found-in}
@@ -21,10 +23,10 @@ use Rattle.pushclient.specs.ServerMessages.{ServerMessage, accepts, refuses, gra
 use Rattle.pushclient.specs.FittingMessages.{is_delay}
 use Rattle.pushclient.specs.Steps.{step}
 use Rattle.pushclient.proofs.EveryCut.{is-at}
-use Rattle.inflight.specs.Messages.{Flying}
+use Rattle.inflight.specs.Messages.{ClientMessage, subscribes, unsubscribes, reconfirms, requests_keepalive, Flying}
 use Rattle.inflight.specs.Flight.{IsUnderWay}
-use Rattle.flight_laws.specs.GoesOn.{gives_on, GoesOn, SessionsGoOn, IsDelayed, ClientsGoOn}
-use Rattle.flight_laws.specs.Meeting.{after, given_for}
+use Rattle.flight_laws.specs.GoesOn.{gives_on, GivesOn, GoesOn, SessionsGoOn, IsDelayed, ClientsGoOn}
+use Rattle.flight_laws.specs.Meeting.{after, behind_for, after_entry}
 use Rattle.flight_laws.specs.Taking.{closed_by, TakesFirst}
 use Rattle.flight_laws.proofs.EachGive.{first-met}
 use Rattle.flight_laws.proofs.GivesSo.{after-is, gives-so}
@@ -33,9 +35,37 @@ use Rattle.flight_laws.proofs.OnOctets.{steps-taken, steps-wait}
 -- ---- the session
 
 -- octets were written, or a message was reacted to without any
-works-on : (room : ℕ) (output : List ℕ) → IsTrue (gives_on (given_for room output))
-works-on room [] = refl
-works-on room (o ∷ os) = refl
+works-on : (room : ℕ) (s : Session) → IsTrue (gives_on (given_of Worked room s))
+works-on room s = by (is_empty s.output)
+  where
+    by : (b : Bool) → IsTrue (gives_on (if b then Worked else bytes_of room s))
+    by true = refl
+    by false = refl
+
+-- it goes on, where it goes on in this standing
+goes-so : {g : Giving} {number : ℕ} (later : Session) → session_of g.hub number ≡ Some later → later.standing ≡ Live → IsTrue (gives_on g.given) → GoesOn g number
+goes-so {g} later there live given = record { later = later; there = there; goes_on = subst (λ (s : SessionStatus). GivesOn s g.given) (sym live) given }
+
+-- behind a message it goes on, or fell behind by the entry of a RECONFIRM, which has no answer
+worked-on : (hub : Hub) (m : ClientMessage) (room : ℕ) (s : Session) → s.standing ≡ Live → s.output ≡ [] → (given : Given) → given ≡ given_of (given_after (after_entry hub m s).standing) room (after_entry hub m s)
+    → GivesOn (after_entry hub m s).standing given
+worked-on hub m room s live silent given is = by (behind_for m hub (after hub m s)) (quiet m) is
+  where
+    quiet : (k : ClientMessage) (p : ℕ) → behind_for k hub (after hub k s) ≡ Some p → (after hub k s).output ≡ []
+    quiet (subscribes id question) p at = absurd cc
+    quiet (unsubscribes id) p at = absurd cc
+    quiet (reconfirms rr) p at = silent
+    quiet (requests_keepalive id) p at = absurd cc
+
+    fallen : Option ℕ → Session
+    fallen o = ended_where (keeps_now hub) (option_map (λ p. ends.Behind p) o) (after hub m s)
+
+    by : (o : Option ℕ) → ((p : ℕ) → o ≡ Some p → (after hub m s).output ≡ []) → given ≡ given_of (given_after (fallen o).standing) room (fallen o) → GivesOn (fallen o).standing given
+    by None none is =
+        let standing : (after hub m s).standing ≡ Live = (after-is hub m s).standing ∙ live in
+        subst (λ (t : SessionStatus). GivesOn t given) (sym standing)
+        (subst (λ (g : Given). IsTrue (gives_on g)) (sym (is ∙ ap (λ (t : SessionStatus). given_of (given_after t) room (after hub m s)) standing)) (works-on room (after hub m s)))
+    by (Some p) none is = (p, refl, is ∙ ap (λ (b : Bool). if b then End (ends.Behind p) else bytes_of room (fallen (Some p))) (ap is_empty (none p refl)))
 
 module _ (number room : ℕ) where
   abbrev On : Giving → Type 0
@@ -43,13 +73,13 @@ module _ (number room : ℕ) where
 
   module _ (hub : Hub) (session : Session) (there : session_of hub number ≡ Some session) (live : session.standing ≡ Live) where
     copies-on : On (copies number room session hub)
-    copies-on = record { later = copied room session; there = found-in number (copied room) hub.sessions ∙ ap (option_map (copied room)) there; live = live; given = refl }
+    copies-on = goes-so (copied room session) (found-in number (copied room) hub.sessions ∙ ap (option_map (copied room)) there) live refl
 
     nothing-or : On (copies_or Nothing number room session hub)
     nothing-or = by (is_empty session.output)
       where
         by : (b : Bool) → On (if b then did Nothing hub else copies number room session hub)
-        by true = record { later = session; there = there; live = live; given = refl }
+        by true = goes-so session there live refl
         by false = copies-on
 
   module _ (hub : Hub) (told : List (ℕ × ℕ)) (session : Session) (client : Client) (c : Connection) (up_wire down_wire : List ℕ)
@@ -79,8 +109,7 @@ module _ (number room : ℕ) where
         subst On reaches (record {
           later = _;
           there = gave.leaves.session;
-          live = (after-is hub m s).standing ∙ live;
-          given = subst (λ g. IsTrue (gives_on g)) (sym gave.given) (works-on room (after hub m s).output);
+          goes_on = worked-on hub m room s live silent (give hub number room).given gave.given;
         })
 
     by_output : (output : List ℕ) → session.output ≡ output → On (output_as hub number room session (is_empty output))

@@ -7,18 +7,19 @@ use Rattle.std.proofs.lemmas.Bool.{eqb-true, eq-eqb}
 use Rattle.push_base.specs.Limits.{max_number}
 use Rattle.rrset.specs.RecordSet.{changes}
 use Rattle.dsosession.specs.declared.session.EndReason.{EndReason}
+use Rattle.dsosession.specs.declared.session.EndReason.TheVariants as reasons
 use Rattle.dsosession.specs.declared.session.Timers.{Timers}
 use Rattle.history.specs.States.{State}
 use Rattle.history.specs.declared.entry.Entry.{Entry}
 use Rattle.pushsession.specs.declared.session_status.SessionStatus.TheVariants.{AskedToStop}
-use Rattle.pushsession.specs.Sessions.{is_open, new_session, with_piece, asked_to_stop, due, ended_where, timed, noted}
+use Rattle.pushsession.specs.Sessions.{is_open, new_session, with_piece, asked_to_stop, ended_where, noted}
 use Rattle.pushserver.specs.Calls.{HubCall, updates, hears, moves, connects, takes, gives, stops, ends, called}
 use Rattle.pushserver.specs.Giving.{give, is_served_at}
-use Rattle.pushserver.specs.Hubs.{newest, now, records_now, keeps_now, session_of, each_session, in_session, entered, connect, disconnect, max_sessions}
+use Rattle.pushserver.specs.Hubs.{newest, now, records_now, keeps_now, session_of, each_session, in_session, entered, behind_at, ends_behind, entered_keeping, connect, disconnect, max_sessions}
 use Rattle.pushserver.specs.Laws.{LeavesSession}
-use Rattle.pushserver.specs.PlainHubs.{Session, Hub}
+use Rattle.pushserver.specs.PlainHubs.{Session, Hub, plain_keeps}
 use Rattle.pushserver.proofs.OtherSessions.{give_changes_one_session}
-use Rattle.pushserver.proofs.Walks.{AnyMessage, holds-update, holds-hear, holds-moment}
+use Rattle.pushserver.proofs.Walks.{AnyMessage, timed-kept, holds-update, holds-hear, holds-moment}
 use Rattle.pushserver.proofs.SessionLists.{found-all, found-elsewhere, found-in, found-last, found-left}
 use Rattle.pushclient.specs.Clients.{Client, Connection}
 use Rattle.inflight.specs.Ends.{ends_of, going_up, going_down}
@@ -51,11 +52,13 @@ module _ (number : ℕ) (told : List (ℕ × ℕ)) (client : Client) (c : Connec
           entries-leave hub entry (changes (records_now hub) (records_now later)) (newest hub) told session client c up_wire down_wire i,
         )
 
-    -- sessions end by their timers
-    behind-timers : (t : ℕ) → Stays hub → Stays (each_session (timed (keeps_now hub) t) hub)
-    behind-timers t (session, there, i) = (timed (keeps_now hub) t session, found-all (timed (keeps_now hub) t) number hub.sessions ∙ ap (option_map (timed (keeps_now hub) t)) there, by (due (keeps_now hub) t session))
+    -- any sessions may end
+    behind-ends : (point : ℕ) (reason : Session → Option EndReason) → Stays hub → Stays (each_session (λ s. ended_where (plain_keeps point) (reason s) s) hub)
+    behind-ends point reason (session, there, i) =
+        let f : Session → Session = λ s. ended_where (plain_keeps point) (reason s) s in
+        (f session, found-all f number hub.sessions ∙ ap (option_map f) there, by (reason session))
       where
-        by : (o : Option EndReason) → IsUnderWay hub told (ended_where (keeps_now hub) o session) client c up_wire down_wire
+        by : (o : Option EndReason) → IsUnderWay hub told (ended_where (plain_keeps point) o session) client c up_wire down_wire
         by None = i
         by (Some reason) = sessions-end hub reason told session client c (going_up session c up_wire) (going_down session c down_wire) i
 
@@ -102,18 +105,22 @@ module _ (number : ℕ) (told : List (ℕ × ℕ)) (client : Client) (c : Connec
         by true is = absurd (apart (eqb-true number other is))
         by false is = (session, found-left other number hub.sessions ∙ ap (λ b. cond b None (session_of hub number)) is ∙ there, i)
 
-    -- something is given of another
-    behind-give : (other room : ℕ) → (number ≡ other → ⊥) → Stays hub → Stays (give hub other room).hub
-    behind-give other room apart s = by (give_changes_one_session hub other number room apart)
-      where
-        by : LeavesSession hub (give hub other room).hub number ⊎ ((entry : Entry) × LeavesSession (entered entry hub) (give hub other room).hub number) → Stays (give hub other room).hub
-        by (inl same) = left-alone hub (give hub other room).hub same s
-        by (inr (entry, same)) = left-alone (entered entry hub) (give hub other room).hub same (behind-entry entry s)
+  -- and an entry is made
+  behind-keeping : (hub : Hub) (entry : Entry) → Stays hub → Stays (entered_keeping entry hub)
+  behind-keeping hub entry s = behind-entry (ends_behind entry hub) entry (behind-ends hub (newest hub) (λ t. option_map (λ p. reasons.Behind p) (behind_at hub entry t)) s)
+
+  -- something is given of another
+  behind-give : (hub : Hub) (other room : ℕ) → (number ≡ other → ⊥) → Stays hub → Stays (give hub other room).hub
+  behind-give hub other room apart s = by (give_changes_one_session hub other number room apart)
+    where
+      by : LeavesSession hub (give hub other room).hub number ⊎ ((entry : Entry) × LeavesSession (entered_keeping entry hub) (give hub other room).hub number) → Stays (give hub other room).hub
+      by (inl same) = left-alone hub (give hub other room).hub same s
+      by (inr (entry, same)) = left-alone (entered_keeping entry hub) (give hub other room).hub same (behind-keeping hub entry s)
 
   by-call : (hub : Hub) (call : HubCall) → IsOfOthers number call → Stays hub → Stays (called call hub)
-  by-call hub (updates message) apart s = holds-update AnyMessage Stays hub (λ entry by. behind-entry hub entry s) s message tt
-  by-call hub (hears link datagram) apart s = holds-hear AnyMessage Stays hub (λ entry by. behind-entry hub entry s) s link datagram tt
-  by-call hub (moves t) apart s = holds-moment AnyMessage Stays hub (λ entry by. behind-entry hub entry s) s (λ later point at stays. behind-timers later at stays) t
+  by-call hub (updates message) apart s = holds-update AnyMessage Stays hub (λ entry by. behind-keeping hub entry s) s message tt
+  by-call hub (hears link datagram) apart s = holds-hear AnyMessage Stays hub (λ entry by. behind-keeping hub entry s) s link datagram tt
+  by-call hub (moves t) apart s = holds-moment AnyMessage Stays hub (λ entry by. behind-keeping hub entry s) s (timed-kept Stays behind-ends) t
   by-call hub connects apart s = behind-connection hub s
   by-call hub (takes other piece) apart s = elsewhere hub other (with_piece piece) apart s
   by-call hub (gives other room) apart s = behind-give hub other room apart s

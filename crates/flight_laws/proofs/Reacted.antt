@@ -1,5 +1,5 @@
 -- What is under way when a session has reacted to the first message that came up.
---     reactions-leave      by the kind of the message
+--     reactions-leave, reconfirms-leave      by the kind of the message; a RECONFIRM, before the ends of first answers are told
 use Rattle.std.proofs.Common.{◌≡◌, ℕ, ◌+◌, ◌<◌, Bool, true, false, not, List, [], ◌∷◌, ◌++◌, length, sym, ap, ◌∙◌, subst, refl, arith}
 use Rattle.std.specs.Prelude.{IsTrue, flat_map, if◌then◌else◌}
 use Rattle.std.proofs.lemmas.List.{length-append}
@@ -140,6 +140,15 @@ module _ (hub : Hub) (told : List (ℕ × ℕ)) (session : Session) (client : Cl
         by : (b : Bool) → is_served_at (state_now hub) question ≡ b → IsUnderWay hub (remembers (decided id question b).subscriptions told) (decided id question b) client c up_wire down_wire
         by true is = by-notices id question fit (sym needs.0 ∙ is) (first_answer hub before question) needs.1
         by false is = told-too (decided id question false) (refused-leaves id question fit (ap not (sym needs.0 ∙ is)))
+
+-- a RECONFIRM, before the ends of first answers are told
+pub reconfirms-leave : (hub : Hub) (told : List (ℕ × ℕ)) (session : Session) (client : Client) (c : Connection) (up_wire down_wire : List ℕ) (rr : Rr) (others : List ClientMessage) (rest : List ℕ) (clocks : Clocks)
+    → let before : Session = record session { input = rest; clocks = clocks } in
+    (i : IsUnderWay hub told session client c up_wire down_wire)
+    → IsTrue (is_open session.standing) → i.ups ≡ reconfirms rr ∷ others → going_up before c up_wire ≡ flat_map (λ m. frame (message_octets m)) others
+    → IsUnderWay hub told before client c up_wire down_wire
+reconfirms-leave hub told session client c up_wire down_wire rr others rest clocks i going ups up =
+    reconfirm hub told session client c up_wire down_wire others rest clocks i going up rr (subst (λ (l : List ClientMessage). FitsTogether (ends_of hub told session client c) i.taken i.flying l) ups i.fit)
 
 pub reactions-leave : ReactionsLeaveIt
 reactions-leave hub told session client c up_wire down_wire m others rest clocks i going needs ups up =

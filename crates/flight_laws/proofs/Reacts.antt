@@ -177,7 +177,7 @@ module _ (hub : Hub) (number : ℕ) (m : ClientMessage) (session : Session) (the
   turned = ap (session_as hub number message) there ∙ λ i. by_request (request-is i) number message (hears i)
 
   -- a change of the session that listens
-  changed : (f : Session → Session) → f listening ≡ after hub m session → HasAfter hub (in_session number f hub_heard) hub.history number (after hub m session)
+  changed : (f : Session → Session) → f listening ≡ after hub m session → HasAfter hub (in_session number f hub_heard) hub.history (λ other. other) number (after hub m session)
   changed f is = record {
     start = refl;
     timers = refl;

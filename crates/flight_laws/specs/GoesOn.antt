@@ -1,5 +1,5 @@
 -- What goes on between a session and its client: no message ends it, octets pass by the calls of either end, and what was taken stays.
---     NoMessageEndsIt      each call of `give` leaves a live session live, and a client's step closes at a Retry Delay alone
+--     NoMessageEndsIt      each call of `give` leaves a live session live, but where it falls behind, and a client's step closes at a Retry Delay alone
 --     SessionsTakeOctets, ClientsTakeOctets, ClientsGiveOctets      the calls by which octets pass
 --     TakenIsCounted, TakenStays      which messages were taken follows from what was made and what comes down
 --     GivesTakeNothing, OtherCallsTakeNothing      so it stays behind each call of the hub
@@ -7,10 +7,12 @@ use Rattle.std.specs.Prelude.{◌≡◌, ℕ, ◌+◌, ◌<◌, Bool, true, fals
 use Rattle.std.specs.List.{IsDistinct}
 use Rattle.dsosession.specs.declared.session.CloseReason.{CloseReason}
 use Rattle.dsosession.specs.declared.session.CloseReason.TheVariants as closes
-use Rattle.pushsession.specs.declared.session_status.SessionStatus.TheVariants.{Live}
+use Rattle.dsosession.specs.declared.session.EndReason.TheVariants as ends
+use Rattle.pushsession.specs.declared.session_status.SessionStatus.{SessionStatus}
+use Rattle.pushsession.specs.declared.session_status.SessionStatus.TheVariants.{Live, Ended}
 use Rattle.pushsession.specs.Sessions.{is_open}
 use Rattle.pushserver.specs.declared.given.Given.{Given}
-use Rattle.pushserver.specs.declared.given.Given.TheVariants.{Bytes, Worked, Nothing}
+use Rattle.pushserver.specs.declared.given.Given.TheVariants.{Bytes, Worked, Nothing, End}
 use Rattle.pushserver.specs.Calls.{HubCall, called}
 use Rattle.pushserver.specs.Giving.{give}
 use Rattle.pushserver.specs.Hubs.{session_of, taken_by, take_octets}
@@ -33,12 +35,17 @@ gives_on Worked = true
 gives_on Nothing = true
 gives_on _ = false
 
--- the session is there and live behind a call of `give`, and the call says no end
+-- it is live, and the answer says no end; or it fell behind by an entry that it asked for, and the answer says that
+abbrev pub GivesOn : SessionStatus → Given → Type 0
+GivesOn Live given = IsTrue (gives_on given)
+GivesOn (Ended reason) given = (point : ℕ) × (reason ≡ ends.Behind point) × (given ≡ End reason)
+GivesOn _ given = ⊥
+
+-- the session is there behind a call of `give`, and goes on so
 pub record GoesOn (g : Giving) (number : ℕ) : Type 0 where
   pub later : Session
   pub there : session_of g.hub number ≡ Some later
-  pub live : later.standing ≡ Live
-  pub given : IsTrue (gives_on g.given)
+  pub goes_on : GivesOn later.standing g.given
 
 -- of a live session, whatever waits to go, and whatever of the client's messages came
 abbrev pub SessionsGoOn : Type 0

@@ -4,8 +4,9 @@
 --     after hub m session      the session after it has reacted to a message
 --     ReactsSo, VerdictsAreTwo      the rules do so with what is taken up; a SUBSCRIBE is accepted, or refused with NOTAUTH
 --     AfterIs      what the session has then, and what comes down
+--     falls_behind m hub session, after_entry hub m session      what the entry that a message asks for leaves of a session; and of its own
 --     GivesSo      and what `give` does
-use Rattle.std.specs.Prelude.{◌≡◌, ℕ, ◌+◌, ◌<◌, ◌^◌, Bool, true, false, ◌&&◌, List, [], ◌∷◌, ◌++◌, map, length, take, drop, filter, flat_map, min, Some, IsTrue, IsSome, nat_le, not, ◌==◌, unwrap_or, if◌then◌else◌}
+use Rattle.std.specs.Prelude.{◌≡◌, ℕ, ◌+◌, ◌<◌, ◌^◌, Bool, true, false, ◌&&◌, List, [], ◌∷◌, ◌++◌, map, length, take, drop, filter, flat_map, Some, IsTrue, IsSome, nat_le, not, ◌==◌, unwrap_or, option_map, Option, None, if◌then◌else◌}
 use Rattle.std.specs.Int.{w16, from_be_bytes, to_be_bytes}
 use Rattle.std.specs.List.{AllByRecursion}
 use Rattle.push_base.specs.Cases.{is_empty}
@@ -21,17 +22,19 @@ use Rattle.dsotlv.specs.TlvKinds.{keepalive_tlv, subscribe_tlv, unsubscribe_tlv,
 use Rattle.dsotlv.specs.declared.message.DsoHead.{DsoHead}
 use Rattle.dsotlv.specs.declared.message.Notice.{Notice}
 use Rattle.dsosession.specs.Timing.{restarted}
+use Rattle.dsosession.specs.declared.session.EndReason.TheVariants as ends
+use Rattle.rrset.specs.declared.record.Key.{Key}
+use Rattle.history.specs.States.{accepts, reconfirm_key}
 use Rattle.history.specs.declared.entry.Entry.{Entry}
+use Rattle.history.specs.declared.entry.Entry.TheVariants as entries
 use Rattle.pushsession.specs.declared.request.Request.{Request}
 use Rattle.pushsession.specs.declared.request.Request.TheVariants as requests
 use Rattle.pushsession.specs.declared.session_status.SessionStatus.TheVariants.{Live}
-use Rattle.pushsession.specs.Sessions.{without_first}
+use Rattle.pushsession.specs.Sessions.{without_first, ended_where}
 use Rattle.pushsession.specs.Subscribing.{Refuse, Accept, verdict_on, may_be_served, first_answer_size}
 use Rattle.pushsession.specs.Reactions.{request_in}
-use Rattle.pushserver.specs.declared.given.Given.{Given}
-use Rattle.pushserver.specs.declared.given.Given.TheVariants.{Bytes, Worked}
-use Rattle.pushserver.specs.Hubs.{newest, now, state_now, session_of}
-use Rattle.pushserver.specs.Giving.{is_served_at, reconfirms as reconfirms_record, reacted, give}
+use Rattle.pushserver.specs.Hubs.{newest, now, state_now, keeps_now, session_of, behind_at, can_enter}
+use Rattle.pushserver.specs.Giving.{is_served_at, reconfirms as reconfirms_record, reacted, given_of, given_after, give}
 use Rattle.pushserver.specs.PlainHubs.{Session, Subscription, Queue, Hub, plain_keeps, leaves_queue, note_of, written, first_answer, asked_of}
 use Rattle.pushclient.specs.Clients.{Connection, reconfirm_message}
 use Rattle.pushclient.specs.ServerMessages.{accepts as accepting, refuses, grants, tells}
@@ -133,16 +136,16 @@ heard t m session = record session { clocks = restarted (is_request_to_keep m) t
 abbrev pub after : Hub → ClientMessage → Session → Session
 after hub m session = reaction hub m (heard (now hub) m session)
 
--- a later hub has this session of the number, these entries, and all else as before
-pub record HasAfter (hub later : Hub) (entries : List Entry) (number : ℕ) (found : Session) : Type 0 where
+-- a later hub has this session of the number, these entries, so of each other session, and all else as before
+pub record HasAfter (hub later : Hub) (entries : List Entry) (elsewhere : Option Session → Option Session) (number : ℕ) (found : Session) : Type 0 where
   pub start : later.start ≡ hub.start
   pub timers : later.timers ≡ hub.timers
   pub history : later.history ≡ entries
   pub numbers_given : later.numbers_given ≡ hub.numbers_given
   pub session : session_of later number ≡ Some found
-  pub others : (other : ℕ) → (other ≡ number → ⊥) → session_of later other ≡ session_of hub other
+  pub others : (other : ℕ) → (other ≡ number → ⊥) → session_of later other ≡ elsewhere (session_of hub other)
 
--- a RECONFIRM asks for the reconfirming of its record besides: where a link shows that, and the journal has room, an entry is made (RFC 8765, 6.5)
+-- a RECONFIRM asks for the reconfirming of its record besides: where a link shows that, and the point isn't the last one, an entry is made (RFC 8765, 6.5)
 abbrev pub asks_hub : ClientMessage → ℕ → Hub → Hub
 asks_hub (reconfirms rr) number hub = reconfirms_record (Some (as_carried rr)) number hub
 asks_hub _ number hub = hub
@@ -151,7 +154,7 @@ asks_hub _ number hub = hub
 pub record ReactedSo (hub : Hub) (number : ℕ) (m : ClientMessage) (session : Session) : Type 0 where
   pub request : request_in (message_octets m) session.established ≡ needs m
   pub between : Hub
-  pub reacts : HasAfter hub between hub.history number (after hub m session)
+  pub reacts : HasAfter hub between hub.history (λ other. other) number (after hub m session)
   pub asks : reacted (message_octets m) number hub ≡ asks_hub m number between
 
 abbrev pub ReactsSo : Type 0
@@ -220,15 +223,30 @@ pub record IsMet (hub : Hub) (number : ℕ) (session : Session) (m : ClientMessa
   pub first : first_message session.input ≡ Some (message_octets m, rest)
   pub taken : IsSome (taken_up session.established (asked_of session.subscriptions) m)
 
--- octets were written, or a message was reacted to without any
-abbrev pub given_for : ℕ → List ℕ → Given
-given_for room output = if is_empty output then Worked else Bytes (min room (length output))
+-- the point from which on a session falls behind by the entry that a RECONFIRM makes (this project's own)
+abbrev pub behind_point : Hub → Session → Option (ℕ × Key) → Option ℕ
+behind_point hub session None = None
+behind_point hub session (Some found) =
+    let entry = entries.Reconfirm found.0 found.1 in
+    if accepts (state_now hub) entry && can_enter hub then behind_at hub entry session else None
 
+abbrev pub behind_for : ClientMessage → Hub → Session → Option ℕ
+behind_for (reconfirms rr) hub session = behind_point hub session (reconfirm_key (state_now hub) (as_carried rr))
+behind_for _ hub session = None
+
+-- such a session ends; the entry changes no record, so no name comes to wait for it
+abbrev pub falls_behind : ClientMessage → Hub → Session → Session
+falls_behind m hub session = ended_where (keeps_now hub) (option_map (λ p. ends.Behind p) (behind_for m hub session)) session
+
+-- the session that sent it, behind that
+abbrev pub after_entry : Hub → ClientMessage → Session → Session
+after_entry hub m session = falls_behind m hub (after hub m session)
+
+-- octets were written, or else what was done
 pub record GaveSo (hub : Hub) (number room : ℕ) (m : ClientMessage) (session : Session) : Type 0 where
-  pub octets : (give hub number room).octets ≡ take room (after hub m session).output
-  pub given : (give hub number room).given ≡ given_for room (after hub m session).output
-  pub leaves : HasAfter hub (give hub number room).hub (asks_hub m number hub).history number (record (after hub m session) { output = drop room (after hub m session).output })
+  pub octets : (give hub number room).octets ≡ take room (after_entry hub m session).output
+  pub given : (give hub number room).given ≡ given_of (given_after (after_entry hub m session).standing) room (after_entry hub m session)
+  pub leaves : HasAfter hub (give hub number room).hub (asks_hub m number hub).history (option_map (falls_behind m hub)) number (record (after_entry hub m session) { output = drop room (after_entry hub m session).output })
 
--- an entry that a RECONFIRM makes changes no record, so nobody waits for it
 abbrev pub GivesSo : Type 0
 GivesSo = (hub : Hub) (number room : ℕ) (session : Session) (m : ClientMessage) (rest : List ℕ) → IsMet hub number session m rest → GaveSo hub number room m (without_first rest session)

@@ -15,7 +15,7 @@ IsOfOthers number (gives other room) = number ≡ other → ⊥
 IsOfOthers number (ends other) = number ≡ other → ⊥
 IsOfOthers number _ = Unit {0}
 
--- the session is there after the call, and what is under way still fits both ends; a moment may end it, and a stop may be asked of it
+-- the session is there after the call, and what is under way still fits both ends; an entry or a moment may end it, and a stop may be asked of it
 abbrev pub OtherCallsLeaveIt : Type 0
 OtherCallsLeaveIt = (hub : Hub) (call : HubCall) (number : ℕ) (told : List (ℕ × ℕ)) (session : Session) (client : Client) (c : Connection) (up_wire down_wire : List ℕ)
     → IsOfOthers number call → session_of hub number ≡ Some session → IsUnderWay hub told session client c up_wire down_wire

@@ -161,7 +161,8 @@ pub fn sessions_react_so()
 {}
 
 /// `give` takes the first message of a live session that has nothing to hand out, reacts to it, and hands out what fits of the answer.
-/// All else of the hub stays, but for the entry that a RECONFIRM asks for (RFC 8765, 6.5).
+/// All else of the hub stays, but for the entry that a RECONFIRM asks for (RFC 8765, 6.5), and the sessions that fall behind by it:
+/// the session's own end comes behind its reaction.
 pub fn gives_react_so()
     ensures gives { GivesSo }
 {}
@@ -217,8 +218,9 @@ pub fn what_is_held()
     ensures sent { HoldsAllSent }
 {}
 
-/// No message ends it: each call of `give` leaves a live session live, whatever of the client's messages
-/// came up, and the client's step closes the connection at a Retry Delay alone, of a session that doesn't go on (RFC 8490, 6.6.1).
+/// No message ends it: each call of `give` leaves a live session live, whatever of the client's messages came up, or it falls behind
+/// by the entry of a RECONFIRM; and the client's step closes the connection at a Retry Delay alone, of a session that doesn't go on
+/// (RFC 8490, 6.6.1).
 pub fn no_message_ends_it()
     ensures ends { NoMessageEndsIt }
 {}

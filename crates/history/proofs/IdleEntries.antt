@@ -42,7 +42,7 @@ after-idle state entry e = idle-by entry state (concern entry) e
 
 -- ---- what is held, made
 
-led-after : (state : State) (entry : Entry) (held : Option HeldPlan) → option_map (led_to state) held ≡ held_for state entry → led_by state held ≡ after state entry
+pub led-after : (state : State) (entry : Entry) (held : Option HeldPlan) → option_map (led_to state) held ≡ held_for state entry → led_by state held ≡ after state entry
 led-after state entry held is = by (accepts state entry) refl held is
   where
     by : (b : Bool) → accepts state entry ≡ b → (held : Option HeldPlan) → option_map (led_to state) held ≡ cond b (Some (after state entry)) None → led_by state held ≡ after state entry

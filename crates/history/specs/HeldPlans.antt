@@ -5,11 +5,12 @@
 --     Checks, IsCheckReady      what an update of zones gets, and that there is room for that
 --     IsTimely entry      its moment, if it is one, is no later than the last
 --     IsStateOf homes moment state      homes at a moment are this state, in which each record is at home
---     IsPresent      homes are the state after all entries of a past, and the counts those of its journal
-use Rattle.std.specs.Prelude.{◌≡◌, ℕ, ◌≤◌, List, ◌∷◌, length, sum_by, Option, Some, None, slice_get, IsTrue, IfSome}
+--     IsSoundPast past octets      entries of so many octets within the two numbers, from a start in which each record is at home
+--     IsPresent past homes moment held      homes are the state after all entries of a past
+use Rattle.std.specs.Prelude.{◌≡◌, ℕ, ◌+◌, ◌≤◌, List, ◌∷◌, length, sum_by, Option, Some, None, slice_get, IsTrue, IfSome}
 use Rattle.std.specs.List.{AllByRecursion, AllZip}
 use Rattle.push_base.specs.Cases.{changed_at}
-use Rattle.push_base.specs.Limits.{max_moment}
+use Rattle.push_base.specs.Limits.{max_moment, max_number}
 use Rattle.rrset.specs.RecordSet.{with_changes}
 use Rattle.rrset.specs.declared.record.Changed.{Changed}
 use Rattle.dnswire.specs.declared.message.Update.{Update}
@@ -22,12 +23,10 @@ use Rattle.linkcache.specs.Plans.{LinkPlan, with_row_changes}
 use Rattle.history.specs.Plans.{may_stand_together, planned, refuse, accept}
 use Rattle.history.specs.Entries.{Concern, all_links, concern}
 use Rattle.history.specs.States.{State, LinkState, after, entry_size, max_journal_entries, max_journal_octets}
-use Rattle.history.specs.Kept.{HomesKept, Past, at_moment, state_of, state_now}
+use Rattle.history.specs.Kept.{HomesKept, Past, at_moment, state_of, state_now, point_of}
 use Rattle.history.specs.AtHome.{AreNamesOf, AreAtHome}
-use Rattle.history.specs.Totals.{totals}
 use Rattle.history.specs.declared.entry.Entry.{Entry}
 use Rattle.history.specs.declared.entry.Entry.TheVariants as entries
-use Rattle.history.specs.declared.entry.Totals.{Totals}
 use Rattle.history.specs.declared.planning.HeldPlan.{HeldPlan}
 use Rattle.history.specs.declared.planning.HeldPlan.TheVariants as plans
 use Rattle.history.specs.declared.updating.Checked.{Checked}
@@ -111,15 +110,19 @@ pub record IsStateOf (homes : HomesKept) (moment : ℕ) (state : State) : Type 0
   pub same : at_moment homes moment ≡ state
   pub home : AreAtHome state
 
--- homes at a moment are the state after all entries, the octets and counts are those of the journal, and a plan that is held is ready
-pub record IsPresent (past : Past) (number : ℕ) (homes : HomesKept) (moment octets : ℕ) (counts : Totals) (held : Option HeldPlan) : Type 0 where
-  pub present : IsStateOf homes moment (state_now past)
+-- a start in which each record is at home, entries of so many octets within the two numbers, and all that there ever were are counted
+pub record IsSoundPast (past : Past) (octets : ℕ) : Type 0 where
   pub start : AreAtHome past.start
-  pub first : number ≡ 0
+  pub begun : past.start.now ≤ max_moment
   pub timely : AllByRecursion IsTimely past.history
-  pub now : moment ≤ max_moment
   pub size : octets ≡ sum_by entry_size past.history
-  pub groups : counts ≡ totals past.history
+  pub groups : past.counts.changes + past.counts.heard + past.counts.moments ≡ point_of past
+  pub last : point_of past ≤ max_number
   pub few : length past.history ≤ max_journal_entries
   pub within : octets ≤ max_journal_octets
+
+-- homes at a moment are the state after all entries, and a plan that is held is ready
+pub record IsPresent (past : Past) (homes : HomesKept) (moment : ℕ) (held : Option HeldPlan) : Type 0 where
+  pub present : IsStateOf homes moment (state_now past)
+  pub now : moment ≤ max_moment
   pub ready : IfSome held (IsReady homes)

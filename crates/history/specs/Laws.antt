@@ -4,21 +4,26 @@
 --     EntriesKeepHomes      each entry leaves each record at home, and each name its home
 --     KeysHaveOnePlace      no key comes from two homes
 --     RecordsAreTheHomes      the records of a name are those of its home
+--     UpdatesFit, HearingsFit      what is made of one message fits an empty journal
 --     LinksChangeForThemselves, LinksChangeTogether      what is shown otherwise where one link changes; where each does
-use Rattle.std.specs.Prelude.{◌≡◌, ℕ, Bool, false, List, [], ◌∷◌, ◌++◌, map, fold, flat_map, Option, Some, None, slice_get, IsTrue, is_some}
+use Rattle.std.specs.Prelude.{◌≡◌, ℕ, ◌<◌, ◌≤◌, Bool, false, List, [], ◌∷◌, ◌++◌, map, fold, flat_map, Option, Some, None, Ok, slice_get, IsTrue, is_some, All}
 use Rattle.std.specs.List.{list_any, AllByRecursion, AllZip, IsDistinct}
 use Rattle.dnsname.specs.Names.{Labels, is_name, ends_in}
 use Rattle.rrset.specs.KeyedRows.{Rows, put_row}
 use Rattle.rrset.specs.RecordSet.{RecordSet, is_record_set, at_name, changes, shown_at}
 use Rattle.rrset.specs.declared.record.Changed.{Changed}
+use Rattle.rrset.specs.declared.record.Hearing.{Hearing}
+use Rattle.dnswire.specs.declared.message.Update.{Update}
+use Rattle.dnswire.specs.Reading.{hearing_of}
 use Rattle.zoneupdate.specs.Zones.{ZoneState}
 use Rattle.linkcache.specs.Rows.{LinkRows, shown_rows}
 use Rattle.linkcache.specs.Sound.{AreLinkRows}
 use Rattle.history.specs.Homes.{NamedHome}
 use Rattle.history.specs.Plans.{may_stand_together, IsStart}
-use Rattle.history.specs.States.{State, LinkState, home_of, after, records}
+use Rattle.history.specs.States.{State, LinkState, home_of, after, records, update_in, entry_size, max_journal_octets}
 use Rattle.history.specs.AtHome.{AreNamesOf, StandApart, AreAtHome, homes_in}
 use Rattle.history.specs.declared.entry.Entry.{Entry}
+use Rattle.history.specs.declared.entry.Entry.TheVariants as entries
 use Rattle.history.specs.declared.entry.Home.{Home}
 use Rattle.history.specs.declared.entry.Home.TheVariants as homes
 
@@ -86,3 +91,10 @@ each_changed _ _ = []
 abbrev pub LinksChangeTogether : Type 0
 LinksChangeTogether = (state : State) (later : List LinkState) (now : ℕ) → AreAtHome state → AllZip IsLater state.links later
     → changes (records state) (records (record state { links = later; now = now })) ≡ gathered (each_changed state.links later)
+
+-- what is made of one message fits an empty journal
+abbrev pub UpdatesFit : Type 0
+UpdatesFit = (message : List ℕ) (update : Update) → All (λ o. o < 256) message → update_in message ≡ Ok update → entry_size (entries.Update update) ≤ max_journal_octets
+
+abbrev pub HearingsFit : Type 0
+HearingsFit = (datagram : List ℕ) (link : ℕ) (hearing : Hearing) → All (λ o. o < 256) datagram → hearing_of datagram ≡ Ok hearing → entry_size (entries.Heard link hearing) ≤ max_journal_octets

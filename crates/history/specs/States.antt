@@ -23,7 +23,7 @@ pub use Rattle.linkcache.specs.Links.{LinkState}
 use Rattle.linkcache.specs.Rows.{at_moment, shown_rows}
 pub use Rattle.history.specs.Entries.{entry_octets, entry_size}
 use Rattle.history.specs.Entries.{Concern, a_zone, a_link, all_links, concern, is_taken, rows_after}
-use Rattle.history.specs.declared.points.TheConstants as points
+use Rattle.history.specs.declared.past.TheConstants as pasts
 use Rattle.history.specs.declared.entry.Entry.{Entry}
 use Rattle.history.specs.declared.entry.Home.{Home}
 use Rattle.history.specs.declared.entry.Home.TheVariants as homes
@@ -127,10 +127,10 @@ abbrev pub reconfirm_key : State → Rr → Option (ℕ × Key)
 reconfirm_key state rr = key_heard state rr (home_of state rr.owner)
 
 abbrev pub max_journal_entries : ℕ
-max_journal_entries = points.MAX_ENTRIES
+max_journal_entries = pasts.MAX_ENTRIES
 
 abbrev pub max_journal_octets : ℕ
-max_journal_octets = points.MAX_OCTETS
+max_journal_octets = pasts.MAX_OCTETS
 
 -- entries and one more of a size are within the two numbers (this project's own)
 abbrev pub journal_has_room : List Entry → ℕ → Bool

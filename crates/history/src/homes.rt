@@ -17,13 +17,14 @@ ghost use Rattle.history.specs.HeldPlans.{Checks, IsCheckReady, IsLinkReady, IsP
 use crate::entry::{Entry, Home, HomeFault};
 use crate::link_lists::{
     apply_link, apply_links, copies_of_links, link_matching, longest_link, moments, put_all_shown,
-    step_of, tell_links,
+    rows_of_links, step_of, tell_links,
 };
 use crate::naming::{NamedHome, copies_of, fault_of, put_behind};
 use crate::planning::HeldPlan;
 use crate::updating::{Checked, check_zones};
 use crate::zone_lists::{
-    apply_zone, copies_of_zones, longest_zone, put_all_rows, tell_zones, zone_matching,
+    apply_zone, copies_of_zones, longest_zone, put_all_rows, rows_of_zones, tell_zones,
+    zone_matching,
 };
 use dnsname::Name;
 use dnswire::Update;
@@ -214,6 +215,11 @@ impl Homes {
             links,
             names,
         })
+    }
+
+    /// How many rows all homes have.
+    pub(crate) fn rows(&self) -> usize {
+        rows_of_zones(&self.zones).saturating_add(rows_of_links(&self.links))
     }
 
     /// The link that is the home of a record's owner, and the key of what it would have heard to show the record.

@@ -1,10 +1,10 @@
 //! A history told anew from its start.
 
-ghost use Rattle.std.specs.Prelude.{◌≡◌, ◌≤◌, ℕ, fold, IfOk};
+ghost use Rattle.std.specs.Prelude.{◌≡◌, ◌≤◌, length, IfOk};
 ghost use Rattle.std.specs.List.{AllByRecursion};
 ghost use Rattle.push_base.specs.Limits.{max_moment};
-ghost use Rattle.history.specs.States.{after};
-ghost use Rattle.history.specs.Kept.{at_moment, state_of};
+ghost use Rattle.history.specs.States.{after, state_at};
+ghost use Rattle.history.specs.Kept.{at_moment};
 ghost use Rattle.history.specs.AtHome.{AreAtHome};
 ghost use Rattle.history.specs.HeldPlans.{IsStateOf, IsTimely};
 
@@ -13,6 +13,7 @@ use crate::homes::Homes;
 use crate::planning::{apply_held, plan_of};
 use rrset::NoMemory;
 use std::alloc::Global;
+use std::collections::VecDeque;
 
 /// Makes what an entry makes of homes at a moment, and gives the moment afterwards.
 fn enter(alloc: Global, homes: &mut Homes, moment: u64, entry: &Entry) -> Result<u64, NoMemory>
@@ -26,16 +27,24 @@ fn enter(alloc: Global, homes: &mut Homes, moment: u64, entry: &Entry) -> Result
     Ok(apply_held(homes, moment, held))
 }
 
-/// The homes after the entries of a history that begins with these.
-pub(crate) fn replayed(alloc: Global, start: &Homes, entries: &[Entry]) -> Result<Homes, NoMemory>
-    requires home { AreAtHome (state_of start.now) }
-    requires timely { AllByRecursion IsTimely entries.now }
-    ensures { IfOk result (λ homes. (t : ℕ) × IsStateOf homes t (fold after (state_of start.now) entries.now)) }
+/// What homes at a moment are after the first of some entries, and the moment then.
+pub(crate) fn replayed(
+    alloc: Global,
+    start: &Homes,
+    moment: u64,
+    entries: &VecDeque<Entry>,
+    count: usize,
+) -> Result<(Homes, u64), NoMemory>
+    requires home { AreAtHome (at_moment start.now moment) }
+    requires moment { moment ≤ max_moment }
+    requires timely { AllByRecursion IsTimely entries.now.items }
+    requires within { count ≤ length entries.now.items }
+    ensures { IfOk result (λ later. IsStateOf later.0 later.1 (state_at (at_moment start.now moment) entries.now.items count)) }
 {
     let mut homes = start.copy()?;
-    let mut moment: u64 = 0;
-    'entries: for entry in entries {
-        moment = enter(alloc, &mut homes, moment, entry)?;
+    let mut now = moment;
+    'entries: for index in 0..count {
+        now = enter(alloc, &mut homes, now, &entries[index])?;
     }
-    Ok(homes)
+    Ok((homes, now))
 }

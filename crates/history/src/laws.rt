@@ -1,6 +1,6 @@
 //! What entries make of homes and of all records.
 
-ghost use Rattle.history.specs.Laws.{EntriesKeepHomes, KeysHaveOnePlace, LinksChangeForThemselves, LinksChangeTogether, NamesStandApart, RecordsAreTheHomes, StartsAreAtHome};
+ghost use Rattle.history.specs.Laws.{EntriesKeepHomes, HearingsFit, KeysHaveOnePlace, LinksChangeForThemselves, LinksChangeTogether, NamesStandApart, RecordsAreTheHomes, StartsAreAtHome, UpdatesFit};
 
 /// Homes that were added one by one stand apart, whichever kind is put first.
 pub fn names_stand_apart()
@@ -35,4 +35,10 @@ pub fn links_change_for_themselves()
 /// Where links alone change, exactly that is shown otherwise which each of them shows otherwise, in key order.
 pub fn links_change_together()
     ensures { LinksChangeTogether }
+{}
+
+/// What is made of one message fits an empty journal.
+pub fn messages_fit()
+    ensures updates { UpdatesFit }
+    ensures hearings { HearingsFit }
 {}

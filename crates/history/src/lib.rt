@@ -8,6 +8,7 @@ pub mod laws;
 mod link_lists;
 mod matching;
 mod naming;
+mod past;
 mod plan;
 mod planning;
 mod points;
@@ -27,7 +28,7 @@ ghost use Rattle.history.specs.Worked.{start, heard_host, added_address, sizes_a
 
 use crate::entry::HomeFault;
 pub use homes::Homes;
-pub use plan::{ChangedKeys, PastFault, Planned};
+pub use plan::{ChangedKeys, Planned};
 pub use points::Points;
 
 /// Examples of states and of faults of homes.

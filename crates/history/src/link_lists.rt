@@ -49,6 +49,15 @@ pub(crate) fn tell_links(links: &[Cache])
     }
 }
 
+/// How many rows some links have.
+pub(crate) fn rows_of_links(links: &[Cache]) -> usize {
+    let mut rows: usize = 0;
+    'links: for link in links {
+        rows = rows.saturating_add(link.rows().len());
+    }
+    rows
+}
+
 /// The same links.
 pub(crate) fn copies_of_links(alloc: Global, links: &[Cache]) -> Result<Vec<Cache>, NoMemory>
     ensures { IfOk result (λ copy. map (λ l. l.state) copy.items ≡ map (λ l. l.state) links.now) }

@@ -1,12 +1,10 @@
 //! What an entry will change.
 
 ghost use Rattle.std.specs.Prelude.{◌≡◌, IfOk};
-ghost use Rattle.history.specs.declared.plan.PastFault.TheVariants as faults;
 
 use rrset::{Changed, NoMemory, Shown};
-use std::alloc::{AllocError, AllocFailed, Global};
+use std::alloc::Global;
 use std::marker::Model;
-use thiserror::Error;
 
 /// Keys that will be shown otherwise, each with what is shown of it before and after, in key order.
 #[derive(Debug, Drop)]
@@ -89,31 +87,4 @@ pub enum Planned {
     Idle,
     /// It is accepted, and these keys will be shown otherwise.
     Accept(ChangedKeys),
-}
-
-/// Why an entry is not appended.
-#[derive(Clone, Copy, Debug, PartialEq, Eq, Error)]
-pub enum PastFault {
-    /// There are 65,536 entries, or their sizes with its own would pass 67,108,864 octets.
-    #[error("the journal is full")]
-    Full,
-    /// Memory ran out.
-    #[error("out of memory")]
-    NoMemory,
-}
-
-impl From<AllocError> for PastFault {
-    ghost from_gives = { λ _ e. e ≡ faults.NoMemory };
-
-    fn from(_e: AllocError) -> PastFault {
-        PastFault::NoMemory
-    }
-}
-
-impl<T: Drop> From<AllocFailed<T>> for PastFault {
-    ghost from_gives = { λ _ e. e ≡ faults.NoMemory };
-
-    fn from(_e: AllocFailed<T>) -> PastFault {
-        PastFault::NoMemory
-    }
 }

@@ -1,81 +1,59 @@
 //! One history of all homes.
 
-ghost use Rattle.std.specs.Prelude.{◌≡◌, ◌≤◌, [], ◌∷◌, ◌++◌, false, true, None, length, map, IfOk, OnOk, OnErr, IsErrOf};
+ghost use Rattle.std.specs.Prelude.{◌≡◌, ◌≤◌, ◌<◌, ◌+◌, ◌-◌, ℕ, [], true, None, map, nat_le, IfOk, OnOk, OnErr};
+ghost use Rattle.push_base.specs.Limits.{max_number};
 ghost use Rattle.rrset.specs.Records.{rr_of};
 ghost use Rattle.rrset.specs.RecordSet.{matching};
-ghost use Rattle.history.specs.States.{records_at, reconfirm_key, entry_size, journal_has_room};
+ghost use Rattle.history.specs.States.{after, records_at, reconfirm_key, entry_size, max_journal_octets};
 ghost use Rattle.history.specs.Plans.{IsStart, planned};
 ghost use Rattle.history.specs.Totals.{totals};
 ghost use Rattle.history.specs.AtHome.{AreAtHome};
 ghost use Rattle.history.specs.HeldPlans.{IsTimely};
-ghost use Rattle.history.specs.Kept.{state_of, state_now, records_now, held_for, told_plan, IsHeld};
+ghost use Rattle.history.specs.Kept.{Appends, has_room, point_of, state_of, state_now, records_now, held_for, told_plan, IsHeld};
 
 use crate::entry::{Entry, Totals};
 use crate::homes::Homes;
-use crate::journal_replay::replayed;
-use crate::plan::{PastFault, Planned};
+use crate::past::Past;
+use crate::plan::Planned;
 use crate::planning::{HeldPlan, apply_held, plan_of};
 use rrset::{Key, NoMemory, Question, Rr, Rrs, Shown, Table};
 use std::alloc::Global;
 use std::marker::Model;
 
-/// A start state with its number, and the entries since.
-#[derive(Debug, Drop)]
-pub(crate) struct Past {
-    pub(crate) start: Homes,
-    pub(crate) number: u64,
-    pub(crate) entries: Vec<Entry>,
-}
-
-/// A past, the homes and the moment after all its entries, and how many octets and how many entries of each group it has.
+/// A past, and the homes and the moment after all its entries.
 #[derive(Debug, Drop)]
 pub struct Points {
     past: Past,
     homes: Homes,
     moment: u64,
-    octets: u64,
-    counts: Totals,
     held: Option<HeldPlan>,
 }
 
-/// The most entries of a journal.
-const MAX_ENTRIES: usize = 65_536;
-
-/// The most octets of a journal.
-const MAX_OCTETS: u64 = 67_108_864;
-
 impl Model for Points {
     ghost use Rattle.std.specs.Prelude.{option_map};
-    ghost use Rattle.history.specs.Kept.{PointsKept, state_of, at_moment};
+    ghost use Rattle.history.specs.Kept.{PointsKept, at_moment};
     ghost use Rattle.history.specs.HeldPlans.{led_to, IsPresent};
 
     ghost Value = { PointsKept };
 
-    ghost view = { λ p. record { past = record { start = state_of p.past.start; history = p.past.entries.items }; held = option_map (led_to (at_moment p.homes p.moment)) p.held } };
+    ghost view = { λ p. record { past = p.past; held = option_map (led_to (at_moment p.homes p.moment)) p.held } };
 
-    ghost invariant = { λ p. IsPresent (record { start = state_of p.past.start; history = p.past.entries.items }) p.past.number p.homes p.moment p.octets p.counts p.held };
+    ghost invariant = { λ p. IsPresent p.past p.homes p.moment p.held };
 }
 
 impl Points {
     /// The history of homes in which nothing has changed yet.
     pub fn new(homes: Homes) -> Result<Points, NoMemory>
         requires { IsStart (state_of homes) }
-        ensures points { IfOk result (λ points. points ≡ record { past = record { start = state_of homes; history = [] }; held = None }) }
+        ensures points { IfOk result (λ points. points ≡ record { past = record { start = state_of homes; number = 0; history = []; counts = totals [] }; held = None }) }
         ensures home { AreAtHome (state_of homes) }
     {
         homes.tell_names();
-        let alloc = homes.allocator();
-        let past = Past {
-            start: homes.copy()?,
-            number: 0,
-            entries: Vec::new(alloc),
-        };
+        let past = Past::new(&homes)?;
         Ok(Points {
             past,
             homes,
             moment: 0,
-            octets: 0,
-            counts: Totals::none(),
             held: None,
         })
     }
@@ -94,25 +72,25 @@ impl Points {
         self.moment
     }
 
-    /// The newest point: how many entries there are.
+    /// The newest point: how many entries there ever were.
     pub fn point(&self) -> u64
-        ensures { result ≡ length self.now.past.history }
+        ensures { result ≡ point_of self.now.past }
     {
-        self.past.entries.len() as u64
+        self.past.point()
     }
 
-    /// How many entries of each group there are.
+    /// How many entries of each group there ever were.
     pub fn counts(&self) -> Totals
-        ensures { result ≡ totals self.now.past.history }
+        ensures { result ≡ self.now.past.counts }
     {
-        self.counts
+        self.past.counts()
     }
 
-    /// The number of the start state.
+    /// The number of the start state: how many entries were forgotten.
     pub fn start(&self) -> u64
-        ensures { result ≡ 0 }
+        ensures { result ≡ self.now.past.number }
     {
-        self.past.number
+        self.past.number()
     }
 
     /// The records at the newest point, in key order.
@@ -154,45 +132,57 @@ impl Points {
         Ok(planned)
     }
 
-    /// Appends the entry whose plan is held. `Full`: the journal has no room for it.
-    pub fn append(&mut self, entry: Entry) -> Result<(), PastFault>
-        requires { IsHeld self.old entry }
-        ensures appended { OnOk result (self.new ≡ record { past = record self.old.past { history = self.old.past.history ++ entry ∷ [] }; held = None }) }
+    /// Appends the entry whose plan is held. It may forget entries from before the point `keep`, but none from there on. It
+    /// takes all memory before it changes anything.
+    pub fn append(&mut self, entry: Entry, keep: u64) -> Result<(), NoMemory>
+        requires held { IsHeld self.old entry }
+        requires last { point_of self.old.past < max_number }
+        requires since { self.old.past.number ≤ keep }
+        requires within { keep ≤ point_of self.old.past }
+        requires room { has_room self.old.past keep (entry_size entry) ≡ true }
+        ensures appended { OnOk result (Appends keep self.old.past entry self.new.past) }
+        ensures state { OnOk result (state_now self.new.past ≡ after (state_now self.old.past) entry) }
+        ensures point { OnOk result (point_of self.new.past ≡ point_of self.old.past + 1) }
+        ensures held { OnOk result (self.new.held ≡ None) }
         ensures none { OnErr result (self.new ≡ self.old) }
-        ensures room { OnOk result (journal_has_room self.old.past.history (entry_size entry) ≡ true) }
-        ensures full { IsErrOf result PastFault.Full → journal_has_room self.old.past.history (entry_size entry) ≡ false }
     {
-        let size = entry.size();
-        if !self.room(size) {
-            return Err(PastFault::Full);
-        }
-        let counts = self.counts.and_one(&entry);
-        self.past.entries.push(entry)?;
-        self.octets += size;
-        self.counts = counts;
+        self.past.append(entry, keep, &self.homes, self.moment)?;
         self.moment = apply_held(&mut self.homes, self.moment, self.held.take());
         Ok(())
     }
 
-    /// Whether the journal has room for an entry of a size: at most 65,536 entries, of at most 67,108,864 octets in all.
-    pub fn room(&self, size: u64) -> bool
-        ensures { result ≡ journal_has_room self.now.past.history size }
+    /// The least point from which on the entries and one more of a size are within the two numbers: at most 65,536 entries,
+    /// of at most 67,108,864 octets in all.
+    pub fn floor(&self, size: u64) -> u64
+        requires { size ≤ max_journal_octets }
+        ensures from { self.now.past.number ≤ result }
+        ensures within { result ≤ point_of self.now.past }
+        ensures least { (from : ℕ) → self.now.past.number ≤ from → has_room self.now.past from size ≡ nat_le result from }
     {
-        self.past.entries.len() < MAX_ENTRIES && size <= MAX_OCTETS - self.octets
+        self.past.floor(size)
     }
 
-    /// The records at a point that a question asks for, in key order, told anew from the start.
+    /// Whether the entries from a point on and one more of a size are within the two numbers.
+    pub fn room(&self, from: u64, size: u64) -> bool
+        requires { self.now.past.number ≤ from }
+        ensures { result ≡ has_room self.now.past from size }
+    {
+        self.past.room(from, size)
+    }
+
+    /// The records at a point that a question asks for, in key order, told anew from the start. The past begins at the
+    /// start's number.
     pub fn records_at(
         &self,
         alloc: Global,
         point: u64,
         question: &Question,
     ) -> Result<Rrs, NoMemory>
-        requires { point ≤ length self.now.past.history }
-        ensures { IfOk result (λ rrs. rrs ≡ map (λ e. rr_of e.0 e.1) (matching question.now (records_at self.now.past.start self.now.past.history point))) }
+        requires from { self.now.past.number ≤ point }
+        requires within { point ≤ point_of self.now.past }
+        ensures { IfOk result (λ rrs. rrs ≡ map (λ e. rr_of e.0 e.1) (matching question.now (records_at self.now.past.start self.now.past.history (point - self.now.past.number)))) }
     {
-        let (entries, _) = self.past.entries.split_at(point as usize);
-        let homes = replayed(alloc, &self.past.start, entries)?;
+        let homes = self.past.homes_at(alloc, point)?;
         homes.matching(alloc, question)
     }
 }

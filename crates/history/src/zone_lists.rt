@@ -49,6 +49,15 @@ pub(crate) fn tell_zones(zones: &[Zone])
     }
 }
 
+/// How many rows some zones have.
+pub(crate) fn rows_of_zones(zones: &[Zone]) -> usize {
+    let mut rows: usize = 0;
+    'zones: for zone in zones {
+        rows = rows.saturating_add(zone.rows().len());
+    }
+    rows
+}
+
 /// The same zones.
 pub(crate) fn copies_of_zones(alloc: Global, zones: &[Zone]) -> Result<Vec<Zone>, NoMemory>
     ensures { IfOk result (λ copy. map (λ z. z.state) copy.items ≡ map (λ z. z.state) zones.now) }

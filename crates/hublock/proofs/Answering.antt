@@ -1,10 +1,10 @@
 -- The clauses of one call of the hub are what is said of that call, and what was stood for is so after it.
-use Rattle.std.specs.Prelude.{◌≡◌, ℕ, ◌++◌, true, false, List, length, drop, Option, Some, None, Result, Ok, Err, IfOk, OnOk, OnErr, IsErrOf, refl}
+use Rattle.std.specs.Prelude.{◌≡◌, ℕ, ◌++◌, true, List, length, drop, Option, Some, None, Result, Ok, Err, IfOk, OnOk, OnErr, IsErrOf, refl}
 use Rattle.std.proofs.Common.{sym, subst}
 use Rattle.pushserver.specs.PlainHubs.{Hub}
-use Rattle.pushserver.specs.Hubs.{hear, moment, connect, taken_by, take_octets, disconnect}
+use Rattle.pushserver.specs.Hubs.{can_enter, hear, moment, connect, taken_by, take_octets, disconnect}
 use Rattle.pushserver.specs.Giving.{give}
-use Rattle.pushserver.specs.KeptHubs.{KeptHub, StandsFor}
+use Rattle.pushserver.specs.KeptHubs.{KeptHub, StandsFor, Forgets}
 use Rattle.pushserver.specs.Laws.{MayWantMemory}
 use Rattle.pushserver.specs.declared.given.Given.{Given}
 use Rattle.pushserver.specs.declared.given.Heard.{Heard}
@@ -30,69 +30,56 @@ unfolding Does
 does_leave old new session a b = (a, b)
 
 passes_of : {A : Type 0} (old new : KeptHub) (at : ℕ) (answer : Result A HubFault)
-    → OnOk answer ((hub : Hub) → StandsFor old hub → ((moment hub at).0 ≡ false) × StandsFor new (moment hub at).1)
-    → (IsErrOf answer faults.Full → (hub : Hub) → StandsFor old hub → ((moment hub at).0 ≡ true) × StandsFor new (moment hub at).1)
-    → OnOk answer (((moment old at).0 ≡ false) × (new ≡ (moment old at).1))
+    → OnOk answer ((hub : Hub) → StandsFor old hub → StandsFor new (moment hub at))
+    → OnOk answer (Forgets (moment old at) new)
     → OnErr answer (new ≡ old)
-    → (IsErrOf answer faults.NoMemory → (moment old at).0 ≡ false)
-    → (IsErrOf answer faults.Full → (moment old at).0 ≡ true)
+    → OnErr answer (can_enter old ≡ true)
     → Passes old at (fault_of answer) new
-passes_of old new at (Ok x) ok full kept same room no_room = ((ok, kept.0), kept.1)
-passes_of old new at (Err faults.Full) ok full kept same room no_room = ((full refl, no_room refl), same)
-passes_of old new at (Err faults.NoMemory) ok full kept same room no_room = (room refl, same)
+passes_of old new at (Ok x) ok kept same room = (ok, kept)
+passes_of old new at (Err faults.NoMemory) ok kept same room = (room, same)
 
 pub does_pass : {A : Type 0} (old new : KeptHub) (at : ℕ) (answer : Result A HubFault)
-    → OnOk answer ((hub : Hub) → StandsFor old hub → ((moment hub at).0 ≡ false) × StandsFor new (moment hub at).1)
-    → (IsErrOf answer faults.Full → (hub : Hub) → StandsFor old hub → ((moment hub at).0 ≡ true) × StandsFor new (moment hub at).1)
-    → OnOk answer (((moment old at).0 ≡ false) × (new ≡ (moment old at).1))
+    → OnOk answer ((hub : Hub) → StandsFor old hub → StandsFor new (moment hub at))
+    → OnOk answer (Forgets (moment old at) new)
     → OnErr answer (new ≡ old)
-    → (IsErrOf answer faults.NoMemory → (moment old at).0 ≡ false)
-    → (IsErrOf answer faults.Full → (moment old at).0 ≡ true)
+    → OnErr answer (can_enter old ≡ true)
     → Does old (Passed at (fault_of answer)) new
 unfolding Does
-does_pass old new at answer ok full kept same room no_room = passes_of old new at answer ok full kept same room no_room
+does_pass old new at answer ok kept same room = passes_of old new at answer ok kept same room
 
 hears_of : (old new : KeptHub) (link : ℕ) (datagram : List ℕ) (answer : Result Heard HubFault)
-    → IfOk answer (λ heard. (hub : Hub) → StandsFor old hub → ((hear hub link datagram).0 ≡ Some heard) × StandsFor new (hear hub link datagram).1)
-    → (IsErrOf answer faults.Full → (hub : Hub) → StandsFor old hub → ((hear hub link datagram).0 ≡ None) × StandsFor new (hear hub link datagram).1)
-    → IfOk answer (λ heard. ((hear old link datagram).0 ≡ Some heard) × (new ≡ (hear old link datagram).1))
-    → (IsErrOf answer faults.Full → (hear old link datagram).0 ≡ None)
+    → IfOk answer (λ heard. (hub : Hub) → StandsFor old hub → (heard ≡ (hear hub link datagram).0) × StandsFor new (hear hub link datagram).1)
+    → IfOk answer (λ heard. (heard ≡ (hear old link datagram).0) × Forgets (hear old link datagram).1 new)
     → OnErr answer (new ≡ old)
     → Hears old link datagram answer new
-hears_of old new link datagram (Ok heard) ok full kept no_room same = ((ok, kept.0), kept.1)
-hears_of old new link datagram (Err faults.Full) ok full kept no_room same = ((full refl, no_room refl), same)
-hears_of old new link datagram (Err faults.NoMemory) ok full kept no_room same = same
+hears_of old new link datagram (Ok heard) ok kept same = ((ok, kept.0), kept.1)
+hears_of old new link datagram (Err faults.NoMemory) ok kept same = same
 
 pub does_hear : (old new : KeptHub) (link : ℕ) (datagram : List ℕ) (answer : Result Heard HubFault)
-    → IfOk answer (λ heard. (hub : Hub) → StandsFor old hub → ((hear hub link datagram).0 ≡ Some heard) × StandsFor new (hear hub link datagram).1)
-    → (IsErrOf answer faults.Full → (hub : Hub) → StandsFor old hub → ((hear hub link datagram).0 ≡ None) × StandsFor new (hear hub link datagram).1)
-    → IfOk answer (λ heard. ((hear old link datagram).0 ≡ Some heard) × (new ≡ (hear old link datagram).1))
-    → (IsErrOf answer faults.Full → (hear old link datagram).0 ≡ None)
+    → IfOk answer (λ heard. (hub : Hub) → StandsFor old hub → (heard ≡ (hear hub link datagram).0) × StandsFor new (hear hub link datagram).1)
+    → IfOk answer (λ heard. (heard ≡ (hear old link datagram).0) × Forgets (hear old link datagram).1 new)
     → OnErr answer (new ≡ old)
     → Does old (Received link datagram answer) new
 unfolding Does
-does_hear old new link datagram answer ok full kept no_room same = hears_of old new link datagram answer ok full kept no_room same
+does_hear old new link datagram answer ok kept same = hears_of old new link datagram answer ok kept same
 
 gives_of : (old new : KeptHub) (session : ℕ) (before after : List ℕ) (answer : Result Given HubFault)
     → IfOk answer (λ given. GivesAs old session before after given new)
-    → (IsErrOf answer faults.Full → ⊥)
     → OnErr answer ((hub : Hub) → StandsFor old hub → MayWantMemory hub session)
-    → OnOk answer (new ≡ (give old session (length before)).hub)
+    → OnOk answer (Forgets (give old session (length before)).hub new)
     → OnErr answer (new ≡ old)
     → Gives old session before after answer new
-gives_of old new session before after (Ok given) ok never memory kept same = (ok, kept)
-gives_of old new session before after (Err faults.Full) ok never memory kept same = never refl
-gives_of old new session before after (Err faults.NoMemory) ok never memory kept same = (same, memory)
+gives_of old new session before after (Ok given) ok memory kept same = (ok, kept)
+gives_of old new session before after (Err faults.NoMemory) ok memory kept same = (same, memory)
 
 pub does_give : (old new : KeptHub) (session : ℕ) (before after : List ℕ) (answer : Result Given HubFault)
     → IfOk answer (λ given. GivesAs old session before after given new)
-    → (IsErrOf answer faults.Full → ⊥)
     → OnErr answer ((hub : Hub) → StandsFor old hub → MayWantMemory hub session)
-    → OnOk answer (new ≡ (give old session (length before)).hub)
+    → OnOk answer (Forgets (give old session (length before)).hub new)
     → OnErr answer (new ≡ old)
     → Does old (Gave session before after answer) new
 unfolding Does
-does_give old new session before after answer ok never memory kept same = gives_of old new session before after answer ok never memory kept same
+does_give old new session before after answer ok memory kept same = gives_of old new session before after answer ok memory kept same
 
 connects_of : (old new : KeptHub) (answer : Result ℕ ConnectFault)
     → IfOk answer (λ number. (hub : Hub) → StandsFor old hub → ((connect hub).0 ≡ Some number) × StandsFor new (connect hub).1)
@@ -128,16 +115,13 @@ stays old new same s = subst StandsForOne (sym same) s
 gives_stands : (old new : KeptHub) (session : ℕ) (before after : List ℕ) (answer : Result Given HubFault) → Gives old session before after answer new → StandsForOne old → StandsForOne new
 gives_stands old new session before after (Ok given) d (hub, s) = ((give hub session (length before)).hub, (d.0 hub s).2)
 gives_stands old new session before after (Err faults.NoMemory) d s = stays old new d.0 s
-gives_stands old new session before after (Err faults.Full) d s = absurd d
 
 hears_stands : (old new : KeptHub) (link : ℕ) (datagram : List ℕ) (answer : Result Heard HubFault) → Hears old link datagram answer new → StandsForOne old → StandsForOne new
 hears_stands old new link datagram (Ok heard) d (hub, s) = ((hear hub link datagram).1, (d.0.0 hub s).1)
-hears_stands old new link datagram (Err faults.Full) d s = stays old new d.1 s
 hears_stands old new link datagram (Err faults.NoMemory) d s = stays old new d s
 
 passes_stands : (old new : KeptHub) (at : ℕ) (fault : Option HubFault) → Passes old at fault new → StandsForOne old → StandsForOne new
-passes_stands old new at None d (hub, s) = ((moment hub at).1, (d.0.0 hub s).1)
-passes_stands old new at (Some faults.Full) d s = stays old new d.1 s
+passes_stands old new at None d (hub, s) = (moment hub at, d.0 hub s)
 passes_stands old new at (Some faults.NoMemory) d s = stays old new d.1 s
 
 connects_stands : (old new : KeptHub) (answer : Result ℕ ConnectFault) → Connects old answer new → StandsForOne old → StandsForOne new

@@ -192,7 +192,6 @@ uses_more ends.Finished used more left turns p e = omega arith
 uses_more ends.ReadFault used more left turns p e = omega arith
 uses_more ends.WriteFault used more left turns p e = omega arith
 uses_more ends.LinkFault used more left turns p e = omega arith
-uses_more ends.Full used more left turns p e = omega arith
 uses_more ends.NoMemory used more left turns p e = omega arith
 
 -- the same where the numbers of calls of both sides are counted apart
@@ -207,5 +206,4 @@ leaves_none A ends.WriteFault = tt
 leaves_none A ends.Finished = refl
 leaves_none A ends.ReadFault = refl
 leaves_none A ends.LinkFault = refl
-leaves_none A ends.Full = refl
 leaves_none A ends.NoMemory = refl

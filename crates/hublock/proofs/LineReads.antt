@@ -172,7 +172,6 @@ one_more ends.Finished k turns more p = omega arith
 one_more ends.ReadFault k turns more p = omega arith
 one_more ends.WriteFault k turns more p = omega arith
 one_more ends.LinkFault k turns more p = omega arith
-one_more ends.Full k turns more p = omega arith
 one_more ends.NoMemory k turns more p = omega arith
 
 -- over a gate that tells the octets that were read are handed on without a stop
@@ -182,7 +181,6 @@ cause_by_stop b left used ends.Turns on stop = stop
 cause_by_stop b left used ends.ReadFault on stop = on
 cause_by_stop b left used ends.WriteFault on stop = absurd stop
 cause_by_stop b left used ends.LinkFault on stop = absurd stop
-cause_by_stop b left used ends.Full on stop = absurd stop
 cause_by_stop b left used ends.NoMemory on stop = absurd stop
 
 -- a rest is no more than what was handed on
@@ -223,7 +221,6 @@ cause_join after rest before ys used more all ends.Turns e leads on still = stil
 cause_join after rest before ys used more all ends.ReadFault e leads on still = still
 cause_join after rest before ys used more all ends.WriteFault e leads on p = absurd p
 cause_join after rest before ys used more all ends.LinkFault e leads on p = absurd p
-cause_join after rest before ys used more all ends.Full e leads on p = absurd p
 cause_join after rest before ys used more all ends.NoMemory e leads on p = absurd p
 
 pub read_ended : (session : ℕ) (a b c : Observed ℕ) (rest : Option (List ℕ)) (left turns : ℕ) (end : LoopEnd) → ReadSoFar session a b left turns → ReadsUntil session b c rest left end → ReadsUntil session a c rest turns end

@@ -90,15 +90,9 @@ heard_on link a b gate left datagram heard turns e more one some turn on =
     let call : HubCall = Received link datagram (Ok heard) in
     (call ∷ [], 1, run_heard link a b gate datagram (Ok heard) e more one turn, omega arith, omega arith, still_on call gate b.gate turn on, (tt, tt))
 
-pub full_at_hearing : (link : ℕ) (a b : Seen) (gate : Option GateState) (left : Datagrams) (datagram : List ℕ) (turns : ℕ)
-    → gate ≡ a.gate → TellsMore a.told b.told (datagram ∷ []) → CountsOne a.calls b.calls → 1 < turns → DoesTurn (Received link datagram (Err faults.Full)) gate b.gate → GoesOn gate → HearsUntil link a b left turns ends.Full
-full_at_hearing link a b gate left datagram turns e more one some turn on =
-    let call : HubCall = Received link datagram (Err faults.Full) in
-    (call ∷ [], 1, [], run_heard link a b gate datagram (Err faults.Full) e more one turn, omega arith, refl, omega arith, (still_on call gate b.gate turn on, at_one IsTakenReceipt (IsRefusedReceipt faults.Full) call refl))
-
-pub starved_at_hearing : (link : ℕ) (a b : Seen) (gate : Option GateState) (left : Datagrams) (datagram : List ℕ) (turns : ℕ)
-    → gate ≡ a.gate → TellsMore a.told b.told (datagram ∷ []) → CountsOne a.calls b.calls → 1 < turns → DoesTurn (Received link datagram (Err faults.NoMemory)) gate b.gate → GoesOn gate → HearsUntil link a b left turns ends.NoMemory
-starved_at_hearing link a b gate left datagram turns e more one some turn on =
+pub starved_at_hearing : (link : ℕ) (a b : Seen) (gate : Option GateState) (left : Datagrams) (datagram : List ℕ) (turns : ℕ) (fault : HubFault)
+    → gate ≡ a.gate → TellsMore a.told b.told (datagram ∷ []) → CountsOne a.calls b.calls → 1 < turns → DoesTurn (Received link datagram (Err fault)) gate b.gate → GoesOn gate → HearsUntil link a b left turns ends.NoMemory
+starved_at_hearing link a b gate left datagram turns faults.NoMemory e more one some turn on =
     let call : HubCall = Received link datagram (Err faults.NoMemory) in
     (call ∷ [], 1, [], run_heard link a b gate datagram (Err faults.NoMemory) e more one turn, omega arith, refl, omega arith, (still_on call gate b.gate turn on, at_one IsTakenReceipt (IsRefusedReceipt faults.NoMemory) call refl))
 
@@ -120,7 +114,6 @@ cause_join after rest before xs ys used more all ends.Finished e leads on taken 
 cause_join after rest before xs ys used more all ends.Finished e leads on taken (inr over, others) = (inr over, all_join IsTakenReceipt xs ys taken others)
 cause_join after rest before xs ys used more all ends.Turns e leads on taken (still, others) = (still, all_join IsTakenReceipt xs ys taken others)
 cause_join after rest before xs ys used more all ends.LinkFault e leads on taken (still, others) = (still, all_join IsTakenReceipt xs ys taken others)
-cause_join after rest before xs ys used more all ends.Full e leads on taken (still, last) = (still, at_join IsTakenReceipt (IsRefusedReceipt faults.Full) xs ys taken last)
 cause_join after rest before xs ys used more all ends.NoMemory e leads on taken (still, last) = (still, at_join IsTakenReceipt (IsRefusedReceipt faults.NoMemory) xs ys taken last)
 cause_join after rest before xs ys used more all ends.ReadFault e leads on taken p = absurd p
 cause_join after rest before xs ys used more all ends.WriteFault e leads on taken p = absurd p

@@ -67,15 +67,9 @@ turns_at_once a b turns e told calls none on = ([], 0, [], run_none a b e told c
 pub turns_at_tick : (a b : Observed ℕ) (moment turns : ℕ) → b.gate ≡ a.gate → TellsMore a.told b.told (moment ∷ []) → CountsOne a.calls b.calls → turns ≡ 1 → GoesOn b.gate → TicksUntil a b turns ends.Turns
 turns_at_tick a b moment turns e more one last on = ([], 1, timely moment ∷ [], run_tick a b moment e more one, omega arith, tt, omega arith, (on, tt))
 
-pub full_at_pass : (a b : Observed ℕ) (gate : Option GateState) (moment at turns : ℕ)
-    → gate ≡ a.gate → TellsMore a.told b.told (moment ∷ []) → CountsOne a.calls b.calls → at ≡ timely moment → 1 < turns → DoesTurn (Passed at (Some faults.Full)) gate b.gate → GoesOn gate → TicksUntil a b turns ends.Full
-full_at_pass a b gate moment at turns e more one is some turn on =
-    let call : HubCall = Passed at (Some faults.Full) in
-    (call ∷ [], 1, [], run_pass a b gate moment at (Some faults.Full) e more one is turn, omega arith, refl, omega arith, (still_on call gate b.gate turn on, at_one IsTakenPass (IsRefusedPass faults.Full) call refl))
-
-pub starved_at_pass : (a b : Observed ℕ) (gate : Option GateState) (moment at turns : ℕ)
-    → gate ≡ a.gate → TellsMore a.told b.told (moment ∷ []) → CountsOne a.calls b.calls → at ≡ timely moment → 1 < turns → DoesTurn (Passed at (Some faults.NoMemory)) gate b.gate → GoesOn gate → TicksUntil a b turns ends.NoMemory
-starved_at_pass a b gate moment at turns e more one is some turn on =
+pub starved_at_pass : (a b : Observed ℕ) (gate : Option GateState) (moment at turns : ℕ) (fault : HubFault)
+    → gate ≡ a.gate → TellsMore a.told b.told (moment ∷ []) → CountsOne a.calls b.calls → at ≡ timely moment → 1 < turns → DoesTurn (Passed at (Some fault)) gate b.gate → GoesOn gate → TicksUntil a b turns ends.NoMemory
+starved_at_pass a b gate moment at turns faults.NoMemory e more one is some turn on =
     let call : HubCall = Passed at (Some faults.NoMemory) in
     (call ∷ [], 1, [], run_pass a b gate moment at (Some faults.NoMemory) e more one is turn, omega arith, refl, omega arith, (still_on call gate b.gate turn on, at_one IsTakenPass (IsRefusedPass faults.NoMemory) call refl))
 
@@ -100,7 +94,6 @@ cause_join : (after : Observed ℕ) (before : Option GateState) (xs ys : List Hu
     → all ≡ used + more → LeadsTo ys before after.gate → WentOn before used → AllByRecursion IsTakenPass xs → TickCause after ys more end → TickCause after (xs ++ ys) all end
 cause_join after before xs ys used more all ends.Finished e leads on taken (stop, rest) = (stops_join ys before after.gate used more all e leads on stop, all_join IsTakenPass xs ys taken rest)
 cause_join after before xs ys used more all ends.Turns e leads on taken (still, rest) = (still, all_join IsTakenPass xs ys taken rest)
-cause_join after before xs ys used more all ends.Full e leads on taken (still, last) = (still, at_join IsTakenPass (IsRefusedPass faults.Full) xs ys taken last)
 cause_join after before xs ys used more all ends.NoMemory e leads on taken (still, last) = (still, at_join IsTakenPass (IsRefusedPass faults.NoMemory) xs ys taken last)
 cause_join after before xs ys used more all ends.ReadFault e leads on taken p = absurd p
 cause_join after before xs ys used more all ends.WriteFault e leads on taken p = absurd p

@@ -82,10 +82,10 @@ run_join session a b c rest xs ys i j p q =
 
 -- one call, and writes of what it gave
 run_gave : (session : ℕ) (a b : Observed ℕ) (gate : Option GateState) (before after : List ℕ) (answer : Result Given HubFault) (front rest : List ℕ) (writes : ℕ)
-    → gate ≡ a.gate → DoesTurn (Gave session before after answer) gate b.gate → octets_of answer after ≡ front ++ rest → b.told ≡ append_known a.told front → CountsMore writes a.calls b.calls
+    → 0 < length before → gate ≡ a.gate → DoesTurn (Gave session before after answer) gate b.gate → octets_of answer after ≡ front ++ rest → b.told ≡ append_known a.told front → CountsMore writes a.calls b.calls
     → WriteRun session a b rest (Gave session before after answer ∷ []) writes
-run_gave session a b gate before after answer front rest writes same turn e is counts = record {
-  ran = ran_one (IsGive session) (Gave session before after answer) a.gate gate b.gate refl same turn;
+run_gave session a b gate before after answer front rest writes room same turn e is counts = record {
+  ran = ran_one (IsGive session) (Gave session before after answer) a.gate gate b.gate (refl, room) same turn;
   octets = (front, append-nil (octets_of answer after) ∙ e, is);
   counted = counts;
 }
@@ -97,52 +97,52 @@ turns_at_once session a b turns e told calls none = ([], 0, [], run_none session
 
 -- nothing was given
 silent : (session : ℕ) (a b : Observed ℕ) (gate : Option GateState) (before after : List ℕ) (answer : Result Given HubFault)
-    → gate ≡ a.gate → DoesTurn (Gave session before after answer) gate b.gate → octets_of answer after ≡ [] → b.told ≡ a.told → b.calls ≡ a.calls → WriteRun session a b [] (Gave session before after answer ∷ []) 0
-silent session a b gate before after answer same turn none told calls =
+    → 0 < length before → gate ≡ a.gate → DoesTurn (Gave session before after answer) gate b.gate → octets_of answer after ≡ [] → b.told ≡ a.told → b.calls ≡ a.calls → WriteRun session a b [] (Gave session before after answer ∷ []) 0
+silent session a b gate before after answer room same turn none told calls =
     let counts : CountsMore 0 a.calls b.calls = subst (λ (n : Option ℕ). CountsMore 0 a.calls n) (sym calls) (counts_none a.calls) in
-    run_gave session a b gate before after answer [] [] 0 same turn none (told ∙ known_none a.told) counts
+    run_gave session a b gate before after answer [] [] 0 room same turn none (told ∙ known_none a.told) counts
 
 pub silent_on : (session : ℕ) (a b : Observed ℕ) (gate : Option GateState) (before after : List ℕ) (answer : Result Given HubFault) (turns : ℕ)
-    → gate ≡ a.gate → DoesTurn (Gave session before after answer) gate b.gate → octets_of answer after ≡ [] → b.told ≡ a.told → b.calls ≡ a.calls → 0 < turns → GoesOnWith b.gate answer → WritesOn session a b turns (Ok (turns - 1))
-silent_on session a b gate before after answer turns same turn none told calls more on =
-    (Gave session before after answer ∷ [], 0, silent session a b gate before after answer same turn none told calls, omega arith, omega arith, (on, tt))
+    → 0 < length before → gate ≡ a.gate → DoesTurn (Gave session before after answer) gate b.gate → octets_of answer after ≡ [] → b.told ≡ a.told → b.calls ≡ a.calls → 0 < turns → GoesOnWith b.gate answer → WritesOn session a b turns (Ok (turns - 1))
+silent_on session a b gate before after answer turns room same turn none told calls more on =
+    (Gave session before after answer ∷ [], 0, silent session a b gate before after answer room same turn none told calls, omega arith, omega arith, (on, tt))
 
 pub finished : (session : ℕ) (a b : Observed ℕ) (gate : Option GateState) (before after : List ℕ) (answer : Result Given HubFault) (turns : ℕ)
-    → gate ≡ a.gate → DoesTurn (Gave session before after answer) gate b.gate → octets_of answer after ≡ [] → b.told ≡ a.told → b.calls ≡ a.calls → 0 < turns → EndsWith b.gate answer → WritesUntil session a b turns ends.Finished
-finished session a b gate before after answer turns same turn none told calls more ends_so =
-    (Gave session before after answer ∷ [], 0, [], silent session a b gate before after answer same turn none told calls, refl, inl refl, omega arith, at_one (IsPassingGive b.gate) (IsLastGive b.gate) (Gave session before after answer) ends_so)
+    → 0 < length before → gate ≡ a.gate → DoesTurn (Gave session before after answer) gate b.gate → octets_of answer after ≡ [] → b.told ≡ a.told → b.calls ≡ a.calls → 0 < turns → EndsWith b.gate answer → WritesUntil session a b turns ends.Finished
+finished session a b gate before after answer turns room same turn none told calls more ends_so =
+    (Gave session before after answer ∷ [], 0, [], silent session a b gate before after answer room same turn none told calls, refl, inl refl, omega arith, at_one (IsPassingGive b.gate) (IsLastGive b.gate) (Gave session before after answer) ends_so)
 
-pub starved_at_give : (session : ℕ) (a b : Observed ℕ) (gate : Option GateState) (before after : List ℕ) (turns : ℕ)
-    → gate ≡ a.gate → DoesTurn (Gave session before after (Err faults.NoMemory)) gate b.gate → b.told ≡ a.told → b.calls ≡ a.calls → 0 < turns → WritesUntil session a b turns ends.NoMemory
-starved_at_give session a b gate before after turns same turn told calls more =
+pub starved_at_give : (session : ℕ) (a b : Observed ℕ) (gate : Option GateState) (before after : List ℕ) (turns : ℕ) (fault : HubFault)
+    → 0 < length before → gate ≡ a.gate → DoesTurn (Gave session before after (Err fault)) gate b.gate → b.told ≡ a.told → b.calls ≡ a.calls → 0 < turns → WritesUntil session a b turns ends.NoMemory
+starved_at_give session a b gate before after turns faults.NoMemory room same turn told calls more =
     let answer : Result Given HubFault = Err faults.NoMemory in
-    (Gave session before after answer ∷ [], 0, [], silent session a b gate before after answer same turn refl told calls, refl, inl refl, omega arith, at_one (IsPassingGive b.gate) IsStarvedGive (Gave session before after answer) refl)
+    (Gave session before after answer ∷ [], 0, [], silent session a b gate before after answer room same turn refl told calls, refl, inl refl, omega arith, at_one (IsPassingGive b.gate) IsStarvedGive (Gave session before after answer) refl)
 
 -- nothing was given, and the loop waits, or ends where all was done before the call
 pub waited : (session : ℕ) (a b : Observed ℕ) (gate middle : Option GateState) (before after : List ℕ) (answer : Result Given HubFault) (turns : ℕ) (idle : Bool) (result : Result ℕ LoopEnd)
-    → gate ≡ a.gate → DoesTurn (Gave session before after answer) gate middle → WaitsUnless idle middle b.gate → octets_of answer after ≡ [] → b.told ≡ a.told → b.calls ≡ a.calls → 0 < turns
+    → 0 < length before → gate ≡ a.gate → DoesTurn (Gave session before after answer) gate middle → WaitsUnless idle middle b.gate → octets_of answer after ≡ [] → b.told ≡ a.told → b.calls ≡ a.calls → 0 < turns
     → (WasDone b.gate → EndsWith b.gate answer) → (GoesOn b.gate → GoesOnWith b.gate answer) → Answers a.gate idle → result ≡ cond idle (Err ends.Finished) (Ok (turns - 1)) → WritesOn session a b turns result
-waited session a b gate middle before after answer turns true result same turn later none told calls more ends_so goes_so idle is =
+waited session a b gate middle before after answer turns true result room same turn later none told calls more ends_so goes_so idle is =
     let now : DoesTurn (Gave session before after answer) gate b.gate = turn_may_wait true (Gave session before after answer) gate middle b.gate turn later in
-    let done : WasDone b.gate = answers_after (Gave session before after answer ∷ []) a.gate b.gate true (ran_one (IsGive session) (Gave session before after answer) a.gate gate b.gate refl same now).leads idle in
-    subst (λ (r : Result ℕ LoopEnd). WritesOn session a b turns r) (sym is) (finished session a b gate before after answer turns same now none told calls more (ends_so done))
-waited session a b gate middle before after answer turns false result same turn later none told calls more ends_so goes_so idle is =
+    let done : WasDone b.gate = answers_after (Gave session before after answer ∷ []) a.gate b.gate true (ran_one (IsGive session) (Gave session before after answer) a.gate gate b.gate (refl, room) same now).leads idle in
+    subst (λ (r : Result ℕ LoopEnd). WritesOn session a b turns r) (sym is) (finished session a b gate before after answer turns room same now none told calls more (ends_so done))
+waited session a b gate middle before after answer turns false result room same turn later none told calls more ends_so goes_so idle is =
     let now : DoesTurn (Gave session before after answer) gate b.gate = turn_may_wait false (Gave session before after answer) gate middle b.gate turn later in
-    let on : GoesOn b.gate = answers_after (Gave session before after answer ∷ []) a.gate b.gate false (ran_one (IsGive session) (Gave session before after answer) a.gate gate b.gate refl same now).leads idle in
-    subst (λ (r : Result ℕ LoopEnd). WritesOn session a b turns r) (sym is) (silent_on session a b gate before after answer turns same now none told calls more (goes_so on))
+    let on : GoesOn b.gate = answers_after (Gave session before after answer ∷ []) a.gate b.gate false (ran_one (IsGive session) (Gave session before after answer) a.gate gate b.gate (refl, room) same now).leads idle in
+    subst (λ (r : Result ℕ LoopEnd). WritesOn session a b turns r) (sym is) (silent_on session a b gate before after answer turns room same now none told calls more (goes_so on))
 
 -- a piece that was given was written, or the loop ended
 pub gave_and_wrote : (session : ℕ) (a b : Observed ℕ) (gate : Option GateState) (before after piece : List ℕ) (answer : Result Given HubFault) (turns : ℕ) (result : Result ℕ LoopEnd)
-    → gate ≡ a.gate → DoesTurn (Gave session before after answer) gate b.gate → octets_of answer after ≡ piece → 0 < turns → GoesOnWith b.gate answer
+    → 0 < length before → gate ≡ a.gate → DoesTurn (Gave session before after answer) gate b.gate → octets_of answer after ≡ piece → 0 < turns → GoesOnWith b.gate answer
     → TakesPiece piece a.told b.told a.calls b.calls (turns - 1) result → WritesOn session a b turns result
-gave_and_wrote session a b gate before after piece answer turns (Ok left) same turn is more on (writes, took, counts, used) =
-    (Gave session before after answer ∷ [], writes, run_gave session a b gate before after answer piece [] writes same turn (is ∙ sym (append-nil piece)) took counts, omega arith, omega arith, (on, tt))
-gave_and_wrote session a b gate before after piece answer turns (Err end) same turn is more on (writes, front, rest, whole, took, counts, used, how) =
+gave_and_wrote session a b gate before after piece answer turns (Ok left) room same turn is more on (writes, took, counts, used) =
+    (Gave session before after answer ∷ [], writes, run_gave session a b gate before after answer piece [] writes room same turn (is ∙ sym (append-nil piece)) took counts, omega arith, omega arith, (on, tt))
+gave_and_wrote session a b gate before after piece answer turns (Err end) room same turn is more on (writes, front, rest, whole, took, counts, used, how) =
     let call : HubCall = Gave session before after answer in (
       call ∷ [],
       writes,
       rest,
-      run_gave session a b gate before after answer front rest writes same turn (is ∙ whole) took counts,
+      run_gave session a b gate before after answer front rest writes room same turn (is ∙ whole) took counts,
       leaves end how,
       inr (last_one (IsEndOf given_in rest) call (front, is ∙ whole)),
       one_more end writes turns more used,
@@ -161,7 +161,6 @@ gave_and_wrote session a b gate before after piece answer turns (Err end) same t
     one_more ends.Turns k turns more p = omega arith
     one_more ends.Finished k turns more p = omega arith
     one_more ends.WriteFault k turns more p = omega arith
-    one_more ends.Full k turns more p = omega arith
     one_more ends.NoMemory k turns more p = omega arith
     one_more ends.ReadFault k turns more p = omega arith
     one_more ends.LinkFault k turns more p = omega arith
@@ -213,7 +212,6 @@ cause_join after xs ys ends.Finished on p = at_join (IsPassingGive after.gate) (
 cause_join after xs ys ends.Turns on p = all_join (IsPassingGive after.gate) xs ys on p
 cause_join after xs ys ends.WriteFault on p = all_join (IsPassingGive after.gate) xs ys on p
 cause_join after xs ys ends.NoMemory on p = at_join (IsPassingGive after.gate) IsStarvedGive xs ys on p
-cause_join after xs ys ends.Full on p = absurd p
 cause_join after xs ys ends.ReadFault on p = absurd p
 cause_join after xs ys ends.LinkFault on p = absurd p
 

@@ -1,11 +1,11 @@
 -- Calls of the hub, with their answers.
 --     HubCall      one call
 --     Does old call new      what the contract of the hub's call says of it
-use Rattle.std.specs.Prelude.{◌≡◌, ℕ, Bool, true, false, List, ◌++◌, length, drop, Option, Some, None, Result, Ok, Err}
+use Rattle.std.specs.Prelude.{◌≡◌, ℕ, true, List, ◌++◌, length, drop, Option, Some, None, Result, Ok, Err}
 use Rattle.pushserver.specs.PlainHubs.{Hub}
-use Rattle.pushserver.specs.Hubs.{hear, moment, connect, taken_by, take_octets, disconnect}
+use Rattle.pushserver.specs.Hubs.{can_enter, hear, moment, connect, taken_by, take_octets, disconnect}
 use Rattle.pushserver.specs.Giving.{give}
-use Rattle.pushserver.specs.KeptHubs.{KeptHub, StandsFor}
+use Rattle.pushserver.specs.KeptHubs.{KeptHub, StandsFor, Forgets}
 use Rattle.pushserver.specs.Laws.{MayWantMemory}
 use Rattle.pushserver.specs.declared.given.Given.{Given}
 use Rattle.pushserver.specs.declared.given.Heard.{Heard}
@@ -42,31 +42,23 @@ GivesAs old session before after given new = (hub : Hub) → StandsFor old hub
     × StandsFor new (give hub session (length before)).hub
 
 abbrev pub Gives : KeptHub → ℕ → List ℕ → List ℕ → Result Given HubFault → KeptHub → Type 0
-Gives old session before after (Ok given) new = GivesAs old session before after given new × (new ≡ (give old session (length before)).hub)
+Gives old session before after (Ok given) new = GivesAs old session before after given new × Forgets (give old session (length before)).hub new
 Gives old session before after (Err faults.NoMemory) new = (new ≡ old) × ((hub : Hub) → StandsFor old hub → MayWantMemory hub session)
-Gives old session before after (Err faults.Full) new = ⊥
 
--- a datagram of a link: this became of it, or nothing where the journal was full
-abbrev pub HearsAs : KeptHub → ℕ → List ℕ → Option Heard → KeptHub → Type 0
+-- a datagram of a link: this became of it
+abbrev pub HearsAs : KeptHub → ℕ → List ℕ → Heard → KeptHub → Type 0
 HearsAs old link datagram heard new =
-    ((hub : Hub) → StandsFor old hub → ((hear hub link datagram).0 ≡ heard) × StandsFor new (hear hub link datagram).1)
-    × ((hear old link datagram).0 ≡ heard)
+    ((hub : Hub) → StandsFor old hub → (heard ≡ (hear hub link datagram).0) × StandsFor new (hear hub link datagram).1)
+    × (heard ≡ (hear old link datagram).0)
 
 abbrev pub Hears : KeptHub → ℕ → List ℕ → Result Heard HubFault → KeptHub → Type 0
-Hears old link datagram (Ok heard) new = HearsAs old link datagram (Some heard) new × (new ≡ (hear old link datagram).1)
-Hears old link datagram (Err faults.Full) new = HearsAs old link datagram None new × (new ≡ old)
+Hears old link datagram (Ok heard) new = HearsAs old link datagram heard new × Forgets (hear old link datagram).1 new
 Hears old link datagram (Err faults.NoMemory) new = new ≡ old
 
--- it is a moment; true where the journal was full
-abbrev pub PassesAs : KeptHub → ℕ → Bool → KeptHub → Type 0
-PassesAs old at full new =
-    ((hub : Hub) → StandsFor old hub → ((moment hub at).0 ≡ full) × StandsFor new (moment hub at).1)
-    × ((moment old at).0 ≡ full)
-
+-- it is a moment, which wants memory only where it can be entered
 abbrev pub Passes : KeptHub → ℕ → Option HubFault → KeptHub → Type 0
-Passes old at None new = PassesAs old at false new × (new ≡ (moment old at).1)
-Passes old at (Some faults.Full) new = PassesAs old at true new × (new ≡ old)
-Passes old at (Some faults.NoMemory) new = ((moment old at).0 ≡ false) × (new ≡ old)
+Passes old at None new = Stands old new (λ hub. moment hub at) × Forgets (moment old at) new
+Passes old at (Some faults.NoMemory) new = (can_enter old ≡ true) × (new ≡ old)
 
 -- a session's connection is gone
 abbrev pub Leaves : KeptHub → ℕ → KeptHub → Type 0

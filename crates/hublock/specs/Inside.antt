@@ -7,7 +7,6 @@
 --     signalled      behind a signal
 use Rattle.std.specs.Prelude.{◌≡◌, ℕ, ◌+◌, ◌-◌, ◌⊎◌, ◌||◌, ◌==◌, not, Bool, true, cond, List, [], ◌∷◌, ◌++◌, filter, is_some, Result, Ok, Err}
 use Rattle.std.specs.List.{list_any, IsDistinct}
-use Rattle.history.specs.Totals.{totals}
 use Rattle.history.specs.declared.entry.Totals.{Totals}
 use Rattle.pushserver.specs.PlainHubs.{Hub}
 use Rattle.pushserver.specs.Hubs.{session_of}
@@ -29,9 +28,9 @@ pub record LockedState : Type 0 where
   pub left : ℕ
   pub quit : Bool
 
--- the entries of each group
+-- how many entries of each group there ever were
 abbrev pub counted : KeptHub → Totals
-counted hub = totals hub.history
+counted hub = hub.seen.counts
 
 -- the hub stands for a plain one, and the books have its totals
 pub record Holds (hub : KeptHub) (books : Totals) (seats : ℕ) : Type 0 where

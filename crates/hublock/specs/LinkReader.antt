@@ -45,7 +45,6 @@ abbrev pub HearCause : Observed (List ℕ) → Option (List (List ℕ)) → List
 HearCause after left calls used ends.Finished = (StopsAtOnce after.gate used ⊎ (GoesOn after.gate × AreOver left)) × AllByRecursion IsTakenReceipt calls
 HearCause after left calls used ends.Turns = GoesOn after.gate × AllByRecursion IsTakenReceipt calls
 HearCause after left calls used ends.LinkFault = GoesOn after.gate × AllByRecursion IsTakenReceipt calls
-HearCause after left calls used ends.Full = GoesOn after.gate × EndsAt IsTakenReceipt (IsRefusedReceipt faults.Full) calls
 HearCause after left calls used ends.NoMemory = GoesOn after.gate × EndsAt IsTakenReceipt (IsRefusedReceipt faults.NoMemory) calls
 HearCause after left calls used _ = ⊥
 

@@ -48,7 +48,6 @@ IsRefusedPass fault _ = ⊥
 abbrev pub TickCause : Observed ℕ → List HubCall → ℕ → LoopEnd → Type 0
 TickCause after calls used ends.Finished = StopsAtOnce after.gate used × AllByRecursion IsTakenPass calls
 TickCause after calls used ends.Turns = GoesOn after.gate × AllByRecursion IsTakenPass calls
-TickCause after calls used ends.Full = GoesOn after.gate × EndsAt IsTakenPass (IsRefusedPass faults.Full) calls
 TickCause after calls used ends.NoMemory = GoesOn after.gate × EndsAt IsTakenPass (IsRefusedPass faults.NoMemory) calls
 TickCause after calls used _ = ⊥
 

@@ -16,9 +16,9 @@ use Rattle.hublock.specs.Calls.{HubCall, Gave}
 use Rattle.hublock.specs.Gates.{GateState, GoesOn, WasDone}
 use Rattle.hublock.specs.Loops.{Observed, Ran, CountsMore, UsesTurns, LeavesRest, LastWas, EndsAt, IsEndOf}
 
--- each call asks for a session's octets
+-- each call asks for a session's octets, and has room for one
 abbrev pub IsGive : ℕ → HubCall → Type 0
-IsGive session (Gave number before after answer) = number ≡ session
+IsGive session (Gave number before after answer) = (number ≡ session) × (0 < length before)
 IsGive session _ = ⊥
 
 abbrev pub octets_of : Result Given HubFault → List ℕ → List ℕ

@@ -1,6 +1,6 @@
 //! What the loops ask of a hub.
 
-ghost use Rattle.std.specs.Prelude.{◌≡◌, ◌==◌, ◌≤◌, false, true, Option, length, IfOk, IsErrOf};
+ghost use Rattle.std.specs.Prelude.{◌≡◌, ◌==◌, ◌≤◌, false, true, Option, length, IfOk};
 ghost use Rattle.push_base.specs.Limits.{max_moment};
 ghost use Rattle.dnswire.specs.Reading.{hearing_of};
 ghost use Rattle.pushserver.specs.Counting.{octets_of};
@@ -31,12 +31,11 @@ pub trait Gate: Drop {
         ensures idle { IsIdle (result == 0) (state self.new) }
         ensures bound { result ≤ length piece.now };
 
-    /// One piece of work for a session. It is never `Full`.
+    /// One piece of work for a session.
     fn give(&mut self, session: u64, buf: &mut [u8]) -> Result<Given, HubFault>
         ensures call { DoesTurn (Gave session buf.old buf.new result) (state self.old) (state self.new) }
         ensures idle { IsIdle (has_nothing result) (state self.new) }
-        ensures bound { IfOk result (λ given. octets_of given ≤ length buf.old) }
-        ensures never { IsErrOf result HubFault.Full → ⊥ };
+        ensures bound { IfOk result (λ given. octets_of given ≤ length buf.old) };
 
     /// A datagram of a link.
     fn hear(&mut self, link: usize, datagram: &[u8]) -> Result<Heard, HubFault>

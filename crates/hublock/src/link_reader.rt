@@ -44,7 +44,6 @@ fn hear_on<G: Gate, D: Datagrams>(
     }
     match gate.hear(link, &buf[..count]) {
         Ok(_) => Ok(turns - 2),
-        Err(HubFault::Full) => Err(LoopEnd::Full),
         Err(HubFault::NoMemory) => Err(LoopEnd::NoMemory),
     }
 }
@@ -71,8 +70,8 @@ fn hear_all<G: Gate, D: Datagrams>(
     }
 }
 
-/// Hands each datagram of a link to the hub, until they end, or nothing is left to do, or the journal is full, or all turns
-/// were used. A turn is one call of the datagrams or one of the hub.
+/// Hands each datagram of a link to the hub, until they end, or nothing is left to do, or all turns were used. A turn is one
+/// call of the datagrams or one of the hub.
 pub fn link_loop<G: Gate, D: Datagrams>(
     alloc: Global,
     gate: &mut G,

@@ -1,17 +1,18 @@
 //! The hub behind a lock.
 
-ghost use Rattle.std.specs.Prelude.{◌≡◌, ◌≤◌, ◌+◌, [], IfOk, IsErrOf, OnErr};
+ghost use Rattle.std.specs.Prelude.{◌≡◌, ◌≤◌, ◌+◌, IfOk, IsErrOf, OnErr};
 ghost use Rattle.pushserver.specs.PlainHubs.{Hub as Plain};
 ghost use Rattle.pushserver.specs.Hubs.{max_sessions};
 ghost use Rattle.pushserver.specs.KeptHubs.{StandsFor};
 ghost use Rattle.hublock.specs.Feeds.{all_parts, each, parts_each, whole_seats};
+ghost use Rattle.hublock.specs.Inside.{counted};
 ghost use Rattle.hublock.specs.Ledgers.{AreNamed};
 ghost use Rattle.hublock.specs.Registers.{entered};
 
 use crate::books::{Books, Changes, Hearings, Moments, Sessions};
 use crate::marks::Marks;
 use crate::wakeups::{LastSeen, Wakeups};
-use crate::{Blanks, Feed, Locked, Register, Seats, Signal};
+use crate::{Blanks, Ended, Feed, Locked, Register, Seats, Signal};
 use history::entry::Totals;
 use push_base::{NoMemory, Role};
 use pushserver::{ConnectFault, Hub};
@@ -47,7 +48,7 @@ impl<B: Books> Held<B> {
 
 /// What goes behind the lock, and the feed and the seats that have every part of its ledgers.
 fn opened<B: Books>(hub: Hub, blanks: Blanks, over: Marks) -> (Locked<B>, Feed<B>, Seats<B>)
-    requires hub { (hub.history ≡ []) × (hub.numbers_given ≡ 0) }
+    requires hub { (counted hub ≡ each 0) × (hub.numbers_given ≡ 0) }
     requires stands { (plain : Plain) × StandsFor hub plain }
     requires names { AreNamed blanks B.names }
     ensures hub { result.0.hub ≡ hub }
@@ -87,10 +88,11 @@ impl<B: Books> HubLock<B> {
         blanks: Blanks,
         register: &mut W,
     ) -> Result<(HubLock<B>, Feed<B>, Seats<B>), NoMemory>
-        requires hub { (hub.history ≡ []) × (hub.numbers_given ≡ 0) }
+        requires hub { (counted hub ≡ each 0) × (hub.numbers_given ≡ 0) }
         requires stands { (plain : Plain) × StandsFor hub plain }
         requires names { AreNamed blanks B.names }
         ensures registered { W.hubs register.new ≡ entered (W.hubs register.old) hub }
+        ensures endings { W.endings register.new ≡ W.endings register.old }
         ensures feed { IfOk result (λ made. made.1 ≡ all_parts) }
         ensures seats { IfOk result (λ made. made.2 ≡ whole_seats) }
     {
@@ -139,11 +141,21 @@ impl<B: Books> HubLock<B> {
     }
 }
 
-/// The journal's counts, which are the sums of a feed that has every part.
-pub fn finish<B: Books, R: Wait>(rt: &R, lock: &HubLock<B>, feed: &mut Feed<B>) -> Totals
+/// The journal's counts, which are the sums of a feed that has every part. The register is told them, and how all loops ended.
+pub fn finish<B: Books, R: Wait, W: Register>(
+    rt: &R,
+    lock: &HubLock<B>,
+    feed: &mut Feed<B>,
+    loops: &[Ended],
+    register: &mut W,
+) -> Totals
     requires { feed.old.parts ≡ each parts_each }
     ensures sums { result ≡ feed.old.sums }
     ensures same { feed.new ≡ feed.old }
+    ensures hubs { W.hubs register.new ≡ W.hubs register.old }
+    ensures endings { W.endings register.new ≡ entered (W.endings register.old) (record { loops = loops.now; counts = result }) }
 {
-    lock.held.locked.lock(rt).totals(feed)
+    let counts = lock.held.locked.lock(rt).totals(feed);
+    register.finish(loops, counts);
+    counts
 }

@@ -96,7 +96,7 @@ impl<B: Books> Locked<B> {
         count
     }
 
-    /// One piece of work for a session. It is never `Full`.
+    /// One piece of work for a session.
     pub fn give(
         &mut self,
         session: u64,
@@ -106,7 +106,6 @@ impl<B: Books> Locked<B> {
         ensures call { Does self.old.hub (Gave session buf.old buf.new result) self.new.hub }
         ensures rest { self.new ≡ with_hub self.old self.new.hub }
         ensures bound { IfOk result (λ given. octets_of given ≤ length buf.old) }
-        ensures never { IsErrOf result HubFault.Full → ⊥ }
         ensures feed { MayAcceptChange self.old.hub self.new.hub feed.old feed.new }
         ensures err { OnErr result (AcceptsNone self.old.hub self.new.hub feed.old feed.new) }
     {

@@ -48,7 +48,6 @@ fn hearing_words(answer: &Result<Heard, HubFault>) -> &'static str {
     match answer {
         Ok(Heard::Entered) => "heard",
         Ok(Heard::Ignored(why)) => ignored_words(*why),
-        Err(HubFault::Full) => "lost: the journal is full",
         Err(HubFault::NoMemory) => "lost: no memory",
     }
 }
@@ -62,6 +61,7 @@ fn ignored_words(why: Why) -> &'static str {
         Why::Coded => "ignored: its OPCODE or RCODE is not 0",
         Why::Unreadable(_) => "ignored: outside the grammar",
         Why::Nothing => "ignored: none of its records is used",
+        Why::Last => "ignored: all points are used up",
     }
 }
 
@@ -77,7 +77,7 @@ impl Display for InWords {
             EndReason::Unknown(kind) => write!(f, "a TLV of unknown type {kind}"),
             EndReason::IdInUse(id) => write!(f, "a second SUBSCRIBE with the ID {id}"),
             EndReason::Twice(id) => write!(f, "a second SUBSCRIBE for what {id} asks"),
-            EndReason::Behind(point) => write!(f, "it needs the past from point {point}"),
+            EndReason::Behind(point) => write!(f, "it fell behind at point {point}"),
             reason => f.write_str(plain_words(reason)),
         }
     }

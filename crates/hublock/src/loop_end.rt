@@ -13,8 +13,6 @@ pub enum LoopEnd {
     LinkFault,
     /// All turns were used.
     Turns,
-    /// The journal is full.
-    Full,
     /// Memory ran out.
     NoMemory,
 }

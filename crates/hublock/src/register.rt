@@ -1,19 +1,31 @@
-//! Which hubs go behind locks.
+//! Which hubs go behind locks, and how servers finish.
 
 ghost use Rattle.std.specs.Prelude.{◌≡◌, None, Option, List};
 ghost use Rattle.pushserver.specs.KeptHubs.{KeptHub};
-ghost use Rattle.hublock.specs.Registers.{entered};
+ghost use Rattle.hublock.specs.Registers.{Ending, entered};
 
+use crate::Ended;
+use history::entry::Totals;
 use pushserver::Hub;
 
-/// Is told of each hub that goes behind a lock, so that what runs a server can say which one its jobs share.
+/// Is told of each hub that goes behind a lock, and of each server that finishes, so that what runs a server can say which hub
+/// its jobs share, and what its counts are.
 pub trait Register {
     /// The hubs of which it was told, in order, where it tells them.
     ghost hubs: { Self → Option (List KeptHub) };
 
+    /// How the servers ended of which it was told, in order, where it tells that.
+    ghost endings: { Self → Option (List Ending) };
+
     /// This hub goes behind a lock.
     fn enter(&mut self, hub: &Hub)
-        ensures { hubs self.new ≡ entered (hubs self.old) hub.now };
+        ensures hubs { hubs self.new ≡ entered (hubs self.old) hub.now }
+        ensures endings { endings self.new ≡ endings self.old };
+
+    /// All loops of a server ended so, and the journal of its hub has these counts.
+    fn finish(&mut self, loops: &[Ended], counts: Totals)
+        ensures hubs { hubs self.new ≡ hubs self.old }
+        ensures endings { endings self.new ≡ entered (endings self.old) (record { loops = loops.now; counts = counts }) };
 }
 
 /// A register that tells nothing.
@@ -23,5 +35,9 @@ pub struct NoRegister;
 impl Register for NoRegister {
     ghost hubs = { λ _. None };
 
+    ghost endings = { λ _. None };
+
     fn enter(&mut self, _hub: &Hub) {}
+
+    fn finish(&mut self, _loops: &[Ended], _counts: Totals) {}
 }

@@ -1,6 +1,6 @@
 //! A hub behind its lock, as one thread calls it.
 
-ghost use Rattle.std.specs.Prelude.{◌≡◌, ◌==◌, ◌≤◌, ◌⊎◌, None, Some, false, true, length, IfOk, IsErrOf, OnErr};
+ghost use Rattle.std.specs.Prelude.{◌≡◌, ◌==◌, ◌≤◌, ◌⊎◌, None, Some, false, true, length, IfOk, OnErr};
 ghost use Rattle.push_base.specs.Limits.{max_moment};
 ghost use Rattle.dnswire.specs.Reading.{hearing_of};
 ghost use Rattle.pushserver.specs.Counting.{octets_of};
@@ -93,7 +93,6 @@ impl<R: Log + Wait + Copy, B: Books> Gate for Shared<R, B> {
         ensures call { DoesTurn (Gave session buf.old buf.new result) None None }
         ensures idle { IsIdle (has_nothing result) None }
         ensures bound { IfOk result (λ given. octets_of given ≤ length buf.old) }
-        ensures never { IsErrOf result HubFault.Full → ⊥ }
         ensures feed { (self.new ≡ self.old) ⊎ (self.new ≡ with_feed self.old (one_change_more self.old.feed)) }
         ensures err { OnErr result (self.new ≡ self.old) }
     {

@@ -24,13 +24,12 @@ fn tick_on<G: Gate, T: Clock>(gate: &mut G, clock: &mut T, turns: u64) -> Result
     }
     match gate.moment(moment) {
         Ok(()) => Ok(turns - 2),
-        Err(HubFault::Full) => Err(LoopEnd::Full),
         Err(HubFault::NoMemory) => Err(LoopEnd::NoMemory),
     }
 }
 
-/// Hands each moment of the clock to the hub, until nothing is left to do, or the journal is full, or all turns were used. A
-/// turn is one tick or one call of the hub.
+/// Hands each moment of the clock to the hub, until nothing is left to do, or all turns were used. A turn is one tick or one
+/// call of the hub.
 pub fn clock_loop<G: Gate, T: Clock>(gate: &mut G, clock: &mut T, turns: u64) -> LoopEnd
     ensures { TicksUntil (observed (G.state gate.old) (T.moments clock.old) (T.calls clock.old)) (observed (G.state gate.new) (T.moments clock.new) (T.calls clock.new)) turns result }
 {

@@ -66,6 +66,7 @@ fn write_on<G: Gate, K: Wire>(
     buf: &mut [u8],
     turns: u64,
 ) -> Result<u64, LoopEnd>
+    requires some { 0 < length buf.old }
     ensures run { WritesOn session (observed (G.state gate.old) (K.taken sink.old) (K.calls sink.old)) (observed (G.state gate.new) (K.taken sink.new) (K.calls sink.new)) turns result }
     ensures later { K.faults sink.old ≤ K.faults sink.new }
     ensures cause { IsErrOf result LoopEnd.WriteFault → Rose (K.faults sink.old) (K.faults sink.new) }
@@ -80,7 +81,6 @@ fn write_on<G: Gate, K: Wire>(
         Ok(Given::Nothing) => wait_on(gate, sink, idle, turns - 1),
         Ok(Given::Ending) => wait_on(gate, sink, idle, turns - 1),
         Ok(Given::End(_)) => Err(LoopEnd::Finished),
-        Err(HubFault::Full) => unreachable!(),
         Err(HubFault::NoMemory) => Err(LoopEnd::NoMemory),
     }
 }
@@ -93,6 +93,7 @@ fn write_all<G: Gate, K: Wire>(
     buf: &mut [u8],
     turns: u64,
 ) -> LoopEnd
+    requires some { 0 < length buf.old }
     ensures run { WritesUntil session (observed (G.state gate.old) (K.taken sink.old) (K.calls sink.old)) (observed (G.state gate.new) (K.taken sink.new) (K.calls sink.new)) turns result }
     ensures later { K.faults sink.old ≤ K.faults sink.new }
     ensures cause { result ≡ LoopEnd.WriteFault → Rose (K.faults sink.old) (K.faults sink.new) }

@@ -1,9 +1,11 @@
 //! A hub of one zone and two links, and what is sent to it.
 
-ghost use Rattle.std.specs.Prelude.{◌≡◌, ℕ, [], IfOk};
+ghost use Rattle.std.specs.Prelude.{◌≡◌, ℕ, IfOk};
 ghost use Rattle.zoneupdate.specs.Zones.{new_zone};
 ghost use Rattle.pushserver.specs.PlainHubs.{Hub as Plain};
 ghost use Rattle.pushserver.specs.KeptHubs.{StandsFor};
+ghost use Rattle.hublock.specs.Feeds.{each};
+ghost use Rattle.hublock.specs.Inside.{counted};
 
 use dnsname::Name;
 use dsosession::session::Timers;
@@ -46,7 +48,7 @@ const TIMERS: Timers = Timers {
 /// A hub of one zone, and the links `lan.example.com.` and `wlan.example.com.`.
 fn hub_of(zone: Zone, alloc: Global) -> Result<Hub, Fail>
     requires { (serial : ℕ) × (zone.state ≡ new_zone zone.state.apex serial zone.state.writable) }
-    ensures fresh { IfOk result (λ hub. (hub.history ≡ []) × (hub.numbers_given ≡ 0)) }
+    ensures fresh { IfOk result (λ hub. (counted hub ≡ each 0) × (hub.numbers_given ≡ 0)) }
     ensures stands { IfOk result (λ hub. (plain : Plain) × StandsFor hub plain) }
 {
     let mut homes = Homes::new(alloc);
@@ -59,7 +61,7 @@ fn hub_of(zone: Zone, alloc: Global) -> Result<Hub, Fail>
 
 /// A hub of `example.com.`, which may be written, and of the links.
 pub(crate) fn example_hub(alloc: Global) -> Result<Hub, Fail>
-    ensures fresh { IfOk result (λ hub. (hub.history ≡ []) × (hub.numbers_given ≡ 0)) }
+    ensures fresh { IfOk result (λ hub. (counted hub ≡ each 0) × (hub.numbers_given ≡ 0)) }
     ensures stands { IfOk result (λ hub. (plain : Plain) × StandsFor hub plain) }
 {
     let apex = Name::from_text(alloc, "example.com.")?;

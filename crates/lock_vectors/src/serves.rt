@@ -1,8 +1,10 @@
 //! Whole servers, whose jobs run in threads.
 
-ghost use Rattle.std.specs.Prelude.{◌≡◌, []};
+ghost use Rattle.std.specs.Prelude.{◌≡◌};
 ghost use Rattle.pushserver.specs.PlainHubs.{Hub as Plain};
 ghost use Rattle.pushserver.specs.KeptHubs.{StandsFor};
+ghost use Rattle.hublock.specs.Feeds.{each};
+ghost use Rattle.hublock.specs.Inside.{counted};
 ghost use Rattle.hublock.specs.Ledgers.{AreNamed};
 
 use crate::hubs::{
@@ -344,7 +346,7 @@ fn end_of<
     setup: Setup<O::Links, O::Clock>,
     blanks: Blanks,
 ) -> ServeEnd
-    requires hub { (setup.hub.history ≡ []) × (setup.hub.numbers_given ≡ 0) }
+    requires hub { (counted setup.hub ≡ each 0) × (setup.hub.numbers_given ≡ 0) }
     requires stands { (plain : Plain) × StandsFor setup.hub plain }
     requires names { AreNamed blanks B.names }
 {

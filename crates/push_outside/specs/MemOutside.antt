@@ -79,6 +79,7 @@ telling_of s = record {
   lines = told_back (λ x. reads_told x.items) s.lines;
   wires = told_back (λ x. Some x.taken) s.wires;
   accepted = told_back (λ x. Some x.accepted) s.doors;
+  links = told_back (λ x. given_told x.items) s.links;
   moments = told_back moments_told s.used_clocks;
   started = told_back (λ x. Some x.started) s.used_starters;
 }

@@ -1,9 +1,9 @@
 -- What an outside tells.
 --     Telling      the words that were handed to its calls, and what the objects that it took back tell
 --     Used      what a source gave and had left
---     Adds, AddsTold, AddsUse      one more is told: of any list; of objects that were taken back; of sources
+--     Adds, AddsTold, AddsUse, AddsSome      one more is told: of any list; of objects that were taken back; of sources; so many are
 --     IsFresh, IsUnused, RaisedBy      of an object that was just made; of a count of faults, once one was taken back
-use Rattle.std.specs.Prelude.{◌≡◌, ℕ, ◌<◌, ◌≤◌, ⊤, Some, None, List, [], ◌∷◌, ◌++◌}
+use Rattle.std.specs.Prelude.{◌≡◌, ℕ, ◌<◌, ◌≤◌, ⊤, Some, None, List, [], ◌∷◌, ◌++◌, length}
 use Rattle.std.specs.declared.option.Option.{Option}
 use Rattle.push_base.specs.Causes.{Rose}
 use Rattle.push_base.specs.Line.{Read}
@@ -16,8 +16,8 @@ pub record Used : Type 0 where
 
 -- all that an outside tells, each list where it is told: the words that were handed to `open`, `doors`, `dial` and
 -- `datagrams`; and of the objects that were taken back, one after the other, the sources, the answers of the lines, the
--- octets that the wires took, how many sessions the doors accepted, the moments of the clocks, and the jobs that the
--- starters were handed
+-- octets that the wires took, how many sessions the doors accepted, what the datagrams of links gave, the moments of the
+-- clocks, and the jobs that the starters were handed
 pub record Telling : Type 0 where
   pub opened : Option (List (List ℕ))
   pub listened : Option (List (List ℕ))
@@ -27,6 +27,7 @@ pub record Telling : Type 0 where
   pub lines : Option (List (List Read))
   pub wires : Option (List (List ℕ))
   pub accepted : Option (List ℕ)
+  pub links : Option (List (List (List ℕ)))
   pub moments : Option (List (List ℕ))
   pub started : Option (List (List (Role × ℕ)))
 
@@ -42,6 +43,12 @@ AddsTold None now told = now ≡ None
 AddsTold (Some xs) None told = ⊤
 AddsTold (Some xs) (Some now) (Some x) = now ≡ xs ++ x ∷ []
 AddsTold (Some xs) (Some now) None = ⊥
+
+-- so many objects were taken back, where those that were taken back are still told
+abbrev pub AddsSome : {A : Type 0} → Option (List A) → Option (List A) → ℕ → Type 0
+AddsSome None now count = now ≡ None
+AddsSome (Some xs) None count = ⊤
+AddsSome {A} (Some xs) (Some now) count = (more : List A) × (now ≡ xs ++ more) × (length more ≡ count)
 
 -- what a source tells: what it gave and has left
 abbrev pub use_told : Option (List ℕ) → Option (List ℕ) → Option Used

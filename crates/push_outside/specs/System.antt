@@ -13,6 +13,7 @@ nothing_told = record {
   lines = None;
   wires = None;
   accepted = None;
+  links = None;
   moments = None;
   started = None;
 }

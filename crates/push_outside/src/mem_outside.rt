@@ -411,7 +411,8 @@ impl Outside for MemOutside {
         ensures reads { self.new.reads ≡ self.old.reads }
         ensures writes { self.new.writes ≡ self.old.writes }
         ensures others { RaisedBy links.calls.faults self.old.others self.new.others }
-        ensures told { telling_of self.new ≡ telling_of self.old }
+        ensures given { AddsTold (telling_of self.old).links (telling_of self.new).links (given_told links.items) }
+        ensures told { telling_of self.new ≡ record (telling_of self.old) { links = (telling_of self.new).links } }
 
         // What is kept afterwards.
         ensures exact { self.new ≡ record self.old { links = after_taking_back links self.old.links; others = count_raised_by links.calls.faults self.old.others } }

@@ -136,12 +136,13 @@ pub trait Outside: Surroundings {
         ensures accepted { AddsTold (told self.old).accepted (told self.new).accepted (Self.Doors.accepted doors) }
         ensures told { told self.new ≡ record (told self.old) { accepted = (told self.new).accepted } };
 
-    /// Takes back the datagrams of a link, with their faults.
+    /// Takes back the datagrams of a link, with what they gave and their faults.
     fn back_links(&mut self, links: Self::Links)
         ensures reads { reads self.new ≡ reads self.old }
         ensures writes { writes self.new ≡ writes self.old }
         ensures others { RaisedBy (Self.Links.faults links) (others self.old) (others self.new) }
-        ensures told { told self.new ≡ told self.old };
+        ensures given { AddsTold (told self.old).links (told self.new).links (Self.Links.given links) }
+        ensures told { told self.new ≡ record (told self.old) { links = (told self.new).links } };
 
     /// Takes back a clock, with its moments.
     fn back_clock(&mut self, clock: Self::Clock)

@@ -1,5 +1,6 @@
 -- What a call adds to the entries of each group, and how many octets it hands on.
 --     give-adds, hear-adds, moment-adds      at most one change; one hearing where the datagram was entered; at most one moment
+--     change-forgets, moment-forgets, hearing-forgets      the same where entries are forgotten then
 --     give-within      no more octets than there is room for
 --     connect-counts, connect-many      one session is made; where no seat is free, as many were made
 use Rattle.std.proofs.Common.{◌≡◌, ℕ, suc, ◌+◌, ◌<◌, ◌≤◌, Bool, true, false, cond, not, ◌&&◌, ◌||◌, List, [], ◌∷◌, map, length, Option, Some, None, Result, Ok, Err, T, inl, inr, refl, sym, ap, subst, arith}
@@ -18,28 +19,27 @@ use Rattle.dnswire.specs.declared.message.Update.{Update}
 use Rattle.dsotlv.specs.Messages.{first_message}
 use Rattle.history.specs.States.{accepts, reconfirm_key, verdict}
 use Rattle.history.specs.declared.entry.Entry.TheVariants as entries
-use Rattle.pushsession.specs.Kept.{KeptSession}
+use Rattle.pushsession.specs.Kept.{KeptSession, keeping}
+use Rattle.pushsession.specs.Sessions.{timed}
 use Rattle.pushsession.specs.Reactions.{request_in}
-use Rattle.pushsession.specs.Sessions.{SessionOf}
 use Rattle.pushsession.specs.declared.request.Request.{Request}
 use Rattle.pushsession.specs.declared.request.Request.TheVariants as requests
 use Rattle.pushsession.specs.declared.session_status.SessionStatus.{SessionStatus}
 use Rattle.pushsession.specs.declared.session_status.SessionStatus.TheVariants.{Live, AskedToStop, Stopped, Ended}
+use Rattle.pushserver.specs.Observing.{SaysWhy}
 use Rattle.pushserver.specs.Counting.{AddsHearing, MayAddChange, MayAddMoment, octets_of}
 use Rattle.pushserver.specs.Giving.{reconfirms, by_request, reacted, after_reaction, by_standing, given_after, give}
-use Rattle.pushserver.specs.Hubs.{Numbered, SessionKind, HubOf, now, state_now, session_of, entered, can_enter, update, why_not, hear, moment, connect, max_sessions}
-use Rattle.pushserver.specs.KeptHubs.{KeptHub}
+use Rattle.pushserver.specs.Hubs.{Numbered, state_now, session_of, each_session, entered_keeping, can_enter, update, hear, moment, connect, max_sessions}
+use Rattle.pushserver.specs.KeptHubs.{KeptHub, Forgets}
 use Rattle.pushserver.specs.NumberedSessions.{AreApart, AreBelow}
 use Rattle.pushserver.specs.declared.given.Given.{Given}
 use Rattle.pushserver.specs.declared.given.Given.TheVariants.{Worked, Nothing}
+use Rattle.pushserver.specs.declared.fault.HubFault.{HubFault}
 use Rattle.pushserver.specs.declared.given.Heard.{Heard}
 use Rattle.pushserver.specs.declared.given.Heard.TheVariants.{Entered, Ignored}
-use Rattle.pushserver.specs.declared.given.Why.{Why}
-use Rattle.pushserver.specs.declared.given.Why.TheVariants as whys
-use Rattle.history.proofs.Present.{totals-last}
 use Rattle.pushserver.proofs.SessionLists.{same-number}
 use Rattle.pushserver.proofs.Walks.{with_new}
-use Rattle.pushserver.proofs.hub_steps.Cases.{enters_update, update_as, enters_hearing, hear_as, enters_moment, moment_as, key_as, session_as, copies_as, found_as, works_as, output_as, give_as}
+use Rattle.pushserver.proofs.hub_steps.Cases.{enters_update, update_as, enters_hearing, hear_as, key_as, session_as, copies_as, found_as, works_as, output_as, give_as}
 
 -- ---- `give`, a datagram and a moment
 
@@ -49,48 +49,48 @@ ends_without (Stopped since) = refl
 ends_without Live = refl
 ends_without (AskedToStop rcode delay) = refl
 
-module _ {A Q M : Type 0} {kind : SessionKind A Q M} (number room : ℕ) where
-  adds-update : (hub : HubOf kind) (message : List ℕ) → MayAddChange hub (update hub message).1
+module _ (number room : ℕ) where
+  adds-update : (hub : KeptHub) (message : List ℕ) → MayAddChange hub (update hub message).1
   adds-update hub message = by (verdict (state_now hub) message)
     where
       by_room : (u : Update) (b : Bool) → MayAddChange hub (enters_update hub u b).1
-      by_room u true = (refl, inr (totals-last hub.history (entries.Update u)))
+      by_room u true = (refl, inr refl)
       by_room u false = (refl, inl refl)
 
       by : (r : Result Update ℕ) → MayAddChange hub (update_as hub r).1
       by (Err code) = (refl, inl refl)
-      by (Ok u) = by_room u (can_enter hub (entries.Update u))
+      by (Ok u) = by_room u (can_enter hub)
 
-  adds-reconfirm : (hub : HubOf kind) (found : Option Rr) → MayAddChange hub (reconfirms found number hub)
+  adds-reconfirm : (hub : KeptHub) (found : Option Rr) → MayAddChange hub (reconfirms found number hub)
   adds-reconfirm hub = by
     where
-      by_room : (found : ℕ × Key) (b : Bool) → MayAddChange hub (cond b (entered (entries.Reconfirm found.0 found.1) hub) hub)
-      by_room found true = (refl, inr (totals-last hub.history (entries.Reconfirm found.0 found.1)))
+      by_room : (found : ℕ × Key) (b : Bool) → MayAddChange hub (cond b (entered_keeping (entries.Reconfirm found.0 found.1) hub) hub)
+      by_room found true = (refl, inr refl)
       by_room found false = (refl, inl refl)
 
       by_key : (o : Option (ℕ × Key)) → MayAddChange hub (key_as hub o)
       by_key None = (refl, inl refl)
-      by_key (Some found) = by_room found (accepts (state_now hub) (entries.Reconfirm found.0 found.1) && can_enter hub (entries.Reconfirm found.0 found.1))
+      by_key (Some found) = by_room found (accepts (state_now hub) (entries.Reconfirm found.0 found.1) && can_enter hub)
 
       by : (o : Option Rr) → MayAddChange hub (reconfirms o number hub)
       by None = (refl, inl refl)
       by (Some rr) = by_key (reconfirm_key (state_now hub) rr)
 
-  adds-request : (hub : HubOf kind) (message : List ℕ) (q : Request) → MayAddChange hub (by_request q number message hub)
+  adds-request : (hub : KeptHub) (message : List ℕ) (q : Request) → MayAddChange hub (by_request q number message hub)
   adds-request hub message requests.Update = adds-update hub message
   adds-request hub message (requests.Reconfirm rr) = adds-reconfirm hub rr
   adds-request hub message (requests.Subscribe question) = (refl, inl refl)
   adds-request hub message requests.Itself = (refl, inl refl)
 
-  adds-message : (hub : HubOf kind) (message : List ℕ) → MayAddChange hub (reacted message number hub)
+  adds-message : (hub : KeptHub) (message : List ℕ) → MayAddChange hub (reacted message number hub)
   adds-message hub message = by (session_of hub number)
     where
-      by : (o : Option (SessionOf A Q M)) → MayAddChange hub (session_as hub number message o)
+      by : (o : Option (KeptSession)) → MayAddChange hub (session_as hub number message o)
       by None = (refl, inl refl)
       by (Some session) = adds-request _ message (request_in message session.established)
 
   -- octets that are handed on add nothing
-  adds-found : (hub later : HubOf kind) (none : Given) (given : SessionStatus → Given) (o : Option (SessionOf A Q M)) → MayAddChange hub later → MayAddChange hub (found_as later number room none given o).hub
+  adds-found : (hub later : KeptHub) (none : Given) (given : SessionStatus → Given) (o : Option (KeptSession)) → MayAddChange hub later → MayAddChange hub (found_as later number room none given o).hub
   adds-found hub later none given None adds = adds
   adds-found hub later none given (Some session) adds = by (is_empty session.output)
     where
@@ -98,33 +98,33 @@ module _ {A Q M : Type 0} {kind : SessionKind A Q M} (number room : ℕ) where
       by true = adds
       by false = adds
 
-  adds-after : (hub later : HubOf kind) → MayAddChange hub later → MayAddChange hub (after_reaction number room later).hub
+  adds-after : (hub later : KeptHub) → MayAddChange hub later → MayAddChange hub (after_reaction number room later).hub
   adds-after hub later adds = adds-found hub later Worked given_after (session_of later number) adds
 
-  adds-works : (hub : HubOf kind) (o : Option (List ℕ × List ℕ)) → MayAddChange hub (works_as hub number room o).hub
+  adds-works : (hub : KeptHub) (o : Option (List ℕ × List ℕ)) → MayAddChange hub (works_as hub number room o).hub
   adds-works hub None = adds-found hub _ Nothing (λ standing. Nothing) _ (refl, inl refl)
   adds-works hub (Some found) = adds-after hub _ (adds-message _ found.0)
 
-  adds-standing : (hub : HubOf kind) (session : SessionOf A Q M) (standing : SessionStatus) → MayAddChange hub (by_standing standing number room session hub).hub
+  adds-standing : (hub : KeptHub) (session : KeptSession) (standing : SessionStatus) → MayAddChange hub (by_standing standing number room session hub).hub
   adds-standing hub session (Ended reason) = (refl, inl refl)
   adds-standing hub session (Stopped since) = (refl, inl refl)
   adds-standing hub session Live = adds-works hub (first_message session.input)
   adds-standing hub session (AskedToStop rcode delay) = adds-after hub _ (refl, inl refl)
 
-  pub give-adds : (hub : HubOf kind) → MayAddChange hub (give hub number room).hub
+  pub give-adds : (hub : KeptHub) → MayAddChange hub (give hub number room).hub
   give-adds hub = by (session_of hub number)
     where
-      by_output : (session : SessionOf A Q M) (b : Bool) → MayAddChange hub (output_as hub number room session b).hub
+      by_output : (session : KeptSession) (b : Bool) → MayAddChange hub (output_as hub number room session b).hub
       by_output session false = (refl, inl refl)
       by_output session true = adds-standing hub session session.standing
 
-      by : (o : Option (SessionOf A Q M)) → MayAddChange hub (give_as hub number room o).hub
+      by : (o : Option (KeptSession)) → MayAddChange hub (give_as hub number room o).hub
       by None = (refl, inl refl)
       by (Some session) = by_output session (is_empty session.output)
 
   -- ---- no more octets than there is room for
 
-  within-found : (later : HubOf kind) (none : Given) (given : SessionStatus → Given) → octets_of none ≡ 0 → ((s : SessionStatus) → octets_of (given s) ≡ 0) → (o : Option (SessionOf A Q M)) → octets_of (found_as later number room none given o).given ≤ room
+  within-found : (later : KeptHub) (none : Given) (given : SessionStatus → Given) → octets_of none ≡ 0 → ((s : SessionStatus) → octets_of (given s) ≡ 0) → (o : Option (KeptSession)) → octets_of (found_as later number room none given o).given ≤ room
   within-found later none given nothing given_nothing None = omega (arith, nothing)
   within-found later none given nothing given_nothing (Some session) = by (is_empty session.output)
     where
@@ -132,10 +132,10 @@ module _ {A Q M : Type 0} {kind : SessionKind A Q M} (number room : ℕ) where
       by true = omega (arith, given_nothing session.standing)
       by false = omega arith
 
-  within-after : (later : HubOf kind) → octets_of (after_reaction number room later).given ≤ room
+  within-after : (later : KeptHub) → octets_of (after_reaction number room later).given ≤ room
   within-after later = within-found later Worked given_after refl ends_without (session_of later number)
 
-  within-standing : (hub : HubOf kind) (session : SessionOf A Q M) (standing : SessionStatus) → octets_of (by_standing standing number room session hub).given ≤ room
+  within-standing : (hub : KeptHub) (session : KeptSession) (standing : SessionStatus) → octets_of (by_standing standing number room session hub).given ≤ room
   within-standing hub session (Ended reason) = omega arith
   within-standing hub session (Stopped since) = omega arith
   within-standing hub session Live = by (first_message session.input)
@@ -145,58 +145,74 @@ module _ {A Q M : Type 0} {kind : SessionKind A Q M} (number room : ℕ) where
       by (Some found) = within-after _
   within-standing hub session (AskedToStop rcode delay) = within-after _
 
-  pub give-within : (hub : HubOf kind) → octets_of (give hub number room).given ≤ room
+  pub give-within : (hub : KeptHub) → octets_of (give hub number room).given ≤ room
   give-within hub = by (session_of hub number)
     where
-      by_output : (session : SessionOf A Q M) (b : Bool) → octets_of (output_as hub number room session b).given ≤ room
+      by_output : (session : KeptSession) (b : Bool) → octets_of (output_as hub number room session b).given ≤ room
       by_output session false = omega arith
       by_output session true = within-standing hub session session.standing
 
-      by : (o : Option (SessionOf A Q M)) → octets_of (give_as hub number room o).given ≤ room
+      by : (o : Option (KeptSession)) → octets_of (give_as hub number room o).given ≤ room
       by None = omega arith
       by (Some session) = by_output session (is_empty session.output)
 
-pub hear-adds : {A Q M : Type 0} {kind : SessionKind A Q M} (hub : HubOf kind) (link : ℕ) (datagram : List ℕ) (heard : Heard) → (hear hub link datagram).0 ≡ Some heard → AddsHearing (Ok heard) hub (hear hub link datagram).1
-hear-adds hub link datagram heard = by (hearing_of datagram)
+pub hear-adds : (hub : KeptHub) (link : ℕ) (datagram : List ℕ) → AddsHearing (Ok (hear hub link datagram).0) hub (hear hub link datagram).1
+hear-adds hub link datagram = by (hearing_of datagram)
   where
-    same_heard : (a : Heard) → Some a ≡ Some heard → a ≡ heard
-    same_heard a e = cc
+    by_room : (hearing : Hearing) (a b : Bool) → AddsHearing (Ok (enters_hearing hub link hearing a b).0) hub (enters_hearing hub link hearing a b).1
+    by_room hearing false b = (refl, refl)
+    by_room hearing true false = (refl, refl)
+    by_room hearing true true = (refl, refl)
 
-    ignored : (why : Why) → Some (Ignored why) ≡ Some heard → AddsHearing (Ok heard) hub hub
-    ignored why e = subst (λ (h : Heard). AddsHearing (Ok h) hub hub) (same_heard (Ignored why) e) (refl, refl)
+    by : (r : Result Hearing HearFault) → AddsHearing (Ok (hear_as hub link r).0) hub (hear_as hub link r).1
+    by (Err fault) = (refl, refl)
+    by (Ok hearing) = by_room hearing (accepts (state_now hub) (entries.Heard link hearing)) (can_enter hub)
 
-    by_room : (hearing : Hearing) (a b : Bool) → (enters_hearing hub link hearing a b).0 ≡ Some heard → AddsHearing (Ok heard) hub (enters_hearing hub link hearing a b).1
-    by_room hearing false b e = ignored whys.Nothing e
-    by_room hearing true false e = cc
-    by_room hearing true true e = subst (λ (h : Heard). AddsHearing (Ok h) hub (entered (entries.Heard link hearing) hub)) (same_heard Entered e) (refl, totals-last hub.history (entries.Heard link hearing))
-
-    by : (r : Result Hearing HearFault) → (hear_as hub link r).0 ≡ Some heard → AddsHearing (Ok heard) hub (hear_as hub link r).1
-    by (Err fault) e = ignored (why_not fault) e
-    by (Ok hearing) e = by_room hearing (accepts (state_now hub) (entries.Heard link hearing)) (can_enter hub (entries.Heard link hearing)) e
-
-pub moment-adds : {A Q M : Type 0} {kind : SessionKind A Q M} (hub : HubOf kind) (t : ℕ) → MayAddMoment hub (moment hub t).1
-moment-adds hub t = by (not (nat_lt (now hub) t))
+-- what is said of a datagram
+pub hear-says : (hub : KeptHub) (link : ℕ) (datagram : List ℕ) → SaysWhy (hear hub link datagram).0 (hearing_of datagram)
+hear-says hub link datagram = by (hearing_of datagram)
   where
-    by_room : (b : Bool) → MayAddMoment hub (enters_moment hub t b).1
-    by_room true = (refl, inr (totals-last hub.history (entries.Moment t)))
-    by_room false = (refl, inl refl)
+    by_room : (hearing : Hearing) (a b : Bool) → SaysWhy (enters_hearing hub link hearing a b).0 (Ok hearing)
+    by_room hearing false b = inr (inl refl)
+    by_room hearing true false = inr (inr refl)
+    by_room hearing true true = inl refl
 
-    by : (b : Bool) → MayAddMoment hub (moment_as hub t b).1
-    by true = (refl, inl refl)
-    by false = by_room (can_enter hub (entries.Moment t))
+    by : (r : Result Hearing HearFault) → SaysWhy (hear_as hub link r).0 r
+    by (Err fault) = refl
+    by (Ok hearing) = by_room hearing (accepts (state_now hub) (entries.Heard link hearing)) (can_enter hub)
+
+pub moment-adds : (hub : KeptHub) (t : ℕ) → MayAddMoment hub (moment hub t)
+moment-adds hub t = by (accepts (state_now hub) (entries.Moment t) && can_enter hub)
+  where
+    by : (b : Bool) → MayAddMoment hub (cond b (each_session (timed keeping t) (entered_keeping (entries.Moment t) hub)) hub)
+    by true = (refl, inr refl)
+    by false = (refl, inl refl)
+
+-- what is forgotten was counted
+module _ (k mid later : KeptHub) (forgets : Forgets mid later) where
+  pub change-forgets : MayAddChange k mid → MayAddChange k later
+  change-forgets adds = subst (λ (h : KeptHub). MayAddChange k h) (sym forgets.is) adds
+
+  pub moment-forgets : MayAddMoment k mid → MayAddMoment k later
+  moment-forgets adds = subst (λ (h : KeptHub). MayAddMoment k h) (sym forgets.is) adds
+
+  pub hearing-forgets : (heard : Result Heard HubFault) → AddsHearing heard k mid → AddsHearing heard k later
+  hearing-forgets (Ok Entered) adds = subst (λ (h : KeptHub). AddsHearing (Ok Entered) k h) (sym forgets.is) adds
+  hearing-forgets (Ok (Ignored why)) adds = subst (λ (h : KeptHub). AddsHearing (Ok (Ignored why)) k h) (sym forgets.is) adds
+  hearing-forgets (Err fault) adds = subst (λ (h : KeptHub). AddsHearing (Err fault) k h) (sym forgets.is) adds
 
 -- ---- a session is made
 
-abbrev connect_as : {A Q M : Type 0} {kind : SessionKind A Q M} → HubOf kind → Bool → Option ℕ × HubOf kind
+abbrev connect_as : KeptHub → Bool → Option ℕ × KeptHub
 connect_as hub b = cond b (Some hub.numbers_given, with_new hub) (None, hub)
 
-pub connect-counts : {A Q M : Type 0} {kind : SessionKind A Q M} (hub : HubOf kind) (number : ℕ) → (connect hub).0 ≡ Some number → (number ≡ hub.numbers_given) × ((connect hub).1.numbers_given ≡ hub.numbers_given + 1) × ((connect hub).1.history ≡ hub.history)
+pub connect-counts : (hub : KeptHub) (number : ℕ) → (connect hub).0 ≡ Some number → (number ≡ hub.numbers_given) × ((connect hub).1.numbers_given ≡ hub.numbers_given + 1) × ((connect hub).1.seen ≡ hub.seen)
 connect-counts hub number = by (nat_lt (length hub.sessions) max_sessions && nat_lt hub.numbers_given max_number)
   where
     same_some : (a b : ℕ) → Some a ≡ Some b → a ≡ b
     same_some a b e = cc
 
-    by : (b : Bool) → (connect_as hub b).0 ≡ Some number → (number ≡ hub.numbers_given) × ((connect_as hub b).1.numbers_given ≡ hub.numbers_given + 1) × ((connect_as hub b).1.history ≡ hub.history)
+    by : (b : Bool) → (connect_as hub b).0 ≡ Some number → (number ≡ hub.numbers_given) × ((connect_as hub b).1.numbers_given ≡ hub.numbers_given + 1) × ((connect_as hub b).1.seen ≡ hub.seen)
     by true e = (sym (same_some hub.numbers_given number e), refl, refl)
     by false e = cc
 

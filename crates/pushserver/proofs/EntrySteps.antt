@@ -1,72 +1,50 @@
--- What an entry makes of the records, and what its plan says of that.
-use Rattle.std.proofs.Common.{◌≡◌, Bool, true, false, List, [], ◌∷◌, ◌++◌, length, Result, Ok, Err, sym, ap, subst, ◌∙◌, arith}
-use Rattle.std.specs.Prelude.{fold, OnOk, OnErr}
+-- What an entry makes of the records.
+--     entry-lower, entry-rising, entry-rows      the keys that it changes, and the records behind them
+--     same_past      the hub with the past behind a plan
+use Rattle.std.proofs.Common.{◌≡◌, Bool, true, false, List, Result, Ok, Err, ap}
+use Rattle.std.specs.Prelude.{OnOk, OnErr}
 use Rattle.std.specs.Result.{is_err}
-use Rattle.std.proofs.lemmas.List.{take_all}
-use Rattle.std.proofs.lemmas.List.Sums.{fold-append}
 use Rattle.rrset.specs.RecordSet.{changes, with_changes}
 use Rattle.rrset.specs.declared.record.Changed.{Changed}
 use Rattle.rrset.proofs.WithChanges.{with_changes-new}
 use Rattle.nametable.specs.Nodes.{HaveRisingKeys}
 use Rattle.zoneupdate.proofs.Plans.{HaveLowerKeys, lower-changes, rising-changes}
 use Rattle.zoneupdate.proofs.RecordSets.{set-in_order}
-use Rattle.history.specs.Kept.{Past, state_now, records_now, told_plan}
-use Rattle.history.specs.Plans.{planned}
+use Rattle.history.specs.Kept.{Past}
 use Rattle.history.specs.AtHome.{AreAtHome}
-use Rattle.history.specs.States.{State, state_at, after, records}
+use Rattle.history.specs.States.{State, after, records}
 use Rattle.history.specs.declared.entry.Entry.{Entry}
-use Rattle.history.specs.declared.plan.Planned.TheVariants as plans
 use Rattle.history.proofs.ShownAtHome.{set-records}
 use Rattle.history.proofs.StatesAtHome.{home-after}
-use Rattle.history.proofs.ToldPlans.{changes-told}
 use Rattle.pushserver.specs.KeptHubs.{KeptHub}
-use Rattle.pushserver.specs.Hubs.{past_of}
+use Rattle.pushserver.specs.HubState.{kept_of, seen_of}
+use Rattle.pushserver.specs.declared.hub_state.HubState.{HubState}
 
--- a past with one more entry, and the keys that it changes
-abbrev with_entry : Entry → Past → Past
-with_entry entry past = record past { history = past.history ++ entry ∷ [] }
-
-abbrev entry_changes : Entry → Past → List Changed
-entry_changes entry past = changes (records_now past) (records_now (with_entry entry past))
+-- the keys that an entry changes
+abbrev entry_changes : Entry → State → List Changed
+entry_changes entry state = changes (records state) (records (after state entry))
 
 -- a hub with this past
 abbrev pub with_past : Past → KeptHub → KeptHub
-with_past past k = record k { start = past.start; history = past.history }
+with_past past k = record k { start = past.start; history = past.history; seen = seen_of past }
 
 -- ---- the records after one more entry
 
-state_at-all : (start : State) (history : List Entry) → state_at start history (length history) ≡ fold after start history
-state_at-all start history = ap (fold after start) (take_all (length history) history (omega arith))
+pub entry-lower : (state : State) (entry : Entry) → AreAtHome state → HaveLowerKeys (entry_changes entry state)
+entry-lower state entry home = lower-changes (records state) (records (after state entry)) (set-records state home) (set-records (after state entry) (home-after state home entry))
 
-pub now-entered : (past : Past) (entry : Entry) → state_now (with_entry entry past) ≡ after (state_now past) entry
-now-entered past entry =
-    state_at-all past.start (past.history ++ entry ∷ [])
-    ∙ fold-append after past.start past.history (entry ∷ [])
-    ∙ ap (λ (s : State). after s entry) (sym (state_at-all past.start past.history))
+pub entry-rising : (state : State) (entry : Entry) → AreAtHome state → HaveRisingKeys (entry_changes entry state)
+entry-rising state entry home = rising-changes (records state) (records (after state entry)) (set-in_order (records state) (set-records state home))
 
-later_home : (past : Past) (entry : Entry) → AreAtHome (state_now past) → AreAtHome (state_now (with_entry entry past))
-later_home past entry home = subst AreAtHome (sym (now-entered past entry)) (home-after (state_now past) home entry)
-
-pub entry-lower : (past : Past) (entry : Entry) → AreAtHome (state_now past) → HaveLowerKeys (entry_changes entry past)
-entry-lower past entry home = lower-changes (records_now past) (records_now (with_entry entry past)) (set-records (state_now past) home) (set-records (state_now (with_entry entry past)) (later_home past entry home))
-
-pub entry-rising : (past : Past) (entry : Entry) → AreAtHome (state_now past) → HaveRisingKeys (entry_changes entry past)
-entry-rising past entry home = rising-changes (records_now past) (records_now (with_entry entry past)) (set-in_order (records_now past) (set-records (state_now past) home))
-
-pub entry-rows : (past : Past) (entry : Entry) → AreAtHome (state_now past) → with_changes (entry_changes entry past) (records_now past) ≡ records_now (with_entry entry past)
-entry-rows past entry home =
-    with_changes-new (records_now past) (records_now (with_entry entry past)) (set-in_order (records_now past) (set-records (state_now past) home))
-    (set-in_order (records_now (with_entry entry past)) (set-records (state_now (with_entry entry past)) (later_home past entry home)))
-
--- ---- what a plan says
-
-pub told-entry : (past : Past) (entry : Entry) (changed : List Changed) → plans.Accept changed ≡ told_plan (planned (state_now past) entry) → changed ≡ entry_changes entry past
-told-entry past entry changed told = changes-told (state_now past) entry changed told ∙ ap (λ (s : State). changes (records_now past) (records s)) (sym (now-entered past entry))
+pub entry-rows : (state : State) (entry : Entry) → AreAtHome state → with_changes (entry_changes entry state) (records state) ≡ records (after state entry)
+entry-rows state entry home =
+    with_changes-new (records state) (records (after state entry)) (set-in_order (records state) (set-records state home))
+    (set-in_order (records (after state entry)) (set-records (after state entry) (home-after state home entry)))
 
 -- ---- the hub with the past behind a plan
 
-pub same_past : (k : KeptHub) (past : Past) → past ≡ past_of k → with_past past k ≡ k
-same_past k past same = ap (λ (p : Past). with_past p k) same
+pub same_past : (keeping : HubState) (past : Past) → past ≡ keeping.points.past → with_past past (kept_of keeping) ≡ kept_of keeping
+same_past keeping past same = ap (λ (p : Past). with_past p (kept_of keeping)) same
 
 -- ---- the parts of what is kept
 

@@ -1,18 +1,22 @@
 -- A session that is lent to one turn, and given back.
 use Rattle.std.proofs.Common.{◌≡◌, ℕ, Bool, true, false, cond, min, List, [], ◌∷◌, length, Option, Some, None, Result, Ok, Err, refl, sym, ap, subst, ◌∙◌}
+use Rattle.std.specs.List.{AllByRecursion}
 use Rattle.std.specs.Option.{OnSome}
-use Rattle.std.specs.Prelude.{◌==◌, find, option_map, OnErr}
+use Rattle.std.specs.Prelude.{◌==◌, find, option_map, IfOk, OnErr}
 use Rattle.rrset.specs.declared.record.Rr.{Rr}
 use Rattle.dnswire.specs.declared.message.Update.{Update}
+use Rattle.history.specs.AtHome.{AreAtHome}
+use Rattle.history.specs.Kept.{Past, PointsKept, point_of, state_now as past_state}
+use Rattle.history.specs.States.{records}
 use Rattle.pushsession.specs.Kept.{KeptSession}
 use Rattle.pushsession.specs.Sessions.{room_of}
 use Rattle.pushsession.specs.Reactions.{TakesMemory}
 use Rattle.pushserver.specs.Laws.{WantsMemoryFor, MayWantMemory}
 use Rattle.pushserver.specs.Hubs.{Numbered, session_in, in_sessions, taken_by}
 use Rattle.pushserver.specs.Giving.{give}
-use Rattle.pushserver.specs.KeptHubs.{KeptHub}
+use Rattle.pushserver.specs.KeptHubs.{KeptHub, WaitSince}
 use Rattle.pushserver.specs.HubState.{kept_of, IsSound, IsSeated, IsToJudge, IsToReconfirm, Gave, Turns}
-use Rattle.pushserver.specs.NumberedSessions.{AreApart}
+use Rattle.pushserver.specs.NumberedSessions.{AreApart, WaitBefore}
 use Rattle.pushserver.specs.declared.given.Given.{Given}
 use Rattle.pushserver.specs.declared.hub_state.HubState.{HubState}
 use Rattle.pushserver.specs.declared.turning.Turn.{Turn}
@@ -29,15 +33,35 @@ pub on_each_err : {A E : Type 0} {P : Type 0} (r : Result A E) → P → OnErr r
 on_each_err (Ok x) p = tt
 on_each_err (Err e) p = p
 
+pub on_each_ok : {A E : Type 0} {Q P : Type 0} (r : Result A E) → (Q → P) → IfOk r (λ _. Q) → IfOk r (λ _. P)
+on_each_ok (Ok x) f q = f q
+on_each_ok (Err e) f q = tt
+
 -- ---- the session in its seat
 
-pub seat-of : (keeping : HubState) (number : ℕ) (s : KeptSession) → IsSound keeping → session_in number keeping.sessions ≡ Some s → AreApart keeping.sessions → IsSeated (kept_of keeping) number s keeping.points.past keeping.timers keeping.index.rows
-seat-of keeping number s sound there apart = record { there = there; apart = apart; past_is = refl; timers_is = refl; rows_is = sound.index }
+pub seat-of : (keeping : HubState) (number : ℕ) (s : KeptSession) → IsSound keeping → session_in number keeping.sessions ≡ Some s → AreApart keeping.sessions → IsSeated (kept_of keeping) number s (past_state keeping.points.past) keeping.timers keeping.index.rows
+seat-of keeping number s sound there apart = record { there = there; apart = apart; state_is = refl; timers_is = refl; rows_is = sound.index }
 
 -- the sessions are as they were, and watch so
 pub sound-later : (keeping : HubState) (watchers : KeptWatching) (xs : Numbered KeptSession) → xs ≡ keeping.sessions → Watches (watching_of watchers) xs → IsSound keeping → IsSound (record keeping { sessions = xs; watchers = watchers })
 sound-later keeping watchers xs same w s = subst (λ (ys : Numbered KeptSession). Watches (watching_of watchers) ys → IsSound (record keeping { sessions = ys; watchers = watchers })) (sym same)
-    (λ v. record { apart = s.apart; index = s.index; home = s.home; below = s.below; waiting = s.waiting; told = s.told; packable = s.packable; watched = v }) w
+    (λ v. record { apart = s.apart; index = s.index; home = s.home; below = s.below; waiting = s.waiting; since = s.since; rises = s.rises; rests = s.rests; told = s.told; packable = s.packable; watched = v }) w
+
+-- so it is behind a plan, which leaves the past
+pub sound-planned : (keeping : HubState) (points : PointsKept) → points.past ≡ keeping.points.past → IsSound keeping → IsSound (record keeping { points = points })
+sound-planned keeping points same s = record {
+  apart = s.apart;
+  index = s.index ∙ ap (λ (p : Past). records (past_state p)) (sym same);
+  home = subst (λ (p : Past). AreAtHome (past_state p)) (sym same) s.home;
+  below = s.below;
+  waiting = subst (λ (p : Past). WaitBefore (point_of p) keeping.sessions) (sym same) s.waiting;
+  since = subst (λ (p : Past). AllByRecursion (WaitSince p.number) keeping.sessions) (sym same) s.since;
+  rises = s.rises;
+  rests = s.rests;
+  told = s.told;
+  packable = s.packable;
+  watched = s.watched;
+}
 
 -- a session that is as it was stands as before
 pub as_before : (number : ℕ) (xs ys : Numbered KeptSession) (s t : KeptSession) → session_in number xs ≡ Some s → AreApart xs → t ≡ s → ys ≡ in_sessions number (λ _. t) xs → ys ≡ xs
@@ -62,13 +86,13 @@ comes-to number xs ys s t old new there apart lent (octets, same, ready) = recor
 
 pub to-judge : (keeping : HubState) (number : ℕ) (s t : KeptSession) (turn : Turn) (found : Option Update) (old new : List ℕ) (ys : Numbered KeptSession) → IsSound keeping → session_in number keeping.sessions ≡ Some s → AreApart keeping.sessions
     → turn ≡ turnings.Judge found → ys ≡ in_sessions number (λ _. t) keeping.sessions
-    → ((kept : KeptHub) (number : ℕ) → IsSeated kept number s keeping.points.past keeping.timers keeping.index.rows → Turns kept number turn old new s t) → ComesTo old new keeping.sessions ys (IsToJudge number found keeping.sessions)
+    → ((kept : KeptHub) (number : ℕ) → IsSeated kept number s (past_state keeping.points.past) keeping.timers keeping.index.rows → Turns kept number turn old new s t) → ComesTo old new keeping.sessions ys (IsToJudge number found keeping.sessions)
 to-judge keeping number s t turn found old new ys sound there apart is lent came =
     comes-to number keeping.sessions ys s t old new there apart lent (subst (λ (u : Turn). Turns (kept_of keeping) number u old new s t) is (came (kept_of keeping) number (seat-of keeping number s sound there apart)))
 
 pub to-reconfirm : (keeping : HubState) (number : ℕ) (s t : KeptSession) (turn : Turn) (rr : Rr) (old new : List ℕ) (ys : Numbered KeptSession) → IsSound keeping → session_in number keeping.sessions ≡ Some s → AreApart keeping.sessions
     → turn ≡ turnings.Reconfirm rr → ys ≡ in_sessions number (λ _. t) keeping.sessions
-    → ((kept : KeptHub) (number : ℕ) → IsSeated kept number s keeping.points.past keeping.timers keeping.index.rows → Turns kept number turn old new s t) → ComesTo old new keeping.sessions ys (IsToReconfirm number rr keeping.sessions)
+    → ((kept : KeptHub) (number : ℕ) → IsSeated kept number s (past_state keeping.points.past) keeping.timers keeping.index.rows → Turns kept number turn old new s t) → ComesTo old new keeping.sessions ys (IsToReconfirm number rr keeping.sessions)
 to-reconfirm keeping number s t turn rr old new ys sound there apart is lent came =
     comes-to number keeping.sessions ys s t old new there apart lent (subst (λ (u : Turn). Turns (kept_of keeping) number u old new s t) is (came (kept_of keeping) number (seat-of keeping number s sound there apart)))
 

@@ -1,20 +1,22 @@
 -- Each call keeps a hub that stands for a plain one.
 --     keeps-hub      what is kept then stands for a plain hub
 --     update-stands, hear-stands, moment-stands, connect-stands, take-stands, stop-stands, end-stands, give-stands      each call
-use Rattle.std.proofs.Common.{◌≡◌, ℕ, Bool, List, ◌++◌, length, drop, Option, sym, ap, subst, ◌∙◌}
+use Rattle.std.proofs.Common.{◌≡◌, ℕ, List, ◌++◌, length, drop, Option, sym, ap, subst, ◌∙◌}
 use Rattle.pushserver.specs.declared.given.Given.{Given}
 use Rattle.pushserver.specs.declared.given.Heard.{Heard}
 use Rattle.pushserver.specs.declared.hub_state.HubState.{HubState}
 use Rattle.pushserver.specs.PlainHubs.{Hub}
 use Rattle.pushserver.specs.Hubs.{records_now, update, hear, moment, connect, taken_by, take_octets, stop, disconnect}
 use Rattle.pushserver.specs.Giving.{give}
-use Rattle.pushserver.specs.KeptHubs.{KeptHub, StandsFor}
+use Rattle.pushserver.specs.KeptHubs.{KeptHub, Forgets, StandsFor}
 use Rattle.dsotlv.specs.Laws.{AreOctets}
 use Rattle.pushserver.specs.Simulation.{BothAnswer}
 use Rattle.pushserver.specs.HubState.{Gave, IsHub, kept_of}
 use Rattle.pushserver.specs.Watched.{Watches}
 use Rattle.subscr.specs.Watching.{watching_of}
+use Rattle.pushserver.proofs.ForgottenEntries.{forgets-same}
 use Rattle.pushserver.proofs.hub_steps.Calls.{updates_stand, hears_stand, moments_stand, connects_stand, takes_stand, stops_stand, ends_stand}
+use Rattle.pushserver.proofs.hub_steps.Forgetting.{forgetting_stands}
 use Rattle.pushserver.proofs.hub_steps.Giving.{gives_stand}
 
 -- the same is kept
@@ -33,27 +35,27 @@ pub same-hub : (keeping later : HubState) → later.index.rows ≡ records_now (
 same-hub keeping later index watched same is = keeps-hub keeping later (λ hub. hub) index watched (stays (kept_of keeping) (kept_of later) same) is
 
 -- an answer, and what is kept then
-answers : {X : Type 0} (a : X) (later : KeptHub) (k : X × KeptHub) (p : X × Hub) → a ≡ k.0 → later ≡ k.1 → BothAnswer k p → (a ≡ p.0) × StandsFor later p.1
-answers a later k p answer is both = (answer ∙ both.0, stays k.1 later is p.1 both.1)
+answers : {X : Type 0} (a : X) (later : KeptHub) (k : X × KeptHub) (p : X × Hub) → a ≡ k.0 → Forgets k.1 later → BothAnswer k p → (a ≡ p.0) × StandsFor later p.1
+answers a later k p answer is both = (answer ∙ both.0, forgetting_stands k.1 later p.1 both.1 is)
 
-pub update-stands : (k later : KeptHub) (message : List ℕ) (code : ℕ) → AreOctets message → code ≡ (update k message).0 → later ≡ (update k message).1
+pub update-stands : (k later : KeptHub) (message : List ℕ) (code : ℕ) → AreOctets message → code ≡ (update k message).0 → Forgets (update k message).1 later
     → (hub : Hub) → StandsFor k hub → (code ≡ (update hub message).0) × StandsFor later (update hub message).1
 update-stands k later message code octets code_is is hub stands = answers code later (update k message) (update hub message) code_is is (updates_stand k hub message stands octets)
 
-pub hear-stands : (k later : KeptHub) (link : ℕ) (datagram : List ℕ) (heard : Option Heard) → AreOctets datagram → heard ≡ (hear k link datagram).0 → later ≡ (hear k link datagram).1
-    → (hub : Hub) → StandsFor k hub → ((hear hub link datagram).0 ≡ heard) × StandsFor later (hear hub link datagram).1
-hear-stands k later link datagram heard octets heard_is is hub stands = let both = answers heard later (hear k link datagram) (hear hub link datagram) heard_is is (hears_stand k hub link datagram stands octets) in (sym both.0, both.1)
+pub hear-stands : (k later : KeptHub) (link : ℕ) (datagram : List ℕ) (heard : Heard) → AreOctets datagram → heard ≡ (hear k link datagram).0 → Forgets (hear k link datagram).1 later
+    → (hub : Hub) → StandsFor k hub → (heard ≡ (hear hub link datagram).0) × StandsFor later (hear hub link datagram).1
+hear-stands k later link datagram heard octets heard_is is hub stands = answers heard later (hear k link datagram) (hear hub link datagram) heard_is is (hears_stand k hub link datagram stands octets)
 
-pub moment-stands : (k later : KeptHub) (t : ℕ) (full : Bool) → full ≡ (moment k t).0 → later ≡ (moment k t).1 → (hub : Hub) → StandsFor k hub → ((moment hub t).0 ≡ full) × StandsFor later (moment hub t).1
-moment-stands k later t full full_is is hub stands = let both = answers full later (moment k t) (moment hub t) full_is is (moments_stand k hub t stands) in (sym both.0, both.1)
+pub moment-stands : (k later : KeptHub) (t : ℕ) → Forgets (moment k t) later → (hub : Hub) → StandsFor k hub → StandsFor later (moment hub t)
+moment-stands k later t is hub stands = forgetting_stands (moment k t) later (moment hub t) (moments_stand k hub t stands) is
 
 pub connect-stands : (k later : KeptHub) (number : Option ℕ) → number ≡ (connect k).0 → later ≡ (connect k).1 → (hub : Hub) → StandsFor k hub → ((connect hub).0 ≡ number) × StandsFor later (connect hub).1
-connect-stands k later number number_is is hub stands = let both = answers number later (connect k) (connect hub) number_is is (connects_stand k hub stands) in (sym both.0, both.1)
+connect-stands k later number number_is is hub stands = let both = answers number later (connect k) (connect hub) number_is (forgets-same (connect k).1 later is) (connects_stand k hub stands) in (sym both.0, both.1)
 
 pub take-stands : (k later : KeptHub) (number : ℕ) (piece : List ℕ) (count : ℕ) → AreOctets piece → count ≡ taken_by k number piece → later ≡ take_octets k number piece
     → (hub : Hub) → StandsFor k hub → (count ≡ taken_by hub number piece) × StandsFor later (take_octets hub number piece)
 take-stands k later number piece count octets count_is is hub stands =
-    answers count later (taken_by k number piece, take_octets k number piece) (taken_by hub number piece, take_octets hub number piece) count_is is (takes_stand k hub number piece stands octets)
+    answers count later (taken_by k number piece, take_octets k number piece) (taken_by hub number piece, take_octets hub number piece) count_is (forgets-same (take_octets k number piece) later is) (takes_stand k hub number piece stands octets)
 
 pub stop-stands : (k later : KeptHub) (number rcode delay : ℕ) → later ≡ stop k number rcode delay → (hub : Hub) → StandsFor k hub → StandsFor later (stop hub number rcode delay)
 stop-stands k later number rcode delay is hub stands = stays (stop k number rcode delay) later is (stop hub number rcode delay) (stops_stand k hub number rcode delay stands)
@@ -67,4 +69,4 @@ pub give-stands : (k later : KeptHub) (number : ℕ) (old new : List ℕ) (given
     × StandsFor later (give hub number (length old)).hub
 give-stands k later number old new given gave hub stands =
     let both = gives_stand k hub number (length old) stands in
-    (gave.given_is ∙ both.given, gave.octets ∙ ap (λ (o : List ℕ). o ++ drop (length o) old) both.octets, stays (give k number (length old)).hub later gave.hub (give hub number (length old)).hub both.hub)
+    (gave.given_is ∙ both.given, gave.octets ∙ ap (λ (o : List ℕ). o ++ drop (length o) old) both.octets, forgetting_stands (give k number (length old)).hub later (give hub number (length old)).hub both.hub gave.hub)

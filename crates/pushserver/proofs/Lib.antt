@@ -10,12 +10,16 @@ pub mod Observed
 pub mod Subscribing
 pub mod Wanting
 pub mod Walks
+pub mod WaitingNames
+pub mod Bounds
 pub mod NumberedSessions
 pub mod NotedSessions
 pub mod SessionTurns
 pub mod JudgedTurns
 pub mod ReconfirmTurns
 pub mod EntrySteps
+pub mod Needed
+pub mod ForgottenEntries
 pub mod Offering
 pub mod GiveSteps
 pub mod Soundness

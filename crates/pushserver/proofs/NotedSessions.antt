@@ -4,7 +4,7 @@
 --     each-of      sessions one after another
 --     watching-note      those that watch a name note a change at it as all would
 --     few-watch      they are no more than those that ask for the name
-use Rattle.std.proofs.Common.{◌≡◌, ℕ, suc, ◌+◌, ◌*◌, ◌<◌, ◌≤◌, Bool, true, false, cond, ◌||◌, ◌&&◌, List, [], ◌∷◌, ◌++◌, map, length, drop, get_or, Option, Some, None, Result, Ok, Err, refl, sym, ap, ◌∙◌, subst, arith}
+use Rattle.std.proofs.Common.{◌≡◌, ℕ, ◌+◌, ◌*◌, ◌<◌, ◌≤◌, Bool, true, false, cond, ◌||◌, ◌&&◌, List, [], ◌∷◌, map, length, drop, get_or, Option, Some, None, Result, Ok, Err, refl, sym, ap, ◌∙◌, arith}
 use Rattle.std.specs.Prelude.{fold, find, filter, option_map, sum_by, nat_lt, OnErr, OnOk, ◌==◌}
 use Rattle.std.specs.List.{AllByRecursion, IsDistinct, list_any}
 use Rattle.std.specs.Set.{is_member}
@@ -14,12 +14,10 @@ use Rattle.std.proofs.lemmas.List.{length-map, drop_more, drop_all}
 use Rattle.std.proofs.lemmas.List.Sums.{length-filter, sum_by-cons}
 use Rattle.std.proofs.lemmas.Map.Made.{length-le_from_is_member}
 use Rattle.dnsname.specs.Names.{Labels, same_name}
-use Rattle.rrset.specs.Records.{matches}
 use Rattle.push_base.specs.Counted.{CountsUpTo}
 use Rattle.rrset.specs.declared.record.Key.{Key}
 use Rattle.rrset.specs.declared.record.Changed.{Changed}
 use Rattle.coalesce.specs.Waiting.{OldValue, old_value}
-use Rattle.rrset.specs.declared.record.Question.{Question}
 use Rattle.subscr.specs.Asked.{Asked, wants, watches}
 use Rattle.subscr.specs.Watching.{Watching, AreWatching, are_rising}
 use Rattle.subscr.proofs.Questions.{questions-some}

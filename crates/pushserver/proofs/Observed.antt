@@ -87,7 +87,7 @@ told-both hub number newest name (Some s) (Some p) b = ap (λ o. unwrap_or o new
 pub told-seen : (k : KeptHub) (hub : Hub) (number point : ℕ) (name : Labels) (o : Option KeptSession) (r : ℕ) → point ≡ newest k → session_of k number ≡ o → r ≡ told_kept_in point name o → StandsFor k hub → r ≡ told_in hub number name
 told-seen k hub number point name o r newest_is at is stands =
     is ∙ ap (told_kept_in point name) (sym at) ∙ told-both hub number point name (session_of k number) (session_of hub number) (both k hub number stands)
-    ∙ ap (λ n. told_of n name (session_of hub number)) (newest_is ∙ ap length stands.history)
+    ∙ ap (λ n. told_of n name (session_of hub number)) (newest_is ∙ stands.newest)
 
 -- ---- octets
 

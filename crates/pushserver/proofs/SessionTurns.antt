@@ -1,4 +1,5 @@
 -- One turn of a session that has its number in a hub: what `give` does is told by what the session becomes.
+--     GaveExactly, gave-forgets, gave-as      what a call gave; where some was forgotten afterwards; where nothing was
 --     becomes t      the hub with the session as it is then
 --     output-gave, ended-gave, stopped-gave, stop-gave      octets wait; it has ended, is stopped, stops
 --     packed-gave, itself-gave, subscribe-gave, no_record-gave      it goes on: no message waits; by the request of its first one
@@ -15,7 +16,7 @@ use Rattle.dsotlv.specs.TlvKinds.{reconfirm_tlv}
 use Rattle.dsosession.specs.declared.session.EndReason.{EndReason}
 use Rattle.dsosession.specs.declared.session.EndReason.TheVariants as ends
 use Rattle.dsosession.specs.declared.session.Timers.{Timers}
-use Rattle.history.specs.Kept.{Past, state_now as past_state}
+use Rattle.history.specs.States.{State}
 use Rattle.pushsession.specs.Sessions.{copied, ended_with, laid_over, stopped, without_first}
 use Rattle.pushsession.specs.Subscribing.{answered, with_next_push}
 use Rattle.pushsession.specs.Reactions.{restarted_by, request_in, reacts_itself}
@@ -25,15 +26,16 @@ use Rattle.pushsession.specs.declared.request.Request.{Request}
 use Rattle.pushsession.specs.declared.request.Request.TheVariants as requests
 use Rattle.pushsession.specs.declared.session_status.SessionStatus.{SessionStatus}
 use Rattle.pushsession.specs.declared.session_status.SessionStatus.TheVariants.{Live, AskedToStop, Stopped, Ended}
-use Rattle.pushserver.specs.Hubs.{Numbered, session_in, past_of, now, records_now, in_session}
+use Rattle.pushserver.specs.Hubs.{Numbered, session_in, state_now, now, records_now, in_session}
 use Rattle.pushserver.specs.Giving as giving
 use Rattle.pushserver.specs.Giving.{has_home, by_request, bytes_of, given_of, did, copies, copies_or, given_after, after_reaction, after_packing, give}
-use Rattle.pushserver.specs.KeptHubs.{KeptHub, KeptGiving}
+use Rattle.pushserver.specs.KeptHubs.{KeptHub, KeptGiving, Forgets}
 use Rattle.pushserver.specs.HubState.{Gave}
 use Rattle.pushserver.specs.Rows.{AreTold}
 use Rattle.pushserver.specs.NumberedSessions.{AreApart}
 use Rattle.pushserver.specs.declared.given.Given.{Given}
 use Rattle.pushserver.specs.declared.given.Given.TheVariants.{Bytes, Worked, Nothing, Ending, End}
+use Rattle.pushserver.proofs.ForgottenEntries.{forgets-same}
 use Rattle.pushserver.proofs.SessionLists.{found-in, in-fused}
 use Rattle.pushserver.proofs.NumberedSessions.{alike, itself}
 use Rattle.pushserver.proofs.hub_steps.Cases.{session_as, found_as, works_as, output_as, give_as}
@@ -67,8 +69,18 @@ no_output s b test is = by (is_empty s.output) (sym test ∙ is)
     by true e = refl
     by false e = cc
 
-pub gave-as : (g h : KeptGiving) (r : Given) (old new : List ℕ) (later : KeptHub) → g ≡ h → Gave h r old new later → Gave g r old new later
-gave-as g h r old new later same gave = subst (λ (g : KeptGiving). Gave g r old new later) (sym same) gave
+-- what was done, and octets in front of what was there, with nothing forgotten
+pub record GaveExactly (giving : KeptGiving) (given : Given) (before after : List ℕ) (kept : KeptHub) : Type 0 where
+  pub given_is : given ≡ giving.given
+  pub octets : after ≡ giving.octets ++ drop (length giving.octets) before
+  pub hub : kept ≡ giving.hub
+
+pub gave-forgets : (g h : KeptGiving) (r : Given) (old new : List ℕ) (mid later : KeptHub) → g ≡ h → GaveExactly h r old new mid → Forgets mid later → Gave g r old new later
+gave-forgets g h r old new mid later same gave forgets =
+    subst (λ (g : KeptGiving). Gave g r old new later) (sym same) (record { given_is = gave.given_is; octets = gave.octets; hub = subst (λ (k : KeptHub). Forgets k later) gave.hub forgets })
+
+pub gave-as : (g h : KeptGiving) (r : Given) (old new : List ℕ) (later : KeptHub) → g ≡ h → GaveExactly h r old new later → Gave g r old new later
+gave-as g h r old new later same gave = gave-forgets g h r old new later later same gave (forgets-same later later refl)
 
 -- what a session hands on of its output, or else did
 pub record HandsOn (t : KeptSession) (otherwise r : Given) (old new : List ℕ) (t_now : KeptSession) : Type 0 where
@@ -76,9 +88,17 @@ pub record HandsOn (t : KeptSession) (otherwise r : Given) (old new : List ℕ) 
   pub octets : new ≡ laid_over t.output old
   pub session : t_now ≡ copied (length old) t
 
--- the moment of a hub is that of its past
-pub moment-is : (k : KeptHub) (past : Past) (t : ℕ) → past_of k ≡ past → t ≡ (past_state past).now → t ≡ now k
-moment-is k past t same is = is ∙ ap (λ (p : Past). (past_state p).now) (sym same)
+-- there is no such session
+pub gone-gave : (k : KeptHub) (number : ℕ) (old : List ℕ) (ys : Numbered KeptSession) → session_in number k.sessions ≡ None → ys ≡ k.sessions → Gave (give k number (length old)) (End ends.Gone) old old (record k { sessions = ys })
+gone-gave k number old ys none same = gave-as (give k number (length old)) (did (End ends.Gone) k) (End ends.Gone) old old (record k { sessions = ys }) (ap (give_as k number (length old)) none) (record {
+  given_is = refl;
+  octets = refl;
+  hub = ap (λ (xs : Numbered KeptSession). record k { sessions = xs }) same;
+})
+
+-- the moment of a hub is that of its state
+pub moment-is : (k : KeptHub) (state : State) (t : ℕ) → state_now k ≡ state → t ≡ state.now → t ≡ now k
+moment-is k state t same is = is ∙ ap (λ (s : State). s.now) (sym same)
 
 -- the records that a question with a home would be told
 pub can_be_told : (question : Option Question) (has : Bool) (rows : RecordSet) → AreTold rows → CanBeTold question has rows
@@ -108,10 +128,10 @@ module _ (number : ℕ) (k : KeptHub) (s : KeptSession) (there : session_in numb
 
   -- ---- octets that are handed on
 
-  pub hands : (otherwise r : Given) (t t_now : KeptSession) (old new : List ℕ) → HandsOn t otherwise r old new t_now → Gave (copies_or otherwise number (length old) t (becomes t)) r old new (becomes t_now)
+  pub hands : (otherwise r : Given) (t t_now : KeptSession) (old new : List ℕ) → HandsOn t otherwise r old new t_now → GaveExactly (copies_or otherwise number (length old) t (becomes t)) r old new (becomes t_now)
   hands otherwise r t t_now old new on = by (is_empty t.output) refl on.given_is
     where
-      by : (b : Bool) → is_empty t.output ≡ b → r ≡ cond b otherwise (Bytes (min (length old) (length t.output))) → Gave (cond b (did otherwise (becomes t)) (copies number (length old) t (becomes t))) r old new (becomes t_now)
+      by : (b : Bool) → is_empty t.output ≡ b → r ≡ cond b otherwise (Bytes (min (length old) (length t.output))) → GaveExactly (cond b (did otherwise (becomes t)) (copies number (length old) t (becomes t))) r old new (becomes t_now)
       by true none is =
           let nothing : t.output ≡ [] = nothing_in t.output none in
           let same : copied (length old) t ≡ t = ap (λ (o : List ℕ). record t { output = drop (length old) o }) nothing ∙ ap (λ (o : List ℕ). record t { output = o }) (drop_all (length old) [] (omega arith) ∙ sym nothing) in
@@ -148,7 +168,7 @@ module _ (number : ℕ) (k : KeptHub) (s : KeptSession) (there : session_in numb
     hub = ap becomes session ∙ sym (one (copied (length old)));
   })
 
-  did-gave : (r : Given) (old : List ℕ) → Gave (did r k) r old old (becomes s)
+  did-gave : (r : Given) (old : List ℕ) → GaveExactly (did r k) r old old (becomes s)
   did-gave r old = record { given_is = refl; octets = refl; hub = stays }
 
   pub ended-gave : (reason : EndReason) (old : List ℕ) → is_empty s.output ≡ true → s.standing ≡ Ended reason → Gave (give k number (length old)) (End reason) old old (becomes s)

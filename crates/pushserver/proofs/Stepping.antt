@@ -2,8 +2,7 @@
 --     within-reserved, within-noted, within-made      room for its keys, those that note it, and its changes are within what is allowed
 --     offered-is      what an entry that is accepted changes
 --     update-changes, hear-changes      what an update, and a datagram, would change
-use Rattle.std.proofs.Common.{◌≡◌, ℕ, ◌+◌, ◌*◌, ◌≤◌, Bool, true, false, cond, List, [], length, Result, Ok, Err, refl, sym, ap, ◌∙◌, subst, arith}
-use Rattle.std.specs.Prelude.{sum_by}
+use Rattle.std.proofs.Common.{◌≡◌, ℕ, ◌+◌, Bool, true, false, cond, List, [], length, Result, Ok, Err, refl, sym, ap, ◌∙◌, subst, arith}
 use Rattle.push_base.specs.Cases.{◌>>=◌}
 use Rattle.push_base.specs.Counted.{CountsUpTo}
 use Rattle.rrset.specs.RecordSet.{changes}
@@ -12,19 +11,20 @@ use Rattle.rrset.specs.declared.record.Hearing.{Hearing}
 use Rattle.dnswire.specs.Reading.{hearing_of}
 use Rattle.dnswire.specs.declared.message.HearFault.{HearFault}
 use Rattle.dnswire.specs.declared.message.Update.{Update}
-use Rattle.history.specs.Kept as pasts
 use Rattle.history.specs.Kept.{Past, told_plan}
 use Rattle.history.specs.Plans.{Plan, refuse, idle, accept, planned}
 use Rattle.history.specs.States.{State, accepts, after, records, update_in, updated}
 use Rattle.history.specs.declared.entry.Entry.{Entry}
 use Rattle.history.specs.declared.entry.Entry.TheVariants as entries
 use Rattle.history.specs.declared.plan.Planned.TheVariants as plans
-use Rattle.pushsession.specs.Kept.{KeptSession}
-use Rattle.pushserver.specs.Hubs.{Numbered, state_now, past_of, entry_changes}
+use Rattle.pushserver.specs.Hubs.{state_now, entry_changes}
+use Rattle.pushserver.specs.HubState.{kept_of}
+use Rattle.pushserver.specs.declared.hub_state.HubState.{HubState}
 use Rattle.pushserver.specs.KeptHubs.{KeptHub}
 use Rattle.pushserver.specs.Offering.{changes_by, offered_changes}
-use Rattle.pushserver.specs.Watched.{allowed, noting_steps, watching_in, update_changes, hear_changes}
-use Rattle.pushserver.proofs.EntrySteps.{told-entry, same_past, with_past}
+use Rattle.pushserver.specs.Watched.{allowed, noting_steps, update_changes, hear_changes}
+use Rattle.history.proofs.ToldPlans.{changes-told}
+use Rattle.pushserver.proofs.EntrySteps.{same_past, with_past}
 use Rattle.pushserver.proofs.NotedSessions.{all-within}
 use Rattle.pushserver.proofs.Offering.{plan-changes}
 
@@ -66,7 +66,7 @@ update-changes k message u reads =
     by (Err code) is = ap (λ (r : Result State ℕ). changes_by (plan_as k r)) is ∙ sym (ap (λ (r : Result State ℕ). verdict_changes k (r >>= λ _. Ok u)) is)
     by (Ok later) is =
         ap (λ (r : Result State ℕ). changes_by (plan_as k r)) is
-        ∙ told-entry (past_of k) (entries.Update u) (changes (records (state_now k)) (records later)) (sym (ap (λ (r : Result State ℕ). told_plan (plan_as k r)) is))
+        ∙ changes-told (state_now k) (entries.Update u) (changes (records (state_now k)) (records later)) (sym (ap (λ (r : Result State ℕ). told_plan (plan_as k r)) is))
         ∙ sym (ap (λ (r : Result State ℕ). verdict_changes k (r >>= λ _. Ok u)) is)
 
 abbrev heard_changes : KeptHub → ℕ → Result Hearing HearFault → List Changed
@@ -85,14 +85,14 @@ hear-changes k link datagram hearing reads = by (accepts (state_now k) entry) re
     by : (b : Bool) → accepts (state_now k) (entries.Heard link hearing) ≡ b → changes_by (test_plan k (entries.Heard link hearing) (accepts (state_now k) (entries.Heard link hearing))) ≡ cond (accepts (state_now k) (entries.Heard link hearing)) (entry_changes (entries.Heard link hearing) k) []
     by true is =
         ap (λ b. changes_by (test_plan k entry b)) is
-        ∙ told-entry (past_of k) entry (changes (records (state_now k)) (records (after (state_now k) entry))) (sym (ap (λ b. told_plan (test_plan k entry b)) is))
+        ∙ changes-told (state_now k) entry (changes (records (state_now k)) (records (after (state_now k) entry))) (sym (ap (λ b. told_plan (test_plan k entry b)) is))
         ∙ sym (ap (λ (b : Bool). cond b (entry_changes entry k) []) is)
     by false is = ap (λ b. changes_by (test_plan k entry b)) is ∙ sym (ap (λ (b : Bool). cond b (entry_changes entry k) []) is)
 
 -- what an entry takes behind its plan, which is held with the past
-pub offer-steps : (k : KeptHub) (past : Past) → past ≡ past_of k → (entry : Entry) (changed : List Changed) → plans.Accept changed ≡ told_plan (planned (state_now k) entry) → (old new : ℕ)
-    → CountsUpTo (allowed (with_past past k) (entry_changes entry (with_past past k))) old new → CountsUpTo (allowed k (offered_changes entry k)) old new
-offer-steps k past same entry changed told old new counts =
-    subst (λ (cs : List Changed). CountsUpTo (allowed k cs) old new)
-    (sym (offered-is k entry changed told ∙ plan-changes k past same entry changed told ∙ ap (λ (h : KeptHub). entry_changes entry h) (same_past k past same)))
-    (subst (λ (h : KeptHub). CountsUpTo (allowed h (entry_changes entry h)) old new) (same_past k past same) counts)
+pub offer-steps : (keeping : HubState) (past : Past) → past ≡ keeping.points.past → (entry : Entry) (changed : List Changed) → plans.Accept changed ≡ told_plan (planned (state_now (kept_of keeping)) entry) → (old new : ℕ)
+    → CountsUpTo (allowed (with_past past (kept_of keeping)) (entry_changes entry (with_past past (kept_of keeping)))) old new → CountsUpTo (allowed (kept_of keeping) (offered_changes entry (kept_of keeping))) old new
+offer-steps keeping past same entry changed told old new counts =
+    subst (λ (cs : List Changed). CountsUpTo (allowed (kept_of keeping) cs) old new)
+    (sym (offered-is (kept_of keeping) entry changed told ∙ plan-changes keeping past same entry changed told ∙ ap (λ (h : KeptHub). entry_changes entry h) (same_past keeping past same)))
+    (subst (λ (h : KeptHub). CountsUpTo (allowed h (entry_changes entry h)) old new) (same_past keeping past same) counts)

@@ -1,6 +1,7 @@
 -- One walk through the calls, for each property of hubs that the few steps keep of which the calls are made.
 --     Step Good hub f      a step of one session, where the messages that it is for are good
---     Entering Good hub entry, has_room      an entry that may be made, and for which the journal has room
+--     Entering Good hub entry, has_room      an entry that may be made: the point isn't the last one
+--     EndsSome, entering-kept, timed-kept      what ending any sessions leaves; so does an entry where those that fall behind by it end first; and the time
 --     holds-offered, holds-update, holds-hear, holds-reconfirm, holds-moment, holds-connect      what holds with an entry and without
 --     Reacts Good number P R      the steps that hand nothing out keep P, and what is P before an entry is R behind it
 --     reacts-give      so `give` leads from P to R, but for the octets that it hands out (Gives)
@@ -8,8 +9,8 @@
 --     walks-give      so `give` leads from P to R
 --     IsKept Good P      all steps keep P
 --     keeps-called, keeps-calls      so each call keeps it, and any calls do
-use Rattle.std.proofs.Common.{◌≡◌, ℕ, ◌+◌, Bool, true, false, cond, not, ◌&&◌, List, [], ◌∷◌, ◌++◌, length, Option, Some, None, Ok, Err, Result, sym, ap, ◌∙◌, subst, refl}
-use Rattle.std.specs.Prelude.{nat_lt}
+use Rattle.std.proofs.Common.{◌≡◌, ℕ, ◌+◌, Bool, true, false, cond, ◌&&◌, List, [], ◌∷◌, ◌++◌, length, Option, Some, None, Ok, Err, Result, sym, ap, ◌∙◌, subst, refl}
+use Rattle.std.specs.Prelude.{nat_lt, option_map}
 use Rattle.std.specs.List.{AllByRecursion}
 use Rattle.push_base.specs.Cases.{is_empty, fault_as}
 use Rattle.push_base.specs.Limits.{max_number}
@@ -37,7 +38,7 @@ use Rattle.history.specs.declared.entry.Entry.{Entry}
 use Rattle.history.specs.declared.entry.Entry.TheVariants as entries
 use Rattle.dsotlv.specs.Answers.{answer_to_update}
 use Rattle.history.proofs.ToldPlans.{accepted-told}
-use Rattle.pushsession.specs.Sessions.{SessionOf, new_session, copied, timed, ended_with, answers, stopped, without_first}
+use Rattle.pushsession.specs.Sessions.{SessionOf, new_session, copied, due, timed, ended_where, ended_with, answers, stopped, without_first}
 use Rattle.pushsession.specs.Subscribing.{answered, with_next_push}
 use Rattle.pushsession.specs.Reactions.{restarted_by, request_for, reacts_itself}
 use Rattle.pushsession.specs.declared.request.Request.TheVariants as requests
@@ -47,10 +48,10 @@ use Rattle.pushserver.specs.declared.given.Given.{Given}
 use Rattle.pushserver.specs.declared.given.Given.TheVariants.{Worked, Nothing}
 use Rattle.pushserver.specs.declared.given.Heard.{Heard}
 use Rattle.pushserver.specs.Offering.{offered_by, offered}
-use Rattle.pushserver.specs.Hubs.{SessionKind, HubOf, newest, now, state_now, keeps_now, tells_now, session_of, each_session, in_session, entered, can_enter, update, hear, why_not, moment, max_sessions, connect, take_octets, stop, disconnect}
+use Rattle.pushserver.specs.Hubs.{SessionKind, HubOf, newest, now, state_now, keeps_now, tells_now, session_of, each_session, in_session, entered, behind_at, ended_behind, ends_behind, entered_keeping, can_enter, update, hear, why_not, moment, max_sessions, connect, take_octets, stop, disconnect}
 use Rattle.pushserver.specs.Giving.{GivingOf, has_home, reconfirm, reconfirms, by_request, reacted, did, copies, copies_or, given_after, after_reaction, after_packing, by_standing, give}
 use Rattle.pushserver.proofs.Offering.{by_room, hear-offered, reconfirm-offered, unread-is}
-use Rattle.pushserver.proofs.hub_steps.Cases.{enters_update, update_as, enters_moment, key_as, session_as, request_as, copies_as, found_as, works_as, output_as, give_as}
+use Rattle.pushserver.proofs.hub_steps.Cases.{enters_update, update_as, moment_as, key_as, session_as, request_as, copies_as, found_as, works_as, output_as, give_as}
 use Rattle.pushserver.proofs.told_rows.HeardRows.{Brought, brings_nothing, brings_read}
 use Rattle.pushserver.specs.Calls.{HubCall, updates as updating, hears, moves, connects, takes, gives, stops, ends as ending, called, after_calls}
 
@@ -61,7 +62,7 @@ abbrev pub AnyMessage : List ℕ → Type 0
 AnyMessage message = Unit {0}
 
 -- what a call does to one session, apart from the octets that come in
-pub data Step {A Q M : Type 0} {kind : SessionKind A Q M} (Good : List ℕ → Type 0) (hub : HubOf kind) : (SessionOf A Q M → SessionOf A Q M) → Type 0 where
+pub data Step {A Q M S : Type 0} {kind : SessionKind A Q M S} (Good : List ℕ → Type 0) (hub : HubOf kind) : (SessionOf A Q M → SessionOf A Q M) → Type 0 where
   restarts : (message : List ℕ) → Step Good hub (restarted_by message (now hub))
   reacts : (message : List ℕ) → Step Good hub (reacts_itself (keeps_now hub) hub.timers (now hub) message)
   answers_subscribe : (message : List ℕ) → Good message
@@ -73,60 +74,80 @@ pub data Step {A Q M : Type 0} {kind : SessionKind A Q M} (Good : List ℕ → T
   copies_front : (room : ℕ) → Step Good hub (copied room)
 
 -- all but the copying of an output's front
-abbrev pub HandsNothing : {A Q M : Type 0} {kind : SessionKind A Q M} {Good : List ℕ → Type 0} {hub : HubOf kind} {f : SessionOf A Q M → SessionOf A Q M} → Step Good hub f → Type 0
+abbrev pub HandsNothing : {A Q M S : Type 0} {kind : SessionKind A Q M S} {Good : List ℕ → Type 0} {hub : HubOf kind} {f : SessionOf A Q M → SessionOf A Q M} → Step Good hub f → Type 0
 HandsNothing (copies_front room) = ⊥
 HandsNothing _ = Unit {0}
 
--- why an entry is made, for which the journal has room
-pub data Entering {A Q M : Type 0} {kind : SessionKind A Q M} (Good : List ℕ → Type 0) (hub : HubOf kind) : Entry → Type 0 where
-  by_update : (message : List ℕ) (u : Update) → Good message → verdict (state_now hub) message ≡ Ok u → can_enter hub (entries.Update u) ≡ true → Entering Good hub (entries.Update u)
-  by_moment : (t : ℕ) → can_enter hub (entries.Moment t) ≡ true → Entering Good hub (entries.Moment t)
-  by_link : (entry : Entry) (link : ℕ) → concern entry ≡ a_link link → Brought Good (brought entry) → accepts (state_now hub) entry ≡ true → can_enter hub entry ≡ true → Entering Good hub entry
+-- why an entry is made, where the point isn't the last one
+pub data Entering {A Q M S : Type 0} {kind : SessionKind A Q M S} (Good : List ℕ → Type 0) (hub : HubOf kind) : Entry → Type 0 where
+  by_update : (message : List ℕ) (u : Update) → Good message → verdict (state_now hub) message ≡ Ok u → can_enter hub ≡ true → Entering Good hub (entries.Update u)
+  by_moment : (t : ℕ) → can_enter hub ≡ true → Entering Good hub (entries.Moment t)
+  by_link : (entry : Entry) (link : ℕ) → concern entry ≡ a_link link → Brought Good (brought entry) → accepts (state_now hub) entry ≡ true → can_enter hub ≡ true → Entering Good hub entry
 
-pub has_room : {A Q M : Type 0} {kind : SessionKind A Q M} {Good : List ℕ → Type 0} {hub : HubOf kind} {entry : Entry} → Entering Good hub entry → can_enter hub entry ≡ true
+pub has_room : {A Q M S : Type 0} {kind : SessionKind A Q M S} {Good : List ℕ → Type 0} {hub : HubOf kind} {entry : Entry} → Entering Good hub entry → can_enter hub ≡ true
 has_room (by_update message u good is room) = room
 has_room (by_moment t room) = room
 has_room (by_link entry link one brings is room) = room
 
 -- ---- the calls that make entries
 
--- R holds with any entry that may be made
-abbrev pub WithAnyEntry : {A Q M : Type 0} {kind : SessionKind A Q M} → (List ℕ → Type 0) → (HubOf kind → Type 0) → HubOf kind → Type 0
-WithAnyEntry Good R hub = (entry : Entry) → Entering Good hub entry → R (entered entry hub)
+-- any sessions may end, where so many entries are made
+abbrev pub EndsSome : {A Q M S : Type 0} {kind : SessionKind A Q M S} → (HubOf kind → Type 0) → Type 0
+EndsSome {A = A} {Q = Q} {M = M} {kind = kind} P = (hub : HubOf kind) (point : ℕ) (reason : SessionOf A Q M → Option EndReason) → P hub → P (each_session (λ s. ended_where (kind.keeps point) (reason s) s) hub)
 
-module _ {A Q M : Type 0} {kind : SessionKind A Q M} (Good : List ℕ → Type 0) (R : HubOf kind → Type 0) (hub : HubOf kind) (enters : WithAnyEntry Good R hub) (stays : R hub) where
+-- the entry may be made, too, where some have ended
+entering-ended : {A Q M S : Type 0} {kind : SessionKind A Q M S} {Good : List ℕ → Type 0} (hub : HubOf kind) (entry : Entry) (f : SessionOf A Q M → SessionOf A Q M) → Entering Good hub entry → Entering Good (each_session f hub) entry
+entering-ended hub entry f (by_update message u good is room) = by_update message u good is room
+entering-ended hub entry f (by_moment t room) = by_moment t room
+entering-ended hub entry f (by_link made link one brings is room) = by_link made link one brings is room
+
+-- those that fall behind by an entry end before it is made
+pub entering-kept : {A Q M S : Type 0} {kind : SessionKind A Q M S} (Good : List ℕ → Type 0) (P R : HubOf kind → Type 0) → EndsSome P → ((hub : HubOf kind) (entry : Entry) → Entering Good hub entry → P hub → R (entered entry hub))
+    → (hub : HubOf kind) (entry : Entry) → Entering Good hub entry → P hub → R (entered_keeping entry hub)
+entering-kept Good P R may_end enters hub entry by h =
+    enters (ends_behind entry hub) entry (entering-ended hub entry (ended_behind hub entry) by) (may_end hub (newest hub) (λ s. option_map (λ p. ends.Behind p) (behind_at hub entry s)) h)
+
+-- and by the time
+pub timed-kept : {A Q M S : Type 0} {kind : SessionKind A Q M S} (P : HubOf kind → Type 0) → EndsSome P → (hub : HubOf kind) (point t : ℕ) → P hub → P (each_session (timed (kind.keeps point) t) hub)
+timed-kept {kind = kind} P may_end hub point t h = may_end hub point (due (kind.keeps point) t) h
+
+-- R holds with any entry that may be made
+abbrev pub WithAnyEntry : {A Q M S : Type 0} {kind : SessionKind A Q M S} → (List ℕ → Type 0) → (HubOf kind → Type 0) → HubOf kind → Type 0
+WithAnyEntry Good R hub = (entry : Entry) → Entering Good hub entry → R (entered_keeping entry hub)
+
+module _ {A Q M S : Type 0} {kind : SessionKind A Q M S} (Good : List ℕ → Type 0) (R : HubOf kind → Type 0) (hub : HubOf kind) (enters : WithAnyEntry Good R hub) (stays : R hub) where
   pub holds-update : (message : List ℕ) → Good message → R (update hub message).1
   holds-update message good = by (verdict (state_now hub) message) refl
     where
-      entering : (u : Update) → verdict (state_now hub) message ≡ Ok u → (b : Bool) → can_enter hub (entries.Update u) ≡ b → R (enters_update hub u b).1
+      entering : (u : Update) → verdict (state_now hub) message ≡ Ok u → (b : Bool) → can_enter hub ≡ b → R (enters_update hub u b).1
       entering u is true room = enters (entries.Update u) (by_update message u good is room)
       entering u is false room = stays
 
       by : (r : Result Update ℕ) → verdict (state_now hub) message ≡ r → R (update_as hub r).1
       by (Err code) is = stays
-      by (Ok u) is = entering u is (can_enter hub (entries.Update u)) refl
+      by (Ok u) is = entering u is (can_enter hub) refl
 
   -- whatever entry is offered
-  pub holds-offered : (entry : Entry) → (accepts (state_now hub) entry ≡ true → can_enter hub entry ≡ true → Entering Good hub entry) → R (offered entry hub).1
+  pub holds-offered : (entry : Entry) → (accepts (state_now hub) entry ≡ true → can_enter hub ≡ true → Entering Good hub entry) → R (offered entry hub).1
   holds-offered entry may = by (planned (state_now hub) entry) refl
     where
-      entering : (b : Bool) → can_enter hub entry ≡ b → accepts (state_now hub) entry ≡ true → R (by_room hub entry b).1
+      entering : (b : Bool) → can_enter hub ≡ b → accepts (state_now hub) entry ≡ true → R (by_room hub entry b).1
       entering true room is = enters entry (may is room)
       entering false room is = stays
 
       by : (plan : Plan) → planned (state_now hub) entry ≡ plan → R (offered_by plan entry hub).1
       by (refuse code) is = stays
       by idle is = stays
-      by (accept changed) is = entering (can_enter hub entry) refl (accepted-told (state_now hub) entry changed (sym (ap told_plan is)))
+      by (accept changed) is = entering (can_enter hub) refl (accepted-told (state_now hub) entry changed (sym (ap told_plan is)))
 
   pub holds-hear : (link : ℕ) (datagram : List ℕ) → Good datagram → R (hear hub link datagram).1
   holds-hear link datagram good = by (hearing_of datagram) refl
     where
       by : (r : Result Hearing HearFault) → hearing_of datagram ≡ r → R (hear hub link datagram).1
-      by (Err fault) reads = subst (λ (o : Option Heard × HubOf kind). R o.1) (sym (unread-is hub link datagram (why_not fault) (ap (fault_as why_not) reads))) stays
+      by (Err fault) reads = subst (λ (o : Heard × HubOf kind). R o.1) (sym (unread-is hub link datagram (why_not fault) (ap (fault_as why_not) reads))) stays
       by (Ok hearing) reads =
           let entry = entries.Heard link hearing in
-          subst (λ (o : Option Heard × HubOf kind). R o.1) (sym (hear-offered hub link datagram hearing reads))
+          subst (λ (o : Heard × HubOf kind). R o.1) (sym (hear-offered hub link datagram hearing reads))
           (holds-offered entry (λ is room. by_link entry link refl (brings_read datagram hearing good reads) is room))
 
   pub holds-reconfirm : (rr : Rr) → R (reconfirm hub rr)
@@ -138,21 +159,21 @@ module _ {A Q M : Type 0} {kind : SessionKind A Q M} (Good : List ℕ → Type 0
           let entry = entries.Reconfirm key.0 key.1 in
           subst R (sym (reconfirm-offered hub rr key.0 key.1 found)) (holds-offered entry (λ is room. by_link entry key.0 refl brings_nothing is room))
 
-  pub holds-moment : ((later : HubOf kind) (point t : ℕ) → R later → R (each_session (timed (kind.keeps point) t) later)) → (t : ℕ) → R (moment hub t).1
-  holds-moment times t = by (nat_lt (now hub) t) (can_enter hub (entries.Moment t)) refl
+  pub holds-moment : ((later : HubOf kind) (point t : ℕ) → R later → R (each_session (timed (kind.keeps point) t) later)) → (t : ℕ) → R (moment hub t)
+  holds-moment times t = by (nat_lt (now hub) t) (can_enter hub) refl
     where
-      by : (later room : Bool) → can_enter hub (entries.Moment t) ≡ room → R (cond (not later) (false, hub) (enters_moment hub t room)).1
+      by : (later room : Bool) → can_enter hub ≡ room → R (moment_as hub t (later && room))
       by false room is = stays
-      by true true is = times (entered (entries.Moment t) hub) (newest hub) t (enters (entries.Moment t) (by_moment t is))
+      by true true is = times (entered_keeping (entries.Moment t) hub) (newest hub) t (enters (entries.Moment t) (by_moment t is))
       by true false is = stays
 
 -- ---- a session comes
 
 -- the hub with a new session
-abbrev pub with_new : {A Q M : Type 0} {kind : SessionKind A Q M} → HubOf kind → HubOf kind
+abbrev pub with_new : {A Q M S : Type 0} {kind : SessionKind A Q M S} → HubOf kind → HubOf kind
 with_new hub = record hub { sessions = hub.sessions ++ (hub.numbers_given, new_session (keeps_now hub) (now hub)) ∷ []; numbers_given = hub.numbers_given + 1 }
 
-pub holds-connect : {A Q M : Type 0} {kind : SessionKind A Q M} (R : HubOf kind → Type 0) (hub : HubOf kind) → R (with_new hub) → R hub → R (connect hub).1
+pub holds-connect : {A Q M S : Type 0} {kind : SessionKind A Q M S} (R : HubOf kind → Type 0) (hub : HubOf kind) → R (with_new hub) → R hub → R (connect hub).1
 holds-connect {kind = kind} R hub makes stays = by (nat_lt (length hub.sessions) max_sessions && nat_lt hub.numbers_given max_number)
   where
     by : (b : Bool) → R (cond {A = Option ℕ × HubOf kind} b (Some hub.numbers_given, with_new hub) (None, hub)).1
@@ -161,26 +182,26 @@ holds-connect {kind = kind} R hub makes stays = by (nat_lt (length hub.sessions)
 
 -- ---- a reaction
 
-pub record Reacts {A Q M : Type 0} {kind : SessionKind A Q M} (Good : List ℕ → Type 0) (number : ℕ) (P R : HubOf kind → Type 0) : Type 0 where
+pub record Reacts {A Q M S : Type 0} {kind : SessionKind A Q M S} (Good : List ℕ → Type 0) (number : ℕ) (P R : HubOf kind → Type 0) : Type 0 where
   pub changes : (hub : HubOf kind) (f : SessionOf A Q M → SessionOf A Q M) (step : Step Good hub f) → HandsNothing step → P hub → P (in_session number f hub)
   -- at most one entry is made
-  pub enters : (hub : HubOf kind) (entry : Entry) → Entering Good hub entry → P hub → R (entered entry hub)
+  pub enters : (hub : HubOf kind) (entry : Entry) → Entering Good hub entry → P hub → R (entered_keeping entry hub)
   pub enters_none : (hub : HubOf kind) → P hub → R hub
   pub changes_behind : (hub : HubOf kind) (f : SessionOf A Q M → SessionOf A Q M) (step : Step Good hub f) → HandsNothing step → R hub → R (in_session number f hub)
 
 -- what `give` did: nothing was handed out, or the front of the output of a session
-pub data Gives {A Q M : Type 0} {kind : SessionKind A Q M} (number : ℕ) (R : HubOf kind → Type 0) : GivingOf kind → Type 0 where
+pub data Gives {A Q M S : Type 0} {kind : SessionKind A Q M S} (number : ℕ) (R : HubOf kind → Type 0) : GivingOf kind → Type 0 where
   hands_nothing : (given : Given) (hub : HubOf kind) → R hub → Gives number R (did given hub)
   hands_front : (room : ℕ) (session : SessionOf A Q M) (hub : HubOf kind) → session_of hub number ≡ Some session → R hub → Gives number R (copies number room session hub)
 
 -- the message that `give` takes up: where the session goes on without output, the first whole one of its input
-pub record TakesUp {A Q M : Type 0} {kind : SessionKind A Q M} (hub : HubOf kind) (number : ℕ) (session : SessionOf A Q M) (found : List ℕ × List ℕ) : Type 0 where
+pub record TakesUp {A Q M S : Type 0} {kind : SessionKind A Q M S} (hub : HubOf kind) (number : ℕ) (session : SessionOf A Q M) (found : List ℕ × List ℕ) : Type 0 where
   pub there : session_of hub number ≡ Some session
   pub live : session.standing ≡ Live
   pub silent : session.output ≡ []
   pub first : first_message session.input ≡ Some found
 
-module _ {A Q M : Type 0} {kind : SessionKind A Q M} (Good : List ℕ → Type 0) (number : ℕ) (P R : HubOf kind → Type 0) (w : Reacts Good number P R) where
+module _ {A Q M S : Type 0} {kind : SessionKind A Q M S} (Good : List ℕ → Type 0) (number : ℕ) (P R : HubOf kind → Type 0) (w : Reacts Good number P R) where
   -- a step without an entry
   steps : (hub : HubOf kind) (f : SessionOf A Q M → SessionOf A Q M) (step : Step Good hub f) → HandsNothing step → P hub → R (in_session number f hub)
   steps hub f step out h = w.enters_none (in_session number f hub) (w.changes hub f step out h)
@@ -297,17 +318,17 @@ module _ {A Q M : Type 0} {kind : SessionKind A Q M} (Good : List ℕ → Type 0
 
 -- ---- octets are handed out, too
 
-pub record Walks {A Q M : Type 0} {kind : SessionKind A Q M} (Good : List ℕ → Type 0) (number : ℕ) (P R : HubOf kind → Type 0) : Type 0 where
+pub record Walks {A Q M S : Type 0} {kind : SessionKind A Q M S} (Good : List ℕ → Type 0) (number : ℕ) (P R : HubOf kind → Type 0) : Type 0 where
   -- a message that a session takes up is good, and what follows it is left
   pub reads : (hub : HubOf kind) (session : SessionOf A Q M) (found : List ℕ × List ℕ) → session_of hub number ≡ Some session → first_message session.input ≡ Some found → P hub → Good found.0
   pub takes_up : (hub : HubOf kind) (session : SessionOf A Q M) (found : List ℕ × List ℕ) → session_of hub number ≡ Some session → first_message session.input ≡ Some found → P hub → P (in_session number (without_first found.1) hub)
   pub changes : (hub : HubOf kind) (f : SessionOf A Q M → SessionOf A Q M) → Step Good hub f → P hub → P (in_session number f hub)
   -- at most one entry is made
-  pub enters : (hub : HubOf kind) (entry : Entry) → Entering Good hub entry → P hub → R (entered entry hub)
+  pub enters : (hub : HubOf kind) (entry : Entry) → Entering Good hub entry → P hub → R (entered_keeping entry hub)
   pub enters_none : (hub : HubOf kind) → P hub → R hub
   pub changes_behind : (hub : HubOf kind) (f : SessionOf A Q M → SessionOf A Q M) → Step Good hub f → R hub → R (in_session number f hub)
 
-module _ {A Q M : Type 0} {kind : SessionKind A Q M} (Good : List ℕ → Type 0) (number : ℕ) (P R : HubOf kind → Type 0) (w : Walks Good number P R) where
+module _ {A Q M S : Type 0} {kind : SessionKind A Q M S} (Good : List ℕ → Type 0) (number : ℕ) (P R : HubOf kind → Type 0) (w : Walks Good number P R) where
   reacting : Reacts Good number P R
   reacting = record { changes = λ hub f step out h. w.changes hub f step h; enters = w.enters; enters_none = w.enters_none; changes_behind = λ hub f step out h. w.changes_behind hub f step h }
 
@@ -331,14 +352,14 @@ module _ {A Q M : Type 0} {kind : SessionKind A Q M} (Good : List ℕ → Type 0
 
 -- ---- all calls
 
-pub record IsKept {A Q M : Type 0} {kind : SessionKind A Q M} (Good : List ℕ → Type 0) (P : HubOf kind → Type 0) : Type 0 where
+pub record IsKept {A Q M S : Type 0} {kind : SessionKind A Q M S} (Good : List ℕ → Type 0) (P : HubOf kind → Type 0) : Type 0 where
   pub reads : (hub : HubOf kind) (number : ℕ) (session : SessionOf A Q M) (found : List ℕ × List ℕ) → session_of hub number ≡ Some session → first_message session.input ≡ Some found → P hub → Good found.0
   pub takes_up : (hub : HubOf kind) (number : ℕ) (session : SessionOf A Q M) (found : List ℕ × List ℕ) → session_of hub number ≡ Some session → first_message session.input ≡ Some found → P hub
       → P (in_session number (without_first found.1) hub)
   pub changes : (hub : HubOf kind) (number : ℕ) (f : SessionOf A Q M → SessionOf A Q M) → Step Good hub f → P hub → P (in_session number f hub)
   pub enters : (hub : HubOf kind) (entry : Entry) → Entering Good hub entry → P hub → P (entered entry hub)
-  -- time passes
-  pub times : (hub : HubOf kind) (point t : ℕ) → P hub → P (each_session (timed (kind.keeps point) t) hub)
+  -- sessions end by the time, and those that fall behind
+  pub ends : (hub : HubOf kind) (point : ℕ) (reason : SessionOf A Q M → Option EndReason) → P hub → P (each_session (λ s. ended_where (kind.keeps point) (reason s) s) hub)
   -- octets come in, and a stop is asked for
   pub takes_in : (hub : HubOf kind) (number : ℕ) (piece : List ℕ) → Good piece → P hub → P (take_octets hub number piece)
   pub asks_stop : (hub : HubOf kind) (number rcode delay : ℕ) → P hub → P (stop hub number rcode delay)
@@ -353,21 +374,21 @@ BringsGood Good (hears link datagram) = Good datagram
 BringsGood Good (takes number piece) = Good piece
 BringsGood Good _ = Unit {0}
 
-module _ {A Q M : Type 0} {kind : SessionKind A Q M} (Good : List ℕ → Type 0) (P : HubOf kind → Type 0) (k : IsKept Good P) where
+module _ {A Q M S : Type 0} {kind : SessionKind A Q M S} (Good : List ℕ → Type 0) (P : HubOf kind → Type 0) (k : IsKept Good P) where
   pub walks_alone : (number : ℕ) → Walks Good number P P
   walks_alone number = record {
     reads = λ hub session found there is h. k.reads hub number session found there is h;
     takes_up = λ hub session found there is h. k.takes_up hub number session found there is h;
     changes = λ hub f step h. k.changes hub number f step h;
-    enters = k.enters;
+    enters = entering-kept Good P P k.ends k.enters;
     enters_none = λ hub h. h;
     changes_behind = λ hub f step h. k.changes hub number f step h;
   }
 
   pub keeps-called : (call : HubCall) (hub : HubOf kind) → BringsGood Good call → P hub → P (called call hub)
-  keeps-called (updating message) hub good h = holds-update Good P hub (λ entry by. k.enters hub entry by h) h message good
-  keeps-called (hears link datagram) hub good h = holds-hear Good P hub (λ entry by. k.enters hub entry by h) h link datagram good
-  keeps-called (moves t) hub good h = holds-moment Good P hub (λ entry by. k.enters hub entry by h) h k.times t
+  keeps-called (updating message) hub good h = holds-update Good P hub (λ entry by. entering-kept Good P P k.ends k.enters hub entry by h) h message good
+  keeps-called (hears link datagram) hub good h = holds-hear Good P hub (λ entry by. entering-kept Good P P k.ends k.enters hub entry by h) h link datagram good
+  keeps-called (moves t) hub good h = holds-moment Good P hub (λ entry by. entering-kept Good P P k.ends k.enters hub entry by h) h (timed-kept P k.ends) t
   keeps-called connects hub good h = holds-connect P hub (k.makes hub h) h
   keeps-called (takes number piece) hub good h = k.takes_in hub number piece good h
   keeps-called (gives number room) hub good h = walks-give Good number P P (walks_alone number) hub room h

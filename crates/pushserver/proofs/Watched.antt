@@ -4,7 +4,7 @@
 --     watched-last, watched-gone      one that comes, and one that goes
 --     watched-set, watched-entry      one that is changed in its seat
 --     watched-new      nobody is there, and nobody watches
-use Rattle.std.proofs.Common.{◌≡◌, ℕ, zero, suc, ◌<◌, Bool, true, false, cond, List, [], ◌∷◌, ◌++◌, length, get_or, set, Option, Some, None, refl, sym, ◌∙◌, ap, subst, arith}
+use Rattle.std.proofs.Common.{◌≡◌, ℕ, zero, suc, ◌<◌, Bool, true, false, cond, [], ◌∷◌, ◌++◌, length, get_or, set, Option, Some, None, refl, sym, ◌∙◌, ap, subst, arith}
 use Rattle.std.specs.Prelude.{option_map, position, ◌==◌}
 use Rattle.std.specs.List.{AllByRecursion, IsDistinct}
 use Rattle.history.proofs.Positions.{position-cons}
@@ -12,7 +12,6 @@ use Rattle.pushserver.specs.NumberedSessions.{AreApart}
 use Rattle.pushserver.proofs.NumberedSessions.{changed-here, found-here, apart-in}
 use Rattle.std.specs.Option.{option_or}
 use Rattle.dnsname.specs.Names.{Labels}
-use Rattle.subscr.specs.Asked.{Asked}
 use Rattle.subscr.specs.Watching.{KeptWatching, Watching, questions_of, watching_of}
 use Rattle.pushsession.specs.Kept.{KeptSession}
 use Rattle.pushsession.specs.Sessions.{asked_to_stop, is_open}

@@ -1,25 +1,30 @@
--- A journal that forgets: a session that would need more of the past than is kept ends.
---     behind_at hub entry session      the session's least point, where the entries from it on, with the new one, are too many or too large
---     ends_behind, entered_keeping      those sessions end, and then the entry is made
-use Rattle.std.specs.Prelude.{ℕ, not, ◌&&◌, drop, Option, Some, None, cond}
-use Rattle.dsosession.specs.declared.session.EndReason.TheVariants.{Behind}
-use Rattle.history.specs.States.{entry_size, journal_has_room}
-use Rattle.history.specs.declared.entry.Entry.{Entry}
-use Rattle.pushserver.specs.Hubs.{SessionKind, HubOf, keeps_now, each_session, entered}
-use Rattle.pushsession.specs.Sessions.{SessionOf, is_open, ended_with}
+-- Sessions that are behind, told by the journal's floor: the least point from which on one more entry has room.
+--     behind_from floor session, ended_from floor session      the point from which on a session needs the past, where that is before the floor; the session then ends
+--     needed_with floor needed session, needed_by floor newest sessions      the least of a point and of those that sessions need which aren't behind
+--     RisesWaiting sessions, RestsClosed sessions      of each the points rise since which its names wait; none waits of one that is stopped or ended
+use Rattle.std.specs.Prelude.{ℕ, ◌≡◌, ◌&&◌, false, List, [], map, fold, Option, Some, None, cond, nat_lt, nat_le, option_map}
+use Rattle.std.specs.List.{AllByRecursion}
+use Rattle.coalesce.specs.Waiting.{first_point}
+use Rattle.dsosession.specs.declared.session.EndReason.TheVariants as ends
+use Rattle.pushsession.specs.Sessions.{is_open, ended_where}
+use Rattle.pushsession.specs.Kept.{KeptSession, keeping}
+use Rattle.pushserver.specs.Hubs.{Numbered}
+use Rattle.pushserver.specs.SoundHubs.{PointsRise}
 
--- the point from which on a session needs the past, where that is too much
-abbrev pub behind_at : {A Q M : Type 0} {kind : SessionKind A Q M} → HubOf kind → Entry → SessionOf A Q M → Option ℕ
-behind_at hub entry session = elim ((keeps_now hub).least_point session.queue) [
-  | None ↦ None
-  | Some p ↦ cond (is_open session.standing && not (journal_has_room (drop p hub.history) (entry_size entry))) (Some p) None
-]
+abbrev pub behind_from : ℕ → KeptSession → Option ℕ
+behind_from floor session = elim (first_point session.queue) [ None ↦ None | Some point ↦ cond (nat_lt point floor && is_open session.standing) (Some point) None ]
 
-abbrev pub ended_behind : {A Q M : Type 0} {kind : SessionKind A Q M} → HubOf kind → Entry → SessionOf A Q M → SessionOf A Q M
-ended_behind hub entry session = elim (behind_at hub entry session) [ None ↦ session | Some p ↦ ended_with (keeps_now hub) (Behind p) session ]
+abbrev pub ended_from : ℕ → KeptSession → KeptSession
+ended_from floor session = ended_where keeping (option_map (λ point. ends.Behind point) (behind_from floor session)) session
 
-abbrev pub ends_behind : {A Q M : Type 0} {kind : SessionKind A Q M} → Entry → HubOf kind → HubOf kind
-ends_behind entry hub = each_session (ended_behind hub entry) hub
+abbrev pub needed_with : ℕ → ℕ → KeptSession → ℕ
+needed_with floor needed session = elim (first_point session.queue) [ None ↦ needed | Some point ↦ cond (nat_le floor point && nat_lt point needed) point needed ]
 
-abbrev pub entered_keeping : {A Q M : Type 0} {kind : SessionKind A Q M} → Entry → HubOf kind → HubOf kind
-entered_keeping entry hub = entered entry (ends_behind entry hub)
+abbrev pub needed_by : ℕ → ℕ → Numbered KeptSession → ℕ
+needed_by floor newest sessions = fold (λ needed e. needed_with floor needed e.1) newest sessions
+
+abbrev pub RisesWaiting : Numbered KeptSession → Type 0
+RisesWaiting sessions = AllByRecursion (λ e. PointsRise (map (λ w. w.point) e.1.queue)) sessions
+
+abbrev pub RestsClosed : Numbered KeptSession → Type 0
+RestsClosed sessions = AllByRecursion (λ e. is_open e.1.standing ≡ false → e.1.queue ≡ []) sessions

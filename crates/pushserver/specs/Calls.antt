@@ -17,10 +17,10 @@ pub data HubCall : Type 0 where
   stops : ℕ → ℕ → ℕ → HubCall
   ends : ℕ → HubCall
 
-abbrev pub called : {A Q M : Type 0} {kind : SessionKind A Q M} → HubCall → HubOf kind → HubOf kind
+abbrev pub called : {A Q M S : Type 0} {kind : SessionKind A Q M S} → HubCall → HubOf kind → HubOf kind
 called (updates message) hub = (update hub message).1
 called (hears link datagram) hub = (hear hub link datagram).1
-called (moves t) hub = (moment hub t).1
+called (moves t) hub = moment hub t
 called connects hub = (connect hub).1
 called (takes number piece) hub = take_octets hub number piece
 called (gives number room) hub = (give hub number room).hub
@@ -28,7 +28,7 @@ called (stops number rcode delay) hub = stop hub number rcode delay
 called (ends number) hub = disconnect hub number
 
 -- one after the other
-abbrev pub after_calls : {A Q M : Type 0} {kind : SessionKind A Q M} → List HubCall → HubOf kind → HubOf kind
+abbrev pub after_calls : {A Q M S : Type 0} {kind : SessionKind A Q M S} → List HubCall → HubOf kind → HubOf kind
 after_calls calls hub = fold (λ h c. called c h) hub calls
 
 -- what comes as octets are octets

@@ -1,29 +1,33 @@
 -- The hub as it is kept, and what its private calls rest on.
---     kept_of keeping      the hub that its parts are
+--     seen_of past, kept_of keeping      what is known of all entries; the hub that its parts are
 --     IsSound keeping, IsHub keeping      what holds of them between calls; they stand for a plain hub
 --     Gave giving given before after kept      what a call of `give` answered and left
---     IsSeated kept number session past timers rows      the session stands in a hub of such parts
+--     IsSeated kept number session state timers rows      the session stands in a hub of such parts
 --     IsToJudge number found sessions, IsToReconfirm number rr sessions      an update is to be judged, a record to be reconfirmed
 --     Turns      what a session's turn came to
-use Rattle.std.specs.Prelude.{◌≡◌, ℕ, List, [], ◌++◌, drop, length, Option, Some, ok_or}
+use Rattle.std.specs.Prelude.{◌≡◌, ℕ, ◌≤◌, List, [], ◌++◌, drop, length, Option, Some, IfSome, ok_or}
+use Rattle.std.specs.List.{AllByRecursion}
 use Rattle.rrset.specs.RecordSet.{RecordSet}
 use Rattle.rrset.specs.Rcodes.{formerr}
 use Rattle.rrset.specs.declared.record.Rr.{Rr}
 use Rattle.dnswire.specs.declared.message.Update.{Update}
 use Rattle.coalesce.specs.Waiting.{CanBePacked}
 use Rattle.dsosession.specs.declared.session.Timers.{Timers}
-use Rattle.history.specs.Kept.{Past}
+use Rattle.history.specs.Kept as pasts
+use Rattle.history.specs.Kept.{Past, point_of}
 use Rattle.history.specs.AtHome.{AreAtHome}
-use Rattle.history.specs.States.{update_in}
+use Rattle.history.specs.States.{State, entry_size, max_journal_octets, update_in}
+use Rattle.history.specs.declared.entry.Entry.TheVariants as entries
 use Rattle.pushsession.specs.Kept.{KeptSession}
 use Rattle.pushsession.specs.Requests.{message_of, request_of}
 use Rattle.pushsession.specs.declared.request.Request.TheVariants as requests
 use Rattle.pushsession.specs.declared.session_status.SessionStatus.TheVariants.{Live}
-use Rattle.pushserver.specs.Hubs.{Numbered, session_in, newest, past_of, state_now, records_now, in_session}
+use Rattle.pushserver.specs.Hubs.{Numbered, session_in, newest, state_now, records_now, in_session}
 use Rattle.pushserver.specs.Giving.{give}
 use Rattle.pushserver.specs.PlainHubs.{Hub}
-use Rattle.pushserver.specs.KeptHubs.{KeptHub, KeptGiving, StandsFor}
+use Rattle.pushserver.specs.KeptHubs.{KeptHub, KeptGiving, Forgets, Seen, StandsFor, WaitSince}
 use Rattle.pushserver.specs.Rows.{AreTold}
+use Rattle.pushserver.specs.Behind.{RisesWaiting, RestsClosed}
 use Rattle.pushserver.specs.NumberedSessions.{AreApart, AreBelow, WaitBefore}
 use Rattle.pushserver.specs.Watched.{Watches}
 use Rattle.subscr.specs.Watching.{watching_of}
@@ -32,17 +36,32 @@ use Rattle.pushserver.specs.declared.hub_state.HubState.{HubState}
 use Rattle.pushserver.specs.declared.turning.Turn.{Turn}
 use Rattle.pushserver.specs.declared.turning.Turn.TheVariants as turns
 
-abbrev pub kept_of : HubState → KeptHub
-kept_of keeping = record { start = keeping.points.past.start; timers = keeping.timers; history = keeping.points.past.history; sessions = keeping.sessions; numbers_given = keeping.numbers_given }
+-- what is known of all entries
+abbrev pub seen_of : Past → Seen
+seen_of past = record { state = pasts.state_now past; newest = point_of past; counts = past.counts; number = past.number }
 
--- no number twice, and all were given out; the table has all records, each at home; names wait since the past, and can be told; each
--- session watches the names that it asks for
+abbrev pub kept_of : HubState → KeptHub
+kept_of keeping = record {
+  start = keeping.points.past.start;
+  timers = keeping.timers;
+  history = keeping.points.past.history;
+  seen = seen_of keeping.points.past;
+  sessions = keeping.sessions;
+  numbers_given = keeping.numbers_given;
+}
+
+-- no number twice, and all were given out; the table has all records, each at home; names wait since points that are kept, each behind
+-- those that wait longer, and can be told; none waits of a session that is stopped or has ended; each session watches the names that it
+-- asks for
 pub record IsSound (keeping : HubState) : Type 0 where
   pub apart : AreApart keeping.sessions
   pub index : keeping.index.rows ≡ records_now (kept_of keeping)
   pub home : AreAtHome (state_now (kept_of keeping))
   pub below : AreBelow keeping.numbers_given keeping.sessions
   pub waiting : WaitBefore (newest (kept_of keeping)) keeping.sessions
+  pub since : AllByRecursion (WaitSince keeping.points.past.number) keeping.sessions
+  pub rises : RisesWaiting keeping.sessions
+  pub rests : RestsClosed keeping.sessions
   pub told : AreTold keeping.index.rows
   pub packable : (number : ℕ) (session : KeptSession) → session_in number keeping.sessions ≡ Some session → CanBePacked keeping.index.rows session.queue
   pub watched : Watches (watching_of keeping.watchers) keeping.sessions
@@ -54,21 +73,21 @@ pub record IsHub (keeping : HubState) : Type 0 where
   pub hub : Hub
   pub stands : StandsFor (kept_of keeping) hub
 
--- what was done, and octets in front of what was there
+-- what was done, and octets in front of what was there; where an entry was made, some of the oldest may be forgotten
 pub record Gave (giving : KeptGiving) (given : Given) (before after : List ℕ) (kept : KeptHub) : Type 0 where
   pub given_is : given ≡ giving.given
   pub octets : after ≡ giving.octets ++ drop (length giving.octets) before
-  pub hub : kept ≡ giving.hub
+  pub hub : Forgets giving.hub kept
 
--- the session has this number in a hub with this past, what is granted, and these records
-pub record IsSeated (kept : KeptHub) (number : ℕ) (session : KeptSession) (past : Past) (timers : Timers) (rows : RecordSet) : Type 0 where
+-- the session has this number in a hub of this state, with what is granted, and these records
+pub record IsSeated (kept : KeptHub) (number : ℕ) (session : KeptSession) (state : State) (timers : Timers) (rows : RecordSet) : Type 0 where
   pub there : session_in number kept.sessions ≡ Some session
   pub apart : AreApart kept.sessions
-  pub past_is : past_of kept ≡ past
+  pub state_is : state_now kept ≡ state
   pub timers_is : kept.timers ≡ timers
   pub rows_is : rows ≡ records_now kept
 
--- the session of this number goes on without output, and its first message is an update that reads so
+-- the session of this number goes on without output, and its first message is an update that reads so and fits an empty journal
 pub record IsToJudge (number : ℕ) (found : Option Update) (sessions : Numbered KeptSession) : Type 0 where
   pub session : KeptSession
   pub there : session_in number sessions ≡ Some session
@@ -76,6 +95,7 @@ pub record IsToJudge (number : ℕ) (found : Option Update) (sessions : Numbered
   pub silent : session.output ≡ []
   pub request : request_of session ≡ Some requests.Update
   pub reads : update_in (message_of session) ≡ ok_or found formerr
+  pub fits : IfSome found (λ update. entry_size (entries.Update update) ≤ max_journal_octets)
 
 -- the same, and its first message reconfirms this record
 pub record IsToReconfirm (number : ℕ) (rr : Rr) (sessions : Numbered KeptSession) : Type 0 where

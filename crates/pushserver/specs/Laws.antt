@@ -2,14 +2,17 @@
 --     NothingWhereAllIsTold      when `give` has nothing to say
 --     NothingMeansAllIsShown      what was shown by then
 --     GiveChangesOneSession, OtherCallsKeepOutputs      what a call leaves as it was
+--     SessionsStayWithin      how much waits for a session at most
 --     SubscribeIsAnswered      what a SUBSCRIBE gets that none of the tests refuses
 --     MayWantMemory hub number      where memory may be wanted
-use Rattle.std.specs.Prelude.{◌≡◌, ◌⊎◌, ℕ, List, [], ◌++◌, Some, None, option_map}
+use Rattle.std.specs.Prelude.{◌≡◌, ◌⊎◌, ℕ, ◌≤◌, length, List, [], ◌++◌, Some, None, option_map}
 use Rattle.std.specs.List.{AllByRecursion}
+use Rattle.push_base.specs.Limits.{max_input, max_questions}
 use Rattle.rrset.specs.Header.{id_of}
 use Rattle.rrset.specs.RecordSet.{at_name, matching}
 use Rattle.rrset.specs.declared.record.Question.{Question}
 use Rattle.rrset.specs.Rcodes.{noerror}
+use Rattle.coalesce.specs.Sides.{frame_octets}
 use Rattle.dsotlv.specs.Messages.{first_message}
 use Rattle.dsotlv.specs.Answers.{answer_to}
 use Rattle.history.specs.declared.entry.Entry.{Entry}
@@ -21,7 +24,7 @@ use Rattle.pushsession.specs.Requests.{request_of}
 use Rattle.pushsession.specs.declared.request.Request.TheVariants as requests
 use Rattle.pushsession.specs.Subscribing.{Accept, first_answer_octets, verdict_on}
 use Rattle.pushserver.specs.PlainHubs.{Hub, Session, sent, first_answer, wanted}
-use Rattle.pushserver.specs.Hubs.{SessionKind, HubOf, keeps_now, records_now, session_of, entered, update, hear, moment, connect, take_octets, stop, disconnect}
+use Rattle.pushserver.specs.Hubs.{SessionKind, HubOf, keeps_now, records_now, session_of, entered_keeping, update, hear, moment, connect, take_octets, stop, disconnect}
 use Rattle.pushserver.specs.Giving.{has_home, give, reacted}
 use Rattle.pushserver.specs.SoundHubs.{IsSoundHub}
 use Rattle.pushserver.specs.ToldMessages.{TellsHistory, set_after}
@@ -51,7 +54,7 @@ pub record LeavesSession (hub later : Hub) (number : ℕ) : Type 0 where
 -- another session is as it was, or, where an entry is made, as that entry leaves it: at most one is made
 abbrev pub GiveChangesOneSession : Type 0
 GiveChangesOneSession = (hub : Hub) (number other room : ℕ) → (other ≡ number → ⊥)
-    → LeavesSession hub (give hub number room).hub other ⊎ ((entry : Entry) × LeavesSession (entered entry hub) (give hub number room).hub other)
+    → LeavesSession hub (give hub number room).hub other ⊎ ((entry : Entry) × LeavesSession (entered_keeping entry hub) (give hub number room).hub other)
 
 -- a session lives on, with the output that it had
 abbrev pub KeepsOutput : Hub → Hub → ℕ → Type 0
@@ -60,7 +63,7 @@ KeepsOutput hub later number = (before : Session) → session_of hub number ≡ 
 -- of the calls beside `give`, none changes an output, and `disconnect` alone takes a session away
 abbrev pub OtherCallsKeepOutputs : Type 0
 OtherCallsKeepOutputs = (hub : Hub) (number other : ℕ) (octets : List ℕ) (n m : ℕ)
-    → KeepsOutput hub (update hub octets).1 number × KeepsOutput hub (hear hub n octets).1 number × KeepsOutput hub (moment hub n).1 number
+    → KeepsOutput hub (update hub octets).1 number × KeepsOutput hub (hear hub n octets).1 number × KeepsOutput hub (moment hub n) number
     × KeepsOutput hub (connect hub).1 number × KeepsOutput hub (take_octets hub other octets) number × KeepsOutput hub (stop hub other n m) number
     × ((number ≡ other → ⊥) → KeepsOutput hub (disconnect hub other) number)
 
@@ -75,13 +78,18 @@ SubscribeIsAnswered = (hub : Hub) (number : ℕ) (session : Session) (message : 
     → option_map (λ s. s.output) (session_of (reacted message number hub) number)
     ≡ Some (session.output ++ first_answer_octets (answer_to (id_of message) noerror) (first_answer hub session question))
 
+-- no more names wait for a session than it has questions, and what came and what waits to go are within bounds
+abbrev pub SessionsStayWithin : Type 0
+SessionsStayWithin = (hub : Hub) (number : ℕ) (session : Session) → IsSoundHub hub → session_of hub number ≡ Some session
+    → (length session.queue ≤ length session.subscriptions) × (length session.subscriptions ≤ max_questions) × (length session.input ≤ max_input) × (length session.output ≤ frame_octets)
+
 -- memory may be wanted only where a SUBSCRIBE, a RECONFIRM or an update is reacted to: the session goes on, without output, and the message waits whole (RFC 8765, 6.2 and 6.5; RFC 2136, 3)
 pub record WantsMemoryFor {A Q M : Type 0} (session : SessionOf A Q M) : Type 0 where
   pub live : session.standing ≡ Live
   pub silent : session.output ≡ []
   pub reads : TakesMemory (request_of session)
 
-pub record MayWantMemory {A Q M : Type 0} {kind : SessionKind A Q M} (hub : HubOf kind) (number : ℕ) : Type 0 where
+pub record MayWantMemory {A Q M S : Type 0} {kind : SessionKind A Q M S} (hub : HubOf kind) (number : ℕ) : Type 0 where
   pub session : SessionOf A Q M
   pub there : session_of hub number ≡ Some session
   pub wants : WantsMemoryFor session

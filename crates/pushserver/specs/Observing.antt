@@ -34,7 +34,8 @@ told_of newest name (Some session) = told (note_of newest session) name
 abbrev pub told_in : Hub → ℕ → Labels → ℕ
 told_in hub number name = told_of (newest hub) name (session_of hub number)
 
--- each fault has its own word; a datagram that is read is entered, or none of its records is used, as where there is no such link
+-- each fault has its own word; a datagram that is read is entered, or none of its records is used, as where there is no such link, or the
+-- point is the last one
 abbrev pub SaysWhy : Heard → Result Hearing HearFault → Type 0
 SaysWhy heard (Err fault) = heard ≡ Ignored (why_not fault)
-SaysWhy heard (Ok hearing) = (heard ≡ Entered) ⊎ (heard ≡ Ignored whys.Nothing)
+SaysWhy heard (Ok hearing) = (heard ≡ Entered) ⊎ (heard ≡ Ignored whys.Nothing) ⊎ (heard ≡ Ignored whys.Last)

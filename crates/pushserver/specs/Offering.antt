@@ -1,8 +1,8 @@
--- An entry that is offered to a hub: it is made where it is accepted and the journal has room for it.
+-- An entry that is offered to a hub: it is made where it is accepted and the point isn't the last one.
 --     offered entry hub      what became of it, and the hub after it
 --     offered_changes entry hub      the keys that it would change
 --     code_of, heard_of      what that says of an update, which is never idle; of a hearing, which is never refused
-use Rattle.std.specs.Prelude.{ℕ, List, [], Option, Some, None, if◌then◌else◌}
+use Rattle.std.specs.Prelude.{ℕ, List, [], if◌then◌else◌}
 use Rattle.rrset.specs.Rcodes.{noerror, servfail}
 use Rattle.rrset.specs.declared.record.Changed.{Changed}
 use Rattle.history.specs.Plans.{Plan, refuse, idle, accept, planned}
@@ -12,14 +12,14 @@ use Rattle.pushserver.specs.declared.entering.Offered.TheVariants as offers
 use Rattle.pushserver.specs.declared.given.Heard.{Heard}
 use Rattle.pushserver.specs.declared.given.Heard.TheVariants.{Entered, Ignored}
 use Rattle.pushserver.specs.declared.given.Why.TheVariants as whys
-use Rattle.pushserver.specs.Hubs.{SessionKind, HubOf, state_now, entered, can_enter}
+use Rattle.pushserver.specs.Hubs.{SessionKind, HubOf, state_now, entered_keeping, can_enter}
 
-abbrev pub offered_by : {A Q M : Type 0} {kind : SessionKind A Q M} → Plan → Entry → HubOf kind → Offered × HubOf kind
+abbrev pub offered_by : {A Q M S : Type 0} {kind : SessionKind A Q M S} → Plan → Entry → HubOf kind → Offered × HubOf kind
 offered_by (refuse code) entry hub = (offers.Refused code, hub)
 offered_by idle entry hub = (offers.Idle, hub)
-offered_by (accept changed) entry hub = if can_enter hub entry then (offers.Made, entered entry hub) else (offers.Full, hub)
+offered_by (accept changed) entry hub = if can_enter hub then (offers.Made, entered_keeping entry hub) else (offers.Last, hub)
 
-abbrev pub offered : {A Q M : Type 0} {kind : SessionKind A Q M} → Entry → HubOf kind → Offered × HubOf kind
+abbrev pub offered : {A Q M S : Type 0} {kind : SessionKind A Q M S} → Entry → HubOf kind → Offered × HubOf kind
 offered entry hub = offered_by (planned (state_now hub) entry) entry hub
 
 abbrev pub code_of : Offered → ℕ
@@ -27,10 +27,10 @@ code_of (offers.Refused code) = code
 code_of offers.Made = noerror
 code_of _ = servfail
 
-abbrev pub heard_of : Offered → Option Heard
-heard_of offers.Idle = Some (Ignored whys.Nothing)
-heard_of offers.Made = Some Entered
-heard_of _ = None
+abbrev pub heard_of : Offered → Heard
+heard_of offers.Made = Entered
+heard_of offers.Last = Ignored whys.Last
+heard_of _ = Ignored whys.Nothing
 
 -- the keys that an entry which is offered would change: none where it isn't accepted
 abbrev pub changes_by : Plan → List Changed
@@ -38,5 +38,5 @@ changes_by (refuse code) = []
 changes_by idle = []
 changes_by (accept changed) = changed
 
-abbrev pub offered_changes : {A Q M : Type 0} {kind : SessionKind A Q M} → Entry → HubOf kind → List Changed
+abbrev pub offered_changes : {A Q M S : Type 0} {kind : SessionKind A Q M S} → Entry → HubOf kind → List Changed
 offered_changes entry hub = changes_by (planned (state_now hub) entry)

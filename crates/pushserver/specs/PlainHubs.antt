@@ -3,7 +3,7 @@
 --     told note name      the point that a note gives for a name
 --     sent_of, nets_of      the records that count as sent of a name; each name that waits with its net
 --     plain, Session, Hub      the kind of its sessions, a session, the hub
-use Rattle.std.specs.Prelude.{ℕ, ◌+◌, Bool, not, List, [], ◌∷◌, ◌++◌, map, length, filter, sum_by, find, if◌then◌else◌, Option, is_some, option_map, unwrap_or, ◌==◌}
+use Rattle.std.specs.Prelude.{ℕ, ◌+◌, Bool, not, List, [], ◌∷◌, ◌++◌, map, drop, length, filter, sum_by, find, if◌then◌else◌, Option, is_some, option_map, unwrap_or, ◌==◌}
 use Rattle.std.specs.List.{list_any, IsDistinct}
 use Rattle.dnsname.specs.Names.{Labels, same_name}
 use Rattle.rrset.specs.Records.{same_question}
@@ -16,8 +16,7 @@ use Rattle.dsotlv.specs.declared.message.Notice.{Notice}
 use Rattle.coalesce.specs.FirstAnswers.{told_first}
 use Rattle.coalesce.specs.Net.{Nets, each_net, packed}
 use Rattle.dsosession.specs.declared.session.Timers.{Timers}
-use Rattle.history.specs.Kept.{records_now}
-use Rattle.history.specs.States.{State, records_at}
+use Rattle.history.specs.States.{State, state_at, records_at}
 use Rattle.history.specs.declared.entry.Entry.{Entry}
 use Rattle.pushsession.specs.Sessions.{SessionOf, Keeps, least_of}
 use Rattle.pushsession.specs.Subscribing.{Tells}
@@ -104,14 +103,14 @@ sent_of start history subscriptions queue name = wanted subscriptions (at_name n
 
 -- the records of a name now, as the questions match them
 abbrev pub shown_of : State → List Entry → List Subscription → Labels → RecordSet
-shown_of start history subscriptions name = wanted subscriptions (at_name name (records_now (record { start = start; history = history })))
+shown_of start history subscriptions name = wanted subscriptions (at_name name (records_at start history (length history)))
 
 -- what follows the answer to a SUBSCRIBE (RFC 8765, 6.2.2): the name has changed where other records were sent of it than it has now.
 -- Whether it waits isn't asked: what counts as sent of a name that doesn't is what it has now
 abbrev pub first_notices : State → List Entry → Question → List Subscription → Queue → List Notice
 first_notices start history question subscriptions queue =
     let changed = not (same_rows (sent_of start history subscriptions queue question.name) (shown_of start history subscriptions question.name)) in
-    told_first changed question (asks_for subscriptions) (at_name question.name (records_now (record { start = start; history = history })))
+    told_first changed question (asks_for subscriptions) (at_name question.name (records_at start history (length history)))
 
 -- each queued name with its net
 abbrev pub nets_of : State → List Entry → List Subscription → Queue → Nets
@@ -124,7 +123,9 @@ plain_keeps newest = record {
   no_questions = [];
   count = λ subscriptions. length subscriptions;
   has_id = λ id subscriptions. is_some (subscription_of subscriptions id);
+  question_of = λ id subscriptions. option_map (λ s. s.question) (subscription_of subscriptions id);
   id_of = λ question subscriptions. option_map (λ s. s.id) (subscription_for subscriptions question);
+  watches = λ name subscriptions. list_any (λ s. same_name s.question.name name) subscriptions;
   wants = asks_for;
   with_question = λ id question end subscriptions. subscriptions ++ (record { id = id; question = question; filled = end }) ∷ [];
   without_id = λ id subscriptions. filter (λ s. not (s.id == id)) subscriptions;
@@ -143,8 +144,16 @@ plain_tells start history = record {
   packed = λ subscriptions queue. (let pack = packed (nets_of start history subscriptions queue) in (pack.0, stays_queued pack.1 queue));
 }
 
-abbrev pub plain : SessionKind (List Subscription) Queue (List Made)
-plain = record { keeps = plain_keeps; tells = plain_tells }
+-- it keeps all entries, and knows by them what there is to know
+abbrev pub plain : SessionKind (List Subscription) Queue (List Made) (Unit {0})
+plain = record {
+  keeps = plain_keeps;
+  tells = λ seen start history. plain_tells start history;
+  state = λ seen start history. state_at start history (length history);
+  newest = λ seen history. length history;
+  since = λ seen point history. drop point history;
+  enters = λ entry seen. seen;
+}
 
 abbrev pub Session : Type 0
 Session = SessionOf (List Subscription) Queue (List Made)
@@ -156,7 +165,7 @@ abbrev pub Giving : Type 0
 Giving = GivingOf plain
 
 abbrev pub new_hub : State → Timers → Hub
-new_hub start timers = empty_hub plain start timers
+new_hub start timers = empty_hub plain tt start timers
 
 abbrev pub note_of : ℕ → Session → Note
 note_of newest session = record { queue = session.queue; newest = newest }

@@ -2,6 +2,7 @@
 --     UpdatesStand, HearsStand, MomentsStand, ConnectsStand, TakesStand, StopsStand, EndsStand, GivesStand      each call
 --     HubsTell      what is told of records can be told
 --     CountsStand      both count alike
+--     ForgettingStands      where the oldest entries are forgotten
 use Rattle.std.specs.Prelude.{◌≡◌, ℕ, List, Some}
 use Rattle.coalesce.specs.Waiting.{CanBePacked}
 use Rattle.history.specs.Totals.{totals}
@@ -10,7 +11,7 @@ use Rattle.dsotlv.specs.Laws.{AreOctets}
 use Rattle.pushserver.specs.PlainHubs.{Hub, Giving}
 use Rattle.pushserver.specs.Hubs.{session_of, records_now, update, hear, moment, connect, taken_by, take_octets, stop, disconnect}
 use Rattle.pushserver.specs.Giving.{give}
-use Rattle.pushserver.specs.KeptHubs.{KeptHub, KeptGiving, StandsFor}
+use Rattle.pushserver.specs.KeptHubs.{KeptHub, KeptGiving, StandsFor, Forgets}
 use Rattle.pushserver.specs.Rows.{AreTold}
 
 -- one answer, and the kept hub stands for the plain one
@@ -24,7 +25,7 @@ abbrev pub HearsStand : Type 0
 HearsStand = (k : KeptHub) (hub : Hub) (link : ℕ) (datagram : List ℕ) → StandsFor k hub → AreOctets datagram → BothAnswer (hear k link datagram) (hear hub link datagram)
 
 abbrev pub MomentsStand : Type 0
-MomentsStand = (k : KeptHub) (hub : Hub) (t : ℕ) → StandsFor k hub → BothAnswer (moment k t) (moment hub t)
+MomentsStand = (k : KeptHub) (hub : Hub) (t : ℕ) → StandsFor k hub → StandsFor (moment k t) (moment hub t)
 
 abbrev pub ConnectsStand : Type 0
 ConnectsStand = (k : KeptHub) (hub : Hub) → StandsFor k hub → BothAnswer (connect k) (connect hub)
@@ -54,4 +55,8 @@ HubsTell = (k : KeptHub) (hub : Hub) → StandsFor k hub
 
 -- as many entries of each group, and as many sessions ever made
 abbrev pub CountsStand : Type 0
-CountsStand = (k : KeptHub) (hub : Hub) → StandsFor k hub → (totals k.history ≡ totals hub.history) × (k.numbers_given ≡ hub.numbers_given)
+CountsStand = (k : KeptHub) (hub : Hub) → StandsFor k hub → (k.seen.counts ≡ totals hub.history) × (k.numbers_given ≡ hub.numbers_given)
+
+-- where the oldest entries are forgotten, the same plain hub is stood for
+abbrev pub ForgettingStands : Type 0
+ForgettingStands = (k new : KeptHub) (hub : Hub) → StandsFor k hub → Forgets k new → StandsFor new hub

@@ -1,12 +1,13 @@
 //! The update that a message is (RFC 2136, 2), and the hearing that a datagram is (RFC 6762, 18).
 
-ghost use Rattle.std.specs.Prelude.{◌≡◌, ◌+◌, ◌≤◌, not, length, IfOk, ok_or};
+ghost use Rattle.std.specs.Prelude.{◌≡◌, ◌+◌, ◌≤◌, ℕ, not, length, IfOk, IfSome, ok_or};
 ghost use Rattle.push_base.specs.Cases.{fault_as};
 ghost use Rattle.dnsname.specs.Reading.{place_of};
 ghost use Rattle.dnswire.specs.Reading.{hearing_of};
 ghost use Rattle.rrset.specs.Rcodes.{formerr};
 ghost use Rattle.rrset.specs.Header.{two_octets};
-ghost use Rattle.history.specs.States.{lacks_update_header, update_in};
+ghost use Rattle.history.specs.States.{entry_size, lacks_update_header, max_journal_octets, update_in};
+ghost use Rattle.history.specs.declared.entry.Entry.TheVariants as entries;
 ghost use Rattle.pushserver.specs.Hubs.{why_not, wire_place};
 
 use crate::given::Why;
@@ -37,7 +38,7 @@ fn has_update_header(message: &[u8]) -> bool
 }
 
 /// The update that a message is, if it is one.
-pub(crate) fn read_message(alloc: Global, message: &[u8]) -> Result<Option<Update>, NoMemory>
+fn find_update(alloc: Global, message: &[u8]) -> Result<Option<Update>, NoMemory>
     ensures { IfOk result (λ found. update_in message.now ≡ ok_or found formerr) }
 {
     if !has_update_header(message) {
@@ -51,6 +52,15 @@ pub(crate) fn read_message(alloc: Global, message: &[u8]) -> Result<Option<Updat
         Err(WireFault::Name(_)) => Ok(None),
         Err(WireFault::Rdata(_)) => Ok(None),
     }
+}
+
+/// The update that a message is, if it is one. It fits an empty journal.
+pub(crate) fn read_message(alloc: Global, message: &[u8]) -> Result<Option<Update>, NoMemory>
+    ensures found { IfOk result (λ found. update_in message.now ≡ ok_or found formerr) }
+    ensures fits { IfOk result (λ found. IfSome found (λ update. entry_size (entries.Update update) ≤ max_journal_octets)) }
+{
+    let found = find_update(alloc, message)?;
+    Ok(found)
 }
 
 /// The place of a fault in a name; 0 for want of memory.
@@ -92,10 +102,7 @@ fn why_not(fault: HearFault) -> Why
 }
 
 /// What a datagram of a link says, or why it is ignored (RFC 6762, 18).
-pub(crate) fn read_datagram(
-    alloc: Global,
-    datagram: &[u8],
-) -> Result<Result<Hearing, Why>, NoMemory>
+fn find_hearing(alloc: Global, datagram: &[u8]) -> Result<Result<Hearing, Why>, NoMemory>
     ensures { IfOk result (λ read. fault_as why_not (hearing_of datagram.now) ≡ read) }
 {
     match read_hearing(alloc, datagram) {
@@ -103,4 +110,16 @@ pub(crate) fn read_datagram(
         Err(HearFault::NoMemory) => Err(NoMemory),
         Err(fault) => Ok(Err(why_not(fault))),
     }
+}
+
+/// What a datagram of a link says, or why it is ignored (RFC 6762, 18). It fits an empty journal.
+pub(crate) fn read_datagram(
+    alloc: Global,
+    datagram: &[u8],
+) -> Result<Result<Hearing, Why>, NoMemory>
+    ensures read { IfOk result (λ read. fault_as why_not (hearing_of datagram.now) ≡ read) }
+    ensures fits { IfOk result (λ read. IfOk read (λ hearing. (link : ℕ) → entry_size (entries.Heard link hearing) ≤ max_journal_octets)) }
+{
+    let read = find_hearing(alloc, datagram)?;
+    Ok(read)
 }

@@ -13,9 +13,6 @@ pub enum HubFault {
     /// Memory ran out.
     #[error("out of memory")]
     NoMemory,
-    /// The journal has no room for one more entry.
-    #[error("the journal is full")]
-    Full,
 }
 
 impl From<AllocError> for HubFault {

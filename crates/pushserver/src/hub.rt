@@ -1,16 +1,16 @@
 //! The server's core: one history, and the sessions that are told of it.
 
-ghost use Rattle.std.specs.Prelude.{◌≡◌, ◌≤◌, ◌<◌, ◌+◌, ◌++◌, None, Some, drop, false, length, true, IfOk, IsErrOf, OnErr, OnOk};
+ghost use Rattle.std.specs.Prelude.{◌≡◌, ◌≤◌, ◌<◌, ◌+◌, ◌++◌, None, Some, drop, length, true, IfOk, IsErrOf, OnErr, OnOk};
 ghost use Rattle.push_base.specs.Limits.{max_moment};
 ghost use Rattle.dnswire.specs.Reading.{hearing_of};
 ghost use Rattle.history.specs.Kept.{state_of};
 ghost use Rattle.history.specs.Plans.{IsStart};
 ghost use Rattle.pushserver.specs.Counting.{AddsHearing, MayAddChange, MayAddMoment, octets_of};
 ghost use Rattle.pushserver.specs.Giving.{give};
-ghost use Rattle.pushserver.specs.Hubs.{connect, empty_hub, disconnect, hear, max_sessions, moment, stop, take_octets, taken_by, update};
+ghost use Rattle.pushserver.specs.Hubs.{can_enter, connect, disconnect, hear, max_sessions, moment, stop, take_octets, taken_by, update};
 ghost use Rattle.pushserver.specs.Laws.{MayWantMemory};
 ghost use Rattle.pushserver.specs.Observing.{SaysWhy};
-ghost use Rattle.pushserver.specs.KeptHubs.{StandsFor, kept};
+ghost use Rattle.pushserver.specs.KeptHubs.{Forgets, StandsFor, new_kept};
 ghost use Rattle.pushserver.specs.PlainHubs.{Hub as Plain, new_hub};
 ghost use Rattle.pushserver.specs.Watched.{allowed, hear_changes, update_changes};
 ghost use Rattle.push_base.specs.Counted.{CountsUpTo};
@@ -26,7 +26,8 @@ use std::marker::{Brand, Model};
 use std::sync::ledger::{Blank, Ledger};
 
 /// One history of all homes, and the sessions, each told of what it asks for (RFC 8765). It stands for a plain hub, which
-/// keeps nothing that the history tells. All moments are milliseconds of one clock.
+/// keeps nothing that the history tells. Of the history the newest entries are kept, at most 65,536, of at most 67,108,864
+/// octets; a session that would need more than these ends as behind. All moments are milliseconds of one clock.
 #[derive(Debug, Drop)]
 pub struct Hub {
     pub(crate) keeping: HubState,
@@ -49,14 +50,14 @@ impl Hub {
     pub fn new(homes: Homes, timers: Timers) -> Result<Hub, NoMemory>
         requires { IsStart (state_of homes) }
         ensures stands { IfOk result (λ hub. StandsFor hub (new_hub (state_of homes) timers)) }
-        ensures kept { IfOk result (λ hub. hub ≡ empty_hub kept (state_of homes) timers) }
+        ensures kept { IfOk result (λ hub. hub ≡ new_kept (state_of homes) timers) }
     {
         let keeping = HubState::new(homes, timers)?;
         Ok(Hub { keeping })
     }
 
     /// Judges an update message, and enters it where it is accepted (RFC 2136, 3). Gives its RCODE: FORMERR for what is
-    /// no update, SERVFAIL where the journal has no room. It is never `Full`.
+    /// no update, SERVFAIL at the last point.
     /// At most 8 steps are counted, and 8 for each key that it changes, and 4 for each session that watches the key's name,
     /// whatever the answer is.
     pub fn update<L: Ledger>(
@@ -65,9 +66,8 @@ impl Hub {
         steps: &mut Steps<L>,
     ) -> Result<u8, HubFault>
         ensures ok { IfOk result (λ code. (hub : Plain) → StandsFor self.old hub → (code ≡ (update hub message.now).0) × StandsFor self.new (update hub message.now).1) }
-        ensures never { IsErrOf result HubFault.Full → ⊥ }
         ensures err { OnErr result ((hub : Plain) → StandsFor self.old hub → StandsFor self.new hub) }
-        ensures kept { IfOk result (λ code. (code ≡ (update self.old message.now).0) × (self.new ≡ (update self.old message.now).1)) }
+        ensures kept { IfOk result (λ code. (code ≡ (update self.old message.now).0) × Forgets (update self.old message.now).1 self.new) }
         ensures same { OnErr result (self.new ≡ self.old) }
         ensures steps { CountsUpTo (allowed self.old (update_changes self.old message.now)) steps.old steps.new }
     {
@@ -77,9 +77,8 @@ impl Hub {
     /// The same where nobody counts steps.
     pub fn update_uncounted(&mut self, message: &[u8]) -> Result<u8, HubFault>
         ensures ok { IfOk result (λ code. (hub : Plain) → StandsFor self.old hub → (code ≡ (update hub message.now).0) × StandsFor self.new (update hub message.now).1) }
-        ensures never { IsErrOf result HubFault.Full → ⊥ }
         ensures err { OnErr result ((hub : Plain) → StandsFor self.old hub → StandsFor self.new hub) }
-        ensures kept { IfOk result (λ code. (code ≡ (update self.old message.now).0) × (self.new ≡ (update self.old message.now).1)) }
+        ensures kept { IfOk result (λ code. (code ≡ (update self.old message.now).0) × Forgets (update self.old message.now).1 self.new) }
         ensures same { OnErr result (self.new ≡ self.old) }
     {
         self.update_under::<Brand>(Blank::new(1), message)
@@ -91,9 +90,8 @@ impl Hub {
         requires parts { blank.parts ≡ L.parts }
         requires some { 0 < blank.parts }
         ensures ok { IfOk result (λ code. (hub : Plain) → StandsFor self.old hub → (code ≡ (update hub message.now).0) × StandsFor self.new (update hub message.now).1) }
-        ensures never { IsErrOf result HubFault.Full → ⊥ }
         ensures err { OnErr result ((hub : Plain) → StandsFor self.old hub → StandsFor self.new hub) }
-        ensures kept { IfOk result (λ code. (code ≡ (update self.old message.now).0) × (self.new ≡ (update self.old message.now).1)) }
+        ensures kept { IfOk result (λ code. (code ≡ (update self.old message.now).0) × Forgets (update self.old message.now).1 self.new) }
         ensures same { OnErr result (self.new ≡ self.old) }
     {
         let mut steps = Steps::<L>::begin(blank);
@@ -101,8 +99,7 @@ impl Hub {
     }
 
     /// Hears a datagram of a link, counted from 0 (RFC 6762, 18), and enters it where a record of it is used. `Ignored`: it is
-    /// no hearing, or none of its records is used, as where there is no such link. `Full`: it could be entered, and the journal
-    /// has no room for it.
+    /// no hearing, none of its records is used, as where there is no such link, or the point is the last one.
     /// At most 8 steps are counted, and 8 for each key that it changes, and 4 for each session that watches the key's name,
     /// whatever the answer is.
     pub fn hear<L: Ledger>(
@@ -111,29 +108,22 @@ impl Hub {
         datagram: &[u8],
         steps: &mut Steps<L>,
     ) -> Result<Heard, HubFault>
-        ensures ok { IfOk result (λ heard. (hub : Plain) → StandsFor self.old hub → ((hear hub link datagram.now).0 ≡ Some heard) × StandsFor self.new (hear hub link datagram.now).1) }
-        ensures full { IsErrOf result HubFault.Full → (hub : Plain) → StandsFor self.old hub → ((hear hub link datagram.now).0 ≡ None) × StandsFor self.new (hear hub link datagram.now).1 }
+        ensures ok { IfOk result (λ heard. (hub : Plain) → StandsFor self.old hub → (heard ≡ (hear hub link datagram.now).0) × StandsFor self.new (hear hub link datagram.now).1) }
         ensures err { OnErr result ((hub : Plain) → StandsFor self.old hub → StandsFor self.new hub) }
-        ensures kept { IfOk result (λ heard. ((hear self.old link datagram.now).0 ≡ Some heard) × (self.new ≡ (hear self.old link datagram.now).1)) }
-        ensures no_room { IsErrOf result HubFault.Full → (hear self.old link datagram.now).0 ≡ None }
+        ensures kept { IfOk result (λ heard. (heard ≡ (hear self.old link datagram.now).0) × Forgets (hear self.old link datagram.now).1 self.new) }
         ensures same { OnErr result (self.new ≡ self.old) }
         ensures unread { IfOk result (λ heard. SaysWhy heard (hearing_of datagram.now)) }
         ensures counts { AddsHearing result self.old self.new }
         ensures steps { CountsUpTo (allowed self.old (hear_changes self.old link datagram.now)) steps.old steps.new }
     {
-        let Some(heard) = self.keeping.hear(link, datagram, steps)? else {
-            return Err(HubFault::Full);
-        };
-        Ok(heard)
+        Ok(self.keeping.hear(link, datagram, steps)?)
     }
 
     /// The same where nobody counts steps.
     pub fn hear_uncounted(&mut self, link: usize, datagram: &[u8]) -> Result<Heard, HubFault>
-        ensures ok { IfOk result (λ heard. (hub : Plain) → StandsFor self.old hub → ((hear hub link datagram.now).0 ≡ Some heard) × StandsFor self.new (hear hub link datagram.now).1) }
-        ensures full { IsErrOf result HubFault.Full → (hub : Plain) → StandsFor self.old hub → ((hear hub link datagram.now).0 ≡ None) × StandsFor self.new (hear hub link datagram.now).1 }
+        ensures ok { IfOk result (λ heard. (hub : Plain) → StandsFor self.old hub → (heard ≡ (hear hub link datagram.now).0) × StandsFor self.new (hear hub link datagram.now).1) }
         ensures err { OnErr result ((hub : Plain) → StandsFor self.old hub → StandsFor self.new hub) }
-        ensures kept { IfOk result (λ heard. ((hear self.old link datagram.now).0 ≡ Some heard) × (self.new ≡ (hear self.old link datagram.now).1)) }
-        ensures no_room { IsErrOf result HubFault.Full → (hear self.old link datagram.now).0 ≡ None }
+        ensures kept { IfOk result (λ heard. (heard ≡ (hear self.old link datagram.now).0) × Forgets (hear self.old link datagram.now).1 self.new) }
         ensures same { OnErr result (self.new ≡ self.old) }
         ensures unread { IfOk result (λ heard. SaysWhy heard (hearing_of datagram.now)) }
         ensures counts { AddsHearing result self.old self.new }
@@ -151,11 +141,9 @@ impl Hub {
         requires name { blank.name ≡ L.name }
         requires parts { blank.parts ≡ L.parts }
         requires some { 0 < blank.parts }
-        ensures ok { IfOk result (λ heard. (hub : Plain) → StandsFor self.old hub → ((hear hub link datagram.now).0 ≡ Some heard) × StandsFor self.new (hear hub link datagram.now).1) }
-        ensures full { IsErrOf result HubFault.Full → (hub : Plain) → StandsFor self.old hub → ((hear hub link datagram.now).0 ≡ None) × StandsFor self.new (hear hub link datagram.now).1 }
+        ensures ok { IfOk result (λ heard. (hub : Plain) → StandsFor self.old hub → (heard ≡ (hear hub link datagram.now).0) × StandsFor self.new (hear hub link datagram.now).1) }
         ensures err { OnErr result ((hub : Plain) → StandsFor self.old hub → StandsFor self.new hub) }
-        ensures kept { IfOk result (λ heard. ((hear self.old link datagram.now).0 ≡ Some heard) × (self.new ≡ (hear self.old link datagram.now).1)) }
-        ensures no_room { IsErrOf result HubFault.Full → (hear self.old link datagram.now).0 ≡ None }
+        ensures kept { IfOk result (λ heard. (heard ≡ (hear self.old link datagram.now).0) × Forgets (hear self.old link datagram.now).1 self.new) }
         ensures same { OnErr result (self.new ≡ self.old) }
         ensures unread { IfOk result (λ heard. SaysWhy heard (hearing_of datagram.now)) }
         ensures counts { AddsHearing result self.old self.new }
@@ -165,34 +153,27 @@ impl Hub {
     }
 
     /// It is a moment: where it is a later one, it is entered, and sessions end by their timers (RFC 8490, 6.4 to 6.6).
-    /// `Full`: the journal has no room for it, which is told before any memory is taken.
+    /// At the last point nothing happens.
     pub fn moment<L: Ledger>(&mut self, at: u64, steps: &mut Steps<L>) -> Result<(), HubFault>
         requires { at ≤ max_moment }
-        ensures ok { OnOk result ((hub : Plain) → StandsFor self.old hub → ((moment hub at).0 ≡ false) × StandsFor self.new (moment hub at).1) }
-        ensures full { IsErrOf result HubFault.Full → (hub : Plain) → StandsFor self.old hub → ((moment hub at).0 ≡ true) × StandsFor self.new (moment hub at).1 }
+        ensures ok { OnOk result ((hub : Plain) → StandsFor self.old hub → StandsFor self.new (moment hub at)) }
         ensures err { OnErr result ((hub : Plain) → StandsFor self.old hub → StandsFor self.new hub) }
-        ensures kept { OnOk result (((moment self.old at).0 ≡ false) × (self.new ≡ (moment self.old at).1)) }
+        ensures kept { OnOk result (Forgets (moment self.old at) self.new) }
         ensures same { OnErr result (self.new ≡ self.old) }
-        ensures room { IsErrOf result HubFault.NoMemory → (moment self.old at).0 ≡ false }
-        ensures no_room { IsErrOf result HubFault.Full → (moment self.old at).0 ≡ true }
+        ensures room { OnErr result (can_enter self.old ≡ true) }
         ensures counts { MayAddMoment self.old self.new }
     {
-        if self.keeping.moment(at, steps)? {
-            return Err(HubFault::Full);
-        }
-        Ok(())
+        Ok(self.keeping.moment(at, steps)?)
     }
 
     /// The same where nobody counts steps.
     pub fn moment_uncounted(&mut self, at: u64) -> Result<(), HubFault>
         requires { at ≤ max_moment }
-        ensures ok { OnOk result ((hub : Plain) → StandsFor self.old hub → ((moment hub at).0 ≡ false) × StandsFor self.new (moment hub at).1) }
-        ensures full { IsErrOf result HubFault.Full → (hub : Plain) → StandsFor self.old hub → ((moment hub at).0 ≡ true) × StandsFor self.new (moment hub at).1 }
+        ensures ok { OnOk result ((hub : Plain) → StandsFor self.old hub → StandsFor self.new (moment hub at)) }
         ensures err { OnErr result ((hub : Plain) → StandsFor self.old hub → StandsFor self.new hub) }
-        ensures kept { OnOk result (((moment self.old at).0 ≡ false) × (self.new ≡ (moment self.old at).1)) }
+        ensures kept { OnOk result (Forgets (moment self.old at) self.new) }
         ensures same { OnErr result (self.new ≡ self.old) }
-        ensures room { IsErrOf result HubFault.NoMemory → (moment self.old at).0 ≡ false }
-        ensures no_room { IsErrOf result HubFault.Full → (moment self.old at).0 ≡ true }
+        ensures room { OnErr result (can_enter self.old ≡ true) }
         ensures counts { MayAddMoment self.old self.new }
     {
         self.moment_under::<Brand>(Blank::new(1), at)
@@ -204,13 +185,11 @@ impl Hub {
         requires parts { blank.parts ≡ L.parts }
         requires some { 0 < blank.parts }
         requires timely { at ≤ max_moment }
-        ensures ok { OnOk result ((hub : Plain) → StandsFor self.old hub → ((moment hub at).0 ≡ false) × StandsFor self.new (moment hub at).1) }
-        ensures full { IsErrOf result HubFault.Full → (hub : Plain) → StandsFor self.old hub → ((moment hub at).0 ≡ true) × StandsFor self.new (moment hub at).1 }
+        ensures ok { OnOk result ((hub : Plain) → StandsFor self.old hub → StandsFor self.new (moment hub at)) }
         ensures err { OnErr result ((hub : Plain) → StandsFor self.old hub → StandsFor self.new hub) }
-        ensures kept { OnOk result (((moment self.old at).0 ≡ false) × (self.new ≡ (moment self.old at).1)) }
+        ensures kept { OnOk result (Forgets (moment self.old at) self.new) }
         ensures same { OnErr result (self.new ≡ self.old) }
-        ensures room { IsErrOf result HubFault.NoMemory → (moment self.old at).0 ≡ false }
-        ensures no_room { IsErrOf result HubFault.Full → (moment self.old at).0 ≡ true }
+        ensures room { OnErr result (can_enter self.old ≡ true) }
         ensures counts { MayAddMoment self.old self.new }
     {
         let mut steps = Steps::<L>::begin(blank);
@@ -227,7 +206,7 @@ impl Hub {
         ensures same { OnErr result (self.new ≡ self.old) }
         ensures seat { IsErrOf result ConnectFault.NoMemory → (connect self.old).0 ≡ Some self.old.numbers_given }
         ensures seats { IsErrOf result ConnectFault.NoSeat → (connect self.old).0 ≡ None }
-        ensures counts { IfOk result (λ number. (number ≡ self.old.numbers_given) × (self.new.numbers_given ≡ self.old.numbers_given + 1) × (self.new.history ≡ self.old.history)) }
+        ensures counts { IfOk result (λ number. (number ≡ self.old.numbers_given) × (self.new.numbers_given ≡ self.old.numbers_given + 1) × (self.new.seen ≡ self.old.seen)) }
         ensures many { IsErrOf result ConnectFault.NoSeat → max_sessions ≤ self.old.numbers_given }
     {
         let Some(number) = self.keeping.connect()? else {
@@ -247,7 +226,7 @@ impl Hub {
     }
 
     /// One piece of work for a session, in its order: octets of its output that wait, its stop, the reaction to one whole
-    /// message, or a PUSH of what has changed. Octets are written to the front of `buf`. It is never `Full`.
+    /// message, or a PUSH of what has changed. Octets are written to the front of `buf`.
     /// Want of memory comes only where a SUBSCRIBE, a RECONFIRM or an update is reacted to.
     pub fn give<L: Ledger>(
         &mut self,
@@ -256,10 +235,9 @@ impl Hub {
         steps: &mut Steps<L>,
     ) -> Result<Given, HubFault>
         ensures ok { IfOk result (λ given. (hub : Plain) → StandsFor self.old hub → (given ≡ (give hub session (length buf.old)).given) × (buf.new ≡ (give hub session (length buf.old)).octets ++ drop (length (give hub session (length buf.old)).octets) buf.old) × StandsFor self.new (give hub session (length buf.old)).hub) }
-        ensures never { IsErrOf result HubFault.Full → ⊥ }
         ensures err { OnErr result ((hub : Plain) → StandsFor self.old hub → StandsFor self.new hub) }
         ensures memory { OnErr result ((hub : Plain) → StandsFor self.old hub → MayWantMemory hub session) }
-        ensures kept { OnOk result (self.new ≡ (give self.old session (length buf.old)).hub) }
+        ensures kept { OnOk result (Forgets (give self.old session (length buf.old)).hub self.new) }
         ensures same { OnErr result (self.new ≡ self.old) }
         ensures bound { IfOk result (λ given. octets_of given ≤ length buf.old) }
         ensures counts { MayAddChange self.old self.new }
@@ -270,10 +248,9 @@ impl Hub {
     /// The same where nobody counts steps.
     pub fn give_uncounted(&mut self, session: u64, buf: &mut [u8]) -> Result<Given, HubFault>
         ensures ok { IfOk result (λ given. (hub : Plain) → StandsFor self.old hub → (given ≡ (give hub session (length buf.old)).given) × (buf.new ≡ (give hub session (length buf.old)).octets ++ drop (length (give hub session (length buf.old)).octets) buf.old) × StandsFor self.new (give hub session (length buf.old)).hub) }
-        ensures never { IsErrOf result HubFault.Full → ⊥ }
         ensures err { OnErr result ((hub : Plain) → StandsFor self.old hub → StandsFor self.new hub) }
         ensures memory { OnErr result ((hub : Plain) → StandsFor self.old hub → MayWantMemory hub session) }
-        ensures kept { OnOk result (self.new ≡ (give self.old session (length buf.old)).hub) }
+        ensures kept { OnOk result (Forgets (give self.old session (length buf.old)).hub self.new) }
         ensures same { OnErr result (self.new ≡ self.old) }
         ensures bound { IfOk result (λ given. octets_of given ≤ length buf.old) }
         ensures counts { MayAddChange self.old self.new }
@@ -292,10 +269,9 @@ impl Hub {
         requires parts { blank.parts ≡ L.parts }
         requires some { 0 < blank.parts }
         ensures ok { IfOk result (λ given. (hub : Plain) → StandsFor self.old hub → (given ≡ (give hub session (length buf.old)).given) × (buf.new ≡ (give hub session (length buf.old)).octets ++ drop (length (give hub session (length buf.old)).octets) buf.old) × StandsFor self.new (give hub session (length buf.old)).hub) }
-        ensures never { IsErrOf result HubFault.Full → ⊥ }
         ensures err { OnErr result ((hub : Plain) → StandsFor self.old hub → StandsFor self.new hub) }
         ensures memory { OnErr result ((hub : Plain) → StandsFor self.old hub → MayWantMemory hub session) }
-        ensures kept { OnOk result (self.new ≡ (give self.old session (length buf.old)).hub) }
+        ensures kept { OnOk result (Forgets (give self.old session (length buf.old)).hub self.new) }
         ensures same { OnErr result (self.new ≡ self.old) }
         ensures bound { IfOk result (λ given. octets_of given ≤ length buf.old) }
         ensures counts { MayAddChange self.old self.new }

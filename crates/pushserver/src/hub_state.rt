@@ -1,6 +1,6 @@
 //! What the hub keeps, and what its calls do to that.
 
-ghost use Rattle.std.specs.Prelude.{◌≡◌, ◌≤◌, List, ℕ, Ok, Some, false, length, IfOk, IsTrue, OnErr, OnOk, ok_or};
+ghost use Rattle.std.specs.Prelude.{◌≡◌, ◌≤◌, List, ℕ, Ok, Some, length, true, IfOk, IfSome, IsTrue, OnErr, OnOk, ok_or};
 ghost use Rattle.std.specs.List.{AllByRecursion};
 ghost use Rattle.push_base.specs.Limits.{max_moment};
 ghost use Rattle.dnsname.specs.Names.{is_name};
@@ -9,10 +9,11 @@ ghost use Rattle.dnswire.specs.Reading.{hearing_of};
 ghost use Rattle.history.specs.Kept.{state_of};
 ghost use Rattle.history.specs.Plans.{IsStart};
 ghost use Rattle.history.specs.AtHome.{AreAtHome, homes_in};
-ghost use Rattle.history.specs.States.{update_in};
-ghost use Rattle.pushserver.specs.Hubs.{connect, empty_hub, disconnect, hear, moment, records_now, stop, take_octets, taken_by, update};
+ghost use Rattle.history.specs.States.{entry_size, max_journal_octets, update_in};
+ghost use Rattle.history.specs.declared.entry.Entry.TheVariants as entries;
+ghost use Rattle.pushserver.specs.Hubs.{can_enter, connect, disconnect, hear, moment, records_now, stop, take_octets, taken_by, update};
 ghost use Rattle.pushserver.specs.Giving.{reconfirm};
-ghost use Rattle.pushserver.specs.KeptHubs.{kept};
+ghost use Rattle.pushserver.specs.KeptHubs.{Forgets, new_kept};
 ghost use Rattle.pushserver.specs.HubState.{IsSound, kept_of};
 ghost use Rattle.pushserver.specs.Watched.{Watches, allowed, hear_changes, update_changes};
 ghost use Rattle.push_base.specs.Counted.{CountsUpTo};
@@ -52,7 +53,7 @@ impl HubState {
     /// What is kept of homes in which nothing has changed yet.
     pub(crate) fn new(homes: Homes, timers: Timers) -> Result<HubState, NoMemory>
         requires { IsStart (state_of homes) }
-        ensures kept { IfOk result (λ keeping. kept_of keeping ≡ empty_hub kept (state_of homes) timers) }
+        ensures kept { IfOk result (λ keeping. kept_of keeping ≡ new_kept (state_of homes) timers) }
         ensures index { IfOk result (λ keeping. keeping.index.rows ≡ records_now (kept_of keeping)) }
         ensures watched { IfOk result (λ keeping. Watches (watching_of keeping.watchers) keeping.sessions) }
         ensures home { AreAtHome (state_of homes) }
@@ -77,16 +78,17 @@ impl HubState {
         self.sessions.allocator()
     }
 
-    /// Judges the update that a message is, if it is one, and enters it where it is accepted and the journal has room.
-    /// Gives its RCODE: FORMERR for what is no update, SERVFAIL where the journal has no room (RFC 2136, 2.2).
+    /// Judges the update that a message is, if it is one, and enters it where it is accepted. Gives its RCODE: FORMERR for
+    /// what is no update, SERVFAIL at the last point (RFC 2136, 2.2).
     pub(crate) fn judge<L: Ledger>(
         &mut self,
         found: Option<Update>,
         steps: &mut Steps<L>,
     ) -> Result<u8, NoMemory>
-        requires { IsSound self.old }
+        requires sound { IsSound self.old }
+        requires fits { IfSome found (λ update. entry_size (entries.Update update) ≤ max_journal_octets) }
         ensures code { IfOk result (λ code. (message : List ℕ) → update_in message ≡ ok_or found formerr → code ≡ (update (kept_of self.old) message).0) }
-        ensures hub { IfOk result (λ code. (message : List ℕ) → update_in message ≡ ok_or found formerr → kept_of self.new ≡ (update (kept_of self.old) message).1) }
+        ensures hub { IfOk result (λ code. (message : List ℕ) → update_in message ≡ ok_or found formerr → Forgets (update (kept_of self.old) message).1 (kept_of self.new)) }
         ensures err { OnErr result (kept_of self.new ≡ kept_of self.old) }
         ensures index { self.new.index.rows ≡ records_now (kept_of self.new) }
         ensures watched { Watches (watching_of self.new.watchers) self.new.sessions }
@@ -107,7 +109,7 @@ impl HubState {
     ) -> Result<u8, NoMemory>
         requires { IsSound self.old }
         ensures code { IfOk result (λ code. code ≡ (update (kept_of self.old) message.now).0) }
-        ensures hub { IfOk result (λ code. kept_of self.new ≡ (update (kept_of self.old) message.now).1) }
+        ensures hub { IfOk result (λ code. Forgets (update (kept_of self.old) message.now).1 (kept_of self.new)) }
         ensures err { OnErr result (kept_of self.new ≡ kept_of self.old) }
         ensures index { self.new.index.rows ≡ records_now (kept_of self.new) }
         ensures watched { Watches (watching_of self.new.watchers) self.new.sessions }
@@ -118,17 +120,17 @@ impl HubState {
         self.judge(found, steps)
     }
 
-    /// Enters what a datagram of a link said where a record of it can be used and the journal has room. Nothing where the
-    /// journal is full.
+    /// Enters what a datagram of a link said where a record of it can be used.
     fn enter_hearing<L: Ledger>(
         &mut self,
         link: usize,
         hearing: Hearing,
         steps: &mut Steps<L>,
-    ) -> Result<Option<Heard>, NoMemory>
-        requires { IsSound self.old }
+    ) -> Result<Heard, NoMemory>
+        requires sound { IsSound self.old }
+        requires fits { entry_size (entries.Heard link hearing) ≤ max_journal_octets }
         ensures heard { IfOk result (λ heard. (datagram : List ℕ) → hearing_of datagram ≡ Ok hearing → heard ≡ (hear (kept_of self.old) link datagram).0) }
-        ensures hub { IfOk result (λ heard. (datagram : List ℕ) → hearing_of datagram ≡ Ok hearing → kept_of self.new ≡ (hear (kept_of self.old) link datagram).1) }
+        ensures hub { IfOk result (λ heard. (datagram : List ℕ) → hearing_of datagram ≡ Ok hearing → Forgets (hear (kept_of self.old) link datagram).1 (kept_of self.new)) }
         ensures err { OnErr result (kept_of self.new ≡ kept_of self.old) }
         ensures index { self.new.index.rows ≡ records_now (kept_of self.new) }
         ensures watched { Watches (watching_of self.new.watchers) self.new.sessions }
@@ -139,16 +141,16 @@ impl HubState {
         Ok(heard_of(offered))
     }
 
-    /// Hears a datagram of a link, counted from 0 (RFC 6762, 18). Nothing where the journal is full.
+    /// Hears a datagram of a link, counted from 0 (RFC 6762, 18).
     pub(crate) fn hear<L: Ledger>(
         &mut self,
         link: usize,
         datagram: &[u8],
         steps: &mut Steps<L>,
-    ) -> Result<Option<Heard>, NoMemory>
+    ) -> Result<Heard, NoMemory>
         requires { IsSound self.old }
         ensures heard { IfOk result (λ heard. heard ≡ (hear (kept_of self.old) link datagram.now).0) }
-        ensures hub { IfOk result (λ heard. kept_of self.new ≡ (hear (kept_of self.old) link datagram.now).1) }
+        ensures hub { IfOk result (λ heard. Forgets (hear (kept_of self.old) link datagram.now).1 (kept_of self.new)) }
         ensures err { OnErr result (kept_of self.new ≡ kept_of self.old) }
         ensures index { self.new.index.rows ≡ records_now (kept_of self.new) }
         ensures watched { Watches (watching_of self.new.watchers) self.new.sessions }
@@ -157,18 +159,18 @@ impl HubState {
         let alloc = self.allocator();
         match read_datagram(alloc, datagram)? {
             Ok(hearing) => self.enter_hearing(link, hearing, steps),
-            Err(why) => Ok(Some(Heard::Ignored(why))),
+            Err(why) => Ok(Heard::Ignored(why)),
         }
     }
 
-    /// Reconfirms a record where a link shows it and the journal has room; else it is ignored (RFC 8765, 6.5).
+    /// Reconfirms a record where a link shows it; else it is ignored (RFC 8765, 6.5).
     pub(crate) fn reconfirm<L: Ledger>(
         &mut self,
         rr: &Rr,
         steps: &mut Steps<L>,
     ) -> Result<(), NoMemory>
         requires { IsSound self.old }
-        ensures hub { OnOk result (kept_of self.new ≡ reconfirm (kept_of self.old) rr.now) }
+        ensures hub { OnOk result (Forgets (reconfirm (kept_of self.old) rr.now) (kept_of self.new)) }
         ensures err { OnErr result (kept_of self.new ≡ kept_of self.old) }
         ensures index { self.new.index.rows ≡ records_now (kept_of self.new) }
         ensures watched { Watches (watching_of self.new.watchers) self.new.sessions }
@@ -181,31 +183,29 @@ impl HubState {
         Ok(())
     }
 
-    /// It is a moment, in milliseconds. Gives whether the journal was full, which is told before any memory is taken.
+    /// It is a moment, in milliseconds. At the last point nothing happens.
     pub(crate) fn moment<L: Ledger>(
         &mut self,
         at: u64,
         steps: &mut Steps<L>,
-    ) -> Result<bool, NoMemory>
+    ) -> Result<(), NoMemory>
         requires sound { IsSound self.old }
         requires timely { at ≤ max_moment }
-        ensures full { IfOk result (λ full. full ≡ (moment (kept_of self.old) at).0) }
-        ensures hub { IfOk result (λ full. kept_of self.new ≡ (moment (kept_of self.old) at).1) }
+        ensures hub { OnOk result (Forgets (moment (kept_of self.old) at) (kept_of self.new)) }
         ensures err { OnErr result (kept_of self.new ≡ kept_of self.old) }
-        ensures room { OnErr result ((moment (kept_of self.old) at).0 ≡ false) }
+        ensures room { OnErr result (can_enter (kept_of self.old) ≡ true) }
         ensures index { self.new.index.rows ≡ records_now (kept_of self.new) }
         ensures watched { Watches (watching_of self.new.watchers) self.new.sessions }
     {
         if at <= self.points.now() {
-            return Ok(false);
+            return Ok(());
         }
-        let entry = Entry::Moment(at);
-        if !self.can_enter(&entry) {
-            return Ok(true);
+        if !self.can_enter() {
+            return Ok(());
         }
-        self.offer(entry, steps)?;
+        self.offer(Entry::Moment(at), steps)?;
         self.sessions.moment(at, &mut self.watchers);
-        Ok(false)
+        Ok(())
     }
 
     /// A new session. Gives its number, or nothing where no seat is free, which is told before any memory is taken.

@@ -1,10 +1,10 @@
 //! Laws that the hub's contracts stand on.
 
-ghost use Rattle.pushserver.specs.Simulation.{UpdatesStand, HearsStand, MomentsStand, ConnectsStand, TakesStand, StopsStand, EndsStand, GivesStand, HubsTell, CountsStand};
-ghost use Rattle.pushserver.specs.Laws.{NothingWhereAllIsTold, NothingMeansAllIsShown, GiveChangesOneSession, OtherCallsKeepOutputs, SubscribeIsAnswered};
+ghost use Rattle.pushserver.specs.Simulation.{UpdatesStand, HearsStand, MomentsStand, ConnectsStand, TakesStand, StopsStand, EndsStand, GivesStand, HubsTell, CountsStand, ForgettingStands};
+ghost use Rattle.pushserver.specs.Laws.{NothingWhereAllIsTold, NothingMeansAllIsShown, GiveChangesOneSession, OtherCallsKeepOutputs, SessionsStayWithin, SubscribeIsAnswered};
 
 /// What each call does to the hub as it is kept is what it does to the plain hub that it stands for, and what is told of
-/// records can be told.
+/// records can be told; so it is where the oldest entries are forgotten.
 pub fn kept_hubs_stand()
     ensures updates { UpdatesStand }
     ensures hears { HearsStand }
@@ -15,6 +15,7 @@ pub fn kept_hubs_stand()
     ensures ends { EndsStand }
     ensures gives { GivesStand }
     ensures tells { HubsTell }
+    ensures forgets { ForgettingStands }
 {}
 
 /// When `give` has nothing to say, what the calls leave as it was, and what a SUBSCRIBE gets that none of the tests refuses
@@ -25,6 +26,11 @@ pub fn calls_keep_promises()
     ensures one { GiveChangesOneSession }
     ensures outputs { OtherCallsKeepOutputs }
     ensures answered { SubscribeIsAnswered }
+{}
+
+/// No more names wait for a session than it has questions, at most 1,024, and its octets are within their bounds.
+pub fn sessions_stay_within()
+    ensures { SessionsStayWithin }
 {}
 
 /// A hub as it is kept counts as the plain one does.

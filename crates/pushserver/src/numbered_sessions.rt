@@ -7,11 +7,13 @@ ghost use Rattle.subscr.specs.Watching.{watching_of};
 ghost use Rattle.pushsession.specs.Sessions.{timed};
 ghost use Rattle.pushsession.specs.Kept.{keeping, taken_back};
 ghost use Rattle.pushsession.specs.Watched.{Rewatches};
+ghost use Rattle.pushserver.specs.Behind.{ended_from, needed_by};
 ghost use Rattle.pushserver.specs.Hubs.{all_sessions, session_in, without_session};
 ghost use Rattle.pushserver.specs.Lending.{LendsSession};
 ghost use Rattle.pushserver.specs.NumberedSessions.{AreApart};
 ghost use Rattle.pushserver.specs.Watched.{Watches};
 
+use crate::behind::{end_each, needed_by};
 use pushsession::{NoMemory, PushSession};
 use std::alloc::Global;
 use std::marker::Model;
@@ -154,6 +156,21 @@ impl Sessions {
         ensures { self.new ≡ all_sessions (taken_back point) self.old }
     {
         take_back_all(&mut self.numbered, point);
+    }
+
+    /// The least point that sessions need which aren't behind: one since which a name waits, or the newest.
+    pub(crate) fn needed(&self, floor: u64, newest: u64) -> u64
+        ensures { result ≡ needed_by floor newest self.now }
+    {
+        needed_by(&self.numbered, floor, newest)
+    }
+
+    /// The sessions end that need a point before the first that may be kept.
+    pub(crate) fn end_behind(&mut self, floor: u64, watchers: &mut Watchers)
+        ensures ended { self.new ≡ all_sessions (ended_from floor) self.old }
+        ensures watched { Watches (watching_of watchers.old) self.old → Watches (watching_of watchers.new) self.new }
+    {
+        end_each(&mut self.numbered, floor, watchers);
     }
 
     /// It is a moment for each session, in milliseconds (RFC 8490, 6.4 to 6.6).

@@ -31,7 +31,7 @@ impl Hub {
     /// How many entries of each group there are.
     pub fn counts(&self) -> Totals
         ensures hub { (hub : Plain) → StandsFor self.now hub → result ≡ totals hub.history }
-        ensures kept { result ≡ totals self.now.history }
+        ensures kept { result ≡ self.now.seen.counts }
     {
         self.keeping.points.counts()
     }

@@ -4,7 +4,8 @@ ghost use Rattle.std.specs.Prelude.{◌≡◌, [], ℕ, length, IfOk, OnErr};
 ghost use Rattle.coalesce.specs.Waiting.{CanBePacked};
 ghost use Rattle.pushsession.specs.Sessions.{copied, laid_over};
 ghost use Rattle.pushserver.specs.Giving.{given_after, given_of, has_home};
-ghost use Rattle.pushserver.specs.Hubs.{past_of};
+ghost use Rattle.history.specs.Kept.{state_now as past_state};
+ghost use Rattle.pushserver.specs.Hubs.{state_now};
 ghost use Rattle.pushserver.specs.HubState.{IsSeated, Turns};
 ghost use Rattle.pushserver.specs.Laws.{WantsMemoryFor};
 ghost use Rattle.pushserver.specs.Rows.{AreTold};
@@ -75,7 +76,7 @@ pub(crate) fn after_reaction(session: &mut PushSession, buf: &mut [u8]) -> Given
 
 /// Whether the name of a question has a home.
 fn has_home(points: &Points, question: &Option<Question>) -> bool
-    ensures { (kept : KeptHub) → past_of kept ≡ points.now.past → result ≡ has_home kept question.now }
+    ensures { (kept : KeptHub) → state_now kept ≡ past_state points.now.past → result ≡ has_home kept question.now }
 {
     match question {
         Some(question) => points.homes().home(&question.name).is_some(),
@@ -100,7 +101,7 @@ fn work<L: Ledger>(
     requires silent { session.old.output ≡ [] }
     requires told { AreTold index.now.rows }
     requires packable { CanBePacked index.now.rows session.old.queue }
-    ensures ok { IfOk result (λ turn. (kept : KeptHub) (number : ℕ) → IsSeated kept number session.old points.now.past timers index.now.rows → Turns kept number turn buf.old buf.new session.old session.new) }
+    ensures ok { IfOk result (λ turn. (kept : KeptHub) (number : ℕ) → IsSeated kept number session.old (past_state points.now.past) timers index.now.rows → Turns kept number turn buf.old buf.new session.old session.new) }
     ensures err { OnErr result (session.new ≡ session.old) }
     ensures memory { OnErr result (WantsMemoryFor session.old) }
     ensures watched { Rewatches number (watching_of watchers.old) (watching_of watchers.new) session.old session.new }
@@ -138,7 +139,7 @@ pub(crate) fn take_turn<L: Ledger>(
 ) -> Result<Turn, NoMemory>
     requires told { AreTold index.now.rows }
     requires packable { CanBePacked index.now.rows session.old.queue }
-    ensures ok { IfOk result (λ turn. (kept : KeptHub) (number : ℕ) → IsSeated kept number session.old points.now.past timers index.now.rows → Turns kept number turn buf.old buf.new session.old session.new) }
+    ensures ok { IfOk result (λ turn. (kept : KeptHub) (number : ℕ) → IsSeated kept number session.old (past_state points.now.past) timers index.now.rows → Turns kept number turn buf.old buf.new session.old session.new) }
     ensures err { OnErr result (session.new ≡ session.old) }
     ensures memory { OnErr result (WantsMemoryFor session.old) }
     ensures watched { Rewatches number (watching_of watchers.old) (watching_of watchers.new) session.old session.new }

@@ -8,7 +8,7 @@ use Rattle.std.specs.Prelude.{◌≡◌, ℕ, ◌+◌, ◌==◌, not, List, [], 
 use Rattle.rrset.specs.RecordSet.{RecordSet}
 use Rattle.rrset.specs.Tables.{counted}
 use Rattle.dsotlv.specs.Messages.{frame}
-use Rattle.subscr.specs.Asked.{Asked, has, id_of, wants, without}
+use Rattle.subscr.specs.Asked.{Asked, has, question_of, id_of, watches, wants, without}
 use Rattle.coalesce.specs.FirstAnswers.{first_notices}
 use Rattle.coalesce.specs.Waiting.{WaitingName, with_old, without_name, before_point, is_named, packed_of, left_in}
 use Rattle.pushsession.specs.Sessions.{SessionOf, Keeps, least_of}
@@ -44,7 +44,9 @@ keeping = record {
   no_questions = record { asked = []; filled = [] };
   count = λ q. length q.asked;
   has_id = λ id q. has id q.asked;
+  question_of = λ id q. question_of id q.asked;
   id_of = λ question q. id_of question q.asked;
+  watches = λ name q. watches name q.asked;
   wants = λ q key. wants key q.asked;
   with_question = λ id question end q. record { asked = q.asked ++ (id, question) ∷ []; filled = q.filled ++ (id, end) ∷ [] };
   without_id = λ id q. record { asked = without id q.asked; filled = without_filled id q.filled };

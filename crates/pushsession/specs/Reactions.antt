@@ -3,9 +3,10 @@
 --     request_in, request_for      what is needed of the server for a message; for a reaction
 --     IsRead, TakesMemory      whether something is read for it
 --     granted, unsubscribed      a Keepalive is granted; an ID goes with its question
+--     let_go      the last question of a name goes
 --     reacts_itself, by_itself      a message for which nothing is needed; what each such reaction does
 --     ends_short, answers_subscribe, takes_reconfirm, answers_update      a message without a whole header; a SUBSCRIBE; a RECONFIRM; an update that was judged
-use Rattle.std.specs.Prelude.{ℕ, Bool, true, false, List, Option, Some, None, if◌then◌else◌}
+use Rattle.std.specs.Prelude.{ℕ, Bool, true, false, cond, List, Option, Some, None, if◌then◌else◌}
 use Rattle.std.specs.Int.{w16, from_be_bytes}
 use Rattle.rrset.specs.Header.{id_of}
 use Rattle.rrset.specs.declared.record.Question.{Question}
@@ -69,9 +70,16 @@ TakesMemory request = IsRead request
 abbrev pub granted : {A Q M : Type 0} → Timers → SessionOf A Q M → SessionOf A Q M
 granted timers session = establishes (record session { clocks = record session.clocks { timers = timers } })
 
+-- the queue where a question goes, and these are left: its name waits no longer where none of them has it (this project's own)
+abbrev pub let_go : {A Q M : Type 0} → Keeps A Q M → Option Question → A → Q → Q
+let_go keeps None left queue = queue
+let_go keeps (Some question) left queue = cond (keeps.watches question.name left) queue (keeps.without_name question.name queue)
+
 -- an ID goes with its question; an unknown ID is ignored (RFC 8765, 6.4)
 abbrev pub unsubscribed : {A Q M : Type 0} → Keeps A Q M → ℕ → SessionOf A Q M → SessionOf A Q M
-unsubscribed keeps id session = record session { subscriptions = keeps.without_id id session.subscriptions }
+unsubscribed keeps id session =
+    let left = keeps.without_id id session.subscriptions in
+    record session { subscriptions = left; queue = let_go keeps (keeps.question_of id session.subscriptions) left session.queue }
 
 -- what needs the server changes nothing by itself
 abbrev pub by_itself : {A Q M : Type 0} → Keeps A Q M → Reaction → Timers → ℕ → List ℕ → SessionOf A Q M → SessionOf A Q M

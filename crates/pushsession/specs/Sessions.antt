@@ -35,11 +35,13 @@ pub record SessionOf (Asked Queue Messages : Type 0) : Type 0 where
   pub made : Messages
 
 pub record Keeps (Asked Queue Messages : Type 0) : Type 0 where
-  -- no questions; how many; whether an ID is in use; the ID of a question; whether one asks for a key
+  -- no questions; how many; whether an ID is in use; the question of an ID; the ID of a question; whether one has a name; whether one asks for a key
   pub no_questions : Asked
   pub count : Asked → ℕ
   pub has_id : ℕ → Asked → Bool
+  pub question_of : ℕ → Asked → Option Question
   pub id_of : Question → Asked → Option ℕ
+  pub watches : Labels → Asked → Bool
   pub wants : Asked → Key → Bool
   -- one more question with its ID, whose first answer ends behind so many octets of the output; without that of an ID
   pub with_question : ℕ → Question → ℕ → Asked → Asked

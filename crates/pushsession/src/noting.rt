@@ -1,7 +1,7 @@
 //! What an entry makes wait (RFC 8765, 6.3).
 
 ghost use Rattle.std.specs.Prelude.{◌≡◌, ◌+◌, ◌∷◌, [], ℕ, OnOk, OnErr};
-ghost use Rattle.coalesce.specs.Waiting.{old_value};
+ghost use Rattle.coalesce.specs.Waiting.{first_point, old_value};
 ghost use Rattle.pushsession.specs.Sessions.{noted};
 ghost use Rattle.pushsession.specs.Kept.{keeping, taken_back};
 
@@ -30,6 +30,13 @@ impl PushSession {
             self.queue.keep(old)?;
         }
         Ok(())
+    }
+
+    /// The point since which the name waits that waits longest, where points rise: the first one's.
+    pub fn least(&self) -> Option<u64>
+        ensures { result ≡ first_point self.now.queue }
+    {
+        self.queue.least()
     }
 
     /// Takes out what was noted at a point or a later one, where the entry at the point wasn't made.

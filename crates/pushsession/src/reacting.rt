@@ -8,7 +8,7 @@ ghost use Rattle.dsotlv.specs.TlvKinds.{unsubscribe_size};
 ghost use Rattle.pushsession.specs.Kept.{keeping, without_filled};
 ghost use Rattle.subscr.specs.Watching.{watching_of};
 ghost use Rattle.pushsession.specs.Watched.{Rewatches};
-ghost use Rattle.pushsession.specs.Reactions.{granted, unsubscribed};
+ghost use Rattle.pushsession.specs.Reactions.{granted, let_go, unsubscribed};
 ghost use Rattle.pushsession.specs.Requests.{reacted, reconfirmed, request_of, updated};
 ghost use Rattle.pushsession.specs.declared.request.Request.TheVariants as requests;
 
@@ -16,13 +16,14 @@ use crate::session::PushSession;
 use crate::short_messages::{answer, header, keepalive};
 use crate::taking::Taken;
 use crate::watching::unask;
+use coalesce::Queue;
 use dsosession::session::{EndReason, Reaction, Timers};
 use dsotlv::kinds::RECONFIRM;
 use dsotlv::primary_data;
-use rrset::Rr;
 use rrset::header::{HEADER, KEPT_FLAGS, RESPONSE, UPDATE_ANSWER};
 use rrset::rcodes::{NOERROR, NOTIMP};
-use subscr::Watchers;
+use rrset::{Question, Rr};
+use subscr::{Subscriptions, Watchers};
 
 /// The ID in the first TLV of a message, where its data has the size of one (RFC 8765, 6.4.1).
 fn first_number(message: &[u8]) -> Option<u16>
@@ -44,6 +45,20 @@ fn take_out(filled: &mut Vec<(u16, u64)>, id: u16)
     filled.retain(|entry| entry.0 != id);
 }
 
+/// Takes the name of a question that went out of those that wait, where none of these questions has it.
+fn let_go(queue: &mut Queue, left: &Subscriptions, question: Option<Question>)
+    ensures { queue.new ≡ let_go keeping question (record { asked = left.now; filled = [] }) queue.old }
+{
+    match question {
+        Some(question) => {
+            if !left.watches(&question.name) {
+                queue.forget(&question.name);
+            }
+        }
+        None => {}
+    }
+}
+
 impl PushSession {
     /// Grants timers: they hold from now on, and the session is established (RFC 8490, 5.1 and 7.1).
     fn grant(&mut self, timers: Timers)
@@ -53,13 +68,15 @@ impl PushSession {
         self.state.establish();
     }
 
-    /// Takes out an ID with its question (RFC 8765, 6.4). An unknown ID is ignored.
+    /// Takes out an ID with its question (RFC 8765, 6.4); the name waits no longer where no other question has it. An
+    /// unknown ID is ignored.
     fn unsubscribe(&mut self, id: u16, watchers: &mut Watchers, number: u64)
         ensures session { self.new ≡ unsubscribed keeping id self.old }
         ensures watched { Rewatches number (watching_of watchers.old) (watching_of watchers.new) self.old self.new }
     {
-        unask(&mut self.subscriptions, id, watchers, number);
+        let question = unask(&mut self.subscriptions, id, watchers, number);
         take_out(&mut self.filled, id);
+        let_go(&mut self.queue, &self.subscriptions, question);
     }
 
     /// Reacts to a message for which it needs nothing: the server's timers are given where it asks for them. One without a

@@ -2,7 +2,7 @@
 
 ghost use Rattle.std.specs.Prelude.{◌≡◌, ◌<◌, ◌++◌, ◌∷◌, [], false, None, length, OnOk, OnErr};
 ghost use Rattle.push_base.specs.Limits.{max_questions};
-ghost use Rattle.subscr.specs.Asked.{has, id_of, without};
+ghost use Rattle.subscr.specs.Asked.{has, id_of, question_of, without};
 ghost use Rattle.subscr.specs.Watching.{watching_of};
 ghost use Rattle.pushsession.specs.Watched.{MovesWatches};
 
@@ -48,14 +48,20 @@ pub(crate) fn ask(
     }
 }
 
-/// Takes out an ID with its question, and watches its name once less. An unknown ID is ignored.
-pub(crate) fn unask(questions: &mut Subscriptions, id: u16, watchers: &mut Watchers, number: u64)
+/// Takes out an ID with its question, which it gives back, and watches its name once less. An unknown ID is ignored.
+pub(crate) fn unask(
+    questions: &mut Subscriptions,
+    id: u16,
+    watchers: &mut Watchers,
+    number: u64,
+) -> Option<Question>
+    ensures question { result ≡ question_of id questions.old }
     ensures others { questions.new ≡ without id questions.old }
     ensures watched { MovesWatches number (watching_of watchers.old) (watching_of watchers.new) questions.old questions.new }
 {
-    if let Some(question) = questions.remove(id) {
-        let _ = watchers.remove(&question.name, number);
-    }
+    let question = questions.remove(id)?;
+    let _ = watchers.remove(&question.name, number);
+    Some(question)
 }
 
 impl PushSession {

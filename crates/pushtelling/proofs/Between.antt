@@ -32,7 +32,7 @@ use Rattle.pushserver.proofs.hub_steps.Cases.{itself_as}
 use Rattle.pushserver.proofs.hub_steps.Pairs.{all-map, all-weaken}
 use Rattle.pushserver.proofs.hub_steps.Queued.{points-fold}
 use Rattle.pushsession.specs.Reactions.{reacts_itself, by_itself}
-use Rattle.pushsession.specs.Sessions.{with_piece, is_open, asked_to_stop, ended_with, due, ended_where, timed, with_frame, answers, says_stop, touched, without_first}
+use Rattle.pushsession.specs.Sessions.{with_piece, is_open, asked_to_stop, ended_with, ended_where, with_frame, answers, says_stop, touched, without_first}
 use Rattle.pushsession.specs.Subscribing.{Verdict, says_notices, subscribed, says_first_answer, first_answer_size, decided, answered}
 use Rattle.pushsession.specs.declared.session_status.SessionStatus.TheVariants.{AskedToStop}
 use Rattle.rrset.proofs.Places.{all_filter}
@@ -42,6 +42,8 @@ use Rattle.rrset.specs.declared.record.Question.{Question}
 use Rattle.pushtelling.specs.Runs.{notes_of, LiesBetween, NotesLieBetween, LaterOnesAreNoEarlier}
 use Rattle.pushtelling.proofs.OneSession.{OfOne, one-changed, one-last, one-left}
 use Rattle.pushtelling.proofs.Tells.{changes_by, by_entry}
+use Rattle.pushtelling.proofs.LettingGo.{each-let_go}
+use Rattle.std.specs.Int.{w16, from_be_bytes}
 
 -- ---- names that wait
 
@@ -112,7 +114,11 @@ module _ (low : ℕ) (hub : Hub) (order : low ≤ newest hub) where
   between-by_itself (Answer rcode) message session h = between-answers false (answer_to (id_of message) rcode) session h
   between-by_itself Grant message session h = between-answers true (grant_to (id_of message) hub.timers.inactivity hub.timers.keepalive) session h
   between-by_itself (Abort reason) message session h = between-ended reason session h
-  between-by_itself Unsubscribe message session h = h
+  between-by_itself Unsubscribe message session h = record {
+    notes = h.notes;
+    names = each-let_go (λ (e : Labels × ℕ). (low ≤ e.1) × (e.1 ≤ newest hub)) (newest hub) ((keeps_now hub).question_of (from_be_bytes w16 (primary_data message)) session.subscriptions)
+        ((keeps_now hub).without_id (from_be_bytes w16 (primary_data message)) session.subscriptions) session.queue h.names;
+  }
   between-by_itself NotImplemented message session h = between-answers false (not_implemented message) session h
   between-by_itself Subscribe message session h = h
   between-by_itself Reconfirm message session h = h
@@ -161,12 +167,9 @@ module _ (low : ℕ) (hub : Hub) (order : low ≤ newest hub) where
   between-step (ends_with reason) session h = between-ended reason session h
   between-step (copies_front room) session h = h
 
-between-timed : (low high point t : ℕ) (session : Session) → Between low high session → Between low high (timed (plain_keeps point) t session)
-between-timed low high point t session h = by (due (plain_keeps point) t session)
-  where
-    by : (o : Option EndReason) → Between low high (ended_where (plain_keeps point) o session)
-    by None = h
-    by (Some reason) = record { notes = h.notes; names = tt }
+between-ended_where : (low high point : ℕ) (reason : Option EndReason) (session : Session) → Between low high session → Between low high (ended_where (plain_keeps point) reason session)
+between-ended_where low high point None session h = h
+between-ended_where low high point (Some reason) session h = record { notes = h.notes; names = tt }
 
 between-asked : (low high rcode delay : ℕ) (session : Session) → Between low high session → Between low high (asked_to_stop rcode delay session)
 between-asked low high rcode delay session h = by (is_open session.standing)
@@ -201,7 +204,7 @@ module _ (low number : ℕ) where
       order = le_trans h.order (subst (λ n. length hub.history ≤ n) (sym (length-append hub.history (entry ∷ []))) (omega arith));
       one = one-changed number (Between low (newest hub)) (Between low (newest (entered entry hub))) (λ n. by_entry hub.start hub.history entry) (between-entered low hub entry h.order) hub.sessions h.one;
     };
-    times = λ hub point t h. record { order = h.order; one = one-changed number (Between low (newest hub)) (Between low (newest hub)) (λ n. timed (plain_keeps point) t) (between-timed low (newest hub) point t) hub.sessions h.one };
+    ends = λ hub point reason h. record { order = h.order; one = one-changed number (Between low (newest hub)) (Between low (newest hub)) (λ n s. ended_where (plain_keeps point) (reason s) s) (λ s. between-ended_where low (newest hub) point (reason s) s) hub.sessions h.one };
     takes_in = λ hub other piece any h. in-lies hub other (with_piece piece) (λ s b. b) h;
     asks_stop = λ hub other rcode delay h. in-lies hub other (asked_to_stop rcode delay) (between-asked low (newest hub) rcode delay) h;
     makes = λ hub h. record { order = h.order; one = one-last number (Between low (newest hub)) hub.sessions _ (λ is. record { notes = tt; names = tt }) h.one };

@@ -1,11 +1,12 @@
 -- A session that was stopped or has ended takes nothing in and reacts to nothing.
---     closed-step, closed-timed      each step of one session leaves it closed, and so does a moment
+--     closed-step, closed-ended_where      each step of one session leaves it closed, and so does its end
 --     closed_ones_rest
 use Rattle.std.proofs.Common.{◌≡◌, ℕ, ◌-◌, ◌<◌, Bool, true, false, cond, List, [], ◌∷◌, ◌++◌, length, take, min, Option, Some, None, sym, ◌∙◌, ap, subst, refl, true≢false, arith}
 use Rattle.std.specs.Prelude.{◌==◌, ◌&&◌}
 use Rattle.push_base.specs.Cases.{is_empty}
 use Rattle.push_base.specs.Limits.{max_input}
-use Rattle.pushsession.specs.Sessions.{room_of, with_piece, is_open, asked_to_stop, timed, without_first}
+use Rattle.pushsession.specs.Sessions.{room_of, with_piece, is_open, asked_to_stop, ended_where, without_first}
+use Rattle.dsosession.specs.declared.session.EndReason.{EndReason}
 use Rattle.pushsession.specs.declared.session_status.SessionStatus.{SessionStatus}
 use Rattle.pushsession.specs.declared.session_status.SessionStatus.TheVariants.{Live, AskedToStop, Stopped, Ended}
 use Rattle.pushserver.specs.Calls.{HubCall, updates, hears, moves, connects, takes as taking, gives, stops, ends as ending, called}
@@ -14,7 +15,7 @@ use Rattle.pushserver.specs.PlainHubs.{Hub, Session, plain_keeps}
 use Rattle.pushserver.proofs.SessionLists.{same-number}
 use Rattle.pushserver.proofs.Walks.{AnyMessage, bring_any, Step, IsKept, keeps-called}
 use Rattle.pushtelling.specs.Runs.{takes_in, is_live, first_of, message_up, reacts_to, taken_in, reacted_to, ClosedOnesRest}
-use Rattle.pushtelling.proofs.Standings.{has-step, has-timed}
+use Rattle.pushtelling.proofs.Standings.{has-step, has-ended_where}
 use Rattle.pushtelling.proofs.OneSession.{OfOne, one-changed, one-last, one-left}
 use Rattle.pushtelling.proofs.Tells.{by_entry}
 
@@ -26,8 +27,8 @@ IsClosed session = is_open session.standing ≡ false
 closed-step : (hub : Hub) {f : Session → Session} → Step AnyMessage hub f → (session : Session) → IsClosed session → IsClosed (f session)
 closed-step hub step session c = has-step (λ standing. is_open standing ≡ false) (λ reason. refl) (λ since. refl) hub step session c
 
-pub closed-timed : (point t : ℕ) (session : Session) → IsClosed session → IsClosed (timed (plain_keeps point) t session)
-closed-timed point t session c = has-timed (λ standing. is_open standing ≡ false) (λ reason. refl) (λ since. refl) point t session c
+pub closed-ended_where : (point : ℕ) (reason : Option EndReason) (session : Session) → IsClosed session → IsClosed (ended_where (plain_keeps point) reason session)
+closed-ended_where point reason session c = has-ended_where (λ standing. is_open standing ≡ false) (λ reason. refl) (λ since. refl) point reason session c
 
 pub closed-asked : (rcode delay : ℕ) (session : Session) → IsClosed session → IsClosed (asked_to_stop rcode delay session)
 closed-asked rcode delay session c = ap (λ (b : Bool). is_open (cond b (record session { standing = AskedToStop rcode delay }) session).standing) c ∙ c
@@ -52,7 +53,7 @@ module _ (number : ℕ) where
     takes_up = λ hub other session found there is h. in-rests hub other (without_first found.1) (λ s c. c) h;
     changes = λ hub other f step h. in-rests hub other f (λ s c. closed-step hub step s c) h;
     enters = λ hub entry by h. record { given = h.given; one = one-changed number IsClosed IsClosed (λ n. by_entry hub.start hub.history entry) (λ s c. c) hub.sessions h.one };
-    times = λ hub point t h. record { given = h.given; one = one-changed number IsClosed IsClosed (λ n. timed (plain_keeps point) t) (closed-timed point t) hub.sessions h.one };
+    ends = λ hub point reason h. record { given = h.given; one = one-changed number IsClosed IsClosed (λ n s. ended_where (plain_keeps point) (reason s) s) (λ s. closed-ended_where point (reason s) s) hub.sessions h.one };
     takes_in = λ hub other piece any h. in-rests hub other (with_piece piece) (λ s c. c) h;
     asks_stop = λ hub other rcode delay h. in-rests hub other (asked_to_stop rcode delay) (closed-asked rcode delay) h;
     makes = λ hub h. record {

@@ -19,7 +19,7 @@ use Rattle.zoneupdate.specs.Updates.{with_counted_ttl, prerequisite_refusal, cha
 use Rattle.history.specs.States.{State, home_names, zone_of, with_rows, zone_asked, zone_for, updated, update_in, verdict}
 use Rattle.history.specs.declared.entry.Entry.TheVariants as entries
 use Rattle.pushserver.specs.PlainHubs.{Hub}
-use Rattle.pushserver.specs.Hubs.{state_now, can_enter, entered, update}
+use Rattle.pushserver.specs.Hubs.{state_now, can_enter, entered_keeping, update}
 
 abbrev pub SmallErr : {A : Type 0} → Result A ℕ → Type 0
 SmallErr (Ok x) = Unit {0}
@@ -138,10 +138,10 @@ small-verdict state message = small-then (update_in message) (λ u. updated stat
 pub codes_are_small : (hub : Hub) (message : List ℕ) → (update hub message).0 < 2048
 codes_are_small hub message = by (verdict (state_now hub) message) (small-verdict (state_now hub) message)
   where
-    entering : (u : Update) (b : Bool) → (cond {A = ℕ × Hub} b (noerror, entered (entries.Update u) hub) (servfail, hub)).0 < 2048
+    entering : (u : Update) (b : Bool) → (cond {A = ℕ × Hub} b (noerror, entered_keeping (entries.Update u) hub) (servfail, hub)).0 < 2048
     entering u true = omega arith
     entering u false = omega arith
 
-    by : (r : Result Update ℕ) → SmallErr r → (elim r as (λ _. ℕ × Hub) [ Err code ↦ (code, hub) | Ok u ↦ cond (can_enter hub (entries.Update u)) (noerror, entered (entries.Update u) hub) (servfail, hub) ]).0 < 2048
+    by : (r : Result Update ℕ) → SmallErr r → (elim r as (λ _. ℕ × Hub) [ Err code ↦ (code, hub) | Ok u ↦ cond (can_enter hub) (noerror, entered_keeping (entries.Update u) hub) (servfail, hub) ]).0 < 2048
     by (Err code) small = small
-    by (Ok u) small = entering u (can_enter hub (entries.Update u))
+    by (Ok u) small = entering u (can_enter hub)

@@ -6,14 +6,14 @@ use Rattle.std.specs.Prelude.{option_map, ◌==◌}
 use Rattle.std.specs.Option.{option_or}
 use Rattle.std.proofs.lemmas.List.{append-nil, append_assoc}
 use Rattle.history.specs.declared.entry.Entry.{Entry}
-use Rattle.pushsession.specs.Sessions.{new_session, with_piece, copied, asked_to_stop, timed, without_first}
+use Rattle.pushsession.specs.Sessions.{new_session, with_piece, copied, asked_to_stop, ended_where, without_first}
 use Rattle.pushserver.specs.PlainHubs.{Hub, Session, plain_keeps}
 use Rattle.pushserver.specs.Hubs.{session_in, now, keeps_now, session_of, each_session, in_session, disconnect}
 use Rattle.pushserver.proofs.SessionLists.{found-changed, found-last, found-left, other-number}
 use Rattle.pushserver.proofs.Walks.{AnyMessage, Step, restarts, reacts, answers_subscribe, answers_update, packs_names, comes_to_stop, ends_with, copies_front, IsKept, with_new}
 use Rattle.pushtelling.specs.Laws.{Grows}
 use Rattle.pushtelling.proofs.Tells.{by_entry}
-use Rattle.pushtelling.proofs.Saying.{Said, said-step, said-timed, said-asked}
+use Rattle.pushtelling.proofs.Saying.{Said, said-step, said-ended_where, said-asked}
 
 -- ---- a session
 
@@ -55,7 +55,7 @@ follows-itself hub = record { made = omega arith; each = λ number after low fou
 module _ (hub : Hub) where
   -- sessions that grow, with any history
   changed : (g : ℕ → Session → Session) → ((n : ℕ) (s : Session) → Grows s (g n s)) → (later : Hub) (history : List Entry) → Follows hub later
-      → Follows hub (record { start = later.start; timers = later.timers; history = history; sessions = map (λ e. (e.0, g e.0 e.1)) later.sessions; numbers_given = later.numbers_given })
+      → Follows hub (record { start = later.start; timers = later.timers; history = history; seen = later.seen; sessions = map (λ e. (e.0, g e.0 e.1)) later.sessions; numbers_given = later.numbers_given })
   changed g grows later history h = record {
     made = h.made;
     each = λ number after low found. by number after low (session_in number later.sessions) refl (sym (found-changed g number later.sessions) ∙ found);
@@ -109,7 +109,7 @@ module _ (hub : Hub) where
     takes_up = λ later number session found there is h. one-grows later number (without_first found.1) (λ s. grows-none s (without_first found.1 s) refl) h;
     changes = λ later number f step h. one-grows later number f (grows-step later step) h;
     enters = λ later entry by h. changed (λ n. by_entry later.start later.history entry) (λ n s. grows-none s (by_entry later.start later.history entry s) refl) later (later.history ++ entry ∷ []) h;
-    times = λ later point t h. each-grows later (timed (plain_keeps point) t) (λ s. grown (said-timed point t s)) h;
+    ends = λ later point reason h. each-grows later (λ s. ended_where (plain_keeps point) (reason s) s) (λ s. grown (said-ended_where point (reason s) s)) h;
     takes_in = λ later number piece any h. one-grows later number (with_piece piece) (λ s. grows-none s (with_piece piece s) refl) h;
     asks_stop = λ later number rcode delay h.
         one-grows later number (asked_to_stop rcode delay) (λ s. grown (said-asked rcode delay s)) h;

@@ -7,7 +7,7 @@ use Rattle.std.proofs.lemmas.List.Elements.{All-append, All-take}
 use Rattle.coalesce.proofs.ReadBack.{each-append}
 use Rattle.dsotlv.specs.Messages.{first_message}
 use Rattle.history.specs.declared.entry.Entry.{Entry}
-use Rattle.pushsession.specs.Sessions.{new_session, room_of, with_piece, is_open, asked_to_stop, timed, without_first}
+use Rattle.pushsession.specs.Sessions.{new_session, room_of, with_piece, is_open, asked_to_stop, ended_where, without_first}
 use Rattle.pushsession.specs.declared.session_status.SessionStatus.TheVariants.{AskedToStop}
 use Rattle.pushserver.specs.PlainHubs.{Hub, Session, plain_keeps}
 use Rattle.pushserver.specs.Hubs.{newest, now, keeps_now, session_of, each_session, in_session, entered, stop}
@@ -18,7 +18,7 @@ use Rattle.dsotlv.specs.Laws.{AreOctets}
 use Rattle.pushserver.proofs.session_steps.Octets.{first_octets, rest_octets}
 use Rattle.pushserver.proofs.told_rows.HubTells.{StatesTell}
 use Rattle.pushserver.proofs.told_rows.Hubs.{update_tells, moment_tells, link_tells}
-use Rattle.pushtelling.proofs.Steps.{tells-step, tells-timed}
+use Rattle.pushtelling.proofs.Steps.{tells-step, tells-ended_where}
 use Rattle.pushtelling.proofs.Tells.{Tells, by_entry, tells-entered, tells-new, tells-input}
 
 pub record HubTells (hub : Hub) : Type 0 where
@@ -78,7 +78,7 @@ hub_keeps = record {
   takes_up = λ hub number session found there is h. hub-in_session hub number (without_first found.1) (λ s t. tells-input hub.start hub.history s found.1 (octets-found hub number session found there is h).1 t) h;
   changes = λ hub number f step h. hub-in_session hub number f (λ s t. tells-step hub h.states step s t) h;
   enters = λ hub entry by h. hub-enters hub by h;
-  times = λ hub point t h. hub-each hub (timed (plain_keeps point) t) (λ s tells. tells-timed hub.start hub.history point t s tells) h;
+  ends = λ hub point reason h. hub-each hub (λ s. ended_where (plain_keeps point) (reason s) s) (λ s tells. tells-ended_where hub.start hub.history point (reason s) s tells) h;
   takes_in = λ hub number piece octets h. hub-in_session hub number (with_piece piece)
       (λ s t. tells-input hub.start hub.history s (s.input ++ take (room_of s) piece) (All-append (λ o. o < 256) s.input (take (room_of s) piece) t.octets (All-take (λ o. o < 256) (room_of s) piece octets)) t) h;
   asks_stop = hub-asks_stop;

@@ -2,6 +2,7 @@ pub mod Messages
 pub mod Notes
 pub mod Entries
 pub mod Tells
+pub mod LettingGo
 pub mod Quiet
 pub mod Reading
 pub mod Joining

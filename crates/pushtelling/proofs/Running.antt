@@ -16,21 +16,21 @@ use Rattle.dsotlv.specs.Messages.{first_message, frame, messages_in}
 use Rattle.dsotlv.proofs.FrameLaws.{frames_found}
 use Rattle.dsotlv.proofs.StreamLaws.{one_by_one}
 use Rattle.history.specs.declared.entry.Entry.{Entry}
-use Rattle.pushsession.specs.Sessions.{new_session, room_of, with_piece, copied, asked_to_stop, timed, without_first}
+use Rattle.pushsession.specs.Sessions.{new_session, room_of, with_piece, copied, asked_to_stop, ended_where, without_first}
 use Rattle.pushsession.specs.declared.session_status.SessionStatus.{SessionStatus}
 use Rattle.pushsession.specs.declared.session_status.SessionStatus.TheVariants.{Live, AskedToStop, Stopped, Ended}
 use Rattle.pushserver.specs.PlainHubs.{Hub, Giving, Session, Made, frame_of, plain_keeps}
-use Rattle.pushserver.specs.Hubs.{now, keeps_now, session_of, each_session, in_session, entered, taken_by, take_octets, disconnect}
+use Rattle.pushserver.specs.Hubs.{now, keeps_now, session_of, in_session, entered, entered_keeping, taken_by, take_octets, disconnect}
 use Rattle.pushserver.specs.Giving.{by_standing, give, reacted, after_reaction}
 use Rattle.pushserver.specs.Calls.{HubCall, updates, hears, moves, connects, takes as taking, gives, stops, ends as ending, called, after_calls, BringsOctets}
 use Rattle.pushserver.proofs.SessionLists.{same-number, found-changed, found-in, found-last, found-left}
 use Rattle.pushserver.proofs.hub_steps.Cases.{works_as, output_as, give_as}
 use Rattle.pushserver.proofs.session_steps.Octets.{rest_octets}
-use Rattle.pushserver.proofs.Walks.{AnyMessage, holds-update, holds-hear, holds-moment, holds-connect, with_new, Reacts, Gives, hands_nothing, hands_front, TakesUp, reacts-give, Walks, walks-give}
+use Rattle.pushserver.proofs.Walks.{AnyMessage, Entering, EndsSome, entering-kept, timed-kept, holds-update, holds-hear, holds-moment, holds-connect, with_new, Reacts, Gives, hands_nothing, hands_front, TakesUp, reacts-give, Walks, walks-give}
 use Rattle.pushtelling.specs.Runs.{hands_out, takes_in, is_live, first_of, message_up, reacts_to, handed_out, taken_in, reacted_to, MadeGoesOut, EachIsReactedToOnce, GiveReacts}
 use Rattle.pushtelling.proofs.Tells.{by_entry}
 use Rattle.pushtelling.proofs.OneSession.{one-changed, one-last, one-left}
-use Rattle.pushtelling.proofs.Saying.{Said, said-none, said-step, said-timed, said-asked}
+use Rattle.pushtelling.proofs.Saying.{Said, said-none, said-step, said-ended_where, said-asked}
 
 -- ---- the message that is taken up
 
@@ -164,7 +164,7 @@ module _ (Octets : Type 0) (number : ℕ) (first : Session) where
   module _ (handed taken : List ℕ) (reacted : List (List ℕ)) where
     -- sessions change, with any history; that of the number says no more than messages
     changed : (g : ℕ → Session → Session) → ((s : Session) → Said s (g number s)) → (hub : Hub) (history : List Entry) → Runs handed taken reacted hub
-        → Runs handed taken reacted (record { start = hub.start; timers = hub.timers; history = history; sessions = map (λ e. (e.0, g e.0 e.1)) hub.sessions; numbers_given = hub.numbers_given })
+        → Runs handed taken reacted (record { start = hub.start; timers = hub.timers; history = history; seen = hub.seen; sessions = map (λ e. (e.0, g e.0 e.1)) hub.sessions; numbers_given = hub.numbers_given })
     changed g said hub history r = record {
       each = one-changed number (RanTo handed taken reacted) (RanTo handed taken reacted) g (λ s ran. ran-said handed taken reacted s (g number s) (said s) ran) hub.sessions r.each;
       fresh = λ low. (found-changed g number hub.sessions ∙ ap (option_map (g number)) (r.fresh low).0, (r.fresh low).1);
@@ -184,8 +184,12 @@ module _ (Octets : Type 0) (number : ℕ) (first : Session) where
     enters : (hub : Hub) (entry : Entry) → Runs handed taken reacted hub → Runs handed taken reacted (entered entry hub)
     enters hub entry r = changed (λ n. by_entry hub.start hub.history entry) (λ s. said-none s (by_entry hub.start hub.history entry s) refl refl refl) hub (hub.history ++ entry ∷ []) r
 
-    times : (hub : Hub) (point t : ℕ) → Runs handed taken reacted hub → Runs handed taken reacted (each_session (timed (plain_keeps point) t) hub)
-    times hub point t r = changed (λ n. timed (plain_keeps point) t) (said-timed point t) hub hub.history r
+    -- some may end
+    ends-some : EndsSome (Runs handed taken reacted)
+    ends-some hub point reason r = changed (λ n s. ended_where (plain_keeps point) (reason s) s) (λ s. said-ended_where point (reason s) s) hub hub.history r
+
+    enters_keeping : (hub : Hub) (entry : Entry) → Entering AnyMessage hub entry → Runs handed taken reacted hub → Runs handed taken reacted (entered_keeping entry hub)
+    enters_keeping = entering-kept AnyMessage (Runs handed taken reacted) (Runs handed taken reacted) ends-some (λ hub entry by r. enters hub entry r)
 
     makes : (hub : Hub) → Runs handed taken reacted hub → Runs handed taken reacted (with_new hub)
     makes hub r = record {
@@ -249,7 +253,7 @@ module _ (Octets : Type 0) (number : ℕ) (first : Session) where
     reacting : Reacts AnyMessage number (Runs handed taken reacted) (Runs handed taken reacted)
     reacting = record {
       changes = λ hub f step out r. in-changed hub number f (said-step hub step out) r;
-      enters = λ hub entry by r. enters hub entry r;
+      enters = enters_keeping;
       enters_none = λ hub r. r;
       changes_behind = λ hub f step out r. in-changed hub number f (said-step hub step out) r;
     }
@@ -259,7 +263,7 @@ module _ (Octets : Type 0) (number : ℕ) (first : Session) where
       reads = λ hub s found there is r. tt;
       takes_up = λ hub s found there is r. other-changed hub other (without_first found.1) apart r;
       changes = λ hub f step r. other-changed hub other f apart r;
-      enters = λ hub entry by r. enters hub entry r;
+      enters = enters_keeping;
       enters_none = λ hub r. r;
       changes_behind = λ hub f step r. other-changed hub other f apart r;
     }
@@ -311,11 +315,11 @@ module _ (Octets : Type 0) (number : ℕ) (first : Session) where
 
   runs-called : (handed taken : List ℕ) (reacted : List (List ℕ)) (call : HubCall) (hub : Hub) → (Octets → BringsOctets call) → Runs handed taken reacted hub → After handed taken reacted hub call
   runs-called handed taken reacted (updates message) hub good r =
-      still handed taken reacted _ (holds-update AnyMessage (Runs handed taken reacted) hub (λ entry by. enters handed taken reacted hub entry r) r message tt)
+      still handed taken reacted _ (holds-update AnyMessage (Runs handed taken reacted) hub (λ entry by. enters_keeping handed taken reacted hub entry by r) r message tt)
   runs-called handed taken reacted (hears link datagram) hub good r =
-      still handed taken reacted _ (holds-hear AnyMessage (Runs handed taken reacted) hub (λ entry by. enters handed taken reacted hub entry r) r link datagram tt)
+      still handed taken reacted _ (holds-hear AnyMessage (Runs handed taken reacted) hub (λ entry by. enters_keeping handed taken reacted hub entry by r) r link datagram tt)
   runs-called handed taken reacted (moves t) hub good r =
-      still handed taken reacted _ (holds-moment AnyMessage (Runs handed taken reacted) hub (λ entry by. enters handed taken reacted hub entry r) r (times handed taken reacted) t)
+      still handed taken reacted _ (holds-moment AnyMessage (Runs handed taken reacted) hub (λ entry by. enters_keeping handed taken reacted hub entry by r) r (timed-kept (Runs handed taken reacted) (ends-some handed taken reacted)) t)
   runs-called handed taken reacted connects hub good r = still handed taken reacted _ (holds-connect (Runs handed taken reacted) hub (makes handed taken reacted hub r) r)
   runs-called handed taken reacted (taking other piece) hub good r = runs-takes handed taken reacted hub other piece good r
   runs-called handed taken reacted (gives other room) hub good r = runs-gives handed taken reacted hub other room r

@@ -1,7 +1,7 @@
 -- What a step of a session makes goes behind its output, and its input stays.
 --     Said before after      the messages made, behind what was
 --     said-step      each step that hands nothing out
---     said-timed, said-asked      time passes; a stop is asked for
+--     said-ended_where, said-asked      its end, if there is one; a stop is asked for
 use Rattle.std.proofs.Common.{◌≡◌, ℕ, Bool, true, false, cond, List, [], ◌∷◌, ◌++◌, Option, Some, None, sym, ◌∙◌, ap, refl}
 use Rattle.std.specs.Prelude.{flat_map}
 use Rattle.std.proofs.lemmas.Grind.{flat_map-append}
@@ -19,7 +19,7 @@ use Rattle.dsosession.specs.declared.session.EndReason.{EndReason}
 use Rattle.dsosession.specs.declared.session.EndReason.TheVariants as ends
 use Rattle.dsosession.specs.declared.session.Reaction.{Reaction}
 use Rattle.dsosession.specs.declared.session.Reaction.TheVariants.{Answer, Grant, Abort, Subscribe, Unsubscribe, Reconfirm, Update, NotImplemented}
-use Rattle.pushsession.specs.Sessions.{is_open, asked_to_stop, ended_with, due, ended_where, timed, with_frame, answers, says_stop}
+use Rattle.pushsession.specs.Sessions.{is_open, asked_to_stop, ended_with, ended_where, with_frame, answers, says_stop}
 use Rattle.pushsession.specs.Subscribing.{Verdict, says_notices, subscribed, says_first_answer, first_answer_size, decided, answered}
 use Rattle.pushsession.specs.Reactions.{restarted_by, reacts_itself, by_itself}
 use Rattle.pushsession.specs.declared.session_status.SessionStatus.TheVariants.{AskedToStop}
@@ -138,12 +138,9 @@ said-step hub (comes_to_stop rcode delay) out session = by session.established
 said-step hub (ends_with reason) out session = said-ended hub reason session
 said-step hub (copies_front room) out session = absurd out
 
-pub said-timed : (point t : ℕ) (session : Session) → Said session (timed (plain_keeps point) t session)
-said-timed point t session = by (due (plain_keeps point) t session)
-  where
-    by : (o : Option EndReason) → Said session (ended_where (plain_keeps point) o session)
-    by None = said-none session session refl refl refl
-    by (Some reason) = said-none session (ended_with (plain_keeps point) reason session) refl refl refl
+pub said-ended_where : (point : ℕ) (reason : Option EndReason) (session : Session) → Said session (ended_where (plain_keeps point) reason session)
+said-ended_where point None session = said-none session session refl refl refl
+said-ended_where point (Some reason) session = said-none session (ended_with (plain_keeps point) reason session) refl refl refl
 
 pub said-asked : (rcode delay : ℕ) (session : Session) → Said session (asked_to_stop rcode delay session)
 said-asked rcode delay session = by (is_open session.standing)

@@ -1,7 +1,7 @@
 -- What holds of a session's standing however it ends or stops is kept by each step, as no step brings it to another standing.
 --     Has Q session      so it is of its standing
 --     has-step      each step of one session keeps that
---     has-timed      so does a moment
+--     has-ended_where      so does its end
 use Rattle.std.proofs.Common.{ℕ, Bool, true, false, cond, List, [], ◌∷◌, Option, Some, None}
 use Rattle.dsosession.specs.Reactions.{server_reaction}
 use Rattle.dsosession.specs.declared.session.EndReason.{EndReason}
@@ -14,7 +14,7 @@ use Rattle.dsotlv.specs.Notices.{question_of}
 use Rattle.dsotlv.specs.declared.message.DsoHead.{DsoHead}
 use Rattle.dsotlv.specs.declared.message.Notice.{Notice}
 use Rattle.pushsession.specs.Reactions.{reacts_itself, by_itself}
-use Rattle.pushsession.specs.Sessions.{ended_with, due, ended_where, timed, says_stop}
+use Rattle.pushsession.specs.Sessions.{ended_with, ended_where, says_stop}
 use Rattle.pushsession.specs.Subscribing.{Verdict, says_notices, subscribed, says_first_answer, first_answer_size, decided, answered}
 use Rattle.pushsession.specs.declared.session_status.SessionStatus.{SessionStatus}
 use Rattle.pushsession.specs.declared.session_status.SessionStatus.TheVariants.{Stopped, Ended}
@@ -88,9 +88,6 @@ module _ (Q : SessionStatus → Type 0) (ended : (reason : EndReason) → Q (End
     has-step (ends_with reason) session h = ended reason
     has-step (copies_front room) session h = h
 
-  pub has-timed : (point t : ℕ) (session : Session) → Has Q session → Has Q (timed (plain_keeps point) t session)
-  has-timed point t session h = by (due (plain_keeps point) t session)
-    where
-      by : (o : Option EndReason) → Has Q (ended_where (plain_keeps point) o session)
-      by None = h
-      by (Some reason) = ended reason
+  pub has-ended_where : (point : ℕ) (reason : Option EndReason) (session : Session) → Has Q session → Has Q (ended_where (plain_keeps point) reason session)
+  has-ended_where point None session h = h
+  has-ended_where point (Some reason) session h = ended reason

@@ -1,7 +1,7 @@
 -- Each step of one session keeps its telling.
 --     QuietAnswer reaction      an answer that it gives has no notices, and grants no SUBSCRIBE
 --     tells-step      each step
---     tells-timed      time passes
+--     tells-ended_where      its end, if there is one
 use Rattle.std.proofs.Common.{◌≡◌, ℕ, Bool, true, false, cond, not, ◌&&◌, List, [], ◌∷◌, Option, Some, None, is_some, IsTrue, sym, ◌∙◌, refl}
 use Rattle.std.specs.Prelude.{option_map, ◌==◌}
 use Rattle.std.specs.Int.{w16, from_be_bytes}
@@ -24,7 +24,7 @@ use Rattle.dsosession.specs.declared.session.Reaction.{Reaction}
 use Rattle.dsosession.specs.declared.session.Reaction.TheVariants.{Answer, Grant, Abort, Subscribe, Unsubscribe, Reconfirm, Update, NotImplemented}
 use Rattle.history.specs.States.{State}
 use Rattle.history.specs.declared.entry.Entry.{Entry}
-use Rattle.pushsession.specs.Sessions.{answers, due, ended_with, ended_where, says_stop, timed}
+use Rattle.pushsession.specs.Sessions.{answers, ended_with, ended_where, says_stop}
 use Rattle.pushsession.specs.Subscribing.{Verdict, decided, answered}
 use Rattle.pushsession.specs.Reactions.{reacts_itself, by_itself}
 use Rattle.pushsession.specs.declared.session_status.SessionStatus.TheVariants.{Stopped, Ended}
@@ -40,7 +40,8 @@ use Rattle.dsotlv.specs.Laws.{AreOctets}
 use Rattle.dsotlv.proofs.Numbers.{two_below}
 use Rattle.pushserver.proofs.session_steps.Octets.{question-named}
 use Rattle.pushserver.proofs.told_rows.HubTells.{StatesTell}
-use Rattle.pushtelling.proofs.Tells.{Tells, IsQuiet, tells-says_quiet, tells-fewer, tells-cleared}
+use Rattle.pushtelling.proofs.Tells.{Tells, IsQuiet, tells-says_quiet, tells-cleared}
+use Rattle.pushtelling.proofs.LettingGo.{tells-let_go}
 use Rattle.pushtelling.proofs.Quiet.{quiet-formerr, quiet-dsotypeni, quiet-refusal_formerr, quiet-refusal_refused, quiet-refusal_notauth, quiet-grant, quiet-stop, quiet-update, quiet-not_implemented}
 use Rattle.pushtelling.proofs.Leading.{first_is_read}
 use Rattle.pushtelling.proofs.Accepting.{tells-with_accepted}
@@ -137,7 +138,7 @@ module _ (hub : Hub) where
   tells-by_itself Grant quiet message session t =
       tells-answers true (grant_to (id_of message) hub.timers.inactivity hub.timers.keepalive) (quiet-grant (id_of message) hub.timers.inactivity hub.timers.keepalive) session t
   tells-by_itself (Abort reason) quiet message session t = tells-cleared hub.start hub.history session 0 (Ended reason) t
-  tells-by_itself Unsubscribe quiet message session t = tells-fewer hub.start hub.history session (λ u. not (u.id == from_be_bytes w16 (primary_data message))) t
+  tells-by_itself Unsubscribe quiet message session t = tells-let_go hub.start hub.history session (from_be_bytes w16 (primary_data message)) t
   tells-by_itself NotImplemented quiet message session t = tells-answers false (not_implemented message) (quiet-not_implemented message) session t
   tells-by_itself Subscribe quiet message session t = t
   tells-by_itself Reconfirm quiet message session t = t
@@ -195,11 +196,8 @@ module _ (hub : Hub) where
     tells-step (ends_with reason) session t = tells-cleared hub.start hub.history session 0 (Ended reason) t
     tells-step (copies_front room) session t = t
 
--- ---- time passes
+-- ---- it ends, or stays
 
-pub tells-timed : (start : State) (history : List Entry) (point t : ℕ) (session : Session) → Tells start history session → Tells start history (timed (plain_keeps point) t session)
-tells-timed start history point t session tells = by (due (plain_keeps point) t session)
-  where
-    by : (o : Option EndReason) → Tells start history (ended_where (plain_keeps point) o session)
-    by None = tells
-    by (Some reason) = tells-cleared start history session point (Ended reason) tells
+pub tells-ended_where : (start : State) (history : List Entry) (point : ℕ) (reason : Option EndReason) (session : Session) → Tells start history session → Tells start history (ended_where (plain_keeps point) reason session)
+tells-ended_where start history point None session tells = tells
+tells-ended_where start history point (Some reason) session tells = tells-cleared start history session point (Ended reason) tells

@@ -5,7 +5,7 @@
 --     Answers, HasCut, HasFinished, HasTimed      what such calls answer, and the hub behind them
 --     TellsConnected seats place answer      whether the client at a place has a connection
 --     closing_text w closing      the line of a client that has closed, if it has
---     Times t before text later told, TimesWorld kept known text later known_later told      the clients at a moment, one after the other
+--     Times t kept before kept_later later told, TimesWorld kept known later known_later told      the clients at a moment, one after the other
 use Rattle.std.specs.Prelude.{◌≡◌, ℕ, Bool, List, Option, None, fold, set, get_or}
 use Rattle.std.specs.Str.{bytes_eq}
 use Rattle.dsosession.specs.declared.session.CloseReason.{CloseReason}
@@ -17,7 +17,7 @@ use Rattle.pushclient.specs.Clients.{Client, closed_as, is_connected}
 use Rattle.pushclient.specs.Steps.{moment}
 use Rattle.scripts.specs.Lines.{Word}
 use Rattle.replay.specs.World.{World, Seat, with_client, is_over, cut_if, hub_without, hub_cut_if}
-use Rattle.replay.specs.Text.{close_lines, timed}
+use Rattle.replay.specs.Text.{quietly, close_lines, timed}
 use Rattle.scripts.specs.Words.{ended_lines}
 use Rattle.replay.specs.KeptWorlds.{KeptSeat, Seated, Parties, StandsForSeat, StandForSeats, words_in}
 use Rattle.scripts.specs.Scripts.{AreDistinct}
@@ -72,20 +72,19 @@ pub record HasTimed (t : ℕ) (closing : Option CloseReason) (before later : Kep
 abbrev pub closing_text : Word → Option CloseReason → List ℕ
 closing_text w closing = ended_lines (close_lines w closing)
 
--- In every world that is stood for, the clients print at a moment, behind lines that were printed, what was told.
-pub record IsTimed (t : ℕ) (kept : KeptHub) (later : Seated) (told : List ℕ) (world : World) (lines : List (List ℕ)) : Type 0 where
-  pub text : told ≡ ended_lines (fold (timed t) (world, lines) world.seats).1
-  pub hub : StandsFor kept (fold (timed t) (world, lines) world.seats).0.hub
-  pub stands : StandForSeats later (fold (timed t) (world, lines) world.seats).0.seats
+-- In every world that is stood for, the clients print at a moment what was told.
+pub record IsTimed (t : ℕ) (kept : KeptHub) (later : Seated) (told : List ℕ) (world : World) : Type 0 where
+  pub text : told ≡ ended_lines (fold (timed t) (quietly world) world.seats).1
+  pub hub : StandsFor kept (fold (timed t) (quietly world) world.seats).0.hub
+  pub stands : StandForSeats later (fold (timed t) (quietly world) world.seats).0.seats
 
-unfoldable pub Times : ℕ → KeptHub → Seated → List ℕ → KeptHub → Seated → List ℕ → Type 0
-Times t kept before text kept_later later told = (world : World) (lines : List (List ℕ)) → StandsFor kept world.hub → StandForSeats before world.seats → AreDistinct (words_in world) → text ≡ ended_lines lines
-    → IsTimed t kept_later later told world lines
+unfoldable pub Times : ℕ → KeptHub → Seated → KeptHub → Seated → List ℕ → Type 0
+Times t kept before kept_later later told = (world : World) → StandsFor kept world.hub → StandForSeats before world.seats → AreDistinct (words_in world) → IsTimed t kept_later later told world
 
 -- so at the hub's moment; the links and the peers are the same
-pub record TimesWorld (kept : KeptHub) (known : Parties) (text : List ℕ) (later : KeptHub) (known_later : Parties) (told : List ℕ) : Type 0 where
+pub record TimesWorld (kept : KeptHub) (known : Parties) (later : KeptHub) (known_later : Parties) (told : List ℕ) : Type 0 where
   pub at : ℕ
   pub links : known_later.links ≡ known.links
   pub peers : known_later.peers ≡ known.peers
   pub moment : (hub : Hub) → StandsFor kept hub → at ≡ now hub
-  pub times : Times at kept known.seats text later known_later.seats told
+  pub times : Times at kept known.seats later known_later.seats told

@@ -133,10 +133,9 @@ called (calls.Reconfirm rr) c = reconfirming rr c
 abbrev pub asks : Call → Word → World → Printed
 asks call w world = by_seat (λ seat there. printing (call_word call ∷ w ∷ (called call seat.client).0 ∷ []) (with_seat (with_client (λ c. (called call c).1) seat) there)) w world
 
-abbrev pub heard_words : Option Heard → List ℕ
-heard_words None = codes "full"
-heard_words (Some Entered) = codes "heard"
-heard_words (Some (Ignored why)) = spaced (codes "ignored" ∷ why_words why ∷ [])
+abbrev pub heard_words : Heard → List ℕ
+heard_words Entered = codes "heard"
+heard_words (Ignored why) = spaced (codes "ignored" ∷ why_words why ∷ [])
 
 -- the number of a link, by its word
 abbrev pub link_number : Word → World → ℕ
@@ -161,8 +160,8 @@ timed t so_far seat =
 
 abbrev pub moments : ℕ → World → Printed
 moments t world =
-    let r = hubs.moment world.hub t in
-    fold (timed (now r.1)) (record world { hub = r.1 }, cond r.0 (codes "full" ∷ []) []) world.seats
+    let later = hubs.moment world.hub t in
+    fold (timed (now later)) (quietly (record world { hub = later })) world.seats
 
 abbrev pub opens_lone : Seat → World → Printed
 opens_lone seat world = printing (open_words seat.word) (with_seat (with_client (connected (now world.hub)) seat) world)

@@ -46,6 +46,7 @@ why_words whys.Query = codes "query"
 why_words whys.Coded = codes "coded"
 why_words (whys.Unreadable place) = spaced (codes "unreadable" ∷ decimal place ∷ [])
 why_words whys.Nothing = codes "nothing"
+why_words whys.Last = codes "last"
 
 abbrev pub record_line : Key × Shown → List ℕ
 record_line e = spaced (codes "rr" ∷ name_text e.1.owner ∷ decimal e.1.ttl ∷ decimal e.0.class ∷ decimal e.0.kind ∷ octets_text e.1.rdata ∷ [])

@@ -108,16 +108,16 @@ fn open_hub(alloc: Global, world: &mut World, place: usize, word: &str) -> Resul
     }
 }
 
-/// It is a moment for each client, in order; what they print stands behind a text.
+/// It is a moment for each client, in order.
 pub(crate) fn timed_lines(
     alloc: Global,
     hub: &mut Hub,
     seats: &mut [Seat],
     now: u64,
-    mut text: String,
 ) -> Result<String, NoMemory>
-    ensures { IfOk result (λ told. Times now hub.old (seated seats.old) (string_bytes text) hub.new (seated seats.new) (string_bytes told)) }
+    ensures { IfOk result (λ text. Times now hub.old (seated seats.old) hub.new (seated seats.new) (string_bytes text)) }
 {
+    let mut text = String::new(alloc);
     'seats: for place in 0..seats.len() {
         let closing = moment_at(hub, seats, place, now)?;
         let line = closing_line(alloc, seats[place].word.as_str(), closing)?;

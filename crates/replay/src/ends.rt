@@ -29,6 +29,7 @@ pub(crate) fn ends_of(alloc: Global, world: World) -> Result<Ends, NoMemory>
         links: _,
         peers: _,
         seats,
+        buffer: _,
     } = world;
     let clients = clients_of(alloc, seats)?;
     Ok(Ends { hub, clients })

@@ -21,8 +21,7 @@ use crate::feed_lines::feed_lines;
 use crate::hear_lines::hear_line;
 use crate::passing_lines::passing_line;
 use crate::printed::{
-    bytes_line, cut_text, end_text, end_words, full_text, noseat_text, point_text, stop_text,
-    update_text,
+    bytes_line, cut_text, end_text, end_words, noseat_text, point_text, stop_text, update_text,
 };
 use crate::seats::{cut_at, session_at};
 use crate::show_lines::show_lines;
@@ -174,7 +173,6 @@ fn update_line(alloc: Global, world: &mut World, message: &[u8]) -> Result<Strin
     match world.hub.update_uncounted(message) {
         Ok(code) => update_text(alloc, code),
         Err(HubFault::NoMemory) => Err(NoMemory),
-        Err(HubFault::Full) => unreachable!(),
     }
 }
 
@@ -191,22 +189,18 @@ fn moment_lines(alloc: Global, world: &mut World, moment: u64) -> Result<String,
     ensures { IfOk result (λ text. Does (moments moment) world.old (string_bytes text) world.new) }
 {
     match world.hub.moment_uncounted(moment) {
-        Ok(()) => clients_timed(alloc, world, String::new(alloc)),
-        Err(HubFault::Full) => {
-            let text = full_text(alloc)?;
-            clients_timed(alloc, world, text)
-        }
+        Ok(()) => clients_timed(alloc, world),
         Err(HubFault::NoMemory) => Err(NoMemory),
     }
 }
 
-// It is the hub's moment for each client; what they print stands behind a text.
-fn clients_timed(alloc: Global, world: &mut World, text: String) -> Result<String, NoMemory>
-    ensures { IfOk result (λ told. TimesWorld world.old.hub (parties_of world.old) (string_bytes text) world.new.hub (parties_of world.new) (string_bytes told)) }
+// It is the hub's moment for each client.
+fn clients_timed(alloc: Global, world: &mut World) -> Result<String, NoMemory>
+    ensures { IfOk result (λ text. TimesWorld world.old.hub (parties_of world.old) world.new.hub (parties_of world.new) (string_bytes text)) }
 {
     let now = world.hub.now();
-    let told = timed_lines(alloc, &mut world.hub, &mut world.seats, now, text)?;
-    Ok(told)
+    let text = timed_lines(alloc, &mut world.hub, &mut world.seats, now)?;
+    Ok(text)
 }
 
 // The session of a client is asked to stop, or else that of a peer.
@@ -313,7 +307,13 @@ fn exchange_lines(
 ) -> Result<String, NoMemory>
     ensures { IfOk result (λ text. Does (exchanges word.now session octets.now) world.old (string_bytes text) world.new) }
 {
-    let Exchanged { octets, over } = exchange(alloc, &mut world.hub, session, octets)?;
+    let Exchanged { octets, over } = exchange(
+        alloc,
+        &mut world.hub,
+        session,
+        octets,
+        &mut world.buffer,
+    )?;
     let text = bytes_line(alloc, word, octets.as_slice())?;
     match over {
         None => Ok(text),

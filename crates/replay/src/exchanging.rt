@@ -8,6 +8,7 @@ ghost use Rattle.pushserver.specs.KeptHubs.{StandsFor};
 ghost use Rattle.replay.specs.KeptExchanges.{has_worked, turn_of, written, Gives, Emits, Exchanges, Remembers};
 
 use crate::told_ends::put_in_front;
+use crate::world::make_room;
 use coalesce::MAX_FRAME;
 use dsosession::session::EndReason;
 use push_base::NoMemory;
@@ -40,18 +41,19 @@ enum Turn {
     Last(Option<EndReason>),
 }
 
-/// Octets go into a session as far as there is room, and what it has to say is taken; again, until none are left or
-/// none were taken.
+/// Octets go into a session as far as there is room, and what it has to say is taken, by a buffer; again, until none are
+/// left or none were taken.
 pub fn exchange(
     alloc: Global,
     hub: &mut Hub,
     session: u64,
     octets: &[u8],
+    buffer: &mut Vec<u8>,
 ) -> Result<Exchanged, NoMemory>
     ensures { IfOk result (λ x. Exchanges hub.old session octets.now hub.new x.octets.items x.over) }
 {
     // No output of a session is longer.
-    let mut buffer = vec![in alloc; 0; MAX_FRAME]?;
+    make_room(buffer, MAX_FRAME)?;
     exchange_over(alloc, hub, session, octets, buffer.as_mut_slice())
 }
 
@@ -63,7 +65,7 @@ fn exchange_over(
     octets: &[u8],
     buffer: &mut [u8],
 ) -> Result<Exchanged, NoMemory>
-    requires { length buffer.old ≡ frame_octets }
+    requires { frame_octets ≤ length buffer.old }
     ensures { IfOk result (λ x. Exchanges hub.old session octets.now hub.new x.octets.items x.over) }
 {
     let mut answer = Vec::new(alloc);
@@ -193,7 +195,6 @@ fn give(
     let given = match hub.give_uncounted(session, buffer) {
         Ok(given) => given,
         Err(HubFault::NoMemory) => return Err(NoMemory),
-        Err(HubFault::Full) => unreachable!(),
     };
     octets.extend_from_slice(front_of(buffer, given))?;
     remember(hub, session, filled)?;

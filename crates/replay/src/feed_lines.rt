@@ -38,7 +38,14 @@ pub(crate) fn feed_lines(
     if !is_connected_at(&world.seats, client) {
         return bytes_line(alloc, word, &[]);
     }
-    let fed = feed_at(alloc, &mut world.hub, &mut world.seats, client, octets)?;
+    let fed = feed_at(
+        alloc,
+        &mut world.hub,
+        &mut world.seats,
+        client,
+        octets,
+        &mut world.buffer,
+    )?;
     fed_lines(alloc, word, &fed)
 }
 
@@ -59,20 +66,27 @@ fn feed_at(
     seats: &mut [Seat],
     place: usize,
     octets: &[u8],
+    buffer: &mut Vec<u8>,
 ) -> Result<Fed, NoMemory>
     requires { place < length seats.old }
     ensures { IfOk result (λ fed. Calls (HasFed octets.now fed.octets.items fed.closing hub.old hub.new) (fed_seat octets.now fed.closing) (seated seats.old) place (seated seats.new)) }
 {
-    let fed = feed_one(alloc, hub, &mut seats[place], octets)?;
+    let fed = feed_one(alloc, hub, &mut seats[place], octets, buffer)?;
     Ok(fed)
 }
 
 // Octets go to a client, which hands out what it has to send. Where it has closed its connection is cut.
-fn feed_one(alloc: Global, hub: &mut Hub, seat: &mut Seat, octets: &[u8]) -> Result<Fed, NoMemory>
+fn feed_one(
+    alloc: Global,
+    hub: &mut Hub,
+    seat: &mut Seat,
+    octets: &[u8],
+    buffer: &mut Vec<u8>,
+) -> Result<Fed, NoMemory>
     ensures { IfOk result (λ fed. Makes (HasFed octets.now fed.octets.items fed.closing hub.old hub.new) (fed_seat octets.now fed.closing) (seat_kept seat.old) (seat_kept seat.new)) }
 {
     deliver(&mut seat.client, octets)?;
-    let octets = hand_out(alloc, &mut seat.client)?;
+    let octets = hand_out(alloc, &mut seat.client, buffer)?;
     let closing = finish(hub, seat, None);
     Ok(Fed { octets, closing })
 }

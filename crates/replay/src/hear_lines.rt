@@ -7,7 +7,7 @@ ghost use Rattle.scripts.specs.Lines.{Word};
 ghost use Rattle.scripts.specs.KeptLines.{words_of};
 ghost use Rattle.replay.specs.KeptWorlds.{Does};
 
-use crate::printed::{full_text, heard_text};
+use crate::printed::heard_text;
 use crate::world::World;
 use push_base::NoMemory;
 use pushserver::HubFault;
@@ -24,7 +24,6 @@ pub(crate) fn hear_line(
 {
     match world.hub.hear_uncounted(link, datagram) {
         Ok(heard) => heard_text(alloc, heard),
-        Err(HubFault::Full) => full_text(alloc),
         Err(HubFault::NoMemory) => Err(NoMemory),
     }
 }

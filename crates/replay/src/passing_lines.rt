@@ -1,6 +1,6 @@
 //! The lines that are printed where octets of a client pass.
 
-ghost use Rattle.std.specs.Prelude.{◌≡◌, ◌<◌, ◌++◌, Some, length, position, IfOk, string_bytes};
+ghost use Rattle.std.specs.Prelude.{◌≡◌, ◌<◌, ◌≤◌, ◌++◌, Some, length, position, IfOk, string_bytes};
 ghost use Rattle.replay.specs.Text.{end_lines, passes, passes_way};
 ghost use Rattle.scripts.specs.Words.{ended_lines};
 ghost use Rattle.replay.specs.KeptWorlds.{Does, seat_kept, seated};
@@ -11,7 +11,7 @@ ghost use Rattle.replay.specs.PassedOctets.{max_wire};
 use crate::printed::{closing_line, end_line, way_text};
 use crate::seats::{Seat, finish};
 use crate::settling::{Passage, pass};
-use crate::world::World;
+use crate::world::{World, make_room};
 use dsosession::session::{CloseReason, EndReason};
 use push_base::NoMemory;
 use pushserver::Hub;
@@ -44,29 +44,35 @@ pub(crate) fn passing_line(
     requires within { client < length world.old.seats.items }
     ensures { IfOk result (λ text. Does (passes way word.now) world.old (string_bytes text) world.new) }
 {
-    let ending = pass_at(alloc, &mut world.hub, &mut world.seats, client, way)?;
+    let ending = pass_at(
+        &mut world.hub,
+        &mut world.seats,
+        client,
+        way,
+        &mut world.buffer,
+    )?;
     passed_text(alloc, word, way, ending)
 }
 
-// Octets of the client at a place pass.
+// Octets of the client at a place pass, by a buffer.
 fn pass_at(
-    alloc: Global,
     hub: &mut Hub,
     seats: &mut [Seat],
     place: usize,
     way: Way,
+    buffer: &mut Vec<u8>,
 ) -> Result<Ending, NoMemory>
     requires { place < length seats.old }
     ensures { IfOk result (λ ending. EndsAt (passes_way way) hub.old (seated seats.old) place ending.count ending.over ending.closing hub.new (seated seats.new)) }
 {
-    let mut buffer = vec![in alloc; 0; MAX_WIRE]?;
+    make_room(buffer, MAX_WIRE)?;
     let ending = pass_one(hub, &mut seats[place], way, buffer.as_mut_slice())?;
     Ok(ending)
 }
 
 // Octets of a client pass, and its connection is cut where an end or a close is told.
 fn pass_one(hub: &mut Hub, seat: &mut Seat, way: Way, buffer: &mut [u8]) -> Result<Ending, NoMemory>
-    requires { length buffer.old ≡ max_wire }
+    requires { max_wire ≤ length buffer.old }
     ensures { IfOk result (λ ending. EndsSo (passes_way way) hub.old (seat_kept seat.old) ending.count ending.over ending.closing hub.new (seat_kept seat.new)) }
 {
     let passage = pass_by(hub, seat, way, buffer)?;
@@ -80,7 +86,7 @@ fn pass_one(hub: &mut Hub, seat: &mut Seat, way: Way, buffer: &mut [u8]) -> Resu
 
 // Without a session nothing passes.
 fn pass_by(hub: &mut Hub, seat: &mut Seat, way: Way, buffer: &mut [u8]) -> Result<Passage, NoMemory>
-    requires { length buffer.old ≡ max_wire }
+    requires { max_wire ≤ length buffer.old }
     ensures { IfOk result (λ passage. Moves (passes_way way) hub.old (seat_kept seat.old) passage.count passage.over hub.new (seat_kept seat.new)) }
 {
     match seat.session {

@@ -1,6 +1,6 @@
 //! The lines that events print, and the words in them.
 
-ghost use Rattle.std.specs.Prelude.{◌≡◌, ◌++◌, ◌∷◌, [], codes, decimal, IfOk, Some, string_bytes};
+ghost use Rattle.std.specs.Prelude.{◌≡◌, ◌++◌, ◌∷◌, [], codes, decimal, IfOk, string_bytes};
 ghost use Rattle.scripts.specs.Words.{octets_text, ended_lines};
 ghost use Rattle.replay.specs.TextWords.{end_words, why_words};
 ghost use Rattle.replay.specs.Text.{asked_words, call_word, end_lines, heard_words, yes_or_no};
@@ -29,16 +29,9 @@ pub(crate) fn point_text(alloc: Global, point: u64, moment: u64) -> Result<Strin
     format!(in alloc; "point {point} {moment}\n")
 }
 
-/// The line of a moment for which the journal has no room.
-pub(crate) fn full_text(alloc: Global) -> Result<String, NoMemory>
-    ensures { IfOk result (λ text. string_bytes text ≡ codes "full" ++ 10 ∷ []) }
-{
-    format!(in alloc; "full\n")
-}
-
 /// The line of a datagram of a link, with what became of it.
 pub(crate) fn heard_text(alloc: Global, heard: Heard) -> Result<String, NoMemory>
-    ensures { IfOk result (λ text. string_bytes text ≡ heard_words (Some heard) ++ 10 ∷ []) }
+    ensures { IfOk result (λ text. string_bytes text ≡ heard_words heard ++ 10 ∷ []) }
 {
     match heard {
         Heard::Entered => format!(in alloc; "heard\n"),
@@ -66,6 +59,7 @@ fn why_words(alloc: Global, why: Why) -> Result<String, NoMemory>
         Why::Coded => format!(in alloc; "coded"),
         Why::Unreadable(place) => format!(in alloc; "unreadable {place}"),
         Why::Nothing => format!(in alloc; "nothing"),
+        Why::Last => format!(in alloc; "last"),
     }
 }
 

@@ -45,7 +45,7 @@ pub(crate) fn pass(
     way: Way,
     buffer: &mut [u8],
 ) -> Result<Passage, NoMemory>
-    requires { length buffer.old ≡ max_wire }
+    requires { max_wire ≤ length buffer.old }
     ensures { IfOk result (λ passage. Moves (passing_of way session) hub.old (seat_kept seat.old) passage.count passage.over hub.new (seat_kept seat.new)) }
 {
     match way {
@@ -81,7 +81,7 @@ fn settle(
     seat: &mut Seat,
     buffer: &mut [u8],
 ) -> Result<Option<EndReason>, NoMemory>
-    requires { length buffer.old ≡ max_wire }
+    requires { max_wire ≤ length buffer.old }
     ensures { IfOk result (λ over. Moves (λ world s. settled enough session world s None) hub.old (seat_kept seat.old) 0 over hub.new (seat_kept seat.new)) }
 {
     let mut over = None;
@@ -116,7 +116,7 @@ fn round(
     seat: &mut Seat,
     buffer: &mut [u8],
 ) -> Result<RoundDone, NoMemory>
-    requires { length buffer.old ≡ max_wire }
+    requires { max_wire ≤ length buffer.old }
     ensures { IfOk result (λ turn. Turns session hub.old (seat_kept seat.old) turn.moves turn.over hub.new (seat_kept seat.new)) }
 {
     let said = say(seat, MAX_WIRE, buffer)?;
@@ -145,7 +145,7 @@ fn room_on(most: usize, wire: usize) -> usize
 
 // From the client onto the upward wire, as far as that has room.
 fn say(seat: &mut Seat, most: usize, buffer: &mut [u8]) -> Result<usize, NoMemory>
-    requires { length buffer.old ≡ max_wire }
+    requires { max_wire ≤ length buffer.old }
     ensures { (hub : KeptHub) → IfOk result (λ count. Passes (passing.say most) hub (seat_kept seat.old) count false None hub (seat_kept seat.new)) }
 {
     let room = room_on(most, seat.up_wire.len());
@@ -162,17 +162,17 @@ fn say_into(seat: &mut Seat, most: usize, buffer: &mut [u8]) -> Result<usize, No
     Ok(count)
 }
 
-// The octets behind the first so many.
-fn drop_front(wire: &mut Vec<u8>, count: usize)
-    ensures { wire.new.items ≡ drop count wire.old.items }
+/// What is behind the first so many stays.
+pub(crate) fn drop_front<T: Drop>(list: &mut Vec<T>, count: usize)
+    ensures { list.new.items ≡ drop count list.old.items }
 {
-    if count >= wire.len() {
-        wire.clear();
+    if count >= list.len() {
+        list.clear();
         return;
     }
-    let left = wire.len() - count;
-    wire.rotate_left(count);
-    wire.truncate(left);
+    let left = list.len() - count;
+    list.rotate_left(count);
+    list.truncate(left);
 }
 
 // From the upward wire into the session, as far as that has room.

@@ -5,6 +5,7 @@ ghost use Rattle.push_base.specs.Cases.{is_empty};
 ghost use Rattle.replay.specs.KeptSteps.{ends_steps, Delivers, Steps};
 ghost use Rattle.pushclient.specs.HandedOut.{HandsOut};
 
+use crate::world::make_room;
 use coalesce::MAX_FRAME;
 use push_base::NoMemory;
 use pushclient::client::Step;
@@ -79,10 +80,14 @@ fn ends_steps(step: Step) -> bool
     }
 }
 
-/// All that a client has to send is handed out.
-pub(crate) fn hand_out(alloc: Global, client: &mut Client) -> Result<Vec<u8>, NoMemory>
+/// All that a client has to send is handed out, by a buffer.
+pub(crate) fn hand_out(
+    alloc: Global,
+    client: &mut Client,
+    buffer: &mut Vec<u8>,
+) -> Result<Vec<u8>, NoMemory>
     ensures { IfOk result (λ octets. HandsOut client.old octets.items client.new) }
 {
-    let mut buffer = vec![in alloc; 0; MAX_FRAME]?;
+    make_room(buffer, MAX_FRAME)?;
     hand_out_over(alloc, client, buffer.as_mut_slice())
 }

@@ -1,38 +1,41 @@
 //! Where first answers end, as it was told last.
 
-ghost use Rattle.std.specs.Prelude.{◌≡◌, ◌++◌, ℕ, true, false, drop, filter, length, OnOk};
+ghost use Rattle.std.specs.Prelude.{◌≡◌, ◌≤◌, ◌++◌, ℕ, false, filter, length, take, OnOk};
 ghost use Rattle.inflight.specs.Ends.{told_end};
 ghost use Rattle.replay.specs.KeptExchanges.{has_end, not_told};
 
+use crate::settling::drop_front;
 use push_base::NoMemory;
 
-/// What is told now goes before what was told earlier, of which only the other IDs are left.
+/// What is told now goes before what was told earlier, of which only the other IDs are left. Where both begin alike, that much
+/// stays: so what is told once more costs a comparison.
 pub(crate) fn put_in_front(
     told: &[(u16, u64)],
     filled: &mut Vec<(u16, u64)>,
 ) -> Result<(), NoMemory>
     ensures { OnOk result ((id : ℕ) → told_end filled.new.items id ≡ told_end (told.now ++ filled.old.items) id) }
 {
-    if is_front(told, filled) {
+    let same = same_front(told, filled);
+    if same >= told.len() {
         return Ok(());
     }
-    take_out(told, filled);
+    drop_front(filled, same);
+    take_out(&told[same..], filled);
     push_front(told, filled)
 }
 
-// Whether what is told is the front of what was told earlier.
-fn is_front(told: &[(u16, u64)], filled: &[(u16, u64)]) -> bool
-    ensures { result ≡ true → filled.now ≡ told.now ++ drop (length told.now) filled.now }
+// How many ends both begin with.
+fn same_front(told: &[(u16, u64)], filled: &[(u16, u64)]) -> usize
+    ensures same { take result told.now ≡ take result filled.now }
+    ensures within { result ≤ length told.now }
 {
-    if told.len() > filled.len() {
-        return false;
-    }
-    'told: for place in 0..told.len() {
+    let least = told.len().min(filled.len());
+    'told: for place in 0..least {
         if is_other(told[place], filled[place]) {
-            return false;
+            return place;
         }
     }
-    true
+    least
 }
 
 // Whether two ends differ, or are of two IDs.

@@ -1,6 +1,6 @@
 //! What a run keeps: a hub, the words of its links, peers with their sessions, and clients.
 
-ghost use Rattle.std.specs.Prelude.{◌≡◌, [], IfOk};
+ghost use Rattle.std.specs.Prelude.{◌≡◌, ◌≤◌, [], length, IfOk, OnOk};
 ghost use Rattle.history.specs.Kept.{state_of};
 ghost use Rattle.history.specs.Plans.{IsStart};
 ghost use Rattle.replay.specs.World.{World as Plain, world_of, cut_peer, number_in, without};
@@ -34,6 +34,18 @@ pub struct World {
     pub peers: Vec<Peer>,
     /// The clients, in the order of their lines.
     pub seats: Vec<Seat>,
+    /// Room for octets that are handed out, kept from line to line.
+    pub buffer: Vec<u8>,
+}
+
+/// There is room for so many octets.
+pub(crate) fn make_room(buffer: &mut Vec<u8>, size: usize) -> Result<(), NoMemory>
+    ensures { OnOk result (size ≤ length buffer.new.items) }
+{
+    if buffer.len() < size {
+        buffer.resize(size, 0)?;
+    }
+    Ok(())
 }
 
 // The number of the session of a word.
@@ -71,6 +83,7 @@ impl World {
             links,
             peers: Vec::new(alloc),
             seats: Vec::new(alloc),
+            buffer: Vec::new(alloc),
         })
     }
 

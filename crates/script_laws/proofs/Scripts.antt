@@ -31,7 +31,6 @@ use Rattle.script_laws.proofs.settles.StillRounds.{quiet-at-last}
 use Rattle.script_laws.proofs.settles.Stops.{stopped-said-so}
 use Rattle.script_laws.proofs.settles.Settling.{turns-suffice, settles-of-zones}
 use Rattle.script_laws.proofs.sizes.EachLine.{sized-after-lines, work-is-little}
-use Rattle.script_laws.proofs.sizes.Histories.{histories-are-short}
 use Rattle.script_laws.proofs.sizes.Queues.{queues-are-short}
 use Rattle.script_laws.proofs.Reading.{are-lines}
 use Rattle.script_laws.proofs.turns.Rounds.{emits-lower, downs-lower, rounds-fall}
@@ -127,7 +126,7 @@ downward-lower = downs-lower reached-sessions
 pub turns-are-enough : TurnsSuffice
 turns-are-enough =
     turns-suffice reached-go-on rounds stands-after work_left (rounds-fall reached-go-on says-pass ups emitting emitting-lower downward-lower)
-    (work-is-little reached-sound stands-after (sized-after-lines all-laws shown-taken emitting-lower downward-lower) queues-are-short histories-are-short)
+    (work-is-little reached-sound stands-after (sized-after-lines all-laws shown-taken emitting-lower downward-lower) queues-are-short)
 
 pub lines-settle : SettlesOfLines
 lines-settle = settles-of-zones reached-go-on rounds (quiet-at-last reached-go-on stopped-said-so says-pass ups emitting) stands-after turns-are-enough

@@ -4,6 +4,7 @@ pub mod Sound
 pub mod Inside
 pub mod Stops
 pub mod Sessions
+pub mod OwnEnds
 pub mod OtherCalls
 pub mod Others
 pub mod Counting

@@ -3,5 +3,4 @@ pub mod Scripts
 pub mod Passing
 pub mod Lines
 pub mod EachLine
-pub mod Histories
 pub mod Queues

@@ -3,9 +3,10 @@
 --     IsReactedTo number calls hub session, MessagesAreReactedTo      what came are the messages that were reacted to, and what waits
 --     HasItsTurn number calls hub front message      the call in which a message is reacted to, behind these others
 --     Effect, effect_of hub session message      what is done for a message: what is made, whether it ends the session, what that asks then, and the history
+--     falling_behind point effect      the session ends as behind, besides
 --     HasEffect, EachHasItsTurn      each message that was reacted to has its call, and this is done for it
 --     IsAnswered, SubscribesAreAnswered      a SUBSCRIBE that none of the tests refuses gets NOERROR and the first answer
-use Rattle.std.specs.Prelude.{Bool, true, not, filter, ◌==◌, ◌≡◌, ℕ, List, [], ◌∷◌, ◌++◌, map, flat_map, Option, Some, None, Ok, if◌then◌else◌}
+use Rattle.std.specs.Prelude.{Bool, true, not, filter, ◌==◌, ◌≡◌, ℕ, List, [], ◌∷◌, ◌++◌, map, flat_map, Option, Some, None, Result, Ok, Err, option_map, is_some, if◌then◌else◌}
 use Rattle.std.specs.Int.{w16, from_be_bytes}
 use Rattle.push_base.specs.Cases.{is_empty}
 use Rattle.rrset.specs.Header.{id_of}
@@ -22,17 +23,21 @@ use Rattle.dsosession.specs.declared.session.EndReason.{EndReason}
 use Rattle.dsosession.specs.declared.session.EndReason.TheVariants as ends
 use Rattle.dsosession.specs.declared.session.Reaction.{Reaction}
 use Rattle.dsosession.specs.declared.session.Reaction.TheVariants as reactions
+use Rattle.dnswire.specs.declared.message.Update.{Update}
+use Rattle.history.specs.States.{verdict, reconfirm_key}
 use Rattle.history.specs.declared.entry.Entry.{Entry}
+use Rattle.history.specs.declared.entry.Entry.TheVariants as entries
 use Rattle.pushsession.specs.Sessions.{without_first}
 use Rattle.pushsession.specs.Subscribing.{Verdict, Refuse, Abort, Accept, verdict_on, first_answer_octets}
 use Rattle.pushsession.specs.declared.session_status.SessionStatus.{SessionStatus}
 use Rattle.pushsession.specs.declared.session_status.SessionStatus.TheVariants.{Live, Ended}
 use Rattle.pushserver.specs.PlainHubs.{Hub, Session, frame_of, asked_of, first_answer}
-use Rattle.pushserver.specs.Hubs.{keeps_now, session_of, in_session, update}
+use Rattle.pushserver.specs.Hubs.{state_now, keeps_now, session_of, in_session, behind_at, can_enter, update}
 use Rattle.pushserver.specs.Giving.{has_home, reconfirm, give, reacted, after_reaction}
 use Rattle.pushserver.specs.Calls.{HubCall, gives, after_calls}
 use Rattle.pushserver.specs.Laws.{IsAcceptable}
 use Rattle.pushtelling.specs.Runs.{handed_out, taken_in, reacted_to}
+use Rattle.flight_laws.specs.Meeting.{behind_point}
 use Rattle.scripts.specs.Lines.{ScriptLine}
 use Rattle.scripts.specs.Scripts.{script_of}
 use Rattle.replay.specs.World.{start_world}
@@ -109,10 +114,27 @@ effect_by_verdict hub session message (Accept question) =
 abbrev pub effect_of_subscribe : Hub → Session → List ℕ → Option Question → Effect
 effect_of_subscribe hub session message question = effect_by_verdict hub session message (verdict_on (keeps_now hub) (id_of message) question (has_home hub question) session.subscriptions)
 
+-- where the session falls behind by the entry that a message makes, it ends so besides, behind the answer (this project's own)
+abbrev pub falling_behind : Option ℕ → Effect → Effect
+falling_behind point effect = record effect { ended = option_map (λ p. ends.Behind p) point; asks = if is_some point then [] else effect.asks }
+
+-- the point from which on it falls behind by an update's entry
+abbrev pub behind_judged : Hub → Session → Result Update ℕ → Option ℕ
+behind_judged hub session (Err code) = None
+behind_judged hub session (Ok u) = if can_enter hub then behind_at hub (entries.Update u) session else None
+
 -- a RECONFIRM is not answered, and may make an entry; data that is no record ends the session (RFC 8765, 6.5)
 abbrev pub effect_of_reconfirm : Hub → Session → Option Rr → Effect
 effect_of_reconfirm hub session None = ends_by hub session (ends.BadData reconfirm_tlv)
-effect_of_reconfirm hub session (Some rr) = record (effect_of_messages hub session []) { history = (reconfirm hub rr).history }
+effect_of_reconfirm hub session (Some rr) =
+    falling_behind (behind_point hub session (reconfirm_key (state_now hub) rr)) (record (effect_of_messages hub session []) { history = (reconfirm hub rr).history })
+
+-- an update is answered, and may make an entry (RFC 2136, 3.8)
+abbrev pub effect_of_update : Hub → Session → List ℕ → Effect
+effect_of_update hub session message =
+    let judged = update hub message in
+    falling_behind (behind_judged hub session (verdict (state_now hub) message))
+    (record (effect_of_messages hub session (answer_to_update (id_of message) judged.0 ∷ [])) { history = judged.1.history })
 
 -- the ID of an UNSUBSCRIBE goes with its question (RFC 8765, 6.4)
 abbrev pub without_asked : List ℕ → Session → List (ℕ × Question)
@@ -125,7 +147,7 @@ effect_by hub session message reactions.Grant = record (effect_of_messages hub s
 effect_by hub session message (reactions.Abort reason) = ends_by hub session reason
 effect_by hub session message reactions.Unsubscribe = record (effect_of_messages hub session []) { asks = without_asked message session }
 effect_by hub session message reactions.NotImplemented = effect_of_messages hub session (not_implemented message ∷ [])
-effect_by hub session message reactions.Update = (let judged = update hub message in record (effect_of_messages hub session (answer_to_update (id_of message) judged.0 ∷ [])) { history = judged.1.history })
+effect_by hub session message reactions.Update = effect_of_update hub session message
 effect_by hub session message reactions.Reconfirm = effect_of_reconfirm hub session (reconfirm_of (primary_data message))
 effect_by hub session message reactions.Subscribe = effect_of_subscribe hub session message (question_of (primary_data message))
 

@@ -131,7 +131,7 @@ stop_calls (Some number) rcode delay = stops number rcode delay ∷ []
 -- ---- lines
 
 abbrev pub hub_calls : HubEvent → World → List HubCall
-hub_calls (hub_events.At t) world = moves t ∷ flat_map (timed_calls (now (moment world.hub t).1)) world.seats
+hub_calls (hub_events.At t) world = moves t ∷ flat_map (timed_calls (now (moment world.hub t))) world.seats
 hub_calls (hub_events.Update message) world = updates message ∷ []
 hub_calls hub_events.Point world = []
 

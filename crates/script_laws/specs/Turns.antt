@@ -2,16 +2,15 @@
 --     work_left number world seat      what is still to be done between a client and its session
 --     Lowers number world seat p      a passing leaves less by the octets that it moved, and less where a message was reacted to
 --     LowersAlways passing number      it does from wherever both ends are joined
---     QueuesAreShort, HistoriesAreShort, ScriptsAreShort      bounds of what a hub keeps, and of a script
+--     QueuesAreShort, ScriptsAreShort      bounds of what waits for a session, and of a script
 --     IsSized n seat, SizedAfterLines      what a client owes behind so many lines
 use Rattle.std.specs.Prelude.{◌≡◌, ℕ, ◌+◌, ◌*◌, ◌<◌, ◌≤◌, ◌^◌, true, false, List, ◌++◌, length, Option, Some, None, Ok}
 use Rattle.std.specs.List.{AllByRecursion}
 use Rattle.push_base.specs.Limits.{max_questions}
-use Rattle.history.specs.States.{max_journal_entries}
 use Rattle.pushsession.specs.declared.session_status.SessionStatus.{SessionStatus}
 use Rattle.pushsession.specs.declared.session_status.SessionStatus.TheVariants.{AskedToStop}
 use Rattle.pushserver.specs.PlainHubs.{Hub, Session}
-use Rattle.pushserver.specs.Hubs.{newest, session_of}
+use Rattle.pushserver.specs.Hubs.{session_of}
 use Rattle.pushclient.specs.Clients.{Client, Connection, output_of}
 use Rattle.scripts.specs.Lines.{ScriptLine}
 use Rattle.scripts.specs.Scripts.{max_script, script_of}
@@ -63,12 +62,9 @@ LowersAlways passing number = (world : World) (shown : ShownPoints) (seat : Seat
 
 -- ---- bounds
 
--- an entry makes the names of at most 1,024 questions wait, and each waits once
+-- the names of at most 1,024 questions wait, and each waits once
 abbrev pub QueuesAreShort : Type 0
-QueuesAreShort = (hub : Hub) (number : ℕ) (session : Session) → IsReached hub → session_of hub number ≡ Some session → length session.queue ≤ max_questions * newest hub
-
-abbrev pub HistoriesAreShort : Type 0
-HistoriesAreShort = (hub : Hub) → IsReached hub → newest hub ≤ max_journal_entries
+QueuesAreShort = (hub : Hub) (number : ℕ) (session : Session) → IsReached hub → session_of hub number ≡ Some session → length session.queue ≤ max_questions
 
 -- a line has an octet at least
 abbrev pub ScriptsAreShort : Type 0

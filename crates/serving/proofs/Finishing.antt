@@ -16,7 +16,7 @@ use Rattle.serving.specs.declared.serve_end.Fault.{Fault}
 use Rattle.serving.specs.declared.serve_end.Fault.TheVariants as faults
 use Rattle.serving.specs.declared.serve_end.ServeEnd.{ServeEnd}
 use Rattle.serving.specs.declared.serve_end.ServeEnd.TheVariants as ends
-use Rattle.serving.specs.Ends.{CountsAs, CountsEnds, EndsAs, EndsFor, cause_of, end_for, fails_outside, is_full, is_link_fault, is_starved, lacks_memory, tells_fault, worst_cause}
+use Rattle.serving.specs.Ends.{CountsAs, CountsEnds, EndsAs, EndsFor, cause_of, end_for, fails_outside, is_link_fault, is_starved, lacks_memory, tells_fault, worst_cause}
 use Rattle.serving.specs.Serving.{Finishes, StartsAll, StartsAllUnless, has_fault, is_full_run, numbers_of}
 
 -- these datagrams were put back before the others, and as many loops ended; where one failed, so did some of these
@@ -137,7 +137,6 @@ count_as told more end is = ap (λ (es : List LoopEnd). length es) is ∙ length
 -- what was opened as it should, or the server was given up, shows in the end
 pub by_end : {A : Type 0} (P : Bool → Type 0) → (P true → P false) → (opened : Result A Fault) (end : ServeEnd) → EndsAs opened end → P (is_ok opened) → P (is_full_run end)
 by_end P less (Ok done) (ends.Served totals) how p = p
-by_end P less (Ok done) ends.Full how p = p
 by_end P less (Ok done) ends.OutsideFault how p = less p
 by_end P less (Ok done) ends.NoMemory how p = less p
 by_end P less (Err faults.Outside) end (inl is) p = subst (λ (e : ServeEnd). P (is_full_run e)) (sym is) p
@@ -147,38 +146,36 @@ by_end P less (Err faults.NoMemory) end is p = subst (λ (e : ServeEnd). P (is_f
 -- a server that isn't given up has started all
 pub goes_on_by : {A : Type 0} (P : Bool → Type 0) (failed : Type 0) (opened : Result A Fault) (end : ServeEnd) → EndsAs opened end → (IsErrOf opened faults.Outside → failed) → P (is_ok opened) → StartsAllUnless end failed (P true)
 goes_on_by P failed (Ok done) (ends.Served totals) how cause all = all
-goes_on_by P failed (Ok done) ends.Full how cause all = all
 goes_on_by P failed (Ok done) ends.OutsideFault how cause all = inr all
 goes_on_by P failed (Ok done) ends.NoMemory how cause all = tt
 goes_on_by P failed (Err faults.Outside) end (inl is) cause all = subst (λ (e : ServeEnd). StartsAllUnless e failed (P true)) (sym is) (inl (cause refl))
 goes_on_by P failed (Err faults.Outside) end (inr is) cause all = subst (λ (e : ServeEnd). StartsAllUnless e failed (P true)) (sym is) tt
 goes_on_by P failed (Err faults.NoMemory) end is cause all = subst (λ (e : ServeEnd). StartsAllUnless e failed (P true)) (sym is) tt
 
-outside_or_worse : (starved full : Bool) (sums : Totals) → (end_for (worst_cause starved true full) sums ≡ ends.OutsideFault) ⊎ (end_for (worst_cause starved true full) sums ≡ ends.NoMemory)
-outside_or_worse true full sums = inr refl
-outside_or_worse false full sums = inl refl
+outside_or_worse : (starved : Bool) (sums : Totals) → (end_for (worst_cause starved true) sums ≡ ends.OutsideFault) ⊎ (end_for (worst_cause starved true) sums ≡ ends.NoMemory)
+outside_or_worse true sums = inr refl
+outside_or_worse false sums = inl refl
 
-worst_so : (starved failed full : Bool) (sums : Totals) → end_for (worst_cause (starved || true) failed full) sums ≡ ends.NoMemory
-worst_so true failed full sums = refl
-worst_so false failed full sums = refl
+worst_so : (starved failed : Bool) (sums : Totals) → end_for (worst_cause (starved || true) failed) sums ≡ ends.NoMemory
+worst_so true failed sums = refl
+worst_so false failed sums = refl
 
 -- a server that is given up has a cause to end so
 pub ends_as : {A : Type 0} (opened : Result A Fault) (starved : Bool) (told : List LoopEnd) (sums : Totals) → EndsAs opened (end_for (cause_of opened starved told) sums)
 ends_as (Ok done) starved told sums = tt
-ends_as (Err faults.Outside) starved told sums = outside_or_worse (starved || list_any is_starved told) (list_any is_full told) sums
-ends_as (Err faults.NoMemory) starved told sums = worst_so starved (list_any is_link_fault told) (list_any is_full told) sums
+ends_as (Err faults.Outside) starved told sums = outside_or_worse (starved || list_any is_starved told) sums
+ends_as (Err faults.NoMemory) starved told sums = worst_so starved (list_any is_link_fault told) sums
 
--- the tests in their order: the list was lost, memory ran out while jobs were started, or for one; the outside failed then, or a link did; full
-ends_by : (lost lacks starved fails failed full : Bool) (told : List LoopEnd) (sums : Totals) (F : Type 0)
-    → list_any is_starved told ≡ starved → list_any is_link_fault told ≡ failed → list_any is_full told ≡ full → (fails ≡ true → F)
-    → EndsFor (end_for (worst_cause (lost || (lacks || starved)) (fails || failed) full) sums) told F
-ends_by true lacks starved fails failed full told sums F s l f why = tt
-ends_by false true starved fails failed full told sums F s l f why = tt
-ends_by false false true fails failed full told sums F s l f why = tt
-ends_by false false false true failed full told sums F s l f why = (s, inr (why refl))
-ends_by false false false false true full told sums F s l f why = (s, inl l)
-ends_by false false false false false true told sums F s l f why = (s, l, f)
-ends_by false false false false false false told sums F s l f why = (s, l, f)
+-- the tests in their order: the list was lost, memory ran out while jobs were started, or for one; the outside failed then, or a link did
+ends_by : (lost lacks starved fails failed : Bool) (told : List LoopEnd) (sums : Totals) (F : Type 0)
+    → list_any is_starved told ≡ starved → list_any is_link_fault told ≡ failed → (fails ≡ true → F)
+    → EndsFor (end_for (worst_cause (lost || (lacks || starved)) (fails || failed)) sums) told F
+ends_by true lacks starved fails failed told sums F s l why = tt
+ends_by false true starved fails failed told sums F s l why = tt
+ends_by false false true fails failed told sums F s l why = tt
+ends_by false false false true failed told sums F s l why = (s, inr (why refl))
+ends_by false false false false true told sums F s l why = (s, inl l)
+ends_by false false false false false told sums F s l why = (s, l)
 
 failed_while_opened : {A : Type 0} (opened : Result A Fault) → fails_outside opened ≡ true → IsErrOf opened faults.Outside
 failed_while_opened (Ok done) is = absurd cc
@@ -187,13 +184,12 @@ failed_while_opened (Err faults.NoMemory) is = absurd cc
 
 pub ends_for : {A : Type 0} (opened : Result A Fault) (starved : Bool) (told : List LoopEnd) (sums : Totals) → EndsFor (end_for (cause_of opened starved told) sums) told (IsErrOf opened faults.Outside)
 ends_for opened starved told sums =
-    ends_by starved (lacks_memory opened) (list_any is_starved told) (fails_outside opened) (list_any is_link_fault told) (list_any is_full told) told sums (IsErrOf opened faults.Outside)
-    refl refl refl (λ is. failed_while_opened opened is)
+    ends_by starved (lacks_memory opened) (list_any is_starved told) (fails_outside opened) (list_any is_link_fault told) told sums (IsErrOf opened faults.Outside)
+    refl refl (λ is. failed_while_opened opened is)
 
 -- what failed while the jobs were started, in other words
 pub ends_map : (end : ServeEnd) (told : List LoopEnd) (F H : Type 0) → (F → H) → EndsFor end told F → EndsFor end told H
 ends_map (ends.Served totals) told F H f is = is
-ends_map ends.Full told F H f is = is
 ends_map ends.NoMemory told F H f is = is
 ends_map ends.OutsideFault told F H f (s, inl link) = (s, inl link)
 ends_map ends.OutsideFault told F H f (s, inr failed) = (s, inr (f failed))
@@ -208,7 +204,6 @@ outside_of opened false told sums F from is =
 
 counts_any : (end : ServeEnd) (n m : ℕ) → n ≡ m → CountsEnds end n m
 counts_any (ends.Served totals) n m is = is
-counts_any ends.Full n m is = is
 counts_any ends.OutsideFault n m is = is
 counts_any ends.NoMemory n m is = tt
 
@@ -220,7 +215,6 @@ counts_ends opened false told sums n m is = counts_any (end_for (cause_of opened
 pub finishes : {A : Type 0} (opened : Result A Fault) (end : ServeEnd) (turns : ℕ) (links : List ℕ) (sessions : ℕ) (told now : Jobs) (n m : ℕ)
     → EndsAs opened end → CountsEnds end n m → OnOk opened (StartsAll turns links sessions told now m) → Finishes (is_full_run end) turns links sessions told now n
 finishes (Ok done) (ends.Served totals) turns links sessions told now n m how is all = subst (λ (k : ℕ). StartsAll turns links sessions told now k) (sym is) all
-finishes (Ok done) ends.Full turns links sessions told now n m how is all = subst (λ (k : ℕ). StartsAll turns links sessions told now k) (sym is) all
 finishes (Ok done) ends.OutsideFault turns links sessions told now n m how is all = tt
 finishes (Ok done) ends.NoMemory turns links sessions told now n m how is all = tt
 finishes (Err faults.Outside) end turns links sessions told now n m (inl same) is all = subst (λ (e : ServeEnd). Finishes (is_full_run e) turns links sessions told now n) (sym same) tt
@@ -253,7 +247,6 @@ on_opened (Err e) W X f is = tt
 
 counts_well : (cause : Option Cause) (all : Totals) (feed : FeedState) → feed.parts ≡ all → CountsAs all (end_for cause feed.sums) (Some feed)
 counts_well None all feed whole = (whole, refl)
-counts_well (Some causes.Full) all feed whole = whole
 counts_well (Some causes.Outside) all feed whole = tt
 counts_well (Some causes.NoMemory) all feed whole = tt
 
@@ -271,15 +264,15 @@ counts_as opened starved told all feed now end same is whole =
     let here : CountsAs all (end_for (cause_of opened starved told) feed.sums) (Some feed) = counts_up opened (cause_of opened starved told) all feed (ends_as opened starved told feed.sums) whole in
     subst (λ (f : FeedState). CountsAs all end (Some f)) (sym same) (subst (λ (e : ServeEnd). CountsAs all e (Some feed)) (sym is) here)
 
-unworst : (starved full : Bool) (X : Type 0) → worst_cause starved true full ≡ None → X
-unworst true full X none = absurd cc
-unworst false full X none = absurd cc
+unworst : (starved : Bool) (X : Type 0) → worst_cause starved true ≡ None → X
+unworst true X none = absurd cc
+unworst false X none = absurd cc
 
 -- a server that ends with counts has started all its jobs
 pub well_opened : {A : Type 0} (opened : Result A Fault) (starved : Bool) (told : List LoopEnd) (X : Type 0) → OnOk opened X → cause_of opened starved told ≡ None → X
 well_opened (Ok done) starved told X is none = is
 well_opened (Err faults.Outside) true told X is none = absurd cc
-well_opened (Err faults.Outside) false told X is none = unworst (list_any is_starved told) (list_any is_full told) X none
+well_opened (Err faults.Outside) false told X is none = unworst (list_any is_starved told) X none
 well_opened (Err faults.NoMemory) true told X is none = absurd cc
 well_opened (Err faults.NoMemory) false told X is none = absurd cc
 

@@ -1,16 +1,18 @@
 -- How a server ends.
---     is_starved, is_link_fault, is_full      how a loop ended
+--     is_starved, is_link_fault      how a loop ended
 --     EndsFor      the end of a server, by how its loops ended and whether the outside failed while they were started
 --     CountsAs      the counts are the sums of a feed that has every part
 --     CountsEnds      as many loops ended as jobs were started
 --     lacks_memory, fails_outside, EndsAs      why a server is given up, and how it ends then
 --     cause_of, end_for      the cause that a server ends for, and its end
+--     IsRegistered      a server that finished is told of with its counts, and how its loops ended
 --     tells_fault      datagrams that failed have counted that
 use Rattle.std.specs.Prelude.{◌≡◌, ◌⊎◌, ◌||◌, ⊤, ℕ, Bool, true, false, nat_lt, None, Some, List, Result, Ok, Err}
 use Rattle.std.specs.declared.option.Option.{Option}
 use Rattle.std.specs.List.{list_any}
 use Rattle.history.specs.declared.entry.Totals.{Totals}
 use Rattle.hublock.specs.Feeds.{FeedState}
+use Rattle.hublock.specs.Registers.{Ending, entered}
 use Rattle.hublock.specs.declared.loop_end.LoopEnd.{LoopEnd}
 use Rattle.hublock.specs.declared.loop_end.LoopEnd.TheVariants as loops
 use Rattle.serving.specs.declared.serve_end.ServeEnd.{ServeEnd}
@@ -30,16 +32,10 @@ abbrev pub is_link_fault : LoopEnd → Bool
 is_link_fault loops.LinkFault = true
 is_link_fault _ = false
 
--- the journal is full
-abbrev pub is_full : LoopEnd → Bool
-is_full loops.Full = true
-is_full _ = false
-
 -- How a server ended whose loops ended so, and for which the outside failed or didn't while they were started. Want of memory is
 -- free; every other end says that no loop told of a worse one.
 abbrev pub EndsFor : ServeEnd → List LoopEnd → Type 0 → Type 0
-EndsFor (ends.Served totals) told failed = (list_any is_starved told ≡ false) × (list_any is_link_fault told ≡ false) × (list_any is_full told ≡ false)
-EndsFor ends.Full told failed = (list_any is_starved told ≡ false) × (list_any is_link_fault told ≡ false) × (list_any is_full told ≡ true)
+EndsFor (ends.Served totals) told failed = (list_any is_starved told ≡ false) × (list_any is_link_fault told ≡ false)
 EndsFor ends.OutsideFault told failed = (list_any is_starved told ≡ false) × ((list_any is_link_fault told ≡ true) ⊎ failed)
 EndsFor ends.NoMemory told failed = ⊤
 
@@ -48,7 +44,6 @@ EndsFor ends.NoMemory told failed = ⊤
 abbrev pub CountsAs : Totals → ServeEnd → Option FeedState → Type 0
 CountsAs all end None = end ≡ ends.NoMemory
 CountsAs all (ends.Served totals) (Some feed) = (feed.parts ≡ all) × (feed.sums ≡ totals)
-CountsAs all ends.Full (Some feed) = feed.parts ≡ all
 CountsAs all ends.OutsideFault (Some feed) = ⊤
 CountsAs all ends.NoMemory (Some feed) = ⊤
 
@@ -56,7 +51,6 @@ CountsAs all ends.NoMemory (Some feed) = ⊤
 abbrev pub CountsEnds : ServeEnd → ℕ → ℕ → Type 0
 CountsEnds ends.NoMemory ended started = ⊤
 CountsEnds (ends.Served totals) ended started = ended ≡ started
-CountsEnds ends.Full ended started = ended ≡ started
 CountsEnds ends.OutsideFault ended started = ended ≡ started
 
 -- ---- how that end is found
@@ -74,20 +68,18 @@ fails_outside (Err faults.Outside) = true
 fails_outside (Err faults.NoMemory) = false
 
 -- the worst of the causes that are there
-abbrev pub worst_cause : Bool → Bool → Bool → Option Cause
-worst_cause true failed full = Some causes.NoMemory
-worst_cause false true full = Some causes.Outside
-worst_cause false false true = Some causes.Full
-worst_cause false false false = None
+abbrev pub worst_cause : Bool → Bool → Option Cause
+worst_cause true failed = Some causes.NoMemory
+worst_cause false true = Some causes.Outside
+worst_cause false false = None
 
 -- by what it was given up for, whether memory ran out for the list of the loops' ends, and these
 abbrev pub cause_of : {A : Type 0} → Result A Fault → Bool → List LoopEnd → Option Cause
-cause_of opened starved told = worst_cause (starved || (lacks_memory opened || list_any is_starved told)) (fails_outside opened || list_any is_link_fault told) (list_any is_full told)
+cause_of opened starved told = worst_cause (starved || (lacks_memory opened || list_any is_starved told)) (fails_outside opened || list_any is_link_fault told)
 
 -- with these sums, unless there is a cause to end otherwise
 abbrev pub end_for : Option Cause → Totals → ServeEnd
 end_for None sums = ends.Served sums
-end_for (Some causes.Full) sums = ends.Full
 end_for (Some causes.Outside) sums = ends.OutsideFault
 end_for (Some causes.NoMemory) sums = ends.NoMemory
 
@@ -96,6 +88,12 @@ abbrev pub EndsAs : {A : Type 0} → Result A Fault → ServeEnd → Type 0
 EndsAs (Ok done) end = ⊤
 EndsAs (Err faults.Outside) end = (end ≡ ends.OutsideFault) ⊎ (end ≡ ends.NoMemory)
 EndsAs (Err faults.NoMemory) end = end ≡ ends.NoMemory
+
+-- a server that finished is told of with its counts, and how its loops ended; no other is
+abbrev pub IsRegistered : ServeEnd → List LoopEnd → Option (List Ending) → Option (List Ending) → Type 0
+IsRegistered (ends.Served totals) loops before now = now ≡ entered before (record { loops = loops; counts = totals })
+IsRegistered ends.OutsideFault loops before now = now ≡ before
+IsRegistered ends.NoMemory loops before now = now ≡ before
 
 -- datagrams that failed have counted that
 abbrev pub tells_fault : LoopEnd → ℕ → Bool

@@ -28,10 +28,9 @@ has_fault count feds = list_any (λ fed. nat_lt 0 (count fed.datagrams)) feds
 abbrev pub CountsFault : ℕ → ℕ → ℕ → ℕ → Bool → Type 0
 CountsFault starter starter_now doors doors_now links = Rose starter starter_now ⊎ (Rose doors doors_now ⊎ (links ≡ true))
 
--- all sessions were accepted, and no job but for the journal's end kept the server from serving them
+-- all sessions were accepted, and no job kept the server from serving them
 abbrev pub is_full_run : ServeEnd → Bool
 is_full_run (ends.Served totals) = true
-is_full_run ends.Full = true
 is_full_run ends.OutsideFault = false
 is_full_run ends.NoMemory = false
 
@@ -53,7 +52,6 @@ Finishes false turns links sessions told now count = ⊤
 -- however loops end, a server goes on until all is started, unless want of memory is told, or the starter or the doors failed
 abbrev pub StartsAllUnless : ServeEnd → Type 0 → Type 0 → Type 0
 StartsAllUnless (ends.Served totals) failed all = all
-StartsAllUnless ends.Full failed all = all
 StartsAllUnless ends.OutsideFault failed all = failed ⊎ all
 StartsAllUnless ends.NoMemory failed all = ⊤
 

@@ -4,7 +4,7 @@ ghost use Rattle.std.specs.Prelude.{◌≡◌, ◌⊎◌, ◌<◌, ◌≤◌, �
 ghost use Rattle.std.specs.List.{insert, list_any};
 ghost use Rattle.hublock.specs.Feeds.{added, each, parts_each};
 ghost use Rattle.serving.specs.declared.serve_end.Cause.TheVariants as causes;
-ghost use Rattle.serving.specs.Ends.{CountsAs, CountsEnds, EndsAs, EndsFor, end_for, is_link_fault, tells_fault};
+ghost use Rattle.serving.specs.Ends.{CountsAs, CountsEnds, EndsAs, EndsFor, IsRegistered, end_for, is_link_fault, tells_fault};
 ghost use Rattle.serving.specs.Servers.{IsWhole};
 ghost use Rattle.serving.specs.Serving.{has_fault, numbers_of};
 
@@ -15,7 +15,7 @@ use crate::running_jobs::Running;
 use crate::serve_end::{Cause, Fault, cause_of};
 use crate::server::{RunningLink, Server};
 use crate::{Fed, ServeEnd, Served};
-use hublock::{Books, Ended, Feed, HubLock, Signal, finish};
+use hublock::{Books, Ended, Feed, HubLock, Register, Signal, finish};
 use log::Log;
 use push_base::{Datagrams, Pending, Surroundings};
 use std::sync::Wait;
@@ -150,19 +150,22 @@ fn finish_jobs<
 
 /// How a server ends: with the journal's counts, which are the sums of the feed that has every part, unless there is a
 /// cause to end otherwise.
-fn end_of<R: Wait, B: Books>(
+fn end_of<R: Wait, B: Books, W: Register>(
     rt: &R,
     lock: &HubLock<B>,
     cause: Option<Cause>,
     feed: &mut Feed<B>,
+    loops: &[Ended],
+    register: &mut W,
 ) -> ServeEnd
     requires { cause ≡ None → feed.old.parts ≡ each parts_each }
     ensures end { result ≡ end_for cause feed.old.sums }
     ensures same { feed.new ≡ feed.old }
+    ensures hubs { W.hubs register.new ≡ W.hubs register.old }
+    ensures told { IsRegistered result loops.now (W.endings register.old) (W.endings register.new) }
 {
     match cause {
-        None => ServeEnd::Served(finish(rt, lock, feed)),
-        Some(Cause::Full) => ServeEnd::Full,
+        None => ServeEnd::Served(finish(rt, lock, feed, loops, register)),
         Some(Cause::Outside) => ServeEnd::OutsideFault,
         Some(Cause::NoMemory) => ServeEnd::NoMemory,
     }
@@ -174,10 +177,12 @@ pub(crate) fn close<
     R: Log + Threads + Wait + Copy + Send + 'static,
     O: Surroundings,
     B: Books + Send + Sync + 'static,
+    W: Register,
 >(
     server: Server<R, O, B>,
     opened: Result<(), Fault>,
     links: Vec<Fed<O::Links>>,
+    register: &mut W,
 ) -> Served<O::Links, B>
     requires whole { OnOk opened (IsWhole server) }
     requires room { vec_len links + length server.links ≤ vec_capacity links }
@@ -187,6 +192,8 @@ pub(crate) fn close<
     ensures finished { CountsEnds result.end (length result.ends.items) (length server.links + server.jobs) }
     ensures outside { result.end ≡ ServeEnd.OutsideFault → IsErrOf opened Fault.Outside ⊎ (has_fault O.Links.faults result.links.items ≡ true) }
     ensures links { numbers_of result.links.items ≡ server.links ++ numbers_of links.items }
+    ensures hubs { W.hubs register.new ≡ W.hubs register.old }
+    ensures told { IsRegistered result.end result.ends.items (W.endings register.old) (W.endings register.new) }
 {
     if opened.is_err() {
         tell_stop(&server.rt);
@@ -210,8 +217,9 @@ pub(crate) fn close<
     let feed = finish_links::<R, O, B>(rt, hearings, feed, &mut noted, &mut links);
     note_over(&mut noted, ends);
     let mut feed = finish_jobs::<R, O, B>(rt, jobs, feed, &mut noted);
-    let cause = cause_of(opened, noted.starved, noted.ends.as_slice());
-    let end = end_of(&rt, &lock, cause, &mut feed);
+    let loops = noted.ends.as_slice();
+    let cause = cause_of(opened, noted.starved, loops);
+    let end = end_of(&rt, &lock, cause, &mut feed, loops, register);
     Served {
         end,
         links,

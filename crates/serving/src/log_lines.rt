@@ -36,7 +36,7 @@ fn level_of(end: LoopEnd) -> Level {
     match end {
         LoopEnd::Finished => Level::Debug,
         LoopEnd::ReadFault | LoopEnd::WriteFault | LoopEnd::Turns => Level::Info,
-        LoopEnd::LinkFault | LoopEnd::Full | LoopEnd::NoMemory => Level::Error,
+        LoopEnd::LinkFault | LoopEnd::NoMemory => Level::Error,
     }
 }
 
@@ -48,7 +48,6 @@ fn words_of(end: LoopEnd) -> &'static str {
         LoopEnd::WriteFault => "the connection broke, or its client took nothing",
         LoopEnd::LinkFault => "its socket broke, so it is heard no more",
         LoopEnd::Turns => "its turns are used up",
-        LoopEnd::Full => "the journal is full, so it stops",
         LoopEnd::NoMemory => "no memory, so it stops",
     }
 }

@@ -3,7 +3,7 @@
 ghost use Rattle.std.specs.Prelude.{◌≡◌};
 ghost use Rattle.std.specs.List.{list_any};
 ghost use Rattle.serving.specs.declared.serve_end.Fault.TheVariants as faults;
-ghost use Rattle.serving.specs.Ends.{cause_of, fails_outside, is_full, is_link_fault, is_starved, lacks_memory, worst_cause};
+ghost use Rattle.serving.specs.Ends.{cause_of, fails_outside, is_link_fault, is_starved, lacks_memory, worst_cause};
 
 use history::entry::Totals;
 use hublock::{Ended, LoopEnd};
@@ -18,8 +18,6 @@ pub enum ServeEnd {
     OutsideFault,
     /// Memory ran out.
     NoMemory,
-    /// The journal is full.
-    Full,
 }
 
 /// Why a server is given up before all its jobs are started.
@@ -42,8 +40,6 @@ impl From<AllocError> for Fault {
 /// Why a server doesn't end well.
 #[derive(Clone, Copy, Debug, PartialEq, Eq)]
 pub(crate) enum Cause {
-    /// The journal is full.
-    Full,
     /// The doors, the starter or the datagrams of a link failed.
     Outside,
     /// Memory ran out.
@@ -80,24 +76,14 @@ fn any_link_fault(told: &[Ended]) -> bool
         .any(|ended| matches!(ended.end(), LoopEnd::LinkFault))
 }
 
-/// Whether the journal is full.
-fn any_full(told: &[Ended]) -> bool
-    ensures { result ≡ list_any is_full told.now }
-{
-    told.iter()
-        .any(|ended| matches!(ended.end(), LoopEnd::Full))
-}
-
 /// The worst of the causes that are there.
-fn worst_cause(starved: bool, failed: bool, full: bool) -> Option<Cause>
-    ensures { result ≡ worst_cause starved failed full }
+fn worst_cause(starved: bool, failed: bool) -> Option<Cause>
+    ensures { result ≡ worst_cause starved failed }
 {
     if starved {
         Some(Cause::NoMemory)
     } else if failed {
         Some(Cause::Outside)
-    } else if full {
-        Some(Cause::Full)
     } else {
         None
     }
@@ -110,5 +96,5 @@ pub(crate) fn cause_of(opened: Result<(), Fault>, starved: bool, told: &[Ended])
 {
     let starved = starved | (lacks_memory(opened) | any_starved(told));
     let failed = fails_outside(opened) | any_link_fault(told);
-    worst_cause(starved, failed, any_full(told))
+    worst_cause(starved, failed)
 }

@@ -1,13 +1,14 @@
 //! The server of a number of sessions.
 
-ghost use Rattle.std.specs.Prelude.{◌≡◌, ◌⊎◌, true, [], length};
+ghost use Rattle.std.specs.Prelude.{◌≡◌, ◌⊎◌, true, length};
 ghost use Rattle.push_base.specs.Causes.{Rose};
 ghost use Rattle.pushserver.specs.PlainHubs.{Hub as Plain};
 ghost use Rattle.pushserver.specs.KeptHubs.{StandsFor};
 ghost use Rattle.hublock.specs.Feeds.{each, parts_each};
+ghost use Rattle.hublock.specs.Inside.{counted};
 ghost use Rattle.hublock.specs.Ledgers.{AreNamed};
 ghost use Rattle.hublock.specs.Registers.{entered};
-ghost use Rattle.serving.specs.Ends.{CountsAs, EndsFor};
+ghost use Rattle.serving.specs.Ends.{CountsAs, EndsFor, IsRegistered};
 ghost use Rattle.serving.specs.Serving.{Accepts, CountsFault, Finishes, Returns, Starts, StartsAllUnless, has_fault, is_full_run, numbers_of};
 
 use crate::closing::close;
@@ -25,7 +26,7 @@ use std::thread::Threads;
 /// accepted. Where the doors or the starter fail, or memory is wanted, all jobs stop. There is room for as many jobs as a
 /// ledger has parts, but for one; more of them count as want of memory.
 ///
-/// The end is the first whose cause is there: want of memory, a fault of the outside, a full journal.
+/// The end is the first whose cause is there: want of memory, a fault of the outside.
 pub fn serve<
     R: Log + Threads + Wait + Copy + Send + 'static,
     O: Surroundings,
@@ -40,7 +41,7 @@ pub fn serve<
     blanks: Blanks,
     register: &mut W,
 ) -> Served<O::Links, B>
-    requires hub { (setup.hub.history ≡ []) × (setup.hub.numbers_given ≡ 0) }
+    requires hub { (counted setup.hub ≡ each 0) × (setup.hub.numbers_given ≡ 0) }
     requires stands { (plain : Plain) × StandsFor setup.hub plain }
     requires names { AreNamed blanks B.names }
 
@@ -54,7 +55,7 @@ pub fn serve<
     ensures accepted { Accepts (is_full_run result.end) setup.sessions (O.Doors.accepted doors.old) (O.Doors.accepted doors.new) }
 
     // However loops end, all jobs are started and all sessions accepted, unless want of memory is told, or the starter or the
-    // doors fail. With `Served` and `Full` `started` and `accepted` say this already.
+    // doors fail. With `Served` `started` and `accepted` say this already.
     ensures goes_on { StartsAllUnless result.end (Rose (O.Starter.faults starter.old) (O.Starter.faults starter.new) ⊎ Rose (O.Doors.faults doors.old) (O.Doors.faults doors.new))
         (Starts true setup.turns (numbers_of setup.links.items) setup.sessions (O.Starter.started starter.old) (O.Starter.started starter.new) × Accepts true setup.sessions (O.Doors.accepted doors.old) (O.Doors.accepted doors.new)) }
 
@@ -66,6 +67,9 @@ pub fn serve<
 
     // The counts are the sums of the feed of all jobs, into which every part of the ledgers was joined.
     ensures counts { CountsAs (each parts_each) result.end result.feed }
+
+    // The register is told of a server that finished.
+    ensures told { IsRegistered result.end result.ends.items (W.endings register.old) (W.endings register.new) }
 
     // How the server ended, by how its loops did, and by whether the starter or the doors failed.
     ensures ended { EndsFor result.end result.ends.items (Rose (O.Starter.faults starter.old) (O.Starter.faults starter.new) ⊎ Rose (O.Doors.faults doors.old) (O.Doors.faults doors.new)) }
@@ -97,5 +101,5 @@ pub fn serve<
     lock.signal(&rt, Signal::Begun(sessions));
     let mut server: Server<R, O, B> = Server::new(rt, alloc, lock, feed, seats, turns);
     let opened = server.open(starter, doors, &mut links, clock, sessions);
-    close(server, opened, links)
+    close(server, opened, links, register)
 }

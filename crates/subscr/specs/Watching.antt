@@ -3,6 +3,7 @@
 --     once_more, once_less      a session watches a name once more; once less
 --     questions_of name asked      how many questions have the name
 --     times session numbers, is_in session numbers      how often a number stands in a list, and whether it does
+--     StandsOnceMore session before now, StandsOnceLess session before now      it stands there once more, or once less
 --     watching_of noted      who watches, where at each name a session is noted for each of its questions
 --     AreWatching watching name sessions      those that watch a name, each once, their numbers rising
 use Rattle.std.specs.Prelude.{◌≡◌, ℕ, ◌+◌, ◌-◌, Bool, true, ◌&&◌, ◌==◌, List, [], ◌∷◌, count_by, nat_lt, if◌then◌else◌}
@@ -36,6 +37,14 @@ times session numbers = count_by (λ s. s == session) numbers
 
 abbrev pub is_in : ℕ → List ℕ → Bool
 is_in session numbers = list_any (λ s. s == session) numbers
+
+-- a number stands in a list once more than before, and each other one as often
+abbrev pub StandsOnceMore : ℕ → List ℕ → List ℕ → Type 0
+StandsOnceMore session before now = (another : ℕ) → times another now ≡ (if session == another then times another before + 1 else times another before)
+
+-- once less, if it stood there
+abbrev pub StandsOnceLess : ℕ → List ℕ → List ℕ → Type 0
+StandsOnceLess session before now = (another : ℕ) → times another now ≡ (if session == another then times another before - 1 else times another before)
 
 -- at each name that is watched the numbers of its sessions, one for each question
 abbrev pub KeptWatching : Type 0

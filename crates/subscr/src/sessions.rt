@@ -1,8 +1,8 @@
 //! The sessions that watch one name.
 
-ghost use Rattle.std.specs.Prelude.{◌≡◌, ℕ, ◌+◌, ◌-◌, ◌==◌, [], ◌∷◌, true, false, nat_lt, IfOk, OnOk, OnErr, if◌then◌else◌};
+ghost use Rattle.std.specs.Prelude.{◌≡◌, ℕ, ◌==◌, [], ◌∷◌, true, false, nat_lt, IfOk, OnOk, OnErr};
 ghost use Rattle.std.specs.List.{position, position_or_len};
-ghost use Rattle.subscr.specs.Watching.{are_rising, is_in, times};
+ghost use Rattle.subscr.specs.Watching.{StandsOnceLess, StandsOnceMore, are_rising, is_in, times};
 
 use crate::NoMemory;
 use std::alloc::Global;
@@ -43,7 +43,7 @@ fn place_for(numbers: &[u64], session: u64) -> usize
 fn put_in(numbers: &mut Vec<u64>, session: u64) -> Result<(), NoMemory>
     requires rising { are_rising numbers.old.items ≡ true }
     requires new { is_in session numbers.old.items ≡ false }
-    ensures more { OnOk result ((another : ℕ) → times another numbers.new.items ≡ (if session == another then times another numbers.old.items + 1 else times another numbers.old.items)) }
+    ensures more { OnOk result (StandsOnceMore session numbers.old.items numbers.new.items) }
     ensures rising { OnOk result (are_rising numbers.new.items ≡ true) }
     ensures err { OnErr result (numbers.new.items ≡ numbers.old.items) }
 {
@@ -55,7 +55,7 @@ fn put_in(numbers: &mut Vec<u64>, session: u64) -> Result<(), NoMemory>
 /// Takes out the first one of a number, and says whether there was one.
 fn take_out(numbers: &mut Vec<u64>, session: u64) -> bool
     ensures found { result ≡ is_in session numbers.old.items }
-    ensures less { (another : ℕ) → times another numbers.new.items ≡ (if session == another then times another numbers.old.items - 1 else times another numbers.old.items) }
+    ensures less { StandsOnceLess session numbers.old.items numbers.new.items }
     ensures rising { are_rising numbers.old.items ≡ true → are_rising numbers.new.items ≡ true }
 {
     let Some(place) = place_of(numbers, session) else {
@@ -99,7 +99,7 @@ impl Sessions {
 
     /// A session watches the name once more.
     pub fn add(&mut self, session: u64) -> Result<(), NoMemory>
-        ensures ok { OnOk result ((another : ℕ) → times another self.new ≡ (if session == another then times another self.old + 1 else times another self.old)) }
+        ensures ok { OnOk result (StandsOnceMore session self.old self.new) }
         ensures err { OnErr result (self.new ≡ self.old) }
     {
         if is_in(&self.numbers, session) {
@@ -113,7 +113,7 @@ impl Sessions {
     /// A session watches the name once less. Nothing changes where it doesn't watch it, and the answer says so.
     pub fn remove(&mut self, session: u64) -> bool
         ensures watched { result ≡ nat_lt 0 (times session self.old) }
-        ensures less { (another : ℕ) → times another self.new ≡ (if session == another then times another self.old - 1 else times another self.old) }
+        ensures less { StandsOnceLess session self.old self.new }
     {
         if take_out(&mut self.again, session) {
             return true;

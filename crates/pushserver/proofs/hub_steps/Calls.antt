@@ -19,12 +19,12 @@ use Rattle.history.specs.States.{verdict}
 use Rattle.history.specs.declared.entry.Entry.{Entry}
 use Rattle.history.specs.declared.entry.Entry.TheVariants as entries
 use Rattle.pushsession.specs.Kept.{KeptSession, keeping}
-use Rattle.pushsession.specs.Sessions.{is_open, room_of, new_session, with_piece, asked_to_stop, timed}
+use Rattle.pushsession.specs.Sessions.{is_open, room_of, new_session, with_piece, asked_to_stop, due, timed}
 use Rattle.pushserver.specs.PlainHubs.{Hub, Session, plain_keeps}
-use Rattle.pushserver.specs.Hubs.{Numbered, session_in, without_session, newest, now, state_now, entered, can_enter, update, hear, moment, connect, take_octets, stop, disconnect, max_sessions}
+use Rattle.pushserver.specs.Hubs.{Numbered, session_in, without_session, newest, now, state_now, each_session, entered, entered_keeping, can_enter, update, hear, moment, connect, take_octets, stop, disconnect, max_sessions}
 use Rattle.pushserver.specs.Offering.{offered_by, offered, heard_of}
 use Rattle.pushserver.specs.Rows.{IsTellable}
-use Rattle.pushserver.specs.KeptHubs.{KeptHub, StandsFor}
+use Rattle.pushserver.specs.KeptHubs.{KeptHub, StandsFor, WaitSince}
 use Rattle.pushserver.specs.SoundHubs.{IsSoundSession}
 use Rattle.dsotlv.specs.Laws.{AreOctets}
 use Rattle.pushserver.specs.Simulation.{BothAnswer, UpdatesStand, HearsStand, MomentsStand, ConnectsStand, TakesStand, StopsStand, EndsStand}
@@ -37,97 +37,98 @@ use Rattle.pushserver.proofs.told_rows.HeardRows.{brings_read}
 use Rattle.pushserver.proofs.told_rows.Hubs.{link_tells}
 use Rattle.pushserver.proofs.hub_steps.Pairs.{zip-all, zip-push, zip-filter}
 use Rattle.pushserver.proofs.hub_steps.Standing.{kept_of, Stands, with_kept, fitting, fits-stand, fits-sound, with_sessions-stands, each-stands, in-stands, session-moved, FoundBoth, both_found}
-use Rattle.pushserver.proofs.hub_steps.Cases.{enters_update, update_as, hear_as, enters_moment, moment_as}
+use Rattle.pushserver.proofs.hub_steps.Cases.{enters_update, update_as, hear_as, moment_as}
 use Rattle.pushserver.proofs.Offering.{as_hearing, by_room, hearing-offered}
-use Rattle.pushserver.proofs.hub_steps.Entering.{entered-stands}
+use Rattle.pushserver.proofs.hub_steps.Entering.{keeping-stands}
+use Rattle.pushserver.proofs.session_steps.Since.{asked_to_stop-since, ended_where-since}
+use Rattle.rrset.proofs.Places.{all_filter}
+use Rattle.coalesce.proofs.ReadBack.{each-append}
 
-pub tells-now : (hub : Hub) (ks : Numbered KeptSession) → Stands hub ks → IsTellable (state_now hub)
-tells-now hub ks h = h.sound.states (newest hub) (omega arith)
+pub tells-now : (hub : Hub) (from : ℕ) (ks : Numbered KeptSession) → Stands hub from ks → IsTellable (state_now hub)
+tells-now hub from ks h = h.sound.states (newest hub) (omega arith)
 
 -- any entry stands behind which each state can be told
-pub entry-stands : (hub : Hub) (ks : Numbered KeptSession) (entry : Entry) → StatesTell (entered entry hub) → Stands hub ks → StandsFor (entered entry (kept_of hub ks)) (entered entry hub)
-entry-stands hub ks entry states h = entered-stands hub ks entry (subst IsTellable (state_at-last hub.start hub.history entry) (states (newest (entered entry hub)) (omega arith))) h
+pub entry-stands : (hub : Hub) (from : ℕ) (ks : Numbered KeptSession) (entry : Entry) → StatesTell (entered entry hub) → Stands hub from ks → StandsFor (entered_keeping entry (kept_of hub from ks)) (entered_keeping entry hub)
+entry-stands hub from ks entry states h = keeping-stands hub from ks entry (subst IsTellable (state_at-last hub.start hub.history entry) (states (newest (entered entry hub)) (omega arith))) h
 
 -- whatever entry is offered
-pub offered-stands : (hub : Hub) (ks : Numbered KeptSession) (entry : Entry) → StatesTell (entered entry hub) → Stands hub ks → BothAnswer (offered entry (kept_of hub ks)) (offered entry hub)
-offered-stands hub ks entry states h = by (planned (state_now hub) entry)
+pub offered-stands : (hub : Hub) (from : ℕ) (ks : Numbered KeptSession) (entry : Entry) → StatesTell (entered entry hub) → Stands hub from ks → BothAnswer (offered entry (kept_of hub from ks)) (offered entry hub)
+offered-stands hub from ks entry states h = by (planned (state_now hub) entry)
   where
-    room_stands : (b : Bool) → BothAnswer (by_room (kept_of hub ks) entry b) (by_room hub entry b)
-    room_stands true = (refl, entry-stands hub ks entry states h)
+    room_stands : (b : Bool) → BothAnswer (by_room (kept_of hub from ks) entry b) (by_room hub entry b)
+    room_stands true = (refl, entry-stands hub from ks entry states h)
     room_stands false = (refl, h)
 
-    by : (plan : Plan) → BothAnswer (offered_by plan entry (kept_of hub ks)) (offered_by plan entry hub)
+    by : (plan : Plan) → BothAnswer (offered_by plan entry (kept_of hub from ks)) (offered_by plan entry hub)
     by (refuse code) = (refl, h)
     by idle = (refl, h)
-    by (accept changed) = room_stands (can_enter hub entry)
+    by (accept changed) = room_stands (can_enter hub)
 
 -- ---- `update`
 
-pub update-stands : (hub : Hub) (ks : Numbered KeptSession) (message : List ℕ) → AreOctets message → Stands hub ks → BothAnswer (update (kept_of hub ks) message) (update hub message)
-update-stands hub ks message octets h = by (verdict (state_now hub) message) refl
+pub update-stands : (hub : Hub) (from : ℕ) (ks : Numbered KeptSession) (message : List ℕ) → AreOctets message → Stands hub from ks → BothAnswer (update (kept_of hub from ks) message) (update hub message)
+update-stands hub from ks message octets h = by (verdict (state_now hub) message) refl
   where
-    by_room : (u : Update) → verdict (state_now hub) message ≡ Ok u → (b : Bool) → BothAnswer (enters_update (kept_of hub ks) u b) (enters_update hub u b)
-    by_room u is true = (refl, entered-stands hub ks (entries.Update u) (update-tellable (state_now hub) message u (tells-now hub ks h) octets is) h)
+    by_room : (u : Update) → verdict (state_now hub) message ≡ Ok u → (b : Bool) → BothAnswer (enters_update (kept_of hub from ks) u b) (enters_update hub u b)
+    by_room u is true = (refl, keeping-stands hub from ks (entries.Update u) (update-tellable (state_now hub) message u (tells-now hub from ks h) octets is) h)
     by_room u is false = (refl, h)
 
-    by : (r : Result Update ℕ) → verdict (state_now hub) message ≡ r → BothAnswer (update_as (kept_of hub ks) r) (update_as hub r)
+    by : (r : Result Update ℕ) → verdict (state_now hub) message ≡ r → BothAnswer (update_as (kept_of hub from ks) r) (update_as hub r)
     by (Err code) is = (refl, h)
-    by (Ok u) is = by_room u is (can_enter hub (entries.Update u))
+    by (Ok u) is = by_room u is (can_enter hub)
 
 pub updates_stand : UpdatesStand
-updates_stand k hub message h octets = with_kept (λ k. BothAnswer (update k message) (update hub message)) k hub h (update-stands hub k.sessions message octets)
+updates_stand k hub message h octets = with_kept (λ k. BothAnswer (update k message) (update hub message)) k hub h (update-stands hub k.seen.number k.sessions message octets)
 
 -- ---- `hear`
 
-pub hear-stands : (hub : Hub) (ks : Numbered KeptSession) (link : ℕ) (datagram : List ℕ) → AreOctets datagram → Stands hub ks → BothAnswer (hear (kept_of hub ks) link datagram) (hear hub link datagram)
-hear-stands hub ks link datagram octets h = by (hearing_of datagram) refl
+pub hear-stands : (hub : Hub) (from : ℕ) (ks : Numbered KeptSession) (link : ℕ) (datagram : List ℕ) → AreOctets datagram → Stands hub from ks → BothAnswer (hear (kept_of hub from ks) link datagram) (hear hub link datagram)
+hear-stands hub from ks link datagram octets h = by (hearing_of datagram) refl
   where
-    heard_stands : (hearing : Hearing) → hearing_of datagram ≡ Ok hearing → BothAnswer (as_hearing (kept_of hub ks) (offered (entries.Heard link hearing) (kept_of hub ks))) (as_hearing hub (offered (entries.Heard link hearing) hub))
+    heard_stands : (hearing : Hearing) → hearing_of datagram ≡ Ok hearing → BothAnswer (as_hearing (kept_of hub from ks) (offered (entries.Heard link hearing) (kept_of hub from ks))) (as_hearing hub (offered (entries.Heard link hearing) hub))
     heard_stands hearing reads =
         let entry = entries.Heard link hearing in
-        let both = offered-stands hub ks entry (link_tells hub entry link refl (brings_read datagram hearing octets reads) h.sound.states) h in
+        let both = offered-stands hub from ks entry (link_tells hub entry link refl (brings_read datagram hearing octets reads) h.sound.states) h in
         (ap heard_of both.0, both.1)
 
-    by : (r : Result Hearing HearFault) → hearing_of datagram ≡ r → BothAnswer (hear_as (kept_of hub ks) link r) (hear_as hub link r)
+    by : (r : Result Hearing HearFault) → hearing_of datagram ≡ r → BothAnswer (hear_as (kept_of hub from ks) link r) (hear_as hub link r)
     by (Err fault) reads = (refl, h)
     by (Ok hearing) reads =
-        subst (λ k. BothAnswer k (hear_as hub link (Ok hearing))) (sym (hearing-offered (kept_of hub ks) link hearing))
-        (subst (λ p. BothAnswer (as_hearing (kept_of hub ks) (offered (entries.Heard link hearing) (kept_of hub ks))) p) (sym (hearing-offered hub link hearing)) (heard_stands hearing reads))
+        subst (λ k. BothAnswer k (hear_as hub link (Ok hearing))) (sym (hearing-offered (kept_of hub from ks) link hearing))
+        (subst (λ p. BothAnswer (as_hearing (kept_of hub from ks) (offered (entries.Heard link hearing) (kept_of hub from ks))) p) (sym (hearing-offered hub link hearing)) (heard_stands hearing reads))
 
 pub hears_stand : HearsStand
-hears_stand k hub link datagram h octets = with_kept (λ k. BothAnswer (hear k link datagram) (hear hub link datagram)) k hub h (hear-stands hub k.sessions link datagram octets)
+hears_stand k hub link datagram h octets = with_kept (λ k. BothAnswer (hear k link datagram) (hear hub link datagram)) k hub h (hear-stands hub k.seen.number k.sessions link datagram octets)
 
 -- ---- `moment`
 
-moment-stands : (hub : Hub) (ks : Numbered KeptSession) (t : ℕ) → Stands hub ks → BothAnswer (moment (kept_of hub ks) t) (moment hub t)
-moment-stands hub ks t h = by (not (nat_lt (now hub) t))
-  where
-    by_room : (b : Bool) → BothAnswer (enters_moment (kept_of hub ks) t b) (enters_moment hub t b)
-    by_room true = (
-      refl,
-      let later = entered (entries.Moment t) hub in
-          each-stands later (entered (entries.Moment t) (kept_of hub ks)).sessions (timed keeping t) (timed (plain_keeps (newest hub)) t) (timed-keeps later (newest hub) t)
-          (entered-stands hub ks (entries.Moment t) (moment-tellable (state_now hub) t (tells-now hub ks h)) h),
-    )
-    by_room false = (refl, h)
+-- the timers of all sessions, on whatever is kept
+timers-stand : (k : KeptHub) (hub : Hub) (n t : ℕ) → StandsFor k hub → StandsFor (each_session (timed keeping t) k) (each_session (timed (plain_keeps n) t) hub)
+timers-stand k hub n t h =
+    with_kept (λ k. StandsFor (each_session (timed keeping t) k) (each_session (timed (plain_keeps n) t) hub)) k hub h
+    (each-stands hub k.seen.number k.sessions (timed keeping t) (timed (plain_keeps n) t) (ended_where-since (due keeping t)) (λ k p since s. timed-keeps hub n t k p s))
 
-    by : (b : Bool) → BothAnswer (moment_as (kept_of hub ks) t b) (moment_as hub t b)
-    by true = (refl, h)
-    by false = by_room (can_enter hub (entries.Moment t))
+moment-stands : (hub : Hub) (from : ℕ) (ks : Numbered KeptSession) (t : ℕ) → Stands hub from ks → StandsFor (moment (kept_of hub from ks) t) (moment hub t)
+moment-stands hub from ks t h = by (nat_lt (now hub) t && can_enter hub)
+  where
+    by : (b : Bool) → StandsFor (moment_as (kept_of hub from ks) t b) (moment_as hub t b)
+    by true = timers-stand (entered_keeping (entries.Moment t) (kept_of hub from ks)) (entered_keeping (entries.Moment t) hub) (newest hub) t
+        (keeping-stands hub from ks (entries.Moment t) (moment-tellable (state_now hub) t (tells-now hub from ks h)) h)
+    by false = h
 
 pub moments_stand : MomentsStand
-moments_stand k hub t h = with_kept (λ k. BothAnswer (moment k t) (moment hub t)) k hub h (moment-stands hub k.sessions t)
+moments_stand k hub t h = with_kept (λ k. StandsFor (moment k t) (moment hub t)) k hub h (moment-stands hub k.seen.number k.sessions t)
 
 -- ---- `connect`
 
 abbrev pub new_plain : Hub → Session
 new_plain hub = new_session (plain_keeps (newest hub)) (now hub)
 
-abbrev pub new_kept : Hub → KeptSession
-new_kept hub = new_session keeping (now hub)
+abbrev pub joining : Hub → KeptSession
+joining hub = new_session keeping (now hub)
 
-new-stands : (hub : Hub) (sessions : Numbered Session) → SessionFits (record hub { sessions = sessions; numbers_given = hub.numbers_given + 1 }) (hub.numbers_given, new_kept hub) (hub.numbers_given, new_plain hub)
-new-stands hub sessions = of_parts (record hub { sessions = sessions; numbers_given = hub.numbers_given + 1 }) (hub.numbers_given, new_kept hub) (hub.numbers_given, new_plain hub) refl (omega arith) asks_nothing none_waits reads_nothing writes_nothing refl refl refl
+new-stands : (hub : Hub) (sessions : Numbered Session) → SessionFits (record hub { sessions = sessions; numbers_given = hub.numbers_given + 1 }) (hub.numbers_given, joining hub) (hub.numbers_given, new_plain hub)
+new-stands hub sessions = of_parts (record hub { sessions = sessions; numbers_given = hub.numbers_given + 1 }) (hub.numbers_given, joining hub) (hub.numbers_given, new_plain hub) refl (omega arith) asks_nothing none_waits tt reads_nothing writes_nothing refl refl refl (λ closed. refl)
 
 -- the numbers of sessions are below that of the next
 none-next : (hub : Hub) (ps : Numbered Session) → AllByRecursion (IsSoundSession hub) ps → list_any (λ (p : ℕ × Session). p.0 == hub.numbers_given) ps ≡ false
@@ -140,8 +141,8 @@ none-next hub (p ∷ ps) h = λ i. apart h.0.below i || none-next hub ps h.1 i
 abbrev joined : Hub → Hub
 joined hub = record hub { sessions = hub.sessions ++ (hub.numbers_given, new_plain hub) ∷ []; numbers_given = hub.numbers_given + 1 }
 
-joined-stands : (hub : Hub) (ks : Numbered KeptSession) → nat_lt (length hub.sessions) max_sessions ≡ true → Stands hub ks → Stands (joined hub) (ks ++ (hub.numbers_given, new_kept hub) ∷ [])
-joined-stands hub ks room h = record {
+joined-stands : (hub : Hub) (from : ℕ) (ks : Numbered KeptSession) → nat_lt (length hub.sessions) max_sessions ≡ true → Stands hub from ks → Stands (joined hub) from (ks ++ (hub.numbers_given, joining hub) ∷ [])
+joined-stands hub from ks room h = record {
   sound = record {
     begins = h.sound.begins;
     states = h.sound.states;
@@ -151,36 +152,38 @@ joined-stands hub ks room h = record {
   };
   timers = refl;
   numbers_given = refl;
-  start = refl;
-  history = refl;
+  past = h.past;
+  state = refl;
+  newest = refl;
+  since = each-append (WaitSince from) ks ((hub.numbers_given, joining hub) ∷ []) h.since (tt, tt);
   sessions = fits-stand (joined hub) later (joined hub).sessions fit;
 }
   where
     later : Numbered KeptSession
-    later = ks ++ (hub.numbers_given, new_kept hub) ∷ []
+    later = ks ++ (hub.numbers_given, joining hub) ∷ []
 
     fit : AllZip (SessionFits (joined hub)) later (joined hub).sessions
     fit =
-        zip-push (SessionFits (joined hub)) ks hub.sessions (hub.numbers_given, new_kept hub) (hub.numbers_given, new_plain hub)
+        zip-push (SessionFits (joined hub)) ks hub.sessions (hub.numbers_given, joining hub) (hub.numbers_given, new_plain hub)
         (zip-all (SessionFits hub) (SessionFits (joined hub)) (session-moved hub (joined hub).sessions (hub.numbers_given + 1) (omega arith)) ks hub.sessions (fitting h))
         (new-stands hub (joined hub).sessions)
 
-connect-stands : (hub : Hub) (ks : Numbered KeptSession) → Stands hub ks → BothAnswer (connect (kept_of hub ks)) (connect hub)
-connect-stands hub ks h =
-    subst (λ n. BothAnswer (cond {A = Option ℕ × KeptHub} (nat_lt n max_sessions && nat_lt hub.numbers_given max_number) (Some hub.numbers_given, later) (None, kept_of hub ks)) (connect hub)) (AllZip-long (SessionFits hub) ks hub.sessions (fitting h))
+connect-stands : (hub : Hub) (from : ℕ) (ks : Numbered KeptSession) → Stands hub from ks → BothAnswer (connect (kept_of hub from ks)) (connect hub)
+connect-stands hub from ks h =
+    subst (λ n. BothAnswer (cond {A = Option ℕ × KeptHub} (nat_lt n max_sessions && nat_lt hub.numbers_given max_number) (Some hub.numbers_given, later) (None, kept_of hub from ks)) (connect hub)) (AllZip-long (SessionFits hub) ks hub.sessions (fitting h))
     (by (nat_lt (length hub.sessions) max_sessions) refl (nat_lt hub.numbers_given max_number))
   where
     later : KeptHub
-    later = kept_of (joined hub) (ks ++ (hub.numbers_given, new_kept hub) ∷ [])
+    later = kept_of (joined hub) from (ks ++ (hub.numbers_given, joining hub) ∷ [])
 
     by : (a : Bool) → nat_lt (length hub.sessions) max_sessions ≡ a → (b : Bool)
-        → BothAnswer (cond {A = Option ℕ × KeptHub} (a && b) (Some hub.numbers_given, later) (None, kept_of hub ks)) (cond {A = Option ℕ × Hub} (a && b) (Some hub.numbers_given, joined hub) (None, hub))
-    by true room true = (refl, joined-stands hub ks room h)
+        → BothAnswer (cond {A = Option ℕ × KeptHub} (a && b) (Some hub.numbers_given, later) (None, kept_of hub from ks)) (cond {A = Option ℕ × Hub} (a && b) (Some hub.numbers_given, joined hub) (None, hub))
+    by true room true = (refl, joined-stands hub from ks room h)
     by true room false = (refl, h)
     by false room b = (refl, h)
 
 pub connects_stand : ConnectsStand
-connects_stand k hub h = with_kept (λ k. BothAnswer (connect k) (connect hub)) k hub h (connect-stands hub k.sessions)
+connects_stand k hub h = with_kept (λ k. BothAnswer (connect k) (connect hub)) k hub h (connect-stands hub k.seen.number k.sessions)
 
 -- ---- `take_octets`
 
@@ -194,7 +197,7 @@ room-same hub number piece (Some k) (Some p) h = λ i. min (length piece) (cond 
 pub takes_stand : TakesStand
 takes_stand k hub number piece h octets = (
   room-same hub number piece (session_in number k.sessions) (session_in number hub.sessions) (both_found hub number k.sessions hub.sessions (fitting h)),
-  with_kept (λ k. StandsFor (take_octets k number piece) (take_octets hub number piece)) k hub h (in-stands hub k.sessions (with_piece piece) (with_piece piece) number (with_piece-keeps hub piece octets)),
+  with_kept (λ k. StandsFor (take_octets k number piece) (take_octets hub number piece)) k hub h (in-stands hub k.seen.number k.sessions (with_piece piece) (with_piece piece) (λ point session since. since) number (with_piece-keeps hub piece octets)),
 )
 
 -- ---- `stop`, `disconnect`
@@ -202,11 +205,12 @@ takes_stand k hub number piece h octets = (
 pub stops_stand : StopsStand
 stops_stand k hub number rcode delay h =
     with_kept (λ k. StandsFor (stop k number rcode delay) (stop hub number rcode delay)) k hub h
-    (in-stands hub k.sessions (asked_to_stop rcode delay) (asked_to_stop rcode delay) number (asked-keeps hub rcode delay))
+    (in-stands hub k.seen.number k.sessions (asked_to_stop rcode delay) (asked_to_stop rcode delay) (asked_to_stop-since rcode delay) number (asked-keeps hub rcode delay))
 
-end-stands : (hub : Hub) (ks : Numbered KeptSession) (number : ℕ) → Stands hub ks → StandsFor (disconnect (kept_of hub ks) number) (disconnect hub number)
-end-stands hub ks number h =
-    with_sessions-stands hub ks (without_session number ks) (without_session number hub.sessions) h
+end-stands : (hub : Hub) (from : ℕ) (ks : Numbered KeptSession) (number : ℕ) → Stands hub from ks → StandsFor (disconnect (kept_of hub from ks) number) (disconnect hub number)
+end-stands hub from ks number h =
+    with_sessions-stands hub from ks (without_session number ks) (without_session number hub.sessions) h
+    (all_filter (WaitSince from) (λ e. not (e.0 == number)) ks h.since)
     (zip-filter (SessionFits hub) (λ (e : ℕ × KeptSession). not (e.0 == number)) others (λ k p s. ap (λ n. not (n == number)) s.stands.number) ks hub.sessions (fitting h))
     (distinct_filter (λ (d e : ℕ × Session). d.0 == e.0) others hub.sessions h.sound.numbers)
     (omega (arith, length-filter others hub.sessions, count_by-le-length others hub.sessions, h.sound.few))
@@ -215,4 +219,4 @@ end-stands hub ks number h =
     others e = not (e.0 == number)
 
 pub ends_stand : EndsStand
-ends_stand k hub number h = with_kept (λ k. StandsFor (disconnect k number) (disconnect hub number)) k hub h (end-stands hub k.sessions number)
+ends_stand k hub number h = with_kept (λ k. StandsFor (disconnect k number) (disconnect hub number)) k hub h (end-stands hub k.seen.number k.sessions number)

@@ -31,7 +31,7 @@ use Rattle.pushserver.specs.declared.given.Given.TheVariants.{End}
 use Rattle.pushserver.specs.declared.given.Heard.{Heard}
 use Rattle.pushserver.specs.declared.given.Heard.TheVariants.{Entered, Ignored}
 use Rattle.pushserver.specs.declared.given.Why.TheVariants as whys
-use Rattle.pushserver.specs.Hubs.{SessionKind, HubOf, now, state_now, keeps_now, tells_now, each_session, in_session, entered, can_enter, why_not}
+use Rattle.pushserver.specs.Hubs.{SessionKind, HubOf, now, state_now, keeps_now, tells_now, each_session, in_session, entered_keeping, can_enter, why_not}
 use Rattle.pushserver.specs.Giving.{GivingOf, by_request, reacted, did, copies, copies_or, after_reaction, after_packing, by_standing}
 
 -- ---- a message by its head
@@ -48,7 +48,7 @@ abbrev pub itself_as : {A Q M : Type 0} → Keeps A Q M → Timers → ℕ → L
 itself_as keeps timers t message session None = ends_short keeps session
 itself_as keeps timers t message session (Some head) = by_itself keeps (server_reaction head session.established) timers t message session
 
-module _ {A Q M : Type 0} {kind : SessionKind A Q M} where
+module _ {A Q M S : Type 0} {kind : SessionKind A Q M S} where
   -- a session ends
   abbrev pub ends_as : ℕ → EndReason → HubOf kind → HubOf kind
   ends_as number reason hub = in_session number (ended_with (keeps_now hub) reason) hub
@@ -56,32 +56,29 @@ module _ {A Q M : Type 0} {kind : SessionKind A Q M} where
   -- ---- an update, a moment
 
   abbrev pub enters_update : HubOf kind → Update → Bool → ℕ × HubOf kind
-  enters_update hub u room = cond room (noerror, entered (entries.Update u) hub) (servfail, hub)
+  enters_update hub u room = cond room (noerror, entered_keeping (entries.Update u) hub) (servfail, hub)
 
   abbrev pub update_as : HubOf kind → Result Update ℕ → ℕ × HubOf kind
   update_as hub (Err code) = (code, hub)
-  update_as hub (Ok u) = enters_update hub u (can_enter hub (entries.Update u))
+  update_as hub (Ok u) = enters_update hub u (can_enter hub)
 
-  abbrev pub enters_moment : HubOf kind → ℕ → Bool → Bool × HubOf kind
-  enters_moment hub t room = cond room (false, each_session (timed (keeps_now hub) t) (entered (entries.Moment t) hub)) (true, hub)
-
-  abbrev pub moment_as : HubOf kind → ℕ → Bool → Bool × HubOf kind
-  moment_as hub t early = cond early (false, hub) (enters_moment hub t (can_enter hub (entries.Moment t)))
+  abbrev pub moment_as : HubOf kind → ℕ → Bool → HubOf kind
+  moment_as hub t goes = cond goes (each_session (timed (keeps_now hub) t) (entered_keeping (entries.Moment t) hub)) hub
 
   -- ---- a datagram
 
-  abbrev pub enters_hearing : HubOf kind → ℕ → Hearing → Bool → Bool → Option Heard × HubOf kind
-  enters_hearing hub link hearing accepted room = cond (not accepted) (Some (Ignored whys.Nothing), hub) (cond room (Some Entered, entered (entries.Heard link hearing) hub) (None, hub))
+  abbrev pub enters_hearing : HubOf kind → ℕ → Hearing → Bool → Bool → Heard × HubOf kind
+  enters_hearing hub link hearing accepted room = cond (not accepted) (Ignored whys.Nothing, hub) (cond room (Entered, entered_keeping (entries.Heard link hearing) hub) (Ignored whys.Last, hub))
 
-  abbrev pub hear_as : HubOf kind → ℕ → Result Hearing HearFault → Option Heard × HubOf kind
-  hear_as hub link (Err fault) = (Some (Ignored (why_not fault)), hub)
-  hear_as hub link (Ok hearing) = enters_hearing hub link hearing (accepts (state_now hub) (entries.Heard link hearing)) (can_enter hub (entries.Heard link hearing))
+  abbrev pub hear_as : HubOf kind → ℕ → Result Hearing HearFault → Heard × HubOf kind
+  hear_as hub link (Err fault) = (Ignored (why_not fault), hub)
+  hear_as hub link (Ok hearing) = enters_hearing hub link hearing (accepts (state_now hub) (entries.Heard link hearing)) (can_enter hub)
 
   -- ---- a message
 
   abbrev pub key_as : HubOf kind → Option (ℕ × Key) → HubOf kind
   key_as hub None = hub
-  key_as hub (Some found) = cond (accepts (state_now hub) (entries.Reconfirm found.0 found.1) && can_enter hub (entries.Reconfirm found.0 found.1)) (entered (entries.Reconfirm found.0 found.1) hub) hub
+  key_as hub (Some found) = cond (accepts (state_now hub) (entries.Reconfirm found.0 found.1) && can_enter hub) (entered_keeping (entries.Reconfirm found.0 found.1) hub) hub
 
   abbrev pub session_as : HubOf kind → ℕ → List ℕ → Option (SessionOf A Q M) → HubOf kind
   session_as hub number message None = hub

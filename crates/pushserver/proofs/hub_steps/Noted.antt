@@ -1,12 +1,11 @@
 -- Old values of names that wait go through an entry.
 --     CanBeKept c, can-be-kept      what a key showed before a change can be told; so it is with all changes of records that are told
 --     Going cs w, going-fold      old values that tell what was sent once the changes that are left are kept, too; and all of them
-use Rattle.std.proofs.Common.{◌≡◌, ℕ, ◌<◌, ◌≤◌, ◌+◌, Bool, true, false, cond, ◌&&◌, ◌||◌, List, [], ◌∷◌, ◌++◌, map, length, Option, Some, None, is_some, T, refl, sym, ap, ◌∙◌, subst, arith}
+use Rattle.std.proofs.Common.{◌≡◌, ℕ, ◌<◌, ◌≤◌, ◌+◌, Bool, true, false, cond, ◌||◌, List, [], ◌∷◌, map, length, Option, Some, None, is_some, refl, sym, ap, ◌∙◌, subst, arith}
 use Rattle.std.specs.Prelude.{not, nat_le, IfSome, IsTrue}
-use Rattle.std.specs.List.{list_any, list_all, AllByRecursion, IsDistinct}
+use Rattle.std.specs.List.{list_all, AllByRecursion, IsDistinct}
 use Rattle.std.specs.declared.cmp.Ordering.{Ordering}
 use Rattle.std.specs.declared.cmp.Ordering.TheVariants.{Less, Equal, Greater}
-use Rattle.std.specs.Ordering.{is_eq}
 use Rattle.std.specs.FinMap.Entries.{by_order, is_sorted-put}
 use Rattle.dnsname.specs.Names.{Labels, same_name}
 use Rattle.rrset.specs.KeyedRows.{Rows, row_at, put_row, is_rising}
@@ -15,28 +14,22 @@ use Rattle.rrset.specs.RecordSet.{RecordSet, only, at_name, union, shown_at, sho
 use Rattle.rrset.specs.declared.record.Key.{Key}
 use Rattle.rrset.specs.declared.record.Shown.{Shown}
 use Rattle.rrset.specs.declared.record.Changed.{Changed}
-use Rattle.rrset.proofs.Apart.{shown_at-passed}
-use Rattle.rrset.proofs.InOrder.{InOrder, in_order-only}
 use Rattle.rrset.proofs.KeyOrder.{key_cmp_total, key_cmp-IsAntisymmetric}
-use Rattle.rrset.proofs.OldValues.{Values, told, shown_at-with_values, in_order-with_values, keep, keep-told, first_before}
+use Rattle.rrset.proofs.OldValues.{told, keep, keep-told, first_before}
 use Rattle.rrset.proofs.SameRows.{same_key-same}
-use Rattle.rrset.proofs.Sets.{shown_at-only, only_same}
 use Rattle.zoneupdate.proofs.Filters.{holds, is_true, and-left, and-right, and-both}
 use Rattle.zoneupdate.proofs.Owners.{same_name-itself, same_name-for, same_name-for_second}
-use Rattle.history.proofs.Together.{same_name-turned}
-use Rattle.history.specs.Kept.{Past, records_now}
-use Rattle.history.specs.States.{records_at}
+use Rattle.history.specs.States.{State, records_at}
+use Rattle.history.specs.declared.entry.Entry.{Entry}
 use Rattle.subscr.specs.Asked.{Asked, wants}
 use Rattle.coalesce.specs.Waiting.{WaitingName, OldValue, old_value, and_old_value, is_named, waits, values_of, with_old}
-use Rattle.pushserver.specs.KeptHubs.{KeepsSent, IsOldOf, queue_of}
+use Rattle.pushserver.specs.KeptHubs.{IsOldOf, queue_of}
 use Rattle.push_base.specs.Limits.{max_octets_at_name}
 use Rattle.dsotlv.specs.Notices.{last_ttl}
 use Rattle.coalesce.specs.Laws.{is_sent_so, is_side}
 use Rattle.pushserver.specs.Rows.{AreTold, is_tellable}
 use Rattle.pushserver.proofs.session_steps.OldValues.{shown-there}
-use Rattle.pushserver.proofs.session_steps.Lists.{each-both}
 use Rattle.pushserver.proofs.session_steps.Names.{AreApart}
-use Rattle.pushserver.proofs.hub_steps.Pairs.{all-weaken}
 
 -- ---- one more old value
 
@@ -141,12 +134,12 @@ other_key name q k at away = by (same_key q k) refl
     by true is = let wrong : true ≡ false = sym at ∙ ap (λ (x : Key). same_name name x.owner) (same_key-same q k is) ∙ away in absurd cc
     by false is = refl
 
-module _ (asked : Asked) (past : Past) (new : RecordSet) where
+module _ (asked : Asked) (start : State) (history : List Entry) (new : RecordSet) where
   abbrev newest : ℕ
-  newest = length past.history
+  newest = length history
 
   abbrev old : RecordSet
-  old = records_now past
+  old = records_at start history (length history)
 
   -- once these changes are kept, too, what is told of the name is what it had at its point
   pub record Going (cs : List Changed) (w : WaitingName) : Type 0 where
@@ -154,7 +147,7 @@ module _ (asked : Asked) (past : Past) (new : RecordSet) where
     pub values : AllByRecursion (IsOldOf w.name) w.values
     pub older : AllByRecursion (λ e. e.1.point < newest + 1) w.values
     pub within : w.point ≤ newest
-    pub leads : (q : Key) → wants q asked ≡ true → same_name w.name q.owner ≡ true → told q (values_of w.values) (first_before q cs (shown_at q new)) ≡ shown_at q (records_at past.start past.history w.point)
+    pub leads : (q : Key) → wants q asked ≡ true → same_name w.name q.owner ≡ true → told q (values_of w.values) (first_before q cs (shown_at q new)) ≡ shown_at q (records_at start history w.point)
 
   -- of names that don't wait they lead back to the records before
   abbrev pub LeadBack : List Changed → List WaitingName → Type 0

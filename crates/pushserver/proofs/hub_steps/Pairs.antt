@@ -1,5 +1,5 @@
 -- Two lists whose elements belong together one by one, and lists with numbers.
---     zip-map, zip-push, zip-filter      what stays together
+--     zip-map, zip-first, zip-push, zip-filter      what stays together
 --     zip-second      what each pair says of its second
 --     zip-in      the elements of a number change
 use Rattle.std.proofs.Common.{◌≡◌, ℕ, Bool, true, false, cond, List, [], ◌∷◌, ◌++◌, map, Option, Some, None, sym, ◌∙◌, ap, refl}
@@ -30,6 +30,13 @@ zip-second R P step [] [] h = tt
 zip-second R P step [] (y ∷ ys) h = absurd h
 zip-second R P step (x ∷ xs) [] h = absurd h
 zip-second R P step (x ∷ xs) (y ∷ ys) h = (step x y h.0, zip-second R P step xs ys h.1)
+
+-- what holds of each first holds of the first of each pair
+pub zip-first : {A B : Type 0} (P : A → Type 0) (R : A → B → Type 0) (xs : List A) (ys : List B) → AllByRecursion P xs → AllZip R xs ys → AllZip (λ x y. P x × R x y) xs ys
+zip-first P R [] [] all h = tt
+zip-first P R [] (y ∷ ys) all h = absurd h
+zip-first P R (x ∷ xs) [] all h = absurd h
+zip-first P R (x ∷ xs) (y ∷ ys) all h = ((all.0, h.0), zip-first P R xs ys all.1 h.1)
 
 pub zip-push : {A B : Type 0} (R : A → B → Type 0) (xs : List A) (ys : List B) (x : A) (y : B) → AllZip R xs ys → R x y → AllZip R (xs ++ x ∷ []) (ys ++ y ∷ [])
 zip-push R [] [] x y h r = (r, tt)

@@ -1,8 +1,8 @@
 -- A name that waits with old values is a name that is queued.
 --     plain_change point queue c      a change of a key, as the plain session has it
---     queue-fold, points-fold, names-fold      the changes of an entry, one after another
+--     queue-fold, points-fold, rises-fold, names-fold      the changes of an entry, one after another
 --     going-fold      what old values tell goes on through them
-use Rattle.std.proofs.Common.{◌≡◌, ℕ, ◌<◌, ◌≤◌, Bool, true, false, cond, ◌||◌, List, [], ◌∷◌, ◌++◌, length, Option, Some, None, is_some, sym, ◌∙◌, ap, subst, refl}
+use Rattle.std.proofs.Common.{◌≡◌, ℕ, ◌≤◌, Bool, true, false, cond, ◌||◌, List, [], ◌∷◌, ◌++◌, length, Option, Some, None, is_some, sym, ◌∙◌, ap, subst, refl, arith}
 use Rattle.std.specs.Prelude.{fold, find, option_map}
 use Rattle.std.specs.List.{AllByRecursion, list_any}
 use Rattle.dnsname.specs.Names.{Labels, same_name}
@@ -16,10 +16,13 @@ use Rattle.coalesce.specs.Waiting.{WaitingName, is_named, waits, with_old}
 use Rattle.coalesce.proofs.ReadBack.{each-append}
 use Rattle.history.proofs.Together.{same_name-turned}
 use Rattle.zoneupdate.proofs.Owners.{same_name-for, same_name-itself}
-use Rattle.history.specs.Kept.{Past}
-use Rattle.subscr.specs.Asked.{Asked, wants}
+use Rattle.history.specs.States.{State}
+use Rattle.history.specs.declared.entry.Entry.{Entry}
+use Rattle.subscr.specs.Asked.{Asked}
 use Rattle.pushserver.specs.PlainHubs.{Queue, point_in, enqueued}
 use Rattle.pushserver.proofs.session_steps.Lists.{some-find}
+use Rattle.pushserver.proofs.session_steps.Rising.{points_of, rises-queued}
+use Rattle.pushserver.specs.SoundHubs.{PointsRise}
 use Rattle.pushserver.proofs.session_steps.Names.{AreApart}
 use Rattle.pushserver.specs.KeptHubs.{queue_of}
 use Rattle.pushserver.proofs.hub_steps.Noted.{CanBeKept, and_old, Going, LeadBack, one-more, still-silent, other_key}
@@ -79,6 +82,12 @@ names-one point c queue once = by (is_some (point_in queue c.key.owner)) refl
     by true is = once
     by false is = distinct_push (λ (d e : Labels × ℕ). same_name e.0 d.0) queue (c.key.owner, point) once (sym (point-any queue c.key.owner) ∙ is)
 
+-- names wait in the order of their points still
+pub rises-fold : (point : ℕ) (cs : List Changed) (queue : Queue) → AllByRecursion (λ (e : Labels × ℕ). e.1 ≤ point) queue → PointsRise (points_of queue) → PointsRise (points_of (fold (plain_change point) queue cs))
+rises-fold point [] queue early rises = rises
+rises-fold point (c ∷ cs) queue early rises =
+    rises-fold point cs (plain_change point queue c) (points-fold (λ (e : Labels × ℕ). e.1 ≤ point) point (λ n. omega arith) (c ∷ []) queue early) (rises-queued queue c.key.owner point early rises)
+
 -- no name stands twice
 pub names-fold : (point : ℕ) (cs : List Changed) (queue : Queue) → AreApart queue → AreApart (fold (plain_change point) queue cs)
 names-fold point [] queue once = once
@@ -90,19 +99,19 @@ waits-alike : (n m : Labels) (queue : List WaitingName) → same_name n m ≡ tr
 waits-alike n m [] same = refl
 waits-alike n m (w ∷ ws) same = λ i. (same_name-turned w.name n ∙ same_name-for n m w.name same ∙ same_name-turned m w.name) i || waits-alike n m ws same i
 
-module _ (asked : Asked) (past : Past) (new : RecordSet) where
-  pub going-fold : (cs : List Changed) (queue : List WaitingName) → AllByRecursion CanBeKept cs → AreApart (queue_of queue) → AllByRecursion (Going asked past new cs) queue → LeadBack asked past new cs queue
-      → AllByRecursion (Going asked past new []) (fold (with_old (length past.history)) queue cs)
+module _ (asked : Asked) (start : State) (history : List Entry) (new : RecordSet) where
+  pub going-fold : (cs : List Changed) (queue : List WaitingName) → AllByRecursion CanBeKept cs → AreApart (queue_of queue) → AllByRecursion (Going asked start history new cs) queue → LeadBack asked start history new cs queue
+      → AllByRecursion (Going asked start history new []) (fold (with_old (length history)) queue cs)
   going-fold [] queue can apart all back = all
   going-fold (c ∷ cs) queue can apart all back = going-fold cs later can.1
       (subst AreApart (sym (queue-noted point queue c)) (names-one point c (queue_of queue) apart))
-      (one-more asked past new c cs can.0 queue all apart (λ none q wanted at. back q wanted (waits-alike q.owner c.key.owner queue (sym (same_name-turned c.key.owner q.owner) ∙ at) ∙ none)))
+      (one-more asked start history new c cs can.0 queue all apart (λ none q wanted at. back q wanted (waits-alike q.owner c.key.owner queue (sym (same_name-turned c.key.owner q.owner) ∙ at) ∙ none)))
       (λ q wanted none.
       let silent = still-silent point q.owner c queue none in
       ap (λ b. cond b c.before (first_before q cs (shown_at q new))) (sym (other q silent.1)) ∙ back q wanted silent.0)
     where
       point : ℕ
-      point = length past.history
+      point = length history
 
       later : List WaitingName
       later = with_old point queue c

@@ -1,7 +1,7 @@
 -- The reaction to a message, on the hub that is kept and on the plain one.
---     IsQuiet number hub      nothing of the session waits to be written
+--     IsQuiet number hub, GoesOn number hub      nothing of the session waits to be written; it goes on
 --     reacted-stands
-use Rattle.std.proofs.Common.{◌≡◌, ℕ, Bool, true, false, List, [], Option, Some, None, Result, Ok, Err, sym, ◌∙◌, ap, subst, refl, arith}
+use Rattle.std.proofs.Common.{◌≡◌, ℕ, Bool, true, false, List, [], Option, Some, None, Result, Ok, Err, sym, ◌∙◌, subst, refl, arith}
 use Rattle.std.specs.Prelude.{option_map}
 use Rattle.rrset.specs.Header.{id_of}
 use Rattle.rrset.specs.declared.record.Key.{Key}
@@ -22,12 +22,12 @@ use Rattle.history.specs.declared.entry.Entry.{Entry}
 use Rattle.history.specs.declared.entry.Entry.TheVariants as entries
 use Rattle.pushsession.specs.Kept.{KeptSession, keeping, telling}
 use Rattle.dsotlv.specs.Answers.{answer_to_update}
-use Rattle.pushsession.specs.Sessions.{ended_with, answers}
+use Rattle.pushsession.specs.Sessions.{is_open, ended_with, ended_where, answers}
 use Rattle.pushsession.specs.Subscribing.{answered}
 use Rattle.pushsession.specs.Reactions.{restarted_by, request_in, request_for, reacts_itself}
 use Rattle.pushsession.specs.declared.request.Request.TheVariants as requests
 use Rattle.pushserver.specs.PlainHubs.{Hub, Session, plain_keeps, plain_tells}
-use Rattle.pushserver.specs.Hubs.{Numbered, session_in, in_sessions, newest, now, state_now, records_now, session_of, in_session, entered, can_enter, update}
+use Rattle.pushserver.specs.Hubs.{Numbered, session_in, in_sessions, newest, now, state_now, records_now, session_of, in_session, entered, behind_at, ended_behind, ends_behind, entered_keeping, can_enter, update}
 use Rattle.pushserver.specs.Offering.{offered}
 use Rattle.pushserver.specs.Giving.{has_home, subscribes, reconfirms, updates, by_request, reacted}
 use Rattle.pushserver.specs.KeptHubs.{KeptHub, StandsFor}
@@ -39,6 +39,7 @@ use Rattle.pushserver.proofs.session_steps.Saying.{answers-keeps, restarts-keeps
 use Rattle.pushserver.proofs.session_steps.Reactions.{itself-keeps}
 use Rattle.pushserver.proofs.session_steps.Octets.{question-named}
 use Rattle.pushserver.proofs.session_steps.Accepting.{answered-keeps}
+use Rattle.pushserver.proofs.session_steps.Since.{itself-since, answered-since}
 use Rattle.pushserver.proofs.told_rows.HubTells.{hub_told}
 use Rattle.pushserver.proofs.told_rows.HeardRows.{brings_nothing}
 use Rattle.pushserver.proofs.told_rows.Hubs.{link_tells}
@@ -50,22 +51,39 @@ use Rattle.pushserver.proofs.Offering.{key-offered}
 
 -- ---- nothing waits to be written
 
-abbrev pub IsQuiet : ℕ → Hub → Type 0
-IsQuiet number hub = (p : Session) → session_of hub number ≡ Some p → p.output ≡ []
+-- what holds of the session of a number, where it is there
+abbrev OfFound : (Session → Type 0) → ℕ → Hub → Type 0
+OfFound P number hub = (p : Session) → session_of hub number ≡ Some p → P p
 
--- it is so still where the output is left
-pub quiet-later : (number : ℕ) (g : Session → Session) → ((p : Session) → (g p).output ≡ p.output) → (hub later : Hub) → session_of later number ≡ option_map g (session_of hub number) → IsQuiet number hub → IsQuiet number later
-quiet-later number g leaves hub later found quiet p is = by (session_of hub number) refl (sym found ∙ is)
+abbrev pub IsQuiet : ℕ → Hub → Type 0
+IsQuiet number hub = OfFound (λ p. p.output ≡ []) number hub
+
+abbrev pub GoesOn : ℕ → Hub → Type 0
+GoesOn number hub = OfFound (λ p. is_open p.standing ≡ true) number hub
+
+-- it holds still where a change leaves it
+pub found-later : (P : Session → Type 0) (number : ℕ) (g : Session → Session) → ((p : Session) → P p → P (g p)) → (hub later : Hub) → session_of later number ≡ option_map g (session_of hub number)
+    → ((p : Session) → session_of hub number ≡ Some p → P p) → (p : Session) → session_of later number ≡ Some p → P p
+found-later P number g leaves hub later found before p is = by (session_of hub number) refl (sym found ∙ is)
   where
-    by : (o : Option Session) → session_of hub number ≡ o → option_map g o ≡ Some p → p.output ≡ []
-    by None before e = absurd cc
-    by (Some q) before e = let same : g q ≡ p = cc in ap (λ (r : Session). r.output) (sym same) ∙ leaves q ∙ quiet q before
+    by : (o : Option Session) → session_of hub number ≡ o → option_map g o ≡ Some p → P p
+    by None none e = absurd cc
+    by (Some q) some e = let same : g q ≡ p = cc in subst P same (leaves q (before q some))
 
 quiet-updated : (number : ℕ) (hub : Hub) (message : List ℕ) → IsQuiet number hub → IsQuiet number (update hub message).1
 quiet-updated number hub message quiet = by (verdict (state_now hub) message)
   where
-    later : (entry : Entry) → IsQuiet number (entered entry hub)
-    later entry = quiet-later number (plain_noted hub entry) (λ p. refl) hub (entered entry hub) (found-all (plain_noted hub entry) number hub.sessions) quiet
+    ended : (entry : Entry) (p : Session) (o : Option ℕ) → p.output ≡ [] → (ended_where (plain_keeps (newest hub)) (option_map (λ point. ends.Behind point) o) p).output ≡ []
+    ended entry p None silent = silent
+    ended entry p (Some point) silent = silent
+
+    fallen : (entry : Entry) → IsQuiet number (ends_behind entry hub)
+    fallen entry = found-later (λ p. p.output ≡ []) number (ended_behind hub entry) (λ p silent. ended entry p (behind_at hub entry p) silent) hub (ends_behind entry hub) (found-all (ended_behind hub entry) number hub.sessions) quiet
+
+    later : (entry : Entry) → IsQuiet number (entered_keeping entry hub)
+    later entry =
+        let fewer = ends_behind entry hub in
+        found-later (λ p. p.output ≡ []) number (plain_noted fewer entry) (λ p silent. silent) fewer (entered entry fewer) (found-all (plain_noted fewer entry) number fewer.sessions) (fallen entry)
 
     by_room : (u : Update) (b : Bool) → IsQuiet number (enters_update hub u b).1
     by_room u true = later (entries.Update u)
@@ -73,7 +91,7 @@ quiet-updated number hub message quiet = by (verdict (state_now hub) message)
 
     by : (r : Result Update ℕ) → IsQuiet number (update_as hub r).1
     by (Err code) = quiet
-    by (Ok u) = by_room u (can_enter hub (entries.Update u))
+    by (Ok u) = by_room u (can_enter hub)
 
 -- ---- an update
 
@@ -83,7 +101,7 @@ answered-stands : (number id : ℕ) (k : ℕ × KeptHub) (p : ℕ × Hub) → Is
 answered-stands number id k p quiet both =
     subst (λ (code : ℕ). StandsFor (in_session number (answers keeping false (now k.1) (answer_to_update id code)) k.1) (in_session number says p.1)) (sym both.0)
     (with_kept (λ k. StandsFor (in_session number (answers keeping false (now k) (answer_to_update id p.0)) k) (in_session number says p.1)) k.1 p.1 both.1
-    (found-stands p.1 k.1.sessions (answers keeping false (now p.1) (answer_to_update id p.0)) says number
+    (found-stands p.1 k.1.seen.number k.1.sessions (answers keeping false (now p.1) (answer_to_update id p.0)) says (λ point session since. since) number
     (λ s r found pair. answers-keeps p.1 (newest p.1) false (now p.1) (answer_to_update id p.0) s r (quiet r.1 found) (omega arith) pair)))
   where
     says : Session → Session
@@ -91,12 +109,12 @@ answered-stands number id k p quiet both =
 
 -- ---- each reaction
 
-module _ (number : ℕ) (hub : Hub) (ks : Numbered KeptSession) (h : Stands hub ks) where
+module _ (number : ℕ) (hub : Hub) (from : ℕ) (ks : Numbered KeptSession) (h : Stands hub from ks) where
   abbrev khub : KeptHub
-  khub = kept_of hub ks
+  khub = kept_of hub from ks
 
   pub ends-stands : (reason : EndReason) → StandsFor (ends_as number reason khub) (ends_as number reason hub)
-  ends-stands reason = in-stands hub ks (ended_with keeping reason) (ended_with (plain_keeps (newest hub)) reason) number (ended-keeps hub (newest hub) reason) h
+  ends-stands reason = in-stands hub from ks (ended_with keeping reason) (ended_with (plain_keeps (newest hub)) reason) (λ point session since. tt) number (ended-keeps hub (newest hub) reason) h
 
   reconfirms-stands : (found : Option Rr) → StandsFor (reconfirms found number khub) (reconfirms found number hub)
   reconfirms-stands None = ends-stands (ends.BadData reconfirm_tlv)
@@ -107,22 +125,22 @@ module _ (number : ℕ) (hub : Hub) (ks : Numbered KeptSession) (h : Stands hub 
       by (Some found) =
           let entry = entries.Reconfirm found.0 found.1 in
           subst (λ k. StandsFor k (key_as hub (Some found))) (sym (key-offered khub found.0 found.1))
-          (subst (λ p. StandsFor (offered entry khub).1 p) (sym (key-offered hub found.0 found.1)) (offered-stands hub ks entry (link_tells hub entry found.0 refl brings_nothing h.sound.states) h).1)
+          (subst (λ p. StandsFor (offered entry khub).1 p) (sym (key-offered hub found.0 found.1)) (offered-stands hub from ks entry (link_tells hub entry found.0 refl brings_nothing h.sound.states) h).1)
 
-  module _ (quiet : IsQuiet number hub) where
+  module _ (quiet : IsQuiet number hub) (goes : GoesOn number hub) where
     itself-stands : (message : List ℕ) → StandsFor (by_request requests.Itself number message khub) (by_request requests.Itself number message hub)
     itself-stands message =
-        found-stands hub ks (reacts_itself keeping hub.timers (now hub) message) (reacts_itself (plain_keeps (newest hub)) hub.timers (now hub) message) number
+        found-stands hub from ks (reacts_itself keeping hub.timers (now hub) message) (reacts_itself (plain_keeps (newest hub)) hub.timers (now hub) message) (itself-since hub.timers (now hub) message) number
         (λ k p found s. itself-keeps hub (newest hub) hub.timers (now hub) message k p (quiet p.1 found) s) h
 
     subscribes-stands : (message : List ℕ) → AreOctets message → (question : Option Question) → question_of (primary_data message) ≡ question → StandsFor (subscribes question number message khub) (subscribes question number message hub)
     subscribes-stands message octets question read =
-        found-stands hub ks (answered keeping (telling (records_now hub)) (now hub) (id_of message) question (has_home hub question))
-        (answered (plain_keeps (newest hub)) (plain_tells hub.start hub.history) (now hub) (id_of message) question (has_home hub question)) number
-        (λ k p found s. answered-keeps hub (newest hub) (now hub) (id_of message) question k p (quiet p.1 found) (hub_told hub h.sound.states) (λ q is. question-named message q octets (read ∙ is)) s) h
+        found-stands hub from ks (answered keeping (telling (records_now hub)) (now hub) (id_of message) question (has_home hub question))
+        (answered (plain_keeps (newest hub)) (plain_tells hub.start hub.history) (now hub) (id_of message) question (has_home hub question)) (answered-since (records_now hub) (now hub) (id_of message) question (has_home hub question)) number
+        (λ k p found s. answered-keeps hub (newest hub) (now hub) (id_of message) question k p (goes p.1 found) (quiet p.1 found) (hub_told hub h.sound.states) (λ q is. question-named message q octets (read ∙ is)) s) h
 
     updates-stands : (message : List ℕ) → AreOctets message → StandsFor (updates number message khub) (updates number message hub)
-    updates-stands message octets = answered-stands number (id_of message) (update khub message) (update hub message) (quiet-updated number hub message quiet) (update-stands hub ks message octets h)
+    updates-stands message octets = answered-stands number (id_of message) (update khub message) (update hub message) (quiet-updated number hub message quiet) (update-stands hub from ks message octets h)
 
     reaction-stands : (reaction : Reaction) (message : List ℕ) → AreOctets message → StandsFor (by_request (request_for reaction message) number message khub) (by_request (request_for reaction message) number message hub)
     reaction-stands reactions.Subscribe message octets = subscribes-stands message octets (question_of (primary_data message)) refl
@@ -143,16 +161,17 @@ module _ (number : ℕ) (hub : Hub) (ks : Numbered KeptSession) (h : Stands hub 
 
 -- ---- a message
 
-pub reacted-stands : (number : ℕ) (hub : Hub) (ks : Numbered KeptSession) (message : List ℕ) → IsQuiet number hub → AreOctets message → Stands hub ks → StandsFor (reacted message number (kept_of hub ks)) (reacted message number hub)
-reacted-stands number hub ks message quiet octets h = by (session_in number ks) (session_in number hub.sessions) (both_found hub number ks hub.sessions (fitting h))
+pub reacted-stands : (number : ℕ) (hub : Hub) (from : ℕ) (ks : Numbered KeptSession) (message : List ℕ) → IsQuiet number hub → GoesOn number hub → AreOctets message → Stands hub from ks → StandsFor (reacted message number (kept_of hub from ks)) (reacted message number hub)
+reacted-stands number hub from ks message quiet goes octets h = by (session_in number ks) (session_in number hub.sessions) (both_found hub number ks hub.sessions (fitting h))
   where
-    by : (s : Option KeptSession) (p : Option Session) → FoundBoth hub number s p → StandsFor (session_as (kept_of hub ks) number message s) (session_as hub number message p)
+    by : (s : Option KeptSession) (p : Option Session) → FoundBoth hub number s p → StandsFor (session_as (kept_of hub from ks) number message s) (session_as hub number message p)
     by None None both = h
     by None (Some p) both = absurd both
     by (Some s) None both = absurd both
     by (Some s) (Some p) both =
         let f = restarted_by message (now hub) in
         let later = in_session number (restarted_by message (now hub)) hub in
-        subst (λ b. StandsFor (by_request (request_in message b) number message (in_session number (restarted_by message (now hub)) (kept_of hub ks))) (session_as hub number message (Some p))) (sym both.stands.established)
-        (request-stands number later (in_sessions number (restarted_by message (now hub)) ks) (in-stands hub ks (restarted_by message (now hub)) f number (restarts-keeps hub message (now hub)) h)
-        (quiet-later number f (λ p. refl) hub later (found-in number f hub.sessions) quiet) message octets p.established)
+        subst (λ b. StandsFor (by_request (request_in message b) number message (in_session number (restarted_by message (now hub)) (kept_of hub from ks))) (session_as hub number message (Some p))) (sym both.stands.established)
+        (request-stands number later from (in_sessions number (restarted_by message (now hub)) ks) (in-stands hub from ks (restarted_by message (now hub)) f (λ point session since. since) number (restarts-keeps hub message (now hub)) h)
+        (found-later (λ p. p.output ≡ []) number f (λ p silent. silent) hub later (found-in number f hub.sessions) quiet)
+        (found-later (λ p. is_open p.standing ≡ true) number f (λ p opens. opens) hub later (found-in number f hub.sessions) goes) message octets p.established)

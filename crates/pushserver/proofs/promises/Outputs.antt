@@ -7,21 +7,21 @@ use Rattle.std.specs.Option.{option_or}
 use Rattle.dsosession.specs.declared.session.EndReason.{EndReason}
 use Rattle.history.specs.declared.entry.Entry.{Entry}
 use Rattle.rrset.specs.RecordSet.{changes}
-use Rattle.pushsession.specs.Sessions.{SessionOf, Keeps, new_session, noted, due, ended_where, timed, with_piece, is_open, asked_to_stop}
+use Rattle.pushsession.specs.Sessions.{SessionOf, Keeps, new_session, noted, ended_where, timed, with_piece, is_open, asked_to_stop}
 use Rattle.pushsession.specs.declared.session_status.SessionStatus.TheVariants.{AskedToStop}
 use Rattle.pushserver.specs.PlainHubs.{Session, Hub, plain_keeps}
-use Rattle.pushserver.specs.Hubs.{Numbered, session_in, newest, now, keeps_now, records_now, session_of, each_session, in_session, entered}
+use Rattle.pushserver.specs.Hubs.{Numbered, session_in, newest, now, keeps_now, records_now, session_of, each_session, in_session, entered, entered_keeping}
 use Rattle.pushserver.specs.Laws.{OtherCallsKeepOutputs}
 use Rattle.pushserver.proofs.SessionLists.{found-changed, found-last, found-left, other-number}
-use Rattle.pushserver.proofs.Walks.{AnyMessage, with_new, holds-update, holds-hear, holds-moment, holds-connect}
+use Rattle.pushserver.proofs.Walks.{AnyMessage, EndsSome, Entering, entering-kept, timed-kept, with_new, holds-update, holds-hear, holds-moment, holds-connect}
 
 -- ---- what leaves the output of a session
 
 abbrev LeavesOutput : {A Q M : Type 0} → (SessionOf A Q M → SessionOf A Q M) → Type 0
 LeavesOutput {A} {Q} {M} f = (s : SessionOf A Q M) → (f s).output ≡ s.output
 
-timed-leaves : {A Q M : Type 0} (keeps : Keeps A Q M) (t : ℕ) → LeavesOutput (timed keeps t)
-timed-leaves keeps t s = by (due keeps t s)
+ends-leaves : {A Q M : Type 0} (keeps : Keeps A Q M) (reason : SessionOf A Q M → Option EndReason) → LeavesOutput (λ s. ended_where keeps (reason s) s)
+ends-leaves keeps reason s = by (reason s)
   where
     by : (o : Option EndReason) → (ended_where keeps o s).output ≡ s.output
     by None = refl
@@ -64,8 +64,14 @@ module _ (number : ℕ) (output : List ℕ) where
       changed (λ m. noted (keeps_now hub) (changes (records_now hub) (records_now later)) (newest hub)) (λ m s. refl) hub.sessions has
       )
 
+  ends-keeps : EndsSome HasOutput
+  ends-keeps hub point reason has = changed (λ m s. ended_where (plain_keeps point) (reason s) s) (λ m. ends-leaves (plain_keeps point) reason) hub.sessions has
+
+  keeping-keeps : (hub : Hub) → HasOutput hub → (entry : Entry) → Entering AnyMessage hub entry → HasOutput (entered_keeping entry hub)
+  keeping-keeps hub has entry by = entering-kept AnyMessage HasOutput HasOutput ends-keeps (λ hub entry by has. entered-keeps hub has entry) hub entry by has
+
   timed-keeps : (hub : Hub) (point t : ℕ) → HasOutput hub → HasOutput (each_session (timed (plain_keeps point) t) hub)
-  timed-keeps hub point t has = changed (λ m. timed (plain_keeps point) t) (λ m. timed-leaves (plain_keeps point) t) hub.sessions has
+  timed-keeps hub point t has = timed-kept HasOutput ends-keeps hub point t has
 
   makes-keeps : (hub : Hub) → HasOutput hub → HasOutput (with_new hub)
   makes-keeps hub has = ap output_of (found-last number hub.sessions (hub.numbers_given, new_session (keeps_now hub) (now hub))) ∙ by (session_of hub number) has
@@ -76,9 +82,9 @@ module _ (number : ℕ) (output : List ℕ) where
 
 pub other_calls_keep_outputs : OtherCallsKeepOutputs
 other_calls_keep_outputs hub number other octets n m = (
-  λ s was. holds-update AnyMessage (HasOutput number s.output) hub (λ entry by. entered-keeps number s.output hub (has s was) entry) (has s was) octets tt,
-  λ s was. holds-hear AnyMessage (HasOutput number s.output) hub (λ entry by. entered-keeps number s.output hub (has s was) entry) (has s was) n octets tt,
-  λ s was. holds-moment AnyMessage (HasOutput number s.output) hub (λ entry by. entered-keeps number s.output hub (has s was) entry) (has s was) (timed-keeps number s.output) n,
+  λ s was. holds-update AnyMessage (HasOutput number s.output) hub (keeping-keeps number s.output hub (has s was)) (has s was) octets tt,
+  λ s was. holds-hear AnyMessage (HasOutput number s.output) hub (keeping-keeps number s.output hub (has s was)) (has s was) n octets tt,
+  λ s was. holds-moment AnyMessage (HasOutput number s.output) hub (keeping-keeps number s.output hub (has s was)) (has s was) (timed-keeps number s.output) n,
   λ s was. holds-connect (HasOutput number s.output) hub (makes-keeps number s.output hub (has s was)) (has s was),
   λ s was. in-keeps number s.output hub other (with_piece octets) (λ s. refl) (has s was),
   λ s was. in-keeps number s.output hub other (asked_to_stop n m) (asked-leaves n m) (has s was),

@@ -3,12 +3,11 @@
 --     answered-keeps      what each verdict does
 use Rattle.std.proofs.Common.{◌≡◌, ℕ, ◌+◌, ◌-◌, ◌≤◌, ◌^◌, Bool, true, false, cond, not, ◌||◌, List, [], ◌∷◌, ◌++◌, length, min, Option, Some, None, refl, sym, ◌∙◌, ap, subst, arith}
 use Rattle.std.specs.List.{AllByRecursion}
-use Rattle.std.specs.Prelude.{IsTrue, find, filter, option_map, nat_le, ◌==◌}
+use Rattle.std.specs.Prelude.{IsTrue, find, option_map, nat_le, ◌==◌}
 use Rattle.std.proofs.lemmas.Bool.{leb-false}
 use Rattle.zoneupdate.proofs.Filters.{and-both, and-left}
 use Rattle.zoneupdate.proofs.Owners.{same_name-on}
 use Rattle.std.proofs.lemmas.List.{length-append, length-map, map-append}
-use Rattle.std.proofs.lemmas.List.Elements.{filter_agree}
 use Rattle.push_base.specs.Limits.{max_questions, max_number}
 use Rattle.dnsname.specs.Names.{Labels, is_name, same_name}
 use Rattle.rrset.specs.Records.{matches}
@@ -21,7 +20,6 @@ use Rattle.dsotlv.specs.Messages.{frame}
 use Rattle.dsotlv.specs.Answers.{answer_to, refusal_to, push_message}
 use Rattle.dsotlv.specs.declared.message.Notice.{Notice}
 use Rattle.dsosession.specs.declared.session.EndReason.TheVariants as ends
-use Rattle.history.specs.Kept.{Past}
 use Rattle.subscr.specs.Asked.{Asked, AreAsked, has, is_id, is_question, id_of, wants}
 use Rattle.subscr.proofs.Asking.{added}
 use Rattle.coalesce.specs.FirstAnswers.{first_notices}
@@ -35,18 +33,23 @@ use Rattle.pushsession.specs.Kept.{KeptSession, Filled, keeping, telling}
 use Rattle.pushsession.specs.Subscribing as subscribing
 use Rattle.pushsession.specs.Subscribing.{Verdict, is_served, may_be_served, verdict_on, subscribed, says_first_answer, first_answer_size, with_accepted, decided, answered}
 use Rattle.pushsession.proofs.Passing.{Passed, passed}
+use Rattle.history.specs.States.{State}
+use Rattle.history.specs.declared.entry.Entry.{Entry}
 use Rattle.pushserver.specs.PlainHubs.{Hub, Session, Subscription, Queue, size_of_made, asked_of, subscription_for, leaves_queue, plain_keeps, plain_tells}
-use Rattle.pushserver.specs.Hubs.{past_of, state_now, records_now}
+use Rattle.pushserver.specs.Hubs.{state_now, records_now}
 use Rattle.pushserver.specs.Giving.{has_home}
 use Rattle.pushserver.specs.KeptHubs.{KeepsSent}
 use Rattle.pushserver.specs.Rows.{AreTold}
+use Rattle.pushserver.proofs.session_steps.Rising.{rises-filter}
+use Rattle.pushsession.specs.Sessions.{is_open}
 use Rattle.pushserver.proofs.session_steps.Parts.{SessionFits, Asks, Waits, kept_asked, reads, writes, stands}
-use Rattle.pushserver.proofs.session_steps.Lists.{filter-map, find-map, some-find, any-append}
+use Rattle.pushserver.proofs.session_steps.Lists.{find-map, some-find, any-append}
 use Rattle.pushserver.proofs.session_steps.OldValues.{keeps-fewer}
-use Rattle.pushserver.specs.KeptHubs.{queue_of}
 use Rattle.pushserver.proofs.session_steps.Standing.{ended-keeps}
 use Rattle.pushserver.proofs.session_steps.Saying.{with_frame-keeps, answers-keeps}
 use Rattle.pushserver.proofs.session_steps.FirstAnswers.{first-alike}
+use Rattle.pushserver.proofs.session_steps.LettingGo.{leaves_alike}
+use Rattle.pushserver.proofs.WaitingNames.{watched-fewer, watched-more}
 
 -- ---- the verdict
 
@@ -93,26 +96,22 @@ asks-elsewhere asked id question name q other at wanted = by (matches question q
     by false is false e = absurd cc
 
 -- what is kept of the other names tells what was sent where the question is asked, too
-others-keep : (past : Past) (asked : Asked) (id : ℕ) (question : Question) (queue : List WaitingName) → AllByRecursion (KeepsSent past asked) queue → AllByRecursion (KeepsSent past (asked ++ (id, question) ∷ [])) (without_name question.name queue)
-others-keep past asked id question [] all = tt
-others-keep past asked id question (w ∷ ws) all = by (is_named question.name w) refl (others-keep past asked id question ws all.1)
+others-keep : (start : State) (history : List Entry) (asked : Asked) (id : ℕ) (question : Question) (queue : List WaitingName) → AllByRecursion (KeepsSent start history asked) queue → AllByRecursion (KeepsSent start history (asked ++ (id, question) ∷ [])) (without_name question.name queue)
+others-keep start history asked id question [] all = tt
+others-keep start history asked id question (w ∷ ws) all = by (is_named question.name w) refl (others-keep start history asked id question ws all.1)
   where
-    by : (b : Bool) → is_named question.name w ≡ b → AllByRecursion (KeepsSent past (asked ++ (id, question) ∷ [])) (without_name question.name ws)
-        → AllByRecursion (KeepsSent past (asked ++ (id, question) ∷ [])) (cond (not b) (w ∷ without_name question.name ws) (without_name question.name ws))
+    by : (b : Bool) → is_named question.name w ≡ b → AllByRecursion (KeepsSent start history (asked ++ (id, question) ∷ [])) (without_name question.name ws)
+        → AllByRecursion (KeepsSent start history (asked ++ (id, question) ∷ [])) (cond (not b) (w ∷ without_name question.name ws) (without_name question.name ws))
     by true is rest = rest
-    by false is rest = (keeps-fewer past asked (asked ++ (id, question) ∷ []) w (λ q wanted at. asks-elsewhere asked id question w.name q is at wanted) all.0, rest)
+    by false is rest = (keeps-fewer start history asked (asked ++ (id, question) ∷ []) w (λ q wanted at. asks-elsewhere asked id question w.name q is at wanted) all.0, rest)
 
 module _ (hub : Hub) (n : ℕ) (k : ℕ × KeptSession) (p : ℕ × Session) (s : SessionFits hub k p) where
-  leaves_alike : (question : Question) → queue_of (without_name question.name k.1.queue) ≡ leaves_queue question.name p.1.queue
-  leaves_alike question =
-      sym (filter-map (λ (w : WaitingName). (w.name, w.point)) (λ e. not (same_name e.0 question.name)) k.1.queue)
-      ∙ ap (λ (q : Queue). filter (λ e. not (same_name e.0 question.name)) q) s.stands.queue
-      ∙ filter_agree (λ e. not (same_name e.0 question.name)) (λ e. not (same_name question.name e.0)) (λ e. ap not (same_name-turned e.0 question.name)) p.1.queue
-
-  subscribed-keeps : (id : ℕ) (question : Question) (end : ℕ) → Passed (plain_keeps n) id question (has_home hub (Some question)) p.1.subscriptions
+  subscribed-keeps : is_open p.1.standing ≡ true → (id : ℕ) (question : Question) (end : ℕ) → Passed (plain_keeps n) id question (has_home hub (Some question)) p.1.subscriptions
       → SessionFits hub (k.0, subscribed keeping id question (min end max_number) k.1) (p.0, subscribed (plain_keeps n) id question end p.1)
-  subscribed-keeps id question end can =
-      stands hub k p s (subscribed keeping id question (min end max_number) k.1) (subscribed (plain_keeps n) id question end p.1) one_more others (reads hub k p s) (writes hub k p s) s.stands.clocks refl s.stands.standing
+  subscribed-keeps opens id question end can =
+      stands hub k p s (subscribed keeping id question (min end max_number) k.1) (subscribed (plain_keeps n) id question end p.1) one_more others
+      (watched-more p.1.subscriptions new (leaves_queue question.name p.1.queue) (watched-fewer p.1.subscriptions (λ e. not (same_name question.name e.0)) p.1.queue s.sound.watched)) (reads hub k p s) (writes hub k p s) s.stands.clocks refl s.stands.standing
+      (λ closed. let wrong : true ≡ false = sym opens ∙ closed in absurd cc)
     where
       new : Subscription
       new = record { id = id; question = question; filled = end }
@@ -129,11 +128,12 @@ module _ (hub : Hub) (n : ℕ) (k : ℕ × KeptSession) (p : ℕ × Session) (s 
         homes = each-append _ p.1.subscriptions (new ∷ []) s.sound.homes (and-both (is_served question.class) (has_home hub (Some question)) can.class can.home, tt);
       }
 
-      others : Waits (past_of hub) (keeping.with_question id question (min end max_number) k.1.subscriptions).asked (without_name question.name k.1.queue) (leaves_queue question.name p.1.queue)
+      others : Waits hub.start hub.history (keeping.with_question id question (min end max_number) k.1.subscriptions).asked (without_name question.name k.1.queue) (leaves_queue question.name p.1.queue)
       others = record {
-        queue = leaves_alike question;
-        keeps = others-keep (past_of hub) k.1.subscriptions.asked id question k.1.queue s.stands.keeps;
+        queue = leaves_alike hub k p s question.name;
+        keeps = others-keep hub.start hub.history k.1.subscriptions.asked id question k.1.queue s.stands.keeps;
         points = all_filter _ (λ e. not (same_name question.name e.0)) p.1.queue s.sound.points;
+        rises = rises-filter (λ e. not (same_name question.name e.0)) p.1.queue s.sound.rises;
         names = distinct_filter _ (λ e. not (same_name question.name e.0)) p.1.queue s.sound.names;
       }
 
@@ -155,25 +155,25 @@ module _ (hub : Hub) (n t id : ℕ) (question : Question) where
   abbrev plain_accepts : List Notice → Session → Session
   plain_accepts notices p = says_first_answer (plain_keeps n) t (answer_to id noerror) notices p.queue (subscribed (plain_keeps n) id question (size_of_made p.made + first_answer_size (answer_to id noerror) notices) p)
 
-  with_accepted-keeps : (k : ℕ × KeptSession) (p : ℕ × Session) → p.1.output ≡ [] → AreTold (records_now hub) → IsTrue (is_name question.name) → SessionFits hub k p
+  with_accepted-keeps : (k : ℕ × KeptSession) (p : ℕ × Session) → is_open p.1.standing ≡ true → p.1.output ≡ [] → AreTold (records_now hub) → IsTrue (is_name question.name) → SessionFits hub k p
       → Passed (plain_keeps n) id question (has_home hub (Some question)) p.1.subscriptions
       → SessionFits hub (k.0, with_accepted keeping (telling (records_now hub)) t id question k.1) (p.0, with_accepted (plain_keeps n) (plain_tells hub.start hub.history) t id question p.1)
-  with_accepted-keeps k p silent told named s new =
+  with_accepted-keeps k p opens silent told named s new =
       subst (λ (notices : List Notice). SessionFits hub (k.0, with_accepted keeping (telling (records_now hub)) t id question k.1) (p.0, plain_accepts notices p.1)) (first-alike hub k p s question)
       (subst (λ (end : ℕ). SessionFits hub (k.0, says_first_answer keeping t (answer_to id noerror) notices k.1.queue (subscribed keeping id question end k.1)) (p.0, plain_accepts notices p.1))
       (sym (end_alike k.1.made (size_of_made p.1.made) (first_answer_size (answer_to id noerror) notices) s.stands.written))
       (said-keeps notices k.1.queue p.1.queue _ _ silent (first_fits_one_message question k.1.subscriptions.asked (records_now hub) (find (is_named question.name) k.1.queue) named (question.name, (told question.name).0) (told question.name).1)
-      (subscribed-keeps hub n k p s id question (size_of_made p.1.made + first_answer_size (answer_to id noerror) notices) new)))
+      (subscribed-keeps hub n k p s opens id question (size_of_made p.1.made + first_answer_size (answer_to id noerror) notices) new)))
     where
       notices : List Notice
       notices = first_notices question k.1.subscriptions.asked (records_now hub) (find (is_named question.name) k.1.queue)
 
 -- ---- all verdicts
 
-pub answered-keeps : (hub : Hub) (n t id : ℕ) (question : Option Question) (k : ℕ × KeptSession) (p : ℕ × Session) → p.1.output ≡ [] → AreTold (records_now hub)
+pub answered-keeps : (hub : Hub) (n t id : ℕ) (question : Option Question) (k : ℕ × KeptSession) (p : ℕ × Session) → is_open p.1.standing ≡ true → p.1.output ≡ [] → AreTold (records_now hub)
     → ((q : Question) → question ≡ Some q → IsTrue (is_name q.name)) → SessionFits hub k p
     → SessionFits hub (k.0, answered keeping (telling (records_now hub)) t id question (has_home hub question) k.1) (p.0, answered (plain_keeps n) (plain_tells hub.start hub.history) t id question (has_home hub question) p.1)
-answered-keeps hub n t id question k p silent told named s =
+answered-keeps hub n t id question k p opens silent told named s =
     subst (λ (v : Verdict). SessionFits hub (k.0, decided keeping (telling (records_now hub)) t id v k.1) (p.0, answered (plain_keeps n) (plain_tells hub.start hub.history) t id question (has_home hub question) p.1))
     (sym (verdict-alike hub n k p s id question (has_home hub question)))
     (by (verdict_on (plain_keeps n) id question (has_home hub question) p.1.subscriptions) refl)
@@ -184,4 +184,4 @@ answered-keeps hub n t id question k p silent told named s =
     by (subscribing.Abort reason) is = ended-keeps hub n reason k p s
     by (subscribing.Accept q) is =
         let both = passed (plain_keeps n) id (has_home hub question) p.1.subscriptions question q is in
-        with_accepted-keeps hub n t id q k p silent told (named q both.0) s (subst (λ (o : Option Question). Passed (plain_keeps n) id q (has_home hub o) p.1.subscriptions) both.0 both.1)
+        with_accepted-keeps hub n t id q k p opens silent told (named q both.0) s (subst (λ (o : Option Question). Passed (plain_keeps n) id q (has_home hub o) p.1.subscriptions) both.0 both.1)

@@ -12,7 +12,7 @@ use Rattle.history.proofs.Together.{same_name-turned}
 use Rattle.history.specs.States.{records_at}
 use Rattle.pushsession.specs.Kept.{KeptSession}
 use Rattle.pushserver.specs.PlainHubs.{Hub, Session, point_in, wanted, sent, first_answer}
-use Rattle.pushserver.specs.Hubs.{past_of, records_now}
+use Rattle.pushserver.specs.Hubs.{records_now}
 use Rattle.pushserver.specs.KeptHubs.{KeepsSent}
 use Rattle.pushserver.proofs.session_steps.Lists.{find-map, find-alike, found-each}
 use Rattle.pushserver.proofs.session_steps.Names.{at_name-alike}
@@ -46,14 +46,14 @@ module _ (hub : Hub) (k : ℕ × KeptSession) (p : ℕ × Session) (s : SessionF
   -- what counts as sent of a name that waits is what its old values tell, as the questions ask for it
   sent-waiting : (w : WaitingName) → find (is_named name) k.1.queue ≡ Some w → sent hub p.1 name ≡ old_side k.1.subscriptions.asked rows w
   sent-waiting w is =
-      let found = found-each (KeepsSent (past_of hub) k.1.subscriptions.asked) (is_named name) k.1.queue w s.stands.keeps is in
+      let found = found-each (KeepsSent hub.start hub.history k.1.subscriptions.asked) (is_named name) k.1.queue w s.stands.keeps is in
       sent-at hub k p s name (Some w.point) (point-found ∙ ap (λ (o : Option WaitingName). option_map (λ (v : WaitingName). v.point) o) is)
       ∙ ap (λ (r : RecordSet). wanted p.1.subscriptions r) (sym (at_name-alike w.name name found.1 (records_at hub.start hub.history w.point)))
       ∙ sym (found.0.sent ∙ wanted-alike hub k p s (at_name w.name (records_at hub.start hub.history w.point)))
 
   now-waiting : (w : WaitingName) → find (is_named name) k.1.queue ≡ Some w → there ≡ new_side k.1.subscriptions.asked rows w
   now-waiting w is =
-      let found = found-each (KeepsSent (past_of hub) k.1.subscriptions.asked) (is_named name) k.1.queue w s.stands.keeps is in
+      let found = found-each (KeepsSent hub.start hub.history k.1.subscriptions.asked) (is_named name) k.1.queue w s.stands.keeps is in
       ap (λ (r : RecordSet). wanted p.1.subscriptions r) (sym (at_name-alike w.name name found.1 rows)) ∙ sym (wanted-alike hub k p s (at_name w.name rows))
 
   differs-alike : (o : Option WaitingName) → find (is_named name) k.1.queue ≡ o → differs k.1.subscriptions.asked rows o ≡ not is_up_to_date

@@ -18,7 +18,7 @@ use Rattle.coalesce.proofs.KindsOf.{any-map}
 use Rattle.history.specs.States.{records_at}
 use Rattle.pushsession.specs.Kept.{KeptSession}
 use Rattle.pushserver.specs.PlainHubs.{Hub, Session, Subscription, Queue, point_in, asks_for, wanted, sent, nets_of, asked_of}
-use Rattle.pushserver.specs.Hubs.{newest, past_of, records_now}
+use Rattle.pushserver.specs.Hubs.{newest, records_now}
 use Rattle.pushserver.specs.KeptHubs.{KeepsSent, queue_of}
 use Rattle.pushserver.proofs.session_steps.Lists.{each-both, each-map}
 use Rattle.pushserver.proofs.session_steps.Names.{points-there}
@@ -39,7 +39,7 @@ module _ (hub : Hub) (k : ℕ × KeptSession) (p : ℕ × Session) (s : SessionF
       → sent hub p.1 name ≡ wanted p.1.subscriptions (at_name name (records_at hub.start hub.history (unwrap_or point (newest hub))))
   sent-at name point is = ap (λ (o : Option ℕ). wanted p.1.subscriptions (at_name name (records_at hub.start hub.history (unwrap_or o (newest hub))))) is
 
-  net_alike : (w : WaitingName) → KeepsSent (past_of hub) k.1.subscriptions.asked w → point_in p.1.queue w.name ≡ Some w.point
+  net_alike : (w : WaitingName) → KeepsSent hub.start hub.history k.1.subscriptions.asked w → point_in p.1.queue w.name ≡ Some w.point
       → asked_net k.1.subscriptions.asked (records_now hub) w ≡ net (sent hub p.1 w.name) (wanted p.1.subscriptions (at_name w.name (records_now hub)))
   net_alike w keeps point =
       ap (λ (r : RecordSet). net r (only (λ key. wants key k.1.subscriptions.asked) (at_name w.name (records_now hub))))
@@ -60,6 +60,6 @@ module _ (hub : Hub) (k : ℕ × KeptSession) (p : ℕ × Session) (s : SessionF
 
   pub nets-alike : nets_in k.1.subscriptions.asked (records_now hub) k.1.queue ≡ nets_of hub.start hub.history p.1.subscriptions p.1.queue
   nets-alike =
-      nets_of_queue k.1.queue (each-both (KeepsSent (past_of hub) k.1.subscriptions.asked) (λ w. point_in p.1.queue w.name ≡ Some w.point) (λ w. (w.name, asked_net k.1.subscriptions.asked (records_now hub) w) ≡ plain_net (w.name, w.point))
+      nets_of_queue k.1.queue (each-both (KeepsSent hub.start hub.history k.1.subscriptions.asked) (λ w. point_in p.1.queue w.name ≡ Some w.point) (λ w. (w.name, asked_net k.1.subscriptions.asked (records_now hub) w) ≡ plain_net (w.name, w.point))
       (λ w keeps point. ap (λ n. (w.name, n)) (net_alike w keeps point)) k.1.queue s.stands.keeps points)
       ∙ ap (λ (q : Queue). map plain_net q) s.stands.queue

@@ -1,8 +1,8 @@
 -- Old values of a name that waits, key by key.
---     SentAt past asked w      what is told of a name by its old values is what it had at its point
+--     SentAt start history asked w      what is told of a name by its old values is what it had at its point
 --     sent-keys, sent-whole      that is what `KeepsSent` says of the whole name
 --     keeps-fewer      it holds of questions that ask for fewer of the name's keys
-use Rattle.std.proofs.Common.{◌≡◌, Bool, true, false, cond, List, [], ◌∷◌, Option, Some, None, refl, sym, ap, ◌∙◌}
+use Rattle.std.proofs.Common.{◌≡◌, Bool, true, false, cond, List, [], ◌∷◌, length, Option, None, refl, sym, ap, ◌∙◌}
 use Rattle.std.specs.List.{AllByRecursion}
 use Rattle.dnsname.specs.Names.{Labels, same_name}
 use Rattle.rrset.specs.KeyedRows.{Rows}
@@ -15,16 +15,16 @@ use Rattle.rrset.proofs.InOrder.{in_order-only}
 use Rattle.rrset.proofs.OldValues.{told, shown_at-with_values, in_order-with_values}
 use Rattle.rrset.proofs.SameRows.{same_key-same}
 use Rattle.rrset.proofs.Sets.{shown_at-only, only_same}
-use Rattle.history.specs.Kept.{Past, records_now, state_now}
-use Rattle.history.specs.States.{records_at, state_at}
+use Rattle.history.specs.States.{State, records_at, state_at}
+use Rattle.history.specs.declared.entry.Entry.{Entry}
 use Rattle.subscr.specs.Asked.{Asked, wants}
 use Rattle.coalesce.specs.Waiting.{WaitingName, OldValue, old_side, values_of}
 use Rattle.pushserver.specs.KeptHubs.{KeepsSent, IsOldOf}
 use Rattle.pushserver.proofs.Queues.{in_order-records}
 
 -- at its name, as the questions ask
-abbrev pub SentAt : Past → Asked → WaitingName → Type 0
-SentAt past asked w = (q : Key) → wants q asked ≡ true → same_name w.name q.owner ≡ true → told q (values_of w.values) (shown_at q (records_now past)) ≡ shown_at q (records_at past.start past.history w.point)
+abbrev pub SentAt : State → List Entry → Asked → WaitingName → Type 0
+SentAt start history asked w = (q : Key) → wants q asked ≡ true → same_name w.name q.owner ≡ true → told q (values_of w.values) (shown_at q (records_at start history (length history))) ≡ shown_at q (records_at start history w.point)
 
 abbrev pub is_at : Labels → Key → Bool
 is_at name key = same_name name key.owner
@@ -44,17 +44,17 @@ told-elsewhere name q (e ∷ es) o away all = by (same_key q e.0) refl (told-els
     by true is rest = let wrong : true ≡ false = sym all.0.0 ∙ ap (λ (k : Key). is_at name k) (sym (same_key-same q e.0 is)) ∙ away in absurd cc
     by false is rest = rest
 
-module _ (past : Past) (asked : Asked) (w : WaitingName) where
+module _ (start : State) (history : List Entry) (asked : Asked) (w : WaitingName) where
   abbrev now : RecordSet
-  now = records_now past
+  now = records_at start history (length history)
 
   abbrev before : RecordSet
-  before = records_at past.start past.history w.point
+  before = records_at start history w.point
 
   abbrev asks : Key → Bool
   asks key = wants key asked
 
-  pub sent-keys : old_side asked now w ≡ only asks (at_name w.name before) → SentAt past asked w
+  pub sent-keys : old_side asked now w ≡ only asks (at_name w.name before) → SentAt start history asked w
   sent-keys sent q wanted at =
       ap (told q (values_of w.values)) (sym (shown-there w.name q now at))
       ∙ sym (shown_at-with_values q (values_of w.values) (at_name w.name now))
@@ -63,10 +63,10 @@ module _ (past : Past) (asked : Asked) (w : WaitingName) where
       ∙ shown_at-passed asks q (at_name w.name before) wanted
       ∙ shown-there w.name q before at
 
-  pub sent-whole : AllByRecursion (IsOldOf w.name) w.values → SentAt past asked w → old_side asked now w ≡ only asks (at_name w.name before)
+  pub sent-whole : AllByRecursion (IsOldOf w.name) w.values → SentAt start history asked w → old_side asked now w ≡ only asks (at_name w.name before)
   sent-whole values sent =
       only_same asks (with_values (values_of w.values) (at_name w.name now)) (at_name w.name before)
-      (in_order-with_values (values_of w.values) (at_name w.name now) (in_order-only (is_at w.name) now (in_order-records (state_now past)))) (in_order-only (is_at w.name) before (in_order-records (state_at past.start past.history w.point)))
+      (in_order-with_values (values_of w.values) (at_name w.name now) (in_order-only (is_at w.name) now (in_order-records (state_at start history (length history))))) (in_order-only (is_at w.name) before (in_order-records (state_at start history w.point)))
       (λ q wanted. shown_at-with_values q (values_of w.values) (at_name w.name now) ∙ by q wanted (is_at w.name q) refl)
     where
       by : (q : Key) → asks q ≡ true → (b : Bool) → is_at w.name q ≡ b → told q (values_of w.values) (shown_at q (at_name w.name now)) ≡ shown_at q (at_name w.name before)
@@ -76,10 +76,10 @@ module _ (past : Past) (asked : Asked) (w : WaitingName) where
 
 -- ---- other questions
 
-pub keeps-fewer : (past : Past) (asked later : Asked) (w : WaitingName) → ((q : Key) → wants q later ≡ true → is_at w.name q ≡ true → wants q asked ≡ true) → KeepsSent past asked w → KeepsSent past later w
-keeps-fewer past asked later w fewer k = record {
+pub keeps-fewer : (start : State) (history : List Entry) (asked later : Asked) (w : WaitingName) → ((q : Key) → wants q later ≡ true → is_at w.name q ≡ true → wants q asked ≡ true) → KeepsSent start history asked w → KeepsSent start history later w
+keeps-fewer start history asked later w fewer k = record {
   rising = k.rising;
   values = k.values;
   older = k.older;
-  sent = sent-whole past later w k.values (λ q wanted at. sent-keys past asked w k.sent q (fewer q wanted at) at);
+  sent = sent-whole start history later w k.values (λ q wanted at. sent-keys start history asked w k.sent q (fewer q wanted at) at);
 }

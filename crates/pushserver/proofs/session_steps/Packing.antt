@@ -19,8 +19,10 @@ use Rattle.coalesce.proofs.Sides.{parts_stay_sides}
 use Rattle.pushsession.specs.Kept.{KeptSession, keeping, telling}
 use Rattle.pushsession.specs.Subscribing.{says_notices, with_next_push}
 use Rattle.pushserver.specs.PlainHubs.{Hub, Session, Queue, stays_queued, plain_keeps, plain_tells}
-use Rattle.pushserver.specs.Hubs.{past_of, records_now}
+use Rattle.pushserver.specs.Hubs.{records_now}
 use Rattle.pushserver.specs.KeptHubs.{KeepsSent}
+use Rattle.pushserver.proofs.WaitingNames.{watched-fewer}
+use Rattle.pushserver.proofs.session_steps.Rising.{rises-filter}
 use Rattle.pushserver.proofs.session_steps.Parts.{SessionFits, Waits, asks, reads, writes, stands}
 use Rattle.pushserver.proofs.session_steps.Lists.{each-drop}
 use Rattle.pushserver.proofs.session_steps.Names.{names_of, stays-last}
@@ -97,14 +99,15 @@ module _ (hub : Hub) (k : ℕ × KeptSession) (p : ℕ × Session) (s : SessionF
   -- the names that fit leave
   left-keeps : SessionFits hub (k.0, record k.1 { queue = left_in k.1.subscriptions.asked rows k.1.queue }) (p.0, record p.1 { queue = stays_queued (packed_of k.1.subscriptions.asked rows k.1.queue).1 p.1.queue })
   left-keeps =
-      stands hub k p s (record k.1 { queue = left_in k.1.subscriptions.asked rows k.1.queue }) (record p.1 { queue = stays_queued (packed_of k.1.subscriptions.asked rows k.1.queue).1 p.1.queue }) (asks hub k p s) fewer (reads hub k p s) (writes hub k p s)
-      s.stands.clocks s.stands.established s.stands.standing
+      stands hub k p s (record k.1 { queue = left_in k.1.subscriptions.asked rows k.1.queue }) (record p.1 { queue = stays_queued (packed_of k.1.subscriptions.asked rows k.1.queue).1 p.1.queue }) (asks hub k p s) fewer (watched-fewer p.1.subscriptions (λ e. list_any (same_name e.0) (packed_of k.1.subscriptions.asked rows k.1.queue).1) p.1.queue s.sound.watched) (reads hub k p s) (writes hub k p s)
+      s.stands.clocks s.stands.established s.stands.standing s.sound.rests
     where
-      fewer : Waits (past_of hub) k.1.subscriptions.asked (left_in k.1.subscriptions.asked rows k.1.queue) (stays_queued (packed_of k.1.subscriptions.asked rows k.1.queue).1 p.1.queue)
+      fewer : Waits hub.start hub.history k.1.subscriptions.asked (left_in k.1.subscriptions.asked rows k.1.queue) (stays_queued (packed_of k.1.subscriptions.asked rows k.1.queue).1 p.1.queue)
       fewer = record {
         queue = stays_alike;
-        keeps = each-drop (KeepsSent (past_of hub) k.1.subscriptions.asked) (length k.1.queue - length (packed_of k.1.subscriptions.asked rows k.1.queue).1) k.1.queue s.stands.keeps;
+        keeps = each-drop (KeepsSent hub.start hub.history k.1.subscriptions.asked) (length k.1.queue - length (packed_of k.1.subscriptions.asked rows k.1.queue).1) k.1.queue s.stands.keeps;
         points = all_filter _ (λ e. list_any (same_name e.0) (packed_of k.1.subscriptions.asked rows k.1.queue).1) p.1.queue s.sound.points;
+        rises = rises-filter (λ e. list_any (same_name e.0) (packed_of k.1.subscriptions.asked rows k.1.queue).1) p.1.queue s.sound.rises;
         names = distinct_filter _ (λ e. list_any (same_name e.0) (packed_of k.1.subscriptions.asked rows k.1.queue).1) p.1.queue s.sound.names;
       }
 

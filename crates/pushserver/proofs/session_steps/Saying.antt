@@ -1,6 +1,7 @@
 -- A kept session and the plain one: what is written, what is granted, and what is taken up.
 use Rattle.std.proofs.Common.{◌≡◌, ℕ, ◌+◌, ◌≤◌, ◌^◌, Bool, true, false, cond, not, List, [], ◌∷◌, ◌++◌, length, drop, min, Some, refl, ◌∙◌, sym, ap, subst, arith}
 use Rattle.std.specs.Prelude.{filter, ◌-◌, ◌==◌}
+use Rattle.std.specs.List.{IsDistinct}
 use Rattle.std.proofs.lemmas.List.{length-append, length-drop}
 use Rattle.std.proofs.lemmas.List.Sums.{sum_by_push}
 use Rattle.push_base.specs.Limits.{max_number}
@@ -21,15 +22,12 @@ use Rattle.pushsession.specs.Sessions.{SessionOf, Keeps, with_frame, answers, en
 use Rattle.pushsession.specs.Subscribing.{says_notices}
 use Rattle.pushsession.specs.Reactions.{restarted_by, granted, unsubscribed}
 use Rattle.pushserver.specs.PlainHubs.{Hub, Session, Subscription, Queue, frame_of, size_of_made, asked_of, plain_keeps}
-use Rattle.pushserver.specs.Hubs.{past_of, state_now}
-use Rattle.pushserver.specs.KeptHubs.{KeepsSent}
-use Rattle.pushserver.proofs.hub_steps.Pairs.{all-weaken}
-use Rattle.pushserver.proofs.session_steps.Lists.{any-filter}
-use Rattle.pushserver.proofs.session_steps.OldValues.{keeps-fewer}
-use Rattle.rrset.specs.Records.{matches}
+use Rattle.pushserver.specs.Hubs.{state_now}
+use Rattle.pushserver.proofs.WaitingNames.{ids-own, watched-let_go}
+use Rattle.pushserver.proofs.session_steps.LettingGo.{let_go-waits}
 use Rattle.pushserver.proofs.hub_steps.Cases.{clocks_as}
 use Rattle.pushserver.proofs.session_steps.Standing.{ended-keeps}
-use Rattle.pushserver.proofs.session_steps.Parts.{SessionFits, SessionKeeps, Asks, Waits, Reads, Writes, kept_asked, asks, waits, reads, writes, stands, asks_nothing, none_waits}
+use Rattle.pushserver.proofs.session_steps.Parts.{SessionFits, SessionKeeps, Asks, Reads, Writes, kept_asked, asks, waits, reads, writes, stands, asks_nothing, none_waits}
 use Rattle.pushserver.proofs.session_steps.Lists.{filter-map}
 use Rattle.pushserver.proofs.session_steps.Octets.{rest_is, rest_octets}
 
@@ -43,8 +41,8 @@ module _ (hub : Hub) (n : ℕ) where
   pub with_frame-keeps : (is_keepalive : Bool) (now : ℕ) (message : List ℕ) (waiting : List WaitingName) (queue : Queue) (k : ℕ × KeptSession) (p : ℕ × Session) → length p.1.output + length (frame message) ≤ frame_octets
       → SessionFits hub k p → SessionFits hub (k.0, with_frame keeping is_keepalive now message waiting k.1) (p.0, with_frame (plain_keeps n) is_keepalive now message queue p.1)
   with_frame-keeps is_keepalive now message waiting queue k p fits s =
-      stands hub k p s (with_frame keeping is_keepalive now message waiting k.1) (with_frame (plain_keeps n) is_keepalive now message queue p.1) (asks hub k p s) (waits hub k p s) (reads hub k p s) more
-      (ap (λ (c : Clocks). restarted is_keepalive now c) s.stands.clocks) s.stands.established s.stands.standing
+      stands hub k p s (with_frame keeping is_keepalive now message waiting k.1) (with_frame (plain_keeps n) is_keepalive now message queue p.1) (asks hub k p s) (waits hub k p s) s.sound.watched (reads hub k p s) more
+      (ap (λ (c : Clocks). restarted is_keepalive now c) s.stands.clocks) s.stands.established s.stands.standing s.sound.rests
     where
       more : Writes (k.1.output ++ frame message) (p.1.output ++ frame message) (min (k.1.made + length (frame message)) (2 ^ 64 - 1)) (with_frame (plain_keeps n) is_keepalive now message queue p.1).made
       more = record {
@@ -77,14 +75,17 @@ module _ (hub : Hub) (n : ℕ) where
       by : (b : Bool) → SessionFits hub (k.0, stops_as keeping rcode delay now k.1 b) (p.0, stops_as (plain_keeps n) rcode delay now p.1 b)
       by true =
           let said = answers-keeps false now (stop_message rcode delay) k p silent (omega arith) s in
-          stands hub k p s (says_stop keeping rcode delay now k.1) (says_stop (plain_keeps n) rcode delay now p.1) asks_nothing none_waits (reads hub _ _ said) (writes hub _ _ said) said.stands.clocks said.stands.established refl
+          stands hub k p s (says_stop keeping rcode delay now k.1) (says_stop (plain_keeps n) rcode delay now p.1) asks_nothing none_waits tt (reads hub _ _ said) (writes hub _ _ said) said.stands.clocks said.stands.established refl (λ closed. refl)
       by false = ended-keeps hub n ends.Stopped k p s
 
   pub unsubscribes-keeps : (id : ℕ) → SessionKeeps hub (unsubscribed keeping id) (unsubscribed (plain_keeps n) id)
-  unsubscribes-keeps id k p s = stands hub k p s (unsubscribed keeping id k.1) (unsubscribed (plain_keeps n) id p.1) fewer waiting (reads hub k p s) (writes hub k p s) s.stands.clocks s.stands.established s.stands.standing
+  unsubscribes-keeps id k p s = stands hub k p s (unsubscribed keeping id k.1) (unsubscribed (plain_keeps n) id p.1) fewer (let_go-waits hub k p s n id (filter (λ q. not (q.id == id)) p.1.subscriptions) is_less) (watched-let_go n id p.1.subscriptions p.1.queue own s.sound.watched) (reads hub k p s) (writes hub k p s) s.stands.clocks s.stands.established s.stands.standing (λ closed. ap (filter others) (s.sound.rests closed))
     where
       others : Subscription → Bool
       others q = not (q.id == id)
+
+      own : IsDistinct (λ (q r : Subscription). q.id == r.id) p.1.subscriptions
+      own = ids-own p.1.subscriptions s.sound.asked.ids
 
       is_less : without id k.1.subscriptions.asked ≡ asked_of (filter (λ q. not (q.id == id)) p.1.subscriptions)
       is_less = ap (λ a. without id a) s.stands.asked ∙ filter-map (λ (q : Subscription). (q.id, q.question)) (λ e. not (is_id id e)) p.1.subscriptions
@@ -97,30 +98,20 @@ module _ (hub : Hub) (n : ℕ) where
         homes = all_filter _ others p.1.subscriptions s.sound.homes;
       }
 
-      waiting : Waits (past_of hub) (without id k.1.subscriptions.asked) k.1.queue p.1.queue
-      waiting = record {
-        queue = s.stands.queue;
-        keeps = all-weaken (KeepsSent (past_of hub) k.1.subscriptions.asked) (KeepsSent (past_of hub) (without id k.1.subscriptions.asked))
-            (λ w keeps. keeps-fewer (past_of hub) k.1.subscriptions.asked (without id k.1.subscriptions.asked) w (λ q wanted at. any-filter (λ e. matches e.1 q) (λ e. not (is_id id e)) k.1.subscriptions.asked wanted) keeps)
-            k.1.queue s.stands.keeps;
-        points = s.sound.points;
-        names = s.sound.names;
-      }
-
 -- ---- a message that is taken up
 
 module _ (hub : Hub) where
   pub grants-keeps : (timers : Timers) → SessionKeeps hub (granted timers) (granted timers)
-  grants-keeps timers k p s = stands hub k p s (granted timers k.1) (granted timers p.1) (asks hub k p s) (waits hub k p s) (reads hub k p s) (writes hub k p s)
-      (ap (λ (c : Clocks). record c { timers = timers }) s.stands.clocks) refl s.stands.standing
+  grants-keeps timers k p s = stands hub k p s (granted timers k.1) (granted timers p.1) (asks hub k p s) (waits hub k p s) s.sound.watched (reads hub k p s) (writes hub k p s)
+      (ap (λ (c : Clocks). record c { timers = timers }) s.stands.clocks) refl s.stands.standing s.sound.rests
 
   pub restarts-keeps : (message : List ℕ) (now : ℕ) → SessionKeeps hub (restarted_by message now) (restarted_by message now)
-  restarts-keeps message now k p s = stands hub k p s (restarted_by message now k.1) (restarted_by message now p.1) (asks hub k p s) (waits hub k p s) (reads hub k p s) (writes hub k p s)
-      (ap (λ (c : Clocks). clocks_as now c (head_of message)) s.stands.clocks) s.stands.established s.stands.standing
+  restarts-keeps message now k p s = stands hub k p s (restarted_by message now k.1) (restarted_by message now p.1) (asks hub k p s) (waits hub k p s) s.sound.watched (reads hub k p s) (writes hub k p s)
+      (ap (λ (c : Clocks). clocks_as now c (head_of message)) s.stands.clocks) s.stands.established s.stands.standing s.sound.rests
 
   pub without_first-keeps : (found : List ℕ × List ℕ) (k : ℕ × KeptSession) (p : ℕ × Session) → first_message p.1.input ≡ Some found → SessionFits hub k p
       → SessionFits hub (k.0, without_first found.1 k.1) (p.0, without_first found.1 p.1)
-  without_first-keeps found k p is s = stands hub k p s (without_first found.1 k.1) (without_first found.1 p.1) (asks hub k p s) (waits hub k p s) left (writes hub k p s) s.stands.clocks s.stands.established s.stands.standing
+  without_first-keeps found k p is s = stands hub k p s (without_first found.1 k.1) (without_first found.1 p.1) (asks hub k p s) (waits hub k p s) s.sound.watched left (writes hub k p s) s.stands.clocks s.stands.established s.stands.standing s.sound.rests
     where
       rest : found.1 ≡ drop (2 + two_octets p.1.input 0) p.1.input
       rest = rest_is p.1.input found is

@@ -19,7 +19,7 @@ still_fits piece false input fits = omega (arith, fits, length-append input (tak
 
 module _ (hub : Hub) where
   pub with_piece-keeps : (piece : List ℕ) → AreOctets piece → SessionKeeps hub (with_piece piece) (with_piece piece)
-  with_piece-keeps piece octets k p s = stands hub k p s (with_piece piece k.1) (with_piece piece p.1) (asks hub k p s) (waits hub k p s) more (writes hub k p s) s.stands.clocks s.stands.established s.stands.standing
+  with_piece-keeps piece octets k p s = stands hub k p s (with_piece piece k.1) (with_piece piece p.1) (asks hub k p s) (waits hub k p s) s.sound.watched more (writes hub k p s) s.stands.clocks s.stands.established s.stands.standing s.sound.rests
     where
       more : Reads (with_piece piece k.1).input (with_piece piece p.1).input
       more = record {
@@ -29,7 +29,7 @@ module _ (hub : Hub) where
       }
 
   pub copied-keeps : (room : ℕ) → SessionKeeps hub (copied room) (copied room)
-  copied-keeps room k p s = stands hub k p s (copied room k.1) (copied room p.1) (asks hub k p s) (waits hub k p s) (reads hub k p s) less s.stands.clocks s.stands.established s.stands.standing
+  copied-keeps room k p s = stands hub k p s (copied room k.1) (copied room p.1) (asks hub k p s) (waits hub k p s) s.sound.watched (reads hub k p s) less s.stands.clocks s.stands.established s.stands.standing s.sound.rests
     where
       less : Writes (drop room k.1.output) (drop room p.1.output) k.1.made p.1.made
       less = record { output = ap (λ o. drop room o) s.stands.output; counted = s.stands.written; fits = omega (arith, s.sound.output_fits, length-drop room p.1.output) }
@@ -39,22 +39,23 @@ module _ (hub : Hub) where
       subst (λ (st : SessionStatus). SessionFits hub (k.0, asked_to_stop rcode delay k.1) (p.0, cond (is_open st) (record p.1 { standing = AskedToStop rcode delay }) p.1)) s.stands.standing (by (is_open k.1.standing))
     where
       by : (b : Bool) → SessionFits hub (k.0, cond b (record k.1 { standing = AskedToStop rcode delay }) k.1) (p.0, cond b (record p.1 { standing = AskedToStop rcode delay }) p.1)
-      by true = stands hub k p s (record k.1 { standing = AskedToStop rcode delay }) (record p.1 { standing = AskedToStop rcode delay }) (asks hub k p s) (waits hub k p s) (reads hub k p s) (writes hub k p s) s.stands.clocks s.stands.established refl
+      by true = stands hub k p s (record k.1 { standing = AskedToStop rcode delay }) (record p.1 { standing = AskedToStop rcode delay }) (asks hub k p s) (waits hub k p s) s.sound.watched (reads hub k p s) (writes hub k p s) s.stands.clocks s.stands.established refl (λ closed. absurd cc)
       by false = s
 
 -- ---- its end, where so many entries are made
 
 module _ (hub : Hub) (n : ℕ) where
   pub ended-keeps : (reason : EndReason) → SessionKeeps hub (ended_with keeping reason) (ended_with (plain_keeps n) reason)
-  ended-keeps reason k p s = stands hub k p s (ended_with keeping reason k.1) (ended_with (plain_keeps n) reason p.1) asks_nothing none_waits (reads hub k p s) (writes hub k p s) s.stands.clocks s.stands.established refl
+  ended-keeps reason k p s = stands hub k p s (ended_with keeping reason k.1) (ended_with (plain_keeps n) reason p.1) asks_nothing none_waits tt (reads hub k p s) (writes hub k p s) s.stands.clocks s.stands.established refl (λ closed. refl)
+
+  -- it ends for a reason, or goes on
+  pub ended_where-keeps : (reason : Option EndReason) → SessionKeeps hub (ended_where keeping reason) (ended_where (plain_keeps n) reason)
+  ended_where-keeps None k p s = s
+  ended_where-keeps (Some reason) k p s = ended-keeps reason k p s
 
   pub timed-keeps : (t : ℕ) → SessionKeeps hub (timed keeping t) (timed (plain_keeps n) t)
-  timed-keeps t k p s = subst (λ (o : Option EndReason). SessionFits hub (k.0, timed keeping t k.1) (p.0, ended_where (plain_keeps n) o p.1)) same (over (due keeping t k.1))
+  timed-keeps t k p s = subst (λ (o : Option EndReason). SessionFits hub (k.0, timed keeping t k.1) (p.0, ended_where (plain_keeps n) o p.1)) same (ended_where-keeps (due keeping t k.1) k p s)
     where
-      over : (o : Option EndReason) → SessionFits hub (k.0, ended_where keeping o k.1) (p.0, ended_where (plain_keeps n) o p.1)
-      over None = s
-      over (Some reason) = ended-keeps reason k p s
-
       count : length k.1.subscriptions.asked ≡ length p.1.subscriptions
       count = ap length s.stands.asked ∙ length-map p.1.subscriptions (λ q. (q.id, q.question))
 

@@ -1,7 +1,7 @@
 -- What a server keeps can be told: the records now, and those that names which wait in its sessions had.
 --     StatesTell hub      each state of its history is tellable
 --     hub_told, session_packable, hubs_tell
-use Rattle.std.proofs.Common.{◌≡◌, ℕ, ◌<◌, ◌≤◌, Bool, true, List, [], ◌∷◌, length, Option, Some, None, sym, subst, arith}
+use Rattle.std.proofs.Common.{◌≡◌, ℕ, ◌≤◌, Bool, true, List, [], ◌∷◌, Option, Some, None, sym, ap, subst, arith}
 use Rattle.std.specs.Prelude.{IfSome, IsTrue, not}
 use Rattle.std.specs.List.{AllByRecursion, list_all}
 use Rattle.rrset.specs.RecordSet.{RecordSet}
@@ -17,10 +17,10 @@ use Rattle.zoneupdate.proofs.SomeAndAll.{all-filter}
 use Rattle.zoneupdate.proofs.RecordSets.{all-put}
 use Rattle.dnsname.specs.Names.{Labels}
 use Rattle.coalesce.specs.Waiting.{WaitingName, OldValue, IsPackable, CanBePacked, records_then, values_of}
-use Rattle.history.specs.States.{state_at, records_at}
+use Rattle.history.specs.States.{state_at, records}
 use Rattle.pushsession.specs.Kept.{KeptSession}
 use Rattle.pushserver.specs.PlainHubs.{Session, Hub}
-use Rattle.pushserver.specs.Hubs.{newest, past_of, state_now, records_now, session_of}
+use Rattle.pushserver.specs.Hubs.{newest, state_now, records_now, session_of}
 use Rattle.pushserver.specs.KeptHubs.{KeptHub, IsOldOf, KeepsSent, StandsFor}
 use Rattle.pushserver.specs.Rows.{AreTold, IsTellable, is_tellable}
 use Rattle.pushserver.specs.Simulation.{HubsTell}
@@ -73,12 +73,12 @@ side-then rows w old side =
     (passed-then shows_its_key w.values there (old-shows w.name w.values old) (and-right (is_in_order there) (list_all shows_its_key there) set)))
     (passed-then (is_sent_so w.name) w.values there (old-sent w.name w.values old) (and-right (is_record_set there) (list_all (is_sent_so w.name) there) side))
 
-pub waiting_packable : (hub : Hub) (asked : Asked) → StatesTell hub → (w : WaitingName) → KeepsSent (past_of hub) asked w → IsPackable (records_now hub) w
+pub waiting_packable : (hub : Hub) (asked : Asked) → StatesTell hub → (w : WaitingName) → KeepsSent hub.start hub.history asked w → IsPackable (records_now hub) w
 waiting_packable hub asked states w keeps =
     let now = hub_told hub states w.name in
     ((w.name, side-then (records_now hub) w keeps.values now.0, now.0), now.1)
 
-each_packable : (hub : Hub) (asked : Asked) → StatesTell hub → (queue : List WaitingName) → AllByRecursion (KeepsSent (past_of hub) asked) queue → CanBePacked (records_now hub) queue
+each_packable : (hub : Hub) (asked : Asked) → StatesTell hub → (queue : List WaitingName) → AllByRecursion (KeepsSent hub.start hub.history asked) queue → CanBePacked (records_now hub) queue
 each_packable hub asked states [] keeps = tt
 each_packable hub asked states (w ∷ queue) keeps = (waiting_packable hub asked states w keeps.0, each_packable hub asked states queue keeps.1)
 
@@ -90,7 +90,7 @@ session_packable hub states k p stands = each_packable hub k.1.subscriptions.ask
 
 -- the records now of what is kept
 kept_now : (k : KeptHub) (hub : Hub) → StandsFor k hub → records_now hub ≡ records_now k
-kept_now k hub stands = sym (λ i. records_at (stands.start i) (stands.history i) (length (stands.history i)))
+kept_now k hub stands = sym (ap records stands.state)
 
 pub hubs_tell : HubsTell
 hubs_tell k hub stands = (

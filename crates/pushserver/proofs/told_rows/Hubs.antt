@@ -14,10 +14,10 @@ use Rattle.history.specs.AtHome.{AreAtHome, homes_in}
 use Rattle.history.specs.States.{State, after, state_at, verdict}
 use Rattle.history.specs.declared.entry.Entry.{Entry}
 use Rattle.history.specs.declared.entry.Entry.TheVariants as entries
-use Rattle.pushserver.specs.Hubs.{newest, state_now, entered, empty_hub}
+use Rattle.pushserver.specs.Hubs.{newest, state_now, entered}
 use Rattle.pushserver.specs.PlainHubs.{Hub, new_hub}
 use Rattle.pushserver.specs.Rows.{IsTellable}
-use Rattle.pushserver.specs.KeptHubs.{kept, StandsFor}
+use Rattle.pushserver.specs.KeptHubs.{new_kept, StandsFor}
 use Rattle.pushserver.proofs.told_rows.HubTells.{StatesTell}
 use Rattle.pushserver.proofs.told_rows.HeardRows.{Brought}
 use Rattle.pushserver.proofs.told_rows.Histories.{states-more}
@@ -44,13 +44,15 @@ new_tells start timers is point within =
     let first : point ≡ 0 = omega (arith, within) in
     subst IsTellable (sym (ap (λ (n : ℕ). state_at start [] n) first)) is
 
-pub new_stands : (start : State) (timers : Timers) → IsStart start → AreAtHome start → AllByRecursion (λ h. IsTrue (is_name h.0)) (homes_in start) → StandsFor (empty_hub kept start timers) (new_hub start timers)
+pub new_stands : (start : State) (timers : Timers) → IsStart start → AreAtHome start → AllByRecursion (λ h. IsTrue (is_name h.0)) (homes_in start) → StandsFor (new_kept start timers) (new_hub start timers)
 unfolding IsDistinct
 new_stands start timers begins home names = record {
   sound = record { begins = begins; states = new_tells start timers (start-tellable start begins home names); sessions = tt; numbers = tt; few = omega arith };
   timers = refl;
   numbers_given = refl;
-  start = refl;
-  history = refl;
+  past = record { begins = omega arith; start_is = refl; entries = refl; counts_are = refl };
+  state = refl;
+  newest = refl;
+  since = tt;
   sessions = tt;
 }

@@ -1,8 +1,8 @@
 -- Where first answers end, as it was told last.
 --     told-append      of what is told first, and else of the rest
---     front-again, front-put      what is told already, and what is put in front of the others
+--     front-again, front-put      what is told already, and what is put in front of the others, where both begin alike
 --     ends-kept      the ends that the code has are those of a session's subscriptions
-use Rattle.std.proofs.Common.{T, eqb→eq, take_all, take-take, ◌≤◌, ◌≡◌, ℕ, ◌+◌, ◌<◌, ◌==◌, Bool, true, false, cond, not, ◌||◌, List, [], ◌∷◌, ◌++◌, length, take, drop, get_or, filter, find, min, Option, Some, None, option_map, refl, sym, ◌∙◌, ap, subst, arith}
+use Rattle.std.proofs.Common.{T, eqb→eq, take_all, take-take, length-drop, ◌-◌, ◌≤◌, ◌≡◌, ℕ, ◌+◌, ◌<◌, ◌==◌, Bool, true, false, cond, not, ◌||◌, List, [], ◌∷◌, ◌++◌, length, take, drop, get_or, filter, find, min, Option, Some, None, option_map, refl, sym, ◌∙◌, ap, subst, arith}
 use Rattle.std.specs.Prelude.{OnOk, Result, Ok, Err}
 use Rattle.std.proofs.lemmas.List.{take-append-drop, take_more}
 use Rattle.push_base.specs.Limits.{max_number}
@@ -69,33 +69,69 @@ told-there (e ∷ es) id is a b = by (e.0 == id) is (told-there es id)
     by true h rest = refl
     by false h rest = rest h a b
 
-pub front-put : (told filled kept later : Ends) → kept ≡ filter (not_told told) filled → later ≡ told ++ kept → (id : ℕ) → told_end later id ≡ told_end (told ++ filled) id
-front-put told filled kept later kept_is later_is id =
-    ap (λ (l : Ends). told_end l id) later_is ∙ told-append told kept id ∙ by (has_end told id) refl ∙ sym (told-append told filled id)
+-- an ID that two lists together don't tell is told by neither
+neither : (xs ys : Ends) (id : ℕ) → has_end (xs ++ ys) id ≡ false → (has_end xs id ≡ false) × (has_end ys id ≡ false)
+neither [] ys id none = (refl, none)
+neither (x ∷ xs) ys id none = by (x.0 == id) none (neither xs ys id)
   where
-    by : (b : Bool) → has_end told id ≡ b → first_or (told_end told id) (told_end kept id) ≡ first_or (told_end told id) (told_end filled id)
-    by true is = told-there told id is (told_end kept id) (told_end filled id)
-    by false is = ap (first_or (told_end told id)) (ap (λ (l : Ends). told_end l id) kept_is ∙ left-over told filled id is)
+    by : (b : Bool) → (b || has_end (xs ++ ys) id) ≡ false → (has_end (xs ++ ys) id ≡ false → (has_end xs id ≡ false) × (has_end ys id ≡ false)) → ((b || has_end xs id) ≡ false) × (has_end ys id ≡ false)
+    by true h rest = absurd cc
+    by false h rest = rest h
 
-pub put-then : {E : Type 0} (told filled kept later : Ends) (r : Result (Unit {0}) E) → kept ≡ filter (not_told told) filled → OnOk r (later ≡ told ++ kept) → OnOk r ((id : ℕ) → told_end later id ≡ told_end (told ++ filled) id)
-put-then told filled kept later (Ok u) kept_is later_is = front-put told filled kept later kept_is later_is
-put-then told filled kept later (Err e) kept_is later_is = tt
+absent : (xs : Ends) (id : ℕ) → has_end xs id ≡ false → (other : Option ℕ) → first_or (told_end xs id) other ≡ other
+absent [] id none other = refl
+absent (x ∷ xs) id none other = by (x.0 == id) none (absent xs id)
+  where
+    by : (b : Bool) → (b || has_end xs id) ≡ false → (has_end xs id ≡ false → (other : Option ℕ) → first_or (told_end xs id) other ≡ other)
+        → first_or (option_map (λ (x : ℕ × ℕ). x.1) (cond b (Some x) (find (is_of id) xs))) other ≡ other
+    by true h rest = absurd cc
+    by false h rest = rest h other
+
+-- both begin alike, and of what was told earlier behind that the IDs that are told now are taken out
+pub front-put : (front rest back filled kept later : Ends) → filled ≡ front ++ back → kept ≡ filter (not_told rest) back → later ≡ (front ++ rest) ++ kept
+    → (id : ℕ) → told_end later id ≡ told_end ((front ++ rest) ++ filled) id
+front-put front rest back filled kept later filled_is kept_is later_is id =
+    ap (λ (l : Ends). told_end l id) later_is ∙ told-append (front ++ rest) kept id ∙ by (has_end (front ++ rest) id) refl ∙ sym (told-append (front ++ rest) filled id)
+  where
+    same : has_end (front ++ rest) id ≡ false → told_end kept id ≡ told_end filled id
+    same none =
+        let apart = neither front rest id none in
+        ap (λ (l : Ends). told_end l id) kept_is ∙ left-over rest back id apart.1
+        ∙ sym (absent front id apart.0 (told_end back id)) ∙ sym (told-append front back id) ∙ ap (λ (l : Ends). told_end l id) (sym filled_is)
+
+    by : (b : Bool) → has_end (front ++ rest) id ≡ b → first_or (told_end (front ++ rest) id) (told_end kept id) ≡ first_or (told_end (front ++ rest) id) (told_end filled id)
+    by true is = told-there (front ++ rest) id is (told_end kept id) (told_end filled id)
+    by false is = ap (first_or (told_end (front ++ rest) id)) (same is)
+
+pub put-then : {E : Type 0} (told filled : Ends) (same : ℕ) (kept later : Ends) (r : Result (Unit {0}) E) → take same told ≡ take same filled → kept ≡ filter (not_told (drop same told)) (drop same filled)
+    → OnOk r (later ≡ told ++ kept) → OnOk r ((id : ℕ) → told_end later id ≡ told_end (told ++ filled) id)
+put-then told filled same kept later (Ok u) alike kept_is later_is =
+    let whole : take same told ++ drop same told ≡ told = take-append-drop same told in
+    let was : filled ≡ take same told ++ drop same filled = sym (take-append-drop same filled) ∙ ap (λ (l : Ends). l ++ drop same filled) (sym alike) in
+    λ id. front-put (take same told) (drop same told) (drop same filled) filled kept later was kept_is (later_is ∙ ap (λ (l : Ends). l ++ kept) (sym whole)) id
+    ∙ ap (λ (l : Ends). told_end (l ++ filled) id) whole
+put-then told filled same kept later (Err e) alike kept_is later_is = tt
 
 -- ---- a front, place by place
 
 pub front-more : (told filled : Ends) (i : ℕ) (d : ℕ × ℕ) → i < length told → i < length filled → get_or told i d ≡ get_or filled i d → take i told ≡ take i filled → take (i + 1) told ≡ take (i + 1) filled
 front-more told filled i d in_told in_filled same so_far = take_more told i d in_told ∙ (λ j. so_far j ++ same j ∷ []) ∙ sym (take_more filled i d in_filled)
 
+-- so is a shorter one
+pub front-less : (told filled : Ends) (n i : ℕ) → n ≤ i → take i told ≡ take i filled → take n told ≡ take n filled
+front-less told filled n i all same = sym (take-take n i told all) ∙ ap (take n) same ∙ take-take n i filled all
+
 pub front-whole : (told filled : Ends) (i : ℕ) → length told ≤ i → take i told ≡ take i filled → filled ≡ told ++ drop (length told) filled
 front-whole told filled i all same =
-    let fronts : told ≡ take (length told) filled = sym (take_all (length told) told (low (length told))) ∙ front_of_front told filled i all same in
+    let fronts : told ≡ take (length told) filled = sym (take_all (length told) told (low (length told))) ∙ front-less told filled (length told) i all same in
     sym (take-append-drop (length told) filled) ∙ ap (λ (l : Ends). l ++ drop (length told) filled) (sym fronts)
   where
     low : (n : ℕ) → n ≤ n
     low n = omega arith
 
-    front_of_front : (told filled : Ends) (i : ℕ) → length told ≤ i → take i told ≡ take i filled → take (length told) told ≡ take (length told) filled
-    front_of_front told filled i all same = sym (take-take (length told) i told all) ∙ ap (take (length told)) same ∙ take-take (length told) i filled all
+-- what is behind a front is as long as the whole without it
+pub front-rest : (told : Ends) (n : ℕ) → take (length told - n) (drop n told) ≡ drop n told
+front-rest told n = take_all (length told - n) (drop n told) (omega (arith, length-drop n told))
 
 -- ---- the ends that are kept
 

@@ -60,7 +60,7 @@ module _ (number : ℕ) where
     takes_up = λ hub n session found there is h. gone-in_session hub n (without_first found.1) h;
     changes = λ hub n f step h. gone-in_session hub n f h;
     enters = λ hub entry by h. record { given = h.given; differ = differ-map _ hub.sessions h.differ };
-    times = λ hub point t h. record { given = h.given; differ = differ-map _ hub.sessions h.differ };
+    ends = λ hub point reason h. record { given = h.given; differ = differ-map _ hub.sessions h.differ };
     takes_in = λ hub n piece any h. gone-in_session hub n (with_piece piece) h;
     asks_stop = λ hub n rcode delay h. gone-in_session hub n (asked_to_stop rcode delay) h;
     makes = λ hub h. record {

@@ -2,7 +2,7 @@
 --     peer-stays, peer-stays-lines      a line of others leaves a peer the session that it has, or without one; so do several
 --     others-leave      they leave that session as it is, or the history has become longer
 use Rattle.std.proofs.Common.{◌≡◌, ◌⊎◌, inl, inr, ℕ, ◌+◌, ◌<◌, ◌==◌, Bool, true, false, cond, not, List, [], ◌∷◌, ◌++◌, fold, take, find, length, Option, Some, None, option_map, refl, sym, ◌∙◌, ap, subst, arith}
-use Rattle.std.specs.Prelude.{nat_lt}
+use Rattle.std.specs.Prelude.{nat_lt, ◌&&◌}
 use Rattle.std.specs.List.{AllByRecursion, list_all}
 use Rattle.std.specs.Option.{option_or}
 use Rattle.std.specs.Str.{bytes_eq}
@@ -12,13 +12,13 @@ use Rattle.history.specs.declared.entry.Entry.{Entry}
 use Rattle.history.specs.declared.entry.Entry.TheVariants as entries
 use Rattle.pushserver.specs.PlainHubs.{Session, Hub, Giving}
 use Rattle.pushserver.specs.Hubs as hubs
-use Rattle.pushserver.specs.Hubs.{now, keeps_now, session_of, in_session, entered, can_enter, disconnect}
+use Rattle.pushserver.specs.Hubs.{now, keeps_now, session_of, in_session, entered_keeping, can_enter, disconnect}
 use Rattle.pushsession.specs.Sessions.{new_session, with_piece, asked_to_stop}
 use Rattle.pushserver.specs.Giving.{give}
 use Rattle.pushserver.specs.Laws.{LeavesSession}
 use Rattle.pushserver.proofs.OtherSessions.{stays, in_session-stays, give_changes_one_session}
 use Rattle.pushserver.proofs.SessionLists.{other-number, found-left}
-use Rattle.pushserver.proofs.hub_steps.Cases.{enters_moment, moment_as}
+use Rattle.pushserver.proofs.hub_steps.Cases.{moment_as}
 use Rattle.pushserver.proofs.Walks.{AnyMessage, holds-update, holds-hear, with_new}
 use Rattle.scripts.specs.Lines.{Word, ScriptLine, silent, head_line, joining, hub_event, link_event, client_call, client_passing, client_event, session_event}
 use Rattle.scripts.specs.declared.line.HubEvent.{HubEvent}
@@ -130,6 +130,7 @@ module _ (hub : Hub) (number : ℕ) (s : Session) where
       start = (l.start ∙ ap (λ (h : Hub). h.start) at.is) i;
       timers = (l.timers ∙ ap (λ (h : Hub). h.timers) at.is) i;
       history = (l.history ∙ ap (λ (h : Hub). h.history) at.is) i;
+      seen = tt;
       sessions = last.sessions;
       numbers_given = last.numbers_given;
     };
@@ -145,22 +146,18 @@ module _ (hub : Hub) (number : ℕ) (s : Session) where
   entered-longer : (later last : Hub) (entry : Entry) → At hub number later s → last.history ≡ later.history ++ entry ∷ [] → Longer hub last
   entered-longer later last entry at more = subst (λ (history : List Entry). length hub.history < length history) (sym (more ∙ ap (λ (h : Hub). h.history ++ entry ∷ []) at.is)) (grows hub.history entry)
 
-  leaves-moment : (later : Hub) (t : ℕ) → At hub number later s → Leaves (hubs.moment later t).1
-  leaves-moment later t at = by (not (nat_lt (now later) t))
+  leaves-moment : (later : Hub) (t : ℕ) → At hub number later s → Leaves (hubs.moment later t)
+  leaves-moment later t at = by (nat_lt (now later) t && can_enter later)
     where
-      entering : (b : Bool) → Leaves (enters_moment later t b).1
-      entering true = inr (entered-longer later (enters_moment later t true).1 (entries.Moment t) at refl)
-      entering false = inl at
-
-      by : (early : Bool) → Leaves (moment_as later t early).1
-      by true = inl at
-      by false = entering (can_enter later (entries.Moment t))
+      by : (goes : Bool) → Leaves (moment_as later t goes)
+      by true = inr (entered-longer later (moment_as later t true) (entries.Moment t) at refl)
+      by false = inl at
 
   leaves-update : (later : Hub) (message : List ℕ) → At hub number later s → Leaves (hubs.update later message).1
-  leaves-update later message at = holds-update AnyMessage Leaves later (λ entry by. inr (entered-longer later (entered entry later) entry at refl)) (inl at) message tt
+  leaves-update later message at = holds-update AnyMessage Leaves later (λ entry by. inr (entered-longer later (entered_keeping entry later) entry at refl)) (inl at) message tt
 
   leaves-hear : (later : Hub) (on : ℕ) (datagram : List ℕ) → At hub number later s → Leaves (hubs.hear later on datagram).1
-  leaves-hear later on datagram at = holds-hear AnyMessage Leaves later (λ entry by. inr (entered-longer later (entered entry later) entry at refl)) (inl at) on datagram tt
+  leaves-hear later on datagram at = holds-hear AnyMessage Leaves later (λ entry by. inr (entered-longer later (entered_keeping entry later) entry at refl)) (inl at) on datagram tt
 
   leaves-more : (later : Hub) → Leaves later → Leaves (with_new later)
   leaves-more later (inl at) =
@@ -186,7 +183,7 @@ module _ (hub : Hub) (number : ℕ) (s : Session) where
         g : Giving
         g = give later m room
 
-        by : LeavesSession later g.hub number ⊎ ((entry : Entry) × LeavesSession (entered entry later) g.hub number) → Leaves g.hub
+        by : LeavesSession later g.hub number ⊎ ((entry : Entry) × LeavesSession (entered_keeping entry later) g.hub number) → Leaves g.hub
         by (inl same) = inl (at-stays later g.hub at same)
         by (inr (entry, same)) = inr (entered-longer later g.hub entry at same.history)
     leaves-give later room (inr longer) = (let kept : StaysLonger hub = stays-longer hub in inr (kept.give later m room longer))

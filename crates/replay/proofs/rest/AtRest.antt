@@ -89,7 +89,7 @@ module _ (hub : Hub) where
 
   abbrev pub by_shown : Core → Option (ℕ × Key) → Turned
   by_shown core None = goes_on (silent core)
-  by_shown core (Some found) = (let entry = entries.Reconfirm found.0 found.1 in cond (accepts (state_now hub) entry && can_enter hub entry) enters (goes_on (silent core)))
+  by_shown core (Some found) = (let entry = entries.Reconfirm found.0 found.1 in cond (accepts (state_now hub) entry && can_enter hub) enters (goes_on (silent core)))
 
   abbrev pub by_record : Core → Option Rr → Turned
   by_record core None = ends_for (ends.BadData reconfirm_tlv)
@@ -97,7 +97,7 @@ module _ (hub : Hub) where
 
   abbrev pub by_verdict : List ℕ → Core → Result Update ℕ → Turned
   by_verdict message core (Err code) = left_as (answers_with (answer_to_update (id_of message) code) (silent core))
-  by_verdict message core (Ok u) = cond (can_enter hub (entries.Update u)) enters (left_as (answers_with (answer_to_update (id_of message) servfail) (silent core)))
+  by_verdict message core (Ok u) = cond (can_enter hub) enters (left_as (answers_with (answer_to_update (id_of message) servfail) (silent core)))
 
   -- a SUBSCRIBE is answered
   abbrev pub subscribing : List ℕ → Session → Session

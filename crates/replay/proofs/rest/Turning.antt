@@ -23,13 +23,25 @@ use Rattle.history.specs.declared.entry.Entry.{Entry}
 use Rattle.history.specs.declared.entry.Entry.TheVariants as entries
 use Rattle.pushsession.specs.Sessions.{ended_with}
 use Rattle.pushsession.specs.Subscribing.{Verdict, Refuse, Abort, Accept, verdict_on, subscribed, first_answer_size, says_first_answer, decided}
-use Rattle.pushsession.specs.Reactions.{restarted_by, request_for, reacts_itself}
-use Rattle.pushserver.specs.PlainHubs.{Session, Queue, Hub, first_answer}
-use Rattle.pushserver.specs.Hubs.{now, state_now, keeps_now, tells_now, session_of, in_session, entered, can_enter}
+use Rattle.std.specs.Int.{w16, from_be_bytes}
+use Rattle.rrset.specs.declared.record.Question.{Question}
+use Rattle.pushserver.specs.SoundHubs.{is_watched}
+use Rattle.pushsession.specs.Reactions.{let_go, restarted_by, request_for, reacts_itself}
+use Rattle.pushserver.specs.PlainHubs.{Session, Subscription, Queue, Hub, plain_keeps, first_answer}
+use Rattle.pushserver.specs.Hubs.{newest, now, state_now, keeps_now, tells_now, session_of, in_session, entered_keeping, can_enter}
 use Rattle.pushserver.specs.Giving.{has_home, reconfirms, by_request, reacted}
 use Rattle.pushserver.proofs.hub_steps.Cases.{ends_as, enters_update, update_as, key_as, session_as, request_as, itself_as}
 use Rattle.replay.proofs.rest.AtRest.{Core, resting, core_of, silent, Turned, enters, ends_for, goes_on, left_as, answers_with, by_shown, by_record, by_verdict, subscribing, reacting, turned_by, listening, by_head, turned, with_sessions, At, Follows, TurnsAsTold}
 use Rattle.replay.proofs.rest.RestingHubs.{at-in_session}
+
+-- from an empty queue no name goes
+none-goes : (n : ℕ) (o : Option Question) (left : List Subscription) → let_go (plain_keeps n) o left [] ≡ []
+none-goes n None left = refl
+none-goes n (Some question) left = by (is_watched left question.name)
+  where
+    by : (b : Bool) → cond {A = Queue} b [] [] ≡ []
+    by true = refl
+    by false = refl
 
 pub grows : (history : List Entry) (entry : Entry) → length history < length (history ++ entry ∷ [])
 grows history entry = omega (arith, length-append history (entry ∷ []))
@@ -62,7 +74,11 @@ module _ (hub : Hub) (number : ℕ) (input : List ℕ) where
   reacting-alike reactions.Grant message core later at = at
   reacting-alike (reactions.Abort reason) message core later at = record { session = ended_with (keeps_now hub) reason (resting core input []); at = at; standing = refl; output = refl }
   reacting-alike reactions.Subscribe message core later at = at
-  reacting-alike reactions.Unsubscribe message core later at = at
+  reacting-alike reactions.Unsubscribe message core later at =
+      let id = from_be_bytes w16 (primary_data message) in
+      let left = (keeps_now hub).without_id id core.subscriptions in
+      subst (λ (q : Queue). At hub number later (record (resting (core_of (record (silent core) { subscriptions = left })) input []) { queue = q }))
+      (none-goes (newest hub) ((keeps_now hub).question_of id core.subscriptions) left) at
   reacting-alike reactions.Reconfirm message core later at = at
   reacting-alike reactions.Update message core later at = at
   reacting-alike reactions.NotImplemented message core later at = at
@@ -97,7 +113,7 @@ module _ (hub : Hub) (number : ℕ) (input : List ℕ) where
     reconfirming-key None = at-here
     reconfirming-key (Some found) =
         let entry = entries.Reconfirm found.0 found.1 in
-        follows-cond (accepts (state_now hub) entry && can_enter hub entry) (entered entry here) here enters (goes_on (silent core)) (grows hub.history entry) at-here
+        follows-cond (accepts (state_now hub) entry && can_enter hub) (entered_keeping entry here) here enters (goes_on (silent core)) (grows hub.history entry) at-here
 
     reconfirming : (o : Option Rr) → Follows hub number (reconfirms o number here) input (by_record hub core o)
     reconfirming None = ending (ends.BadData reconfirm_tlv)
@@ -113,7 +129,7 @@ module _ (hub : Hub) (number : ℕ) (input : List ℕ) where
 
     updating : (message : List ℕ) (r : Result Update ℕ) → Follows hub number (with_code message (update_as here r)) input (by_verdict hub message core r)
     updating message (Err code) = changed (answers_with hub (answer_to_update (id_of message) code))
-    updating message (Ok u) = updating-room message u (can_enter hub (entries.Update u))
+    updating message (Ok u) = updating-room message u (can_enter hub)
 
     -- ---- all reactions
 

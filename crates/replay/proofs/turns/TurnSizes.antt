@@ -110,7 +110,7 @@ module _ (hub : Hub) where
     few-shown core None = none-few
     few-shown core (Some found) =
         let entry = entries.Reconfirm found.0 found.1 in
-        few-cond (accepts (state_now hub) entry && can_enter hub entry) enters (goes_on (silent core)) tt none-few
+        few-cond (accepts (state_now hub) entry && can_enter hub) enters (goes_on (silent core)) tt none-few
 
     few-record : (core : Core) (o : Option Rr) → IsFew (by_record hub core o)
     few-record core None = tt
@@ -118,7 +118,7 @@ module _ (hub : Hub) where
 
     few-verdict : (core : Core) (r : Result Update ℕ) → IsFew (by_verdict hub message core r)
     few-verdict core (Err code) = few-updated code core
-    few-verdict core (Ok u) = few-cond (can_enter hub (entries.Update u)) enters (left_as (answers_with hub (answer_to_update (id_of message) servfail) (silent core))) tt (few-updated servfail core)
+    few-verdict core (Ok u) = few-cond (can_enter hub) enters (left_as (answers_with hub (answer_to_update (id_of message) servfail) (silent core))) tt (few-updated servfail core)
 
     few-reacting : (r : Reaction) (core : Core) → IsFew (left_as (reacting hub r message (silent core)))
     few-reacting r core = few-left (reacting hub r message (silent core)) (few-itself r core)

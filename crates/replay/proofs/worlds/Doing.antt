@@ -59,17 +59,16 @@ points-act kept known written point moment tells_point tells_moment is world w d
   stands = w;
 }
 
-pub moments-act : (kept between later : KeptHub) (known known_later : Parties) (t : ℕ) (full : Bool) (text written : List ℕ)
-    → ((hub : Hub) → StandsFor kept hub → ((hubs.moment hub t).0 ≡ full) × StandsFor between (hubs.moment hub t).1)
-    → text ≡ ended_lines (cond full (codes "full" ∷ []) []) → TimesWorld between known text later known_later written → Acts (moments t) kept known written later known_later
+pub moments-act : (kept between later : KeptHub) (known known_later : Parties) (t : ℕ) (written : List ℕ)
+    → ((hub : Hub) → StandsFor kept hub → StandsFor between (hubs.moment hub t)) → TimesWorld between known later known_later written → Acts (moments t) kept known written later known_later
 unfolding Acts Times
-moments-act kept between later known known_later t full text written does is timed_so world w d =
+moments-act kept between later known known_later t written does timed_so world w d =
     let at = timed_so.at in
-    let r = does world.hub w.hub in
-    let after = (hubs.moment world.hub t).1 in
+    let stands = does world.hub w.hub in
+    let after = hubs.moment world.hub t in
     let first = hub_timed world t in
-    let same : at ≡ now after = timed_so.moment after r.1 in
-    let told : IsTimed at later known_later.seats written first.0 first.1 = timed_so.times first.0 first.1 r.1 w.seats d (is ∙ ap (λ (b : Bool). ended_lines (cond b (codes "full" ∷ []) [])) (sym r.0)) in
+    let same : at ≡ now after = timed_so.moment after stands in
+    let told : IsTimed at later known_later.seats written first.0 = timed_so.times first.0 stands w.seats d in
     subst (λ (n : ℕ). HasPrinted later known_later written (fold (timed n) first world.seats)) same (record {
       text = told.text;
       stands = record {

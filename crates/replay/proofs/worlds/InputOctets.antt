@@ -18,7 +18,7 @@ use Rattle.dsotlv.specs.Laws.{AreOctets}
 use Rattle.dsotlv.proofs.Results.{same_found}
 use Rattle.dsosession.specs.declared.session.EndReason.{EndReason}
 use Rattle.pushsession.specs.declared.session_status.SessionStatus.TheVariants.{AskedToStop}
-use Rattle.pushsession.specs.Sessions.{is_open, new_session, room_of, with_piece, asked_to_stop, due, ended_where, timed, without_first}
+use Rattle.pushsession.specs.Sessions.{is_open, new_session, room_of, with_piece, asked_to_stop, ended_where, without_first}
 use Rattle.pushserver.specs.PlainHubs.{Session, Hub, plain_keeps}
 use Rattle.pushserver.specs.Hubs.{now, keeps_now, session_of, in_session, connect}
 use Rattle.pushserver.specs.Calls.{connects}
@@ -167,19 +167,16 @@ octets-kept = record {
   takes_up = λ hub number session found there is h. one_octets number (without_first found.1) (λ s i. rest_octets session.input found is (found_octets hub number session there h)) hub h;
   changes = λ hub number f step h. one_octets number f (step_octets f step) hub h;
   enters = λ hub entry by h. map_octets _ (λ e i. i) hub.sessions h;
-  times = λ hub point t h. map_octets _ (λ e i. timed_octets point t e.1 i) hub.sessions h;
+  ends = λ hub point reason h. map_octets _ (λ e i. ended_octets point (reason e.1) e.1 i) hub.sessions h;
   takes_in = λ hub number piece q h. one_octets number (with_piece piece) (takes_octets piece q) hub h;
   asks_stop = λ hub number rcode delay h. one_octets number (asked_to_stop rcode delay) (λ s i. stop_octets rcode delay s i) hub h;
   makes = λ hub h. each-append HasInput hub.sessions ((hub.numbers_given, new_session (keeps_now hub) (now hub)) ∷ []) h (All-nil IsOctet, tt);
   drops = λ hub number h. all_filter HasInput (λ e. not (e.0 == number)) hub.sessions h;
 }
   where
-    timed_octets : (point t : ℕ) (s : Session) → AreOctets s.input → AreOctets (timed (plain_keeps point) t s).input
-    timed_octets point t s i = by (due (plain_keeps point) t s)
-      where
-        by : (o : Option EndReason) → AreOctets (ended_where (plain_keeps point) o s).input
-        by None = i
-        by (Some reason) = i
+    ended_octets : (point : ℕ) (o : Option EndReason) (s : Session) → AreOctets s.input → AreOctets (ended_where (plain_keeps point) o s).input
+    ended_octets point None s i = i
+    ended_octets point (Some reason) s i = i
 
     stop_octets : (rcode delay : ℕ) (s : Session) → AreOctets s.input → AreOctets (asked_to_stop rcode delay s).input
     stop_octets rcode delay s i = by (is_open s.standing)

@@ -17,7 +17,7 @@ use Rattle.scripts.specs.Lines.{Word}
 use Rattle.scripts.specs.declared.line.Call.{Call}
 use Rattle.replay.specs.World.{Seat, World, seat_of, session_number, stopped_hub, cut_connection, cut_peer, with_seat}
 use Rattle.replay.specs.PassedOctets.{exchanged, enough}
-use Rattle.replay.specs.Text.{Printed, printing, called, asks, opens, exchanges, sends, feeds, stops, cuts, finished}
+use Rattle.replay.specs.Text.{Printed, quietly, printing, called, asks, opens, exchanges, sends, feeds, stops, cuts, finished}
 use Rattle.replay.proofs.worlds.FedSeats.{fed, fed_words, feeds_as, feeds_by}
 use Rattle.replay.proofs.worlds.SeatLines.{asks_by, opens_as, opens_by}
 
@@ -58,10 +58,10 @@ module _ (world : World) (w : Word) (octets : List ℕ) where
 
 module _ (world : World) where
   abbrev pub hub_timed : ℕ → Printed
-  hub_timed t = (let r = hubs.moment world.hub t in (record world { hub = r.1 }, cond r.0 (codes "full" ∷ []) []))
+  hub_timed t = quietly (record world { hub = hubs.moment world.hub t })
 
   abbrev pub moment_now : ℕ → ℕ
-  moment_now t = now (hubs.moment world.hub t).1
+  moment_now t = now (hubs.moment world.hub t)
 
   abbrev pub stopped : ℕ → ℕ → Option ℕ → World
   stopped rcode delay o = record world { hub = stopped_hub o rcode delay world.hub }

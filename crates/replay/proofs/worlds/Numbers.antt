@@ -44,7 +44,7 @@ module _ (start : State) where
     takes_up = λ hub number session found there is h. from-in_session hub number (without_first found.1) h;
     changes = λ hub number f step h. from-in_session hub number f h;
     enters = λ hub entry by h. record { begins = h.begins; below = below-map hub.numbers_given _ hub.sessions h.below };
-    times = λ hub point t h. record { begins = h.begins; below = below-map hub.numbers_given _ hub.sessions h.below };
+    ends = λ hub point reason h. record { begins = h.begins; below = below-map hub.numbers_given _ hub.sessions h.below };
     takes_in = λ hub number piece any h. from-in_session hub number (with_piece piece) h;
     asks_stop = λ hub number rcode delay h. from-in_session hub number (asked_to_stop rcode delay) h;
     makes = λ hub h. record { begins = h.begins; below = below-more hub.numbers_given hub.sessions (new_session (keeps_now hub) (now hub)) h.below };

@@ -55,7 +55,7 @@ module _ {A Q M : Type 0} (keeps : Keeps A Q M) where
       let answer = answer_to id noerror in
       first_answer-input t answer notices s.queue (subscribed keeps id question (keeps.end_behind (first_answer_size answer notices) s.made) s)
 
-pub step-input : {A Q M : Type 0} {kind : SessionKind A Q M} {Good : List ℕ → Type 0} {hub : HubOf kind} (f : SessionOf A Q M → SessionOf A Q M) → Step Good hub f → (s : SessionOf A Q M) → (f s).input ≡ s.input
+pub step-input : {A Q M S : Type 0} {kind : SessionKind A Q M S} {Good : List ℕ → Type 0} {hub : HubOf kind} (f : SessionOf A Q M → SessionOf A Q M) → Step Good hub f → (s : SessionOf A Q M) → (f s).input ≡ s.input
 step-input f (restarts message) s = refl
 step-input {hub = hub} f (reacts message) s = reacts-input (keeps_now hub) hub.timers (now hub) message s
 step-input {hub = hub} f (answers_subscribe message good) s =

@@ -11,7 +11,7 @@ use Rattle.pushclient.specs.Clients.{closed_as}
 use Rattle.pushclient.specs.Steps as steps
 use Rattle.scripts.specs.Lines.{Word}
 use Rattle.replay.specs.World.{Seat, World, with_seat, cut_seat, is_over, hub_cut_if, world_cut_if}
-use Rattle.replay.specs.Text.{Printed, close_lines, timed}
+use Rattle.replay.specs.Text.{Printed, quietly, close_lines, timed}
 use Rattle.scripts.specs.Words.{ended_lines}
 use Rattle.replay.specs.KeptWorlds.{KeptSeat, Seated, StandsForSeat, StandForSeats, words_in}
 use Rattle.scripts.specs.Scripts.{AreDistinct}
@@ -73,14 +73,14 @@ pub record TimedSoFar (t : ℕ) (kept : KeptHub) (now : Seated) (text : List ℕ
   pub said : text ≡ ended_lines done.1
   pub left : fold (timed t) done back ≡ whole
 
-unfoldable pub Timing : ℕ → KeptHub → Seated → List ℕ → KeptHub → Seated → List ℕ → ℕ → Type 0
-Timing t kept before text kept_now now so_far place = (world : World) (lines : List (List ℕ)) → hubs.StandsFor kept world.hub → StandForSeats before world.seats → AreDistinct (words_in world) → text ≡ ended_lines lines
-    → TimedSoFar t kept_now now so_far place (fold (timed t) (world, lines) world.seats)
+unfoldable pub Timing : ℕ → KeptHub → Seated → KeptHub → Seated → List ℕ → ℕ → Type 0
+Timing t kept before kept_now now so_far place = (world : World) → hubs.StandsFor kept world.hub → StandForSeats before world.seats → AreDistinct (words_in world)
+    → TimedSoFar t kept_now now so_far place (fold (timed t) (quietly world) world.seats)
 
-pub timing-begins : (t : ℕ) (kept : KeptHub) (before : Seated) (text : List ℕ) → Timing t kept before text kept before text 0
+pub timing-begins : (t : ℕ) (kept : KeptHub) (before : Seated) (text : List ℕ) → text ≡ [] → Timing t kept before kept before text 0
 unfolding Timing
-timing-begins t kept before text world lines stands h distinct is =
-    record { done = (world, lines); front = []; back = world.seats; seats = refl; count = refl; distinct = distinct; hub = stands; stand = h; said = is; left = refl }
+timing-begins t kept before text none world stands h distinct =
+    record { done = quietly world; front = []; back = world.seats; seats = refl; count = refl; distinct = distinct; hub = stands; stand = h; said = none; left = refl }
 
 pub lines-append : (xs ys : List (List ℕ)) → ended_lines (xs ++ ys) ≡ ended_lines xs ++ ended_lines ys
 lines-append [] ys = refl
@@ -140,25 +140,25 @@ one-more t kept kept_later now later so_far line text word place closing whole w
           left = ap (λ (p : Printed). fold (timed t) p back) (sym step) ∙ ap (fold (timed t) r.done) (sym e) ∙ r.left;
         }
 
-pub timing-more : (t : ℕ) (kept kept_now kept_later : KeptHub) (before now later : Seated) (text so_far line next : List ℕ) (word : Word) (place : ℕ) (closing : Option CloseReason) → place < length now
+pub timing-more : (t : ℕ) (kept kept_now kept_later : KeptHub) (before now later : Seated) (so_far line next : List ℕ) (word : Word) (place : ℕ) (closing : Option CloseReason) → place < length now
     → Calls (HasTimed t closing kept_now kept_later) (timed_seat t closing) now place later
     → ((k : KeptSeat) → k ≡ get_or later place k → word ≡ k.word) → line ≡ closing_text word closing → next ≡ so_far ++ line
-    → Timing t kept before text kept_now now so_far place → Timing t kept before text kept_later later next (place + 1)
+    → Timing t kept before kept_now now so_far place → Timing t kept before kept_later later next (place + 1)
 unfolding Timing
-timing-more t kept kept_now kept_later before now later text so_far line next word place closing within c names line_is is timing world lines stands h distinct said =
-    one-more t kept_now kept_later now later so_far line next word place closing (fold (timed t) (world, lines) world.seats) within c names line_is is (timing world lines stands h distinct said)
+timing-more t kept kept_now kept_later before now later so_far line next word place closing within c names line_is is timing world stands h distinct =
+    one-more t kept_now kept_later now later so_far line next word place closing (fold (timed t) (quietly world) world.seats) within c names line_is is (timing world stands h distinct)
 
-pub timing-ends : (t : ℕ) (kept kept_now : KeptHub) (before now : Seated) (text so_far : List ℕ) (place : ℕ) → length now ≤ place → Timing t kept before text kept_now now so_far place → Times t kept before text kept_now now so_far
+pub timing-ends : (t : ℕ) (kept kept_now : KeptHub) (before now : Seated) (so_far : List ℕ) (place : ℕ) → length now ≤ place → Timing t kept before kept_now now so_far place → Times t kept before kept_now now so_far
 unfolding Timing Times
-timing-ends t kept kept_now before now text so_far place all timing world lines stands h distinct said = by r.back refl
+timing-ends t kept kept_now before now so_far place all timing world stands h distinct = by r.back refl
   where
     whole : Printed
-    whole = fold (timed t) (world, lines) world.seats
+    whole = fold (timed t) (quietly world) world.seats
 
     r : TimedSoFar t kept_now now so_far place whole
-    r = timing world lines stands h distinct said
+    r = timing world stands h distinct
 
-    ended : r.done ≡ whole → r.back ≡ [] → IsTimed t kept_now now so_far world lines
+    ended : r.done ≡ whole → r.back ≡ [] → IsTimed t kept_now now so_far world
     ended same none = record {
       text = r.said ∙ ap (λ (p : Printed). ended_lines p.1) same;
       hub = subst (λ (p : Printed). hubs.StandsFor kept_now p.0.hub) same r.hub;
@@ -168,7 +168,7 @@ timing-ends t kept kept_now before now text so_far place all timing world lines 
     size : (s : Seat) (back : List Seat) → length (r.front ++ s ∷ back) ≡ length r.front + suc (length back)
     size s back = length-append r.front (s ∷ back)
 
-    by : (back : List Seat) → r.back ≡ back → IsTimed t kept_now now so_far world lines
+    by : (back : List Seat) → r.back ≡ back → IsTimed t kept_now now so_far world
     by [] e = ended (ap (fold (timed t) r.done) (sym e) ∙ r.left) e
     by (s ∷ back) e =
         let same : length now ≡ length (r.front ++ s ∷ back) = same-length now (r.front ++ r.back) r.stand ∙ ap (λ (b : List Seat). length (r.front ++ b)) e in

@@ -215,7 +215,7 @@ module _ (P : HubCall → Type 0) (Good : List ℕ → Type 0) (Has : ℕ → Ty
   -- ---- lines
 
   hub-each : (event : HubEvent) (world : World) → IsHubWithin event → Each (hub_calls event world)
-  hub-each (hub_events.At t) world is = (holds.moves t, timed-each (now (hubs.moment world.hub t).1) world.seats)
+  hub-each (hub_events.At t) world is = (holds.moves t, timed-each (now (hubs.moment world.hub t)) world.seats)
   hub-each (hub_events.Update message) world is = (holds.updates message is.0, tt)
   hub-each hub_events.Point world is = tt
 

@@ -3,7 +3,7 @@
 --     effect-so      what is done for it
 --     each-has-its-turn, subscribes-are-answered      the laws
 use Rattle.std.proofs.Common.{◌≡◌, ℕ, Bool, true, false, cond, List, [], ◌∷◌, ◌++◌, map, Option, Some, None, Result, Ok, Err, refl, sym, ◌∙◌, ap, subst, append_assoc, append-nil, take-append-drop}
-use Rattle.std.specs.Prelude.{◌==◌, ◌&&◌, flat_map, option_map}
+use Rattle.std.specs.Prelude.{◌==◌, ◌&&◌, flat_map, option_map, is_some, if◌then◌else◌}
 use Rattle.std.proofs.lemmas.List.{map-append}
 use Rattle.push_base.specs.Cases.{is_empty}
 use Rattle.rrset.specs.Header.{id_of}
@@ -26,7 +26,7 @@ use Rattle.dsosession.specs.declared.session.Reaction.TheVariants as reactions
 use Rattle.history.specs.States.{verdict, accepts, reconfirm_key}
 use Rattle.history.specs.declared.entry.Entry.{Entry}
 use Rattle.history.specs.declared.entry.Entry.TheVariants as entries
-use Rattle.pushsession.specs.Sessions.{without_first, noted, answers, ended_with, copied}
+use Rattle.pushsession.specs.Sessions.{without_first, noted, answers, ended_with, ended_where, copied}
 use Rattle.pushsession.specs.Subscribing.{Verdict, Refuse, Abort, Accept, verdict_on, first_answer_octets, says_first_answer, decided, answered, subscribed, first_answer_size}
 use Rattle.pushsession.specs.Reactions.{restarted_by, request_for, request_in, reacts_itself, by_itself, ends_short}
 use Rattle.pushsession.specs.declared.request.Request.{Request}
@@ -36,7 +36,7 @@ use Rattle.pushsession.specs.declared.session_status.SessionStatus.TheVariants.{
 use Rattle.pushserver.specs.declared.given.Given.{Given}
 use Rattle.pushserver.specs.declared.given.Given.TheVariants.{Worked}
 use Rattle.pushserver.specs.PlainHubs.{Hub, Session, Subscription, Made, Giving, asked_of, first_answer}
-use Rattle.pushserver.specs.Hubs.{now, state_now, newest, keeps_now, tells_now, session_of, in_session, entered, entry_changes, can_enter, update}
+use Rattle.pushserver.specs.Hubs.{now, state_now, newest, keeps_now, tells_now, session_of, in_session, behind_at, ended_behind, ends_behind, entered_keeping, entry_changes, can_enter, update}
 use Rattle.pushserver.specs.Giving.{has_home, copies_or, given_after, reconfirm, reconfirms, by_request, give, reacted, after_reaction}
 use Rattle.pushserver.specs.Calls.{HubCall, updates, hears, moves, connects, takes, gives, stops, ends as ending, called, after_calls}
 use Rattle.pushserver.specs.Laws.{IsAcceptable}
@@ -44,7 +44,8 @@ use Rattle.pushserver.proofs.SessionLists.{same-number, found-in, found-all}
 use Rattle.pushserver.proofs.hub_steps.Cases.{enters_update, update_as, key_as, session_as, request_as, copies_as, found_as}
 use Rattle.pushtelling.specs.Runs.{is_live, first_of, message_up, reacts_to, reacted_to}
 use Rattle.pushtelling.proofs.Running.{give_reacts}
-use Rattle.script_laws.specs.EachMessage.{HasItsTurn, Effect, effect_of_messages, ends_by, pushes, first_messages, effect_by_verdict, effect_of_subscribe, effect_of_reconfirm, effect_by, effect_of, messages_of, standing_after, HasEffect, TurnHasEffect, EachHasItsTurn, SubscribesAreAnswered}
+use Rattle.flight_laws.specs.Meeting.{behind_point}
+use Rattle.script_laws.specs.EachMessage.{HasItsTurn, Effect, effect_of_messages, ends_by, pushes, first_messages, effect_by_verdict, effect_of_subscribe, falling_behind, behind_judged, effect_of_reconfirm, effect_of_update, effect_by, effect_of, messages_of, standing_after, HasEffect, TurnHasEffect, EachHasItsTurn, SubscribesAreAnswered}
 
 -- ---- the call
 
@@ -318,12 +319,36 @@ module _ (number : ℕ) where
 
     -- ---- entries
 
-    -- an entry leaves all but the queue
-    abbrev noted_by : Entry → Session
-    noted_by entry = noted (keeps_now h) (entry_changes entry h) (newest h) s
+    -- where it falls behind it ends
+    abbrev fallen : Option ℕ → Session
+    fallen point = ended_where (keeps_now h) (option_map (λ p. ends.Behind p) point) s
 
-    entered-there : (entry : Entry) → session_of (entered entry h) number ≡ Some (noted_by entry)
-    entered-there entry = found-all (noted (keeps_now h) (entry_changes entry h) (newest h)) number h.sessions ∙ ap (option_map (noted (keeps_now h) (entry_changes entry h) (newest h))) there
+    -- an entry leaves all but the queue, the standing, and what is asked
+    record Fell (point : Option ℕ) (behind : Session) : Type 0 where
+      pub made : behind.made ≡ s.made
+      pub output : behind.output ≡ s.output
+      pub standing : behind.standing ≡ standing_after s.standing (option_map (λ p. ends.Behind p) point)
+      pub input : behind.input ≡ s.input
+      pub established : behind.established ≡ s.established
+      pub asks : asked_of behind.subscriptions ≡ (if is_some point then [] else asked_of s.subscriptions)
+
+    fell : (point : Option ℕ) → Fell point (fallen point)
+    fell None = record { made = refl; output = refl; standing = refl; input = refl; established = refl; asks = refl }
+    fell (Some p) = record { made = refl; output = refl; standing = refl; input = refl; established = refl; asks = refl }
+
+    abbrev noting : Entry → Session → Session
+    noting entry = noted (keeps_now h) (entry_changes entry h) (newest h)
+
+    abbrev noted_by : Entry → Session
+    noted_by entry = noting entry (fallen (behind_at h entry s))
+
+    fell-noted : (entry : Entry) → Fell (behind_at h entry s) (noted_by entry)
+    fell-noted entry = (let f = fell (behind_at h entry s) in record { made = f.made; output = f.output; standing = f.standing; input = f.input; established = f.established; asks = f.asks })
+
+    entered-there : (entry : Entry) → session_of (entered_keeping entry h) number ≡ Some (noted_by entry)
+    entered-there entry =
+        found-all (noting entry) number (ends_behind entry h).sessions ∙ ap (option_map (noting entry)) (found-all (ended_behind h entry) number h.sessions)
+        ∙ ap (λ (o : Option Session). option_map (noting entry) (option_map (ended_behind h entry) o)) there
 
     says-reconfirm : (rr : Option Rr) → Says number (reconfirms rr number h) s (effect_of_reconfirm h s rr)
     says-reconfirm None =
@@ -331,48 +356,49 @@ module _ (number : ℕ) where
         says-none (in_session number f h) s (f s) (ends_by h s (ends.BadData reconfirm_tlv)) refl (in-found h f s there) refl refl (record { standing = refl; input = refl; established = refl; asks = refl; history = refl })
     says-reconfirm (Some rr) = by_key (reconfirm_key (state_now h) rr)
       where
-        entered_or : Hub → Effect
-        entered_or x = record (effect_of_messages h s []) { history = x.history }
+        entered_or : Hub → Option ℕ → Effect
+        entered_or x point = falling_behind point (record (effect_of_messages h s []) { history = x.history })
 
-        by_room : (entry : Entry) (b : Bool) → Says number (cond b (entered entry h) h) s (entered_or (cond b (entered entry h) h))
-        by_room entry true = says-none (entered entry h) s (noted_by entry) (entered_or (entered entry h)) refl (entered-there entry) refl refl (record { standing = refl; input = refl; established = refl; asks = refl; history = refl })
-        by_room entry false = says-none h s s (entered_or h) refl there refl refl (record { standing = refl; input = refl; established = refl; asks = refl; history = refl })
+        nothing_entered : Says number h s (entered_or h None)
+        nothing_entered = says-none h s s (entered_or h None) refl there refl refl (record { standing = refl; input = refl; established = refl; asks = refl; history = refl })
 
-        by_key : (o : Option (ℕ × Key)) → Says number (key_as h o) s (entered_or (key_as h o))
-        by_key None = says-none h s s (entered_or h) refl there refl refl (record { standing = refl; input = refl; established = refl; asks = refl; history = refl })
-        by_key (Some found) = (let entry = entries.Reconfirm found.0 found.1 in by_room entry (accepts (state_now h) entry && can_enter h entry))
+        by_room : (entry : Entry) (b : Bool) → Says number (cond b (entered_keeping entry h) h) s (entered_or (cond b (entered_keeping entry h) h) (cond b (behind_at h entry s) None))
+        by_room entry true =
+            let f = fell-noted entry in
+            says-none (entered_keeping entry h) s (noted_by entry) (entered_or (entered_keeping entry h) (behind_at h entry s)) refl (entered-there entry) f.made f.output
+            (record { standing = f.standing; input = f.input; established = f.established; asks = f.asks; history = refl })
+        by_room entry false = nothing_entered
 
-    -- the session behind the judging of an update
-    record Judged (j : ℕ × Hub) : Type 0 where
+        by_key : (o : Option (ℕ × Key)) → Says number (key_as h o) s (entered_or (key_as h o) (behind_point h s o))
+        by_key None = nothing_entered
+        by_key (Some found) = (let entry = entries.Reconfirm found.0 found.1 in by_room entry (accepts (state_now h) entry && can_enter h))
+
+    -- the session behind the judging of an update, by the point from which on it falls behind
+    record Judged (point : Option ℕ) (j : ℕ × Hub) : Type 0 where
       pub behind : Session
       pub at : session_of j.1 number ≡ Some behind
-      pub made : behind.made ≡ s.made
-      pub output : behind.output ≡ s.output
-      pub standing : behind.standing ≡ s.standing
-      pub input : behind.input ≡ s.input
-      pub established : behind.established ≡ s.established
-      pub subscriptions : behind.subscriptions ≡ s.subscriptions
+      pub fell : Fell point behind
 
-    is-judged : Judged (update h message)
+    is-judged : Judged (behind_judged h s (verdict (state_now h) message)) (update h message)
     is-judged = by (verdict (state_now h) message)
       where
-        by_room : (u : Update) (b : Bool) → Judged (enters_update h u b)
-        by_room u true = record { behind = noted_by (entries.Update u); at = entered-there (entries.Update u); made = refl; output = refl; standing = refl; input = refl; established = refl; subscriptions = refl }
-        by_room u false = record { behind = s; at = there; made = refl; output = refl; standing = refl; input = refl; established = refl; subscriptions = refl }
+        by_room : (u : Update) (b : Bool) → Judged (cond b (behind_at h (entries.Update u) s) None) (enters_update h u b)
+        by_room u true = record { behind = noted_by (entries.Update u); at = entered-there (entries.Update u); fell = fell-noted (entries.Update u) }
+        by_room u false = record { behind = s; at = there; fell = fell None }
 
-        by : (r : Result Update ℕ) → Judged (update_as h r)
-        by (Err code) = record { behind = s; at = there; made = refl; output = refl; standing = refl; input = refl; established = refl; subscriptions = refl }
-        by (Ok u) = by_room u (can_enter h (entries.Update u))
+        by : (r : Result Update ℕ) → Judged (behind_judged h s r) (update_as h r)
+        by (Err code) = record { behind = s; at = there; fell = fell None }
+        by (Ok u) = by_room u (can_enter h)
 
-    says-update : let j = update h message in Says number (in_session number (answers (keeps_now j.1) false (now j.1) (answer_to_update (id_of message) j.0)) j.1) s (effect_by h s message reactions.Update)
+    says-update : let j = update h message in Says number (in_session number (answers (keeps_now j.1) false (now j.1) (answer_to_update (id_of message) j.0)) j.1) s (effect_of_update h s message)
     says-update =
         let j : ℕ × Hub = update h message in
         let f : Session → Session = answers (keeps_now j.1) false (now j.1) (answer_to_update (id_of message) j.0) in
         let is = is-judged in
         let m : Made = record { message = answer_to_update (id_of message) j.0; note = record { queue = is.behind.queue; newest = newest j.1 }; subscribed = is.behind.subscriptions } in
-        says-one (in_session number f j.1) s (f is.behind) m (effect_by h s message reactions.Update) refl (in-found j.1 f is.behind is.at)
-        (ap (λ (ms : List Made). ms ++ m ∷ []) is.made) (ap (λ (os : List ℕ). os ++ frame m.message) is.output)
-        (record { standing = is.standing; input = is.input; established = is.established; asks = ap asked_of is.subscriptions; history = refl })
+        says-one (in_session number f j.1) s (f is.behind) m (effect_of_update h s message) refl (in-found j.1 f is.behind is.at)
+        (ap (λ (ms : List Made). ms ++ m ∷ []) is.fell.made) (ap (λ (os : List ℕ). os ++ frame m.message) is.fell.output)
+        (record { standing = is.fell.standing; input = is.fell.input; established = is.fell.established; asks = is.fell.asks; history = refl })
 
     -- ---- by the line of the table
 
@@ -412,18 +438,18 @@ module _ (number : ℕ) where
 
       by : (r : Result Update ℕ) → Same (update_as (in_session number f h) r) (update_as h r)
       by (Err code) = (refl, refl)
-      by (Ok u) = by_room u (can_enter h (entries.Update u))
+      by (Ok u) = by_room u (can_enter h)
 
   reconfirm-same : (f : Session → Session) (h : Hub) (rr : Rr) → (reconfirm (in_session number f h) rr).history ≡ (reconfirm h rr).history
   reconfirm-same f h rr = by (reconfirm_key (state_now h) rr)
     where
-      by_room : (entry : Entry) (b : Bool) → (cond b (entered entry (in_session number f h)) (in_session number f h)).history ≡ (cond b (entered entry h) h).history
+      by_room : (entry : Entry) (b : Bool) → (cond b (entered_keeping entry (in_session number f h)) (in_session number f h)).history ≡ (cond b (entered_keeping entry h) h).history
       by_room entry true = refl
       by_room entry false = refl
 
       by : (o : Option (ℕ × Key)) → (key_as (in_session number f h) o).history ≡ (key_as h o).history
       by None = refl
-      by (Some found) = (let entry = entries.Reconfirm found.0 found.1 in by_room entry (accepts (state_now h) entry && can_enter h entry))
+      by (Some found) = (let entry = entries.Reconfirm found.0 found.1 in by_room entry (accepts (state_now h) entry && can_enter h))
 
   module _ (clocks : Session → Clocks) (input : Session → List ℕ) (h : Hub) (s : Session) (message : List ℕ) where
     abbrev f : Session → Session
@@ -436,7 +462,8 @@ module _ (number : ℕ) where
 
     same-reconfirm : (rr : Option Rr) → effect_of_reconfirm (in_session number f h) (f s) rr ≡ effect_of_reconfirm h s rr
     same-reconfirm None = refl
-    same-reconfirm (Some rr) = ap (λ (past : List Entry). record (effect_of_messages h s []) { history = past }) (reconfirm-same f h rr)
+    same-reconfirm (Some rr) =
+        ap (λ (past : List Entry). falling_behind (behind_point h s (reconfirm_key (state_now h) rr)) (record (effect_of_messages h s []) { history = past })) (reconfirm-same f h rr)
 
     same-line : (r : Reaction) → effect_by (in_session number f h) (f s) message r ≡ effect_by h s message r
     same-line (reactions.Answer rcode) = refl
@@ -450,7 +477,7 @@ module _ (number : ℕ) where
     same-line reactions.Reconfirm = same-reconfirm (reconfirm_of (primary_data message))
     same-line reactions.Update =
         let same = update-same f h message in
-        (λ i. record (effect_of_messages h s (answer_to_update (id_of message) (same.0 i) ∷ [])) { history = same.1 i })
+        (λ i. falling_behind (behind_judged h s (verdict (state_now h) message)) (record (effect_of_messages h s (answer_to_update (id_of message) (same.0 i) ∷ [])) { history = same.1 i }))
 
     same-effect : effect_of (in_session number f h) (f s) message ≡ effect_of h s message
     same-effect = by (head_of message)

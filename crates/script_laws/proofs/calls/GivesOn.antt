@@ -17,7 +17,7 @@ use Rattle.pushsession.specs.declared.session_status.SessionStatus.TheVariants.{
 use Rattle.pushserver.specs.declared.given.Given.{Given}
 use Rattle.pushserver.specs.declared.given.Given.TheVariants.{Bytes, Worked, Nothing, Ending, End}
 use Rattle.pushserver.specs.PlainHubs.{Hub, Session, Queue, Giving}
-use Rattle.pushserver.specs.Hubs.{now, newest, keeps_now, tells_now, session_of, in_session}
+use Rattle.pushserver.specs.Hubs.{now, keeps_now, tells_now, session_of, in_session}
 use Rattle.pushserver.specs.Giving.{did, copies_or, given_after, by_standing, give, reacted}
 use Rattle.pushserver.specs.SoundHubs.{IsSoundHub}
 use Rattle.pushserver.specs.Calls.{gives}
@@ -28,7 +28,6 @@ use Rattle.script_laws.specs.EachMessage.{effect_of}
 use Rattle.script_laws.proofs.hubs.Reaching.{reached-go-on}
 use Rattle.script_laws.proofs.hubs.Sound.{reached-sound}
 use Rattle.script_laws.proofs.emits.Giving.{gives-short}
-use Rattle.script_laws.proofs.sizes.Histories.{histories-are-short}
 use Rattle.script_laws.proofs.sizes.Queues.{queues-are-short}
 use Rattle.script_laws.proofs.turns.Giving.{sound-session}
 use Rattle.script_laws.proofs.turns.Packing.{packs-no-more, packs-fewer}
@@ -39,7 +38,7 @@ use Rattle.script_laws.proofs.calls.EachTurn.{Says, says-reacted, Hands, hands-o
 
 -- each octet that came may make as many names wait as there may be, and have a frame written
 abbrev pub octet_cost : ℕ
-octet_cost = 131075 * 67108866
+octet_cost = 131075 * 1026
 
 abbrev pub work_of : Session → ℕ
 work_of session = 2 * length session.output + 131075 * (length session.queue + asked_stops session.standing) + octet_cost * length session.input
@@ -69,7 +68,7 @@ pub record GaveOn (g : Giving) (number before : ℕ) : Type 0 where
 -- bounds of each session that a call leaves
 pub record IsBound (s : Session) : Type 0 where
   pub output : length s.output ≤ 65537
-  pub queue : length s.queue ≤ 67108864
+  pub queue : length s.queue ≤ 1024
 
 record Comes (hub : Hub) (number before : ℕ) : Type 0 where
   pub given : Given
@@ -143,7 +142,7 @@ module _ (hub : Hub) (number : ℕ) (session : Session) (there : session_of hub 
       stop-less : IsBound (stopping session) → work_of (stopping session) < before
       stop-less bound = by session.established bound.output
         where
-          costs : (out own i q a : ℕ) → out ≤ 65537 → a ≡ 1 → 2 * out + 131075 * (0 + 0) + 8796294610950 * i < 2 * own + 131075 * (q + a) + 8796294610950 * i
+          costs : (out own i q a : ℕ) → out ≤ 65537 → a ≡ 1 → 2 * out + 131075 * (0 + 0) + 134482950 * i < 2 * own + 131075 * (q + a) + 134482950 * i
           costs out own i q a fits is = omega (arith, fits, is)
 
           by : (b : Bool) → let s : Session = if b then says_stop (keeps_now hub) rcode delay (now hub) session else ended_with (keeps_now hub) ends.Stopped session in length s.output ≤ 65537 → work_of s < before
@@ -183,10 +182,10 @@ module _ (hub : Hub) (number : ℕ) (session : Session) (there : session_of hub 
       packs-so : Packs (packing session)
       packs-so = by pack.0 refl
         where
-          same : (out q r a i : ℕ) → q ≤ r → 2 * out + 131075 * (q + a) + 8796294610950 * i ≤ 2 * out + 131075 * (r + a) + 8796294610950 * i
+          same : (out q r a i : ℕ) → q ≤ r → 2 * out + 131075 * (q + a) + 134482950 * i ≤ 2 * out + 131075 * (r + a) + 134482950 * i
           same out q r a i short = omega (arith, short)
 
-          fewer : (out own q r a i : ℕ) → out ≤ 65537 → q < r → 2 * out + 131075 * (q + a) + 8796294610950 * i ≤ 2 * own + 131075 * (r + a) + 8796294610950 * i
+          fewer : (out own q r a i : ℕ) → out ≤ 65537 → q < r → 2 * out + 131075 * (q + a) + 134482950 * i ≤ 2 * own + 131075 * (r + a) + 134482950 * i
           fewer out own q r a i fits short = omega (arith, fits, short)
 
           by : (notices : List Notice) → pack.0 ≡ notices → Packs (says_notices (keeps_now hub) (now hub) notices (record session { queue = pack.1 }))
@@ -229,7 +228,7 @@ module _ (hub : Hub) (number : ℕ) (session : Session) (there : session_of hub 
             costs (length said.after.output) (length session.output) (length said.after.queue) (length session.queue) (asked_stops said.after.standing) (asked_stops session.standing) (length said.after.input) (length session.input)
             bound.output bound.queue (asked-few said.after.standing) (subst (λ (os : List ℕ). length os < length session.input) (sym said.left.input) (rest-shorter session.input found.0 found.1 first))
           where
-            costs : (out own q r a b i j : ℕ) → out ≤ 65537 → q ≤ 67108864 → a ≤ 1 → i < j → 2 * out + 131075 * (q + a) + 8796294610950 * i < 2 * own + 131075 * (r + b) + 8796294610950 * j
+            costs : (out own q r a b i j : ℕ) → out ≤ 65537 → q ≤ 1024 → a ≤ 1 → i < j → 2 * out + 131075 * (q + a) + 134482950 * i < 2 * own + 131075 * (r + b) + 134482950 * j
             costs out own q r a b i j fits few once short = omega (arith, fits, few, once, short)
 
         reacts : Comes hub number before
@@ -262,11 +261,8 @@ module _ (hub : Hub) (number : ℕ) (session : Session) (there : session_of hub 
 
 -- ---- bounds
 
-queue-bound : (hub : Hub) (number : ℕ) (session : Session) → IsReached hub → session_of hub number ≡ Some session → length session.queue ≤ 67108864
-queue-bound hub number session reached there = within (length session.queue) (newest hub) (queues-are-short hub number session reached there) (histories-are-short hub reached)
-  where
-    within : (q n : ℕ) → q ≤ 1024 * n → n ≤ 65536 → q ≤ 67108864
-    within q n h k = omega (arith, h, k)
+queue-bound : (hub : Hub) (number : ℕ) (session : Session) → IsReached hub → session_of hub number ≡ Some session → length session.queue ≤ 1024
+queue-bound hub number session reached there = queues-are-short hub number session reached there
 
 module _ (hub : Hub) (number : ℕ) (reached : IsReached hub) (before : ℕ) (c : Comes hub number before) where
   reached-behind : (room : ℕ) → IsReached (give hub number room).hub
@@ -282,7 +278,7 @@ module _ (hub : Hub) (number : ℕ) (reached : IsReached hub) (before : ℕ) (c 
       let fits = (sound-session later number h.after (reached-sound later (reached-behind 0)) h.there).1.output_fits in
       record {
         output = none-out (length h.after.output) (length (give hub number 0).octets) (length c.s.output) (sym (length-append (give hub number 0).octets h.after.output) ∙ ap length h.octets) (gives-short hub number 0) fits;
-        queue = subst (λ (q : Queue). length q ≤ 67108864) h.queue (queue-bound later number h.after (reached-behind 0) h.there);
+        queue = subst (λ (q : Queue). length q ≤ 1024) h.queue (queue-bound later number h.after (reached-behind 0) h.there);
       }
     where
       none-out : (left front whole : ℕ) → front + left ≡ whole → front ≤ 0 → left ≤ 65537 → whole ≤ 65537
@@ -299,8 +295,8 @@ module _ (hub : Hub) (number : ℕ) (reached : IsReached hub) (before : ℕ) (c 
       none-given Ending so none = (none, so)
       none-given (End reason) so none = (none, so)
 
-      handed : (left front whole room q b i limit : ℕ) → front + left ≡ whole → front ≡ min room whole → 0 < room → 0 < whole → 2 * whole + 131075 * (q + b) + 8796294610950 * i ≤ limit
-          → 2 * left + 131075 * (q + b) + 8796294610950 * i + front < limit
+      handed : (left front whole room q b i limit : ℕ) → front + left ≡ whole → front ≡ min room whole → 0 < room → 0 < whole → 2 * whole + 131075 * (q + b) + 134482950 * i ≤ limit
+          → 2 * left + 131075 * (q + b) + 134482950 * i + front < limit
       handed left front whole room q b i limit is are some more less = omega (arith, is, are, some, more, less)
 
       by : (output : List ℕ) → c.s.output ≡ output → GaveOn (copies_or c.given number room c.s c.h) number before
@@ -331,5 +327,5 @@ work-is-little hub number session reached there silent =
     little (length session.output) (length session.queue) (asked_stops session.standing) (length session.input) (ap length silent) (queue-bound hub number session reached there) (asked-few session.standing)
     (sound-session hub number session (reached-sound hub reached) there).1.input_fits
   where
-    little : (out q a i : ℕ) → out ≡ 0 → q ≤ 67108864 → a ≤ 1 → i ≤ 69633 → 2 * out + 131075 * (q + a) + 8796294610950 * i < 1000000000000000000
+    little : (out q a i : ℕ) → out ≡ 0 → q ≤ 1024 → a ≤ 1 → i ≤ 69633 → 2 * out + 131075 * (q + a) + 134482950 * i < 1000000000000000000
     little out q a i none few once fits = omega (arith, none, few, once, fits)

@@ -13,18 +13,18 @@ use Rattle.dsotlv.specs.declared.message.Notice.{Notice}
 use Rattle.dsosession.specs.declared.session.EndReason.{EndReason}
 use Rattle.dsosession.specs.declared.session.EndReason.TheVariants as ends
 use Rattle.history.specs.declared.entry.Entry.{Entry}
-use Rattle.pushsession.specs.Sessions.{new_session, without_first, copied, with_piece, asked_to_stop, timed, due, ended_where, ended_with, says_stop, stopped, is_open}
+use Rattle.pushsession.specs.Sessions.{new_session, without_first, copied, with_piece, asked_to_stop, ended_where, ended_with, says_stop, stopped, is_open}
 use Rattle.pushsession.specs.Subscribing.{with_next_push, says_notices}
 use Rattle.pushsession.specs.declared.session_status.SessionStatus.{SessionStatus}
 use Rattle.pushsession.specs.declared.session_status.SessionStatus.TheVariants.{Live, AskedToStop, Stopped, Ended}
 use Rattle.pushserver.specs.declared.given.Given.{Given}
 use Rattle.pushserver.specs.declared.given.Given.TheVariants.{Nothing, End, Ending}
 use Rattle.pushserver.specs.PlainHubs.{Hub, Session, Made, Giving, plain_keeps, nets_of}
-use Rattle.pushserver.specs.Hubs.{now, keeps_now, tells_now, session_of, each_session, in_session, entered, disconnect}
+use Rattle.pushserver.specs.Hubs.{now, keeps_now, tells_now, session_of, in_session, entered, entered_keeping, disconnect}
 use Rattle.pushserver.specs.Giving.{give, did, after_reaction, after_packing, by_standing}
 use Rattle.pushserver.specs.Calls.{HubCall, updates, hears, moves, connects, takes as taking, gives, stops, ends as ending, called, after_calls}
 use Rattle.pushserver.proofs.SessionLists.{same-number, other-number, found-changed, found-last, found-left}
-use Rattle.pushserver.proofs.Walks.{AnyMessage, Walks, walks-give, holds-update, holds-hear, holds-moment, holds-connect, with_new}
+use Rattle.pushserver.proofs.Walks.{AnyMessage, EndsSome, Entering, Walks, entering-kept, timed-kept, walks-give, holds-update, holds-hear, holds-moment, holds-connect, with_new}
 use Rattle.pushserver.proofs.hub_steps.Cases.{found_as, works_as, output_as, give_as}
 use Rattle.pushtelling.specs.Runs.{is_live, first_of}
 use Rattle.pushtelling.proofs.OneSession.{OfOne, one-changed, one-last, one-left}
@@ -187,12 +187,9 @@ made-asked rcode delay s = by (is_open s.standing)
     by true = refl
     by false = refl
 
-made-timed : (point t : ℕ) (s : Session) → (timed (plain_keeps point) t s).made ≡ s.made
-made-timed point t s = by (due (plain_keeps point) t s)
-  where
-    by : (o : Option EndReason) → (ended_where (plain_keeps point) o s).made ≡ s.made
-    by None = refl
-    by (Some reason) = refl
+made-ended_where : (point : ℕ) (reason : Option EndReason) (s : Session) → (ended_where (plain_keeps point) reason s).made ≡ s.made
+made-ended_where point None s = refl
+made-ended_where point (Some reason) s = refl
 
 module _ (number : ℕ) where
   -- so much was made so far; a session that isn't there yet would begin with nothing
@@ -205,7 +202,7 @@ module _ (number : ℕ) where
     Has s = messages_of s ≡ made
 
     changed : (g : ℕ → Session → Session) → ((s : Session) → (g number s).made ≡ s.made) → (hub : Hub) (history : List Entry) → Sofar made hub
-        → Sofar made (record { start = hub.start; timers = hub.timers; history = history; sessions = map (λ e. (e.0, g e.0 e.1)) hub.sessions; numbers_given = hub.numbers_given })
+        → Sofar made (record { start = hub.start; timers = hub.timers; history = history; seen = hub.seen; sessions = map (λ e. (e.0, g e.0 e.1)) hub.sessions; numbers_given = hub.numbers_given })
     changed g same hub history h = record {
       each = one-changed number Has Has g (λ s has. ap (map message_in) (same s) ∙ has) hub.sessions h.each;
       fresh = λ low. (found-changed g number hub.sessions ∙ ap (option_map (g number)) (h.fresh low).0, (h.fresh low).1);
@@ -224,8 +221,12 @@ module _ (number : ℕ) where
     enters : (hub : Hub) (entry : Entry) → Sofar made hub → Sofar made (entered entry hub)
     enters hub entry h = changed (λ n. by_entry hub.start hub.history entry) (λ s. refl) hub (hub.history ++ entry ∷ []) h
 
-    times : (hub : Hub) (point t : ℕ) → Sofar made hub → Sofar made (each_session (timed (plain_keeps point) t) hub)
-    times hub point t h = changed (λ n. timed (plain_keeps point) t) (made-timed point t) hub hub.history h
+    -- some may end
+    ends-some : EndsSome (Sofar made)
+    ends-some hub point reason h = changed (λ n s. ended_where (plain_keeps point) (reason s) s) (λ s. made-ended_where point (reason s) s) hub hub.history h
+
+    enters_keeping : (hub : Hub) (entry : Entry) → Entering AnyMessage hub entry → Sofar made hub → Sofar made (entered_keeping entry hub)
+    enters_keeping = entering-kept AnyMessage (Sofar made) (Sofar made) ends-some (λ hub entry by h. enters hub entry h)
 
     comes : (hub : Hub) → Sofar made hub → Sofar made (with_new hub)
     comes hub h = record {
@@ -254,7 +255,7 @@ module _ (number : ℕ) where
       reads = λ hub s found there is h. tt;
       takes_up = λ hub s found there is h. other-changed hub other (without_first found.1) apart h;
       changes = λ hub f step h. other-changed hub other f apart h;
-      enters = λ hub entry by h. enters hub entry h;
+      enters = enters_keeping;
       enters_none = λ hub h. h;
       changes_behind = λ hub f step h. other-changed hub other f apart h;
     }
@@ -300,9 +301,9 @@ module _ (number : ℕ) where
         by true alike = subst (λ (n : ℕ). Sofar (made ++ makes_at hub (session_of hub number)) (give hub n room).hub) (same-number number other alike) (gives-own hub room h)
 
     sofar-called : (call : HubCall) (hub : Hub) → Sofar made hub → Sofar (made ++ makes number hub call) (called call hub)
-    sofar-called (updates message) hub h = still (called (updates message) hub) (holds-update AnyMessage (Sofar made) hub (λ entry by. enters hub entry h) h message tt)
-    sofar-called (hears link datagram) hub h = still (called (hears link datagram) hub) (holds-hear AnyMessage (Sofar made) hub (λ entry by. enters hub entry h) h link datagram tt)
-    sofar-called (moves t) hub h = still (called (moves t) hub) (holds-moment AnyMessage (Sofar made) hub (λ entry by. enters hub entry h) h times t)
+    sofar-called (updates message) hub h = still (called (updates message) hub) (holds-update AnyMessage (Sofar made) hub (λ entry by. enters_keeping hub entry by h) h message tt)
+    sofar-called (hears link datagram) hub h = still (called (hears link datagram) hub) (holds-hear AnyMessage (Sofar made) hub (λ entry by. enters_keeping hub entry by h) h link datagram tt)
+    sofar-called (moves t) hub h = still (called (moves t) hub) (holds-moment AnyMessage (Sofar made) hub (λ entry by. enters_keeping hub entry by h) h (timed-kept (Sofar made) ends-some) t)
     sofar-called connects hub h = still (called connects hub) (holds-connect (Sofar made) hub (comes hub h) h)
     sofar-called (taking other piece) hub h = still (called (taking other piece) hub) (in-changed hub other (with_piece piece) (λ s. refl) h)
     sofar-called (gives other room) hub h = gives-any hub other room h

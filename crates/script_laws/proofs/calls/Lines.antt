@@ -227,7 +227,7 @@ asks-so call w world = by (seat_of world w)
     by (Some seat) = refl
 
 hub-so : (event : HubEvent) (world : World) → (hub_does event world).0.hub ≡ after_calls (hub_calls event world) world.hub
-hub-so (hub_events.At t) world = (let r = hubs.moment world.hub t in timed-so (now r.1) world.seats (record world { hub = r.1 }, cond r.0 (codes "full" ∷ []) []))
+hub-so (hub_events.At t) world = (let later = hubs.moment world.hub t in timed-so (now later) world.seats (record world { hub = later }, []))
 hub-so (hub_events.Update message) world = refl
 hub-so hub_events.Point world = refl
 

@@ -5,13 +5,13 @@ use Rattle.std.proofs.Common.{◌≡◌, ℕ, Bool, true, false, cond, List, [],
 use Rattle.std.specs.Prelude.{◌==◌}
 use Rattle.std.specs.List.{AllByRecursion}
 use Rattle.dsosession.specs.declared.session.EndReason.{EndReason}
-use Rattle.pushsession.specs.Sessions.{is_open, new_session, with_piece, asked_to_stop, due, ended_where, timed, without_first}
+use Rattle.pushsession.specs.Sessions.{is_open, new_session, with_piece, asked_to_stop, ended_where, without_first}
 use Rattle.pushsession.specs.declared.session_status.SessionStatus.TheVariants.{AskedToStop}
 use Rattle.pushserver.specs.PlainHubs.{Hub, Session, plain_keeps}
-use Rattle.pushserver.specs.Hubs.{now, keeps_now, each_session, in_session, entered}
+use Rattle.pushserver.specs.Hubs.{now, keeps_now, in_session, entered, entered_keeping}
 use Rattle.pushserver.specs.Calls.{HubCall, updates, hears, moves, connects, takes as taking, gives, stops, ends, called, after_calls}
 use Rattle.pushserver.proofs.SessionLists.{other-number}
-use Rattle.pushserver.proofs.Walks.{AnyMessage, holds-update, holds-hear, holds-moment, holds-connect, with_new, Walks, walks-give}
+use Rattle.pushserver.proofs.Walks.{AnyMessage, Entering, EndsSome, entering-kept, timed-kept, holds-update, holds-hear, holds-moment, holds-connect, with_new, Walks, walks-give}
 use Rattle.history.specs.declared.entry.Entry.{Entry}
 use Rattle.pushtelling.proofs.OneSession.{OfOne, one-changed, one-last, one-left}
 use Rattle.pushtelling.proofs.Tells.{by_entry}
@@ -31,9 +31,6 @@ ServedAt number hub = OfOne number IsServed hub.sessions
 served-where : (s : Session) (o : Option EndReason) (point : ℕ) → IsServed s → IsServed (ended_where (plain_keeps point) o s)
 served-where s None point h = h
 served-where s (Some reason) point h = record { silent = h.silent; waits = λ opened. absurd (true≢false (sym opened)) }
-
-served-timed : (point t : ℕ) (s : Session) → IsServed s → IsServed (timed (plain_keeps point) t s)
-served-timed point t s h = served-where s (due (plain_keeps point) t s) point h
 
 served-asked : (rcode delay : ℕ) (s : Session) → IsServed s → IsServed (asked_to_stop rcode delay s)
 served-asked rcode delay s h = by (is_open s.standing) refl
@@ -59,8 +56,11 @@ module _ (number : ℕ) where
   enters : (hub : Hub) (entry : Entry) → ServedAt number hub → ServedAt number (entered entry hub)
   enters hub entry h = one-changed number IsServed IsServed (λ n. by_entry hub.start hub.history entry) (λ s c. record { silent = c.silent; waits = c.waits }) hub.sessions h
 
-  times : (hub : Hub) (point t : ℕ) → ServedAt number hub → ServedAt number (each_session (timed (plain_keeps point) t) hub)
-  times hub point t h = one-changed number IsServed IsServed (λ n. timed (plain_keeps point) t) (served-timed point t) hub.sessions h
+  ends-some : EndsSome (ServedAt number)
+  ends-some hub point reason h = one-changed number IsServed IsServed (λ n s. ended_where (plain_keeps point) (reason s) s) (λ s. served-where s (reason s) point) hub.sessions h
+
+  enters_keeping : (hub : Hub) (entry : Entry) → Entering AnyMessage hub entry → ServedAt number hub → ServedAt number (entered_keeping entry hub)
+  enters_keeping = entering-kept AnyMessage (ServedAt number) (ServedAt number) ends-some (λ hub entry by h. enters hub entry h)
 
   makes : (hub : Hub) → ServedAt number hub → ServedAt number (with_new hub)
   makes hub h = one-last number IsServed hub.sessions (hub.numbers_given, new_session (keeps_now hub) (now hub)) (λ is. record { silent = refl; waits = λ opened. refl }) h
@@ -70,15 +70,15 @@ module _ (number : ℕ) where
     reads = λ hub s found there is h. tt;
     takes_up = λ hub s found there is h. other-served hub other (without_first found.1) apart h;
     changes = λ hub f step h. other-served hub other f apart h;
-    enters = λ hub entry by h. enters hub entry h;
+    enters = enters_keeping;
     enters_none = λ hub h. h;
     changes_behind = λ hub f step h. other-served hub other f apart h;
   }
 
   other-serves : (call : HubCall) (hub : Hub) → NotFor number call → ServedAt number hub → ServedAt number (called call hub)
-  other-serves (updates message) hub other h = holds-update AnyMessage (ServedAt number) hub (λ entry by. enters hub entry h) h message tt
-  other-serves (hears link datagram) hub other h = holds-hear AnyMessage (ServedAt number) hub (λ entry by. enters hub entry h) h link datagram tt
-  other-serves (moves t) hub other h = holds-moment AnyMessage (ServedAt number) hub (λ entry by. enters hub entry h) h times t
+  other-serves (updates message) hub other h = holds-update AnyMessage (ServedAt number) hub (λ entry by. enters_keeping hub entry by h) h message tt
+  other-serves (hears link datagram) hub other h = holds-hear AnyMessage (ServedAt number) hub (λ entry by. enters_keeping hub entry by h) h link datagram tt
+  other-serves (moves t) hub other h = holds-moment AnyMessage (ServedAt number) hub (λ entry by. enters_keeping hub entry by h) h (timed-kept (ServedAt number) ends-some) t
   other-serves connects hub other h = holds-connect (ServedAt number) hub (makes hub h) h
   other-serves (taking n piece) hub other h = other-served hub n (with_piece piece) other h
   other-serves (gives n room) hub other h = walks-give AnyMessage n (ServedAt number) (ServedAt number) (walks n other) hub room h

@@ -1,7 +1,7 @@
 -- Between two lines of a script each peer's session is served.
 --     not-for-line      a line of others is no call for the session
 --     served-line, served-lines      so it stays
-use Rattle.std.proofs.Common.{◌≡◌, ℕ, cond, not, List, [], ◌∷◌, Some, refl, sym, ◌∙◌, ap, subst, codes}
+use Rattle.std.proofs.Common.{◌≡◌, ℕ, not, List, [], ◌∷◌, Some, refl, sym, ◌∙◌, ap, subst}
 use Rattle.std.specs.List.{AllByRecursion}
 use Rattle.std.specs.Str.{bytes_eq}
 use Rattle.rrset.proofs.Places.{all_filter}
@@ -95,8 +95,8 @@ module _ (P : Word × ℕ → Type 0) where
 
   hub-each : (event : HubEvent) (world : World) → Each world → Each (hub_does event world).0
   hub-each (hub_events.At t) world all =
-      let r = hubs.moment world.hub t in
-      subst (λ (ps : List (Word × ℕ)). AllByRecursion P ps) (sym (peers-timed (now r.1) world.seats (record world { hub = r.1 }, cond r.0 (codes "full" ∷ []) []))) all
+      let later = hubs.moment world.hub t in
+      subst (λ (ps : List (Word × ℕ)). AllByRecursion P ps) (sym (peers-timed (now later) world.seats (record world { hub = later }, []))) all
   hub-each (hub_events.Update message) world all = all
   hub-each hub_events.Point world all = all
 

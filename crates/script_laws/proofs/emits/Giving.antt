@@ -17,7 +17,7 @@ use Rattle.pushserver.specs.Hubs.{now, keeps_now, session_of, in_session}
 use Rattle.pushserver.specs.Giving.{did, copies, copies_or, given_after, by_standing, give}
 use Rattle.pushserver.proofs.SessionLists.{found-in}
 use Rattle.pushserver.proofs.hub_steps.Cases.{found_as, output_as, give_as}
-use Rattle.flight_laws.specs.GoesOn.{GoesOn, gives_on}
+use Rattle.flight_laws.specs.GoesOn.{GoesOn, GivesOn, gives_on}
 use Rattle.replay.specs.Promises.{EndedByItself, is_end_by_itself}
 use Rattle.replay.proofs.exchanges.Walks.{give-walk}
 
@@ -40,14 +40,25 @@ after-so (Stopped since) reason ended is = absurd cc
 
 -- ---- a live session
 
+-- it goes on, or fell behind
+gives-so : (standing : SessionStatus) (given : Given) → GivesOn standing given → EndedByItself standing × ((reason : EndReason) → given ≡ End reason → IsTrue (is_end_by_itself reason))
+gives-so Live given on = (tt, λ reason is. absurd (true≢false (sym on ∙ ap gives_on is)))
+gives-so (AskedToStop rcode delay) given on = absurd on
+gives-so (Stopped since) given on = absurd on
+gives-so (Ended reason) given (point, is, told) =
+    let own : IsTrue (is_end_by_itself reason) = subst (λ (r : EndReason). IsTrue (is_end_by_itself r)) (sym is) refl in
+    (own, λ other e. subst (λ (r : EndReason). IsTrue (is_end_by_itself r)) (same-end reason other (sym told ∙ e)) own)
+
 pub live-stands : (g : Giving) (number : ℕ) → GoesOn g number → StandsBehind g number Live
-live-stands g number on = record {
-  later = on.later;
-  there = on.there;
-  ended = subst EndedByItself (sym on.live) tt;
-  over = λ reason is. absurd (true≢false (sym on.given ∙ ap gives_on is));
-  shut = λ is. absurd (true≢false is);
-}
+live-stands g number on =
+    let so = gives-so on.later.standing g.given on.goes_on in
+    record {
+      later = on.later;
+      there = on.there;
+      ended = so.0;
+      over = so.1;
+      shut = λ is. absurd (true≢false is);
+    }
 
 -- ---- any other
 

@@ -180,14 +180,10 @@ module _ (laws : LineLaws) (all : List Word) (words : AllByRecursion IsWord all)
 
   pub moments-say : (t : ℕ) → Say (moments t world).1
   moments-say t =
-      let r = hubs.moment world.hub t in
+      let later = hubs.moment world.hub t in
       let there = each-found world.seats (distinct-front (words_of world.seats) _ stands.numbers.words) in
-      seats-say (now r.1) world.seats (record world { hub = r.1 }, cond r.0 (codes "full" ∷ []) []) (full r.0)
-      (all-weaken (λ (s : Seat). seat_of world s.word ≡ Some s) (TellsAt (now r.1)) (λ s is. tells-at (now r.1) s is) world.seats there)
-    where
-      full : (b : Bool) → Say (cond b (codes "full" ∷ []) [])
-      full true = (other-line own.word (codes "full") refl, tt)
-      full false = tt
+      seats-say (now later) world.seats (record world { hub = later }, []) tt
+      (all-weaken (λ (s : Seat). seat_of world s.word ≡ Some s) (TellsAt (now later)) (λ s is. tells-at (now later) s is) world.seats there)
 
   -- ---- octets from a script
 

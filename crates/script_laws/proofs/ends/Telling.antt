@@ -55,10 +55,9 @@ module _ (w : Word) where
   records-say [] = tt
   records-say (r ∷ rs) = (other-line w (record_line r) refl, records-say rs)
 
-  heard-say : (o : Option Heard) → Say (spaced (heard_words o ∷ []) ∷ [])
-  heard-say None = one-line (codes "full") refl
-  heard-say (Some Entered) = one-line (codes "heard") refl
-  heard-say (Some (Ignored why)) = one-line (heard_words (Some (Ignored why))) refl
+  heard-say : (heard : Heard) → Say (spaced (heard_words heard ∷ []) ∷ [])
+  heard-say Entered = one-line (codes "heard") refl
+  heard-say (Ignored why) = one-line (heard_words (Ignored why)) refl
 
   module _ (world : World) where
     asks-say : (call : Call) (v : Word) → Say (asks call v world).1

@@ -7,7 +7,7 @@ use Rattle.std.specs.Prelude.{length, nat_lt, ◌==◌, ◌&&◌}
 use Rattle.std.specs.Option.{option_or}
 use Rattle.std.proofs.lemmas.List.{map-append}
 use Rattle.push_base.specs.Limits.{max_number}
-use Rattle.pushsession.specs.Sessions.{new_session, with_piece, asked_to_stop, timed, without_first}
+use Rattle.pushsession.specs.Sessions.{new_session, with_piece, asked_to_stop, ended_where, without_first}
 use Rattle.pushserver.specs.Calls.{HubCall, updates, hears, moves, connects, takes, gives, stops, ends, called, after_calls}
 use Rattle.pushserver.specs.Hubs.{now, keeps_now, session_of, in_session, connect, max_sessions}
 use Rattle.pushserver.specs.PlainHubs.{Hub, Session, plain_keeps}
@@ -36,7 +36,7 @@ module _ (hub : Hub) where
     takes_up = λ later number rest h. in-numbers later number (without_first rest) h;
     changes = λ later number f step h. in-numbers later number f h;
     enters = λ later entry h. (numbers-changed _ later.sessions ∙ h.0, h.1);
-    times = λ later point t h. (numbers-changed (λ e. timed (plain_keeps point) t e.1) later.sessions ∙ h.0, h.1);
+    ends = λ later point reason h. (numbers-changed (λ e. ended_where (plain_keeps point) (reason e.1) e.1) later.sessions ∙ h.0, h.1);
     takes_in = λ later number piece h. in-numbers later number (with_piece piece) h;
   }
 

@@ -1,5 +1,5 @@
 -- Calls for others leave a seat as it stands.
---     ends-so-timed, ends-so-asked      a session that has ended did so by itself, behind a moment, and where a stop is asked for
+--     ends-so-asked      a session that has ended did so by itself, where a stop is asked for
 --     joined-along      a seat that is joined to its session is so behind any calls for others
 --     others-leave-seats
 use Rattle.std.proofs.Common.{◌≡◌, ℕ, ◌+◌, ◌≤◌, Bool, true, false, cond, List, [], ◌∷◌, length, Option, Some, None, sym, ◌∙◌, ap, subst, refl}
@@ -7,19 +7,17 @@ use Rattle.std.specs.Prelude.{IsTrue}
 use Rattle.std.specs.List.{AllByRecursion}
 use Rattle.std.proofs.Math.Nat.{le_trans}
 use Rattle.dsotlv.specs.Answers.{stop_message}
-use Rattle.dsosession.specs.Timing.{Clocks, is_silent, is_idle, reason_of, has_passed, stop_time}
 use Rattle.dsosession.specs.declared.session.CloseReason.{CloseReason}
 use Rattle.dsosession.specs.declared.session.CloseReason.TheVariants as closes
 use Rattle.dsosession.specs.declared.session.EndReason.{EndReason}
-use Rattle.dsosession.specs.declared.session.EndReason.TheVariants as ends
 use Rattle.pushsession.specs.declared.session_status.SessionStatus.{SessionStatus}
-use Rattle.pushsession.specs.declared.session_status.SessionStatus.TheVariants.{Live, AskedToStop, Stopped, Ended}
-use Rattle.pushsession.specs.Sessions.{is_open, asked_to_stop, due_as, ended_where, timed}
+use Rattle.pushsession.specs.declared.session_status.SessionStatus.TheVariants.{AskedToStop, Ended}
+use Rattle.pushsession.specs.Sessions.{is_open, asked_to_stop, ended_with}
 use Rattle.pushserver.specs.Calls.{HubCall, called, after_calls}
 use Rattle.pushserver.specs.Hubs.{newest, session_of}
 use Rattle.pushserver.specs.PlainHubs.{Hub, Session, Made, plain_keeps, size_of_made}
 use Rattle.pushserver.proofs.hub_steps.Pairs.{all-weaken}
-use Rattle.pushtelling.proofs.Closed.{closed-timed, closed-asked}
+use Rattle.pushtelling.proofs.Closed.{closed-asked}
 use Rattle.pushclient.specs.Clients.{Connection}
 use Rattle.inflight.specs.Flight.{IsUnderWay}
 use Rattle.flight_laws.specs.OtherCalls.{IsOfOthers}
@@ -35,29 +33,6 @@ use Rattle.script_laws.proofs.hubs.Reaching.{reached-go-on, begun-go-on, points-
 use Rattle.script_laws.proofs.hubs.Sessions.{reached-below}
 
 -- ---- how a session ends, and what closed its client
-
--- the timers end it as silent or idle
-timers-end : (silent idle : Bool) (reason : EndReason) → reason_of silent idle ≡ Some reason → IsTrue (is_end_by_itself reason)
-timers-end true idle reason is = let same : ends.Silent ≡ reason = cc in subst (λ (r : EndReason). IsTrue (is_end_by_itself r)) same refl
-timers-end false true reason is = let same : ends.Idle ≡ reason = cc in subst (λ (r : EndReason). IsTrue (is_end_by_itself r)) same refl
-timers-end false false reason is = absurd cc
-
-stopped-ends : (passed : Bool) (reason : EndReason) → cond passed (Some ends.Stopped) None ≡ Some reason → IsTrue (is_end_by_itself reason)
-stopped-ends true reason is = let same : ends.Stopped ≡ reason = cc in subst (λ (r : EndReason). IsTrue (is_end_by_itself r)) same refl
-stopped-ends false reason is = absurd cc
-
-due-ends : (standing : SessionStatus) (clocks : Clocks) (questions t : ℕ) (reason : EndReason) → due_as standing clocks questions t ≡ Some reason → IsTrue (is_end_by_itself reason)
-due-ends (Ended already) clocks questions t reason is = absurd cc
-due-ends (Stopped since) clocks questions t reason is = stopped-ends (has_passed stop_time since t) reason is
-due-ends Live clocks questions t reason is = timers-end (is_silent clocks t) (is_idle clocks t questions) reason is
-due-ends (AskedToStop rcode delay) clocks questions t reason is = timers-end (is_silent clocks t) (is_idle clocks t questions) reason is
-
-pub ends-so-timed : (point t : ℕ) (session : Session) → EndedByItself session.standing → EndedByItself (timed (plain_keeps point) t session).standing
-ends-so-timed point t session h = by (due_as session.standing session.clocks (length session.subscriptions) t) (due-ends session.standing session.clocks (length session.subscriptions) t)
-  where
-    by : (o : Option EndReason) → ((reason : EndReason) → o ≡ Some reason → IsTrue (is_end_by_itself reason)) → EndedByItself (ended_where (plain_keeps point) o session).standing
-    by None so = h
-    by (Some reason) so = so reason refl
 
 pub ends-so-asked : (rcode delay : ℕ) (session : Session) → EndedByItself session.standing → EndedByItself (asked_to_stop rcode delay session).standing
 ends-so-asked rcode delay session h = by (is_open session.standing)
@@ -85,8 +60,8 @@ module _ (shown : ShownPoints) (seat : Seat) (number : ℕ) (c : Connection) whe
   abbrev IsSo : Session → Type 0
   IsSo session = EndedByItself session.standing × ClosedByDelay session.standing c.closed
 
-  so-timed : (point t : ℕ) (session : Session) → IsSo session → IsSo (timed (plain_keeps point) t session)
-  so-timed point t session so = (ends-so-timed point t session so.0, closed-so c.closed session.standing (timed (plain_keeps point) t session).standing (closed-timed point t session) so.1)
+  so-ended : (point : ℕ) (reason : EndReason) (session : Session) → IsTrue (is_end_by_itself reason) → IsSo session → IsSo (ended_with (plain_keeps point) reason session)
+  so-ended point reason session own so = (own, closed-so c.closed session.standing (Ended reason) (λ closed. refl) so.1)
 
   so-asked : (rcode delay : ℕ) (session : Session) → IsSo session → IsSo (asked_to_stop rcode delay session)
   so-asked rcode delay session so = (ends-so-asked rcode delay session so.0, closed-so c.closed session.standing (asked_to_stop rcode delay session).standing (closed-asked rcode delay session) so.1)
@@ -95,7 +70,7 @@ module _ (shown : ShownPoints) (seat : Seat) (number : ℕ) (c : Connection) whe
     -- the one that is found is this one
     later-so : (later : Session) → session_of (called call hub) number ≡ Some later → IsSo later
     later-so later there =
-        let kept = others-keep number IsSo (λ s queue so. so) so-timed so-asked hub call other (session, j.there, (j.ended, j.closed)) in
+        let kept = others-keep number IsSo (λ s queue so. so) so-ended so-asked hub call other (session, j.there, (j.ended, j.closed)) in
         let both : Some kept.0 ≡ Some later = sym kept.1 ∙ there in
         let same : kept.0 ≡ later = cc in
         subst IsSo same kept.2

@@ -6,8 +6,8 @@ use Rattle.dsosession.specs.declared.session.Timers.{Timers}
 use Rattle.history.specs.States.{State}
 use Rattle.pushserver.specs.Calls.{HubCall, updates, hears, moves, connects, takes, gives, stops, ends, called, after_calls}
 use Rattle.pushserver.specs.Giving.{give}
-use Rattle.pushserver.specs.Hubs.{update, hear, moment, connect, take_octets, stop, disconnect, empty_hub}
-use Rattle.pushserver.specs.KeptHubs.{kept, KeptHub, StandsFor}
+use Rattle.pushserver.specs.Hubs.{update, hear, moment, connect, take_octets, stop, disconnect}
+use Rattle.pushserver.specs.KeptHubs.{KeptHub, StandsFor, new_kept}
 use Rattle.pushserver.specs.PlainHubs.{Hub, new_hub}
 use Rattle.pushserver.specs.SoundHubs.{IsSoundHub}
 use Rattle.pushserver.proofs.hub_steps.Calls.{updates_stand, hears_stand, moments_stand, connects_stand, takes_stand, stops_stand, ends_stand}
@@ -26,7 +26,7 @@ IsStoodFor hub = (k : KeptHub) × StandsFor k hub
 called-stands : (call : HubCall) (hub : Hub) → FitsCall call → IsStoodFor hub → IsStoodFor (called call hub)
 called-stands (updates message) hub fit (k, s) = ((update k message).1, (updates_stand k hub message s fit.0).1)
 called-stands (hears link datagram) hub fit (k, s) = ((hear k link datagram).1, (hears_stand k hub link datagram s fit.0).1)
-called-stands (moves t) hub fit (k, s) = ((moment k t).1, (moments_stand k hub t s).1)
+called-stands (moves t) hub fit (k, s) = (moment k t, moments_stand k hub t s)
 called-stands connects hub fit (k, s) = ((connect k).1, (connects_stand k hub s).1)
 called-stands (takes number piece) hub fit (k, s) = (take_octets k number piece, (takes_stand k hub number piece s fit.0).1)
 called-stands (gives number room) hub fit (k, s) = ((give k number room).hub, (gives_stand k hub number room s).hub)
@@ -38,7 +38,7 @@ after-stands [] hub fit s = s
 after-stands (call ∷ calls) hub fit s = after-stands calls (called call hub) fit.1 (called-stands call hub fit.0 s)
 
 new-stands : (start : State) (timers : Timers) → IsStartOfHomes start → IsStoodFor (new_hub start timers)
-new-stands start timers is = (empty_hub kept start timers, new_stands start timers is.begins (start-at-home start is) is.names)
+new-stands start timers is = (new_kept start timers, new_stands start timers is.begins (start-at-home start is) is.names)
 
 pub reached-sound : ReachedOnesAreSound
 reached-sound hub r =

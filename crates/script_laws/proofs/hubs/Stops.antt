@@ -5,14 +5,14 @@ use Rattle.std.specs.Prelude.{◌==◌}
 use Rattle.std.specs.List.{AllByRecursion}
 use Rattle.coalesce.proofs.ReadBack.{each-append}
 use Rattle.rrset.proofs.Places.{all_filter}
-use Rattle.pushsession.specs.Sessions.{new_session, is_open, with_piece, asked_to_stop, timed, without_first}
+use Rattle.pushsession.specs.Sessions.{new_session, is_open, with_piece, asked_to_stop, ended_where, without_first}
 use Rattle.pushsession.specs.declared.session_status.SessionStatus.TheVariants.{AskedToStop}
 use Rattle.pushserver.specs.Calls.{HubCall, updates, hears, moves, connects, takes, gives, stops, ends, called, after_calls}
 use Rattle.pushserver.specs.Hubs.{now, keeps_now, in_session}
 use Rattle.pushserver.specs.PlainHubs.{Hub, Session, plain_keeps}
 use Rattle.pushserver.proofs.SessionLists.{each-changed}
 use Rattle.pushserver.proofs.Walks.{holds-connect}
-use Rattle.pushtelling.proofs.Standings.{has-step, has-timed}
+use Rattle.pushtelling.proofs.Standings.{has-step, has-ended_where}
 use Rattle.pushtelling.proofs.Tells.{by_entry}
 use Rattle.flight_laws.specs.Turns.{StopFits}
 use Rattle.script_laws.specs.Reached.{FitsCall, FitCalls}
@@ -36,7 +36,7 @@ fit-kept = record {
   takes_up = λ hub number rest h. in-fit hub number (without_first rest) (λ s fits. fits) h;
   changes = λ hub number f step h. in-fit hub number f (λ s fits. has-step StopFits (λ reason. tt) (λ since. tt) hub step s fits) h;
   enters = λ hub entry h. each-changed HasFitStop HasFitStop (λ n. by_entry hub.start hub.history entry) (λ n s fits. fits) hub.sessions h;
-  times = λ hub point t h. each-changed HasFitStop HasFitStop (λ n. timed (plain_keeps point) t) (λ n s fits. has-timed StopFits (λ reason. tt) (λ since. tt) point t s fits) hub.sessions h;
+  ends = λ hub point reason h. each-changed HasFitStop HasFitStop (λ n s. ended_where (plain_keeps point) (reason s) s) (λ n s fits. has-ended_where StopFits (λ reason. tt) (λ since. tt) point (reason s) s fits) hub.sessions h;
   takes_in = λ hub number piece h. in-fit hub number (with_piece piece) (λ s fits. fits) h;
 }
 

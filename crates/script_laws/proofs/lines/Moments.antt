@@ -1,7 +1,7 @@
 -- Each client at a moment: one that closes is told and cut.
 --     moments-stand      the line on a moment
-use Rattle.std.proofs.Common.{◌≡◌, ℕ, Bool, true, false, cond, not, List, [], ◌∷◌, fold, Option, Some, None, refl, sym, ◌∙◌, ap, subst}
-use Rattle.std.specs.Prelude.{is_some, codes}
+use Rattle.std.proofs.Common.{◌≡◌, ℕ, Bool, true, false, not, List, [], ◌∷◌, fold, Option, Some, None, refl, sym, ◌∙◌, ap, subst}
+use Rattle.std.specs.Prelude.{is_some}
 use Rattle.std.specs.List.{AllByRecursion, IsDistinct, list_any}
 use Rattle.std.specs.Str.{bytes_eq}
 use Rattle.dsosession.specs.Timing.{client_due}
@@ -147,9 +147,9 @@ module _ (laws : LineLaws) (all : List Word) (shown : ShownToEach) where
 
   pub moments-stand : (t : ℕ) (world : World) → WorldStands shown world → LeadsTo all shown world (moments t world).0
   moments-stand t world stands =
-      let r = hubs.moment world.hub t in
-      let moved : World = record world { hub = r.1 } in
+      let later = hubs.moment world.hub t in
+      let moved : World = record world { hub = later } in
       let distinct = distinct-front (words_of world.seats) _ stands.numbers.words in
       leads-on all shown world moved (moments t world).0 (λ w. refl) (λ h. h)
-      (seats-timed (now r.1) world.seats (moved, cond r.0 (codes "full" ∷ []) []) (laws.hubs_go_on shown world [] (moves t ∷ []) stands ((tt, tt), tt) (tt, tt) (tt, tt))
+      (seats-timed (now later) world.seats (moved, []) (laws.hubs_go_on shown world [] (moves t ∷ []) stands ((tt, tt), tt) (tt, tt) (tt, tt))
       (each-found world.seats distinct) distinct)

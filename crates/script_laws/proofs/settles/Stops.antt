@@ -15,7 +15,7 @@ use Rattle.dsotlv.specs.Notices.{question_of}
 use Rattle.dsotlv.specs.declared.message.DsoHead.{DsoHead}
 use Rattle.dsotlv.specs.declared.message.Notice.{Notice}
 use Rattle.pushsession.specs.Reactions.{reacts_itself, by_itself}
-use Rattle.pushsession.specs.Sessions.{is_open, new_session, with_piece, asked_to_stop, ended_with, due, ended_where, timed, says_stop, without_first}
+use Rattle.pushsession.specs.Sessions.{is_open, new_session, with_piece, asked_to_stop, ended_with, ended_where, says_stop, without_first}
 use Rattle.pushsession.specs.Subscribing.{Verdict, says_notices, subscribed, says_first_answer, first_answer_size, decided, answered}
 use Rattle.pushsession.specs.declared.session_status.SessionStatus.{SessionStatus}
 use Rattle.pushsession.specs.declared.session_status.SessionStatus.TheVariants.{AskedToStop, Ended}
@@ -121,12 +121,9 @@ module _ (hub : Hub) where
   said-step (ends_with reason) session h = ended-said reason session.made
   said-step (copies_front room) session h = h
 
-said-timed : (point t : ℕ) (session : Session) → Said session → Said (timed (plain_keeps point) t session)
-said-timed point t session h = by (due (plain_keeps point) t session)
-  where
-    by : (o : Option EndReason) → Said (ended_where (plain_keeps point) o session)
-    by None = h
-    by (Some reason) = ended-said reason session.made
+said-ended_where : (point : ℕ) (reason : Option EndReason) (session : Session) → Said session → Said (ended_where (plain_keeps point) reason session)
+said-ended_where point None session h = h
+said-ended_where point (Some reason) session h = ended-said reason session.made
 
 said-asked : (rcode delay : ℕ) (session : Session) → Said session → Said (asked_to_stop rcode delay session)
 said-asked rcode delay session h = by (is_open session.standing)
@@ -153,7 +150,7 @@ said-kept = record {
   takes_up = λ hub number session found there is h. in-said hub number (without_first found.1) (λ s e. e) h;
   changes = λ hub number f step h. in-said hub number f (λ s e. said-step hub step s e) h;
   enters = λ hub entry by h. each-changed Said Said (λ n. by_entry hub.start hub.history entry) (λ n s e. e) hub.sessions h;
-  times = λ hub point t h. each-changed Said Said (λ n. timed (plain_keeps point) t) (λ n. said-timed point t) hub.sessions h;
+  ends = λ hub point reason h. each-changed Said Said (λ n s. ended_where (plain_keeps point) (reason s) s) (λ n s. said-ended_where point (reason s) s) hub.sessions h;
   takes_in = λ hub number piece any h. in-said hub number (with_piece piece) (λ s e. e) h;
   asks_stop = λ hub number rcode delay h. in-said hub number (asked_to_stop rcode delay) (said-asked rcode delay) h;
   makes = λ hub h. each-append (λ (e : ℕ × Session). Said e.1) hub.sessions ((hub.numbers_given, new_session (keeps_now hub) (now hub)) ∷ []) h ((λ is. absurd (true≢false (sym is))), tt);

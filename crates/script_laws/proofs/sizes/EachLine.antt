@@ -8,8 +8,7 @@ use Rattle.coalesce.proofs.Packing.{each-front}
 use Rattle.coalesce.specs.Sides.{frame_octets}
 use Rattle.dsotlv.proofs.Results.{same_found}
 use Rattle.push_base.specs.Limits.{max_input, max_questions}
-use Rattle.history.specs.States.{max_journal_entries}
-use Rattle.pushserver.specs.Hubs.{newest, session_of}
+use Rattle.pushserver.specs.Hubs.{session_of}
 use Rattle.pushserver.specs.PlainHubs.{Hub, Session}
 use Rattle.pushserver.specs.SoundHubs.{IsSoundHub, IsSoundSession}
 use Rattle.pushserver.proofs.session_steps.Lists.{found-each}
@@ -26,7 +25,7 @@ use Rattle.script_laws.specs.Lines.{IsRead, Follow}
 use Rattle.script_laws.specs.Reached.{ReachedOnesAreSound}
 use Rattle.script_laws.specs.Settling.{IsLittleAtSettles}
 use Rattle.script_laws.specs.Texts.{ShownIsTaken}
-use Rattle.script_laws.specs.Turns.{reaction_cost, asked_stops, work_of, work_in, owes, work_left, QueuesAreShort, HistoriesAreShort, SizedAfterLines, LowersAlways}
+use Rattle.script_laws.specs.Turns.{reaction_cost, asked_stops, work_of, work_in, owes, work_left, QueuesAreShort, SizedAfterLines, LowersAlways}
 use Rattle.script_laws.specs.Whole.{StandsAfterEachLine}
 use Rattle.script_laws.proofs.lines.EachLine.{grown-clients}
 use Rattle.script_laws.proofs.lines.Following.{follow-front}
@@ -94,8 +93,8 @@ one-stop (AskedToStop rcode delay) = omega arith
 one-stop (Stopped since) = omega arith
 one-stop (Ended reason) = omega arith
 
-pub work-is-little : ReachedOnesAreSound → StandsAfterEachLine → SizedAfterLines → QueuesAreShort → HistoriesAreShort → IsLittleAtSettles work_left
-work-is-little are-sound stand sizes queues histories script before after w seat number lines are found has =
+pub work-is-little : ReachedOnesAreSound → StandsAfterEachLine → SizedAfterLines → QueuesAreShort → IsLittleAtSettles work_left
+work-is-little are-sound stand sizes queues script before after w seat number lines are found has =
     let world : World = world_after before (start_world script) in
     let stands = stand script before (settle w ∷ after) lines are in
     let here = stands-with world.hub _ seat number has (seat-stands _ world w seat stands found) in
@@ -104,12 +103,12 @@ work-is-little are-sound stand sizes queues histories script before after w seat
     let owed = found-sized (length before) world w seat (sizes script before (settle w ∷ after) lines are) found here.lone in
     let few = fewer (length before) (length after) (length script) (ap length are ∙ length-append before (settle w ∷ after)) lines.few in
     let work : work_in (session_of world.hub number) ≡ work_of session = ap work_in here.joined.there in
-    little (work_in (session_of world.hub number)) (length session.output) (length session.input) (length session.queue) (asked_stops session.standing) (newest world.hub) (length seat.down_wire) (length seat.up_wire) (owes seat.client) (length before)
-    work within.output within.input (queues world.hub number session stands.reached here.joined.there) (histories world.hub stands.reached) (one-stop session.standing) here.joined.down_wire here.joined.up_wire owed few
+    little (work_in (session_of world.hub number)) (length session.output) (length session.input) (length session.queue) (asked_stops session.standing) (length seat.down_wire) (length seat.up_wire) (owes seat.client) (length before)
+    work within.output within.input (queues world.hub number session stands.reached here.joined.there) (one-stop session.standing) here.joined.down_wire here.joined.up_wire owed few
   where
     fewer : (before after script : ℕ) → script ≡ before + suc after → script ≤ 16777216 → before ≤ 16777216
     fewer before after script is short = omega (arith, is, short)
 
-    little : (work output input queue stop newest down up owed lines : ℕ) → work ≡ 2 * output + reaction_cost * (input + queue + stop) → output ≤ frame_octets → input ≤ max_input → queue ≤ max_questions * newest → newest ≤ max_journal_entries → stop ≤ 1
+    little : (work output input queue stop down up owed lines : ℕ) → work ≡ 2 * output + reaction_cost * (input + queue + stop) → output ≤ frame_octets → input ≤ max_input → queue ≤ max_questions → stop ≤ 1
         → down ≤ max_wire → up ≤ max_wire → owed ≤ 2 ^ 27 + 2 ^ 17 * lines → lines ≤ 16777216 → work + down + (reaction_cost + 1) * up + (reaction_cost + 2) * owed < 2 ^ 64
-    little work output input queue stop newest down up owed lines is out inp few old one d u more short = omega (arith, is, out, inp, few, old, one, d, u, more, short)
+    little work output input queue stop down up owed lines is out inp few one d u more short = omega (arith, is, out, inp, few, one, d, u, more, short)

@@ -122,8 +122,8 @@ module _ (n : ℕ) (world : World) (sized : Sized n world) where
 
   moments-sized : (t : ℕ) → After (moments t world).0
   moments-sized t =
-      let r = hubs.moment world.hub t in
-      timed-sized (now r.1) world.seats (record world { hub = r.1 }, cond r.0 (codes "full" ∷ []) []) sized nothing-sized
+      let later = hubs.moment world.hub t in
+      timed-sized (now later) world.seats (record world { hub = later }, []) sized nothing-sized
 
   -- ---- a connection is cut
 

@@ -1,7 +1,7 @@
 -- The sets of the clients that ran a script are the history's records.
 --     mirrors-of-history      of a hub and clients that stand for those behind the last line
 --     replays-mirror      of what a replay hands back
-use Rattle.std.proofs.Common.{◌≡◌, List, [], ◌∷◌, Some, sym, ◌∙◌, ap, append-nil}
+use Rattle.std.proofs.Common.{List, [], ◌∷◌, Some, sym, ◌∙◌, ap, append-nil}
 use Rattle.std.specs.List.{AllByRecursion, AllZip}
 use Rattle.pushclient.specs.Rule.{KeptClient}
 use Rattle.scripts.specs.Lines.{ScriptLine}

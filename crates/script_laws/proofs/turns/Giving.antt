@@ -2,7 +2,7 @@
 --     Leaves g number s      the call hands on what a session has to say
 --     TurnsTo hub number session s      so does each call, of this session
 --     GivesLess g number session, gives-less      what is left to do
-use Rattle.std.proofs.Common.{◌≡◌, ℕ, ◌+◌, ◌-◌, ◌*◌, ◌<◌, ◌==◌, ◌≤◌, Bool, true, false, List, [], ◌∷◌, ◌++◌, length, take, drop, Option, Some, None, refl, sym, ◌∙◌, ap, subst, arith}
+use Rattle.std.proofs.Common.{◌≡◌, ℕ, ◌+◌, ◌-◌, ◌*◌, ◌<◌, ◌==◌, ◌≤◌, Bool, true, false, List, [], ◌∷◌, ◌++◌, length, take, drop, Option, Some, None, refl, sym, ◌∙◌, ap, subst, arith, le_trans}
 use Rattle.std.specs.Prelude.{find, option_map, min, if◌then◌else◌}
 use Rattle.std.proofs.lemmas.List.{length-take, length-drop}
 use Rattle.push_base.specs.Cases.{is_empty}
@@ -14,7 +14,7 @@ use Rattle.dsotlv.proofs.Results.{same_found}
 use Rattle.dsosession.specs.declared.session.EndReason.TheVariants as ends
 use Rattle.pushsession.specs.declared.session_status.SessionStatus.{SessionStatus}
 use Rattle.pushsession.specs.declared.session_status.SessionStatus.TheVariants.{Live, AskedToStop, Stopped, Ended}
-use Rattle.pushsession.specs.Sessions.{copied, stopped, says_stop, ended_with, without_first}
+use Rattle.pushsession.specs.Sessions.{copied, stopped, says_stop, ended_with, ended_where, without_first}
 use Rattle.pushsession.specs.Subscribing.{with_next_push, says_notices}
 use Rattle.pushserver.specs.declared.given.Given.{Given}
 use Rattle.pushserver.specs.declared.given.Given.TheVariants.{Worked, Nothing, Ending, End}
@@ -29,7 +29,7 @@ use Rattle.pushserver.proofs.hub_steps.Cases.{found_as, works_as, output_as, giv
 use Rattle.pushclient.specs.Clients.{Client, Connection}
 use Rattle.inflight.specs.Messages.{ClientMessage}
 use Rattle.inflight.specs.Flight.{IsUnderWay}
-use Rattle.flight_laws.specs.Meeting.{after}
+use Rattle.flight_laws.specs.Meeting.{after, behind_for, after_entry}
 use Rattle.flight_laws.proofs.EachGive.{first-met}
 use Rattle.flight_laws.proofs.GivesSo.{after-is, gives-so}
 use Rattle.script_laws.specs.Reached.{IsReached, ReachedOnesGoOn, ReachedOnesAreSound}
@@ -108,6 +108,17 @@ sound-session hub number session sound there = by (find (λ (e : ℕ × Session)
     by None is e = absurd cc
     by (Some f) is e =
         (f.0, subst (λ (s : Session). IsSoundSession hub (f.0, s)) (same_found f.1 session e) (found-each (IsSoundSession hub) (λ (e : ℕ × Session). e.0 == number) hub.sessions f sound.sessions is).0)
+
+-- ---- a session that may have fallen behind
+
+record HasNoMore (before after : Session) : Type 0 where
+  input : after.input ≡ before.input
+  queue : length after.queue ≤ length before.queue
+  stops : asked_stops after.standing ≤ asked_stops before.standing
+
+no-more-fallen : (hub : Hub) (point : Option ℕ) (s : Session) → HasNoMore s (ended_where (keeps_now hub) (option_map (λ p. ends.Behind p) point) s)
+no-more-fallen hub None s = record { input = refl; queue = omega arith; stops = omega arith }
+no-more-fallen hub (Some p) s = record { input = refl; queue = omega arith; stops = omega arith }
 
 -- ---- by cases
 
@@ -233,12 +244,14 @@ module _ (hub : Hub) (number : ℕ) (session : Session) (there : session_of hub 
             let one = first-met hub number told session client c up_wire down_wire found there live silent first i in
             let m : ClientMessage = one.up.first in
             let before : Session = without_first found.1 session in
-            let s : Session = after hub m before in
+            let s : Session = after_entry hub m before in
             let is = after-is hub m before in
+            let fell = no-more-fallen hub (behind_for m hub (after hub m before)) (after hub m before) in
             let cheap : length s.output ≤ frame_octets → work_of s < work_of session =
             λ fits. less-by-one (length s.output) (length session.output) (length s.input) (length session.input) (length s.queue) (length session.queue) (asked_stops s.standing) (asked_stops session.standing) fits
             (fewer (length s.input) (length session.input) (length s.queue) (length session.queue) (asked_stops s.standing) (asked_stops session.standing)
-            (subst (λ (os : List ℕ). length os < length session.input) (sym is.input) (rest-shorter session.input found.0 found.1 first)) (queue-after hub m before) (ap asked_stops is.standing)) in (
+            (subst (λ (os : List ℕ). length os < length session.input) (sym (fell.input ∙ is.input)) (rest-shorter session.input found.0 found.1 first))
+            (le_trans fell.queue (queue-after hub m before)) (subst (λ n. asked_stops s.standing ≤ n) (ap asked_stops is.standing) fell.stops)) in (
               s,
               record {
                 leaves = λ room.
@@ -259,8 +272,8 @@ module _ (hub : Hub) (number : ℕ) (session : Session) (there : session_of hub 
             sums : (room whole left front : ℕ) → left ≡ whole - room → front ≡ min room whole → left + front ≡ whole
             sums room whole left front is are = omega (arith, is, are)
 
-            fewer : (i j q r a b : ℕ) → i < j → q ≤ r → a ≡ b → i + q + a < j + r + b
-            fewer i j q r a b less short same = omega (arith, less, short, same)
+            fewer : (i j q r a b : ℕ) → i < j → q ≤ r → a ≤ b → i + q + a < j + r + b
+            fewer i j q r a b less short few = omega (arith, less, short, few)
 
   -- ---- each call
 

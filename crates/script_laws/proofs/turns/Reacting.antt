@@ -9,12 +9,12 @@ use Rattle.dsotlv.specs.declared.message.Notice.{Notice}
 use Rattle.dnsname.specs.Names.{Labels, same_name}
 use Rattle.pushsession.specs.Sessions.{answers}
 use Rattle.pushsession.specs.Subscribing.{with_accepted, subscribed, says_first_answer, first_answer_size}
-use Rattle.pushserver.specs.Hubs.{now, state_now, keeps_now, tells_now}
+use Rattle.pushserver.specs.Hubs.{newest, now, state_now, keeps_now, tells_now}
 use Rattle.pushserver.specs.Giving.{is_served_at}
 use Rattle.pushserver.specs.PlainHubs.{Session, Queue, Hub}
 use Rattle.inflight.specs.Messages.{ClientMessage, subscribes, unsubscribes, reconfirms, requests_keepalive}
 use Rattle.flight_laws.specs.Meeting.{heard, after}
-use Rattle.script_laws.proofs.turns.Shorter.{filter-short}
+use Rattle.script_laws.proofs.turns.Shorter.{filter-short, let_go-short}
 
 module _ (hub : Hub) where
   -- NOERROR, and what follows it
@@ -31,7 +31,8 @@ module _ (hub : Hub) where
       (filter-short (λ (e : Labels × ℕ). not (same_name question.name e.0)) session.queue)
 
   pub queue-after : (m : ClientMessage) (session : Session) → length (after hub m session).queue ≤ length session.queue
-  queue-after (unsubscribes id) session = omega arith
+  queue-after (unsubscribes id) session =
+      let_go-short (newest hub) ((keeps_now hub).question_of id session.subscriptions) ((keeps_now hub).without_id id session.subscriptions) session.queue
   queue-after (reconfirms rr) session = omega arith
   queue-after (requests_keepalive id) session = omega arith
   queue-after (subscribes id question) session = by (is_served_at (state_now hub) question)

@@ -1,9 +1,14 @@
 -- Lists that a filter makes shorter, and input without its first message.
 --     filter-short, filter-less      no longer; shorter where one that is found isn't kept
 --     rest-shorter      behind the first message
-use Rattle.std.proofs.Common.{◌≡◌, ℕ, ◌+◌, ◌-◌, ◌<◌, ◌≤◌, Bool, true, false, cond, List, [], ◌∷◌, length, drop, ltb, Option, Some, None, refl, ◌∙◌, ap, subst, arith, length-drop}
+use Rattle.std.proofs.Common.{◌≡◌, ℕ, ◌+◌, ◌-◌, ◌<◌, ◌≤◌, Bool, true, false, cond, not, List, [], ◌∷◌, length, drop, ltb, Option, Some, None, refl, ◌∙◌, ap, subst, arith, length-drop}
 use Rattle.std.specs.Prelude.{find, filter, slice_range}
 use Rattle.std.proofs.lemmas.Bool.Decides.{nat_tests}
+use Rattle.dnsname.specs.Names.{same_name}
+use Rattle.rrset.specs.declared.record.Question.{Question}
+use Rattle.pushsession.specs.Reactions.{let_go}
+use Rattle.pushserver.specs.PlainHubs.{Subscription, Queue, plain_keeps}
+use Rattle.pushserver.specs.SoundHubs.{is_watched}
 use Rattle.rrset.specs.Header.{two_octets}
 use Rattle.dsotlv.specs.Messages.{first_message}
 use Rattle.dsotlv.proofs.Results.{same_found}
@@ -31,6 +36,15 @@ filter-less {A} p q y (x ∷ xs) found gone = by (q x) found (filter-less p q y 
     by : (b : Bool) → cond b (Some x) (find q xs) ≡ Some y → (find q xs ≡ Some y → p y ≡ false → length (filter p xs) < length xs) → length (filter p (x ∷ xs)) < length (x ∷ xs)
     by true is others = dropped (p x) (ap p (same_found x y is) ∙ gone) (filter-short p xs)
     by false is others = kept (p x) (others is gone)
+
+-- where a question goes, no further name waits
+pub let_go-short : (n : ℕ) (o : Option Question) (left : List Subscription) (queue : Queue) → length (let_go (plain_keeps n) o left queue) ≤ length queue
+let_go-short n None left queue = omega arith
+let_go-short n (Some question) left queue = by (is_watched left question.name)
+  where
+    by : (b : Bool) → length (cond {A = Queue} b queue (filter (λ e. not (same_name question.name e.0)) queue)) ≤ length queue
+    by true = omega arith
+    by false = filter-short (λ e. not (same_name question.name e.0)) queue
 
 not-below : (a b : ℕ) → ltb a b ≡ false → b ≤ a
 not-below a b h = grind (arith, nat_tests)

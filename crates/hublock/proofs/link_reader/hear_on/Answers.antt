@@ -2,7 +2,7 @@ use Rattle.std.proofs.Common.{◌<◌, take, refl, arith}
 use Rattle.hublock.specs.Loops.{observed}
 use Rattle.hublock.specs.Gates.{GoesOn}
 use Rattle.hublock.proofs.Leading.{goes_on_by}
-use Rattle.hublock.proofs.Receipts.{done_at_once, turns_at_once, ended_by_link, failed_by_link, quiet_turn, turns_at_datagram, heard_on, full_at_hearing, starved_at_hearing}
+use Rattle.hublock.proofs.Receipts.{done_at_once, turns_at_once, ended_by_link, failed_by_link, quiet_turn, turns_at_datagram, heard_on, starved_at_hearing}
 use Rattle.hublock.proofs.link_reader.hear_on.Goals as goal
 
 pub returns-then-done-clause-run : goal.returns-then-done-clause-run
@@ -42,14 +42,8 @@ returns-in-Ok-clause-run g c =
     let on : GoesOn (g.G.Gate.state c.done.new.self) = goes_on_by (g.G.Gate.state c.args.gate.now) (g.G.Gate.state c.done.new.self) c.done.result c.done.ensures.same c.done.ensures.answer c.if-done.false in
     heard_on c.args.link (observed (g.G.Gate.state c.args.gate.now) (g.D.Datagrams.given c.args.datagrams.now) (g.D.Datagrams.calls c.args.datagrams.now)) (observed (g.G.Gate.state c.hear.new.self) (g.D.Datagrams.given c.recv.new.self) (g.D.Datagrams.calls c.recv.new.self)) (g.G.Gate.state c.done.new.self) (g.D.Datagrams.left c.recv.new.self) (take c.in-Ok-Bytes.count c.recv.new.buf) c.in-Ok.field-0 c.args.turns c.done.ensures.same (rw c.in-Ok-Bytes.field-0-is at c.in-Ok-Bytes.ensures.given) c.recv.ensures.counted some c.in-Ok.ensures.call on
 
-pub returns-in-Err-Full-clause-run : goal.returns-in-Err-Full-clause-run
-returns-in-Err-Full-clause-run g c =
-    let some : 1 < c.args.turns = omega (arith, c.if-turns-eq0.false, c.if-turns-eq1.false) in
-    let on : GoesOn (g.G.Gate.state c.done.new.self) = goes_on_by (g.G.Gate.state c.args.gate.now) (g.G.Gate.state c.done.new.self) c.done.result c.done.ensures.same c.done.ensures.answer c.if-done.false in
-    full_at_hearing c.args.link (observed (g.G.Gate.state c.args.gate.now) (g.D.Datagrams.given c.args.datagrams.now) (g.D.Datagrams.calls c.args.datagrams.now)) (observed (g.G.Gate.state c.hear.new.self) (g.D.Datagrams.given c.recv.new.self) (g.D.Datagrams.calls c.recv.new.self)) (g.G.Gate.state c.done.new.self) (g.D.Datagrams.left c.recv.new.self) (take c.in-Ok-Bytes.count c.recv.new.buf) c.args.turns c.done.ensures.same (rw c.in-Ok-Bytes.field-0-is at c.in-Ok-Bytes.ensures.given) c.recv.ensures.counted some (rw c.in-Err-Full.field-0-is at c.in-Err-Full.ensures.call) on
-
 pub returns-in-Err-NoMemory-clause-run : goal.returns-in-Err-NoMemory-clause-run
 returns-in-Err-NoMemory-clause-run g c =
     let some : 1 < c.args.turns = omega (arith, c.if-turns-eq0.false, c.if-turns-eq1.false) in
     let on : GoesOn (g.G.Gate.state c.done.new.self) = goes_on_by (g.G.Gate.state c.args.gate.now) (g.G.Gate.state c.done.new.self) c.done.result c.done.ensures.same c.done.ensures.answer c.if-done.false in
-    starved_at_hearing c.args.link (observed (g.G.Gate.state c.args.gate.now) (g.D.Datagrams.given c.args.datagrams.now) (g.D.Datagrams.calls c.args.datagrams.now)) (observed (g.G.Gate.state c.hear.new.self) (g.D.Datagrams.given c.recv.new.self) (g.D.Datagrams.calls c.recv.new.self)) (g.G.Gate.state c.done.new.self) (g.D.Datagrams.left c.recv.new.self) (take c.in-Ok-Bytes.count c.recv.new.buf) c.args.turns c.done.ensures.same (rw c.in-Ok-Bytes.field-0-is at c.in-Ok-Bytes.ensures.given) c.recv.ensures.counted some (rw c.in-Err-NoMemory.field-0-is at c.in-Err-NoMemory.ensures.call) on
+    starved_at_hearing c.args.link (observed (g.G.Gate.state c.args.gate.now) (g.D.Datagrams.given c.args.datagrams.now) (g.D.Datagrams.calls c.args.datagrams.now)) (observed (g.G.Gate.state c.hear.new.self) (g.D.Datagrams.given c.recv.new.self) (g.D.Datagrams.calls c.recv.new.self)) (g.G.Gate.state c.done.new.self) (g.D.Datagrams.left c.recv.new.self) (take c.in-Ok-Bytes.count c.recv.new.buf) c.args.turns c.in-Err-NoMemory.field-0 c.done.ensures.same (rw c.in-Ok-Bytes.field-0-is at c.in-Ok-Bytes.ensures.given) c.recv.ensures.counted some c.in-Err-NoMemory.ensures.call on

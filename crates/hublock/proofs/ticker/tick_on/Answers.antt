@@ -2,7 +2,7 @@ use Rattle.std.proofs.Common.{◌<◌, ◌≡◌, ℕ, refl, sym, subst, ◌∙�
 use Rattle.hublock.specs.Loops.{observed}
 use Rattle.hublock.specs.Gates.{GoesOn}
 use Rattle.hublock.proofs.Leading.{goes_on_by}
-use Rattle.hublock.proofs.Ticks.{done_at_once, turns_at_once, turns_at_tick, full_at_pass, starved_at_pass, passed_on}
+use Rattle.hublock.proofs.Ticks.{done_at_once, turns_at_once, turns_at_tick, starved_at_pass, passed_on}
 use Rattle.hublock.proofs.ticker.tick_on.Goals as goal
 
 pub returns-then-done : goal.returns-then-done
@@ -24,14 +24,8 @@ returns-in-Ok g c =
     let on : GoesOn (g.G.Gate.state c.done.new.self) = goes_on_by (g.G.Gate.state c.args.gate.now) (g.G.Gate.state c.done.new.self) c.done.result c.done.ensures.same c.done.ensures.answer c.if-done.false in
     passed_on (observed (g.G.Gate.state c.args.gate.now) (g.T.Clock.moments c.args.clock.now) (g.T.Clock.calls c.args.clock.now)) (observed (g.G.Gate.state c.moment.new.self) (g.T.Clock.moments c.tick.new.self) (g.T.Clock.calls c.tick.new.self)) (g.G.Gate.state c.done.new.self) c.tick.result c.min-moment.result c.args.turns c.done.ensures.same c.tick.ensures.moments c.tick.ensures.counted c.min-moment.ensures some c.in-Ok.ensures.call on
 
-pub returns-in-Err-Full : goal.returns-in-Err-Full
-returns-in-Err-Full g c =
-    let some : 1 < c.args.turns = omega (arith, c.if-turns-eq0.false, c.if-turns-eq1.false) in
-    let on : GoesOn (g.G.Gate.state c.done.new.self) = goes_on_by (g.G.Gate.state c.args.gate.now) (g.G.Gate.state c.done.new.self) c.done.result c.done.ensures.same c.done.ensures.answer c.if-done.false in
-    full_at_pass (observed (g.G.Gate.state c.args.gate.now) (g.T.Clock.moments c.args.clock.now) (g.T.Clock.calls c.args.clock.now)) (observed (g.G.Gate.state c.moment.new.self) (g.T.Clock.moments c.tick.new.self) (g.T.Clock.calls c.tick.new.self)) (g.G.Gate.state c.done.new.self) c.tick.result c.min-moment.result c.args.turns c.done.ensures.same c.tick.ensures.moments c.tick.ensures.counted c.min-moment.ensures some (rw c.in-Err-Full.field-0-is at c.in-Err-Full.ensures.call) on
-
 pub returns-in-Err-NoMemory : goal.returns-in-Err-NoMemory
 returns-in-Err-NoMemory g c =
     let some : 1 < c.args.turns = omega (arith, c.if-turns-eq0.false, c.if-turns-eq1.false) in
     let on : GoesOn (g.G.Gate.state c.done.new.self) = goes_on_by (g.G.Gate.state c.args.gate.now) (g.G.Gate.state c.done.new.self) c.done.result c.done.ensures.same c.done.ensures.answer c.if-done.false in
-    starved_at_pass (observed (g.G.Gate.state c.args.gate.now) (g.T.Clock.moments c.args.clock.now) (g.T.Clock.calls c.args.clock.now)) (observed (g.G.Gate.state c.moment.new.self) (g.T.Clock.moments c.tick.new.self) (g.T.Clock.calls c.tick.new.self)) (g.G.Gate.state c.done.new.self) c.tick.result c.min-moment.result c.args.turns c.done.ensures.same c.tick.ensures.moments c.tick.ensures.counted c.min-moment.ensures some (rw c.in-Err-NoMemory.field-0-is at c.in-Err-NoMemory.ensures.call) on
+    starved_at_pass (observed (g.G.Gate.state c.args.gate.now) (g.T.Clock.moments c.args.clock.now) (g.T.Clock.calls c.args.clock.now)) (observed (g.G.Gate.state c.moment.new.self) (g.T.Clock.moments c.tick.new.self) (g.T.Clock.calls c.tick.new.self)) (g.G.Gate.state c.done.new.self) c.tick.result c.min-moment.result c.args.turns c.in-Err-NoMemory.field-0 c.done.ensures.same c.tick.ensures.moments c.tick.ensures.counted c.min-moment.ensures some c.in-Err-NoMemory.ensures.call on

@@ -7,6 +7,7 @@ pub turns-init : goal.turns-init
 turns-init g c = record {
   run = wrote_begun c.args.session (observed (g.G.Gate.state c.args.gate.now) (g.K.Sink.taken c.args.sink.now) (g.K.Sink.calls c.args.sink.now)) c.args.turns;
   later = omega arith;
+  some = c.requires.some;
 }
 
 pub turns-preserved : goal.turns-preserved
@@ -17,6 +18,7 @@ turns-preserved g c = record {
       (observed (g.G.Gate.state c.write_on.new.gate) (g.K.Sink.taken c.write_on.new.sink) (g.K.Sink.calls c.write_on.new.sink))
       c.turns.left c.in-Ok.less c.args.turns c.turns.invariant.run c.in-Ok.ensures.run;
   later = omega (arith, c.turns.invariant.later, c.write_on.ensures.later);
+  some = grind arith;
 }
 
 pub returns-in-Err-clause-run : goal.returns-in-Err-clause-run

@@ -1,4 +1,4 @@
-use Rattle.std.proofs.Common.{◌≤◌}
+use Rattle.std.proofs.Common.{◌≤◌, ◌<◌, length}
 use Rattle.hublock.specs.Loops.{observed}
 use Rattle.hublock.proofs.Writes.{WroteSoFar}
 use Rattle.hublock.proofs.writer.write_all.Given as goal
@@ -7,6 +7,7 @@ abbrev pub invariant-turns : goal.invariant-turns
 invariant-turns g l = record {
   run : WroteSoFar l.session (observed (g.G.Gate.state l.fn.gate) (g.K.Sink.taken l.fn.sink) (g.K.Sink.calls l.fn.sink)) (observed (g.G.Gate.state l.gate) (g.K.Sink.taken l.sink) (g.K.Sink.calls l.sink)) l.left l.turns;
   later : g.K.Sink.faults l.fn.sink ≤ g.K.Sink.faults l.sink;
+  some : 0 < length l.buf;
 }
 
 abbrev pub decreases-turns : goal.decreases-turns

@@ -1,4 +1,5 @@
 use Rattle.pushserver.proofs.hub_steps.Calls.{updates_stand, hears_stand, moments_stand, connects_stand, takes_stand, stops_stand, ends_stand}
+use Rattle.pushserver.proofs.hub_steps.Forgetting.{forgetting_stands}
 use Rattle.pushserver.proofs.hub_steps.Giving.{gives_stand}
 use Rattle.pushserver.proofs.told_rows.HubTells.{hubs_tell}
 use Rattle.pushserver.proofs.laws.kept_hubs_stand.Goals as goal
@@ -29,3 +30,6 @@ returns-clause-gives c = gives_stand
 
 pub returns-clause-tells : goal.returns-clause-tells
 returns-clause-tells c = hubs_tell
+
+pub returns-clause-forgets : goal.returns-clause-forgets
+returns-clause-forgets c = forgetting_stands

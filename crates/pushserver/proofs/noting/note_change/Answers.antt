@@ -1,5 +1,5 @@
 -- Those that watch the name note it, as all would.
-use Rattle.std.proofs.Common.{ℕ, ◌≡◌, length, arith}
+use Rattle.std.proofs.Common.{◌≡◌, length, arith}
 use Rattle.subscr.specs.Watching.{watching_of}
 use Rattle.pushserver.proofs.NotedSessions.{ok-watching, none-watching, change-found, change-asked}
 use Rattle.pushserver.proofs.noting.note_change.Goals as goal

@@ -1,5 +1,5 @@
 -- One session after the other notes it.
-use Rattle.std.proofs.Common.{◌≡◌, ℕ, ◌∷◌, [], ◌+◌, ◌≤◌, sym, ap, ◌∙◌, arith}
+use Rattle.std.proofs.Common.{◌∷◌, [], sym, ap, ◌∙◌, arith}
 use Rattle.std.proofs.lemmas.List.{drop_all}
 use Rattle.pushsession.specs.Sessions.{noted}
 use Rattle.pushsession.specs.Kept.{keeping, taken_back}

@@ -1,4 +1,4 @@
-use Rattle.std.proofs.Common.{◌≡◌, ℕ, ◌≤◌, ◌+◌, ◌∷◌, [], drop, length}
+use Rattle.std.proofs.Common.{◌≡◌, ℕ, ◌≤◌, ◌+◌, ◌∷◌, [], drop}
 use Rattle.coalesce.specs.Waiting.{old_value}
 use Rattle.pushsession.specs.Sessions.{noted}
 use Rattle.pushsession.specs.Kept.{keeping, taken_back}

@@ -1,5 +1,6 @@
 -- One turn of a session, by its output and its standing.
 use Rattle.std.proofs.Common.{sym, ap, ◌∙◌}
+use Rattle.history.specs.Kept.{state_now as past_state}
 use Rattle.pushserver.specs.declared.given.Given.TheVariants.{Bytes}
 use Rattle.pushserver.proofs.SessionTurns.{moment-is, output-gave, ended-gave, stopped-gave, stop-gave, some_output, no_output}
 use Rattle.pushserver.proofs.turning.take_turn.Goals as goal
@@ -19,5 +20,5 @@ returns-in-Stopped-clause-ok g c = λ kept number seat.
 pub returns-in-AskedToStop-clause-ok : goal.returns-in-AskedToStop-clause-ok
 returns-in-AskedToStop-clause-ok g c = λ kept number seat.
     stop-gave number kept c.args.session.now seat.there seat.apart c.in-AskedToStop.rcode c.in-AskedToStop.delay c.now.result c.after_reaction.result c.args.buf.now c.after_reaction.new.buf c.carry_out_stop.new.self c.after_reaction.new.session
-    (no_output c.args.session.now c.has_output.result c.has_output.ensures c.if-has_output.false) (sym c.standing.ensures ∙ c.in-AskedToStop.is) (moment-is kept c.args.points.now.past c.now.result seat.past_is c.now.ensures) c.carry_out_stop.ensures.session
+    (no_output c.args.session.now c.has_output.result c.has_output.ensures c.if-has_output.false) (sym c.standing.ensures ∙ c.in-AskedToStop.is) (moment-is kept (past_state c.args.points.now.past) c.now.result seat.state_is c.now.ensures) c.carry_out_stop.ensures.session
     (record { given_is = c.after_reaction.ensures.given; octets = c.after_reaction.ensures.octets; session = c.after_reaction.ensures.session })

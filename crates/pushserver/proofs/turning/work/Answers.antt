@@ -1,6 +1,7 @@
 -- A session that goes on: it reacts to its first message, or packs a PUSH.
 use Rattle.std.proofs.Common.{Option, Some, sym, ap, ◌∙◌}
 use Rattle.rrset.specs.declared.record.Rr.{Rr}
+use Rattle.history.specs.Kept.{state_now as past_state}
 use Rattle.pushsession.specs.declared.request.Request.{Request}
 use Rattle.pushsession.specs.declared.request.Request.TheVariants as requests
 use Rattle.pushserver.specs.Giving.{given_after}
@@ -11,7 +12,7 @@ use Rattle.pushserver.proofs.turning.work.Goals.{in-Itself, in-Reconfirm-None, i
 pub returns-in_default-clause-ok : goal.returns-in_default-clause-ok
 returns-in_default-clause-ok g c = λ kept number seat.
     packed-gave number kept c.args.session.now seat.there seat.apart c.requires.live c.requires.silent c.args.index.now.rows c.now-now.result c.copy_output.result c.args.buf.now c.copy_output.new.buf c.pack.new.self c.copy_output.new.session
-    (sym c.in_ok-request.ensures.request ∙ c.in_default.is) seat.rows_is (moment-is kept c.args.points.now.past c.now-now.result seat.past_is c.now-now.ensures) c.pack.ensures
+    (sym c.in_ok-request.ensures.request ∙ c.in_default.is) seat.rows_is (moment-is kept (past_state c.args.points.now.past) c.now-now.result seat.state_is c.now-now.ensures) c.pack.ensures
     (record { given_is = c.copy_output.ensures.given; octets = c.copy_output.ensures.octets; session = c.copy_output.ensures.session })
 
 pub subscribe-requires-clause-told : goal.subscribe-requires-clause-told
@@ -20,7 +21,7 @@ subscribe-requires-clause-told g c = can_be_told c.in-Subscribe.question c.has_h
 pub returns-clause-ok : goal.returns-clause-ok
 returns-clause-ok g c = λ kept number seat.
     let on : HandsOn c.match-request.session (given_after c.match-request.session.standing) c.after_reaction.result c.args.buf.now c.after_reaction.new.buf c.after_reaction.new.session = record { given_is = c.after_reaction.ensures.given; octets = c.after_reaction.ensures.octets; session = c.after_reaction.ensures.session } in
-    let moment = moment-is kept c.args.points.now.past c.now-now.result seat.past_is c.now-now.ensures in
+    let moment = moment-is kept (past_state c.args.points.now.past) c.now-now.result seat.state_is c.now-now.ensures in
     elim c.match-request.branch [
       | in-Itself w ↦
           itself-gave number kept c.args.session.now seat.there seat.apart c.requires.live c.requires.silent c.args.timers c.now-now.result c.after_reaction.result c.args.buf.now c.after_reaction.new.buf c.match-request.session c.after_reaction.new.session
@@ -30,5 +31,5 @@ returns-clause-ok g c = λ kept number seat.
           (sym c.in_ok-request.ensures.request ∙ c.in-Some.is ∙ ap (λ (r : Request). Some r) (w.in-Reconfirm-None.is ∙ ap (λ (o : Option Rr). requests.Reconfirm o) w.in-Reconfirm-None.field-0-is)) moment (w.session-is ∙ w.reconfirm.ensures.session) on
       | in-Subscribe+in_ok-subscribe-in-Subscribe w ↦
           subscribe-gave number kept c.args.session.now seat.there seat.apart c.requires.live c.requires.silent w.in-Subscribe.question w.has_home-has_home.result c.args.index.now.rows c.now-now.result c.after_reaction.result c.args.buf.now c.after_reaction.new.buf c.match-request.session c.after_reaction.new.session
-          (sym c.in_ok-request.ensures.request ∙ c.in-Some.is ∙ ap (λ (r : Request). Some r) w.in-Subscribe.is) (w.has_home-has_home.ensures kept seat.past_is) seat.rows_is moment (w.session-is ∙ w.in_ok-subscribe-in-Subscribe.ensures.ok) on
+          (sym c.in_ok-request.ensures.request ∙ c.in-Some.is ∙ ap (λ (r : Request). Some r) w.in-Subscribe.is) (w.has_home-has_home.ensures kept seat.state_is) seat.rows_is moment (w.session-is ∙ w.in_ok-subscribe-in-Subscribe.ensures.ok) on
     ]

@@ -5,4 +5,4 @@ use Rattle.replay.proofs.client_lines.timed_lines.Given as goal
 
 -- the first clients have had their moment
 abbrev pub invariant-seats : goal.invariant-seats
-invariant-seats l = Timing l.now l.fn.hub (seated l.fn.seats) (string_bytes l.fn.text) l.hub (seated l.seats) (string_bytes l.text) l.place
+invariant-seats l = Timing l.now l.fn.hub (seated l.fn.seats) l.hub (seated l.seats) (string_bytes l.text) l.place

@@ -1,7 +1,7 @@
-use Rattle.std.proofs.Common.{◌++◌, ◌∷◌, [], Some, None, ap, sym}
+use Rattle.std.proofs.Common.{◌++◌, ◌∷◌, [], ap, sym}
 use Rattle.replay.specs.Text.{heard_words, hears, number_or_zero}
 use Rattle.replay.specs.KeptWorlds.{parties_of}
-use Rattle.replay.proofs.worlds.Doing.{is_err, if_acts}
+use Rattle.replay.proofs.worlds.Doing.{if_acts}
 use Rattle.replay.proofs.worlds.HearDoing.{hears-act}
 use Rattle.replay.proofs.hear_lines.hear_line.Goals as goal
 
@@ -9,15 +9,7 @@ pub returns-in-Ok : goal.returns-in-Ok
 returns-in-Ok c = λ w at.
     let world = c.args.world.now in
     let known = parties_of world in
-    let heard = Some c.in-Ok.heard in
+    let heard = c.in-Ok.heard in
     if_acts (hears w c.args.datagram.now) world.hub c.hear_uncounted.new.self known known (heard_words heard ++ 10 ∷ []) c.heard_text.result
     (λ written is. hears-act world.hub c.hear_uncounted.new.self known w c.args.link c.args.datagram.now written heard
     (ap number_or_zero (sym at)) c.in-Ok.ensures.ok is) c.heard_text.ensures
-
-pub returns-in-Err-Full : goal.returns-in-Err-Full
-returns-in-Err-Full c = λ w at.
-    let world = c.args.world.now in
-    let known = parties_of world in
-    if_acts (hears w c.args.datagram.now) world.hub c.hear_uncounted.new.self known known (heard_words None ++ 10 ∷ []) c.full_text.result
-    (λ written is. hears-act world.hub c.hear_uncounted.new.self known w c.args.link c.args.datagram.now written None
-    (ap number_or_zero (sym at)) (c.in-Err-Full.ensures.full (is_err _ _ c.in-Err-Full.field-0-is)) is) c.full_text.ensures

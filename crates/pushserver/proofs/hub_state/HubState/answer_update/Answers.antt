@@ -43,3 +43,6 @@ returns-in-Some-clause-watched g c =
 
 pub returns-in-None-clause-watched : goal.returns-in-None-clause-watched
 returns-in-None-clause-watched g c = subst (λ (xs : Numbered KeptSession). Watches (watching_of c.judge.new.self.watchers) xs) (sym c.get_mut.follows.holds-at-none) c.judge.ensures.watched
+
+pub judge-requires-clause-fits : goal.judge-requires-clause-fits
+judge-requires-clause-fits g c = c.requires.ready.fits

@@ -7,7 +7,8 @@ use Rattle.subscr.specs.Watching.{watching_of}
 use Rattle.pushserver.specs.Watched.{Watches}
 use Rattle.pushserver.proofs.Watched.{turn-watched}
 use Rattle.pushserver.specs.Giving.{give}
-use Rattle.pushserver.specs.HubState.{kept_of, Gave, IsSound, IsToJudge, IsToReconfirm}
+use Rattle.pushserver.specs.HubState.{kept_of, Gave, IsToJudge, IsToReconfirm}
+use Rattle.pushserver.proofs.SessionTurns.{gone-gave}
 use Rattle.pushserver.proofs.GiveSteps.{sound-later, on_some, on_each_err, seat-of, as_before, did-gave, to-judge, to-reconfirm, turn-wants, judge-wants, reconfirm-wants}
 use Rattle.pushserver.proofs.hub_state.HubState.give.Goals as goal
 
@@ -105,3 +106,6 @@ returns-in-Did-clause-watched g c =
 
 pub returns-in_default-clause-watched : goal.returns-in_default-clause-watched
 returns-in_default-clause-watched g c = subst (λ (xs : Numbered KeptSession). Watches (watching_of c.args.self.now.watchers) xs) (sym c.get_mut.follows.holds-at-none) c.requires.watched
+
+pub returns-in_default-clause-ok : goal.returns-in_default-clause-ok
+returns-in_default-clause-ok g c = gone-gave (kept_of c.args.self.now) c.args.number c.args.buf.now _ c.in_default.ensures.value c.get_mut.follows.holds-at-none

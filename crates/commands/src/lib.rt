@@ -1,0 +1,14 @@
+//! All that the program does, over any outside: its commands, the statuses that they end with, and what is logged of them.
+#![tactic(auto)]
+
+mod command_line;
+mod configured;
+mod line_causes;
+mod log_lines;
+mod program;
+mod script_command;
+mod serve_command;
+mod status;
+mod subscribe_command;
+
+pub use program::run;

@@ -1,5 +1,0 @@
-pub mod Running
-pub mod Promises
-pub mod Following
-pub mod Serving
-mod Sharing

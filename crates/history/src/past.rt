@@ -1,0 +1,280 @@
+//! A start state with its number, and the entries since.
+
+ghost use Rattle.std.specs.Prelude.{◌≡◌, ◌≤◌, ◌<◌, ◌+◌, ◌-◌, ◌&&◌, ℕ, [], true, nat_le, nat_lt, drop, length, sum_by, IfOk, OnOk, OnErr};
+ghost use Rattle.std.specs.List.{AllByRecursion};
+ghost use Rattle.push_base.specs.Limits.{max_moment, max_number};
+ghost use Rattle.history.specs.States.{State, entry_size, journal_has_room, max_journal_entries, max_journal_octets, state_at};
+ghost use Rattle.history.specs.AtHome.{AreAtHome};
+ghost use Rattle.history.specs.Forgetting.{CanLead, LeadsTo};
+ghost use Rattle.history.specs.HeldPlans.{IsStateOf, IsTimely};
+ghost use Rattle.history.specs.Kept.{Appends, at_moment, has_room, point_of, state_now, state_of};
+ghost use Rattle.history.specs.Totals.{totals};
+
+use crate::entry::{Entry, Totals};
+use crate::homes::Homes;
+use crate::journal_replay::replayed;
+use crate::planning::{HeldPlan, apply_held, plan_of};
+use rrset::NoMemory;
+use std::alloc::Global;
+use std::collections::VecDeque;
+use std::marker::Model;
+
+/// A start state with its number and its moment, the entries since and their octets, and how many entries of each group
+/// there ever were.
+#[derive(Debug, Drop)]
+pub(crate) struct Past {
+    start: Homes,
+    moment: u64,
+    number: u64,
+    entries: VecDeque<Entry>,
+    octets: u64,
+    counts: Totals,
+}
+
+/// The most entries of a journal.
+const MAX_ENTRIES: usize = 65_536;
+
+/// The most octets of a journal.
+const MAX_OCTETS: u64 = 67_108_864;
+
+/// The least number of entries with which the journal starts anew.
+const MANY_ENTRIES: usize = 1_024;
+
+impl Model for Past {
+    ghost use Rattle.history.specs.Kept.{Past, at_moment};
+    ghost use Rattle.history.specs.HeldPlans.{IsSoundPast};
+
+    ghost Value = { Past };
+
+    ghost view = { λ p. record { start = at_moment p.start p.moment; number = p.number; history = p.entries.items; counts = p.counts } };
+
+    ghost invariant = { λ p. IsSoundPast (record { start = at_moment p.start p.moment; number = p.number; history = p.entries.items; counts = p.counts }) p.octets };
+}
+
+/// Whether the journal starts anew where none of so many entries is asked to stay, and there are so many rows.
+fn starts_anew(entries: usize, rows: usize) -> bool {
+    entries >= MANY_ENTRIES && entries >= rows
+}
+
+/// Whether so many entries, of so many octets, and one more of a size are within the two numbers.
+fn has_room(entries: usize, octets: u64, size: u64) -> bool
+    requires { octets ≤ max_journal_octets }
+    ensures { result ≡ (nat_lt entries max_journal_entries && nat_le (octets + size) max_journal_octets) }
+{
+    entries < MAX_ENTRIES && size <= MAX_OCTETS - octets
+}
+
+/// How many of the oldest entries must go so that the others and one more of a size are within the two numbers.
+fn count_over(entries: &VecDeque<Entry>, octets: u64, size: u64) -> usize
+    requires sum { octets ≡ sum_by entry_size entries.now.items }
+    requires octets { octets ≤ max_journal_octets }
+    requires size { size ≤ max_journal_octets }
+    ensures within { result ≤ length entries.now.items }
+    ensures least { (n : ℕ) → journal_has_room (drop n entries.now.items) size ≡ nat_le result n }
+{
+    let mut left = octets;
+    'oldest: for index in 0..entries.len() {
+        if has_room(entries.len() - index, left, size) {
+            return index;
+        }
+        left -= entries[index].size();
+    }
+    entries.len()
+}
+
+/// Forgets so many of the oldest entries, and gives how many octets they had.
+fn forget(entries: &mut VecDeque<Entry>, count: usize) -> u64
+    requires { sum_by entry_size entries.old.items ≤ max_number }
+    ensures items { entries.new.items ≡ drop count entries.old.items }
+    ensures octets { result + sum_by entry_size entries.new.items ≡ sum_by entry_size entries.old.items }
+{
+    let mut octets = 0;
+    'oldest: for index in 0..count {
+        if let Some(entry) = entries.pop_front() {
+            octets += entry.size();
+        }
+    }
+    octets
+}
+
+/// What becomes of the start state where the oldest entries are forgotten.
+#[derive(Drop)]
+pub(crate) enum Later {
+    /// It stays.
+    Same,
+    /// What the plan of the oldest entry makes of it; where there is none, it stays.
+    Planned(Option<HeldPlan>),
+    /// These homes, at this moment.
+    Homes(Homes, u64),
+}
+
+/// What becomes of homes at a moment where so many of the entries that follow them are forgotten; behind all entries they
+/// are known. It takes all memory that this takes.
+fn start_later(
+    start: &mut Homes,
+    moment: u64,
+    entries: &VecDeque<Entry>,
+    count: usize,
+    homes: &Homes,
+    now: u64,
+) -> Result<Later, NoMemory>
+    requires home { AreAtHome (at_moment start.old moment) }
+    requires moment { moment ≤ max_moment }
+    requires timely { AllByRecursion IsTimely entries.now.items }
+    requires within { count ≤ length entries.now.items }
+    requires homes { at_moment homes.now now ≡ state_at (at_moment start.old moment) entries.now.items (length entries.now.items) }
+    ensures later { IfOk result (LeadsTo start.new moment (state_at (at_moment start.old moment) entries.now.items count)) }
+    ensures state { state_of start.new ≡ state_of start.old }
+{
+    if count == 0 {
+        return Ok(Later::Same);
+    }
+    if count == entries.len() {
+        return Ok(Later::Homes(homes.copy()?, now));
+    }
+    let alloc = homes.allocator();
+    if count == 1 {
+        let (_, held) = plan_of(alloc, start, moment, &entries[0])?;
+        return Ok(Later::Planned(held));
+    }
+    let (homes, now) = replayed(alloc, start, moment, entries, count)?;
+    Ok(Later::Homes(homes, now))
+}
+
+/// Makes homes what they become, and gives the moment afterwards. It takes no memory.
+fn become_later(start: &mut Homes, moment: u64, later: Later) -> u64
+    requires { CanLead start.old later }
+    ensures { (state : State) → LeadsTo start.old moment state later → at_moment start.new result ≡ state }
+{
+    match later {
+        Later::Same => moment,
+        Later::Planned(held) => apply_held(start, moment, held),
+        Later::Homes(homes, later) => {
+            *start = homes;
+            later
+        }
+    }
+}
+
+impl Past {
+    /// Homes as a start, with no entry.
+    pub(crate) fn new(homes: &Homes) -> Result<Past, NoMemory>
+        requires { AreAtHome (state_of homes.now) }
+        ensures { IfOk result (λ past. past ≡ record { start = state_of homes.now; number = 0; history = []; counts = totals [] }) }
+    {
+        Ok(Past {
+            start: homes.copy()?,
+            moment: 0,
+            number: 0,
+            entries: VecDeque::new(homes.allocator()),
+            octets: 0,
+            counts: Totals::none(),
+        })
+    }
+
+    /// How many entries there ever were.
+    pub(crate) fn point(&self) -> u64
+        ensures { result ≡ point_of self.now }
+    {
+        self.number + self.entries.len() as u64
+    }
+
+    /// How many entries of each group there ever were.
+    pub(crate) fn counts(&self) -> Totals
+        ensures { result ≡ self.now.counts }
+    {
+        self.counts
+    }
+
+    /// How many entries were forgotten.
+    pub(crate) fn number(&self) -> u64
+        ensures { result ≡ self.now.number }
+    {
+        self.number
+    }
+
+    /// The least point from which on the entries and one more of a size are within the two numbers.
+    pub(crate) fn floor(&self, size: u64) -> u64
+        requires { size ≤ max_journal_octets }
+        ensures from { self.now.number ≤ result }
+        ensures within { result ≤ point_of self.now }
+        ensures least { (from : ℕ) → self.now.number ≤ from → has_room self.now from size ≡ nat_le result from }
+    {
+        self.number + count_over(&self.entries, self.octets, size) as u64
+    }
+
+    /// Whether the entries from a point on and one more of a size are within the two numbers.
+    pub(crate) fn room(&self, from: u64, size: u64) -> bool
+        requires { self.now.number ≤ from }
+        ensures { result ≡ has_room self.now from size }
+    {
+        size <= MAX_OCTETS && self.floor(size) <= from
+    }
+
+    /// The homes at a point.
+    pub(crate) fn homes_at(&self, alloc: Global, point: u64) -> Result<Homes, NoMemory>
+        requires from { self.now.number ≤ point }
+        requires within { point ≤ point_of self.now }
+        ensures { IfOk result (λ homes. (t : ℕ) × IsStateOf homes t (state_at self.now.start self.now.history (point - self.now.number))) }
+    {
+        let count = (point - self.number) as usize;
+        let (homes, _) = replayed(alloc, &self.start, self.moment, &self.entries, count)?;
+        Ok(homes)
+    }
+
+    /// How many of the oldest entries go for one more of a size: those for which there is no room; but all that aren't
+    /// asked to stay where there are many and none is, or where more than one must go, as the start is then copied.
+    fn count_going(&self, size: u64, keep: u64, homes: &Homes) -> usize
+        requires size { size ≤ max_journal_octets }
+        requires since { self.now.number ≤ keep }
+        requires room { has_room self.now keep size ≡ true }
+        ensures within { self.now.number + result ≤ keep }
+        ensures fits { journal_has_room (drop result self.now.history) size ≡ true }
+    {
+        let over = count_over(&self.entries, self.octets, size);
+        let is_anew = keep == self.point() && starts_anew(self.entries.len(), homes.rows());
+        if is_anew || over > 1 {
+            return (keep - self.number) as usize;
+        }
+        over
+    }
+
+    /// Appends an entry to those that lead to homes at a moment. It may forget entries from before the point `keep`, but
+    /// none from there on. It takes all memory before it changes anything.
+    pub(crate) fn append(
+        &mut self,
+        entry: Entry,
+        keep: u64,
+        homes: &Homes,
+        moment: u64,
+    ) -> Result<(), NoMemory>
+        requires timely { IsTimely entry }
+        requires now { moment ≤ max_moment }
+        requires homes { at_moment homes.now moment ≡ state_now self.old }
+        requires last { point_of self.old < max_number }
+        requires since { self.old.number ≤ keep }
+        requires within { keep ≤ point_of self.old }
+        requires room { has_room self.old keep (entry_size entry) ≡ true }
+        ensures appended { OnOk result (Appends keep self.old entry self.new) }
+        ensures none { OnErr result (self.new ≡ self.old) }
+    {
+        let size = entry.size();
+        let count = self.count_going(size, keep, homes);
+        let counts = self.counts.and_one(&entry);
+        let later = start_later(
+            &mut self.start,
+            self.moment,
+            &self.entries,
+            count,
+            homes,
+            moment,
+        )?;
+        self.entries.push_back(entry)?;
+        self.moment = become_later(&mut self.start, self.moment, later);
+        let forgotten = forget(&mut self.entries, count);
+        self.octets = self.octets + size - forgotten;
+        self.number += count as u64;
+        self.counts = counts;
+        Ok(())
+    }
+}
