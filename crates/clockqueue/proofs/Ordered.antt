@@ -110,7 +110,7 @@ module _ {X : Type 0} (e : X → X → Bool) (p : X → Bool) where
 -- ---- a search, and one more
 
 module _ {X : Type 0} {R : X → X → Ordering} (o : IsTotalOrder R) where
-  rising : (xs : List X) → IsStrictlySortedBy R xs → (i j : ℕ) (d : X) → i < j → j < length xs → R (get_or xs i d) (get_or xs j d) ≡ Less
+  pub rising : (xs : List X) → IsStrictlySortedBy R xs → (i j : ℕ) (d : X) → i < j → j < length xs → R (get_or xs i d) (get_or xs j d) ≡ Less
   unfolding IsStrictlySortedBy
   rising [] h i j d before within = absurd (omega arith)
   rising (x ∷ xs) h i zero d before within = absurd (omega arith)

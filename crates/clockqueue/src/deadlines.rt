@@ -1,37 +1,33 @@
 //! A finite map from keys to moments, kept in the order in which the keys fall due.
 
 ghost use Rattle.std.specs.Prelude.{◌≡◌, ◌≤◌, ◌<◌, ◌+◌, ◌⊎◌, [], length, Some, None, MatchOption, IsOk, IsTrue, OnOk, OnErr, is_some, option_map, slice_get, slice_index_or, find, position, drop, if◌then◌else◌};
-ghost use Rattle.std.specs.List.{remove};
 ghost use Rattle.std.specs.Result.{IfOk, IfErr};
-ghost use Rattle.std.specs.VecDeque.{deque_len, deque_capacity};
 ghost use Rattle.clockqueue.specs.Deadlines.{AreDeadlines, due_cmp, is_of, is_set_to, moment_of, without, with_deadline, due, first_moment};
 ghost use Rattle.clockqueue.specs.Places.{IsAt, IsGapFor};
 
 use crate::NoMemory;
+use crate::tier::Tier;
 use std::alloc::Global;
 use std::cmp::Ordering;
-use std::collections::VecDeque;
 use std::marker::Model;
 
 /// Moments in milliseconds, one for each key: a finite map from keys to moments, listed by moment and then by key. It
 /// has room for a number of further keys.
 ///
-/// It is kept as a queue with two ends, in the order in which the keys fall due. `add` and `take_at`, which know the
-/// moment, find its place by halving; `set` and `drop_key` look at each key. Where a deadline comes or goes, those before
-/// its place or those behind it move, whichever are fewer: a key that goes from first to last moves no other.
+/// It is kept as a list in blocks, in the order in which the keys fall due. `add` and `take_at`, which know the moment,
+/// find its place by halving; `set` and `drop_key` look at each key. Where a deadline comes or goes, a part of its block
+/// moves, and one deadline of each block behind it.
 #[derive(Debug, Drop)]
 pub struct Deadlines<K: Ord> {
-    entries: VecDeque<(u64, K)>,
+    entries: Tier<(u64, K)>,
 }
 
 impl<K: Ord> Model for Deadlines<K> {
-    ghost use Rattle.std.specs.Prelude.{◌-◌};
-    ghost use Rattle.std.specs.VecDeque.{deque_len, deque_capacity};
     ghost use Rattle.clockqueue.specs.Deadlines.{DeadlinesState, AreDeadlines};
 
     ghost Value = { DeadlinesState K };
 
-    ghost view = { λ d. record { deadlines = d.entries.items; spare = deque_capacity d.entries - deque_len d.entries } };
+    ghost view = { λ d. record { deadlines = d.entries.items; spare = d.entries.spare } };
 
     ghost invariant = { λ d. AreDeadlines K.cmp d.entries.items };
 }
@@ -47,20 +43,30 @@ fn compare<K: Ord>(deadline: &(u64, K), moment: u64, key: &K) -> Ordering
 }
 
 /// Where a deadline is, or where it would go.
-fn search<K: Ord>(entries: &VecDeque<(u64, K)>, moment: u64, key: &K) -> Result<usize, usize>
+fn search<K: Ord + Drop>(entries: &Tier<(u64, K)>, moment: u64, key: &K) -> Result<usize, usize>
     requires { AreDeadlines K.cmp entries.now.items }
     ensures found { IfOk result (IsAt K.cmp moment key.now entries.now.items) }
     ensures absent { IfErr result (IsGapFor K.cmp moment key.now entries.now.items) }
 {
-    entries.binary_search_by(|deadline| compare(deadline, moment, key))
+    let mut low = 0;
+    let mut high = entries.len();
+    'halves: while low < high {
+        let middle = low + (high - low) / 2;
+        match compare(entries.at(middle), moment, key) {
+            Ordering::Less => low = middle + 1,
+            Ordering::Greater => high = middle,
+            Ordering::Equal => return Ok(middle),
+        }
+    }
+    Err(low)
 }
 
 /// Where a key's deadline is.
-fn position<K: Ord>(entries: &VecDeque<(u64, K)>, key: &K) -> Option<usize>
+fn position<K: Ord + Drop>(entries: &Tier<(u64, K)>, key: &K) -> Option<usize>
     ensures { result ≡ position (is_of K.cmp key.now) entries.now.items }
 {
     'places: for index in 0..entries.len() {
-        if entries[index].1.cmp(key).is_eq() {
+        if entries.at(index).1.cmp(key).is_eq() {
             return Some(index);
         }
     }
@@ -68,24 +74,13 @@ fn position<K: Ord>(entries: &VecDeque<(u64, K)>, key: &K) -> Option<usize>
 }
 
 /// The deadline with a number, counted from 0.
-fn nth<K>(entries: &VecDeque<(u64, K)>, number: usize) -> Option<&(u64, K)>
+fn nth<K: Drop>(entries: &Tier<(u64, K)>, number: usize) -> Option<&(u64, K)>
     ensures { MatchOption result (slice_get entries.now.items number ≡ None) (λ d. slice_get entries.now.items number ≡ Some d.now) }
 {
-    entries.get(number)
-}
-
-/// Takes out the deadline at an index.
-fn remove_at<K: Drop>(entries: &mut VecDeque<(u64, K)>, index: usize) -> (u64, K)
-    requires { index < length entries.old.items }
-    ensures value { result ≡ slice_index_or entries.old.items index result }
-    ensures items { entries.new.items ≡ remove entries.old.items index }
-    ensures len { deque_len entries.new + 1 ≡ deque_len entries.old }
-    ensures capacity { deque_capacity entries.new ≡ deque_capacity entries.old }
-{
-    match entries.remove(index) {
-        Some(deadline) => deadline,
-        None => unreachable!(),
+    if number >= entries.len() {
+        return None;
     }
+    Some(entries.at(number))
 }
 
 impl<K: Ord + Drop> Deadlines<K> {
@@ -94,7 +89,7 @@ impl<K: Ord + Drop> Deadlines<K> {
         ensures { result.deadlines ≡ [] }
     {
         Deadlines {
-            entries: VecDeque::new(alloc),
+            entries: Tier::new(alloc),
         }
     }
 
@@ -104,7 +99,7 @@ impl<K: Ord + Drop> Deadlines<K> {
         ensures { result.deadlines ≡ entries.items }
     {
         Deadlines {
-            entries: VecDeque::from_vec(entries),
+            entries: Tier::from_vec(entries),
         }
     }
 
@@ -121,7 +116,7 @@ impl<K: Ord + Drop> Deadlines<K> {
         requires { number < length self.now.deadlines }
         ensures { result.now ≡ slice_index_or self.now.deadlines number result.now }
     {
-        &self.entries[number]
+        self.entries.at(number)
     }
 
     /// Makes room for so many further keys. Where memory runs out the deadlines and the room stay.
@@ -156,7 +151,10 @@ impl<K: Ord + Drop> Deadlines<K> {
         ensures room { self.old.spare ≤ self.new.spare + 1 }
     {
         match search(&self.entries, moment, &key) {
-            Err(index) => Ok(self.entries.insert(index, (moment, key))?),
+            Err(index) => {
+                self.entries.insert(index, (moment, key))?;
+                Ok(())
+            }
             Ok(_) => unreachable!(),
         }
     }
@@ -170,7 +168,7 @@ impl<K: Ord + Drop> Deadlines<K> {
     {
         match position(&self.entries, key) {
             Some(index) => {
-                remove_at(&mut self.entries, index);
+                self.entries.remove(index);
                 true
             }
             None => false,
@@ -186,7 +184,7 @@ impl<K: Ord + Drop> Deadlines<K> {
     {
         match search(&self.entries, moment, key) {
             Ok(index) => {
-                let (_, key) = remove_at(&mut self.entries, index);
+                let (_, key) = self.entries.remove(index);
                 Some(key)
             }
             Err(_) => None,
@@ -205,7 +203,7 @@ impl<K: Ord + Drop> Deadlines<K> {
         if first.0 > moment {
             return None;
         }
-        let (_, key) = remove_at(&mut self.entries, 0);
+        let (_, key) = self.entries.remove(0);
         Some(key)
     }
 

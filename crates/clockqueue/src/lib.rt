@@ -1,8 +1,11 @@
 //! Deadlines: the moments at which keys fall due.
 #![tactic(auto)]
 
+mod block;
+mod blocks;
 mod deadlines;
 pub mod laws;
+mod tier;
 
 ghost use Rattle.std.specs.Prelude.{◌≡◌, ℕ, [], ◌∷◌, Some};
 ghost use Rattle.std.specs.Ordering.{nat_cmp};

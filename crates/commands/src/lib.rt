@@ -12,3 +12,4 @@ mod status;
 mod subscribe_command;
 
 pub use program::run;
+pub use status::Status;

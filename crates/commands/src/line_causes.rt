@@ -1,7 +1,7 @@
 //! Why a line of a configuration can't stand where it does, in words for whoever wrote it.
 
 use log::{Log, error};
-use scripts::{number_of_word, number_up_to, split_word, three_words, two_words};
+use scripts::{number_from, number_of_word, number_up_to, split_word, three_words, two_words};
 
 /// The lines of a configuration that begin with one word.
 pub(crate) struct Form {
@@ -30,7 +30,7 @@ pub(crate) const SERVE: &[Form] = &[
     },
     Form {
         word: b"link",
-        written: "not `link WORD NAME`, whose word has up to 32 lower-case letters and digits",
+        written: "not `link WORD NAME` or `link WORD NAME CAP`, whose word has up to 32 lower-case letters and digits, and its cap is from 1 to 2147483647",
         missing: None,
         is_single: false,
     },
@@ -167,7 +167,7 @@ impl Text<'_> {
     }
 
     fn cause_in_link(&self, rest: &[u8]) -> Option<&'static str> {
-        let (word, name) = two_words(rest)?;
+        let (word, name) = word_and_name(rest)?;
         if self.has_before(b"link", word) {
             return Some("a link before it has this word");
         }
@@ -252,6 +252,17 @@ fn ends_with_dot(name: &[u8]) -> bool {
 fn is_plain(word: &[u8]) -> bool {
     word.len() <= 32
         && word.iter().all(|octet| octet.is_ascii_lowercase() || octet.is_ascii_digit())
+}
+
+// The word and the name of a link, whether or not it has a cap.
+fn word_and_name(rest: &[u8]) -> Option<(&[u8], &[u8])> {
+    match three_words(rest) {
+        Some((word, name, cap)) => {
+            number_from(1, 2_147_483_647, cap)?;
+            Some((word, name))
+        }
+        None => two_words(rest),
+    }
 }
 
 fn cause_in_zone(rest: &[u8]) -> Option<&'static str> {

@@ -2,6 +2,8 @@
 #![tactic(auto)]
 
 #[cfg(test)]
-mod runs;
+mod faults;
 #[cfg(test)]
-mod serves;
+mod objects;
+#[cfg(test)]
+mod runs;

@@ -1,14 +1,11 @@
 //! Runs of the program in memory.
 
-ghost use Rattle.std.specs.Prelude.{◌<◌, length, All, IfOk};
-ghost use Rattle.push_base.specs.Items.{HasOctets};
-ghost use Rattle.push_outside.specs.MemOutside.{IsNewPair, IsNewSource};
-
+use crate::objects::{Call, Fault, outside, printed, source};
 use commands::run;
 use hublock::NoRegister;
 use log::Log;
-use push_base::{MemItem, MemLine, MemSink, MemSource, Octets};
-use push_outside::{MemObjects, MemOutside};
+use push_base::{MemSink, MemSource};
+use push_outside::MemOutside;
 use std::alloc::{AllocError, Global};
 use std::sync::Wait;
 use std::test::Fail;
@@ -27,140 +24,76 @@ const SETTLED: &[&[u8]] = &[
     b"settle c\nshow c printer.example.com. 1 1\n",
 ];
 
-// Scripts that are checked and run, a read that fails, a sink that takes nothing, and the sums over the one script of 1.
-const CASES: &[Case] = &[
-    Case {
+// Scripts that are checked and run, a script at a path, a configuration without a question, and the sums over the one script of 1.
+const RUNS: &[Run] = &[
+    Run {
         words: &["check", "-"],
         pieces: &[],
-        fails: &[],
-        limits: &[],
+        says: &[],
         status: 0,
         text: b"good 0\n",
     },
-    Case {
+    Run {
         words: &["check", "-"],
         pieces: &[b"client c\n#\n", b"\nopen c"],
-        fails: &[],
-        limits: &[],
+        says: &[],
         status: 0,
         text: b"good 4\n",
     },
-    Case {
+    Run {
         words: &["check", "-"],
         pieces: &[b"client c\nopen c\n", b"ask c example.com. 6"],
-        fails: &[],
-        limits: &[],
+        says: &[],
         status: 2,
         text: b"line 3\n",
     },
-    Case {
+    Run {
         words: &["replay", "-"],
         pieces: SETTLED,
-        fails: &[],
-        limits: &[],
+        says: &[],
         status: 0,
         text: TOLD,
     },
-    Case {
+    Run {
+        words: &["replay", "a/path"],
+        pieces: &[b"#\n", b"x"],
+        says: &[],
+        status: 2,
+        text: b"line 2\n",
+    },
+    Run {
+        words: &["subscribe", "a/path"],
+        pieces: &[b"server here\n"],
+        says: &[],
+        status: 2,
+        text: b"line 2\n",
+    },
+    Run {
         words: &["big", "1"],
         pieces: &[],
-        fails: &[],
-        limits: &[],
+        says: &[],
         status: 0,
         text: b"big 1 points 2 held 2 lines 14\n",
     },
-    Case {
-        words: &["replay", "-"],
-        pieces: &[b"zone example.com. ", b"1 open\n"],
-        fails: &[2],
-        limits: &[],
-        status: 3,
-        text: b"read fault\n",
-    },
-    Case {
-        words: &["replay", "-"],
-        pieces: &[b"x"],
-        fails: &[],
-        limits: &[3, 0],
-        status: 5,
-        text: b"lin",
-    },
 ];
 
-// A path where there is a script, and then one where there is none.
-const PATHS: &[Case] = &[
-    Case {
-        words: &["replay", "a/path"],
-        pieces: &[],
-        fails: &[],
-        limits: &[],
-        status: 2,
-        text: b"line 2\n",
-    },
-    Case {
-        words: &["replay", "a/path"],
-        pieces: &[],
-        fails: &[],
-        limits: &[],
-        status: 3,
-        text: b"read fault\n",
-    },
-];
+/// A subscriber, and the answer NOERROR (RFC 8765, 6.2.2).
+pub(crate) const SUBSCRIBED: Run = Run {
+    words: &["subscribe", "a/path"],
+    pieces: &[b"server here\n", b"question example.com. 6 1\n"],
+    says: b"\x00\x0c\x00\x01\xb0\x00\x00\x00\x00\x00\x00\x00\x00\x00",
+    status: 0,
+    text: b"answer 1 0\nclosed eof\n",
+};
 
-// A configuration whose server answers and then closes, one without a question, one whose server isn't there, and a path where there is none.
-const SUBSCRIBED: &[Case] = &[
-    Case {
-        words: &["subscribe", "a/path"],
-        pieces: &[],
-        fails: &[],
-        limits: &[],
-        status: 0,
-        text: b"answer 1 0\nclosed eof\n",
-    },
-    Case {
-        words: &["subscribe", "a/path"],
-        pieces: &[],
-        fails: &[],
-        limits: &[],
-        status: 2,
-        text: b"line 2\n",
-    },
-    Case {
-        words: &["subscribe", "a/path"],
-        pieces: &[],
-        fails: &[],
-        limits: &[],
-        status: 6,
-        text: b"outside fault\n",
-    },
-    Case {
-        words: &["subscribe", "a/path"],
-        pieces: &[],
-        fails: &[],
-        limits: &[],
-        status: 3,
-        text: b"read fault\n",
-    },
-];
-
-const ASKING: &[u8] = b"server here\nquestion example.com. 6 1\n";
-
-const LACKING: &[u8] = b"server here\n";
-
-// The answer NOERROR (RFC 8765, 6.2.2).
-const ANSWER: &[u8] = b"\x00\x0c\x00\x01\xb0\x00\x00\x00\x00\x00\x00\x00\x00\x00";
-
-// The pieces that aren't empty, as items of a source.
-fn items(alloc: Global, pieces: &[&[u8]]) -> Result<Vec<Octets>, AllocError>
-    ensures { IfOk result (λ items. All (λ item. 0 < length item) items.items) }
-{
-    let mut items = Vec::new(alloc);
-    'pieces: for piece in pieces {
-        if piece.len() > 0 {
-            items.push(Octets::from_slice(alloc, piece)?)?;
-        }
-    }
-    Ok(items)
+/// A run: its words, the pieces of its script or configuration, what its peers say, and its status and text where nothing
+/// fails.
+pub(crate) struct Run {
+    pub(crate) words: &'static [&'static str],
+    pub(crate) pieces: &'static [&'static [u8]],
+    pub(crate) says: &'static [u8],
+    pub(crate) status: u8,
+    pub(crate) text: &'static [u8],
 }
 
 fn words_of(alloc: Global, texts: &[&str]) -> Result<Vec<String>, AllocError> {
@@ -171,165 +104,143 @@ fn words_of(alloc: Global, texts: &[&str]) -> Result<Vec<String>, AllocError> {
     Ok(words)
 }
 
-// A run: its words, the pieces in which its input comes, the reads of it that fail, and how much each write takes.
-pub(crate) struct Case {
-    pub(crate) words: &'static [&'static str],
-    pub(crate) pieces: &'static [&'static [u8]],
-    pub(crate) fails: &'static [u64],
-    pub(crate) limits: &'static [usize],
+// The status of a run with these words.
+fn status_of<R: Log + Threads + Wait + Copy + Send + 'static>(
+    rt: R,
+    alloc: Global,
+    words: &[&str],
+    input: &mut MemSource,
+    out: &mut MemSink,
+    outside: &mut MemOutside,
+) -> Result<u8, AllocError> {
+    let words = words_of(alloc, words)?;
+    let register = &mut NoRegister;
+    Ok(run(rt, alloc, &words, input, out, outside, register))
+}
+
+/// How a run is to end.
+#[derive(Drop)]
+pub(crate) struct Wanted {
+    /// Whether a call fails, and that is counted.
+    pub(crate) is_met: bool,
     pub(crate) status: u8,
-    pub(crate) text: &'static [u8],
+    /// What is written behind a front of the run's text, or nothing where the text is whole.
+    pub(crate) last: Option<&'static [u8]>,
 }
 
-fn input_of(alloc: Global, case: &Case) -> Result<MemSource, AllocError> {
-    let fails = case.fails.to_vec(alloc)?;
-    Ok(MemSource::new(items(alloc, case.pieces)?, fails))
+/// How a run is to end where nothing that fails is counted.
+pub(crate) fn whole(run: &Run) -> Wanted {
+    Wanted {
+        is_met: false,
+        status: run.status,
+        last: None,
+    }
 }
 
-fn output_of(alloc: Global, case: &Case) -> Result<MemSink, AllocError> {
-    let limits = case.limits.to_vec(alloc)?;
-    MemSink::new(alloc, limits, Vec::new(alloc), 1024)
+// Whether an object that had failed was met.
+fn is_met(input: &MemSource, out: &MemSink, outside: &MemOutside) -> bool {
+    let counts = [
+        input.faults(),
+        out.faults(),
+        outside.reads(),
+        outside.writes(),
+        outside.others(),
+    ];
+    counts.iter().any(|count| *count > 0)
 }
 
-// Whether a run answered this status and wrote this text.
-fn shows(case: &Case, status: u8, wrote: &[u8]) -> Result<(), Fail> {
-    if status == case.status && wrote == case.text {
+// Whether the text was written, or a front of it and then the last one.
+fn is_written(text: &[u8], last: Option<&'static [u8]>, wrote: &[u8]) -> bool {
+    let Some(last) = last else {
+        return wrote == text;
+    };
+    match wrote.strip_suffix(last) {
+        Some(front) => text.starts_with(front),
+        None => false,
+    }
+}
+
+// Whether a run ended as is wanted.
+fn shows(
+    run: &Run,
+    time: u64,
+    wanted: &Wanted,
+    is_met: bool,
+    status: u8,
+    wrote: &[u8],
+) -> Result<(), Fail> {
+    let is_written = is_written(run.text, wanted.last, wrote);
+    if is_met == wanted.is_met && status == wanted.status && is_written {
         return Ok(());
     }
-    Err(Fail::new(format_args!("status {status}, {} octets", wrote.len())))
+    Err(Fail::new(format_args!(
+        "fault at {time}: {is_met}, status {status}, {} octets",
+        wrote.len()
+    )))
 }
 
-// Whether a run over this outside is so.
-pub(crate) fn runs_so<R: Log + Threads + Wait + Copy + Send + 'static>(
+// Nothing fails.
+const NONE: Fault<'_> = Fault {
+    call: &Call::Open,
+    time: 0,
+};
+
+// Whether a run over this outside ends as is wanted.
+fn runs_so<R: Log + Threads + Wait + Copy + Send + 'static>(
     rt: R,
     alloc: Global,
-    case: &Case,
+    run: &Run,
+    fault: &Fault<'_>,
+    wanted: &Wanted,
     outside: &mut MemOutside,
 ) -> Result<(), Fail> {
-    let words = words_of(alloc, case.words)?;
-    let mut input = input_of(alloc, case)?;
-    let mut out = output_of(alloc, case)?;
-    let register = &mut NoRegister;
-    let status = run(rt, alloc, &words, &mut input, &mut out, outside, register);
-    shows(case, status, out.taken())
+    let mut input = source(alloc, run, fault)?;
+    let mut out = printed(alloc, fault)?;
+    let status = status_of(rt, alloc, run.words, &mut input, &mut out, outside)?;
+    let is_met = is_met(&input, &out, outside);
+    shows(run, fault.time, wanted, is_met, status, out.taken())
 }
 
-// Whether a run that reaches nothing else is so.
-fn is_so<R: Log + Threads + Wait + Copy + Send + 'static>(
+/// Whether a run of which this fails ends as is wanted.
+pub(crate) fn is_so<R: Log + Threads + Wait + Copy + Send + 'static>(
     rt: R,
     alloc: Global,
-    case: &Case,
+    run: &Run,
+    fault: &Fault<'_>,
+    wanted: &Wanted,
 ) -> Result<(), Fail> {
-    let mut outside = MemOutside::new(alloc, MemObjects::none(alloc));
-    runs_so(rt, alloc, case, &mut outside)
+    let mut outside = outside(alloc, run, fault)?;
+    runs_so(rt, alloc, run, fault, wanted, &mut outside)
 }
 
 #[test]
 fn runs_in_memory(rt: HostRuntime) -> Result<(), Fail> {
-    'cases: for case in CASES {
-        is_so(rt, rt.alloc(), case)?;
+    'runs: for run in RUNS {
+        is_so(rt, rt.alloc(), run, &NONE, &whole(run))?;
     }
     Ok(())
 }
 
-// An outside with one file.
-fn with_a_file(alloc: Global) -> Result<MemOutside, AllocError> {
-    let file = MemSource::new(items(alloc, &[b"#\n", b"x"])?, Vec::new(alloc));
-    let mut objects = MemObjects::none(alloc);
-    objects.files = vec![in alloc; file]?;
-    Ok(MemOutside::new(alloc, objects))
-}
-
-// What an outside tells of two paths, of which one was there.
-fn tells_two_paths(outside: &MemOutside) -> Result<(), Fail> {
-    if outside.reads() == 1 && outside.opened().len() == 2 && outside.used().len() == 1 {
+// Whether an outside tells that each kind of what a subscriber uses was used once.
+fn tells_a_subscriber(outside: &MemOutside) -> Result<(), Fail> {
+    let counts = [
+        outside.opened().len(),
+        outside.used().len(),
+        outside.dialled().len(),
+        outside.used_lines().len(),
+        outside.used_wires().len(),
+        outside.used_clocks().len(),
+    ];
+    if counts.iter().all(|count| *count == 1) {
         return Ok(());
     }
-    Err(Fail::new(format_args!("{} reads", outside.reads())))
+    Err(Fail::new(format_args!("not each once")))
 }
 
-fn reads_paths<R: Log + Threads + Wait + Copy + Send + 'static>(
-    rt: R,
-    alloc: Global,
-    outside: &mut MemOutside,
-) -> Result<(), Fail> {
-    'paths: for case in PATHS {
-        runs_so(rt, alloc, case, outside)?;
-    }
-    tells_two_paths(outside)
-}
-
-// The script at a path, and a path where there is none.
 #[test]
-fn a_script_at_a_path(rt: HostRuntime) -> Result<(), Fail> {
-    let mut outside = with_a_file(rt.alloc())?;
-    reads_paths(rt, rt.alloc(), &mut outside)
-}
-
-pub(crate) fn file(alloc: Global, octets: &[u8]) -> Result<MemSource, AllocError>
-    ensures { IfOk result (λ source. IsNewSource source) }
-{
-    Ok(MemSource::new(items(alloc, &[octets])?, Vec::new(alloc)))
-}
-
-fn files(alloc: Global) -> Result<Vec<MemSource>, AllocError>
-    ensures { IfOk result (λ files. All IsNewSource files.items) }
-{
-    let whole = file(alloc, ASKING)?;
-    let outside = file(alloc, LACKING)?;
-    let alone = file(alloc, ASKING)?;
-    Ok(vec![in alloc; whole, outside, alone]?)
-}
-
-fn answers(alloc: Global) -> Result<Vec<MemItem>, AllocError>
-    ensures { IfOk result (λ items. All HasOctets items.items) }
-{
-    let answer = MemItem::Bytes(Octets::from_slice(alloc, ANSWER)?);
-    Ok(vec![in alloc; answer]?)
-}
-
-fn connections(alloc: Global) -> Result<Vec<(MemLine, MemSink)>, AllocError>
-    ensures { IfOk result (λ connections. All IsNewPair connections.items) }
-{
-    let line = MemLine::new(answers(alloc)?, Vec::new(alloc));
-    let wire = MemSink::new(alloc, Vec::new(alloc), Vec::new(alloc), 1024)?;
-    Ok(vec![in alloc; (line, wire)]?)
-}
-
-// An outside with three files and one connection.
-fn with_a_server(alloc: Global) -> Result<MemOutside, AllocError> {
-    let mut objects = MemObjects::none(alloc);
-    objects.files = files(alloc)?;
-    objects.connections = connections(alloc)?;
-    Ok(MemOutside::new(alloc, objects))
-}
-
-// What an outside tells of four subscribers, of which one was connected.
-fn tells_one_connection(outside: &MemOutside) -> Result<(), Fail> {
-    let dialled = outside.dialled().len();
-    let lines = outside.used_lines().len();
-    let wires = outside.used_wires().len();
-    let clocks = outside.used_clocks().len();
-    if dialled == 2 && lines == 1 && wires == 1 && clocks == 1 {
-        return Ok(());
-    }
-    Err(Fail::new(format_args!("{dialled} {lines} {wires} {clocks}")))
-}
-
-fn subscribes<R: Log + Threads + Wait + Copy + Send + 'static>(
-    rt: R,
-    alloc: Global,
-    outside: &mut MemOutside,
-) -> Result<(), Fail> {
-    'cases: for case in SUBSCRIBED {
-        runs_so(rt, alloc, case, outside)?;
-    }
-    tells_one_connection(outside)
-}
-
-// A configuration at a path, and the server that it names.
-#[test]
-fn a_subscriber_at_a_path(rt: HostRuntime) -> Result<(), Fail> {
-    let mut outside = with_a_server(rt.alloc())?;
-    subscribes(rt, rt.alloc(), &mut outside)
+fn an_outside_tells_its_use(rt: HostRuntime) -> Result<(), Fail> {
+    let mut outside = outside(rt.alloc(), &SUBSCRIBED, &NONE)?;
+    let wanted = whole(&SUBSCRIBED);
+    runs_so(rt, rt.alloc(), &SUBSCRIBED, &NONE, &wanted, &mut outside)?;
+    tells_a_subscriber(&outside)
 }

@@ -15,7 +15,7 @@ long_enough k h = grind (arith, nat_tests)
 
 each_granted : (w : Word) (ws : List Word) → OnEach IsGranted w ws
 each_granted w ws = record {
-  on_head = (timers_reads IsGranted (λ v i is x k at long. long_enough k long) ws, (zone_reads IsGranted (λ v apex is x serial at mode. tt) ws, (link_reads IsGranted (λ v u is x domain at. tt) ws, tt)));
+  on_head = (timers_reads IsGranted (λ v i is x k at long. long_enough k long) ws, (zone_reads IsGranted (λ v apex is x serial at mode. tt) ws, (link_reads IsGranted (λ v u is x domain at most. tt) ws, tt)));
   on_hub = hub_reads IsGranted (λ event. tt) w ws;
   on_link = on_link_reads IsGranted (λ v event. tt) w ws;
   on_session = session_reads IsGranted (λ v event. tt) w ws;

@@ -84,7 +84,7 @@ line_serves d text (script.head_line line) e s = only_map Serves (fits [] d.know
     by : (line : HeadLine) → line_of text ≡ Some (script.head_line line) → CanServe (with_head d.head line)
     by (timers i m) e = record { start = s.start; keepalive = granted text i m e }
     by (zone apex serial mode) e = record { start = start_more d.head.start apex serial mode s.start; keepalive = s.keepalive }
-    by (link w domain) e = record { start = start_linked d.head.start domain s.start; keepalive = s.keepalive }
+    by (link w domain most) e = record { start = start_linked d.head.start (record { domain = domain; cap = most }) s.start; keepalive = s.keepalive }
 line_serves d text _ e s = only_none Serves
 
 head_serves : (d : ServingDraft) (text : List ℕ) → Serves d → Only Serves (head_line d text)

@@ -5,6 +5,7 @@ use Rattle.std.specs.Str.{bytes_eq, is_utf8}
 use Rattle.std.proofs.lemmas.Str.{is_utf8-from_IsUtf8}
 use Rattle.push_base.specs.Optional.{◌>>=◌}
 use Rattle.dnsname.specs.Text.{name}
+use Rattle.history.specs.States.{no_cap}
 use Rattle.scripts.specs.Lines.{Word, ScriptLine, head_line, link}
 use Rattle.scripts.specs.Scripts.{nothing_known, known_behind}
 use Rattle.scripts.specs.Heads.{empty_head, with_head_line}
@@ -52,7 +53,7 @@ pub listens_twice : serving_of (text (codes "listen here" ∷ codes "listen here
 listens_twice = ap (serving_behind_line 1 (codes "listen here" ∷ codes "sessions 1" ∷ [])) (listens no_serving) ∙ ap (serving_behind_line 2 (codes "sessions 1" ∷ [])) (listens listened)
 
 abbrev lan : ScriptLine
-lan = head_line (link (codes "lan") (name (codes "lan.example.com.")))
+lan = head_line (link (codes "lan") (name (codes "lan.example.com.")) no_cap)
 
 abbrev linked : ServingDraft
 linked = record no_serving { head = with_head_line empty_head lan; known = known_behind nothing_known lan }
@@ -65,7 +66,7 @@ abbrev homes_named : ServingDraft
 homes_named = record listened { head = serving.head; known = record nothing_known { has_timers = true; homes = (name (codes "example.com."), false) ∷ (name (codes "lan.example.com."), true) ∷ []; links = codes "lan" ∷ [] } }
 
 abbrev heads : List (List ℕ)
-heads = [] ∷ codes "timers 20000 10000" ∷ codes "zone example.com. 7 open" ∷ codes "link lan lan.example.com." ∷ codes "feed lan here" ∷ codes "sessions 1000000" ∷ []
+heads = [] ∷ codes "timers 20000 10000" ∷ codes "zone example.com. 7 open" ∷ codes "link lan lan.example.com. 120" ∷ codes "feed lan here" ∷ codes "sessions 1000000" ∷ []
 
 pub all_lines : serving_of served ≡ Ok serving
 all_lines =

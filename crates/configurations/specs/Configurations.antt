@@ -1,7 +1,7 @@
 -- Configurations: texts of lines, as scripts are.
 --     serving_of text, subscribing_of text      the configuration, or the number of the first line outside
 --     serving_line draft text, subscribing_line draft text      what a further line makes of those before it
-use Rattle.std.specs.Prelude.{ℕ, ◌==◌, Bool, not, ◌&&◌, ◌||◌, List, [], ◌∷◌, ◌++◌, length, Option, Some, None, Result, Ok, Err, nat_lt, nat_le, codes, option_map, unwrap_or, if◌then◌else◌}
+use Rattle.std.specs.Prelude.{ℕ, ◌==◌, Bool, not, ◌&&◌, ◌||◌, List, [], ◌∷◌, ◌++◌, length, Option, Some, None, Result, Ok, Err, nat_lt, codes, option_map, unwrap_or, if◌then◌else◌}
 use Rattle.std.specs.List.{list_any, position}
 use Rattle.std.specs.Str.{bytes_eq, is_utf8}
 use Rattle.push_base.specs.Cases.{chosen, is_empty}
@@ -9,7 +9,7 @@ use Rattle.push_base.specs.Optional.{◌>>=◌}
 use Rattle.push_base.specs.Limits.{max_number, max_questions}
 use Rattle.rrset.specs.Records.{same_question}
 use Rattle.rrset.specs.declared.record.Question.{Question}
-use Rattle.scripts.specs.Lines.{Word, ScriptLine, silent, number, words_in, question, is, line_of}
+use Rattle.scripts.specs.Lines.{Word, ScriptLine, silent, number_from, words_in, question, is, line_of}
 use Rattle.scripts.specs.Scripts.{Known, nothing_known, is_head, fits}
 use Rattle.scripts.specs.TextLines.{lines_taken}
 use Rattle.scripts.specs.Heads.{Head, empty_head, with_head_line}
@@ -31,10 +31,6 @@ max_turns = limits.MAX_TURNS
 -- one word that is handed on as it is
 abbrev pub address : Word → Option Word
 address w = if is_empty w || not (is_utf8 w) then None else Some w
-
--- a number from one to another
-abbrev pub number_from : ℕ → ℕ → Word → Option ℕ
-number_from least greatest w = number greatest w >>= λ n. if nat_le least n then Some n else None
 
 -- each at most once
 abbrev pub once : {X Y : Type 0} → Option X → Y → Option Y

@@ -34,6 +34,8 @@ pub fn worked_servers()
     ensures event { serving_of (text (codes "zone example.com. 1 open" ∷ codes "point" ∷ [])) ≡ Err 2 }
     ensures client { serving_of (text (codes "client c" ∷ [])) ≡ Err 1 }
     ensures short_keepalive { serving_of (text (codes "timers 0 9999" ∷ [])) ≡ Err 1 }
+    ensures no_ttl { serving_of (text (codes "link lan lan.example.com. 0" ∷ [])) ≡ Err 1 }
+    ensures long_ttl { serving_of (text (codes "link lan lan.example.com. 2147483648" ∷ [])) ≡ Err 1 }
     ensures same_home { serving_of (text (codes "zone example.com. 1 open" ∷ codes "zone EXAMPLE.com. 2 shut" ∷ [])) ≡ Err 2 }
 {}
 

@@ -3,10 +3,10 @@
 ghost use Rattle.std.specs.Prelude.{◌≡◌, IfOk, option_map, string_bytes};
 ghost use Rattle.scripts.specs.Lines.{words_in};
 ghost use Rattle.scripts.specs.TextLines.{Takes};
-ghost use Rattle.configurations.specs.Configurations.{address, number_from, number_once};
+ghost use Rattle.configurations.specs.Configurations.{address, number_once};
 
 use push_base::NoMemory;
-use scripts::{number_up_to, one_word};
+use scripts::{number_from, one_word};
 use std::alloc::Global;
 
 /// An address: one word, which is handed on as it is.
@@ -37,15 +37,4 @@ pub(crate) fn take_number(said: &mut Option<u64>, least: u64, greatest: u64, wor
     }
     *said = Some(number);
     true
-}
-
-/// The decimal number that a word is, without leading zeros, from one to another.
-fn number_from(least: u64, greatest: u64, text: &[u8]) -> Option<u64>
-    ensures { result ≡ number_from least greatest text.now }
-{
-    let number = number_up_to(greatest, text)?;
-    if number < least {
-        return None;
-    }
-    Some(number)
 }

@@ -7,6 +7,7 @@ ghost use Rattle.dnsname.specs.declared.name.NameFault.{NameFault};
 ghost use Rattle.dnsname.specs.Names.{Labels, IsName, IsSame, EndsIn, octets, is_name, same_name, ends_in, home};
 ghost use Rattle.dnsname.specs.Spelling.{SpellsNameAt, SpellsNameIn, FaultAt, FaultIn, SpellsPlainNameAt, PlainFaultAt};
 ghost use Rattle.dnsname.specs.Reading.{name_in, name_at, name_up_to, plain_name_at};
+ghost use Rattle.dnsname.specs.NameSteps.{steps_in, name_steps, steps_up_to};
 ghost use Rattle.dnsname.specs.Text.{SpellsText, name_text, name_of_text};
 
 /// No name's spelling begins another's, so what was written is read again, whatever follows it.
@@ -71,6 +72,11 @@ pub fn names_up_to_an_end()
         → SpellsNameIn (take end message) message at name after ↔ (SpellsNameAt message at name after × (after ≤ end)) }
 {}
 
+/// A name with pointers is read in few steps, wherever its first piece stands and whatever the message holds.
+pub fn steps_are_few()
+    ensures { (piece message : List ℕ) (at : ℕ) → steps_in piece message at ≤ at + 128 }
+{}
+
 /// Examples of what is read and written.
 pub fn examples()
     ensures plain { plain_name_at (hex (codes "076578616d706c6503636f6d00")) 0 ≡ Ok (codes "example" ∷ codes "com" ∷ [], 13) }
@@ -79,6 +85,9 @@ pub fn examples()
     ensures onward { name_at (hex (codes "c000")) 0 ≡ Err (NameFault.Pointer 0) }
     ensures short { name_at (hex (codes "0161")) 0 ≡ Err (NameFault.Short 2) }
     ensures reserved { name_at (hex (codes "41")) 0 ≡ Err (NameFault.LongLabel 0) }
+    ensures steps { name_steps (hex (codes "03636f6d000161c000")) 5 ≡ 4 }
+    ensures steps_up_to { steps_up_to 7 (hex (codes "03636f6d000161c000")) 5 ≡ 2 }
+    ensures onward_steps { name_steps (hex (codes "c000")) 0 ≡ 1 }
     ensures text { name_of_text (codes "a\\046b.com.") ≡ Some (codes "a.b" ∷ codes "com" ∷ []) }
     ensures root { name_of_text (codes ".") ≡ Some [] }
     ensures bare { name_of_text (codes "a") ≡ None }

@@ -1,13 +1,15 @@
 //! Domain names, and why one could not be read.
 
-ghost use Rattle.std.specs.Prelude.{◌≡◌, ◌++◌, ◌↔◌, ◌<◌, ◌≤◌, take, ℕ, List, length, map, string_bytes, IsNone, IfSome, IsTrue, IfOk, IfErr, OnOk, OnErr, MatchResult, Err};
+ghost use Rattle.std.specs.Prelude.{◌≡◌, ◌+◌, ◌++◌, ◌↔◌, ◌<◌, ◌≤◌, take, ℕ, List, length, map, string_bytes, IsNone, IfSome, IsTrue, IfOk, IfErr, OnOk, OnErr, MatchResult, Err};
 ghost use Rattle.std.specs.Char.{to_ascii_lowercase};
+ghost use Rattle.push_base.specs.Counted.{CountsUpTo};
 ghost use Rattle.dnsname.specs.declared.name.NameFault.{NameFault};
 ghost use Rattle.dnsname.specs.declared.name.NameFault.TheVariants as names;
 ghost use Rattle.dnsname.specs.declared.name.TextFault.TheVariants as texts;
 ghost use Rattle.dnsname.specs.Names.{Labels, IsName, IsSame, EndsIn, octets, lower, same_name, ends_in, swapped_suffix};
 ghost use Rattle.dnsname.specs.Spelling.{SpellsNameAt, SpellsNameIn, FaultAt, FaultIn, SpellsPlainNameAt, PlainFaultAt};
 ghost use Rattle.dnsname.specs.Reading.{IsMemoryOr, Gives, name_at, name_up_to, plain_name_at};
+ghost use Rattle.dnsname.specs.NameSteps.{steps_in, name_steps, steps_up_to, CountsAll};
 ghost use Rattle.dnsname.specs.Text.{SpellsText, GivesName, name_text, name_of_text};
 
 use crate::NoMemory;
@@ -18,9 +20,11 @@ use crate::print::octets_text;
 use crate::suffix::spelled_ends_in;
 use crate::text::text_octets;
 pub use push_base::Octets;
+use push_base::Steps;
 use std::alloc::{AllocError, AllocFailed, Global};
 use std::marker::Model;
 use std::sync::Arc;
+use std::sync::ledger::Ledger;
 use thiserror::Error;
 
 /// The first fault in reading order, with its place: a count of octets from the start of the message.
@@ -135,16 +139,19 @@ fn joined(alloc: Global, front: &[u8], back: &[u8]) -> Result<Vec<u8>, NoMemory>
 }
 
 /// The name with pointers at a place, its first piece in these octets, and the place after it.
-fn pointed_name(
+fn pointed_name<L: Ledger>(
     alloc: Global,
     first: &[u8],
     message: &[u8],
     at: usize,
+    steps: &mut Steps<L>,
 ) -> Result<(Name, usize), NameFault>
     ensures name { IfOk result (λ read. SpellsNameIn first.now message.now at read.0 read.1) }
     ensures fault { IfErr result (IsMemoryOr (FaultIn first.now message.now at)) }
+    ensures counted { CountsAll result (steps_in first.now message.now at) steps.old steps.new }
+    ensures cost { CountsUpTo (at + 128) steps.old steps.new }
 {
-    let (spelled, after) = name_octets(alloc, first, message, at)?;
+    let (spelled, after) = name_octets(alloc, first, message, at, steps)?;
     let octets = Arc::new(alloc, spelled)?;
     Ok((Name { octets }, after))
 }
@@ -162,8 +169,14 @@ fn text_name(alloc: Global, text: &str) -> Result<Name, TextFault>
 }
 
 impl Name {
-    /// Reads the name at a place of a message, and the place after it.
-    pub fn read(alloc: Global, message: &[u8], at: usize) -> Result<(Name, usize), NameFault>
+    /// Reads the name at a place of a message, and the place after it. A step is one length octet or pointer that is
+    /// looked at: pointers lead back and names are short, so there are at most `at + 128`, whatever the answer is.
+    pub fn read<L: Ledger>(
+        alloc: Global,
+        message: &[u8],
+        at: usize,
+        steps: &mut Steps<L>,
+    ) -> Result<(Name, usize), NameFault>
         // What is read stands there, and a fault is the first that is met.
         ensures name { IfOk result (λ read. SpellsNameAt message.now at read.0 read.1) }
         ensures fault { IfErr result (IsMemoryOr (FaultAt message.now at)) }
@@ -174,26 +187,33 @@ impl Name {
             FaultAt message.now at fault → Gives result (Err fault) }
         // The same as a function of the message.
         ensures exact { Gives result (name_at message.now at) }
+        // Each step up to the end or the first fault is counted, and never more than the bound.
+        ensures counted { CountsAll result (name_steps message.now at) steps.old steps.new }
+        ensures cost { CountsUpTo (at + 128) steps.old steps.new }
     {
-        pointed_name(alloc, message, message, at)
+        pointed_name(alloc, message, message, at, steps)
     }
 
     /// Reads the name at a place of a message, where the octets before its first pointer reach no
-    /// further than `end`, as those of a name in rdata.
-    pub fn read_up_to(
+    /// further than `end`, as those of a name in rdata. Its steps are counted as those of `read`.
+    pub fn read_up_to<L: Ledger>(
         alloc: Global,
         message: &[u8],
         end: usize,
         at: usize,
+        steps: &mut Steps<L>,
     ) -> Result<(Name, usize), NameFault>
         requires { end ≤ length message.now }
         ensures name { IfOk result (λ read. SpellsNameIn (take end message.now) message.now at read.0 read.1) }
         ensures fault { IfErr result (IsMemoryOr (FaultIn (take end message.now) message.now at)) }
         // The same as a function of the message.
         ensures exact { Gives result (name_up_to end message.now at) }
+        // Each step up to the end or the first fault is counted, and never more than the bound.
+        ensures counted { CountsAll result (steps_up_to end message.now at) steps.old steps.new }
+        ensures cost { CountsUpTo (at + 128) steps.old steps.new }
     {
         let (first, _) = message.split_at(end);
-        pointed_name(alloc, first, message, at)
+        pointed_name(alloc, first, message, at, steps)
     }
 
     /// Reads the name at a place, and the place after it. Each pointer is a fault.

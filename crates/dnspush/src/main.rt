@@ -4,11 +4,15 @@
 mod log_lines;
 
 use crate::log_lines::{Lines, level_chosen};
+use commands::Status;
 use hublock::NoRegister;
 use log::Logged;
+use push_base::{NoMemory, Sink};
 use push_outside::{Origin, Reading, System, Writing};
+use scripts::{NO_MEMORY, Outcome, tell};
 use std::env;
 use std::fs::File;
+use std::io::ErrorKind;
 use std::process::ExitCode;
 
 fn main(rt: HostRuntime) -> ExitCode {
@@ -20,10 +24,12 @@ fn main(rt: HostRuntime) -> ExitCode {
         File::open(&rt, "/"),
         File::open(&rt, "/"),
     );
-    let words = given_words(&rt);
+    let mut out = Writing::new(rt.stdout());
+    let Ok(words) = given_words(&rt) else {
+        return ExitCode::from(tell_starved(&mut out));
+    };
     let logged = Logged::new(rt, level_chosen(&rt), Lines(rt));
     let mut input = Reading::new(Origin::Input(rt.stdin()));
-    let mut out = Writing::new(rt.stdout());
     let mut system = System::new(rt, logged, alloc);
     let register = &mut NoRegister;
     let status = commands::run(
@@ -39,12 +45,20 @@ fn main(rt: HostRuntime) -> ExitCode {
     ExitCode::from(status)
 }
 
-// The words after the program's name, or none where they can't be read.
-fn given_words(rt: &HostRuntime) -> Vec<String> {
+// Tells that there was too little memory to read the words, and gives the status.
+fn tell_starved<K: Sink>(out: &mut K) -> u8 {
+    Status::Ended(tell(out, Outcome::NoMemory, NO_MEMORY)).code()
+}
+
+// The words after the program's name, or none where one isn't UTF-8.
+fn given_words(rt: &HostRuntime) -> Result<Vec<String>, NoMemory> {
     let alloc = rt.alloc();
-    let Ok(mut args) = env::args(rt) else {
-        return Vec::new(alloc);
-    };
-    let _ = args.next();
-    args.collect(alloc).unwrap_or_else(|_| Vec::new(alloc))
+    match env::args(rt) {
+        Ok(mut args) => {
+            let _ = args.next();
+            args.collect(alloc)
+        }
+        Err(error) if error.kind() == ErrorKind::OutOfMemory => Err(NoMemory),
+        Err(_) => Ok(Vec::new(alloc)),
+    }
 }

@@ -13,13 +13,13 @@ use Rattle.history.specs.States.{State}
 use Rattle.history.specs.declared.entry.Entry.{Entry}
 use Rattle.pushsession.specs.declared.session_status.SessionStatus.TheVariants.{AskedToStop}
 use Rattle.pushsession.specs.Sessions.{is_open, new_session, with_piece, asked_to_stop, ended_where, noted}
-use Rattle.pushserver.specs.Calls.{HubCall, updates, hears, moves, connects, takes, gives, stops, ends, called}
+use Rattle.pushserver.specs.Calls.{HubCall, updates, hears, goes, moves, connects, takes, gives, stops, ends, called}
 use Rattle.pushserver.specs.Giving.{give, is_served_at}
 use Rattle.pushserver.specs.Hubs.{newest, now, records_now, keeps_now, session_of, each_session, in_session, entered, behind_at, ends_behind, entered_keeping, connect, disconnect, max_sessions}
 use Rattle.pushserver.specs.Laws.{LeavesSession}
 use Rattle.pushserver.specs.PlainHubs.{Session, Hub, plain_keeps}
 use Rattle.pushserver.proofs.OtherSessions.{give_changes_one_session}
-use Rattle.pushserver.proofs.Walks.{AnyMessage, timed-kept, holds-update, holds-hear, holds-moment}
+use Rattle.pushserver.proofs.Walks.{AnyMessage, timed-kept, holds-update, holds-hear, holds-going, holds-moment}
 use Rattle.pushserver.proofs.SessionLists.{found-all, found-elsewhere, found-in, found-last, found-left}
 use Rattle.pushclient.specs.Clients.{Client, Connection}
 use Rattle.inflight.specs.Ends.{ends_of, going_up, going_down}
@@ -120,6 +120,7 @@ module _ (number : ℕ) (told : List (ℕ × ℕ)) (client : Client) (c : Connec
   by-call : (hub : Hub) (call : HubCall) → IsOfOthers number call → Stays hub → Stays (called call hub)
   by-call hub (updates message) apart s = holds-update AnyMessage Stays hub (λ entry by. behind-keeping hub entry s) s message tt
   by-call hub (hears link datagram) apart s = holds-hear AnyMessage Stays hub (λ entry by. behind-keeping hub entry s) s link datagram tt
+  by-call hub (goes link) apart s = holds-going AnyMessage Stays hub (λ entry by. behind-keeping hub entry s) s link
   by-call hub (moves t) apart s = holds-moment AnyMessage Stays hub (λ entry by. behind-keeping hub entry s) s (timed-kept Stays behind-ends) t
   by-call hub connects apart s = behind-connection hub s
   by-call hub (takes other piece) apart s = elsewhere hub other (with_piece piece) apart s

@@ -24,7 +24,7 @@ abbrev home_named : State → Option Labels → Option Home
 home_named state None = None
 home_named state (Some h) = elim (position (λ z. same_name z.apex h) state.zones) [
   | Some i ↦ Some (homes.Zone i)
-  | None ↦ option_map (λ i. homes.Link i) (position (λ l. same_name l.domain h) state.links)
+  | None ↦ option_map (λ i. homes.Link i) (position (λ l. same_name l.rules.domain h) state.links)
 ]
 
 served-alike : (state : State) (p q : Question) → same_question p q ≡ true → is_served_at state p ≡ is_served_at state q

@@ -4,7 +4,7 @@ use Rattle.std.proofs.Common.{◌≡◌, ℕ, ◌+◌, Bool, true, false, List, 
 use Rattle.std.specs.Prelude.{flat_map, ◌==◌, if◌then◌else◌}
 use Rattle.std.proofs.lemmas.Bool.{eqb-true}
 use Rattle.std.proofs.lemmas.List.{append_assoc, append-nil, length-append}
-use Rattle.pushserver.specs.Calls.{HubCall, updates, hears, moves, connects, takes, gives, stops, ends, called}
+use Rattle.pushserver.specs.Calls.{HubCall, updates, hears, goes, moves, connects, takes, gives, stops, ends, called}
 use Rattle.pushserver.specs.Giving.{give}
 use Rattle.pushserver.specs.PlainHubs.{Session, Hub, Made, frame_of, size_of_made}
 use Rattle.pushserver.proofs.SessionLists.{number-itself}
@@ -52,6 +52,7 @@ none-handed number hub (gives other room) apart = by (number == other) refl
     by false is = refl
 none-handed number hub (updates message) apart = refl
 none-handed number hub (hears link datagram) apart = refl
+none-handed number hub (goes link) apart = refl
 none-handed number hub (moves t) apart = refl
 none-handed number hub connects apart = refl
 none-handed number hub (takes other piece) apart = refl

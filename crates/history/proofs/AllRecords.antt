@@ -25,14 +25,14 @@ use Rattle.history.proofs.ShownAtHome.{at_name-home}
 zone-sets : (zones : List ZoneKept) → map (λ (z : ZoneKept). z.state.rows) zones ≡ map (λ (z : ZoneState). z.rows) (map (λ (z : ZoneKept). z.state) zones)
 zone-sets zones = sym (map-twice (λ (z : ZoneKept). z.state) (λ (z : ZoneState). z.rows) zones)
 
-link-sets : (links : List LinkKept) → map (λ (l : LinkKept). shown_rows l.state.domain l.state.rows) links ≡ map (λ (l : LinkState). shown_rows l.domain l.rows) (map (λ (l : LinkKept). l.state) links)
-link-sets links = sym (map-twice (λ (l : LinkKept). l.state) (λ (l : LinkState). shown_rows l.domain l.rows) links)
+link-sets : (links : List LinkKept) → map (λ (l : LinkKept). shown_rows l.state.rules l.state.rows) links ≡ map (λ (l : LinkState). shown_rows l.rules l.rows) (map (λ (l : LinkKept). l.state) links)
+link-sets links = sym (map-twice (λ (l : LinkKept). l.state) (λ (l : LinkState). shown_rows l.rules l.rows) links)
 
 pub records-united : (zones : List ZoneKept) (links : List LinkKept) (start first all : RecordSet) → start ≡ [] → first ≡ fold union start (map (λ (z : ZoneKept). z.state.rows) zones)
-    → all ≡ fold union first (map (λ (l : LinkKept). shown_rows l.state.domain l.state.rows) links) → (t : ℕ) → all ≡ records (states_at zones links t)
+    → all ≡ fold union first (map (λ (l : LinkKept). shown_rows l.state.rules l.state.rows) links) → (t : ℕ) → all ≡ records (states_at zones links t)
 records-united zones links start first all none zones_put links_put t =
     links_put ∙ (λ i. fold union ((zones_put ∙ (λ j. fold union (none j) (zone-sets zones j))) i) (link-sets links i))
-    ∙ sym (fold-append union [] (map (λ (z : ZoneState). z.rows) (map (λ (z : ZoneKept). z.state) zones)) (map (λ (l : LinkState). shown_rows l.domain l.rows) (map (λ (l : LinkKept). l.state) links)))
+    ∙ sym (fold-append union [] (map (λ (z : ZoneState). z.rows) (map (λ (z : ZoneKept). z.state) zones)) (map (λ (l : LinkState). shown_rows l.rules l.rows) (map (λ (l : LinkKept). l.state) links)))
 
 -- ---- those that a question asks for
 
@@ -46,7 +46,7 @@ set-zone [] i = refl
 set-zone (z ∷ zones) zero = refl
 set-zone (z ∷ zones) (suc i) = set-zone zones i
 
-set-link : (links : List LinkKept) (i : ℕ) → link_rows (slice_get links i) ≡ elim (slice_get (map (λ (l : LinkKept). l.state) links) i) as (λ _. RecordSet) [ None ↦ [] | Some l ↦ shown_rows l.domain l.rows ]
+set-link : (links : List LinkKept) (i : ℕ) → link_rows (slice_get links i) ≡ elim (slice_get (map (λ (l : LinkKept). l.state) links) i) as (λ _. RecordSet) [ None ↦ [] | Some l ↦ shown_rows l.rules l.rows ]
 set-link [] i = refl
 set-link (l ∷ links) zero = refl
 set-link (l ∷ links) (suc i) = set-link links i

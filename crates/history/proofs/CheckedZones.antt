@@ -33,10 +33,10 @@ abbrev pub apexes_kept : List ZoneKept → List Labels
 apexes_kept zones = map (λ (z : ZoneKept). z.state.apex) zones
 
 abbrev pub domains_kept : List LinkKept → List Labels
-domains_kept links = map (λ (l : LinkKept). l.state.domain) links
+domains_kept links = map (λ (l : LinkKept). l.state.rules.domain) links
 
 pub names-kept : (zones : List ZoneKept) (links : List LinkKept) (t : ℕ) → apexes_kept zones ++ domains_kept links ≡ home_names (states_at zones links t)
-names-kept zones links t = sym (λ i. map-twice (λ (z : ZoneKept). z.state) (λ (z : ZoneState). z.apex) zones i ++ map-twice (λ (l : LinkKept). l.state) (λ (l : LinkState). l.domain) links i)
+names-kept zones links t = sym (λ i. map-twice (λ (z : ZoneKept). z.state) (λ (z : ZoneState). z.apex) zones i ++ map-twice (λ (l : LinkKept). l.state) (λ (l : LinkState). l.rules.domain) links i)
 
 -- the first zone of a name
 abbrev pub first_named : List ZoneKept → Labels → Option ℕ

@@ -51,18 +51,18 @@ zone-place state i zone stand e =
     ∙ ap Some at.place
 
 link-place : (state : State) (i : ℕ) (link : LinkState) → StandApart (homes_in state) → slice_get state.links i ≡ Some link
-    → (position (λ z. same_name z.apex link.domain) state.zones ≡ None) × (position (λ l. same_name l.domain link.domain) state.links ≡ Some i)
+    → (position (λ z. same_name z.apex link.rules.domain) state.zones ≡ None) × (position (λ l. same_name l.rules.domain link.rules.domain) state.links ≡ Some i)
 link-place state i link stand e =
     let at = standing_at state.links i link e in
-    let here : NamedHome = (link.domain, true) in
+    let here : NamedHome = (link.rules.domain, true) in
     let zones = named_zones state.zones in
     let list : homes_in state ≡ (zones ++ named_links at.before) ++ here ∷ named_links at.behind =
-    ap (λ ls. zones ++ named_links ls) at.parts ∙ ap (λ hs. zones ++ hs) (map-append (λ (l : LinkState). (l.domain, true)) at.before (link ∷ at.behind)) ∙ sym (append_assoc zones (named_links at.before) (here ∷ named_links at.behind)) in
+    ap (λ ls. zones ++ named_links ls) at.parts ∙ ap (λ hs. zones ++ hs) (map-append (λ (l : LinkState). (l.rules.domain, true)) at.before (link ∷ at.behind)) ∙ sym (append_assoc zones (named_links at.before) (here ∷ named_links at.behind)) in
     let parts = distinct-parts clashes (zones ++ named_links at.before) here (named_links at.behind) (subst (IsDistinct clashes) list stand.apart) in
     let before = all-apart (λ y. clashes y here ≡ false) zones (named_links at.before) parts.0 in (
-      position-none (λ (z : ZoneState). same_name z.apex link.domain) state.zones (other-names (λ (z : ZoneState). z.apex) false here state.zones before.0),
-      ap (position (λ l. same_name l.domain link.domain)) at.parts
-          ∙ position-here (λ (l : LinkState). same_name l.domain link.domain) at.before link at.behind (other-names (λ (l : LinkState). l.domain) true here at.before before.1) (same_name-itself link.domain)
+      position-none (λ (z : ZoneState). same_name z.apex link.rules.domain) state.zones (other-names (λ (z : ZoneState). z.apex) false here state.zones before.0),
+      ap (position (λ l. same_name l.rules.domain link.rules.domain)) at.parts
+          ∙ position-here (λ (l : LinkState). same_name l.rules.domain link.rules.domain) at.before link at.behind (other-names (λ (l : LinkState). l.rules.domain) true here at.before before.1) (same_name-itself link.rules.domain)
           ∙ ap Some at.place,
     )
 
@@ -70,7 +70,7 @@ link-place state i link stand e =
 
 abbrev pub by_position : State → Labels → Option ℕ → Option Home
 by_position state h (Some i) = Some (homes.Zone i)
-by_position state h None = option_map (λ i. homes.Link i) (position (λ l. same_name l.domain h) state.links)
+by_position state h None = option_map (λ i. homes.Link i) (position (λ l. same_name l.rules.domain h) state.links)
 
 abbrev pub by_home : State → Option Labels → Option Home
 by_home state None = None
@@ -79,13 +79,13 @@ by_home state (Some h) = by_position state h (position (λ z. same_name z.apex h
 home_of-by : (state : State) (name : Labels) → home_of state name ≡ by_home state (home (home_names state) name)
 home_of-by state name = by (home (home_names state) name)
   where
-    placed : (h : Labels) (o : Option ℕ) → elim o as (λ _. Option Home) [ Some i ↦ Some (homes.Zone i) | None ↦ option_map (λ i. homes.Link i) (position (λ l. same_name l.domain h) state.links) ] ≡ by_position state h o
+    placed : (h : Labels) (o : Option ℕ) → elim o as (λ _. Option Home) [ Some i ↦ Some (homes.Zone i) | None ↦ option_map (λ i. homes.Link i) (position (λ l. same_name l.rules.domain h) state.links) ] ≡ by_position state h o
     placed h None = refl
     placed h (Some i) = refl
 
     by : (o : Option Labels) → elim o as (λ _. Option Home) [
       | None ↦ None
-      | Some h ↦ elim (position (λ z. same_name z.apex h) state.zones) as (λ _. Option Home) [ Some i ↦ Some (homes.Zone i) | None ↦ option_map (λ i. homes.Link i) (position (λ l. same_name l.domain h) state.links) ]
+      | Some h ↦ elim (position (λ z. same_name z.apex h) state.zones) as (λ _. Option Home) [ Some i ↦ Some (homes.Zone i) | None ↦ option_map (λ i. homes.Link i) (position (λ l. same_name l.rules.domain h) state.links) ]
     ] ≡ by_home state o
     by None = refl
     by (Some h) = placed h (position (λ z. same_name z.apex h) state.zones)
@@ -93,10 +93,10 @@ home_of-by state name = by (home (home_names state) name)
 home_of-zone : (state : State) (name : Labels) (i : ℕ) (zone : ZoneState) → StandApart (homes_in state) → slice_get state.zones i ≡ Some zone → home (home_names state) name ≡ Some zone.apex → home_of state name ≡ Some (homes.Zone i)
 home_of-zone state name i zone stand at is = home_of-by state name ∙ ap (by_home state) is ∙ ap (by_position state zone.apex) (zone-place state i zone stand at)
 
-home_of-link : (state : State) (name : Labels) (i : ℕ) (link : LinkState) → StandApart (homes_in state) → slice_get state.links i ≡ Some link → home (home_names state) name ≡ Some link.domain → home_of state name ≡ Some (homes.Link i)
+home_of-link : (state : State) (name : Labels) (i : ℕ) (link : LinkState) → StandApart (homes_in state) → slice_get state.links i ≡ Some link → home (home_names state) name ≡ Some link.rules.domain → home_of state name ≡ Some (homes.Link i)
 home_of-link state name i link stand at is =
     let place = link-place state i link stand at in
-    home_of-by state name ∙ ap (by_home state) is ∙ ap (by_position state link.domain) place.0 ∙ ap (option_map (λ i. homes.Link i)) place.1
+    home_of-by state name ∙ ap (by_home state) is ∙ ap (by_position state link.rules.domain) place.0 ∙ ap (option_map (λ i. homes.Link i)) place.1
 
 -- ---- homes that are kept
 
@@ -119,13 +119,13 @@ abbrev pub zone_names : List ZoneKept → List Labels
 zone_names zones = map (λ z. z.state.apex) zones
 
 abbrev pub link_names : List LinkKept → List Labels
-link_names links = map (λ l. l.state.domain) links
+link_names links = map (λ l. l.state.rules.domain) links
 
 pub same_zones : (zones : List ZoneKept) → zone_names zones ≡ map (λ (z : ZoneState). z.apex) (map (λ (z : ZoneKept). z.state) zones)
 same_zones zones = sym (map-twice (λ (z : ZoneKept). z.state) (λ (z : ZoneState). z.apex) zones)
 
-pub same_links : (links : List LinkKept) → link_names links ≡ map (λ (l : LinkState). l.domain) (map (λ (l : LinkKept). l.state) links)
-same_links links = sym (map-twice (λ (l : LinkKept). l.state) (λ (l : LinkState). l.domain) links)
+pub same_links : (links : List LinkKept) → link_names links ≡ map (λ (l : LinkState). l.rules.domain) (map (λ (l : LinkKept). l.state) links)
+same_links links = sym (map-twice (λ (l : LinkKept). l.state) (λ (l : LinkState). l.rules.domain) links)
 
 pub same_names : (homes : HomesKept) → zone_names homes.zones ++ link_names homes.links ≡ home_names (state_of homes)
 same_names homes = λ i. same_zones homes.zones i ++ same_links homes.links i
@@ -143,7 +143,7 @@ found homes name (Some i) None most kept (g, at, longest, size) (h, there, is) =
     let same : h ≡ zone.0.apex = sym (same_some g h (sym (slice_get-front (zone_names homes.zones) (link_names homes.links) i g at) ∙ there)) ∙ sym zone.2 in
     home_of-zone (state_of homes) name i zone.0 (stand-apart homes 0 kept) zone.1 (ap (λ hs. home hs name) (sym (same_names homes)) ∙ is ∙ ap Some same)
 found homes name best (Some i) most kept longest (h, there, is) =
-    let link = element_at (λ (l : LinkState). l.domain) (state_of homes).links i h (ap (λ hs. slice_get hs i) (sym (same_links homes.links)) ∙ sym (slice_get-behind (zone_names homes.zones) (link_names homes.links) i) ∙ there) in
+    let link = element_at (λ (l : LinkState). l.rules.domain) (state_of homes).links i h (ap (λ hs. slice_get hs i) (sym (same_links homes.links)) ∙ sym (slice_get-behind (zone_names homes.zones) (link_names homes.links) i) ∙ there) in
     home_of-link (state_of homes) name i link.0 (stand-apart homes 0 kept) link.1 (ap (λ hs. home hs name) (sym (same_names homes)) ∙ is ∙ ap Some (sym link.2))
 
 pub home-found : (homes now : HomesKept) (zones : List ZoneKept) (links : List LinkKept) (name : Labels) (best longer : Option ℕ) (most : ℕ) (first link : Option ℕ) → homes ≡ now → AreKept homes → zones ≡ homes.zones → links ≡ homes.links

@@ -33,7 +33,7 @@ abbrev pub zone_set : ZoneState → HomeSet
 zone_set zone = ((zone.apex, false), zone.rows)
 
 abbrev pub link_set : LinkState → HomeSet
-link_set link = ((link.domain, true), shown_rows link.domain link.rows)
+link_set link = ((link.rules.domain, true), shown_rows link.rules link.rows)
 
 abbrev pub zone_sets : List ZoneState → List HomeSet
 zone_sets zones = map zone_set zones
@@ -69,7 +69,7 @@ pub sets-shown : (state : State) → shown_sets (home_sets state) ≡ sets_of st
 sets-shown state = map-parts (λ (s : HomeSet). s.1) zone_set link_set state.zones state.links
 
 pub names-are : (state : State) → names_of (homes_in state) ≡ home_names state
-names-are state = map-parts (λ (h : NamedHome). h.0) (λ (z : ZoneState). (z.apex, false)) (λ (l : LinkState). (l.domain, true)) state.zones state.links
+names-are state = map-parts (λ (h : NamedHome). h.0) (λ (z : ZoneState). (z.apex, false)) (λ (l : LinkState). (l.rules.domain, true)) state.zones state.links
 
 pub records-sets : (state : State) → records state ≡ united [] (shown_sets (home_sets state))
 records-sets state = ap (united []) (sym (sets-shown state))

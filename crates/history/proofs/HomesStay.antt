@@ -24,7 +24,7 @@ abbrev pub apexes : List ZoneState → List Labels
 apexes zones = map (λ (z : ZoneState). z.apex) zones
 
 abbrev pub domains : List LinkState → List Labels
-domains links = map (λ (l : LinkState). l.domain) links
+domains links = map (λ (l : LinkState). l.rules.domain) links
 
 -- ---- the home of a name depends on the names of homes alone
 
@@ -34,9 +34,9 @@ home_by zones links o = elim o [ None ↦ None | Some h ↦ elim (position (λ n
 home_of-names : (state : State) (name : Labels) → home_of state name ≡ home_by (apexes state.zones) (domains state.links) (home (apexes state.zones ++ domains state.links) name)
 home_of-names state name = by (home (home_names state) name)
   where
-    by : (o : Option Labels) → elim o [ None ↦ None | Some h ↦ elim (position (λ (z : ZoneState). same_name z.apex h) state.zones) [ Some i ↦ Some (homes.Zone i) | None ↦ option_map (λ i. homes.Link i) (position (λ (l : LinkState). same_name l.domain h) state.links) ] ] ≡ home_by (apexes state.zones) (domains state.links) o
+    by : (o : Option Labels) → elim o [ None ↦ None | Some h ↦ elim (position (λ (z : ZoneState). same_name z.apex h) state.zones) [ Some i ↦ Some (homes.Zone i) | None ↦ option_map (λ i. homes.Link i) (position (λ (l : LinkState). same_name l.rules.domain h) state.links) ] ] ≡ home_by (apexes state.zones) (domains state.links) o
     by None = refl
-    by (Some h) = λ i. elim (sym (position-map (λ (z : ZoneState). z.apex) (λ n. same_name n h) state.zones) i) as (λ _. Option Home) [ Some k ↦ Some (homes.Zone k) | None ↦ option_map (λ k. homes.Link k) (sym (position-map (λ (l : LinkState). l.domain) (λ n. same_name n h) state.links) i) ]
+    by (Some h) = λ i. elim (sym (position-map (λ (z : ZoneState). z.apex) (λ n. same_name n h) state.zones) i) as (λ _. Option Home) [ Some k ↦ Some (homes.Zone k) | None ↦ option_map (λ k. homes.Link k) (sym (position-map (λ (l : LinkState). l.rules.domain) (λ n. same_name n h) state.links) i) ]
 
 pub home_of-same : (a b : State) → apexes a.zones ≡ apexes b.zones → domains a.links ≡ domains b.links → (name : Labels) → home_of a name ≡ home_of b name
 home_of-same a b zones links name = home_of-names a name ∙ (λ i. home_by (zones i) (links i) (home (zones i ++ links i) name)) ∙ sym (home_of-names b name)
@@ -81,11 +81,11 @@ same-updated state update = steps
 
 same_names-by : (entry : Entry) (state : State) (homes : Concern) → SameNames (after_by entry state homes) state
 same_names-by entry state (a_zone update) = same-updated state update
-same_names-by entry state (a_link link) = (refl, map-changed_at (λ (l : LinkState). l.domain) (link_after entry state.now) (λ l. refl) link state.links)
+same_names-by entry state (a_link link) = (refl, map-changed_at (λ (l : LinkState). l.rules.domain) (link_after entry state.now) (λ l. refl) link state.links)
 same_names-by entry state (all_links t) = by (ltb state.now t)
   where
     by : (b : Bool) → SameNames (cond b (record state { now = t; links = map (link_at_moment t) state.links }) state) state
-    by true = (refl, map-twice (link_at_moment t) (λ (l : LinkState). l.domain) state.links)
+    by true = (refl, map-twice (link_at_moment t) (λ (l : LinkState). l.rules.domain) state.links)
     by false = (refl, refl)
 
 pub same_names-after : (state : State) (entry : Entry) → SameNames (after state entry) state

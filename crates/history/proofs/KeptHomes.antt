@@ -35,7 +35,7 @@ names-changed : (ps : List LinkPlan) (ls : List LinkState) → named_links (link
 names-changed [] [] = refl
 names-changed [] (l ∷ ls) = refl
 names-changed (p ∷ ps) [] = refl
-names-changed (p ∷ ps) (l ∷ ls) = ap (λ hs. (l.domain, true) ∷ hs) (names-changed ps ls)
+names-changed (p ∷ ps) (l ∷ ls) = ap (λ hs. (l.rules.domain, true) ∷ hs) (names-changed ps ls)
 
 pub led-zones : (state : State) (plan : HeldPlan) → named_zones (led_to state plan).zones ≡ named_zones state.zones
 led-zones state (plans.Zone i changed) = map-changed_at (λ (z : ZoneState). (z.apex, false)) (zone_changed changed) (λ z. refl) i state.zones
@@ -44,7 +44,7 @@ led-zones state (plans.Moment later each) = refl
 
 pub led-links : (state : State) (plan : HeldPlan) → named_links (led_to state plan).links ≡ named_links state.links
 led-links state (plans.Zone i changed) = refl
-led-links state (plans.Link i plan) = map-changed_at (λ (l : LinkState). (l.domain, true)) (link_changed plan) (λ l. refl) i state.links
+led-links state (plans.Link i plan) = map-changed_at (λ (l : LinkState). (l.rules.domain, true)) (link_changed plan) (λ l. refl) i state.links
 led-links state (plans.Moment later each) = names-changed each.items state.links
 
 pub kept-led : (old new : HomesKept) (t later : ℕ) (plan : HeldPlan) → AreKept old → new.names ≡ old.names → at_moment new later ≡ led_to (at_moment old t) plan → AreKept new
@@ -72,7 +72,7 @@ many-zones homes kept =
 
 pub many-links : (homes : HomesKept) → AreKept homes → length homes.links ≡ length (filter (λ (h : NamedHome). if h.1 then true else not true) homes.names)
 many-links homes kept =
-    sym (ap length (alike homes.names true ∙ kept.names.links) ∙ length-map (state_of homes).links (λ (l : LinkState). (l.domain, true)) ∙ length-map homes.links (λ (l : LinkKept). l.state))
+    sym (ap length (alike homes.names true ∙ kept.names.links) ∙ length-map (state_of homes).links (λ (l : LinkState). (l.rules.domain, true)) ∙ length-map homes.links (λ (l : LinkKept). l.state))
 
 pub kept-zone : (homes : HomesKept) (zone : ZoneKept) → AreKept homes → home_fault homes.names (zone.state.apex, false) ≡ None → AreKept (record homes { zones = homes.zones ++ zone ∷ []; names = homes.names ++ (zone.state.apex, false) ∷ [] })
 kept-zone homes zone kept none = record {
@@ -85,22 +85,22 @@ kept-zone homes zone kept none = record {
   together = together-more homes.names (zone.state.apex, false) kept.together none;
 }
 
-pub kept-link : (homes : HomesKept) (link : LinkKept) → AreKept homes → home_fault homes.names (link.state.domain, true) ≡ None → AreKept (record homes { links = homes.links ++ link ∷ []; names = homes.names ++ (link.state.domain, true) ∷ [] })
+pub kept-link : (homes : HomesKept) (link : LinkKept) → AreKept homes → home_fault homes.names (link.state.rules.domain, true) ≡ None → AreKept (record homes { links = homes.links ++ link ∷ []; names = homes.names ++ (link.state.rules.domain, true) ∷ [] })
 kept-link homes link kept none = record {
   names = record {
-    zones = filter-append (λ (h : NamedHome). not h.1) homes.names ((link.state.domain, true) ∷ []) ∙ append-nil (filter (λ (h : NamedHome). not h.1) homes.names) ∙ kept.names.zones;
+    zones = filter-append (λ (h : NamedHome). not h.1) homes.names ((link.state.rules.domain, true) ∷ []) ∙ append-nil (filter (λ (h : NamedHome). not h.1) homes.names) ∙ kept.names.zones;
     links =
-        filter-append (λ (h : NamedHome). h.1) homes.names ((link.state.domain, true) ∷ []) ∙ ap (λ hs. hs ++ (link.state.domain, true) ∷ []) kept.names.links
-        ∙ sym (ap named_links (map-append (λ (l : LinkKept). l.state) homes.links (link ∷ [])) ∙ map-append (λ (l : LinkState). (l.domain, true)) (state_of homes).links (link.state ∷ []));
+        filter-append (λ (h : NamedHome). h.1) homes.names ((link.state.rules.domain, true) ∷ []) ∙ ap (λ hs. hs ++ (link.state.rules.domain, true) ∷ []) kept.names.links
+        ∙ sym (ap named_links (map-append (λ (l : LinkKept). l.state) homes.links (link ∷ [])) ∙ map-append (λ (l : LinkState). (l.rules.domain, true)) (state_of homes).links (link.state ∷ []));
   };
-  together = together-more homes.names (link.state.domain, true) kept.together none;
+  together = together-more homes.names (link.state.rules.domain, true) kept.together none;
 }
 
 pub kept-zone-as : (homes : HomesKept) (zones : List ZoneKept) (names : List NamedHome) (zone : ZoneKept) → AreKept homes → home_fault homes.names (zone.state.apex, false) ≡ None → zones ≡ homes.zones ++ zone ∷ [] → names ≡ homes.names ++ (zone.state.apex, false) ∷ []
     → AreKept (record { zones = zones; links = homes.links; names = names })
 kept-zone-as homes zones names zone kept none zones_is names_is = subst AreKept (λ i. record { zones = sym zones_is i; links = homes.links; names = sym names_is i }) (kept-zone homes zone kept none)
 
-pub kept-link-as : (homes : HomesKept) (links : List LinkKept) (names : List NamedHome) (link : LinkKept) (domain : Labels) → AreKept homes → home_fault homes.names (domain, true) ≡ None → link.state.domain ≡ domain → links ≡ homes.links ++ link ∷ [] → names ≡ homes.names ++ (domain, true) ∷ []
+pub kept-link-as : (homes : HomesKept) (links : List LinkKept) (names : List NamedHome) (link : LinkKept) (domain : Labels) → AreKept homes → home_fault homes.names (domain, true) ≡ None → link.state.rules.domain ≡ domain → links ≡ homes.links ++ link ∷ [] → names ≡ homes.names ++ (domain, true) ∷ []
     → AreKept (record { zones = homes.zones; links = links; names = names })
 kept-link-as homes links names link domain kept none same links_is names_is =
     subst AreKept (λ i. record { zones = homes.zones; links = sym links_is i; names = (ap (λ d. homes.names ++ (d, true) ∷ []) same ∙ sym names_is) i }) (kept-link homes link kept (ap (λ d. home_fault homes.names (d, true)) same ∙ none))

@@ -50,45 +50,45 @@ clear : (domain : Labels) (sets : List RecordSet) → AreElsewhere domain sets �
 clear domain [] other = tt
 clear domain (s ∷ sets) other = (none_under domain s other.0, clear domain sets other.1)
 
-shown_by-parts : (first last : List LinkState) (link : LinkState) → shown_by (first ++ link ∷ last) ≡ shown_by first ++ shown_rows link.domain link.rows ∷ shown_by last
+shown_by-parts : (first last : List LinkState) (link : LinkState) → shown_by (first ++ link ∷ last) ≡ shown_by first ++ shown_rows link.rules link.rows ∷ shown_by last
 shown_by-parts [] last link = refl
-shown_by-parts (l ∷ first) last link = ap (λ sets. shown_rows l.domain l.rows ∷ sets) (shown_by-parts first last link)
+shown_by-parts (l ∷ first) last link = ap (λ sets. shown_rows l.rules l.rows ∷ sets) (shown_by-parts first last link)
 
 parted : (zones : List ZoneState) (first last : List LinkState) (link : LinkState) (now : ℕ)
-    → records (record { zones = zones; links = first ++ link ∷ last; now = now }) ≡ united [] ((map (λ z. z.rows) zones ++ shown_by first) ++ shown_rows link.domain link.rows ∷ shown_by last)
+    → records (record { zones = zones; links = first ++ link ∷ last; now = now }) ≡ united [] ((map (λ z. z.rows) zones ++ shown_by first) ++ shown_rows link.rules link.rows ∷ shown_by last)
 parted zones first last link now =
     ap (λ (sets : List RecordSet). united [] (map (λ (z : ZoneState). z.rows) zones ++ sets)) (shown_by-parts first last link)
-    ∙ ap (united []) (sym (append_assoc (map (λ (z : ZoneState). z.rows) zones) (shown_by first) (shown_rows link.domain link.rows ∷ shown_by last)))
+    ∙ ap (united []) (sym (append_assoc (map (λ (z : ZoneState). z.rows) zones) (shown_by first) (shown_rows link.rules link.rows ∷ shown_by last)))
 
-pub link_changes : (zones : List ZoneState) (first last : List LinkState) (link : LinkState) (later : LinkRows) (now later_now : ℕ) → AreLinkRows link.domain link.rows → AreLinkRows link.domain later
-    → AreElsewhere link.domain (map (λ z. z.rows) zones) → AreElsewhere link.domain (shown_by first) → AreElsewhere link.domain (shown_by last)
+pub link_changes : (zones : List ZoneState) (first last : List LinkState) (link : LinkState) (later : LinkRows) (now later_now : ℕ) → AreLinkRows link.rules link.rows → AreLinkRows link.rules later
+    → AreElsewhere link.rules.domain (map (λ z. z.rows) zones) → AreElsewhere link.rules.domain (shown_by first) → AreElsewhere link.rules.domain (shown_by last)
     → changes (records (record { zones = zones; links = first ++ link ∷ last; now = now })) (records (record { zones = zones; links = first ++ (record link { rows = later }) ∷ last; now = later_now }))
-    ≡ changes (shown_rows link.domain link.rows) (shown_rows link.domain later)
+    ≡ changes (shown_rows link.rules link.rows) (shown_rows link.rules later)
 link_changes zones first last link later now later_now sound sound_later in_zones in_first in_last =
     (λ i. changes (parted zones first last link now i) (parted zones first last (record link { rows = later }) later_now i))
-    ∙ changes-one (under link.domain) (rows_of ++ shown_by first) (shown_rows link.domain link.rows) (shown_rows link.domain later) (shown_by last)
-    (all-both (λ (s : RecordSet). only (under link.domain) s ≡ []) rows_of (shown_by first) (clear link.domain rows_of in_zones) (clear link.domain (shown_by first) in_first))
-    (clear link.domain (shown_by last) in_last)
-    (none_fail link.domain (shown_rows link.domain link.rows) old_under ∙ sym (none_fail link.domain (shown_rows link.domain later) new_under))
-    (in_order-only (under link.domain) (shown_rows link.domain link.rows) (in_order-shown link.domain link.rows)) (in_order-only (under link.domain) (shown_rows link.domain later) (in_order-shown link.domain later))
-    ∙ (λ i. changes (all_pass link.domain (shown_rows link.domain link.rows) old_under i) (all_pass link.domain (shown_rows link.domain later) new_under i))
+    ∙ changes-one (under link.rules.domain) (rows_of ++ shown_by first) (shown_rows link.rules link.rows) (shown_rows link.rules later) (shown_by last)
+    (all-both (λ (s : RecordSet). only (under link.rules.domain) s ≡ []) rows_of (shown_by first) (clear link.rules.domain rows_of in_zones) (clear link.rules.domain (shown_by first) in_first))
+    (clear link.rules.domain (shown_by last) in_last)
+    (none_fail link.rules.domain (shown_rows link.rules link.rows) old_under ∙ sym (none_fail link.rules.domain (shown_rows link.rules later) new_under))
+    (in_order-only (under link.rules.domain) (shown_rows link.rules link.rows) (in_order-shown link.rules link.rows)) (in_order-only (under link.rules.domain) (shown_rows link.rules later) (in_order-shown link.rules later))
+    ∙ (λ i. changes (all_pass link.rules.domain (shown_rows link.rules link.rows) old_under i) (all_pass link.rules.domain (shown_rows link.rules later) new_under i))
   where
     rows_of : List RecordSet
     rows_of = map (λ (z : ZoneState). z.rows) zones
 
-    old_under : AllUnder link.domain (shown_rows link.domain link.rows)
-    old_under = all_under link.domain link.rows sound
+    old_under : AllUnder link.rules.domain (shown_rows link.rules link.rows)
+    old_under = all_under link.rules link.rows sound
 
-    new_under : AllUnder link.domain (shown_rows link.domain later)
-    new_under = all_under link.domain later sound_later
+    new_under : AllUnder link.rules.domain (shown_rows link.rules later)
+    new_under = all_under link.rules later sound_later
 
 -- ---- one link of homes that stand apart
 
-pub link_changes-at : (state : State) (i : ℕ) (link : LinkState) (later : LinkRows) → AreAtHome state → slice_get state.links i ≡ Some link → AreLinkRows link.domain later
-    → changes (records state) (records (record state { links = changed_at i (λ l. record l { rows = later }) state.links })) ≡ changes (shown_rows link.domain link.rows) (shown_rows link.domain later)
+pub link_changes-at : (state : State) (i : ℕ) (link : LinkState) (later : LinkRows) → AreAtHome state → slice_get state.links i ≡ Some link → AreLinkRows link.rules later
+    → changes (records state) (records (record state { links = changed_at i (λ l. record l { rows = later }) state.links })) ≡ changes (shown_rows link.rules link.rows) (shown_rows link.rules later)
 link_changes-at state i link later home found sound =
     (λ j. changes (records-sets state j) (now j))
-    ∙ changes-stands (home_names state) (home_sets state) (link_set link) here (sets-at_home state home) (shown_rows link.domain later) new
+    ∙ changes-stands (home_names state) (home_sets state) (link_set link) here (sets-at_home state home) (shown_rows link.rules later) new
   where
     at : Standing state.links i link
     at = standing_at state.links i link found
@@ -105,15 +105,15 @@ link_changes-at state i link later home found sound =
         ∙ records-sets (record state { links = at.before ++ changed ∷ at.behind })
         ∙ ap (λ (ss : List HomeSet). united [] (shown_sets ss)) (link-parts state.zones (at.before ++ changed ∷ at.behind) at.before changed at.behind refl)
 
-    parts : homes_in state ≡ (named_zones state.zones ++ named_links at.before) ++ (link.domain, true) ∷ named_links at.behind
+    parts : homes_in state ≡ (named_zones state.zones ++ named_links at.before) ++ (link.rules.domain, true) ∷ named_links at.behind
     parts =
         ap (λ (ls : List LinkState). named_zones state.zones ++ named_links ls) at.parts
-        ∙ ap (λ (l : List NamedHome). named_zones state.zones ++ l) (map-append (λ (l : LinkState). (l.domain, true)) at.before (link ∷ at.behind))
-        ∙ sym (append_assoc (named_zones state.zones) (named_links at.before) ((link.domain, true) ∷ named_links at.behind))
+        ∙ ap (λ (l : List NamedHome). named_zones state.zones ++ l) (map-append (λ (l : LinkState). (l.rules.domain, true)) at.before (link ∷ at.behind))
+        ∙ sym (append_assoc (named_zones state.zones) (named_links at.before) ((link.rules.domain, true) ∷ named_links at.behind))
 
-    new : IsSetAtHome (home_names state) ((link.domain, true), shown_rows link.domain later)
-    new = subst (λ (hs : List Labels). IsSetAtHome hs ((link.domain, true), shown_rows link.domain later)) (names-are state)
-        (link-at_home (homes_in state) (named_zones state.zones ++ named_links at.before) link.domain (named_links at.behind) later parts home.apart.apart sound)
+    new : IsSetAtHome (home_names state) ((link.rules.domain, true), shown_rows link.rules later)
+    new = subst (λ (hs : List Labels). IsSetAtHome hs ((link.rules.domain, true), shown_rows link.rules later)) (names-are state)
+        (link-at_home (homes_in state) (named_zones state.zones ++ named_links at.before) link.rules (named_links at.behind) later parts home.apart.apart sound)
 
 -- ---- all links
 
@@ -121,7 +121,7 @@ abbrev zone_pairs : List ZoneState → List HomePair
 zone_pairs zones = map (λ (z : ZoneState). ((z.apex, false), (z.rows, z.rows))) zones
 
 abbrev link_pairs : List LinkState → List LinkState → List HomePair
-link_pairs (l ∷ ls) (m ∷ ms) = ((l.domain, true), (shown_rows l.domain l.rows, shown_rows m.domain m.rows)) ∷ link_pairs ls ms
+link_pairs (l ∷ ls) (m ∷ ms) = ((l.rules.domain, true), (shown_rows l.rules l.rows, shown_rows m.rules m.rows)) ∷ link_pairs ls ms
 link_pairs _ _ = []
 
 -- what the pairs of links are, link by link
@@ -138,10 +138,10 @@ are_pairs (l ∷ links) [] zip = absurd zip
 are_pairs (l ∷ links) (m ∷ later) zip =
     let rest = are_pairs links later zip.1 in
     record {
-      named = ap (λ hs. (l.domain, true) ∷ hs) rest.named;
-      old = ap (λ sets. shown_rows l.domain l.rows ∷ sets) rest.old;
-      new = ap (λ sets. shown_rows m.domain m.rows ∷ sets) rest.new;
-      each = ap (λ cs. changes (shown_rows l.domain l.rows) (shown_rows m.domain m.rows) ∷ cs) rest.each;
+      named = ap (λ hs. (l.rules.domain, true) ∷ hs) rest.named;
+      old = ap (λ sets. shown_rows l.rules l.rows ∷ sets) rest.old;
+      new = ap (λ sets. shown_rows m.rules m.rows ∷ sets) rest.new;
+      each = ap (λ cs. changes (shown_rows l.rules l.rows) (shown_rows m.rules m.rows) ∷ cs) rest.each;
     }
 
 zone_pairs-at_home : (homes : List Labels) (zones : List ZoneState) → AllByRecursion (IsAtHome homes) zones → ArePairsAtHome homes (zone_pairs zones)
@@ -154,10 +154,11 @@ link_pairs-at_home homes front [] (m ∷ later) parts apart are zip = absurd zip
 link_pairs-at_home homes front (l ∷ links) [] parts apart are zip = absurd zip
 link_pairs-at_home homes front (l ∷ links) (m ∷ later) parts apart are zip = (
   record {
-    old = link-at_home homes front l.domain (named_links links) l.rows parts apart are.0.sound;
-    new = subst (λ (d : Labels). IsSetAtHome (names_of homes) ((l.domain, true), shown_rows d m.rows)) (sym zip.0.domain) (link-at_home homes front l.domain (named_links links) m.rows parts apart zip.0.sound);
+    old = link-at_home homes front l.rules (named_links links) l.rows parts apart are.0.sound;
+    new = subst (λ (d : Labels). IsSetAtHome (names_of homes) ((d, true), shown_rows m.rules m.rows)) zip.0.domain
+        (link-at_home homes front m.rules (named_links links) m.rows (parts ∙ ap (λ (d : Labels). front ++ (d, true) ∷ named_links links) (sym zip.0.domain)) apart zip.0.sound);
   },
-  link_pairs-at_home homes (front ++ (l.domain, true) ∷ []) links later (parts ∙ sym (append_assoc front ((l.domain, true) ∷ []) (named_links links))) apart are.1 zip.1,
+  link_pairs-at_home homes (front ++ (l.rules.domain, true) ∷ []) links later (parts ∙ sym (append_assoc front ((l.rules.domain, true) ∷ []) (named_links links))) apart are.1 zip.1,
 )
 
 -- zones that don't change add nothing

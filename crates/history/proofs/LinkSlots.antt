@@ -20,19 +20,19 @@ link_states links = map (λ l. l.state) links
 
 -- a plan that was made of the link at a place, which was put back with room for it
 pub ready-here : {E : Type 0} (links : List LinkKept) (i : ℕ) (old new : LinkKept) (r : Result LinkPlan E) → i < length links → new.state ≡ (get_or links i old).state
-    → IfOk r (IsPlanOf (get_or links i old).state.domain (get_or links i old).state.rows) → IfOk r (λ plan. HasRoom plan.rows new) → IfOk r (IsLinkReady (slice_get (set links i new) i))
+    → IfOk r (IsPlanOf (get_or links i old).state.rules (get_or links i old).state.rows) → IfOk r (λ plan. HasRoom plan.rows new) → IfOk r (IsLinkReady (slice_get (set links i new) i))
 ready-here links i old new (Err e) h same planned room = tt
 ready-here links i old new (Ok plan) h same planned room =
-    subst (λ o. IsLinkReady o plan) (sym (slice_get-set links i new h)) (record { planned = subst (λ (s : LinkState). IsPlanOf s.domain s.rows plan) (sym same) planned; room = room })
+    subst (λ o. IsLinkReady o plan) (sym (slice_get-set links i new h)) (record { planned = subst (λ (s : LinkState). IsPlanOf s.rules s.rows plan) (sym same) planned; room = room })
 
 -- a plan that leads somewhere, made of a link that was put back with room for it
-pub plan-in : (old new : LinkKept) (plan : LinkPlan) (later : LinkRows) → new.state ≡ old.state → Leads old.state.domain old.state.rows plan later → HasRoom plan.rows new → IsPlanIn new plan
-plan-in old new plan later same leads room = record { planned = subst (λ (s : LinkState). IsPlanOf s.domain s.rows plan) (sym same) (later, leads); room = room }
+pub plan-in : (old new : LinkKept) (plan : LinkPlan) (later : LinkRows) → new.state ≡ old.state → Leads old.state.rules old.state.rows plan later → HasRoom plan.rows new → IsPlanIn new plan
+plan-in old new plan later same leads room = record { planned = subst (λ (s : LinkState). IsPlanOf s.rules s.rows plan) (sym same) (later, leads); room = room }
 
 -- what a hearing gets: nothing where no record is usable
-module _ (l : LinkState) (now : ℕ) (hearing : Hearing) (rrs : List HeardRr) (plan : LinkPlan) (same : rrs ≡ hearing.rrs) (planned : IsHeardPlan l.domain l.rows now rrs plan) (usable : Bool) (usable_is : usable ≡ plan.usable) where
-  whole : IsHeardPlan l.domain l.rows now hearing.rrs plan
-  whole = subst (λ (rs : List HeardRr). IsHeardPlan l.domain l.rows now rs plan) same planned
+module _ (l : LinkState) (now : ℕ) (hearing : Hearing) (rrs : List HeardRr) (plan : LinkPlan) (same : rrs ≡ hearing.rrs) (planned : IsHeardPlan l.rules l.rows now rrs plan) (usable : Bool) (usable_is : usable ≡ plan.usable) where
+  whole : IsHeardPlan l.rules l.rows now hearing.rrs plan
+  whole = subst (λ (rs : List HeardRr). IsHeardPlan l.rules l.rows now rs plan) same planned
 
   pub heard-none : usable ≡ false → (i : ℕ) → StepsIn (entries.Heard i hearing) now l None
   heard-none not_usable i = sym whole.usable ∙ sym usable_is ∙ not_usable
@@ -47,10 +47,10 @@ ready-step links i new (Ok None) h ready = tt
 ready-step links i new (Ok (Some plan)) h ready = subst (λ o. IsLinkReady o plan) (sym (slice_get-set links i new h)) ready
 
 pub ready-moment : {E : Type 0} (links : List LinkKept) (i : ℕ) (old new : LinkKept) (now : ℕ) (r : Result LinkPlan E) → i < length links → new.state ≡ (get_or links i old).state
-    → IfOk r (IsMomentPlan (get_or links i old).state.domain (get_or links i old).state.rows now) → IfOk r (λ plan. HasRoom plan.rows new) → IfOk r (IsLinkReady (slice_get (set links i new) i))
+    → IfOk r (IsMomentPlan (get_or links i old).state.rules (get_or links i old).state.rows now) → IfOk r (λ plan. HasRoom plan.rows new) → IfOk r (IsLinkReady (slice_get (set links i new) i))
 ready-moment links i old new now r h same planned room =
     let s = (get_or links i old).state in
-    ready-here links i old new r h same (ok-as (IsMomentPlan s.domain s.rows now) (IsPlanOf s.domain s.rows) (λ plan is. (at_moment s.rows now, is.leads)) r planned) room
+    ready-here links i old new r h same (ok-as (IsMomentPlan s.rules s.rows now) (IsPlanOf s.rules s.rows) (λ plan is. (at_moment s.rows now, is.leads)) r planned) room
 
 -- ---- a moment, of each link in its turn
 

@@ -18,6 +18,7 @@ use Rattle.history.proofs.Distinct.{all-both, all-as, distinct-parts}
 use Rattle.history.proofs.HomeSets.{IsSetAtHome, AreSetsAtHome, names_of, names-are, sets-named, home_sets, named_sets, zone_sets, link_sets, zones-at_home}
 use Rattle.history.proofs.LinkShown.{AllUnder, all_under, set-shown}
 use Rattle.history.proofs.Together.{clashes-turned, not-under}
+use Rattle.linkcache.specs.declared.rules.LinkRules.{LinkRules}
 
 abbrev NotUnder : Labels → NamedHome → Type 0
 NotUnder domain home = lies_under domain home.0 ≡ false
@@ -64,21 +65,21 @@ inside-under homes domain inside [] all = refl
 inside-under homes domain inside (e ∷ set) all = and-both (is_inside homes domain e.0.owner) (list_all (λ x. is_inside homes domain x.0.owner) set) (inside e.0.owner all.0) (inside-under homes domain inside set all.1)
 
 -- all that a link shows is at home
-pub link-at_home : (homes before : List NamedHome) (domain : Labels) (behind : List NamedHome) (rows : LinkRows) → homes ≡ before ++ (domain, true) ∷ behind → IsDistinct clashes homes → AreLinkRows domain rows
-    → IsSetAtHome (names_of homes) ((domain, true), shown_rows domain rows)
-link-at_home homes before domain behind rows parts apart sound = record {
-  set = set-shown domain rows;
-  inside = inside-under (names_of homes) domain inside (shown_rows domain rows) (all_under domain rows sound);
+pub link-at_home : (homes before : List NamedHome) (rules : LinkRules) (behind : List NamedHome) (rows : LinkRows) → homes ≡ before ++ (rules.domain, true) ∷ behind → IsDistinct clashes homes → AreLinkRows rules rows
+    → IsSetAtHome (names_of homes) ((rules.domain, true), shown_rows rules rows)
+link-at_home homes before rules behind rows parts apart sound = record {
+  set = set-shown rules rows;
+  inside = inside-under (names_of homes) rules.domain inside (shown_rows rules rows) (all_under rules rows sound);
 }
   where
-    inside : (owner : Labels) → ends_in owner domain ≡ true → is_inside (names_of homes) domain owner ≡ true
-    inside owner ends = ap (λ (hs : List NamedHome). is_inside (names_of hs) domain owner) parts ∙ link-inside before domain owner behind (subst (IsDistinct clashes) parts apart) ends
+    inside : (owner : Labels) → ends_in owner rules.domain ≡ true → is_inside (names_of homes) rules.domain owner ≡ true
+    inside owner ends = ap (λ (hs : List NamedHome). is_inside (names_of hs) rules.domain owner) parts ∙ link-inside before rules.domain owner behind (subst (IsDistinct clashes) parts apart) ends
 
 links-at_home : (homes front : List NamedHome) (links : List LinkState) → homes ≡ front ++ named_links links → IsDistinct clashes homes → AllByRecursion IsLink links → AreSetsAtHome (names_of homes) (link_sets links)
 links-at_home homes front [] parts apart are = tt
 links-at_home homes front (l ∷ links) parts apart are = (
-  link-at_home homes front l.domain (named_links links) l.rows parts apart are.0.sound,
-  links-at_home homes (front ++ (l.domain, true) ∷ []) links (parts ∙ sym (append_assoc front ((l.domain, true) ∷ []) (named_links links))) apart are.1,
+  link-at_home homes front l.rules (named_links links) l.rows parts apart are.0.sound,
+  links-at_home homes (front ++ (l.rules.domain, true) ∷ []) links (parts ∙ sym (append_assoc front ((l.rules.domain, true) ∷ []) (named_links links))) apart are.1,
 )
 
 pub sets-at_home : (state : State) → AreAtHome state → AreSetsAtHome (home_names state) (home_sets state)

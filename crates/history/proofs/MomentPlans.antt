@@ -68,7 +68,7 @@ pub lower-each : (t : ℕ) (links : List LinkState) (ps : List LinkPlan) → All
 lower-each t [] [] each = tt
 lower-each t [] (p ∷ ps) each = absurd each
 lower-each t (l ∷ links) [] each = absurd each
-lower-each t (l ∷ links) (p ∷ ps) each = (subst HaveLowerKeys (sym each.0.shown) (lower-changes (shown_rows l.domain l.rows) (shown_rows l.domain (rows.at_moment l.rows t)) (set-shown l.domain l.rows) (set-shown l.domain (rows.at_moment l.rows t))), lower-each t links ps each.1)
+lower-each t (l ∷ links) (p ∷ ps) each = (subst HaveLowerKeys (sym each.0.shown) (lower-changes (shown_rows l.rules l.rows) (shown_rows l.rules (rows.at_moment l.rows t)) (set-shown l.rules l.rows) (set-shown l.rules (rows.at_moment l.rows t))), lower-each t links ps each.1)
 
 -- the changes of plans, gathered one plan after the other
 abbrev pub rows_of : List LinkPlan → Rows Changed

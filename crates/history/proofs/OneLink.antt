@@ -15,6 +15,7 @@ use Rattle.linkcache.specs.Links.{LinkState, IsLink}
 use Rattle.linkcache.specs.Rows.{LinkRows, at_moment, ending_by, has_key, heard_beside, reconfirmation, reconfirmed, usable_of}
 use Rattle.linkcache.specs.Sound.{AreLinkRows}
 use Rattle.linkcache.specs.Within.{IsWithin}
+use Rattle.linkcache.proofs.GoneRows.{none-within}
 use Rattle.linkcache.proofs.KeyedParts.{Rising, rising-filter}
 use Rattle.linkcache.proofs.OwnerSizes.{within-heard, within-moment, within-reconfirmed}
 use Rattle.linkcache.proofs.SoundSteps.{Brings, KeepsEnds, kept-heard, kept-reconfirmed, sound-heard, sound-moment, sound-reconfirmed}
@@ -24,29 +25,31 @@ use Rattle.history.specs.declared.entry.Entry.{Entry}
 use Rattle.history.specs.declared.entry.Entry.TheVariants as entries
 use Rattle.history.proofs.LinkOrder.{rising-ending, rising-heard}
 
-pub kept-after : (P : Key × HeardRow → Type 0) → KeepsEnds P → (entry : Entry) (now : ℕ) (l : LinkState) → Brings P now (usable_of l.domain (brought entry)) → AllByRecursion P l.rows → AllByRecursion P (rows_after entry now l)
-kept-after P ends (entries.Heard link hearing) now l brings all = kept-heard P ends l.domain now hearing.rrs l.rows brings all
+pub kept-after : (P : Key × HeardRow → Type 0) → KeepsEnds P → (entry : Entry) (now : ℕ) (l : LinkState) → Brings P now (usable_of l.rules (brought entry)) → AllByRecursion P l.rows → AllByRecursion P (rows_after entry now l)
+kept-after P ends (entries.Heard link hearing) now l brings all = kept-heard P ends l.rules now hearing.rrs l.rows brings all
 kept-after P ends (entries.Reconfirm link key) now l brings all = kept-reconfirmed P ends key now l.rows all
+kept-after P ends (entries.LinkGone link) now l brings all = tt
 kept-after P ends (entries.Update update) now l brings all = all
 kept-after P ends (entries.Moment t) now l brings all = all
 
 -- keys rise, each row is one of a usable record, and they are few enough and not too large
 pub record AreRows (l : LinkState) : Type 0 where
   pub order : Rising l.rows
-  pub sound : AreLinkRows l.domain l.rows
-  pub within : IsWithin l.domain l.rows
+  pub sound : AreLinkRows l.rules l.rows
+  pub within : IsWithin l.rules l.rows
 
 pub rows-after : (entry : Entry) (now : ℕ) (l : LinkState) → AreRows l → AreRows (link_after entry now l)
 rows-after (entries.Heard link hearing) now l are = record {
-  order = rising-heard l.domain now hearing.rrs l.rows are.order;
-  sound = sound-heard l.domain now hearing.rrs l.rows are.sound;
-  within = within-heard l.domain now hearing.rrs l.rows are.order are.sound are.within;
+  order = rising-heard l.rules now hearing.rrs l.rows are.order;
+  sound = sound-heard l.rules now hearing.rrs l.rows are.sound;
+  within = within-heard l.rules now hearing.rrs l.rows are.order are.sound are.within;
 }
 rows-after (entries.Reconfirm link key) now l are = record {
   order = rising-ending (λ row. same_key key row.0) (now + reconfirmation) l.rows are.order;
-  sound = sound-reconfirmed l.domain key now l.rows are.sound;
-  within = within-reconfirmed l.domain key now l.rows are.within;
+  sound = sound-reconfirmed l.rules key now l.rows are.sound;
+  within = within-reconfirmed l.rules key now l.rows are.within;
 }
+rows-after (entries.LinkGone link) now l are = record { order = tt; sound = tt; within = none-within l.rules }
 rows-after (entries.Update update) now l are = are
 rows-after (entries.Moment t) now l are = are
 
@@ -54,8 +57,8 @@ rows-after (entries.Moment t) now l are = are
 pub rows-moment : (t : ℕ) (l : LinkState) → AreRows l → AreRows (link_at_moment t l)
 rows-moment t l are = record {
   order = rising-filter (λ row. nat_lt t row.1.ends) l.rows are.order;
-  sound = sound-moment l.domain t l.rows are.sound;
-  within = within-moment l.domain t l.rows are.within;
+  sound = sound-moment l.rules t l.rows are.sound;
+  within = within-moment l.rules t l.rows are.within;
 }
 
 rows-of : (l : LinkState) → IsLink l → AreRows l
@@ -82,8 +85,13 @@ same-rows key now (row ∷ rows) e = by (same_key key row.0) e (same-rows key no
     by true e rest = cc
     by false e rest = ap (λ l. row ∷ l) (rest e)
 
+none-there : (rows : LinkRows) → not (is_empty rows) ≡ false → [] ≡ rows
+none-there [] e = refl
+none-there (row ∷ rows) e = cc
+
 pub same-after : (entry : Entry) (now : ℕ) (l : LinkState) → is_taken entry l ≡ false → rows_after entry now l ≡ l.rows
-same-after (entries.Heard link hearing) now l e = ap (λ (hs : List HeardRr). heard_beside 0 l.domain l.rows now hs) (none-used (usable_of l.domain hearing.rrs) e)
+same-after (entries.Heard link hearing) now l e = ap (λ (hs : List HeardRr). heard_beside 0 l.rules l.rows now hs) (none-used (usable_of l.rules hearing.rrs) e)
 same-after (entries.Reconfirm link key) now l e = same-rows key now l.rows e
+same-after (entries.LinkGone link) now l e = none-there l.rows e
 same-after (entries.Update update) now l e = refl
 same-after (entries.Moment t) now l e = refl

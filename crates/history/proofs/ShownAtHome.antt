@@ -51,7 +51,7 @@ all-zones : (Q : Labels → Type 0) (zones : List ZoneState) → AllByRecursion 
 all-zones Q [] h = tt
 all-zones Q (z ∷ zones) h = (h.0, all-zones Q zones h.1)
 
-all-links : (Q : Labels → Type 0) (links : List LinkState) → AllByRecursion (λ (l : LinkState). Q l.domain) links → AllByRecursion (λ (s : HomeSet). Q s.0.0) (link_sets links)
+all-links : (Q : Labels → Type 0) (links : List LinkState) → AllByRecursion (λ (l : LinkState). Q l.rules.domain) links → AllByRecursion (λ (s : HomeSet). Q s.0.0) (link_sets links)
 all-links Q [] h = tt
 all-links Q (l ∷ links) h = (h.0, all-links Q links h.1)
 
@@ -67,7 +67,7 @@ abbrev rows_in : Option ZoneState → RecordSet
 rows_in o = elim o [ None ↦ [] | Some z ↦ z.rows ]
 
 abbrev shown_in : Option LinkState → RecordSet
-shown_in o = elim o [ None ↦ [] | Some l ↦ shown_rows l.domain l.rows ]
+shown_in o = elim o [ None ↦ [] | Some l ↦ shown_rows l.rules l.rows ]
 
 pub at_name-home : (state : State) → AreAtHome state → (name : Labels) → at_name name (records state) ≡ at_name name (set_at state (home_of state name))
 at_name-home state at name = ap (at_name name) (records-sets state) ∙ by (home (home_names state) name) refl
@@ -88,22 +88,22 @@ at_name-home state at name = ap (at_name name) (records-sets state) ∙ by (home
     here : (h : Labels) → home hs name ≡ Some h → (s : HomeSet) → Stands (home_sets state) s → same_name s.0.0 h ≡ true → at_name name all ≡ at_name name s.1
     here h is s stands same = only-stands hs named (home_sets state) s stands are (λ other apart. elsewhere-name hs name (Some h) is other (sym (same_name-for s.0.0 h other same) ∙ same_name-turned s.0.0 other ∙ apart))
 
-    link : (h : Labels) → home hs name ≡ Some h → position (λ (z : ZoneState). same_name z.apex h) state.zones ≡ None → (o : Option ℕ) → position (λ (l : LinkState). same_name l.domain h) state.links ≡ o → at_name name all ≡ at_name name (set_at state (option_map (λ i. homes.Link i) o))
+    link : (h : Labels) → home hs name ≡ Some h → position (λ (z : ZoneState). same_name z.apex h) state.zones ≡ None → (o : Option ℕ) → position (λ (l : LinkState). same_name l.rules.domain h) state.links ≡ o → at_name name all ≡ at_name name (set_at state (option_map (λ i. homes.Link i) o))
     link h is no_zone None no_link =
         only-clear named (shown_sets (home_sets state))
         (clear-sets hs named (λ other. same_name other h ≡ false) (λ other apart. elsewhere-name hs name (Some h) is other (same_name-turned h other ∙ apart)) (home_sets state) are
         (all-both (λ (s : HomeSet). same_name s.0.0 h ≡ false) (zone_sets state.zones) (link_sets state.links)
         (all-zones (λ other. same_name other h ≡ false) state.zones (all-fail (λ (z : ZoneState). same_name z.apex h) state.zones (none_from (λ (z : ZoneState). same_name z.apex h) state.zones no_zone)))
-        (all-links (λ other. same_name other h ≡ false) state.links (all-fail (λ (l : LinkState). same_name l.domain h) state.links (none_from (λ (l : LinkState). same_name l.domain h) state.links no_link)))))
+        (all-links (λ other. same_name other h ≡ false) state.links (all-fail (λ (l : LinkState). same_name l.rules.domain h) state.links (none_from (λ (l : LinkState). same_name l.rules.domain h) state.links no_link)))))
     link h is no_zone (Some i) found =
-        let f = found_from (λ (l : LinkState). same_name l.domain h) state.links i found in
+        let f = found_from (λ (l : LinkState). same_name l.rules.domain h) state.links i found in
         let s = stands (home_sets state) (zone_sets state.zones ++ link_sets f.before) (link_set f.here) (link_sets f.behind) (link-parts state.zones state.links f.before f.here f.behind f.parts) (sets-apart state at) in
         here h is (link_set f.here) s f.passes
-        ∙ ap (λ o. at_name name (shown_in o)) (sym (slice_get-found (λ (l : LinkState). same_name l.domain h) state.links i f))
+        ∙ ap (λ o. at_name name (shown_in o)) (sym (slice_get-found (λ (l : LinkState). same_name l.rules.domain h) state.links i f))
 
     zone : (h : Labels) → home hs name ≡ Some h → (o : Option ℕ) → position (λ (z : ZoneState). same_name z.apex h) state.zones ≡ o
-        → at_name name all ≡ at_name name (set_at state (elim o [ Some i ↦ Some (homes.Zone i) | None ↦ option_map (λ i. homes.Link i) (position (λ (l : LinkState). same_name l.domain h) state.links) ]))
-    zone h is None no_zone = link h is no_zone (position (λ (l : LinkState). same_name l.domain h) state.links) refl
+        → at_name name all ≡ at_name name (set_at state (elim o [ Some i ↦ Some (homes.Zone i) | None ↦ option_map (λ i. homes.Link i) (position (λ (l : LinkState). same_name l.rules.domain h) state.links) ]))
+    zone h is None no_zone = link h is no_zone (position (λ (l : LinkState). same_name l.rules.domain h) state.links) refl
     zone h is (Some i) found =
         let f = found_from (λ (z : ZoneState). same_name z.apex h) state.zones i found in
         let s = stands (home_sets state) (zone_sets f.before) (zone_set f.here) (zone_sets f.behind ++ link_sets state.links) (zone-parts state.zones f.before f.here f.behind state.links f.parts) (sets-apart state at) in
@@ -111,7 +111,7 @@ at_name-home state at name = ap (at_name name) (records-sets state) ∙ by (home
         ∙ ap (λ o. at_name name (rows_in o)) (sym (slice_get-found (λ (z : ZoneState). same_name z.apex h) state.zones i f))
 
     by : (o : Option Labels) → home hs name ≡ o
-        → at_name name all ≡ at_name name (set_at state (elim o [ None ↦ None | Some h ↦ elim (position (λ (z : ZoneState). same_name z.apex h) state.zones) [ Some i ↦ Some (homes.Zone i) | None ↦ option_map (λ i. homes.Link i) (position (λ (l : LinkState). same_name l.domain h) state.links) ] ]))
+        → at_name name all ≡ at_name name (set_at state (elim o [ None ↦ None | Some h ↦ elim (position (λ (z : ZoneState). same_name z.apex h) state.zones) [ Some i ↦ Some (homes.Zone i) | None ↦ option_map (λ i. homes.Link i) (position (λ (l : LinkState). same_name l.rules.domain h) state.links) ] ]))
     by None is = only-clear named (shown_sets (home_sets state)) (clear-sets hs named AnyName (λ other h. elsewhere-name hs name None is other refl) (home_sets state) are (any-name (home_sets state)))
     by (Some h) is = zone h is (position (λ (z : ZoneState). same_name z.apex h) state.zones) refl
 

@@ -63,15 +63,15 @@ at_home-start homes (z ∷ zones) new among =
     )
 
 -- a link without a row
-pub new-link : (link : LinkState) → IsTrue (is_name link.domain) → link.rows ≡ [] → IsLink link
+pub new-link : (link : LinkState) → IsTrue (is_name link.rules.domain) → link.rows ≡ [] → IsLink link
 new-link link named none = record {
-  name = (is_name-Decides link.domain).0 named;
+  name = (is_name-Decides link.rules.domain).0 named;
   order = ap is_rising none;
-  sound = subst (AreLinkRows link.domain) (sym none) tt;
-  within = subst (IsWithin link.domain) (sym none) (record { few = omega arith; owners = λ owner. omega arith });
+  sound = subst (AreLinkRows link.rules) (sym none) tt;
+  within = subst (IsWithin link.rules) (sym none) (record { few = omega arith; owners = λ owner. omega arith });
 }
 
-links-start : (links : List LinkState) → All (λ (l : LinkState). l.rows ≡ []) links → AllByRecursion (λ (l : LinkState). IsTrue (is_name l.domain)) links → AllByRecursion IsLink links
+links-start : (links : List LinkState) → All (λ (l : LinkState). l.rows ≡ []) links → AllByRecursion (λ (l : LinkState). IsTrue (is_name l.rules.domain)) links → AllByRecursion IsLink links
 links-start [] new named = tt
 links-start (l ∷ links) new named = (new-link l named.0 (new 0 l (omega arith)), links-start links (λ k d h. new (suc k) d (omega arith)) named.1)
 
@@ -79,7 +79,7 @@ links-start (l ∷ links) new named = (new-link l named.0 (new 0 l (omega arith)
 pub start-home : StartsAreAtHome
 start-home state start apart named = record {
   apart = apart;
-  zones = at_home-start (home_names state) state.zones start.zones (λ q h. any-front q (map (λ (z : ZoneState). z.apex) state.zones) (map (λ (l : LinkState). l.domain) state.links) h);
+  zones = at_home-start (home_names state) state.zones start.zones (λ q h. any-front q (map (λ (z : ZoneState). z.apex) state.zones) (map (λ (l : LinkState). l.rules.domain) state.links) h);
   links = links-start state.links start.links named;
 }
   where

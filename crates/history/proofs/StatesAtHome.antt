@@ -53,15 +53,15 @@ home-updated state home update = by (updated state update) refl
 -- ---- other entries, which change links alone
 
 -- later links of the same domains
-pub home-relinked : (state : State) → AreAtHome state → (links : List LinkState) (now : ℕ) → map (λ (l : LinkState). l.domain) links ≡ map (λ (l : LinkState). l.domain) state.links → AllByRecursion IsLink links → AreAtHome (record { zones = state.zones; links = links; now = now })
+pub home-relinked : (state : State) → AreAtHome state → (links : List LinkState) (now : ℕ) → map (λ (l : LinkState). l.rules.domain) links ≡ map (λ (l : LinkState). l.rules.domain) state.links → AllByRecursion IsLink links → AreAtHome (record { zones = state.zones; links = links; now = now })
 home-relinked state home links now same are = record {
   apart = subst StandApart (ap (λ (l : List NamedHome). named_zones state.zones ++ l) (sym named)) home.apart;
   zones = subst (λ (hs : List Labels). AllByRecursion (IsAtHome hs) state.zones) (ap (λ (l : List Labels). map (λ (z : ZoneState). z.apex) state.zones ++ l) (sym same)) home.zones;
   links = are;
 }
   where
-    named_by : (ls : List LinkState) → map (λ (d : Labels). (d, true)) (map (λ (l : LinkState). l.domain) ls) ≡ named_links ls
-    named_by ls = map-twice (λ (l : LinkState). l.domain) (λ (d : Labels). (d, true)) ls
+    named_by : (ls : List LinkState) → map (λ (d : Labels). (d, true)) (map (λ (l : LinkState). l.rules.domain) ls) ≡ named_links ls
+    named_by ls = map-twice (λ (l : LinkState). l.rules.domain) (λ (d : Labels). (d, true)) ls
 
     named : named_links links ≡ named_links state.links
     named = sym (named_by links) ∙ ap (λ (ds : List Labels). map (λ (d : Labels). (d, true)) ds) same ∙ named_by state.links
@@ -80,12 +80,12 @@ links-one f keeps (suc i) (l ∷ links) are = (are.0, links-one f keeps i links 
 home-by : (entry : Entry) (state : State) → AreAtHome state → (homes : Concern) → AreAtHome (after_by entry state homes)
 home-by entry state home (a_zone update) = home-updated state home update
 home-by entry state home (a_link link) =
-    home-relinked state home (changed_at link (link_after entry state.now) state.links) state.now (map-changed_at (λ (l : LinkState). l.domain) (link_after entry state.now) (λ l. refl) link state.links)
+    home-relinked state home (changed_at link (link_after entry state.now) state.links) state.now (map-changed_at (λ (l : LinkState). l.rules.domain) (link_after entry state.now) (λ l. refl) link state.links)
     (links-one (link_after entry state.now) (link-after entry state.now) link state.links home.links)
 home-by entry state home (all_links t) = by (ltb state.now t)
   where
     by : (b : Bool) → AreAtHome (cond b (record state { now = t; links = map (link_at_moment t) state.links }) state)
-    by true = home-relinked state home (map (link_at_moment t) state.links) t (map-twice (link_at_moment t) (λ (l : LinkState). l.domain) state.links) (links-each (link_at_moment t) (link-moment t) state.links home.links)
+    by true = home-relinked state home (map (link_at_moment t) state.links) t (map-twice (link_at_moment t) (λ (l : LinkState). l.rules.domain) state.links) (links-each (link_at_moment t) (link-moment t) state.links home.links)
     by false = home
 
 pub home-after : (state : State) → AreAtHome state → (entry : Entry) → AreAtHome (after state entry)

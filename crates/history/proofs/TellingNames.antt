@@ -32,21 +32,21 @@ named-zones : (zones : List ZoneKept) → AreNamed (λ (z : ZoneKept). z.state.a
 named-zones [] h = tt
 named-zones (z ∷ zones) h = (h.0, named-zones zones h.1)
 
-named-links : (links : List LinkKept) → AreNamed (λ (l : LinkKept). l.state.domain) links → AllByRecursion IsNamed (named_links (map (λ (l : LinkKept). l.state) links))
+named-links : (links : List LinkKept) → AreNamed (λ (l : LinkKept). l.state.rules.domain) links → AllByRecursion IsNamed (named_links (map (λ (l : LinkKept). l.state) links))
 named-links [] h = tt
 named-links (l ∷ links) h = (h.0, named-links links h.1)
 
-pub named-homes : (homes : HomesKept) (zones : List ZoneKept) (links : List LinkKept) → zones ≡ homes.zones → links ≡ homes.links → AreNamed (λ (z : ZoneKept). z.state.apex) zones → AreNamed (λ (l : LinkKept). l.state.domain) links
+pub named-homes : (homes : HomesKept) (zones : List ZoneKept) (links : List LinkKept) → zones ≡ homes.zones → links ≡ homes.links → AreNamed (λ (z : ZoneKept). z.state.apex) zones → AreNamed (λ (l : LinkKept). l.state.rules.domain) links
     → AllByRecursion IsNamed (homes_in (state_of homes))
 named-homes homes zones links zones_is links_is h g =
     all-both IsNamed (named_zones (state_of homes).zones) (named_links (state_of homes).links)
     (named-zones homes.zones (subst (λ zs. AreNamed (λ (z : ZoneKept). z.state.apex) zs) zones_is h))
-    (named-links homes.links (subst (λ ls. AreNamed (λ (l : LinkKept). l.state.domain) ls) links_is g))
+    (named-links homes.links (subst (λ ls. AreNamed (λ (l : LinkKept). l.state.rules.domain) ls) links_is g))
 
-links-named : (links : List LinkState) → AllByRecursion IsNamed (named_links links) → AllByRecursion (λ l. IsTrue (is_name l.domain)) links
+links-named : (links : List LinkState) → AllByRecursion IsNamed (named_links links) → AllByRecursion (λ l. IsTrue (is_name l.rules.domain)) links
 links-named [] h = tt
 links-named (l ∷ links) h = (h.0, links-named links h.1)
 
 -- the domains of the links of a state
-pub names-links : (state : State) → AllByRecursion IsNamed (homes_in state) → AllByRecursion (λ l. IsTrue (is_name l.domain)) state.links
+pub names-links : (state : State) → AllByRecursion IsNamed (homes_in state) → AllByRecursion (λ l. IsTrue (is_name l.rules.domain)) state.links
 names-links state h = links-named state.links (all-apart IsNamed (named_zones state.zones) (named_links state.links) h).1

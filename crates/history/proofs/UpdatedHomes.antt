@@ -107,7 +107,7 @@ home-placed state home i at rows new = record {
     named = ap named_zones at.parts ∙ sym (same_named at.before at.zone rows at.behind)
 
     names : home_names state ≡ home_names (with_zone state at.before (record at.zone { rows = rows }) at.behind)
-    names = ap (λ (a : List Labels). a ++ map (λ (l : LinkState). l.domain) state.links) (ap (λ (zs : List ZoneState). map (λ (z : ZoneState). z.apex) zs) at.parts ∙ sym (same_apexes at.before at.zone rows at.behind))
+    names = ap (λ (a : List Labels). a ++ map (λ (l : LinkState). l.rules.domain) state.links) (ap (λ (zs : List ZoneState). map (λ (z : ZoneState). z.apex) zs) at.parts ∙ sym (same_apexes at.before at.zone rows at.behind))
 
     each : AllByRecursion (IsAtHome (home_names state)) at.before × AllByRecursion (IsAtHome (home_names state)) (at.zone ∷ at.behind)
     each = all-apart (IsAtHome (home_names state)) at.before (at.zone ∷ at.behind) (subst (AllByRecursion (IsAtHome (home_names state))) at.parts home.zones)

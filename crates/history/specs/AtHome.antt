@@ -19,7 +19,7 @@ abbrev pub named_zones : List ZoneState → List NamedHome
 named_zones zones = map (λ z. (z.apex, false)) zones
 
 abbrev pub named_links : List LinkState → List NamedHome
-named_links links = map (λ l. (l.domain, true)) links
+named_links links = map (λ l. (l.rules.domain, true)) links
 
 -- homes by their names: the zones, and behind them the links
 abbrev pub homes_in : State → List NamedHome

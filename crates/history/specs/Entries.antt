@@ -26,17 +26,20 @@ concern (entries.Update update) = a_zone update
 concern (entries.Heard link hearing) = a_link link
 concern (entries.Moment t) = all_links t
 concern (entries.Reconfirm link key) = a_link link
+concern (entries.LinkGone link) = a_link link
 
 -- ---- what an entry does to the one link that it concerns
 
 abbrev pub is_taken : Entry → LinkState → Bool
-is_taken (entries.Heard link hearing) l = not (is_empty (usable_of l.domain hearing.rrs))
+is_taken (entries.Heard link hearing) l = not (is_empty (usable_of l.rules hearing.rrs))
 is_taken (entries.Reconfirm link key) l = has_key key l.rows
+is_taken (entries.LinkGone link) l = not (is_empty l.rows)
 is_taken _ l = false
 
 abbrev pub rows_after : Entry → ℕ → LinkState → LinkRows
-rows_after (entries.Heard link hearing) now l = heard l.domain l.rows now hearing.rrs
+rows_after (entries.Heard link hearing) now l = heard l.rules l.rows now hearing.rrs
 rows_after (entries.Reconfirm link key) now l = reconfirmed l.rows key now
+rows_after (entries.LinkGone link) now l = []
 rows_after _ now l = l.rows
 
 abbrev pub brought : Entry → List HeardRr
@@ -63,4 +66,5 @@ abbrev pub group : Entry → Group
 group (entries.Update update) = as_change
 group (entries.Reconfirm link key) = as_change
 group (entries.Heard link hearing) = as_hearing
+group (entries.LinkGone link) = as_hearing
 group (entries.Moment t) = as_moment

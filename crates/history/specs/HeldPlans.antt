@@ -72,7 +72,7 @@ IsZoneReady (Some zone) changed = IsPlanOf zone.state changed × HasRoomFor (key
 
 -- the plan was made of the link, and it has room for what it changes
 pub record IsPlanIn (link : LinkKept) (plan : LinkPlan) : Type 0 where
-  pub planned : links.IsPlanOf link.state.domain link.state.rows plan
+  pub planned : links.IsPlanOf link.state.rules link.state.rows plan
   pub room : HasRoom plan.rows link
 
 abbrev pub IsLinkReady : Option LinkKept → LinkPlan → Type 0

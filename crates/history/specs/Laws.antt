@@ -31,14 +31,14 @@ abbrev pub NamesStandApart : Type 0
 NamesStandApart = (names : List NamedHome) (state : State) → IsTrue (may_stand_together names) → AreNamesOf names state → StandApart (homes_in state)
 
 abbrev pub StartsAreAtHome : Type 0
-StartsAreAtHome = (state : State) → IsStart state → StandApart (homes_in state) → AllByRecursion (λ l. IsTrue (is_name l.domain)) state.links → AreAtHome state
+StartsAreAtHome = (state : State) → IsStart state → StandApart (homes_in state) → AllByRecursion (λ l. IsTrue (is_name l.rules.domain)) state.links → AreAtHome state
 
 abbrev pub EntriesKeepHomes : Type 0
 EntriesKeepHomes = (state : State) (entry : Entry) → AreAtHome state → AreAtHome (after state entry) × ((name : Labels) → home_of (after state entry) name ≡ home_of state name)
 
 -- what each home shows
 abbrev pub shown_by : List LinkState → List RecordSet
-shown_by links = map (λ l. shown_rows l.domain l.rows) links
+shown_by links = map (λ l. shown_rows l.rules l.rows) links
 
 abbrev pub sets_of : State → List RecordSet
 sets_of state = map (λ z. z.rows) state.zones ++ shown_by state.links
@@ -47,7 +47,7 @@ sets_of state = map (λ z. z.rows) state.zones ++ shown_by state.links
 abbrev pub set_at : State → Option Home → RecordSet
 set_at state None = []
 set_at state (Some (homes.Zone i)) = elim (slice_get state.zones i) [ None ↦ [] | Some z ↦ z.rows ]
-set_at state (Some (homes.Link i)) = elim (slice_get state.links i) [ None ↦ [] | Some l ↦ shown_rows l.domain l.rows ]
+set_at state (Some (homes.Link i)) = elim (slice_get state.links i) [ None ↦ [] | Some l ↦ shown_rows l.rules l.rows ]
 
 -- both sets show a key
 abbrev pub share_a_key : RecordSet → RecordSet → Bool
@@ -64,10 +64,10 @@ abbrev pub AreElsewhere : Labels → List RecordSet → Type 0
 AreElsewhere domain sets = AllByRecursion (λ set. list_any (λ e. ends_in e.0.owner domain) set ≡ false) sets
 
 abbrev pub LinksChangeForThemselves : Type 0
-LinksChangeForThemselves = (zones : List ZoneState) (first last : List LinkState) (link : LinkState) (later : LinkRows) (now later_now : ℕ) → AreLinkRows link.domain link.rows → AreLinkRows link.domain later
-    → AreElsewhere link.domain (map (λ z. z.rows) zones) → AreElsewhere link.domain (shown_by first) → AreElsewhere link.domain (shown_by last)
+LinksChangeForThemselves = (zones : List ZoneState) (first last : List LinkState) (link : LinkState) (later : LinkRows) (now later_now : ℕ) → AreLinkRows link.rules link.rows → AreLinkRows link.rules later
+    → AreElsewhere link.rules.domain (map (λ z. z.rows) zones) → AreElsewhere link.rules.domain (shown_by first) → AreElsewhere link.rules.domain (shown_by last)
     → changes (records (record { zones = zones; links = first ++ link ∷ last; now = now })) (records (record { zones = zones; links = first ++ (record link { rows = later }) ∷ last; now = later_now }))
-    ≡ changes (shown_rows link.domain link.rows) (shown_rows link.domain later)
+    ≡ changes (shown_rows link.rules link.rows) (shown_rows link.rules later)
 
 -- changed keys, each with its change
 abbrev pub with_change : Rows Changed → Changed → Rows Changed
@@ -79,12 +79,12 @@ gathered each = map (λ e. e.1) (fold with_change [] (flat_map (λ changed. chan
 
 -- the link of the same domain later
 pub record IsLater (link later : LinkState) : Type 0 where
-  pub domain : later.domain ≡ link.domain
-  pub sound : AreLinkRows link.domain later.rows
+  pub domain : later.rules.domain ≡ link.rules.domain
+  pub sound : AreLinkRows later.rules later.rows
 
 -- what each link shows otherwise
 abbrev pub each_changed : List LinkState → List LinkState → List (List Changed)
-each_changed (l ∷ ls) (m ∷ ms) = changes (shown_rows l.domain l.rows) (shown_rows m.domain m.rows) ∷ each_changed ls ms
+each_changed (l ∷ ls) (m ∷ ms) = changes (shown_rows l.rules l.rows) (shown_rows m.rules m.rows) ∷ each_changed ls ms
 each_changed _ _ = []
 
 -- where links alone change, exactly that is shown otherwise which each of them shows otherwise

@@ -18,14 +18,14 @@ use Rattle.history.specs.declared.plan.Planned.TheVariants.{Idle, Accept}
 -- what a link that it concerns gets of an entry at a moment
 abbrev pub StepsIn : Entry → ℕ → LinkState → Option LinkPlan → Type 0
 StepsIn entry now link None = is_taken entry link ≡ false
-StepsIn entry now link (Some plan) = (is_taken entry link ≡ true) × Leads link.domain link.rows plan (rows_after entry now link)
+StepsIn entry now link (Some plan) = (is_taken entry link ≡ true) × Leads link.rules link.rows plan (rows_after entry now link)
 
 abbrev pub StepsTo : Entry → ℕ → Option LinkState → Option LinkPlan → Type 0
 StepsTo entry now None plan = plan ≡ None
 StepsTo entry now (Some link) plan = StepsIn entry now link plan
 
 abbrev pub EndsBy : ℕ → LinkState → LinkPlan → Type 0
-EndsBy moment link plan = Leads link.domain link.rows plan (at_moment link.rows moment)
+EndsBy moment link plan = Leads link.rules link.rows plan (at_moment link.rows moment)
 
 abbrev pub told_of : Option LinkPlan → Planned
 told_of None = Idle
@@ -39,4 +39,4 @@ zone_rows (Some zone) = zone.state.rows
 -- what a link that is kept shows, if there is one
 abbrev pub link_rows : Option LinkKept → RecordSet
 link_rows None = []
-link_rows (Some link) = shown_rows link.state.domain link.state.rows
+link_rows (Some link) = shown_rows link.state.rules link.state.rows

@@ -20,6 +20,8 @@ use Rattle.zoneupdate.specs.Zones.{ZoneState}
 use Rattle.zoneupdate.specs.Updates.{judged}
 use Rattle.linkmap.specs.Translation.{heard_as}
 pub use Rattle.linkcache.specs.Links.{LinkState}
+pub use Rattle.linkcache.specs.declared.rules.LinkRules.{LinkRules}
+pub use Rattle.linkcache.specs.Rows.{no_cap}
 use Rattle.linkcache.specs.Rows.{at_moment, shown_rows}
 pub use Rattle.history.specs.Entries.{entry_octets, entry_size}
 use Rattle.history.specs.Entries.{Concern, a_zone, a_link, all_links, concern, is_taken, rows_after}
@@ -35,7 +37,7 @@ pub record State : Type 0 where
   pub now : ℕ
 
 abbrev pub home_names : State → List Labels
-home_names state = map (λ z. z.apex) state.zones ++ map (λ l. l.domain) state.links
+home_names state = map (λ z. z.apex) state.zones ++ map (λ l. l.rules.domain) state.links
 
 -- the zone of an apex
 abbrev pub zone_of : State → Labels → Option ZoneState
@@ -50,7 +52,7 @@ home_of state name = elim (home (home_names state) name) [
   | None ↦ None
   | Some h ↦ elim (position (λ z. same_name z.apex h) state.zones) [
     | Some i ↦ Some (homes.Zone i)
-    | None ↦ option_map (λ i. homes.Link i) (position (λ l. same_name l.domain h) state.links)
+    | None ↦ option_map (λ i. homes.Link i) (position (λ l. same_name l.rules.domain h) state.links)
   ]
 ]
 
@@ -109,7 +111,7 @@ abbrev pub accepts : State → Entry → Bool
 accepts state entry = accepts_by entry state (concern entry)
 
 abbrev pub records : State → RecordSet
-records state = fold union [] (map (λ z. z.rows) state.zones ++ map (λ l. shown_rows l.domain l.rows) state.links)
+records state = fold union [] (map (λ z. z.rows) state.zones ++ map (λ l. shown_rows l.rules l.rows) state.links)
 
 -- the fold of the first entries over the start
 abbrev pub state_at : State → List Entry → ℕ → State
@@ -120,7 +122,7 @@ records_at start history point = records (state_at start history point)
 
 -- the link and the key that a row would have of which a record is the shown form; whether there is such a row isn't tested
 abbrev pub key_heard : State → Rr → Option Home → Option (ℕ × Key)
-key_heard state rr (Some (homes.Link i)) = option_and_then (λ l. option_map (λ r. (i, key_of r)) (heard_as l.domain rr)) (slice_get state.links i)
+key_heard state rr (Some (homes.Link i)) = option_and_then (λ l. option_map (λ r. (i, key_of r)) (heard_as l.rules.domain rr)) (slice_get state.links i)
 key_heard state rr _ = None
 
 abbrev pub reconfirm_key : State → Rr → Option (ℕ × Key)

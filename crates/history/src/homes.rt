@@ -103,7 +103,7 @@ fn heard_key_at(
     index: usize,
     rr: &Rr,
 ) -> Result<Option<(usize, Key)>, NoMemory>
-    ensures { IfOk result (λ found. found ≡ option_and_then (λ l. option_map (λ r. (index, key_of r)) (heard_as l.state.domain rr.now)) (slice_get links.now index)) }
+    ensures { IfOk result (λ found. found ≡ option_and_then (λ l. option_map (λ r. (index, key_of r)) (heard_as l.state.rules.domain rr.now)) (slice_get links.now index)) }
 {
     let Some(link) = links.get(index) else {
         return Ok(None);
@@ -148,13 +148,14 @@ impl Homes {
         Ok(())
     }
 
-    /// Adds a link, which has heard nothing, behind the others, to be shown under this domain (RFC 8766, 5.5). `Many`:
-    /// there are 16 links. `Long`: the domain has more than 200 octets. `Local`: it ends in `local.`. `Clash(i)`: home i,
-    /// counted from 0 in the order of adding, has the same name, lies under the domain, or is a link under which the domain
-    /// lies. These are tested in this order, before any memory is taken, so that they come always.
-    pub fn add_link(&mut self, domain: Name) -> Result<(), HomeFault>
+    /// Adds a link, which has heard nothing, behind the others, to be shown under this domain (RFC 8766, 5.5) with no TTL
+    /// beyond the cap. `Many`: there are 16 links. `Long`: the domain has more than 200 octets. `Local`: it ends in
+    /// `local.`. `Clash(i)`: home i, counted from 0 in the order of adding, has the same name, lies under the domain, or is
+    /// a link under which the domain lies. These are tested in this order, before any memory is taken, so that they come
+    /// always.
+    pub fn add_link(&mut self, domain: Name, cap: u32) -> Result<(), HomeFault>
         ensures fault { GivesFault result (home_fault self.old.names (domain, true)) }
-        ensures ok { OnOk result (state_of self.new ≡ record (state_of self.old) { links = (state_of self.old).links ++ (record { domain = domain; rows = [] }) ∷ [] }) }
+        ensures ok { OnOk result (state_of self.new ≡ record (state_of self.old) { links = (state_of self.old).links ++ (record { rules = record { domain = domain; cap = cap }; rows = [] }) ∷ [] }) }
         ensures names { OnOk result (self.new.names ≡ self.old.names ++ (domain, true) ∷ []) }
         ensures none { OnErr result (self.new ≡ self.old) }
     {
@@ -164,7 +165,7 @@ impl Homes {
         let alloc = self.allocator();
         self.links.reserve(1)?;
         put_behind(&mut self.names, &domain, true)?;
-        self.links.push_reserved(Cache::new(alloc, domain));
+        self.links.push_reserved(Cache::new(alloc, domain, cap));
         Ok(())
     }
 

@@ -1,6 +1,7 @@
 //! Homes, the journal and the states that it tells.
 #![tactic(auto)]
 
+mod ahead;
 pub mod entry;
 mod homes;
 mod journal_replay;
@@ -28,6 +29,7 @@ ghost use Rattle.history.specs.Worked.{start, heard_host, added_address, sizes_a
 
 use crate::entry::HomeFault;
 pub use homes::Homes;
+pub use linkcache::NO_CAP;
 pub use plan::{ChangedKeys, Planned};
 pub use points::Points;
 

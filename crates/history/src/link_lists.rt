@@ -26,7 +26,7 @@ use std::alloc::Global;
 /// The link with the longest domain that a name ends in, of those of more octets than a number; nothing where there is
 /// none.
 pub(crate) fn longest_link(links: &[Cache], name: &Name, more_than: usize) -> Option<usize>
-    ensures { (before : List Labels) (best : Option ℕ) → IsLongest before name.now best more_than → IsHomeAt (before ++ map (λ l. l.state.domain) links.now) name.now (place_behind before best result) }
+    ensures { (before : List Labels) (best : Option ℕ) → IsLongest before name.now best more_than → IsHomeAt (before ++ map (λ l. l.state.rules.domain) links.now) name.now (place_behind before best result) }
 {
     let mut found = None;
     let mut most = more_than;
@@ -42,7 +42,7 @@ pub(crate) fn longest_link(links: &[Cache], name: &Name, more_than: usize) -> Op
 
 /// Tells that the domains of links are names (RFC 1035, 3.1).
 pub(crate) fn tell_links(links: &[Cache])
-    ensures { AllByRecursion (λ l. IsTrue (is_name l.state.domain)) links.now }
+    ensures { AllByRecursion (λ l. IsTrue (is_name l.state.rules.domain)) links.now }
 {
     'links: for link in links {
         let _ = link.domain().octets();
@@ -71,7 +71,7 @@ pub(crate) fn copies_of_links(alloc: Global, links: &[Cache]) -> Result<Vec<Cach
 
 /// Puts the records that all of some links show into a table.
 pub(crate) fn put_all_shown(alloc: Global, all: &mut Table, links: &[Cache]) -> Result<(), NoMemory>
-    ensures { OnOk result (all.new.rows ≡ fold union all.old.rows (map (λ l. shown_rows l.state.domain l.state.rows) links.now)) }
+    ensures { OnOk result (all.new.rows ≡ fold union all.old.rows (map (λ l. shown_rows l.state.rules l.state.rows) links.now)) }
 {
     'links: for link in links {
         let shown = link.shown(alloc)?;

@@ -1,15 +1,16 @@
 //! A start state with its number, and the entries since.
 
-ghost use Rattle.std.specs.Prelude.{◌≡◌, ◌≤◌, ◌<◌, ◌+◌, ◌-◌, ◌&&◌, ℕ, [], true, nat_le, nat_lt, drop, length, sum_by, IfOk, OnOk, OnErr};
+ghost use Rattle.std.specs.Prelude.{◌≡◌, ◌≤◌, ◌<◌, ◌+◌, ◌-◌, ◌&&◌, ℕ, [], true, nat_le, nat_lt, drop, length, sum_by, IfOk, IfSome, OnOk, OnErr};
 ghost use Rattle.std.specs.List.{AllByRecursion};
 ghost use Rattle.push_base.specs.Limits.{max_moment, max_number};
 ghost use Rattle.history.specs.States.{State, entry_size, journal_has_room, max_journal_entries, max_journal_octets, state_at};
 ghost use Rattle.history.specs.AtHome.{AreAtHome};
-ghost use Rattle.history.specs.Forgetting.{CanLead, LeadsTo};
+ghost use Rattle.history.specs.Forgetting.{CanLead, IsAhead, LeadsTo};
 ghost use Rattle.history.specs.HeldPlans.{IsStateOf, IsTimely};
 ghost use Rattle.history.specs.Kept.{Appends, at_moment, has_room, point_of, state_now, state_of};
 ghost use Rattle.history.specs.Totals.{totals};
 
+use crate::ahead::{Ahead, ahead_later, take_ahead};
 use crate::entry::{Entry, Totals};
 use crate::homes::Homes;
 use crate::journal_replay::replayed;
@@ -19,13 +20,14 @@ use std::alloc::Global;
 use std::collections::VecDeque;
 use std::marker::Model;
 
-/// A start state with its number and its moment, the entries since and their octets, and how many entries of each group
-/// there ever were.
+/// A start state with its number and its moment, perhaps homes ahead of it, the entries since and their octets, and how many
+/// entries of each group there ever were.
 #[derive(Debug, Drop)]
 pub(crate) struct Past {
     start: Homes,
     moment: u64,
     number: u64,
+    ahead: Option<Ahead>,
     entries: VecDeque<Entry>,
     octets: u64,
     counts: Totals,
@@ -41,14 +43,16 @@ const MAX_OCTETS: u64 = 67_108_864;
 const MANY_ENTRIES: usize = 1_024;
 
 impl Model for Past {
+    ghost use Rattle.std.specs.Prelude.{IfSome};
     ghost use Rattle.history.specs.Kept.{Past, at_moment};
+    ghost use Rattle.history.specs.Forgetting.{IsAhead};
     ghost use Rattle.history.specs.HeldPlans.{IsSoundPast};
 
     ghost Value = { Past };
 
     ghost view = { λ p. record { start = at_moment p.start p.moment; number = p.number; history = p.entries.items; counts = p.counts } };
 
-    ghost invariant = { λ p. IsSoundPast (record { start = at_moment p.start p.moment; number = p.number; history = p.entries.items; counts = p.counts }) p.octets };
+    ghost invariant = { λ p. IsSoundPast (record { start = at_moment p.start p.moment; number = p.number; history = p.entries.items; counts = p.counts }) p.octets × IfSome p.ahead (IsAhead (at_moment p.start p.moment) p.entries.items) };
 }
 
 /// Whether the journal starts anew where none of so many entries is asked to stay, and there are so many rows.
@@ -141,6 +145,65 @@ fn start_later(
     Ok(Later::Homes(homes, now))
 }
 
+/// A copy of homes behind all of so many entries, of which `most` may go, where the journal starts anew and there is memory.
+fn start_anew(homes: &Homes, entries: usize, most: usize) -> Option<Homes>
+    ensures state { IfSome result (λ copy. state_of copy ≡ state_of homes.now) }
+    ensures all { IfSome result (λ copy. most ≡ entries) }
+{
+    if most == entries {
+        if starts_anew(entries, homes.rows()) {
+            return homes.copy().ok();
+        }
+    }
+    None
+}
+
+/// How many entries go by plans, where so many must and may: those that must, but all that may where the start is copied.
+fn count_by_plans(over: usize, most: usize) -> usize
+    requires { over ≤ most }
+    ensures least { over ≤ result }
+    ensures most { result ≤ most }
+{
+    if over > 1 { most } else { over }
+}
+
+/// How many of the oldest entries go, and what becomes of the start: where none is asked to stay the journal may start anew;
+/// where one must go, those before the homes ahead go if they may; else they go by plans. It takes all memory that this
+/// takes, and does without a copy of the homes where there is no memory for it.
+fn going(
+    start: &mut Homes,
+    moment: u64,
+    ahead: &mut Option<Ahead>,
+    entries: &VecDeque<Entry>,
+    over: usize,
+    most: usize,
+    homes: &Homes,
+    now: u64,
+) -> Result<(usize, Later), NoMemory>
+    requires home { AreAtHome (at_moment start.old moment) }
+    requires moment { moment ≤ max_moment }
+    requires ahead { IfSome ahead.old (IsAhead (at_moment start.old moment) entries.now.items) }
+    requires timely { AllByRecursion IsTimely entries.now.items }
+    requires over { over ≤ most }
+    requires within { most ≤ length entries.now.items }
+    requires homes { at_moment homes.now now ≡ state_at (at_moment start.old moment) entries.now.items (length entries.now.items) }
+    ensures least { IfOk result (λ going. over ≤ going.0) }
+    ensures most { IfOk result (λ going. going.0 ≤ most) }
+    ensures later { IfOk result (λ going. LeadsTo start.new moment (state_at (at_moment start.old moment) entries.now.items going.0) going.1) }
+    ensures state { state_of start.new ≡ state_of start.old }
+    ensures ahead { IfSome ahead.new (IsAhead (at_moment start.old moment) entries.now.items) }
+{
+    if let Some(copy) = start_anew(homes, entries.len(), most) {
+        Ok((most, Later::Homes(copy, now)))
+    } else if let Some(taken) = take_ahead(ahead, over, most) {
+        Ok((taken.count, Later::Homes(taken.homes, taken.moment)))
+    } else {
+        let count = count_by_plans(over, most);
+        let later = start_later(start, moment, entries, count, homes, now)?;
+        Ok((count, later))
+    }
+}
+
 /// Makes homes what they become, and gives the moment afterwards. It takes no memory.
 fn become_later(start: &mut Homes, moment: u64, later: Later) -> u64
     requires { CanLead start.old later }
@@ -166,6 +229,7 @@ impl Past {
             start: homes.copy()?,
             moment: 0,
             number: 0,
+            ahead: None,
             entries: VecDeque::new(homes.allocator()),
             octets: 0,
             counts: Totals::none(),
@@ -222,25 +286,22 @@ impl Past {
         Ok(homes)
     }
 
-    /// How many of the oldest entries go for one more of a size: those for which there is no room; but all that aren't
-    /// asked to stay where there are many and none is, or where more than one must go, as the start is then copied.
-    fn count_going(&self, size: u64, keep: u64, homes: &Homes) -> usize
+    /// How many of the oldest entries must go for one more of a size, and how many may where none from a point on may.
+    fn going_bounds(&self, size: u64, keep: u64) -> (usize, usize)
         requires size { size ≤ max_journal_octets }
         requires since { self.now.number ≤ keep }
         requires room { has_room self.now keep size ≡ true }
-        ensures within { self.now.number + result ≤ keep }
-        ensures fits { journal_has_room (drop result self.now.history) size ≡ true }
+        ensures order { result.0 ≤ result.1 }
+        ensures most { self.now.number + result.1 ≡ keep }
+        ensures fits { (n : ℕ) → result.0 ≤ n → journal_has_room (drop n self.now.history) size ≡ true }
     {
         let over = count_over(&self.entries, self.octets, size);
-        let is_anew = keep == self.point() && starts_anew(self.entries.len(), homes.rows());
-        if is_anew || over > 1 {
-            return (keep - self.number) as usize;
-        }
-        over
+        (over, (keep - self.number) as usize)
     }
 
     /// Appends an entry to those that lead to homes at a moment. It may forget entries from before the point `keep`, but
-    /// none from there on. It takes all memory before it changes anything.
+    /// none from there on. It takes all memory before it changes anything, but for a copy ahead of the start, which it does
+    /// without where there is no memory.
     pub(crate) fn append(
         &mut self,
         entry: Entry,
@@ -259,22 +320,27 @@ impl Past {
         ensures none { OnErr result (self.new ≡ self.old) }
     {
         let size = entry.size();
-        let count = self.count_going(size, keep, homes);
         let counts = self.counts.and_one(&entry);
-        let later = start_later(
+        let (over, most) = self.going_bounds(size, keep);
+        let point = self.point();
+        let (count, later) = going(
             &mut self.start,
             self.moment,
+            &mut self.ahead,
             &self.entries,
-            count,
+            over,
+            most,
             homes,
             moment,
         )?;
+        let left = self.entries.len() - count;
         self.entries.push_back(entry)?;
         self.moment = become_later(&mut self.start, self.moment, later);
         let forgotten = forget(&mut self.entries, count);
         self.octets = self.octets + size - forgotten;
         self.number += count as u64;
         self.counts = counts;
+        self.ahead = ahead_later(self.ahead.take(), count, left, homes, moment, keep, point);
         Ok(())
     }
 }

@@ -179,7 +179,7 @@ pub(crate) fn plan_of(
     match entry {
         Entry::Update(update) => plan_of_update(alloc, homes, moment, update),
         Entry::Moment(later) => plan_of_moment(alloc, homes, moment, *later),
-        Entry::Heard(link, _) | Entry::Reconfirm(link, _) => {
+        Entry::Heard(link, _) | Entry::Reconfirm(link, _) | Entry::LinkGone(link) => {
             plan_of_step(alloc, homes, moment, *link, entry)
         }
     }

@@ -49,6 +49,19 @@ fn step_of_reconfirmation(
     Ok(Some(plan))
 }
 
+/// What a link's going will change in it; nothing where it has no row.
+fn step_of_going(alloc: Global, link: &mut Cache) -> Result<Option<HearPlan>, NoMemory>
+    ensures plan { IfOk result (λ plan. (i now : ℕ) → StepsIn (entries.LinkGone i) now link.old.state plan) }
+    ensures state { link.new.state ≡ link.old.state }
+    ensures room { IfOk result (λ plan. IfSome plan (IsPlanIn link.new)) }
+{
+    let plan = link.gone(alloc)?;
+    if !plan.is_usable() {
+        return Ok(None);
+    }
+    Ok(Some(plan))
+}
+
 /// What an entry will change in a link; nothing where the link doesn't take it up. The rows stay, and room is made for the
 /// plan.
 pub(crate) fn step(
@@ -65,6 +78,7 @@ pub(crate) fn step(
     match entry {
         Entry::Heard(_, hearing) => step_of_hearing(alloc, link, now, hearing),
         Entry::Reconfirm(_, key) => step_of_reconfirmation(alloc, link, now, key),
+        Entry::LinkGone(_) => step_of_going(alloc, link),
         Entry::Update(_) | Entry::Moment(_) => Ok(None),
     }
 }

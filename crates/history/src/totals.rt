@@ -30,7 +30,7 @@ impl Totals {
                 changes: self.changes + 1,
                 ..self
             },
-            Entry::Heard(_, _) => Totals {
+            Entry::Heard(_, _) | Entry::LinkGone(_) => Totals {
                 heard: self.heard + 1,
                 ..self
             },

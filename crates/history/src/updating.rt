@@ -65,7 +65,7 @@ fn put_zones_under(names: &mut Vec<Name>, zones: &[Zone], apex: &Name) -> Result
 
 /// Appends the domains of the links that lie under an apex.
 fn put_links_under(names: &mut Vec<Name>, links: &[Cache], apex: &Name) -> Result<(), NoMemory>
-    ensures { OnOk result (names.new.items ≡ names.old.items ++ filter (lies_under apex.now) (map (λ l. l.state.domain) links.now)) }
+    ensures { OnOk result (names.new.items ≡ names.old.items ++ filter (lies_under apex.now) (map (λ l. l.state.rules.domain) links.now)) }
 {
     'links: for link in links {
         if lies_under(apex, link.domain()) {
@@ -82,7 +82,7 @@ fn names_under(
     links: &[Cache],
     apex: &Name,
 ) -> Result<Vec<Name>, NoMemory>
-    ensures { IfOk result (λ names. names.items ≡ filter (lies_under apex.now) (map (λ z. z.state.apex) zones.now ++ map (λ l. l.state.domain) links.now)) }
+    ensures { IfOk result (λ names. names.items ≡ filter (lies_under apex.now) (map (λ z. z.state.apex) zones.now ++ map (λ l. l.state.rules.domain) links.now)) }
 {
     let mut names = Vec::new(alloc);
     put_zones_under(&mut names, zones, apex)?;
@@ -93,7 +93,7 @@ fn names_under(
 /// The names of the homes that lie under one of some zones.
 fn under_at(alloc: Global, zones: &[Zone], links: &[Cache], index: usize) -> Result<Under, NoMemory>
     requires { index < length zones.now }
-    ensures { IfOk result (λ under. (zone : ZoneKept) → slice_get zones.now index ≡ Some zone → under ≡ filter (lies_under zone.state.apex) (map (λ z. z.state.apex) zones.now ++ map (λ l. l.state.domain) links.now)) }
+    ensures { IfOk result (λ under. (zone : ZoneKept) → slice_get zones.now index ≡ Some zone → under ≡ filter (lies_under zone.state.apex) (map (λ z. z.state.apex) zones.now ++ map (λ l. l.state.rules.domain) links.now)) }
 {
     let names = names_under(alloc, zones, links, zones[index].apex())?;
     Ok(Under::from_vec(names))

@@ -1,8 +1,8 @@
 -- The clauses of one call of the hub are what is said of that call, and what was stood for is so after it.
-use Rattle.std.specs.Prelude.{◌≡◌, ℕ, ◌++◌, true, List, length, drop, Option, Some, None, Result, Ok, Err, IfOk, OnOk, OnErr, IsErrOf, refl}
+use Rattle.std.specs.Prelude.{◌≡◌, ℕ, ◌++◌, Bool, true, List, length, drop, Option, Some, None, Result, Ok, Err, IfOk, OnOk, OnErr, IsErrOf, refl}
 use Rattle.std.proofs.Common.{sym, subst}
 use Rattle.pushserver.specs.PlainHubs.{Hub}
-use Rattle.pushserver.specs.Hubs.{can_enter, hear, moment, connect, taken_by, take_octets, disconnect}
+use Rattle.pushserver.specs.Hubs.{can_enter, hear, link_gone, moment, connect, taken_by, take_octets, disconnect}
 use Rattle.pushserver.specs.Giving.{give}
 use Rattle.pushserver.specs.KeptHubs.{KeptHub, StandsFor, Forgets}
 use Rattle.pushserver.specs.Laws.{MayWantMemory}
@@ -12,7 +12,7 @@ use Rattle.pushserver.specs.declared.fault.ConnectFault.{ConnectFault}
 use Rattle.pushserver.specs.declared.fault.ConnectFault.TheVariants as connects
 use Rattle.pushserver.specs.declared.fault.HubFault.{HubFault}
 use Rattle.pushserver.specs.declared.fault.HubFault.TheVariants as faults
-use Rattle.hublock.specs.Calls.{HubCall, Does, Took, Gave, Received, Passed, Left, Connected, fault_of, Stands, GivesAs, Gives, Hears, Passes, Connects}
+use Rattle.hublock.specs.Calls.{HubCall, Does, Took, Gave, Received, Went, Passed, Left, Connected, fault_of, Stands, GivesAs, Gives, Hears, Goes, Passes, Connects}
 
 pub does_take : (old new : KeptHub) (session : ℕ) (piece : List ℕ) (count : ℕ)
     → ((hub : Hub) → StandsFor old hub → count ≡ taken_by hub session piece)
@@ -62,6 +62,22 @@ pub does_hear : (old new : KeptHub) (link : ℕ) (datagram : List ℕ) (answer :
     → Does old (Received link datagram answer) new
 unfolding Does
 does_hear old new link datagram answer ok kept same = hears_of old new link datagram answer ok kept same
+
+goes_of : (old new : KeptHub) (link : ℕ) (answer : Result Bool HubFault)
+    → IfOk answer (λ gone. (hub : Hub) → StandsFor old hub → (gone ≡ (link_gone hub link).0) × StandsFor new (link_gone hub link).1)
+    → IfOk answer (λ gone. (gone ≡ (link_gone old link).0) × Forgets (link_gone old link).1 new)
+    → OnErr answer (new ≡ old)
+    → Goes old link answer new
+goes_of old new link (Ok gone) ok kept same = ((ok, kept.0), kept.1)
+goes_of old new link (Err faults.NoMemory) ok kept same = same
+
+pub does_go : (old new : KeptHub) (link : ℕ) (answer : Result Bool HubFault)
+    → IfOk answer (λ gone. (hub : Hub) → StandsFor old hub → (gone ≡ (link_gone hub link).0) × StandsFor new (link_gone hub link).1)
+    → IfOk answer (λ gone. (gone ≡ (link_gone old link).0) × Forgets (link_gone old link).1 new)
+    → OnErr answer (new ≡ old)
+    → Does old (Went link answer) new
+unfolding Does
+does_go old new link answer ok kept same = goes_of old new link answer ok kept same
 
 gives_of : (old new : KeptHub) (session : ℕ) (before after : List ℕ) (answer : Result Given HubFault)
     → IfOk answer (λ given. GivesAs old session before after given new)
@@ -120,6 +136,10 @@ hears_stands : (old new : KeptHub) (link : ℕ) (datagram : List ℕ) (answer : 
 hears_stands old new link datagram (Ok heard) d (hub, s) = ((hear hub link datagram).1, (d.0.0 hub s).1)
 hears_stands old new link datagram (Err faults.NoMemory) d s = stays old new d s
 
+goes_stands : (old new : KeptHub) (link : ℕ) (answer : Result Bool HubFault) → Goes old link answer new → StandsForOne old → StandsForOne new
+goes_stands old new link (Ok gone) d (hub, s) = ((link_gone hub link).1, (d.0.0 hub s).1)
+goes_stands old new link (Err faults.NoMemory) d s = stays old new d s
+
 passes_stands : (old new : KeptHub) (at : ℕ) (fault : Option HubFault) → Passes old at fault new → StandsForOne old → StandsForOne new
 passes_stands old new at None d (hub, s) = (moment hub at, d.0 hub s)
 passes_stands old new at (Some faults.NoMemory) d s = stays old new d.1 s
@@ -134,6 +154,7 @@ unfolding Does
 stands_after (Took session piece count) old new d (hub, s) = (take_octets hub session piece, d.1 hub s)
 stands_after (Gave session before after answer) old new d s = gives_stands old new session before after answer d s
 stands_after (Received link datagram answer) old new d s = hears_stands old new link datagram answer d s
+stands_after (Went link answer) old new d s = goes_stands old new link answer d s
 stands_after (Passed at fault) old new d s = passes_stands old new at fault d s
 stands_after (Left session) old new d (hub, s) = (disconnect hub session, d.0 hub s)
 stands_after (Connected answer) old new d s = connects_stands old new answer d s

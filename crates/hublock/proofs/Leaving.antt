@@ -17,9 +17,9 @@ pub writes_left : (session : ℕ) (before : Observed ℕ) (a b : Option GateStat
     → b ≡ a → WritesSession session before (observed a told calls) turns end → WritesSession session before (observed b told calls) turns end
 writes_left session before a b told calls turns end e p = subst (λ (s : Option GateState). WritesSession session before (observed s told calls) turns end) (sym e) p
 
-pub hears_left : (link : ℕ) (before : Observed (List ℕ)) (a b : Option GateState) (told : Option (List (List ℕ))) (calls : Option ℕ) (rest : Option (List (List ℕ))) (turns : ℕ) (end : LoopEnd)
-    → b ≡ a → HearsLink link before (observed a told calls) rest turns end → HearsLink link before (observed b told calls) rest turns end
-hears_left link before a b told calls rest turns end e p = subst (λ (s : Option GateState). HearsLink link before (observed s told calls) rest turns end) (sym e) p
+pub hears_left : (link : ℕ) (failed : Type 0) (before : Observed (List ℕ)) (a b : Option GateState) (told : Option (List (List ℕ))) (calls : Option ℕ) (rest : Option (List (List ℕ))) (turns : ℕ) (end : LoopEnd)
+    → b ≡ a → HearsLink link failed before (observed a told calls) rest turns end → HearsLink link failed before (observed b told calls) rest turns end
+hears_left link failed before a b told calls rest turns end e p = subst (λ (s : Option GateState). HearsLink link failed before (observed s told calls) rest turns end) (sym e) p
 
 pub ticks_left : (before : Observed ℕ) (a b : Option GateState) (told : Option (List ℕ)) (calls : Option ℕ) (turns : ℕ) (end : LoopEnd)
     → b ≡ a → TicksUntil before (observed a told calls) turns end → TicksUntil before (observed b told calls) turns end

@@ -14,6 +14,6 @@ pub made_of : (call : HubCall) (before : GateState) (hub : KeptHub) (quit : Bool
     → state hub quit calls idle over ≡ before → count ≡ next_count calls → Does hub call after → Made call before (state after quit count idle_now over) (next_count before.calls)
 made_of call before hub quit calls idle over count after idle_now e counted does = rw (← e) (record { does = does; quit = refl; counted = counted; over = refl })
 
-pub made_apart : (call : HubCall) (before : GateState) (hub : KeptHub) (quit : Bool) (calls : ℕ) (idle : Bool) (over : Overs) (after : KeptHub)
-    → state hub quit calls idle over ≡ before → Does hub call after → Made call before (state after quit calls idle over) before.calls
-made_apart call before hub quit calls idle over after e does = rw (← e) (record { does = does; quit = refl; counted = refl; over = refl })
+pub made_apart : (call : HubCall) (before : GateState) (hub : KeptHub) (quit : Bool) (calls : ℕ) (idle : Bool) (over : Overs) (after : KeptHub) (idle_now : Bool)
+    → state hub quit calls idle over ≡ before → Does hub call after → Made call before (state after quit calls idle_now over) before.calls
+made_apart call before hub quit calls idle over after idle_now e does = rw (← e) (record { does = does; quit = refl; counted = refl; over = refl })

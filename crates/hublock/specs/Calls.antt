@@ -1,9 +1,9 @@
 -- Calls of the hub, with their answers.
 --     HubCall      one call
 --     Does old call new      what the contract of the hub's call says of it
-use Rattle.std.specs.Prelude.{◌≡◌, ℕ, true, List, ◌++◌, length, drop, Option, Some, None, Result, Ok, Err}
+use Rattle.std.specs.Prelude.{◌≡◌, ℕ, Bool, true, List, ◌++◌, length, drop, Option, Some, None, Result, Ok, Err}
 use Rattle.pushserver.specs.PlainHubs.{Hub}
-use Rattle.pushserver.specs.Hubs.{can_enter, hear, moment, connect, taken_by, take_octets, disconnect}
+use Rattle.pushserver.specs.Hubs.{can_enter, hear, link_gone, moment, connect, taken_by, take_octets, disconnect}
 use Rattle.pushserver.specs.Giving.{give}
 use Rattle.pushserver.specs.KeptHubs.{KeptHub, StandsFor, Forgets}
 use Rattle.pushserver.specs.Laws.{MayWantMemory}
@@ -19,6 +19,7 @@ pub data HubCall : Type 0 where
   Took : (session : ℕ) (piece : List ℕ) (count : ℕ) → HubCall
   Gave : (session : ℕ) (before after : List ℕ) (answer : Result Given HubFault) → HubCall
   Received : (link : ℕ) (datagram : List ℕ) (answer : Result Heard HubFault) → HubCall
+  Went : (link : ℕ) (answer : Result Bool HubFault) → HubCall
   Passed : (at : ℕ) (fault : Option HubFault) → HubCall
   Left : (session : ℕ) → HubCall
   Connected : (answer : Result ℕ ConnectFault) → HubCall
@@ -55,6 +56,16 @@ abbrev pub Hears : KeptHub → ℕ → List ℕ → Result Heard HubFault → Ke
 Hears old link datagram (Ok heard) new = HearsAs old link datagram heard new × Forgets (hear old link datagram).1 new
 Hears old link datagram (Err faults.NoMemory) new = new ≡ old
 
+-- a link has gone away: whether its rows went
+abbrev pub GoesAs : KeptHub → ℕ → Bool → KeptHub → Type 0
+GoesAs old link gone new =
+    ((hub : Hub) → StandsFor old hub → (gone ≡ (link_gone hub link).0) × StandsFor new (link_gone hub link).1)
+    × (gone ≡ (link_gone old link).0)
+
+abbrev pub Goes : KeptHub → ℕ → Result Bool HubFault → KeptHub → Type 0
+Goes old link (Ok gone) new = GoesAs old link gone new × Forgets (link_gone old link).1 new
+Goes old link (Err faults.NoMemory) new = new ≡ old
+
 -- it is a moment, which wants memory only where it can be entered
 abbrev pub Passes : KeptHub → ℕ → Option HubFault → KeptHub → Type 0
 Passes old at None new = Stands old new (λ hub. moment hub at) × Forgets (moment old at) new
@@ -80,6 +91,7 @@ unfoldable pub Does : KeptHub → HubCall → KeptHub → Type 0
 Does old (Took session piece count) new = Takes old session piece count new
 Does old (Gave session before after answer) new = Gives old session before after answer new
 Does old (Received link datagram answer) new = Hears old link datagram answer new
+Does old (Went link answer) new = Goes old link answer new
 Does old (Passed at fault) new = Passes old at fault new
 Does old (Left session) new = Leaves old session new
 Does old (Connected answer) new = Connects old answer new

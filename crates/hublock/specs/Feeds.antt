@@ -5,7 +5,7 @@
 --     raised      after so many entries more
 --     LedgerNames      which four ledgers
 --     SeatState      the parts of the ledger of sessions, and how many were made
-use Rattle.std.specs.Prelude.{◌≡◌, ℕ, ◌+◌, ◌-◌, ◌≤◌, Result, Ok, Err}
+use Rattle.std.specs.Prelude.{◌≡◌, ℕ, ◌+◌, ◌-◌, ◌≤◌, Bool, true, false, Result, Ok, Err}
 use Rattle.history.specs.declared.entry.Totals.{Totals}
 use Rattle.pushserver.specs.declared.given.Heard.{Heard}
 use Rattle.pushserver.specs.declared.given.Heard.TheVariants.{Entered, Ignored}
@@ -64,6 +64,12 @@ abbrev pub RisesAsHeard : Result Heard HubFault → FeedState → FeedState → 
 RisesAsHeard (Ok Entered) feed now = now ≡ one_hearing_more feed
 RisesAsHeard (Ok (Ignored why)) feed now = now ≡ feed
 RisesAsHeard (Err fault) feed now = now ≡ feed
+
+-- a hearing more exactly where the link's rows went
+abbrev pub RisesAsGone : Result Bool HubFault → FeedState → FeedState → Type 0
+RisesAsGone (Ok true) feed now = now ≡ one_hearing_more feed
+RisesAsGone (Ok false) feed now = now ≡ feed
+RisesAsGone (Err fault) feed now = now ≡ feed
 
 -- the names of the ledgers of changes, hearings, moments and sessions
 pub record LedgerNames : Type 0 where

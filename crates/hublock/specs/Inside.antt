@@ -5,7 +5,7 @@
 --     is_live, marked      whether a session lives; the marks with one more
 --     is_done      whether nothing is left to do for a role
 --     signalled      behind a signal
-use Rattle.std.specs.Prelude.{◌≡◌, ℕ, ◌+◌, ◌-◌, ◌⊎◌, ◌||◌, ◌==◌, not, Bool, true, cond, List, [], ◌∷◌, ◌++◌, filter, is_some, Result, Ok, Err}
+use Rattle.std.specs.Prelude.{◌≡◌, ℕ, ◌+◌, ◌-◌, ◌⊎◌, ◌||◌, ◌==◌, not, Bool, true, false, cond, List, [], ◌∷◌, ◌++◌, filter, is_some, Result, Ok, Err}
 use Rattle.std.specs.List.{list_any, IsDistinct}
 use Rattle.history.specs.declared.entry.Totals.{Totals}
 use Rattle.pushserver.specs.PlainHubs.{Hub}
@@ -75,6 +75,12 @@ abbrev pub AcceptsAsHeard : Result Heard HubFault → KeptHub → KeptHub → Fe
 AcceptsAsHeard (Ok Entered) old new feed now = AcceptsHearing old new feed now
 AcceptsAsHeard (Ok (Ignored why)) old new feed now = AcceptsNone old new feed now
 AcceptsAsHeard (Err fault) old new feed now = AcceptsNone old new feed now
+
+-- a link's going was entered among the hearings and the feed rose by it exactly where it was answered so
+abbrev pub AcceptsAsGone : Result Bool HubFault → KeptHub → KeptHub → FeedState → FeedState → Type 0
+AcceptsAsGone (Ok true) old new feed now = AcceptsHearing old new feed now
+AcceptsAsGone (Ok false) old new feed now = AcceptsNone old new feed now
+AcceptsAsGone (Err fault) old new feed now = AcceptsNone old new feed now
 
 -- ---- the lines that are over
 

@@ -1,6 +1,8 @@
 -- What the loop of a link did.
+--     HearRun      the datagrams that were received, and the calls that handed them on
+--     EndsGone      behind a receipt that failed: the link is told gone, once
 --     HearsUntil, HearsOn      how it ended, or goes on
-use Rattle.std.specs.Prelude.{◌≡◌, ◌⊎◌, ℕ, ◌+◌, ◌<◌, ◌≤◌, ⊤, List, [], ◌∷◌, ◌++◌, length, Option, Result, Ok, Err}
+use Rattle.std.specs.Prelude.{◌≡◌, ◌⊎◌, ℕ, Bool, ◌+◌, ◌<◌, ◌≤◌, ⊤, List, [], ◌∷◌, ◌++◌, length, Option, Result, Ok, Err}
 use Rattle.std.specs.List.{flat_map, AllByRecursion}
 use Rattle.push_base.specs.Told.{TellsMore}
 use Rattle.push_base.specs.Datagrams.{AreOver}
@@ -8,9 +10,9 @@ use Rattle.pushserver.specs.declared.fault.HubFault.{HubFault}
 use Rattle.pushserver.specs.declared.fault.HubFault.TheVariants as faults
 use Rattle.hublock.specs.declared.loop_end.LoopEnd.{LoopEnd}
 use Rattle.hublock.specs.declared.loop_end.LoopEnd.TheVariants as ends
-use Rattle.hublock.specs.Calls.{HubCall, Received}
-use Rattle.hublock.specs.Gates.{GoesOn, StopsAtOnce}
-use Rattle.hublock.specs.Loops.{Observed, Ran, CountsMore, UsesTurns, LeavesRest, EndsAt}
+use Rattle.hublock.specs.Calls.{HubCall, Received, Went}
+use Rattle.hublock.specs.Gates.{GateState, DoesApart, GoesOn, StopsAtOnce}
+use Rattle.hublock.specs.Loops.{Observed, observed, Ran, CountsMore, UsesTurns, LeavesRest, EndsAt}
 
 -- each call hands on a datagram of the link
 abbrev pub IsReceipt : ℕ → HubCall → Type 0
@@ -40,25 +42,37 @@ abbrev pub IsRefusedReceipt : HubFault → HubCall → Type 0
 IsRefusedReceipt fault (Received link datagram answer) = answer ≡ Err fault
 IsRefusedReceipt fault _ = ⊥
 
--- what each end comes from, before which no call ended the loop
-abbrev pub HearCause : Observed (List ℕ) → Option (List (List ℕ)) → List HubCall → ℕ → LoopEnd → Type 0
-HearCause after left calls used ends.Finished = (StopsAtOnce after.gate used ⊎ (GoesOn after.gate × AreOver left)) × AllByRecursion IsTakenReceipt calls
-HearCause after left calls used ends.Turns = GoesOn after.gate × AllByRecursion IsTakenReceipt calls
-HearCause after left calls used ends.LinkFault = GoesOn after.gate × AllByRecursion IsTakenReceipt calls
-HearCause after left calls used ends.NoMemory = GoesOn after.gate × EndsAt IsTakenReceipt (IsRefusedReceipt faults.NoMemory) calls
-HearCause after left calls used _ = ⊥
+-- one call, which is no turn, told that the link is gone, and the end is by its answer
+abbrev pub EndsGone : ℕ → Option GateState → Option GateState → LoopEnd → Type 0
+EndsGone link before after ends.LinkFault = (gone : Bool) × DoesApart (Went link (Ok gone)) before after
+EndsGone link before after ends.NoMemory = DoesApart (Went link (Err faults.NoMemory)) before after
+EndsGone link before after _ = ⊥
 
--- the loop ended so, and these datagrams are left
-abbrev pub HearsUntil : ℕ → Observed (List ℕ) → Observed (List ℕ) → Option (List (List ℕ)) → ℕ → LoopEnd → Type 0
-HearsUntil link before after left turns end =
-    (calls : List HubCall) × (receipts : ℕ) × (rest : List (List ℕ))
-    × HearRun link before after rest calls receipts
-    × (length rest ≤ 1) × LeavesRest end rest × UsesTurns end (length calls + receipts) turns × HearCause after left calls (length calls + receipts) end
+-- what an end comes from other than a receipt that failed, before which no call ended the loop
+abbrev pub CallsCause : Option GateState → Option (List (List ℕ)) → List HubCall → ℕ → LoopEnd → Type 0
+CallsCause gate left calls used ends.Finished = (StopsAtOnce gate used ⊎ (GoesOn gate × AreOver left)) × AllByRecursion IsTakenReceipt calls
+CallsCause gate left calls used ends.Turns = GoesOn gate × AllByRecursion IsTakenReceipt calls
+CallsCause gate left calls used ends.NoMemory = GoesOn gate × EndsAt IsTakenReceipt (IsRefusedReceipt faults.NoMemory) calls
+CallsCause gate left calls used _ = ⊥
+
+-- what each end comes from: no receipt failed, and no call stands behind these; or one did, and the link was told gone behind them
+abbrev pub HearCause : ℕ → Type 0 → Option GateState → Option GateState → Option (List (List ℕ)) → List HubCall → ℕ → LoopEnd → Type 0
+HearCause link failed gate after left calls used end =
+    ((after ≡ gate) × CallsCause gate left calls used end)
+    ⊎ (failed × GoesOn gate × AllByRecursion IsTakenReceipt calls × EndsGone link gate after end)
+
+-- the loop ended so, and these datagrams are left; a receipt may have failed
+abbrev pub HearsUntil : ℕ → Type 0 → Observed (List ℕ) → Observed (List ℕ) → Option (List (List ℕ)) → ℕ → LoopEnd → Type 0
+HearsUntil link failed before after left turns end =
+    (gate : Option GateState) × (calls : List HubCall) × (receipts : ℕ) × (rest : List (List ℕ))
+    × HearRun link before (observed gate after.told after.calls) rest calls receipts
+    × (length rest ≤ 1) × LeavesRest end rest × UsesTurns end (length calls + receipts) turns
+    × HearCause link failed gate after.gate left calls (length calls + receipts) end
 
 -- the loop goes on with so many turns, as no call ended it, or ended
-abbrev pub HearsOn : ℕ → Observed (List ℕ) → Observed (List ℕ) → Option (List (List ℕ)) → ℕ → Result ℕ LoopEnd → Type 0
-HearsOn link before after left turns (Ok less) =
+abbrev pub HearsOn : ℕ → Type 0 → Observed (List ℕ) → Observed (List ℕ) → Option (List (List ℕ)) → ℕ → Result ℕ LoopEnd → Type 0
+HearsOn link failed before after left turns (Ok less) =
     (calls : List HubCall) × (receipts : ℕ)
     × HearRun link before after [] calls receipts
     × (less + (length calls + receipts) ≡ turns) × (less < turns) × GoesOn after.gate × AllByRecursion IsTakenReceipt calls
-HearsOn link before after left turns (Err end) = HearsUntil link before after left turns end
+HearsOn link failed before after left turns (Err end) = HearsUntil link failed before after left turns end

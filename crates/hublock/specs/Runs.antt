@@ -4,6 +4,7 @@
 --     DoesWork      what a job does, by its work
 use Rattle.std.specs.Prelude.{◌≡◌, ◌⊎◌, ℕ, List, None, Some}
 use Rattle.std.specs.declared.option.Option.{Option}
+use Rattle.push_base.specs.Causes.{Rose}
 use Rattle.hublock.specs.declared.loop_end.LoopEnd.{LoopEnd}
 use Rattle.hublock.specs.declared.jobs.Work.{Work}
 use Rattle.hublock.specs.declared.jobs.Work.TheVariants as works
@@ -29,19 +30,19 @@ WritesSession session before after turns end =
     × (Starves before (record after { gate = gate }) end ⊎ WritesUntil session before (record after { gate = gate }) turns end)
     × DoesApart (Left session) gate gone × Tells with_session gone after.gate
 
--- the loop of a link ended so
-abbrev pub HearsLink : ℕ → Observed (List ℕ) → Observed (List ℕ) → Option (List (List ℕ)) → ℕ → LoopEnd → Type 0
-HearsLink link before after left turns end = Starves before after end ⊎ HearsUntil link before after left turns end
+-- the loop of a link ended so; a receipt may have failed
+abbrev pub HearsLink : ℕ → Type 0 → Observed (List ℕ) → Observed (List ℕ) → Option (List (List ℕ)) → ℕ → LoopEnd → Type 0
+HearsLink link failed before after left turns end = Starves before after end ⊎ HearsUntil link failed before after left turns end
 
 -- what a job did, by its work: how its object is observed with a gate is given for each kind. Lines, wires and clocks aren't
 -- given back
-abbrev pub DoesWork : {L K D T : Type 0} → (Option GateState → L → Observed ℕ) → (Option GateState → K → Observed ℕ) → (Option GateState → D → Observed (List ℕ)) → (D → Option (List (List ℕ))) → (Option GateState → T → Observed ℕ) → Work L K D T → Option D → Option GateState → Option GateState → ℕ → LoopEnd → Type 0
-DoesWork line wire datagrams left clock (works.Read session l) links before after turns end =
+abbrev pub DoesWork : {L K D T : Type 0} → (Option GateState → L → Observed ℕ) → (Option GateState → K → Observed ℕ) → (Option GateState → D → Observed (List ℕ)) → (D → Option (List (List ℕ))) → (D → ℕ) → (Option GateState → T → Observed ℕ) → Work L K D T → Option D → Option GateState → Option GateState → ℕ → LoopEnd → Type 0
+DoesWork line wire datagrams left faults clock (works.Read session l) links before after turns end =
     (told : Option (List ℕ)) × (calls : Option ℕ) × (rest : Option (List ℕ)) × ReadsSession session (line before l) (observed after told calls) rest turns end
-DoesWork line wire datagrams left clock (works.Write session w) links before after turns end =
+DoesWork line wire datagrams left faults clock (works.Write session w) links before after turns end =
     (told : Option (List ℕ)) × (calls : Option ℕ) × WritesSession session (wire before w) (observed after told calls) turns end
-DoesWork line wire datagrams left clock (works.Hear link d) None before after turns end = ⊥
-DoesWork line wire datagrams left clock (works.Hear link d) (Some e) before after turns end =
-    HearsLink link (datagrams before d) (datagrams after e) (left e) turns end
-DoesWork line wire datagrams left clock (works.Tick c) links before after turns end =
+DoesWork line wire datagrams left faults clock (works.Hear link d) None before after turns end = ⊥
+DoesWork line wire datagrams left faults clock (works.Hear link d) (Some e) before after turns end =
+    HearsLink link (Rose (faults d) (faults e)) (datagrams before d) (datagrams after e) (left e) turns end
+DoesWork line wire datagrams left faults clock (works.Tick c) links before after turns end =
     (told : Option (List ℕ)) × (calls : Option ℕ) × TicksUntil (clock before c) (observed after told calls) turns end

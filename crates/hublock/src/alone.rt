@@ -105,6 +105,11 @@ impl Gate for Alone {
         self.hub.hear_uncounted(link, datagram)
     }
 
+    fn gone(&mut self, link: usize) -> Result<bool, HubFault> {
+        self.idle = false;
+        self.hub.link_gone_uncounted(link)
+    }
+
     fn moment(&mut self, at: u64) -> Result<(), HubFault> {
         self.calls = self.calls.saturating_add(1);
         self.idle = false;

@@ -5,7 +5,7 @@ ghost use Rattle.push_base.specs.Limits.{max_moment};
 ghost use Rattle.dnswire.specs.Reading.{hearing_of};
 ghost use Rattle.pushserver.specs.Counting.{octets_of};
 ghost use Rattle.pushserver.specs.Observing.{SaysWhy};
-ghost use Rattle.hublock.specs.Calls.{Gave, Left, Passed, Received, Took, fault_of};
+ghost use Rattle.hublock.specs.Calls.{Gave, Left, Passed, Received, Took, Went, fault_of};
 ghost use Rattle.push_base.specs.declared.role.Role.{Role};
 ghost use Rattle.hublock.specs.Gates.{Answers, DoesApart, DoesTurn, GateState, IsIdle, Tells, Waits, has_nothing, with_line, with_session};
 
@@ -42,6 +42,11 @@ pub trait Gate: Drop {
         ensures call { DoesTurn (Received link datagram.now result) (state self.old) (state self.new) }
         ensures idle { IsIdle false (state self.new) }
         ensures unread { IfOk result (λ heard. SaysWhy heard (hearing_of datagram.now)) };
+
+    /// A link has gone away, and all its rows with it. Gives whether that was entered.
+    fn gone(&mut self, link: usize) -> Result<bool, HubFault>
+        ensures call { DoesApart (Went link result) (state self.old) (state self.new) }
+        ensures idle { IsIdle false (state self.new) };
 
     /// It is a moment.
     fn moment(&mut self, at: u64) -> Result<(), HubFault>

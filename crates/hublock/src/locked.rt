@@ -9,9 +9,9 @@ ghost use Rattle.pushserver.specs.Hubs.{max_sessions};
 ghost use Rattle.pushserver.specs.KeptHubs.{StandsFor};
 ghost use Rattle.pushserver.specs.Counting.{octets_of};
 ghost use Rattle.pushserver.specs.Observing.{SaysWhy};
-ghost use Rattle.hublock.specs.Calls.{Connected, Does, Gave, Left, Passed, Received, Took, fault_of};
+ghost use Rattle.hublock.specs.Calls.{Connected, Does, Gave, Left, Passed, Received, Took, Went, fault_of};
 ghost use Rattle.hublock.specs.Feeds.{IsBelow, each, parts_each};
-ghost use Rattle.hublock.specs.Inside.{AcceptsAsHeard, AcceptsNone, MayAcceptChange, MayAcceptMoment, counted, is_done, signalled, with_hub, without_mark};
+ghost use Rattle.hublock.specs.Inside.{AcceptsAsGone, AcceptsAsHeard, AcceptsNone, MayAcceptChange, MayAcceptMoment, counted, is_done, signalled, with_hub, without_mark};
 
 use crate::books::{Books, Changes, Hearings, Moments, Sessions};
 use crate::marks::Marks;
@@ -138,6 +138,26 @@ impl<B: Books> Locked<B> {
     {
         let before = self.hub.counts();
         let answer = self.hub.hear_uncounted(link, datagram);
+        let after = self.hub.counts();
+        feed.record(
+            &mut self.changes,
+            &mut self.heard,
+            &mut self.moments,
+            before,
+            after,
+        );
+        self.wakes = wakes_at_entry(after.heard > before.heard);
+        answer
+    }
+
+    /// A link has gone away, and all its rows with it. Gives whether that was entered.
+    pub fn gone(&mut self, link: usize, feed: &mut Feed<B>) -> Result<bool, HubFault>
+        ensures call { Does self.old.hub (Went link result) self.new.hub }
+        ensures rest { self.new ≡ with_hub self.old self.new.hub }
+        ensures feed { AcceptsAsGone result self.old.hub self.new.hub feed.old feed.new }
+    {
+        let before = self.hub.counts();
+        let answer = self.hub.link_gone_uncounted(link);
         let after = self.hub.counts();
         feed.record(
             &mut self.changes,

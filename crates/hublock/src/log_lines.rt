@@ -43,6 +43,15 @@ pub(crate) fn tell_hearing<R: Log>(
     debug!(rt; "link {link}: {octets} octets, {}", hearing_words(answer));
 }
 
+/// A link that has gone away.
+pub(crate) fn tell_going<R: Log>(rt: &R, link: usize, answer: &Result<bool, HubFault>) {
+    match answer {
+        Ok(true) => info!(rt; "link {link}: its records are gone"),
+        Ok(false) => info!(rt; "link {link}: no records went"),
+        Err(HubFault::NoMemory) => info!(rt; "link {link}: its records stay: no memory"),
+    }
+}
+
 // What became of a datagram.
 fn hearing_words(answer: &Result<Heard, HubFault>) -> &'static str {
     match answer {

@@ -78,7 +78,7 @@ pub(crate) fn hear_link<G: Gate, D: Datagrams>(
     datagrams: &mut D,
     turns: u64,
 ) -> Ended
-    ensures run { HearsLink link (observed (G.state gate.old) (D.given datagrams.old) (D.calls datagrams.old)) (observed (G.state gate.new) (D.given datagrams.new) (D.calls datagrams.new)) (D.left datagrams.new) turns result }
+    ensures run { HearsLink link (Rose (D.faults datagrams.old) (D.faults datagrams.new)) (observed (G.state gate.old) (D.given datagrams.old) (D.calls datagrams.old)) (observed (G.state gate.new) (D.given datagrams.new) (D.calls datagrams.new)) (D.left datagrams.new) turns result }
     ensures later { D.faults datagrams.old ≤ D.faults datagrams.new }
     ensures cause { result ≡ LoopEnd.LinkFault → Rose (D.faults datagrams.old) (D.faults datagrams.new) }
 {

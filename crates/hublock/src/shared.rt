@@ -5,12 +5,12 @@ ghost use Rattle.push_base.specs.Limits.{max_moment};
 ghost use Rattle.dnswire.specs.Reading.{hearing_of};
 ghost use Rattle.pushserver.specs.Counting.{octets_of};
 ghost use Rattle.pushserver.specs.Observing.{SaysWhy};
-ghost use Rattle.hublock.specs.Calls.{Gave, Left, Passed, Received, Took, fault_of};
-ghost use Rattle.hublock.specs.Feeds.{each, one_change_more, one_moment_more, RisesAsHeard};
+ghost use Rattle.hublock.specs.Calls.{Gave, Left, Passed, Received, Took, Went, fault_of};
+ghost use Rattle.hublock.specs.Feeds.{each, one_change_more, one_moment_more, RisesAsGone, RisesAsHeard};
 ghost use Rattle.hublock.specs.Gates.{DoesApart, DoesTurn, IsIdle, Tells, Waits, has_nothing, with_line, with_session};
 ghost use Rattle.hublock.specs.Sharing.{with_feed};
 
-use crate::log_lines::{reason_in, tell_change, tell_end, tell_hearing};
+use crate::log_lines::{reason_in, tell_change, tell_end, tell_going, tell_hearing};
 use crate::wakeups::LastSeen;
 use crate::{Books, Feed, Gate, HubLock, Signal};
 use dsosession::session::EndReason;
@@ -116,6 +116,19 @@ impl<R: Log + Wait + Copy, B: Books> Gate for Shared<R, B> {
         let answer = locked.hear(link, datagram, &mut self.feed);
         self.known = self.lock.held.leave(self.role, locked);
         tell_hearing(&self.rt, link, datagram.len(), &answer);
+        answer
+    }
+
+    fn gone(&mut self, link: usize) -> Result<bool, HubFault>
+        ensures call { DoesApart (Went link result) None None }
+        ensures idle { IsIdle false None }
+        ensures feed { RisesAsGone result self.old.feed self.new.feed }
+        ensures role { self.new.role ≡ self.old.role }
+    {
+        let mut locked = self.lock.held.locked.lock(&self.rt);
+        let answer = locked.gone(link, &mut self.feed);
+        self.known = self.lock.held.leave(self.role, locked);
+        tell_going(&self.rt, link, &answer);
         answer
     }
 

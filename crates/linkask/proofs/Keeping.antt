@@ -24,6 +24,7 @@ use Rattle.linkask.specs.Asking.{pause_after, refreshes, rows_for}
 use Rattle.linkask.specs.Bounds.{Kept, AreBounds, IsBound, all_heard, first_refresh, heard_again, is_asked_for, lowered_due}
 use Rattle.linkask.specs.Laws.{EndingKeepsBounds, HearingKeepsBounds, ReconfirmingKeepsBounds}
 use Rattle.linkask.specs.declared.asks.KeptAsks.{KeptAsks}
+use Rattle.linkcache.specs.declared.rules.LinkRules.{LinkRules}
 
 -- ---- lists
 
@@ -196,10 +197,10 @@ put-admits e now h (r ∷ rs) some low all = by (key_cmp (key_of h.rr) r.0) refl
     by Equal is rest = (heard-admits e now h r.0 some low (alike (matches e.0) (key_of h.rr) r.0 is), all.1)
     by Greater is rest = (all.0, rest)
 
-puts-admit : (e : Question × KeptAsks) (domain : Labels) (now others : ℕ) (hs : List HeardRr) (rows : LinkRows) → AllByRecursion (λ h. Low now h e) hs → AllByRecursion (Admits e) rows
-    → AllByRecursion (Admits e) (fold (put_heard domain now others) rows hs)
-puts-admit e domain now others [] rows low all = all
-puts-admit e domain now others (h ∷ hs) rows low all = puts-admit e domain now others hs (put_heard domain now others rows h) low.1 (by (ttl_of h == 0) refl (has_key (key_of h.rr) rows || row_has_room domain others rows h.rr))
+puts-admit : (e : Question × KeptAsks) (rules : LinkRules) (now others : ℕ) (hs : List HeardRr) (rows : LinkRows) → AllByRecursion (λ h. Low now h e) hs → AllByRecursion (Admits e) rows
+    → AllByRecursion (Admits e) (fold (put_heard rules now others) rows hs)
+puts-admit e rules now others [] rows low all = all
+puts-admit e rules now others (h ∷ hs) rows low all = puts-admit e rules now others hs (put_heard rules now others rows h) low.1 (by (ttl_of h == 0) refl (has_key (key_of h.rr) rows || row_has_room rules others rows h.rr))
   where
     by : (gone : Bool) → (ttl_of h == 0) ≡ gone → (room : Bool)
         → AllByRecursion (Admits e) (cond gone (map (λ row. cond (same_key (key_of h.rr) row.0) (ending_by (now + second) row) row) rows) (cond room (put key_cmp (key_of h.rr) (heard_at now h) rows) rows))
@@ -260,16 +261,16 @@ turned : {X Y : Type 0} (P : X → Y → Type 0) (xs : List X) (y : Y) (ys : Lis
 turned P [] y ys h = (tt, tt)
 turned P (x ∷ xs) y ys h = let rest = turned P xs y ys h.1 in ((h.0.0, rest.0), (h.0.1, rest.1))
 
-hears : (domain : Labels) (rows : LinkRows) (now : ℕ) (usable : List HeardRr) (kept : Kept) → AllByRecursion (λ h. AllByRecursion (Low now h) kept) usable → AreBounds rows kept → AreBounds (heard_beside 0 domain rows now usable) kept
-hears domain rows now usable [] low bounds = tt
-hears domain rows now usable (e ∷ es) low bounds =
+hears : (rules : LinkRules) (rows : LinkRows) (now : ℕ) (usable : List HeardRr) (kept : Kept) → AllByRecursion (λ h. AllByRecursion (Low now h) kept) usable → AreBounds rows kept → AreBounds (heard_beside 0 rules rows now usable) kept
+hears rules rows now usable [] low bounds = tt
+hears rules rows now usable (e ∷ es) low bounds =
     let both = turned (Low now) usable e es low in (
-      changes rows (heard_beside 0 domain rows now usable) e e.1.due (omega arith)
-          (λ all. flushes-admit e now (filter (λ h. h.flush) usable) (fold (put_heard domain now 0) rows usable) (puts-admit e domain now 0 usable rows both.0 all)) bounds.0,
-      hears domain rows now usable es both.1 bounds.1,
+      changes rows (heard_beside 0 rules rows now usable) e e.1.due (omega arith)
+          (λ all. flushes-admit e now (filter (λ h. h.flush) usable) (fold (put_heard rules now 0) rows usable) (puts-admit e rules now 0 usable rows both.0 all)) bounds.0,
+      hears rules rows now usable es both.1 bounds.1,
     )
 
 pub hearing_keeps : HearingKeepsBounds
-hearing_keeps domain rows now hearing kept bounds =
-    hears domain rows now (usable_of domain hearing) (all_heard now hearing kept)
-    (all_filter (λ h. AllByRecursion (Low now h) (all_heard now hearing kept)) (λ h. is_usable domain h.rr) hearing (low-behind now hearing kept)) (all-lower-keeps rows now hearing kept bounds)
+hearing_keeps rules rows now hearing kept bounds =
+    hears rules rows now (usable_of rules hearing) (all_heard now hearing kept)
+    (all_filter (λ h. AllByRecursion (Low now h) (all_heard now hearing kept)) (λ h. is_usable rules.domain h.rr) hearing (low-behind now hearing kept)) (all-lower-keeps rows now hearing kept bounds)

@@ -6,13 +6,13 @@
 --     GoingKeepsBounds, ReasonsKeepBounds      and where all rows of a link go at once, and where a reason comes or goes or a question begins anew
 --     WantingWants, UnwantingDrops, BeginningAnew      what these do to the questions that are wanted
 use Rattle.std.specs.Prelude.{◌≡◌, ℕ, false, List, [], ◌∷◌, Some, None, nat_le, nat_lt, IsTrue, if◌then◌else◌}
-use Rattle.dnsname.specs.Names.{Labels}
 use Rattle.rrset.specs.declared.record.Key.{Key}
 use Rattle.rrset.specs.declared.record.Question.{Question}
 use Rattle.rrset.specs.declared.record.HeardRr.{HeardRr}
 use Rattle.linkcache.specs.Rows.{LinkRows, at_moment, heard, reconfirmed}
 use Rattle.linkask.specs.Asking.{Asks, Wanted, anew, are_in_order, is_due, next, all_due, all_asked, asked_now, unwanted, wanted}
 use Rattle.linkask.specs.Bounds.{Kept, due_moment, AreBounds, all_heard, are_kept, begun_anew, reasons_for, wanted_in, with_reason, without_reason}
+use Rattle.linkcache.specs.declared.rules.LinkRules.{LinkRules}
 
 abbrev pub DueByMoment : Type 0
 DueByMoment = (rows : LinkRows) (now : ℕ) (e : Question × Asks) → is_due rows now e ≡ nat_le (due_moment rows e) now
@@ -40,7 +40,7 @@ abbrev pub ReconfirmingKeepsBounds : Type 0
 ReconfirmingKeepsBounds = (rows : LinkRows) (key : Key) (now : ℕ) (kept : Kept) → AreBounds rows kept → AreBounds (reconfirmed rows key now) kept
 
 abbrev pub HearingKeepsBounds : Type 0
-HearingKeepsBounds = (domain : Labels) (rows : LinkRows) (now : ℕ) (hearing : List HeardRr) (kept : Kept) → AreBounds rows kept → AreBounds (heard domain rows now hearing) (all_heard now hearing kept)
+HearingKeepsBounds = (rules : LinkRules) (rows : LinkRows) (now : ℕ) (hearing : List HeardRr) (kept : Kept) → AreBounds rows kept → AreBounds (heard rules rows now hearing) (all_heard now hearing kept)
 
 abbrev pub GoingKeepsBounds : Type 0
 GoingKeepsBounds = (rows : LinkRows) (kept : Kept) → AreBounds rows kept → AreBounds [] kept

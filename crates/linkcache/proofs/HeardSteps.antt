@@ -3,7 +3,6 @@ use Rattle.std.proofs.Common.{◌≡◌, ℕ, ◌+◌, ◌<◌, Bool, true, fals
 use Rattle.std.specs.Prelude.{◌==◌, if◌then◌else◌}
 use Rattle.std.specs.Option.{MatchOption}
 use Rattle.std.proofs.lemmas.List.{drop_more}
-use Rattle.dnsname.specs.Names.{Labels}
 use Rattle.rrset.specs.declared.record.Key.{Key}
 use Rattle.rrset.specs.declared.record.HeardRr.{HeardRr}
 use Rattle.rrset.specs.Records.{key_of, same_key}
@@ -15,6 +14,7 @@ use Rattle.linkcache.specs.Rows.{LinkRows, ttl_of, second, ending_by, has_key, r
 use Rattle.linkcache.specs.Sound.{AreLinkRows}
 use Rattle.linkcache.proofs.KeyedParts.{Rising, KeepsKeys, rising-map, rising-put}
 use Rattle.linkcache.proofs.SoundSteps.{sound-put}
+use Rattle.linkcache.specs.declared.rules.LinkRules.{LinkRules}
 
 -- a key has a row where one is found
 pub has-found : (key : Key) (rows : LinkRows) → is_some (row_at key rows) ≡ has_key key rows
@@ -31,31 +31,31 @@ has-matched now key rows (Some a) h = sym (ap is_some h) ∙ has-found key rows
 
 -- ---- the records from a place on
 
-module _ (domain : Labels) (hs : List HeardRr) (i : ℕ) (h : HeardRr) (within : i < length hs) (is : h ≡ get_or hs i h) where
-  from : usable_of domain (drop i hs) ≡ cond (is_usable domain h.rr) (h ∷ usable_of domain (drop (i + 1) hs)) (usable_of domain (drop (i + 1) hs))
-  from = ap (usable_of domain) (drop_more hs i h within) ∙ ap (λ x. usable_of domain (x ∷ drop (i + 1) hs)) (sym is)
+module _ (rules : LinkRules) (hs : List HeardRr) (i : ℕ) (h : HeardRr) (within : i < length hs) (is : h ≡ get_or hs i h) where
+  from : usable_of rules (drop i hs) ≡ cond (is_usable rules.domain h.rr) (h ∷ usable_of rules (drop (i + 1) hs)) (usable_of rules (drop (i + 1) hs))
+  from = ap (usable_of rules) (drop_more hs i h within) ∙ ap (λ x. usable_of rules (x ∷ drop (i + 1) hs)) (sym is)
 
-  pub usable-more : is_usable domain h.rr ≡ true → usable_of domain (drop i hs) ≡ h ∷ usable_of domain (drop (i + 1) hs)
-  usable-more e = from ∙ ap (λ b. cond b (h ∷ usable_of domain (drop (i + 1) hs)) (usable_of domain (drop (i + 1) hs))) e
+  pub usable-more : is_usable rules.domain h.rr ≡ true → usable_of rules (drop i hs) ≡ h ∷ usable_of rules (drop (i + 1) hs)
+  usable-more e = from ∙ ap (λ b. cond b (h ∷ usable_of rules (drop (i + 1) hs)) (usable_of rules (drop (i + 1) hs))) e
 
-  pub usable-skip : is_usable domain h.rr ≡ false → usable_of domain (drop i hs) ≡ usable_of domain (drop (i + 1) hs)
-  usable-skip e = from ∙ ap (λ b. cond b (h ∷ usable_of domain (drop (i + 1) hs)) (usable_of domain (drop (i + 1) hs))) e
+  pub usable-skip : is_usable rules.domain h.rr ≡ false → usable_of rules (drop i hs) ≡ usable_of rules (drop (i + 1) hs)
+  usable-skip e = from ∙ ap (λ b. cond b (h ∷ usable_of rules (drop (i + 1) hs)) (usable_of rules (drop (i + 1) hs))) e
 
   abbrev pub flushing : List HeardRr → List HeardRr
-  flushing xs = filter (λ h. h.flush) (usable_of domain xs)
+  flushing xs = filter (λ h. h.flush) (usable_of rules xs)
 
-  pub flushing-more : (h.flush && is_usable domain h.rr) ≡ true → flushing (drop i hs) ≡ h ∷ flushing (drop (i + 1) hs)
-  flushing-more e = ap (λ (l : List HeardRr). filter (λ h. h.flush) l) from ∙ by h.flush (is_usable domain h.rr) refl e
+  pub flushing-more : (h.flush && is_usable rules.domain h.rr) ≡ true → flushing (drop i hs) ≡ h ∷ flushing (drop (i + 1) hs)
+  flushing-more e = ap (λ (l : List HeardRr). filter (λ h. h.flush) l) from ∙ by h.flush (is_usable rules.domain h.rr) refl e
     where
-      by : (f u : Bool) → h.flush ≡ f → (f && u) ≡ true → filter (λ h. h.flush) (cond u (h ∷ usable_of domain (drop (i + 1) hs)) (usable_of domain (drop (i + 1) hs))) ≡ h ∷ flushing (drop (i + 1) hs)
+      by : (f u : Bool) → h.flush ≡ f → (f && u) ≡ true → filter (λ h. h.flush) (cond u (h ∷ usable_of rules (drop (i + 1) hs)) (usable_of rules (drop (i + 1) hs))) ≡ h ∷ flushing (drop (i + 1) hs)
       by true true f-is both = ap (λ b. cond b (h ∷ flushing (drop (i + 1) hs)) (flushing (drop (i + 1) hs))) f-is
       by true false f-is both = absurd cc
       by false u f-is both = absurd cc
 
-  pub flushing-skip : (h.flush && is_usable domain h.rr) ≡ false → flushing (drop i hs) ≡ flushing (drop (i + 1) hs)
-  flushing-skip e = ap (λ (l : List HeardRr). filter (λ h. h.flush) l) from ∙ by h.flush (is_usable domain h.rr) refl e
+  pub flushing-skip : (h.flush && is_usable rules.domain h.rr) ≡ false → flushing (drop i hs) ≡ flushing (drop (i + 1) hs)
+  flushing-skip e = ap (λ (l : List HeardRr). filter (λ h. h.flush) l) from ∙ by h.flush (is_usable rules.domain h.rr) refl e
     where
-      by : (f u : Bool) → h.flush ≡ f → (f && u) ≡ false → filter (λ h. h.flush) (cond u (h ∷ usable_of domain (drop (i + 1) hs)) (usable_of domain (drop (i + 1) hs))) ≡ flushing (drop (i + 1) hs)
+      by : (f u : Bool) → h.flush ≡ f → (f && u) ≡ false → filter (λ h. h.flush) (cond u (h ∷ usable_of rules (drop (i + 1) hs)) (usable_of rules (drop (i + 1) hs))) ≡ flushing (drop (i + 1) hs)
       by true true f-is both = absurd cc
       by true false f-is both = refl
       by false true f-is both = ap (λ b. cond b (h ∷ flushing (drop (i + 1) hs)) (flushing (drop (i + 1) hs))) f-is
@@ -63,8 +63,8 @@ module _ (domain : Labels) (hs : List HeardRr) (i : ℕ) (h : HeardRr) (within :
 
 -- ---- the first pass, record by record
 
-pub rising-put_heard : (domain : Labels) (now others : ℕ) (rows : LinkRows) (h : HeardRr) → Rising rows → Rising (put_heard domain now others rows h)
-rising-put_heard domain now others rows h rising = by (ttl_of h == 0) (has_key k rows || row_has_room domain others rows h.rr)
+pub rising-put_heard : (rules : LinkRules) (now others : ℕ) (rows : LinkRows) (h : HeardRr) → Rising rows → Rising (put_heard rules now others rows h)
+rising-put_heard rules now others rows h rising = by (ttl_of h == 0) (has_key k rows || row_has_room rules others rows h.rr)
   where
     k : Key
     k = key_of h.rr
@@ -82,28 +82,28 @@ rising-put_heard domain now others rows h rising = by (ttl_of h == 0) (has_key k
     by false false = rising
 
 -- the rows so far, and what is left to be heard
-pub record PutSoFar (domain : Labels) (now others : ℕ) (rows work : LinkRows) (left all : List HeardRr) : Type 0 where
+pub record PutSoFar (rules : LinkRules) (now others : ℕ) (rows work : LinkRows) (left all : List HeardRr) : Type 0 where
   pub order : is_rising work ≡ true
-  pub sound : AreLinkRows domain work
-  pub rest : fold (put_heard domain now others) work (usable_of domain left) ≡ fold (put_heard domain now others) rows (usable_of domain all)
+  pub sound : AreLinkRows rules work
+  pub rest : fold (put_heard rules now others) work (usable_of rules left) ≡ fold (put_heard rules now others) rows (usable_of rules all)
 
 is_true : (b : Bool) → T b → b ≡ true
 is_true true h = refl
 is_true false h = absurd h
 
-module _ (domain : Labels) (now others : ℕ) (rows : LinkRows) (hs : List HeardRr) (i : ℕ) (h : HeardRr) (within : i < length hs) (is : h ≡ get_or hs i h) where
-  pub put_more : (work later : LinkRows) → is_usable domain h.rr ≡ true → PutSoFar domain now others rows work (drop i hs) hs → later ≡ put_heard domain now others work h → PutSoFar domain now others rows later (drop (i + 1) hs) hs
+module _ (rules : LinkRules) (now others : ℕ) (rows : LinkRows) (hs : List HeardRr) (i : ℕ) (h : HeardRr) (within : i < length hs) (is : h ≡ get_or hs i h) where
+  pub put_more : (work later : LinkRows) → is_usable rules.domain h.rr ≡ true → PutSoFar rules now others rows work (drop i hs) hs → later ≡ put_heard rules now others work h → PutSoFar rules now others rows later (drop (i + 1) hs) hs
   put_more work later usable so_far later-is = record {
-    order = is_true (is_rising later) (subst Rising (sym later-is) (rising-put_heard domain now others work h (subst T (sym so_far.order) tt)));
-    sound = subst (AreLinkRows domain) (sym later-is) (sound-put domain now others work h usable so_far.sound);
-    rest = ap (λ (l : LinkRows). fold (put_heard domain now others) l (usable_of domain (drop (i + 1) hs))) later-is ∙ ap (fold (put_heard domain now others) work) (sym (usable-more domain hs i h within is usable)) ∙ so_far.rest;
+    order = is_true (is_rising later) (subst Rising (sym later-is) (rising-put_heard rules now others work h (subst T (sym so_far.order) tt)));
+    sound = subst (AreLinkRows rules) (sym later-is) (sound-put rules now others work h usable so_far.sound);
+    rest = ap (λ (l : LinkRows). fold (put_heard rules now others) l (usable_of rules (drop (i + 1) hs))) later-is ∙ ap (fold (put_heard rules now others) work) (sym (usable-more rules hs i h within is usable)) ∙ so_far.rest;
   }
 
-  pub put_skip : (work : LinkRows) → is_usable domain h.rr ≡ false → PutSoFar domain now others rows work (drop i hs) hs → PutSoFar domain now others rows work (drop (i + 1) hs) hs
+  pub put_skip : (work : LinkRows) → is_usable rules.domain h.rr ≡ false → PutSoFar rules now others rows work (drop i hs) hs → PutSoFar rules now others rows work (drop (i + 1) hs) hs
   put_skip work usable so_far = record {
     order = so_far.order;
     sound = so_far.sound;
-    rest = ap (fold (put_heard domain now others) work) (sym (usable-skip domain hs i h within is usable)) ∙ so_far.rest;
+    rest = ap (fold (put_heard rules now others) work) (sym (usable-skip rules hs i h within is usable)) ∙ so_far.rest;
   }
 
 -- ---- keys stay in lower case

@@ -18,3 +18,5 @@ pub mod LeadingPlans
 pub mod KeptEnds
 pub mod PlanRoom
 pub mod ShownNodes
+pub mod GoneRows
+pub mod RowCopies

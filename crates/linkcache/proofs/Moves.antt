@@ -1,7 +1,7 @@
 -- The changes of a plan, made to the rows, give the later rows.
 use Rattle.std.proofs.Common.{◌≡◌, Bool, true, false, cond, not, ◌||◌, List, [], ◌∷◌, ◌++◌, map, Option, Some, None, is_some, refl, sym, ap, ◌∙◌}
 use Rattle.std.specs.List.{AllByRecursion}
-use Rattle.dnsname.specs.Names.{Labels, IsName}
+use Rattle.dnsname.specs.Names.{IsName}
 use Rattle.rrset.specs.declared.record.Key.{Key}
 use Rattle.rrset.specs.Records.{same_key}
 use Rattle.rrset.specs.RecordSet.{changes}
@@ -19,6 +19,7 @@ use Rattle.linkcache.specs.Within.{IsWithin}
 use Rattle.linkcache.specs.Parts.{fails}
 use Rattle.linkcache.proofs.KeyedParts.{Rising, same_maps, row_at-only, row_at-put, rising-put, rising-only}
 use Rattle.linkcache.proofs.ShownParts.{changes-part}
+use Rattle.linkcache.specs.declared.rules.LinkRules.{LinkRules}
 
 row_at-without : (q key : Key) (rows : LinkRows) → row_at q (without_rows (same_key key) rows) ≡ cond (same_key q key) None (row_at q rows)
 row_at-without q key rows = row_at-only (λ k. not (same_key key k)) q rows ∙ ap (λ b. cond (not b) (row_at q rows) None) (same_key-turned key q) ∙ by (same_key q key)
@@ -121,13 +122,13 @@ lower_moves part work h g =
 
 -- ---- a plan from one part to another
 
-pub leads : (domain : Labels) → IsName domain → (p : Key → Bool) (rows later part work : LinkRows) (plan : LinkPlan)
-    → Rising rows → Rising later → AreLinkRows domain rows → AreLinkRows domain later → IsWithin domain later → only_rows (fails p) rows ≡ only_rows (fails p) later → part ≡ only_rows p rows → work ≡ only_rows p later
-    → IsPlanBetween domain part work plan → Leads domain rows plan later
-leads domain name p rows later part work plan h g sound sound_later within agree part-is work-is between = record {
+pub leads : (rules : LinkRules) → IsName rules.domain → (p : Key → Bool) (rows later part work : LinkRows) (plan : LinkPlan)
+    → Rising rows → Rising later → AreLinkRows rules rows → AreLinkRows rules later → IsWithin rules later → only_rows (fails p) rows ≡ only_rows (fails p) later → part ≡ only_rows p rows → work ≡ only_rows p later
+    → IsPlanBetween rules part work plan → Leads rules rows plan later
+leads rules name p rows later part work plan h g sound sound_later within agree part-is work-is between = record {
   keys = between.keys;
   reached = ap (λ cs. with_row_changes cs rows) (between.moved ∙ (λ i. moves (part-is i) (work-is i))) ∙ reached p rows later h g agree;
-  shown = between.shown ∙ (λ i. changes (shown_rows domain (part-is i)) (shown_rows domain (work-is i))) ∙ sym (changes-part domain name p rows later sound sound_later agree);
+  shown = between.shown ∙ (λ i. changes (shown_rows rules (part-is i)) (shown_rows rules (work-is i))) ∙ sym (changes-part rules name p rows later sound sound_later agree);
   sound = sound_later;
   within = within;
 }

@@ -30,59 +30,60 @@ use Rattle.linkcache.specs.Within.{IsWithin}
 use Rattle.linkcache.proofs.KeyedParts.{Rising}
 use Rattle.linkcache.proofs.SoundSteps.{sound-put, usable-of}
 use Rattle.linkcache.proofs.HeardSteps.{has-found, rising-put_heard}
+use Rattle.linkcache.specs.declared.rules.LinkRules.{LinkRules}
 
-abbrev pub row_size : Labels → Key × HeardRow → ℕ
-row_size domain row = rr_size (renamed_rr local domain (rr_of_row row))
+abbrev pub row_size : LinkRules → Key × HeardRow → ℕ
+row_size rules row = rr_size (renamed_rr local rules.domain (rr_of_row row))
 
 -- what a row adds to the octets of an owner
-abbrev size_if : Labels → Labels → Key × HeardRow → ℕ
-size_if domain owner row = cond (same_name owner row.0.owner) (row_size domain row) 0
+abbrev size_if : LinkRules → Labels → Key × HeardRow → ℕ
+size_if rules owner row = cond (same_name owner row.0.owner) (row_size rules row) 0
 
-pub size-cons : (domain owner : Labels) (e : Key × HeardRow) (es : LinkRows) → size_under domain owner (e ∷ es) ≡ size_if domain owner e + size_under domain owner es
-size-cons domain owner e es = by (same_name owner e.0.owner)
+pub size-cons : (rules : LinkRules) (owner : Labels) (e : Key × HeardRow) (es : LinkRows) → size_under rules owner (e ∷ es) ≡ size_if rules owner e + size_under rules owner es
+size-cons rules owner e es = by (same_name owner e.0.owner)
   where
     rest : LinkRows
     rest = filter (λ row. same_name owner row.0.owner) es
 
-    by : (b : Bool) → sum_by (row_size domain) (cond b (e ∷ rest) rest) ≡ cond b (row_size domain e) 0 + sum_by (row_size domain) rest
-    by true = sum_by-cons (row_size domain) e rest
+    by : (b : Bool) → sum_by (row_size rules) (cond b (e ∷ rest) rest) ≡ cond b (row_size rules e) 0 + sum_by (row_size rules) rest
+    by true = sum_by-cons (row_size rules) e rest
     by false = omega arith
 
 -- names that are one have one size
-size-alike : (domain a b : Labels) (rows : LinkRows) → lower a ≡ lower b → size_under domain a rows ≡ size_under domain b rows
-size-alike domain a b rows e = ap (λ low. sum_by (row_size domain) (filter (λ (row : Key × HeardRow). bytes_eq (octets low) (octets (lower row.0.owner))) rows)) e
+size-alike : (rules : LinkRules) (a b : Labels) (rows : LinkRows) → lower a ≡ lower b → size_under rules a rows ≡ size_under rules b rows
+size-alike rules a b rows e = ap (λ low. sum_by (row_size rules) (filter (λ (row : Key × HeardRow). bytes_eq (octets low) (octets (lower row.0.owner))) rows)) e
 
 -- ---- changes of the ends alone
 
 abbrev ending : (Key × HeardRow → Bool) → ℕ → Key × HeardRow → Key × HeardRow
 ending test moment row = cond (test row) (ending_by moment row) row
 
-size-ending : (domain owner : Labels) (test : Key × HeardRow → Bool) (moment : ℕ) (rows : LinkRows) → size_under domain owner (map (λ row. cond (test row) (ending_by moment row) row) rows) ≡ size_under domain owner rows
-size-ending domain owner test moment [] = refl
-size-ending domain owner test moment (e ∷ es) =
-    size-cons domain owner (ending test moment e) (map (ending test moment) es)
-    ∙ (λ i. one (test e) i + size-ending domain owner test moment es i)
-    ∙ sym (size-cons domain owner e es)
+size-ending : (rules : LinkRules) (owner : Labels) (test : Key × HeardRow → Bool) (moment : ℕ) (rows : LinkRows) → size_under rules owner (map (λ row. cond (test row) (ending_by moment row) row) rows) ≡ size_under rules owner rows
+size-ending rules owner test moment [] = refl
+size-ending rules owner test moment (e ∷ es) =
+    size-cons rules owner (ending test moment e) (map (ending test moment) es)
+    ∙ (λ i. one (test e) i + size-ending rules owner test moment es i)
+    ∙ sym (size-cons rules owner e es)
   where
-    one : (b : Bool) → size_if domain owner (cond b (ending_by moment e) e) ≡ size_if domain owner e
+    one : (b : Bool) → size_if rules owner (cond b (ending_by moment e) e) ≡ size_if rules owner e
     one true = refl
     one false = refl
 
-within-ending : (domain : Labels) (test : Key × HeardRow → Bool) (moment : ℕ) (rows : LinkRows) → IsWithin domain rows → IsWithin domain (map (λ row. cond (test row) (ending_by moment row) row) rows)
-within-ending domain test moment rows within = record {
+within-ending : (rules : LinkRules) (test : Key × HeardRow → Bool) (moment : ℕ) (rows : LinkRows) → IsWithin rules rows → IsWithin rules (map (λ row. cond (test row) (ending_by moment row) row) rows)
+within-ending rules test moment rows within = record {
   few = subst (λ n. n ≤ max_rows) (sym (length-map rows (ending test moment))) within.few;
-  owners = λ owner. subst (λ n. n ≤ max_octets_at_name) (sym (size-ending domain owner test moment rows)) (within.owners owner);
+  owners = λ owner. subst (λ n. n ≤ max_octets_at_name) (sym (size-ending rules owner test moment rows)) (within.owners owner);
 }
 
 -- ---- fewer rows
 
-size-filter : (domain owner : Labels) (g : Key × HeardRow → Bool) (rows : LinkRows) → size_under domain owner (filter g rows) ≤ size_under domain owner rows
-size-filter domain owner g [] = omega arith
-size-filter domain owner g (e ∷ es) = by (g e) (size-filter domain owner g es)
+size-filter : (rules : LinkRules) (owner : Labels) (g : Key × HeardRow → Bool) (rows : LinkRows) → size_under rules owner (filter g rows) ≤ size_under rules owner rows
+size-filter rules owner g [] = omega arith
+size-filter rules owner g (e ∷ es) = by (g e) (size-filter rules owner g es)
   where
-    by : (b : Bool) → size_under domain owner (filter g es) ≤ size_under domain owner es → size_under domain owner (cond b (e ∷ filter g es) (filter g es)) ≤ size_under domain owner (e ∷ es)
-    by true rest = let mine = size-cons domain owner e (filter g es) in let all = size-cons domain owner e es in omega arith
-    by false rest = let all = size-cons domain owner e es in omega arith
+    by : (b : Bool) → size_under rules owner (filter g es) ≤ size_under rules owner es → size_under rules owner (cond b (e ∷ filter g es) (filter g es)) ≤ size_under rules owner (e ∷ es)
+    by true rest = let mine = size-cons rules owner e (filter g es) in let all = size-cons rules owner e es in omega arith
+    by false rest = let all = size-cons rules owner e es in omega arith
 
 length-filter-le : (g : Key × HeardRow → Bool) (rows : LinkRows) → length (filter g rows) ≤ length rows
 length-filter-le g [] = omega arith
@@ -92,29 +93,29 @@ length-filter-le g (e ∷ es) = by (g e) (length-filter-le g es)
     by true rest = omega arith
     by false rest = omega arith
 
-pub within-moment : (domain : Labels) (now : ℕ) (rows : LinkRows) → IsWithin domain rows → IsWithin domain (at_moment rows now)
-within-moment domain now rows within = record {
+pub within-moment : (rules : LinkRules) (now : ℕ) (rows : LinkRows) → IsWithin rules rows → IsWithin rules (at_moment rows now)
+within-moment rules now rows within = record {
   few = let less = length-filter-le (λ row. nat_lt now row.1.ends) rows in let few = within.few in omega arith;
-  owners = λ owner. let less = size-filter domain owner (λ row. nat_lt now row.1.ends) rows in let fits = within.owners owner in omega arith;
+  owners = λ owner. let less = size-filter rules owner (λ row. nat_lt now row.1.ends) rows in let fits = within.owners owner in omega arith;
 }
 
 -- ---- a row put
 
-size-put : (domain owner : Labels) (k : Key) (v : HeardRow) (rows : LinkRows) → size_under domain owner (put_row k v rows) ≤ size_under domain owner rows + size_if domain owner (k, v)
-size-put domain owner k v [] = let first = size-cons domain owner (k, v) [] in omega arith
-size-put domain owner k v (e ∷ es) = by (key_cmp k e.0) refl (size-put domain owner k v es)
+size-put : (rules : LinkRules) (owner : Labels) (k : Key) (v : HeardRow) (rows : LinkRows) → size_under rules owner (put_row k v rows) ≤ size_under rules owner rows + size_if rules owner (k, v)
+size-put rules owner k v [] = let first = size-cons rules owner (k, v) [] in omega arith
+size-put rules owner k v (e ∷ es) = by (key_cmp k e.0) refl (size-put rules owner k v es)
   where
-    by : (o : Ordering) → key_cmp k e.0 ≡ o → size_under domain owner (put_row k v es) ≤ size_under domain owner es + size_if domain owner (k, v)
-        → size_under domain owner (by_order o ((k, v) ∷ e ∷ es) ((e.0, v) ∷ es) (e ∷ put_row k v es)) ≤ size_under domain owner (e ∷ es) + size_if domain owner (k, v)
-    by Less is h = let first = size-cons domain owner (k, v) (e ∷ es) in omega arith
+    by : (o : Ordering) → key_cmp k e.0 ≡ o → size_under rules owner (put_row k v es) ≤ size_under rules owner es + size_if rules owner (k, v)
+        → size_under rules owner (by_order o ((k, v) ∷ e ∷ es) ((e.0, v) ∷ es) (e ∷ put_row k v es)) ≤ size_under rules owner (e ∷ es) + size_if rules owner (k, v)
+    by Less is h = let first = size-cons rules owner (k, v) (e ∷ es) in omega arith
     by Equal is h =
-        let first = size-cons domain owner (e.0, v) es in
-        let all = size-cons domain owner e es in
-        let same : size_if domain owner (e.0, v) ≡ size_if domain owner (k, v) = ap (λ x. size_if domain owner (x, v)) (sym (key_cmp-IsAntisymmetric k e.0 is)) in
+        let first = size-cons rules owner (e.0, v) es in
+        let all = size-cons rules owner e es in
+        let same : size_if rules owner (e.0, v) ≡ size_if rules owner (k, v) = ap (λ x. size_if rules owner (x, v)) (sym (key_cmp-IsAntisymmetric k e.0 is)) in
         omega arith
     by Greater is h =
-        let first = size-cons domain owner e (put_row k v es) in
-        let all = size-cons domain owner e es in
+        let first = size-cons rules owner e (put_row k v es) in
+        let all = size-cons rules owner e es in
         omega arith
 
 length-put : (k : Key) (v : HeardRow) (rows : LinkRows) → length (put_row k v rows) ≤ length rows + 1
@@ -138,38 +139,38 @@ behind_none k x (e ∷ es) less below =
     ap (λ o. cond (is_eq o) (Some e.1) (row_at k es)) (key_cmp_total.trans k x e.0 less (is_less (key_cmp x e.0) (and_left _ _ below))) ∙ behind_none k x es less (and_right _ _ below)
 
 -- a row in place of another with its key
-record Replaces (domain owner : Labels) (rows later : LinkRows) : Type 0 where
-  size : size_under domain owner later ≡ size_under domain owner rows
+record Replaces (rules : LinkRules) (owner : Labels) (rows later : LinkRows) : Type 0 where
+  size : size_under rules owner later ≡ size_under rules owner rows
   count : length later ≡ length rows
 
-replaces : (domain owner : Labels) (k : Key) (v old : HeardRow) (rows : LinkRows) → Rising rows → row_at k rows ≡ Some old → row_size domain (k, v) ≡ row_size domain (k, old) → Replaces domain owner rows (put_row k v rows)
-replaces domain owner k v old [] h found same = absurd cc
-replaces domain owner k v old (e ∷ es) h found same = by (key_cmp k e.0) refl found (λ there. replaces domain owner k v old es (and_right _ _ h) there same)
+replaces : (rules : LinkRules) (owner : Labels) (k : Key) (v old : HeardRow) (rows : LinkRows) → Rising rows → row_at k rows ≡ Some old → row_size rules (k, v) ≡ row_size rules (k, old) → Replaces rules owner rows (put_row k v rows)
+replaces rules owner k v old [] h found same = absurd cc
+replaces rules owner k v old (e ∷ es) h found same = by (key_cmp k e.0) refl found (λ there. replaces rules owner k v old es (and_right _ _ h) there same)
   where
-    by : (o : Ordering) → key_cmp k e.0 ≡ o → cond (is_eq o) (Some e.1) (row_at k es) ≡ Some old → (row_at k es ≡ Some old → Replaces domain owner es (put_row k v es))
-        → Replaces domain owner (e ∷ es) (by_order o ((k, v) ∷ e ∷ es) ((e.0, v) ∷ es) (e ∷ put_row k v es))
+    by : (o : Ordering) → key_cmp k e.0 ≡ o → cond (is_eq o) (Some e.1) (row_at k es) ≡ Some old → (row_at k es ≡ Some old → Replaces rules owner es (put_row k v es))
+        → Replaces rules owner (e ∷ es) (by_order o ((k, v) ∷ e ∷ es) ((e.0, v) ∷ es) (e ∷ put_row k v es))
     by Less is at rest = let none : None ≡ Some old = sym (behind_none k e.0 es is (and_left _ _ h)) ∙ at in absurd cc
     by Equal is at rest =
         let key = key_cmp-IsAntisymmetric k e.0 is in
         let value : e.1 ≡ old = ap (λ (o : Option HeardRow). elim o [ None ↦ old | Some row ↦ row ]) at in
-        let mine : row_size domain (e.0, v) ≡ row_size domain e = ap (λ x. row_size domain (x, v)) (sym key) ∙ same ∙ (λ i. row_size domain (key i, sym value i)) in
+        let mine : row_size rules (e.0, v) ≡ row_size rules e = ap (λ x. row_size rules (x, v)) (sym key) ∙ same ∙ (λ i. row_size rules (key i, sym value i)) in
         record {
-          size = size-cons domain owner (e.0, v) es ∙ (λ i. cond (same_name owner e.0.owner) (mine i) 0 + size_under domain owner es) ∙ sym (size-cons domain owner e es);
+          size = size-cons rules owner (e.0, v) es ∙ (λ i. cond (same_name owner e.0.owner) (mine i) 0 + size_under rules owner es) ∙ sym (size-cons rules owner e es);
           count = refl;
         }
     by Greater is at rest =
         let behind = rest at in
         record {
-          size = size-cons domain owner e (put_row k v es) ∙ ap (λ n. size_if domain owner e + n) behind.size ∙ sym (size-cons domain owner e es);
+          size = size-cons rules owner e (put_row k v es) ∙ ap (λ n. size_if rules owner e + n) behind.size ∙ sym (size-cons rules owner e es);
           count = ap (λ n. suc n) behind.count;
         }
 
 -- ---- a record heard
 
 -- the row of a key is one of a usable record with the key
-found-key : (domain : Labels) (k : Key) (old : HeardRow) (rows : LinkRows) → AreLinkRows domain rows → row_at k rows ≡ Some old → key_of (rr_of_row (k, old)) ≡ k
-found-key domain k old [] sound found = absurd cc
-found-key domain k old (e ∷ es) sound found = by (same_key k e.0) refl found (found-key domain k old es sound.1)
+found-key : (rules : LinkRules) (k : Key) (old : HeardRow) (rows : LinkRows) → AreLinkRows rules rows → row_at k rows ≡ Some old → key_of (rr_of_row (k, old)) ≡ k
+found-key rules k old [] sound found = absurd cc
+found-key rules k old (e ∷ es) sound found = by (same_key k e.0) refl found (found-key rules k old es sound.1)
   where
     by : (b : Bool) → same_key k e.0 ≡ b → cond b (Some e.1) (row_at k es) ≡ Some old → (row_at k es ≡ Some old → key_of (rr_of_row (k, old)) ≡ k) → key_of (rr_of_row (k, old)) ≡ k
     by true is at rest =
@@ -194,66 +195,66 @@ both_hold : (a b : Bool) → (a && b) ≡ true → (a ≡ true) × (b ≡ true)
 both_hold true b e = (refl, e)
 both_hold false b e = absurd cc
 
-within-put : (domain : Labels) (now : ℕ) (rows : LinkRows) (h : HeardRr) → Rising rows → AreLinkRows domain rows → IsWithin domain rows → IsWithin domain (put_heard domain now 0 rows h)
-within-put domain now rows h rising sound within = by (ttl_of h == 0) (has_key k rows) (row_has_room domain 0 rows h.rr) refl refl
+within-put : (rules : LinkRules) (now : ℕ) (rows : LinkRows) (h : HeardRr) → Rising rows → AreLinkRows rules rows → IsWithin rules rows → IsWithin rules (put_heard rules now 0 rows h)
+within-put rules now rows h rising sound within = by (ttl_of h == 0) (has_key k rows) (row_has_room rules 0 rows h.rr) refl refl
   where
     k : Key
     k = key_of h.rr
 
-    there : has_key k rows ≡ true → IsWithin domain (put_row k (heard_at now h) rows)
+    there : has_key k rows ≡ true → IsWithin rules (put_row k (heard_at now h) rows)
     there e =
         let found = found-row k rows e in
-        let same = size_as_one domain (rr_of_row (k, heard_at now h)) (rr_of_row (k, found.old)) (sym (found-key domain k found.old rows sound found.is)) in
+        let same = size_as_one rules.domain (rr_of_row (k, heard_at now h)) (rr_of_row (k, found.old)) (sym (found-key rules k found.old rows sound found.is)) in
         record {
-          few = let r = replaces domain h.rr.owner k (heard_at now h) found.old rows rising found.is same in subst (λ n. n ≤ max_rows) (sym r.count) within.few;
-          owners = λ owner. let r = replaces domain owner k (heard_at now h) found.old rows rising found.is same in subst (λ n. n ≤ max_octets_at_name) (sym r.size) (within.owners owner);
+          few = let r = replaces rules h.rr.owner k (heard_at now h) found.old rows rising found.is same in subst (λ n. n ≤ max_rows) (sym r.count) within.few;
+          owners = λ owner. let r = replaces rules owner k (heard_at now h) found.old rows rising found.is same in subst (λ n. n ≤ max_octets_at_name) (sym r.size) (within.owners owner);
         }
 
-    put_at : row_has_room domain 0 rows h.rr ≡ true → (owner : Labels) (b : Bool) → same_name owner k.owner ≡ b → size_under domain owner (put_row k (heard_at now h) rows) ≤ max_octets_at_name
+    put_at : row_has_room rules 0 rows h.rr ≡ true → (owner : Labels) (b : Bool) → same_name owner k.owner ≡ b → size_under rules owner (put_row k (heard_at now h) rows) ≤ max_octets_at_name
     put_at room owner true is =
-        let fits = (both_hold (nat_lt (length rows + 0) max_rows) (nat_le (size_under domain h.rr.owner rows + rr_size (renamed_rr local domain h.rr)) max_octets_at_name) room).1 in
-        let put = size-put domain owner k (heard_at now h) rows in
-        let mine : size_if domain owner (k, heard_at now h) ≡ rr_size (renamed_rr local domain h.rr) = ap (λ b. cond b (row_size domain (k, heard_at now h)) 0) is in
-        let alike = size-alike domain owner h.rr.owner rows ((same_name-Decides owner k.owner).0 is ∙ lower-twice h.rr.owner) in
-        let most : size_under domain h.rr.owner rows + rr_size (renamed_rr local domain h.rr) ≤ max_octets_at_name = leb-true _ _ fits in
+        let fits = (both_hold (nat_lt (length rows + 0) max_rows) (nat_le (size_under rules h.rr.owner rows + rr_size (renamed_rr local rules.domain h.rr)) max_octets_at_name) room).1 in
+        let put = size-put rules owner k (heard_at now h) rows in
+        let mine : size_if rules owner (k, heard_at now h) ≡ rr_size (renamed_rr local rules.domain h.rr) = ap (λ b. cond b (row_size rules (k, heard_at now h)) 0) is in
+        let alike = size-alike rules owner h.rr.owner rows ((same_name-Decides owner k.owner).0 is ∙ lower-twice h.rr.owner) in
+        let most : size_under rules h.rr.owner rows + rr_size (renamed_rr local rules.domain h.rr) ≤ max_octets_at_name = leb-true _ _ fits in
         omega arith
     put_at room owner false is =
-        let put = size-put domain owner k (heard_at now h) rows in
-        let mine : size_if domain owner (k, heard_at now h) ≡ 0 = ap (λ b. cond b (row_size domain (k, heard_at now h)) 0) is in
+        let put = size-put rules owner k (heard_at now h) rows in
+        let mine : size_if rules owner (k, heard_at now h) ≡ 0 = ap (λ b. cond b (row_size rules (k, heard_at now h)) 0) is in
         let most = within.owners owner in
         omega arith
 
-    new : row_has_room domain 0 rows h.rr ≡ true → IsWithin domain (put_row k (heard_at now h) rows)
+    new : row_has_room rules 0 rows h.rr ≡ true → IsWithin rules (put_row k (heard_at now h) rows)
     new room = record {
       few =
-          let one = (both_hold (nat_lt (length rows + 0) max_rows) (nat_le (size_under domain h.rr.owner rows + rr_size (renamed_rr local domain h.rr)) max_octets_at_name) room).0 in
+          let one = (both_hold (nat_lt (length rows + 0) max_rows) (nat_le (size_under rules h.rr.owner rows + rr_size (renamed_rr local rules.domain h.rr)) max_octets_at_name) room).0 in
           let less : suc (length rows + 0) ≤ max_rows = leb-true _ _ one in
           let put = length-put k (heard_at now h) rows in
           omega arith;
       owners = λ owner. put_at room owner (same_name owner k.owner) refl;
     }
 
-    by : (t b c : Bool) → has_key k rows ≡ b → row_has_room domain 0 rows h.rr ≡ c
-        → IsWithin domain (if t then map (λ row. cond (same_key k row.0) (ending_by (now + second) row) row) rows else if b || c then put_row k (heard_at now h) rows else rows)
-    by true b c is has = within-ending domain (λ row. same_key k row.0) (now + second) rows within
+    by : (t b c : Bool) → has_key k rows ≡ b → row_has_room rules 0 rows h.rr ≡ c
+        → IsWithin rules (if t then map (λ row. cond (same_key k row.0) (ending_by (now + second) row) row) rows else if b || c then put_row k (heard_at now h) rows else rows)
+    by true b c is has = within-ending rules (λ row. same_key k row.0) (now + second) rows within
     by false true c is has = there is
     by false false true is has = new has
     by false false false is has = within
 
-within-first : (domain : Labels) (now : ℕ) (hs : List HeardRr) (rows : LinkRows) → AllByRecursion (λ h. is_usable domain h.rr ≡ true) hs → Rising rows → AreLinkRows domain rows → IsWithin domain rows → IsWithin domain (fold (put_heard domain now 0) rows hs)
-within-first domain now [] rows usable rising sound within = within
-within-first domain now (h ∷ hs) rows usable rising sound within =
-    within-first domain now hs (put_heard domain now 0 rows h) usable.1 (rising-put_heard domain now 0 rows h rising) (sound-put domain now 0 rows h usable.0 sound) (within-put domain now rows h rising sound within)
+within-first : (rules : LinkRules) (now : ℕ) (hs : List HeardRr) (rows : LinkRows) → AllByRecursion (λ h. is_usable rules.domain h.rr ≡ true) hs → Rising rows → AreLinkRows rules rows → IsWithin rules rows → IsWithin rules (fold (put_heard rules now 0) rows hs)
+within-first rules now [] rows usable rising sound within = within
+within-first rules now (h ∷ hs) rows usable rising sound within =
+    within-first rules now hs (put_heard rules now 0 rows h) usable.1 (rising-put_heard rules now 0 rows h rising) (sound-put rules now 0 rows h usable.0 sound) (within-put rules now rows h rising sound within)
 
-within-second : (domain : Labels) (now : ℕ) (hs : List HeardRr) (rows : LinkRows) → IsWithin domain rows → IsWithin domain (fold (flushed_by now) rows hs)
-within-second domain now [] rows within = within
-within-second domain now (h ∷ hs) rows within =
-    within-second domain now hs (flushed_by now rows h) (within-ending domain (λ row. is_of_set h.rr row && nat_lt (row.1.heard + second) now) (now + second) rows within)
+within-second : (rules : LinkRules) (now : ℕ) (hs : List HeardRr) (rows : LinkRows) → IsWithin rules rows → IsWithin rules (fold (flushed_by now) rows hs)
+within-second rules now [] rows within = within
+within-second rules now (h ∷ hs) rows within =
+    within-second rules now hs (flushed_by now rows h) (within-ending rules (λ row. is_of_set h.rr row && nat_lt (row.1.heard + second) now) (now + second) rows within)
 
-pub within-heard : (domain : Labels) (now : ℕ) (hearing : List HeardRr) (rows : LinkRows) → Rising rows → AreLinkRows domain rows → IsWithin domain rows → IsWithin domain (heard domain rows now hearing)
-within-heard domain now hearing rows rising sound within =
-    let usable = usable_of domain hearing in
-    within-second domain now (filter (λ h. h.flush) usable) (fold (put_heard domain now 0) rows usable) (within-first domain now usable rows (usable-of domain hearing) rising sound within)
+pub within-heard : (rules : LinkRules) (now : ℕ) (hearing : List HeardRr) (rows : LinkRows) → Rising rows → AreLinkRows rules rows → IsWithin rules rows → IsWithin rules (heard rules rows now hearing)
+within-heard rules now hearing rows rising sound within =
+    let usable = usable_of rules hearing in
+    within-second rules now (filter (λ h. h.flush) usable) (fold (put_heard rules now 0) rows usable) (within-first rules now usable rows (usable-of rules hearing) rising sound within)
 
-pub within-reconfirmed : (domain : Labels) (key : Key) (now : ℕ) (rows : LinkRows) → IsWithin domain rows → IsWithin domain (reconfirmed rows key now)
-within-reconfirmed domain key now rows within = within-ending domain (λ row. same_key key row.0) (now + reconfirmation) rows within
+pub within-reconfirmed : (rules : LinkRules) (key : Key) (now : ℕ) (rows : LinkRows) → IsWithin rules rows → IsWithin rules (reconfirmed rows key now)
+within-reconfirmed rules key now rows within = within-ending rules (λ row. same_key key row.0) (now + reconfirmation) rows within

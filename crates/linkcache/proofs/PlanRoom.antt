@@ -4,7 +4,6 @@ use Rattle.std.specs.Result.{IfOk}
 use Rattle.std.specs.Cmp.{eq_by_cmp_equiv}
 use Rattle.std.specs.Ordering.{is_eq}
 use Rattle.std.specs.List.{AllByRecursion, filter}
-use Rattle.dnsname.specs.Names.{Labels}
 use Rattle.rrset.specs.declared.record.Key.{Key}
 use Rattle.rrset.specs.Records.{same_key}
 use Rattle.rrset.specs.KeyedRows.{only_rows, row_at}
@@ -15,6 +14,7 @@ use Rattle.linkcache.specs.declared.plan.RowChange.{RowChange}
 use Rattle.linkcache.specs.declared.row.HeardRow.{HeardRow}
 use Rattle.linkcache.specs.Rows.{LinkRows}
 use Rattle.linkcache.specs.Plans.{LinkPlan, IsPlanBetween, change_to, keys_put, moves}
+use Rattle.linkcache.specs.declared.rules.LinkRules.{LinkRules}
 
 -- what holds of a call's plan, if it gives one, by another fact of it
 pub if_ok : {A E : Type 0} (P R : A → Type 0) (r : Result A E) → IfOk r P → ((a : A) → P a → R a) → IfOk r R
@@ -88,9 +88,9 @@ keys-moves part work =
 pub room-nothing : (cs : List RowChange) (ns : Nodes HeardRow) → cs ≡ [] → HasRoomFor (keys_put cs) ns
 room-nothing cs ns is = subst (λ (l : List RowChange). HasRoomFor (keys_put l) ns) (sym is) (λ name. omega arith)
 
-pub room-planned : {E : Type 0} (domain : Labels) (part work : LinkRows) (ns : Nodes HeardRow) (r : Result LinkPlan E) → HasRoomFor (keys_of work) ns → IfOk r (IsPlanBetween domain part work) → IfOk r (λ plan. HasRoomFor (keys_put plan.rows) ns)
-room-planned domain part work ns r room between =
-    if_ok (IsPlanBetween domain part work) (λ plan. HasRoomFor (keys_put plan.rows) ns) r between
+pub room-planned : {E : Type 0} (rules : LinkRules) (part work : LinkRows) (ns : Nodes HeardRow) (r : Result LinkPlan E) → HasRoomFor (keys_of work) ns → IfOk r (IsPlanBetween rules part work) → IfOk r (λ plan. HasRoomFor (keys_put plan.rows) ns)
+room-planned rules part work ns r room between =
+    if_ok (IsPlanBetween rules part work) (λ plan. HasRoomFor (keys_put plan.rows) ns) r between
     (λ plan is. subst (λ (ks : List Key). HasRoomFor ks ns) (sym (ap keys_put is.moved ∙ keys-moves part work)) room)
 
 pub room-empty : (work : LinkRows) (ns : Nodes HeardRow) → work ≡ [] → HasRoomFor (keys_of work) ns

@@ -8,7 +8,6 @@ use Rattle.std.specs.List.{AllByRecursion}
 use Rattle.std.specs.FinMap.Entries.{by_order}
 use Rattle.std.specs.declared.cmp.Ordering.{Ordering}
 use Rattle.std.specs.declared.cmp.Ordering.TheVariants.{Less, Equal, Greater}
-use Rattle.dnsname.specs.Names.{Labels}
 use Rattle.rrset.specs.declared.record.Key.{Key}
 use Rattle.rrset.specs.declared.record.HeardRr.{HeardRr}
 use Rattle.rrset.specs.Records.{key_of, key_cmp, same_key}
@@ -19,6 +18,7 @@ use Rattle.linkcache.specs.declared.row.HeardRow.{HeardRow}
 use Rattle.rrset.specs.KeyedRows.{Rows, put_row}
 use Rattle.linkcache.specs.Rows.{LinkRows, ttl_of, second, reconfirmation, ending_by, has_key, row_has_room, heard_at, put_heard, is_of_set, flushed_by, usable_of, heard_beside, heard, at_moment, reconfirmed}
 use Rattle.linkcache.specs.Sound.{IsLinkRow, AreLinkRows}
+use Rattle.linkcache.specs.declared.rules.LinkRules.{LinkRules}
 
 pub all-put : {X : Type 0} (P : Key × X → Type 0) (k : Key) (v : X) (rows : Rows X) → P (k, v) → AllByRecursion P rows → AllByRecursion P (put_row k v rows)
 all-put P k v [] one h = (one, tt)
@@ -53,27 +53,27 @@ module _ (P : Key × HeardRow → Type 0) (ends : KeepsEnds P) where
       by true = ends e moment h.0
       by false = h.0
 
-  kept-put : (domain : Labels) (now others : ℕ) (rows : LinkRows) (h : HeardRr) → P (key_of h.rr, heard_at now h) → AllByRecursion P rows → AllByRecursion P (put_heard domain now others rows h)
-  kept-put domain now others rows h one all = by (ttl_of h == 0) (has_key (key_of h.rr) rows || row_has_room domain others rows h.rr)
+  kept-put : (rules : LinkRules) (now others : ℕ) (rows : LinkRows) (h : HeardRr) → P (key_of h.rr, heard_at now h) → AllByRecursion P rows → AllByRecursion P (put_heard rules now others rows h)
+  kept-put rules now others rows h one all = by (ttl_of h == 0) (has_key (key_of h.rr) rows || row_has_room rules others rows h.rr)
     where
       by : (t b : Bool) → AllByRecursion P (if t then map (λ row. cond (same_key (key_of h.rr) row.0) (ending_by (now + second) row) row) rows else if b then put_row (key_of h.rr) (heard_at now h) rows else rows)
       by true b = kept-ending (λ row. same_key (key_of h.rr) row.0) (now + second) rows all
       by false true = all-put P (key_of h.rr) (heard_at now h) rows one all
       by false false = all
 
-  kept-first : (domain : Labels) (now others : ℕ) (hs : List HeardRr) (rows : LinkRows) → Brings P now hs → AllByRecursion P rows → AllByRecursion P (fold (put_heard domain now others) rows hs)
-  kept-first domain now others [] rows brings all = all
-  kept-first domain now others (h ∷ hs) rows brings all = kept-first domain now others hs (put_heard domain now others rows h) brings.1 (kept-put domain now others rows h brings.0 all)
+  kept-first : (rules : LinkRules) (now others : ℕ) (hs : List HeardRr) (rows : LinkRows) → Brings P now hs → AllByRecursion P rows → AllByRecursion P (fold (put_heard rules now others) rows hs)
+  kept-first rules now others [] rows brings all = all
+  kept-first rules now others (h ∷ hs) rows brings all = kept-first rules now others hs (put_heard rules now others rows h) brings.1 (kept-put rules now others rows h brings.0 all)
 
   kept-second : (now : ℕ) (hs : List HeardRr) (rows : LinkRows) → AllByRecursion P rows → AllByRecursion P (fold (flushed_by now) rows hs)
   kept-second now [] rows all = all
   kept-second now (h ∷ hs) rows all = kept-second now hs (flushed_by now rows h) (kept-ending (λ row. is_of_set h.rr row && nat_lt (row.1.heard + second) now) (now + second) rows all)
 
-  pub kept-beside : (domain : Labels) (now others : ℕ) (usable : List HeardRr) (rows : LinkRows) → Brings P now usable → AllByRecursion P rows → AllByRecursion P (heard_beside others domain rows now usable)
-  kept-beside domain now others usable rows brings all = kept-second now (filter (λ h. h.flush) usable) (fold (put_heard domain now others) rows usable) (kept-first domain now others usable rows brings all)
+  pub kept-beside : (rules : LinkRules) (now others : ℕ) (usable : List HeardRr) (rows : LinkRows) → Brings P now usable → AllByRecursion P rows → AllByRecursion P (heard_beside others rules rows now usable)
+  kept-beside rules now others usable rows brings all = kept-second now (filter (λ h. h.flush) usable) (fold (put_heard rules now others) rows usable) (kept-first rules now others usable rows brings all)
 
-  pub kept-heard : (domain : Labels) (now : ℕ) (hearing : List HeardRr) (rows : LinkRows) → Brings P now (usable_of domain hearing) → AllByRecursion P rows → AllByRecursion P (heard domain rows now hearing)
-  kept-heard domain now hearing rows brings all = kept-beside domain now 0 (usable_of domain hearing) rows brings all
+  pub kept-heard : (rules : LinkRules) (now : ℕ) (hearing : List HeardRr) (rows : LinkRows) → Brings P now (usable_of rules hearing) → AllByRecursion P rows → AllByRecursion P (heard rules rows now hearing)
+  kept-heard rules now hearing rows brings all = kept-beside rules now 0 (usable_of rules hearing) rows brings all
 
   pub kept-moment : (now : ℕ) (rows : LinkRows) → AllByRecursion P rows → AllByRecursion P (at_moment rows now)
   kept-moment now rows all = all_filter P (λ row. nat_lt now row.1.ends) rows all
@@ -83,38 +83,38 @@ module _ (P : Key × HeardRow → Type 0) (ends : KeepsEnds P) where
 
 -- ---- rows of usable records
 
-sound-ends : (domain : Labels) → KeepsEnds (IsLinkRow domain)
-sound-ends domain row moment h = record { usable = h.usable; key = h.key }
+sound-ends : (rules : LinkRules) → KeepsEnds (IsLinkRow rules)
+sound-ends rules row moment h = record { usable = h.usable; key = h.key }
 
-abbrev AreUsable : Labels → List HeardRr → Type 0
-AreUsable domain hs = AllByRecursion (λ h. is_usable domain h.rr ≡ true) hs
+abbrev AreUsable : LinkRules → List HeardRr → Type 0
+AreUsable rules hs = AllByRecursion (λ h. is_usable rules.domain h.rr ≡ true) hs
 
-pub usable-of : (domain : Labels) (hearing : List HeardRr) → AreUsable domain (usable_of domain hearing)
-usable-of domain [] = tt
-usable-of domain (h ∷ hs) = by (is_usable domain h.rr) refl (usable-of domain hs)
+pub usable-of : (rules : LinkRules) (hearing : List HeardRr) → AreUsable rules (usable_of rules hearing)
+usable-of rules [] = tt
+usable-of rules (h ∷ hs) = by (is_usable rules.domain h.rr) refl (usable-of rules hs)
   where
-    by : (b : Bool) → is_usable domain h.rr ≡ b → AreUsable domain (usable_of domain hs) → AreUsable domain (cond b (h ∷ usable_of domain hs) (usable_of domain hs))
+    by : (b : Bool) → is_usable rules.domain h.rr ≡ b → AreUsable rules (usable_of rules hs) → AreUsable rules (cond b (h ∷ usable_of rules hs) (usable_of rules hs))
     by true is rest = (is, rest)
     by false is rest = rest
 
-sound-brings : (domain : Labels) (now : ℕ) (hs : List HeardRr) → AreUsable domain hs → Brings (IsLinkRow domain) now hs
-sound-brings domain now [] usable = tt
-sound-brings domain now (h ∷ hs) usable = (record { usable = usable.0; key = refl }, sound-brings domain now hs usable.1)
+sound-brings : (rules : LinkRules) (now : ℕ) (hs : List HeardRr) → AreUsable rules hs → Brings (IsLinkRow rules) now hs
+sound-brings rules now [] usable = tt
+sound-brings rules now (h ∷ hs) usable = (record { usable = usable.0; key = refl }, sound-brings rules now hs usable.1)
 
-pub sound-ending : (domain : Labels) (test : Key × HeardRow → Bool) (moment : ℕ) (rows : LinkRows) → AreLinkRows domain rows → AreLinkRows domain (map (λ row. cond (test row) (ending_by moment row) row) rows)
-sound-ending domain test moment rows sound = kept-ending (IsLinkRow domain) (sound-ends domain) test moment rows sound
+pub sound-ending : (rules : LinkRules) (test : Key × HeardRow → Bool) (moment : ℕ) (rows : LinkRows) → AreLinkRows rules rows → AreLinkRows rules (map (λ row. cond (test row) (ending_by moment row) row) rows)
+sound-ending rules test moment rows sound = kept-ending (IsLinkRow rules) (sound-ends rules) test moment rows sound
 
-pub sound-put : (domain : Labels) (now others : ℕ) (rows : LinkRows) (h : HeardRr) → is_usable domain h.rr ≡ true → AreLinkRows domain rows → AreLinkRows domain (put_heard domain now others rows h)
-sound-put domain now others rows h usable sound = kept-put (IsLinkRow domain) (sound-ends domain) domain now others rows h (record { usable = usable; key = refl }) sound
+pub sound-put : (rules : LinkRules) (now others : ℕ) (rows : LinkRows) (h : HeardRr) → is_usable rules.domain h.rr ≡ true → AreLinkRows rules rows → AreLinkRows rules (put_heard rules now others rows h)
+sound-put rules now others rows h usable sound = kept-put (IsLinkRow rules) (sound-ends rules) rules now others rows h (record { usable = usable; key = refl }) sound
 
-pub sound-beside : (domain : Labels) (now others : ℕ) (usable : List HeardRr) (rows : LinkRows) → AreUsable domain usable → AreLinkRows domain rows → AreLinkRows domain (heard_beside others domain rows now usable)
-sound-beside domain now others usable rows are sound = kept-beside (IsLinkRow domain) (sound-ends domain) domain now others usable rows (sound-brings domain now usable are) sound
+pub sound-beside : (rules : LinkRules) (now others : ℕ) (usable : List HeardRr) (rows : LinkRows) → AreUsable rules usable → AreLinkRows rules rows → AreLinkRows rules (heard_beside others rules rows now usable)
+sound-beside rules now others usable rows are sound = kept-beside (IsLinkRow rules) (sound-ends rules) rules now others usable rows (sound-brings rules now usable are) sound
 
-pub sound-heard : (domain : Labels) (now : ℕ) (hearing : List HeardRr) (rows : LinkRows) → AreLinkRows domain rows → AreLinkRows domain (heard domain rows now hearing)
-sound-heard domain now hearing rows sound = sound-beside domain now 0 (usable_of domain hearing) rows (usable-of domain hearing) sound
+pub sound-heard : (rules : LinkRules) (now : ℕ) (hearing : List HeardRr) (rows : LinkRows) → AreLinkRows rules rows → AreLinkRows rules (heard rules rows now hearing)
+sound-heard rules now hearing rows sound = sound-beside rules now 0 (usable_of rules hearing) rows (usable-of rules hearing) sound
 
-pub sound-moment : (domain : Labels) (now : ℕ) (rows : LinkRows) → AreLinkRows domain rows → AreLinkRows domain (at_moment rows now)
-sound-moment domain now rows sound = kept-moment (IsLinkRow domain) (sound-ends domain) now rows sound
+pub sound-moment : (rules : LinkRules) (now : ℕ) (rows : LinkRows) → AreLinkRows rules rows → AreLinkRows rules (at_moment rows now)
+sound-moment rules now rows sound = kept-moment (IsLinkRow rules) (sound-ends rules) now rows sound
 
-pub sound-reconfirmed : (domain : Labels) (key : Key) (now : ℕ) (rows : LinkRows) → AreLinkRows domain rows → AreLinkRows domain (reconfirmed rows key now)
-sound-reconfirmed domain key now rows sound = kept-reconfirmed (IsLinkRow domain) (sound-ends domain) key now rows sound
+pub sound-reconfirmed : (rules : LinkRules) (key : Key) (now : ℕ) (rows : LinkRows) → AreLinkRows rules rows → AreLinkRows rules (reconfirmed rows key now)
+sound-reconfirmed rules key now rows sound = kept-reconfirmed (IsLinkRow rules) (sound-ends rules) key now rows sound

@@ -17,6 +17,7 @@ use Rattle.rrset.specs.KeyedRows.{put_row, only_rows}
 use Rattle.linkcache.specs.Rows.{LinkRows, ttl_of, second, max_rows, ending_by, has_key, size_under, row_has_room, heard_at, put_heard, is_of_set, flushed_by, usable_of, heard_beside, heard, rr_of_row}
 use Rattle.linkcache.specs.Parts.{is_touched, fails}
 use Rattle.linkcache.proofs.KeyedParts.{Rising, pass_alike, not_both, rising-put, rising-map, only-put-passed, only-put-failed, only-map, failed-map, length-parts, any-part, only-within, KeepsKeys}
+use Rattle.linkcache.specs.declared.rules.LinkRules.{LinkRules}
 
 and-left : (a b : Bool) → (a && b) ≡ true → a ≡ true
 and-left true b e = refl
@@ -90,18 +91,18 @@ ends p test moment within rows h = record {
 
 -- ---- the first pass
 
-room-part : (p : Key → Bool) (domain : Labels) (others n : ℕ) (rows : LinkRows) (rr : Rr) → Covers p rr.owner → n ≡ others + length (only_rows (fails p) rows)
-    → row_has_room domain others rows rr ≡ row_has_room domain n (only_rows p rows) rr
-room-part p domain others n rows rr covers n-is =
+room-part : (p : Key → Bool) (rules : LinkRules) (others n : ℕ) (rows : LinkRows) (rr : Rr) → Covers p rr.owner → n ≡ others + length (only_rows (fails p) rows)
+    → row_has_room rules others rows rr ≡ row_has_room rules n (only_rows p rows) rr
+room-part p rules others n rows rr covers n-is =
     let parts = length-parts p rows in
     let count : length rows + others ≡ length (only_rows p rows) + n = omega arith in
-    let sizes : size_under domain rr.owner rows ≡ size_under domain rr.owner (only_rows p rows) = ap (λ (l : LinkRows). sum_by (λ row. rr_size (renamed_rr local domain (rr_of_row row))) l) (sym (only-within p (λ key. same_name rr.owner key.owner) covers rows)) in
-    λ i. nat_lt (count i) max_rows && nat_le (sizes i + rr_size (renamed_rr local domain rr)) max_octets_at_name
+    let sizes : size_under rules rr.owner rows ≡ size_under rules rr.owner (only_rows p rows) = ap (λ (l : LinkRows). sum_by (λ row. rr_size (renamed_rr local rules.domain (rr_of_row row))) l) (sym (only-within p (λ key. same_name rr.owner key.owner) covers rows)) in
+    λ i. nat_lt (count i) max_rows && nat_le (sizes i + rr_size (renamed_rr local rules.domain rr)) max_octets_at_name
 
-put_heard-part : (p : Key → Bool) (domain : Labels) (now others n : ℕ) (rows : LinkRows) (h : HeardRr) → Rising rows → Covers p h.rr.owner → n ≡ others + length (only_rows (fails p) rows)
-    → OnPart p rows (put_heard domain now others rows h) (put_heard domain now n (only_rows p rows) h)
-put_heard-part p domain now others n rows h rising covers n-is =
-    by (ttl_of h == 0) (has_key k rows || row_has_room domain others rows h.rr) (has_key k (only_rows p rows) || row_has_room domain n (only_rows p rows) h.rr) (λ i. there i || room-part p domain others n rows h.rr covers n-is i)
+put_heard-part : (p : Key → Bool) (rules : LinkRules) (now others n : ℕ) (rows : LinkRows) (h : HeardRr) → Rising rows → Covers p h.rr.owner → n ≡ others + length (only_rows (fails p) rows)
+    → OnPart p rows (put_heard rules now others rows h) (put_heard rules now n (only_rows p rows) h)
+put_heard-part p rules now others n rows h rising covers n-is =
+    by (ttl_of h == 0) (has_key k rows || row_has_room rules others rows h.rr) (has_key k (only_rows p rows) || row_has_room rules n (only_rows p rows) h.rr) (λ i. there i || room-part p rules others n rows h.rr covers n-is i)
   where
     k : Key
     k = key_of h.rr
@@ -125,14 +126,14 @@ put_heard-part p domain now others n rows h rising covers n-is =
     by false true false e = absurd cc
     by false false true e = absurd cc
 
-first_pass : (p : Key → Bool) (domain : Labels) (now others n : ℕ) (hs : List HeardRr) (rows : LinkRows) → Rising rows → CoversAll p hs → n ≡ others + length (only_rows (fails p) rows)
-    → OnPart p rows (fold (put_heard domain now others) rows hs) (fold (put_heard domain now n) (only_rows p rows) hs)
-first_pass p domain now others n [] rows rising covers n-is = none p rows rising
-first_pass p domain now others n (h ∷ hs) rows rising covers n-is =
-    let one = put_heard-part p domain now others n rows h rising covers.0 n-is in
-    let rest = first_pass p domain now others n hs (put_heard domain now others rows h) one.rising covers.1 (n-is ∙ ap (λ (l : LinkRows). others + length l) (sym one.outside)) in
+first_pass : (p : Key → Bool) (rules : LinkRules) (now others n : ℕ) (hs : List HeardRr) (rows : LinkRows) → Rising rows → CoversAll p hs → n ≡ others + length (only_rows (fails p) rows)
+    → OnPart p rows (fold (put_heard rules now others) rows hs) (fold (put_heard rules now n) (only_rows p rows) hs)
+first_pass p rules now others n [] rows rising covers n-is = none p rows rising
+first_pass p rules now others n (h ∷ hs) rows rising covers n-is =
+    let one = put_heard-part p rules now others n rows h rising covers.0 n-is in
+    let rest = first_pass p rules now others n hs (put_heard rules now others rows h) one.rising covers.1 (n-is ∙ ap (λ (l : LinkRows). others + length l) (sym one.outside)) in
     record {
-      inside = rest.inside ∙ ap (λ (l : LinkRows). fold (put_heard domain now n) l hs) one.inside;
+      inside = rest.inside ∙ ap (λ (l : LinkRows). fold (put_heard rules now n) l hs) one.inside;
       outside = rest.outside ∙ one.outside;
       rising = rest.rising;
     }
@@ -157,20 +158,20 @@ second_pass p now (h ∷ hs) rows rising covers =
 -- ---- both
 
 -- a hearing of usable records changes the rows of a part that has all their owners, as if the part were all but for a count of the others
-pub heard_beside-part : (p : Key → Bool) (domain : Labels) (now others n : ℕ) (usable : List HeardRr) (rows : LinkRows) → Rising rows → CoversAll p usable → n ≡ others + length (only_rows (fails p) rows)
-    → OnPart p rows (heard_beside others domain rows now usable) (heard_beside n domain (only_rows p rows) now usable)
-heard_beside-part p domain now others n usable rows rising covers n-is =
-    let one = first_pass p domain now others n usable rows rising covers n-is in
-    let two = second_pass p now (filter (λ h. h.flush) usable) (fold (put_heard domain now others) rows usable) one.rising (all_filter (λ h. Covers p h.rr.owner) (λ h. h.flush) usable covers) in
+pub heard_beside-part : (p : Key → Bool) (rules : LinkRules) (now others n : ℕ) (usable : List HeardRr) (rows : LinkRows) → Rising rows → CoversAll p usable → n ≡ others + length (only_rows (fails p) rows)
+    → OnPart p rows (heard_beside others rules rows now usable) (heard_beside n rules (only_rows p rows) now usable)
+heard_beside-part p rules now others n usable rows rising covers n-is =
+    let one = first_pass p rules now others n usable rows rising covers n-is in
+    let two = second_pass p now (filter (λ h. h.flush) usable) (fold (put_heard rules now others) rows usable) one.rising (all_filter (λ h. Covers p h.rr.owner) (λ h. h.flush) usable covers) in
     record {
       inside = two.inside ∙ ap (λ (l : LinkRows). fold (flushed_by now) l (filter (λ h. h.flush) usable)) one.inside;
       outside = two.outside ∙ one.outside;
       rising = two.rising;
     }
 
-pub heard-part : (domain : Labels) (now : ℕ) (hearing : List HeardRr) (rows : LinkRows) → Rising rows
-    → OnPart (is_touched (usable_of domain hearing)) rows (heard domain rows now hearing)
-    (heard_beside (length (only_rows (fails (is_touched (usable_of domain hearing))) rows)) domain (only_rows (is_touched (usable_of domain hearing)) rows) now (usable_of domain hearing))
-heard-part domain now hearing rows rising =
-    let usable = usable_of domain hearing in
-    heard_beside-part (is_touched usable) domain now 0 (length (only_rows (fails (is_touched usable)) rows)) usable rows rising (touched-covers usable) (omega arith)
+pub heard-part : (rules : LinkRules) (now : ℕ) (hearing : List HeardRr) (rows : LinkRows) → Rising rows
+    → OnPart (is_touched (usable_of rules hearing)) rows (heard rules rows now hearing)
+    (heard_beside (length (only_rows (fails (is_touched (usable_of rules hearing))) rows)) rules (only_rows (is_touched (usable_of rules hearing)) rows) now (usable_of rules hearing))
+heard-part rules now hearing rows rising =
+    let usable = usable_of rules hearing in
+    heard_beside-part (is_touched usable) rules now 0 (length (only_rows (fails (is_touched usable)) rows)) usable rows rising (touched-covers usable) (omega arith)

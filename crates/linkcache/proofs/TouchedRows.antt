@@ -17,6 +17,7 @@ use Rattle.linkcache.specs.Rows.{LinkRows, usable_of}
 use Rattle.linkcache.specs.Parts.{copied, is_touched}
 use Rattle.linkcache.proofs.KeyedParts.{Rising, row_at-only, own, only-agree, only-same}
 use Rattle.linkcache.proofs.Copies.{copied-all, among}
+use Rattle.linkcache.specs.declared.rules.LinkRules.{LinkRules}
 
 -- the rows of an owner are copied
 pub owner_copied : (p : Key → Bool) (owner : Labels) (rows part : LinkRows) → Rising rows → part ≡ only_rows p rows
@@ -89,26 +90,26 @@ not_empty (x ∷ xs) ys is e = sym (ap is_empty is)
 -- ---- record by record
 
 -- the part so far, and what is left to be touched
-pub record TouchedSoFar (domain : Labels) (rows part : LinkRows) (left all : List HeardRr) : Type 0 where
+pub record TouchedSoFar (rules : LinkRules) (rows part : LinkRows) (left all : List HeardRr) : Type 0 where
   pub usable : List HeardRr
   pub is : part ≡ only_rows (is_touched usable) rows
-  pub rest : (key : Key) → (is_touched usable key || is_touched (usable_of domain left) key) ≡ is_touched (usable_of domain all) key
+  pub rest : (key : Key) → (is_touched usable key || is_touched (usable_of rules left) key) ≡ is_touched (usable_of rules all) key
 
-pub touched_begin : (domain : Labels) (rows part : LinkRows) (all : List HeardRr) → part ≡ [] → TouchedSoFar domain rows part all all
-touched_begin domain rows part all none = record { usable = []; is = none ∙ nothing rows; rest = λ key. refl }
+pub touched_begin : (rules : LinkRules) (rows part : LinkRows) (all : List HeardRr) → part ≡ [] → TouchedSoFar rules rows part all all
+touched_begin rules rows part all none = record { usable = []; is = none ∙ nothing rows; rest = λ key. refl }
   where
     nothing : (es : LinkRows) → [] ≡ only_rows (is_touched []) es
     nothing [] = refl
     nothing (e ∷ es) = nothing es
 
-pub touched_more : (domain : Labels) (rows part later : LinkRows) (hs : List HeardRr) (i : ℕ) (h : HeardRr) → i < length hs → h ≡ get_or hs i h → is_usable domain h.rr ≡ true
-    → TouchedSoFar domain rows part (drop i hs) hs
+pub touched_more : (rules : LinkRules) (rows part later : LinkRows) (hs : List HeardRr) (i : ℕ) (h : HeardRr) → i < length hs → h ≡ get_or hs i h → is_usable rules.domain h.rr ≡ true
+    → TouchedSoFar rules rows part (drop i hs) hs
     → ((usable : List HeardRr) → part ≡ only_rows (is_touched usable) rows → later ≡ only_rows (λ key. same_name h.rr.owner key.owner || is_touched usable key) rows)
-    → TouchedSoFar domain rows later (drop (i + 1) hs) hs
-touched_more domain rows part later hs i h within is-h usable so_far touches = record {
+    → TouchedSoFar rules rows later (drop (i + 1) hs) hs
+touched_more rules rows part later hs i h within is-h usable so_far touches = record {
   usable = h ∷ so_far.usable;
   is = touches so_far.usable so_far.is;
-  rest = λ key. turned (same_name h.rr.owner key.owner) (is_touched so_far.usable key) (is_touched (usable_of domain (drop (i + 1) hs)) key)
+  rest = λ key. turned (same_name h.rr.owner key.owner) (is_touched so_far.usable key) (is_touched (usable_of rules (drop (i + 1) hs)) key)
       ∙ ap (λ l. is_touched so_far.usable key || is_touched l key) (sym step) ∙ so_far.rest key;
 }
   where
@@ -118,23 +119,23 @@ touched_more domain rows part later hs i h within is-h usable so_far touches = r
     turned false true c = refl
     turned false false c = refl
 
-    step : usable_of domain (drop i hs) ≡ h ∷ usable_of domain (drop (i + 1) hs)
-    step = ap (usable_of domain) (drop_more hs i h within) ∙ ap (λ x. usable_of domain (x ∷ drop (i + 1) hs)) (sym is-h) ∙ ap (λ b. cond b (h ∷ usable_of domain (drop (i + 1) hs)) (usable_of domain (drop (i + 1) hs))) usable
+    step : usable_of rules (drop i hs) ≡ h ∷ usable_of rules (drop (i + 1) hs)
+    step = ap (usable_of rules) (drop_more hs i h within) ∙ ap (λ x. usable_of rules (x ∷ drop (i + 1) hs)) (sym is-h) ∙ ap (λ b. cond b (h ∷ usable_of rules (drop (i + 1) hs)) (usable_of rules (drop (i + 1) hs))) usable
 
-pub touched_skip : (domain : Labels) (rows part : LinkRows) (hs : List HeardRr) (i : ℕ) (h : HeardRr) → i < length hs → h ≡ get_or hs i h → is_usable domain h.rr ≡ false
-    → TouchedSoFar domain rows part (drop i hs) hs → TouchedSoFar domain rows part (drop (i + 1) hs) hs
-touched_skip domain rows part hs i h within is-h usable so_far = record {
+pub touched_skip : (rules : LinkRules) (rows part : LinkRows) (hs : List HeardRr) (i : ℕ) (h : HeardRr) → i < length hs → h ≡ get_or hs i h → is_usable rules.domain h.rr ≡ false
+    → TouchedSoFar rules rows part (drop i hs) hs → TouchedSoFar rules rows part (drop (i + 1) hs) hs
+touched_skip rules rows part hs i h within is-h usable so_far = record {
   usable = so_far.usable;
   is = so_far.is;
   rest = λ key. ap (λ l. is_touched so_far.usable key || is_touched l key) (sym step) ∙ so_far.rest key;
 }
   where
-    step : usable_of domain (drop i hs) ≡ usable_of domain (drop (i + 1) hs)
-    step = ap (usable_of domain) (drop_more hs i h within) ∙ ap (λ x. usable_of domain (x ∷ drop (i + 1) hs)) (sym is-h) ∙ ap (λ b. cond b (h ∷ usable_of domain (drop (i + 1) hs)) (usable_of domain (drop (i + 1) hs))) usable
+    step : usable_of rules (drop i hs) ≡ usable_of rules (drop (i + 1) hs)
+    step = ap (usable_of rules) (drop_more hs i h within) ∙ ap (λ x. usable_of rules (x ∷ drop (i + 1) hs)) (sym is-h) ∙ ap (λ b. cond b (h ∷ usable_of rules (drop (i + 1) hs)) (usable_of rules (drop (i + 1) hs))) usable
 
-pub touched_done : (domain : Labels) (rows part : LinkRows) (left all : List HeardRr) → left ≡ [] → TouchedSoFar domain rows part left all → part ≡ only_rows (is_touched (usable_of domain all)) rows
-touched_done domain rows part left all none so_far =
-    so_far.is ∙ only-same (is_touched so_far.usable) (is_touched (usable_of domain all)) (λ key. last (is_touched so_far.usable key) ∙ ap (λ l. is_touched so_far.usable key || is_touched (usable_of domain l) key) (sym none) ∙ so_far.rest key) rows
+pub touched_done : (rules : LinkRules) (rows part : LinkRows) (left all : List HeardRr) → left ≡ [] → TouchedSoFar rules rows part left all → part ≡ only_rows (is_touched (usable_of rules all)) rows
+touched_done rules rows part left all none so_far =
+    so_far.is ∙ only-same (is_touched so_far.usable) (is_touched (usable_of rules all)) (λ key. last (is_touched so_far.usable key) ∙ ap (λ l. is_touched so_far.usable key || is_touched (usable_of rules l) key) (sym none) ∙ so_far.rest key) rows
   where
     last : (b : Bool) → b ≡ (b || false)
     last true = refl

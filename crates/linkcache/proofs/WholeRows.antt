@@ -2,10 +2,10 @@
 --     IsWholeRow most row      the row's owner is a name, its kind has 16 bits, its rdata has the shape of its kind and fewer than 2^16 octets, and its TTL is at most this
 --     IsShownWhole most e      the same of what is shown, of class IN and of no meta kind
 --     all-shown      so is all that the link shows
-use Rattle.std.proofs.Common.{◌≡◌, ℕ, ◌^◌, ◌<◌, ◌≤◌, true, false, [], ◌∷◌, fold, length, Option, Some, None, refl, sym, subst}
+use Rattle.std.proofs.Common.{◌≡◌, ℕ, ◌^◌, ◌<◌, ◌≤◌, true, false, [], ◌∷◌, fold, length, Option, Some, None, refl, sym, subst, arith}
 use Rattle.std.specs.Prelude.{◌==◌}
 use Rattle.std.specs.List.{AllByRecursion}
-use Rattle.dnsname.specs.Names.{Labels, IsName}
+use Rattle.dnsname.specs.Names.{IsName}
 use Rattle.rrset.specs.Kinds.{in_class, is_meta}
 use Rattle.rrset.specs.Rdata.{shape_fits}
 use Rattle.rrset.specs.Records.{key_of, shown_of}
@@ -13,12 +13,13 @@ use Rattle.rrset.specs.RecordSet.{RecordSet, put_rr}
 use Rattle.rrset.specs.declared.record.Rr.{Rr}
 use Rattle.rrset.specs.declared.record.Key.{Key}
 use Rattle.rrset.specs.declared.record.Shown.{Shown}
-use Rattle.linkmap.specs.Translation.{shown_as}
+use Rattle.linkmap.specs.Translation.{shown_as, lessened}
 use Rattle.linkmap.proofs.WholeRecords.{shown-whole}
 use Rattle.linkcache.specs.declared.row.HeardRow.{HeardRow}
 use Rattle.linkcache.specs.Rows.{LinkRows, rr_of_row, put_shown, shown_rows}
 use Rattle.linkcache.specs.Sound.{IsLinkRow, AreLinkRows}
 use Rattle.linkcache.proofs.SoundSteps.{all-put}
+use Rattle.linkcache.specs.declared.rules.LinkRules.{LinkRules}
 
 pub record IsWholeRow (most : ℕ) (row : Key × HeardRow) : Type 0 where
   pub owner : IsName row.1.shown.owner
@@ -37,9 +38,9 @@ pub record IsShownWhole (most : ℕ) (e : Key × Shown) : Type 0 where
   pub ttl : e.1.ttl ≤ most
 
 -- what a whole row shows is whole
-row-whole : (most : ℕ) (domain : Labels) (row : Key × HeardRow) (rr : Rr) → IsName domain → IsLinkRow domain row → IsWholeRow most row → shown_as domain (rr_of_row row) ≡ Some rr → IsShownWhole most (key_of rr, shown_of rr)
-row-whole most domain row rr is sound whole e =
-    let shown = shown-whole domain (rr_of_row row) rr is sound.usable (record { owner = whole.owner; shape = whole.shape; short = whole.short }) e in
+row-whole : (most : ℕ) (rules : LinkRules) (row : Key × HeardRow) (rr : Rr) → IsName rules.domain → IsLinkRow rules row → IsWholeRow most row → shown_as rules.domain (lessened rules.cap (rr_of_row row)) ≡ Some rr → IsShownWhole most (key_of rr, shown_of rr)
+row-whole most rules row rr is sound whole e =
+    let shown = shown-whole rules.domain (lessened rules.cap (rr_of_row row)) rr is sound.usable (record { owner = whole.owner; shape = whole.shape; short = whole.short }) e in
     record {
       owner = shown.whole.owner;
       class = shown.class;
@@ -47,20 +48,20 @@ row-whole most domain row rr is sound whole e =
       no_meta = shown.no_meta;
       shape = shown.whole.shape;
       short = shown.whole.short;
-      ttl = subst (λ (n : ℕ). n ≤ most) (sym shown.ttl) whole.ttl;
+      ttl = subst (λ (n : ℕ). n ≤ most) (sym shown.ttl) (omega (arith, whole.ttl));
     }
 
-module _ (most : ℕ) (domain : Labels) (is : IsName domain) where
-  all-put_shown : (set : RecordSet) (row : Key × HeardRow) → IsLinkRow domain row → IsWholeRow most row → AllByRecursion (IsShownWhole most) set → AllByRecursion (IsShownWhole most) (put_shown domain set row)
-  all-put_shown set row sound whole h = by (shown_as domain (rr_of_row row)) refl
+module _ (most : ℕ) (rules : LinkRules) (is : IsName rules.domain) where
+  all-put_shown : (set : RecordSet) (row : Key × HeardRow) → IsLinkRow rules row → IsWholeRow most row → AllByRecursion (IsShownWhole most) set → AllByRecursion (IsShownWhole most) (put_shown rules set row)
+  all-put_shown set row sound whole h = by (shown_as rules.domain (lessened rules.cap (rr_of_row row))) refl
     where
-      by : (o : Option Rr) → shown_as domain (rr_of_row row) ≡ o → AllByRecursion (IsShownWhole most) (elim o [ None ↦ set | Some rr ↦ put_rr set rr ])
+      by : (o : Option Rr) → shown_as rules.domain (lessened rules.cap (rr_of_row row)) ≡ o → AllByRecursion (IsShownWhole most) (elim o [ None ↦ set | Some rr ↦ put_rr set rr ])
       by None e = h
-      by (Some rr) e = all-put (IsShownWhole most) (key_of rr) (shown_of rr) set (row-whole most domain row rr is sound whole e) h
+      by (Some rr) e = all-put (IsShownWhole most) (key_of rr) (shown_of rr) set (row-whole most rules row rr is sound whole e) h
 
-  all-fold : (rows : LinkRows) (set : RecordSet) → AreLinkRows domain rows → AllByRecursion (IsWholeRow most) rows → AllByRecursion (IsShownWhole most) set → AllByRecursion (IsShownWhole most) (fold (put_shown domain) set rows)
+  all-fold : (rows : LinkRows) (set : RecordSet) → AreLinkRows rules rows → AllByRecursion (IsWholeRow most) rows → AllByRecursion (IsShownWhole most) set → AllByRecursion (IsShownWhole most) (fold (put_shown rules) set rows)
   all-fold [] set sound whole h = h
-  all-fold (row ∷ rows) set sound whole h = all-fold rows (put_shown domain set row) sound.1 whole.1 (all-put_shown set row sound.0 whole.0 h)
+  all-fold (row ∷ rows) set sound whole h = all-fold rows (put_shown rules set row) sound.1 whole.1 (all-put_shown set row sound.0 whole.0 h)
 
-  pub all-shown : (rows : LinkRows) → AreLinkRows domain rows → AllByRecursion (IsWholeRow most) rows → AllByRecursion (IsShownWhole most) (shown_rows domain rows)
+  pub all-shown : (rows : LinkRows) → AreLinkRows rules rows → AllByRecursion (IsWholeRow most) rows → AllByRecursion (IsShownWhole most) (shown_rows rules rows)
   all-shown rows sound whole = all-fold rows [] sound whole tt

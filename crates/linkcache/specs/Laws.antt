@@ -17,29 +17,30 @@ use Rattle.linkcache.specs.Parts.{is_touched, fails}
 use Rattle.linkcache.specs.Plans.{moves, with_row_changes}
 use Rattle.linkcache.specs.Sound.{AreLinkRows}
 use Rattle.linkcache.specs.Within.{IsWithin}
+use Rattle.linkcache.specs.declared.rules.LinkRules.{LinkRules}
 
 abbrev pub HearingsKeepToTheirOwners : Type 0
-HearingsKeepToTheirOwners = (domain : Labels) (now : ℕ) (hearing : List HeardRr) (rows : LinkRows) → IsTrue (is_rising rows)
-    → (let usable : List HeardRr = usable_of domain hearing in
+HearingsKeepToTheirOwners = (rules : LinkRules) (now : ℕ) (hearing : List HeardRr) (rows : LinkRows) → IsTrue (is_rising rows)
+    → (let usable : List HeardRr = usable_of rules hearing in
     let p : Key → Bool = is_touched usable in
-    (only_rows p (heard domain rows now hearing) ≡ heard_beside (length (only_rows (fails p) rows)) domain (only_rows p rows) now usable)
-    × (only_rows (fails p) (heard domain rows now hearing) ≡ only_rows (fails p) rows))
+    (only_rows p (heard rules rows now hearing) ≡ heard_beside (length (only_rows (fails p) rows)) rules (only_rows p rows) now usable)
+    × (only_rows (fails p) (heard rules rows now hearing) ≡ only_rows (fails p) rows))
 
 abbrev pub PartsShowForThemselves : Type 0
-PartsShowForThemselves = (domain : Labels) (p : Key → Bool) (rows later : LinkRows) → IsName domain → AreLinkRows domain rows → AreLinkRows domain later → only_rows (fails p) rows ≡ only_rows (fails p) later
-    → changes (shown_rows domain rows) (shown_rows domain later) ≡ changes (shown_rows domain (only_rows p rows)) (shown_rows domain (only_rows p later))
+PartsShowForThemselves = (rules : LinkRules) (p : Key → Bool) (rows later : LinkRows) → IsName rules.domain → AreLinkRows rules rows → AreLinkRows rules later → only_rows (fails p) rows ≡ only_rows (fails p) later
+    → changes (shown_rows rules rows) (shown_rows rules later) ≡ changes (shown_rows rules (only_rows p rows)) (shown_rows rules (only_rows p later))
 
 abbrev pub MovesReachTheLaterRows : Type 0
 MovesReachTheLaterRows = (p : Key → Bool) (rows later : LinkRows) → IsTrue (is_rising rows) → IsTrue (is_rising later) → only_rows (fails p) rows ≡ only_rows (fails p) later
     → with_row_changes (moves (only_rows p rows) (only_rows p later)) rows ≡ later
 
 abbrev pub RowsStaySound : Type 0
-RowsStaySound = (domain : Labels) (now : ℕ) (rows : LinkRows) → AreLinkRows domain rows
-    → ((hearing : List HeardRr) → AreLinkRows domain (heard domain rows now hearing)) × AreLinkRows domain (at_moment rows now) × ((key : Key) → AreLinkRows domain (reconfirmed rows key now))
+RowsStaySound = (rules : LinkRules) (now : ℕ) (rows : LinkRows) → AreLinkRows rules rows
+    → ((hearing : List HeardRr) → AreLinkRows rules (heard rules rows now hearing)) × AreLinkRows rules (at_moment rows now) × ((key : Key) → AreLinkRows rules (reconfirmed rows key now))
 
 abbrev pub RowsStayWithin : Type 0
-RowsStayWithin = (domain : Labels) (now : ℕ) (rows : LinkRows) → IsTrue (is_rising rows) → AreLinkRows domain rows → IsWithin domain rows
-    → ((hearing : List HeardRr) → IsWithin domain (heard domain rows now hearing)) × IsWithin domain (at_moment rows now) × ((key : Key) → IsWithin domain (reconfirmed rows key now))
+RowsStayWithin = (rules : LinkRules) (now : ℕ) (rows : LinkRows) → IsTrue (is_rising rows) → AreLinkRows rules rows → IsWithin rules rows
+    → ((hearing : List HeardRr) → IsWithin rules (heard rules rows now hearing)) × IsWithin rules (at_moment rows now) × ((key : Key) → IsWithin rules (reconfirmed rows key now))
 
 abbrev pub ShownFits : Type 0
-ShownFits = (domain : Labels) (rows : LinkRows) → AreLinkRows domain rows → IsWithin domain rows → (name : Labels) → size_at name (shown_rows domain rows) ≤ max_octets_at_name
+ShownFits = (rules : LinkRules) (rows : LinkRows) → AreLinkRows rules rows → IsWithin rules rows → (name : Labels) → size_at name (shown_rows rules rows) ≤ max_octets_at_name

@@ -1,12 +1,12 @@
 -- Links as they are kept.
---     LinkState      a link's domain, and the rows of what it has heard
+--     LinkState      what a link shows by, and the rows of what it has heard
 --     LinkKept      the same, with room for further rows and for the moments at which they end
 --     HasRoom cs link      changes of rows take no memory
 --     IsLink link      what always holds of a link
 --     IsKept link moments      and of the moments at which its rows end
 use Rattle.std.specs.Prelude.{ℕ, ◌≤◌, List, length, IsTrue}
 use Rattle.clockqueue.specs.Deadlines.{Deadlines}
-use Rattle.dnsname.specs.Names.{Labels, IsName}
+use Rattle.dnsname.specs.Names.{IsName}
 use Rattle.rrset.specs.KeyedRows.{is_rising}
 use Rattle.nametable.specs.Nodes.{Nodes, HasRoomFor}
 use Rattle.rrset.specs.declared.record.Key.{Key}
@@ -14,12 +14,13 @@ use Rattle.linkcache.specs.Rows.{LinkRows}
 use Rattle.linkcache.specs.Plans.{keys_put}
 use Rattle.linkcache.specs.declared.plan.RowChange.{RowChange}
 use Rattle.linkcache.specs.declared.row.HeardRow.{HeardRow}
+use Rattle.linkcache.specs.declared.rules.LinkRules.{LinkRules}
 use Rattle.linkcache.specs.Sound.{AreLinkRows}
 use Rattle.linkcache.specs.Within.{IsWithin}
 use Rattle.linkcache.specs.Ends.{AreEnds}
 
 pub record LinkState : Type 0 where
-  pub domain : Labels
+  pub rules : LinkRules
   pub rows : LinkRows
 
 -- a link, the names under which its rows stand, of which callers need the room alone, and how many new moments are sure to have room
@@ -35,10 +36,10 @@ pub record HasRoom (cs : List RowChange) (link : LinkKept) : Type 0 where
 
 -- keys rise, each row is one of a usable record, and they are few enough and not too large
 pub record IsLink (link : LinkState) : Type 0 where
-  pub name : IsName link.domain
+  pub name : IsName link.rules.domain
   pub order : IsTrue (is_rising link.rows)
-  pub sound : AreLinkRows link.domain link.rows
-  pub within : IsWithin link.domain link.rows
+  pub sound : AreLinkRows link.rules link.rows
+  pub within : IsWithin link.rules link.rows
 
 -- the moments are the ends of the rows
 pub record IsKept (link : LinkState) (moments : Deadlines Key) : Type 0 where

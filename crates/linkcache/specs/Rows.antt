@@ -1,9 +1,9 @@
 -- The rows of a link and what changes them (RFC 6762, 10).
---     heard domain rows now hearing      the rows after a hearing, in two passes
+--     heard rules rows now hearing      the rows after a hearing, in two passes
 --     at_moment rows now      the rows that have not ended
 --     reconfirmed rows key now      a row that ends soon unless it is heard again
 --     next_end rows      the least moment at which a row ends
---     shown_rows domain rows      the records that the link shows
+--     shown_rows rules rows      the records that the link shows, no TTL being greater than the cap
 use Rattle.std.specs.Prelude.{ℕ, ◌+◌, ◌*◌, Bool, ◌&&◌, ◌||◌, cond, List, [], map, length, filter, fold, sum_by, min, Option, Some, None, nat_lt, nat_le, ◌==◌, if◌then◌else◌}
 use Rattle.std.specs.List.{list_any}
 use Rattle.std.specs.FinMap.{put as map_put}
@@ -16,7 +16,9 @@ use Rattle.rrset.specs.declared.record.Key.{Key}
 use Rattle.rrset.specs.declared.record.HeardRr.{HeardRr}
 use Rattle.linkcache.specs.declared.row.HeardRow.{HeardRow}
 use Rattle.linkcache.specs.declared.row.TheConstants as constants
-use Rattle.linkmap.specs.Translation.{local, is_usable, shown_as, renamed_rr}
+use Rattle.linkcache.specs.declared.rules.TheConstants as rules_constants
+use Rattle.linkmap.specs.Translation.{local, is_usable, shown_as, lessened, renamed_rr}
+use Rattle.linkcache.specs.declared.rules.LinkRules.{LinkRules}
 
 abbrev pub ttl_of : HeardRr → ℕ
 ttl_of h = counted_ttl h.rr.ttl
@@ -35,16 +37,16 @@ abbrev pub has_key : Key → LinkRows → Bool
 has_key key rows = list_any (λ row. same_key key row.0) rows
 
 -- the octets of the rows of an owner under the domain, those counted too that aren't shown
-abbrev pub size_under : Labels → Labels → LinkRows → ℕ
-size_under domain owner rows = sum_by (λ row. rr_size (renamed_rr local domain (rr_of_row row))) (filter (λ row. same_name owner row.0.owner) rows)
+abbrev pub size_under : LinkRules → Labels → LinkRows → ℕ
+size_under rules owner rows = sum_by (λ row. rr_size (renamed_rr local rules.domain (rr_of_row row))) (filter (λ row. same_name owner row.0.owner) rows)
 
 -- the most rows of a link (this project's own)
 abbrev pub max_rows : ℕ
 max_rows = constants.MAX_ROWS
 
 -- few enough rows, with so many others that the link has, and few enough octets of an owner (this project's own)
-abbrev pub row_has_room : Labels → ℕ → LinkRows → Rr → Bool
-row_has_room domain others rows rr = nat_lt (length rows + others) max_rows && nat_le (size_under domain rr.owner rows + rr_size (renamed_rr local domain rr)) max_octets_at_name
+abbrev pub row_has_room : LinkRules → ℕ → LinkRows → Rr → Bool
+row_has_room rules others rows rr = nat_lt (length rows + others) max_rows && nat_le (size_under rules rr.owner rows + rr_size (renamed_rr local rules.domain rr)) max_octets_at_name
 
 -- in milliseconds
 abbrev pub second : ℕ
@@ -54,10 +56,10 @@ abbrev pub heard_at : ℕ → HeardRr → HeardRow
 heard_at now h = record { shown = record (shown_of h.rr) { ttl = ttl_of h }; heard = now; ends = now + second * ttl_of h }
 
 -- the first pass: a record is put with its TTL; a TTL of 0 lets the row go after a second (RFC 6762, 10 and 10.1)
-abbrev pub put_heard : Labels → ℕ → ℕ → LinkRows → HeardRr → LinkRows
-put_heard domain now others rows h =
+abbrev pub put_heard : LinkRules → ℕ → ℕ → LinkRows → HeardRr → LinkRows
+put_heard rules now others rows h =
     if ttl_of h == 0 then map (λ row. cond (same_key (key_of h.rr) row.0) (ending_by (now + second) row) row) rows
-    else if has_key (key_of h.rr) rows || row_has_room domain others rows h.rr then map_put key_cmp (key_of h.rr) (heard_at now h) rows
+    else if has_key (key_of h.rr) rows || row_has_room rules others rows h.rr then map_put key_cmp (key_of h.rr) (heard_at now h) rows
     else rows
 
 abbrev pub is_of_set : Rr → Key × HeardRow → Bool
@@ -67,15 +69,15 @@ is_of_set rr row = is_of_rrset rr.owner rr.class rr.kind row.0
 abbrev pub flushed_by : ℕ → LinkRows → HeardRr → LinkRows
 flushed_by now rows h = map (λ row. cond (is_of_set h.rr row && nat_lt (row.1.heard + second) now) (ending_by (now + second) row) row) rows
 
-abbrev pub usable_of : Labels → List HeardRr → List HeardRr
-usable_of domain hearing = filter (λ h. is_usable domain h.rr) hearing
+abbrev pub usable_of : LinkRules → List HeardRr → List HeardRr
+usable_of rules hearing = filter (λ h. is_usable rules.domain h.rr) hearing
 
 -- both passes, on rows of a link that has so many others
-abbrev pub heard_beside : ℕ → Labels → LinkRows → ℕ → List HeardRr → LinkRows
-heard_beside others domain rows now usable = fold (flushed_by now) (fold (put_heard domain now others) rows usable) (filter (λ h. h.flush) usable)
+abbrev pub heard_beside : ℕ → LinkRules → LinkRows → ℕ → List HeardRr → LinkRows
+heard_beside others rules rows now usable = fold (flushed_by now) (fold (put_heard rules now others) rows usable) (filter (λ h. h.flush) usable)
 
-abbrev pub heard : Labels → LinkRows → ℕ → List HeardRr → LinkRows
-heard domain rows now hearing = heard_beside 0 domain rows now (usable_of domain hearing)
+abbrev pub heard : LinkRules → LinkRows → ℕ → List HeardRr → LinkRows
+heard rules rows now hearing = heard_beside 0 rules rows now (usable_of rules hearing)
 
 abbrev pub at_moment : LinkRows → ℕ → LinkRows
 at_moment rows now = filter (λ row. nat_lt now row.1.ends) rows
@@ -88,11 +90,15 @@ reconfirmation = constants.RECONFIRMATION
 abbrev pub reconfirmed : LinkRows → Key → ℕ → LinkRows
 reconfirmed rows key now = map (λ row. cond (same_key key row.0) (ending_by (now + reconfirmation) row) row) rows
 
-abbrev pub put_shown : Labels → RecordSet → Key × HeardRow → RecordSet
-put_shown domain set row = elim (shown_as domain (rr_of_row row)) [ None ↦ set | Some rr ↦ put_rr set rr ]
+-- the cap of a link that shows each TTL as it was heard (this project's own)
+abbrev pub no_cap : ℕ
+no_cap = rules_constants.NO_CAP
 
-abbrev pub shown_rows : Labels → LinkRows → RecordSet
-shown_rows domain rows = fold (put_shown domain) [] rows
+abbrev pub put_shown : LinkRules → RecordSet → Key × HeardRow → RecordSet
+put_shown rules set row = elim (shown_as rules.domain (lessened rules.cap (rr_of_row row))) [ None ↦ set | Some rr ↦ put_rr set rr ]
+
+abbrev pub shown_rows : LinkRules → LinkRows → RecordSet
+shown_rows rules rows = fold (put_shown rules) [] rows
 
 abbrev pub earlier : Option ℕ → Key × HeardRow → Option ℕ
 earlier None row = Some row.1.ends

@@ -7,14 +7,15 @@ ghost use Rattle.dnsname.specs.Names.{Labels};
 ghost use Rattle.rrset.specs.Records.{key_cmp};
 ghost use Rattle.nametable.specs.Nodes.{room_at};
 ghost use Rattle.linkcache.specs.Links.{HasRoom, IsLink};
-ghost use Rattle.linkcache.specs.Plans.{IsHeardPlan, IsMomentPlan, IsPlanOf, IsReconfirmPlan, with_row_changes};
+ghost use Rattle.linkcache.specs.Plans.{IsGonePlan, IsHeardPlan, IsMomentPlan, IsPlanOf, IsReconfirmPlan, with_row_changes};
 ghost use Rattle.linkcache.specs.Rows.{has_key, next_end, shown_rows};
 
 use crate::apply_plan::make_changes;
 use crate::end_key::EndKey;
 use crate::plan::HearPlan;
-use crate::planning::{has_row, heard_plan, moment_plan, reconfirm_plan};
+use crate::planning::{gone_plan, has_row, heard_plan, moment_plan, reconfirm_plan};
 use crate::row::HeardRow;
+use crate::rules::LinkRules;
 use crate::showing::shown_blocks;
 use clockqueue::Deadlines;
 use dnsname::Name;
@@ -23,10 +24,10 @@ use rrset::{HeardRr, Key, NoMemory, Table};
 use std::alloc::Global;
 use std::marker::Model;
 
-/// A link: its domain, what it has heard, and the moments at which the rows end.
+/// A link: what it shows by, what it has heard, and the moments at which the rows end.
 #[derive(Debug, Drop)]
 pub struct Cache {
-    domain: Name,
+    rules: LinkRules,
     rows: NameTable<HeardRow>,
     ends: Deadlines<EndKey>,
 }
@@ -36,9 +37,9 @@ impl Model for Cache {
 
     ghost Value = { LinkKept };
 
-    ghost view = { λ c. record { state = record { domain = c.domain; rows = c.rows.rows }; nodes = c.rows.nodes; spare = c.ends.spare } };
+    ghost view = { λ c. record { state = record { rules = c.rules; rows = c.rows.rows }; nodes = c.rows.nodes; spare = c.ends.spare } };
 
-    ghost invariant = { λ c. IsKept (record { domain = c.domain; rows = c.rows.rows }) c.ends.deadlines };
+    ghost invariant = { λ c. IsKept (record { rules = c.rules; rows = c.rows.rows }) c.ends.deadlines };
 }
 
 /// The same moments and keys.
@@ -55,14 +56,14 @@ fn copied_ends(alloc: Global, ends: &Deadlines<EndKey>) -> Result<Vec<(u64, EndK
 }
 
 impl Cache {
-    /// A link of this domain that has heard nothing.
-    pub fn new(alloc: Global, domain: Name) -> Self
-        ensures domain { result.state.domain ≡ domain }
+    /// A link of this domain that has heard nothing, and shows no TTL beyond the cap.
+    pub fn new(alloc: Global, domain: Name, cap: u32) -> Self
+        ensures rules { result.state.rules ≡ record { domain = domain; cap = cap } }
         ensures rows { result.state.rows ≡ [] }
     {
         let _name = domain.octets();
         Cache {
-            domain,
+            rules: LinkRules { domain, cap },
             rows: NameTable::new(alloc),
             ends: Deadlines::new(alloc),
         }
@@ -70,9 +71,9 @@ impl Cache {
 
     /// The domain under which the link is shown.
     pub fn domain(&self) -> &Name
-        ensures { result.now ≡ self.now.state.domain }
+        ensures { result.now ≡ self.now.state.rules.domain }
     {
-        &self.domain
+        &self.rules.domain
     }
 
     /// What the link has heard, in key order.
@@ -85,9 +86,9 @@ impl Cache {
 
     /// The records that the link shows under its domain.
     pub fn shown(&self, alloc: Global) -> Result<Table, NoMemory>
-        ensures { IfOk result (λ set. set.rows ≡ shown_rows self.now.state.domain self.now.state.rows) }
+        ensures { IfOk result (λ set. set.rows ≡ shown_rows self.now.state.rules self.now.state.rows) }
     {
-        shown_blocks(alloc, &self.domain, self.rows.blocks())
+        shown_blocks(alloc, &self.rules, self.rows.blocks())
     }
 
     /// Whether there is a row of a key.
@@ -122,26 +123,26 @@ impl Cache {
         hearing: &[HeardRr],
     ) -> Result<HearPlan, NoMemory>
         requires { now ≤ max_moment }
-        ensures plan { IfOk result (IsHeardPlan self.old.state.domain self.old.state.rows now hearing.now) }
+        ensures plan { IfOk result (IsHeardPlan self.old.state.rules self.old.state.rows now hearing.now) }
         ensures state { self.new.state ≡ self.old.state }
         ensures room { IfOk result (λ plan. HasRoom plan.rows self.new) }
         ensures names { (name : Labels) → room_at self.old.nodes name ≤ room_at self.new.nodes name }
         ensures kept { self.old.spare ≤ self.new.spare }
     {
-        let plan = heard_plan(alloc, &self.domain, &mut self.rows, now, hearing)?;
+        let plan = heard_plan(alloc, &self.rules, &mut self.rows, now, hearing)?;
         self.make_room(plan.rows_at_most())?;
         Ok(plan)
     }
 
     /// What a moment will change. The rows stay, and room is made for the plan; room that was there stays.
     pub fn moment(&mut self, alloc: Global, now: u64) -> Result<HearPlan, NoMemory>
-        ensures plan { IfOk result (IsMomentPlan self.old.state.domain self.old.state.rows now) }
+        ensures plan { IfOk result (IsMomentPlan self.old.state.rules self.old.state.rows now) }
         ensures state { self.new.state ≡ self.old.state }
         ensures room { IfOk result (λ plan. HasRoom plan.rows self.new) }
         ensures names { (name : Labels) → room_at self.old.nodes name ≤ room_at self.new.nodes name }
         ensures kept { self.old.spare ≤ self.new.spare }
     {
-        let plan = moment_plan(alloc, &self.domain, &self.rows, &self.ends, now)?;
+        let plan = moment_plan(alloc, &self.rules, &self.rows, &self.ends, now)?;
         self.make_room(plan.rows_at_most())?;
         Ok(plan)
     }
@@ -150,13 +151,27 @@ impl Cache {
     /// that was there stays.
     pub fn reconfirm(&mut self, alloc: Global, key: &Key, now: u64) -> Result<HearPlan, NoMemory>
         requires { now ≤ max_moment }
-        ensures plan { IfOk result (IsReconfirmPlan self.old.state.domain self.old.state.rows key.now now) }
+        ensures plan { IfOk result (IsReconfirmPlan self.old.state.rules self.old.state.rows key.now now) }
         ensures state { self.new.state ≡ self.old.state }
         ensures room { IfOk result (λ plan. HasRoom plan.rows self.new) }
         ensures names { (name : Labels) → room_at self.old.nodes name ≤ room_at self.new.nodes name }
         ensures kept { self.old.spare ≤ self.new.spare }
     {
-        let plan = reconfirm_plan(alloc, &self.domain, &mut self.rows, key, now)?;
+        let plan = reconfirm_plan(alloc, &self.rules, &mut self.rows, key, now)?;
+        self.make_room(plan.rows_at_most())?;
+        Ok(plan)
+    }
+
+    /// What the link's going will change: all rows go, and the plan is usable where there is one. The rows stay, and room is
+    /// made for the plan; room that was there stays.
+    pub fn gone(&mut self, alloc: Global) -> Result<HearPlan, NoMemory>
+        ensures plan { IfOk result (IsGonePlan self.old.state.rules self.old.state.rows) }
+        ensures state { self.new.state ≡ self.old.state }
+        ensures room { IfOk result (λ plan. HasRoom plan.rows self.new) }
+        ensures names { (name : Labels) → room_at self.old.nodes name ≤ room_at self.new.nodes name }
+        ensures kept { self.old.spare ≤ self.new.spare }
+    {
+        let plan = gone_plan(alloc, &self.rules, &self.rows, &self.ends)?;
         self.make_room(plan.rows_at_most())?;
         Ok(plan)
     }
@@ -164,7 +179,7 @@ impl Cache {
     /// Makes the changes of a plan that was made of these rows. It takes no memory, and room that was made for other plans
     /// may be given back.
     pub fn apply(&mut self, plan: HearPlan)
-        requires planned { IsPlanOf self.old.state.domain self.old.state.rows plan }
+        requires planned { IsPlanOf self.old.state.rules self.old.state.rows plan }
         requires room { HasRoom plan.rows self.old }
         ensures { self.new.state ≡ record self.old.state { rows = with_row_changes plan.rows self.old.state.rows } }
     {
@@ -178,7 +193,7 @@ impl Cache {
     {
         let ends = copied_ends(alloc, &self.ends)?;
         Ok(Cache {
-            domain: self.domain.copy()?,
+            rules: self.rules.copy()?,
             rows: self.rows.copy()?,
             ends: Deadlines::from_entries(ends),
         })

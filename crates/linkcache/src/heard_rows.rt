@@ -13,7 +13,7 @@ ghost use Rattle.linkcache.specs.Sound.{AreLinkRows, IsLinkRow};
 ghost use Rattle.linkcache.specs.declared.row.HeardRow.{HeardRow};
 
 use crate::row::{HeardRow, MAX_ROWS, SECOND, ended_by, record_of};
-use dnsname::Name;
+use crate::rules::LinkRules;
 use linkmap::{translated, usable};
 use push_base::limits::MAX_OCTETS_AT_NAME;
 use rrset::{Copied, HeardRr, Key, NoMemory, Rr, Table, counted_ttl, rr_size};
@@ -41,22 +41,22 @@ pub(crate) fn end_row(work: &mut Table<HeardRow>, key: &Key, moment: u64) -> Res
 }
 
 /// The octets of a row's record under the domain.
-fn size_of_row(alloc: Global, domain: &Name, key: &Key, row: &HeardRow) -> Result<u64, NoMemory>
-    requires { IsLinkRow domain.now (key.now, row.now) }
-    ensures { IfOk result (λ size. size ≡ rr_size (renamed_rr local domain.now (rr_of_row (key.now, row.now)))) }
+fn size_of_row(alloc: Global, rules: &LinkRules, key: &Key, row: &HeardRow) -> Result<u64, NoMemory>
+    requires { IsLinkRow rules.now (key.now, row.now) }
+    ensures { IfOk result (λ size. size ≡ rr_size (renamed_rr local rules.now.domain (rr_of_row (key.now, row.now)))) }
 {
     let rr = record_of(key, row)?;
-    Ok(rr_size(&translated(alloc, domain, &rr)?))
+    Ok(rr_size(&translated(alloc, &rules.domain, &rr)?))
 }
 
 /// The octets of some rows' records under the domain.
-fn size_under(alloc: Global, domain: &Name, rows: &[(Key, HeardRow)]) -> Result<u64, NoMemory>
-    requires { AreLinkRows domain.now rows.now }
-    ensures { IfOk result (λ size. size ≡ counted (sum_by (λ row. rr_size (renamed_rr local domain.now (rr_of_row row))) rows.now)) }
+fn size_under(alloc: Global, rules: &LinkRules, rows: &[(Key, HeardRow)]) -> Result<u64, NoMemory>
+    requires { AreLinkRows rules.now rows.now }
+    ensures { IfOk result (λ size. size ≡ counted (sum_by (λ row. rr_size (renamed_rr local rules.now.domain (rr_of_row row))) rows.now)) }
 {
     let mut size: u64 = 0;
     'rows: for (key, row) in rows {
-        size = size.saturating_add(size_of_row(alloc, domain, key, row)?);
+        size = size.saturating_add(size_of_row(alloc, rules, key, row)?);
     }
     Ok(size)
 }
@@ -71,40 +71,40 @@ fn are_few(rows: usize, others: usize) -> bool
 /// Whether a record has room beside the rows.
 fn row_has_room(
     alloc: Global,
-    domain: &Name,
+    rules: &LinkRules,
     others: usize,
     work: &Table<HeardRow>,
     rr: &Rr,
 ) -> Result<bool, NoMemory>
-    requires rows { AreLinkRows domain.now work.now.rows }
-    requires usable { is_usable domain.now rr.now ≡ true }
-    ensures { IfOk result (λ room. room ≡ row_has_room domain.now others work.now.rows rr.now) }
+    requires rows { AreLinkRows rules.now work.now.rows }
+    requires usable { is_usable rules.now.domain rr.now ≡ true }
+    ensures { IfOk result (λ room. room ≡ row_has_room rules.now others work.now.rows rr.now) }
 {
     if !are_few(work.len(), others) {
         return Ok(false);
     }
-    let size = size_under(alloc, domain, work.at(&rr.owner))?;
-    let added = rr_size(&translated(alloc, domain, rr)?);
+    let size = size_under(alloc, rules, work.at(&rr.owner))?;
+    let added = rr_size(&translated(alloc, &rules.domain, rr)?);
     Ok(size.saturating_add(added) <= MAX_OCTETS_AT_NAME)
 }
 
 /// Whether a record may stand: there is a row of it, or room for one.
 fn may_stand(
     alloc: Global,
-    domain: &Name,
+    rules: &LinkRules,
     others: usize,
     work: &Table<HeardRow>,
     key: &Key,
     rr: &Rr,
 ) -> Result<bool, NoMemory>
-    requires rows { AreLinkRows domain.now work.now.rows }
-    requires usable { is_usable domain.now rr.now ≡ true }
-    ensures { IfOk result (λ may. may ≡ (has_key key.now work.now.rows || row_has_room domain.now others work.now.rows rr.now)) }
+    requires rows { AreLinkRows rules.now work.now.rows }
+    requires usable { is_usable rules.now.domain rr.now ≡ true }
+    ensures { IfOk result (λ may. may ≡ (has_key key.now work.now.rows || row_has_room rules.now others work.now.rows rr.now)) }
 {
     if has(work, key) {
         Ok(true)
     } else {
-        row_has_room(alloc, domain, others, work, rr)
+        row_has_room(alloc, rules, others, work, rr)
     }
 }
 
@@ -124,7 +124,7 @@ fn heard_at(now: u64, heard: &HeardRr) -> Result<HeardRow, NoMemory>
 /// Puts a record with its TTL, if it may stand, or lets it go after a second where its TTL is 0.
 fn put_heard(
     alloc: Global,
-    domain: &Name,
+    rules: &LinkRules,
     now: u64,
     others: usize,
     work: &mut Table<HeardRow>,
@@ -132,15 +132,15 @@ fn put_heard(
 ) -> Result<(), NoMemory>
     requires moment { now ≤ max_moment }
     requires order { IsTrue (is_rising work.old.rows) }
-    requires rows { AreLinkRows domain.now work.old.rows }
-    requires usable { is_usable domain.now heard.now.rr ≡ true }
-    ensures { OnOk result (work.new.rows ≡ put_heard domain.now now others work.old.rows heard.now) }
+    requires rows { AreLinkRows rules.now work.old.rows }
+    requires usable { is_usable rules.now.domain heard.now.rr ≡ true }
+    ensures { OnOk result (work.new.rows ≡ put_heard rules.now now others work.old.rows heard.now) }
 {
     let key = heard.rr.key()?;
     if counted_ttl(heard.rr.ttl) == 0 {
         return end_row(work, &key, now + SECOND);
     }
-    if may_stand(alloc, domain, others, work, &key, &heard.rr)? {
+    if may_stand(alloc, rules, others, work, &key, &heard.rr)? {
         work.put(key, heard_at(now, heard)?)?;
     }
     Ok(())
@@ -149,7 +149,7 @@ fn put_heard(
 /// The first pass of a hearing: puts each usable record.
 fn put_usable(
     alloc: Global,
-    domain: &Name,
+    rules: &LinkRules,
     now: u64,
     others: usize,
     work: &mut Table<HeardRow>,
@@ -157,12 +157,12 @@ fn put_usable(
 ) -> Result<(), NoMemory>
     requires moment { now ≤ max_moment }
     requires order { IsTrue (is_rising work.old.rows) }
-    requires rows { AreLinkRows domain.now work.old.rows }
-    ensures { OnOk result (work.new.rows ≡ fold (put_heard domain.now now others) work.old.rows (usable_of domain.now hearing.now)) }
+    requires rows { AreLinkRows rules.now work.old.rows }
+    ensures { OnOk result (work.new.rows ≡ fold (put_heard rules.now now others) work.old.rows (usable_of rules.now hearing.now)) }
 {
     'hearing: for heard in hearing {
-        if usable(domain, &heard.rr) {
-            put_heard(alloc, domain, now, others, work, heard)?;
+        if usable(&rules.domain, &heard.rr) {
+            put_heard(alloc, rules, now, others, work, heard)?;
         }
     }
     Ok(())
@@ -233,25 +233,25 @@ fn flush(
 }
 
 /// Whether a record is usable and has the cache-flush bit.
-fn is_flushing(domain: &Name, heard: &HeardRr) -> bool
-    ensures { result ≡ (heard.now.flush && is_usable domain.now heard.now.rr) }
+fn is_flushing(rules: &LinkRules, heard: &HeardRr) -> bool
+    ensures { result ≡ (heard.now.flush && is_usable rules.now.domain heard.now.rr) }
 {
-    heard.flush && usable(domain, &heard.rr)
+    heard.flush && usable(&rules.domain, &heard.rr)
 }
 
 /// The second pass of a hearing: the cache-flush bit of each usable record.
 fn flush_all(
     alloc: Global,
-    domain: &Name,
+    rules: &LinkRules,
     now: u64,
     mut work: Table<HeardRow>,
     hearing: &[HeardRr],
 ) -> Result<Table<HeardRow>, NoMemory>
     requires { now ≤ max_moment }
-    ensures { IfOk result (λ later. later.rows ≡ fold (flushed_by now) work.rows (filter (λ h. h.flush) (usable_of domain.now hearing.now))) }
+    ensures { IfOk result (λ later. later.rows ≡ fold (flushed_by now) work.rows (filter (λ h. h.flush) (usable_of rules.now hearing.now))) }
 {
     'hearing: for heard in hearing {
-        if is_flushing(domain, heard) {
+        if is_flushing(rules, heard) {
             work = flush(alloc, now, work, heard)?;
         }
     }
@@ -261,7 +261,7 @@ fn flush_all(
 /// A part of a link's rows after a hearing, in two passes; the link has so many others.
 pub(crate) fn heard(
     alloc: Global,
-    domain: &Name,
+    rules: &LinkRules,
     now: u64,
     others: usize,
     part: &Table<HeardRow>,
@@ -269,20 +269,20 @@ pub(crate) fn heard(
 ) -> Result<Table<HeardRow>, NoMemory>
     requires moment { now ≤ max_moment }
     requires order { IsTrue (is_rising part.now.rows) }
-    requires rows { AreLinkRows domain.now part.now.rows }
-    ensures { IfOk result (λ later. later.rows ≡ heard_beside others domain.now part.now.rows now (usable_of domain.now hearing.now)) }
+    requires rows { AreLinkRows rules.now part.now.rows }
+    ensures { IfOk result (λ later. later.rows ≡ heard_beside others rules.now part.now.rows now (usable_of rules.now hearing.now)) }
 {
     let mut work = part.copy()?;
-    put_usable(alloc, domain, now, others, &mut work, hearing)?;
-    flush_all(alloc, domain, now, work, hearing)
+    put_usable(alloc, rules, now, others, &mut work, hearing)?;
+    flush_all(alloc, rules, now, work, hearing)
 }
 
 /// Whether some record can be used.
-pub(crate) fn some_usable(domain: &Name, hearing: &[HeardRr]) -> bool
-    ensures { result ≡ not (is_empty (usable_of domain.now hearing.now)) }
+pub(crate) fn some_usable(rules: &LinkRules, hearing: &[HeardRr]) -> bool
+    ensures { result ≡ not (is_empty (usable_of rules.now hearing.now)) }
 {
     'hearing: for heard in hearing {
-        if usable(domain, &heard.rr) {
+        if usable(&rules.domain, &heard.rr) {
             return true;
         }
     }

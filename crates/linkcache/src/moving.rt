@@ -9,8 +9,8 @@ ghost use Rattle.linkcache.specs.Sound.{AreLinkRows};
 use crate::end_key::EndKey;
 use crate::plan::{HearPlan, PlannedRow, RowChange};
 use crate::row::HeardRow;
+use crate::rules::LinkRules;
 use crate::showing::shown_rows;
-use dnsname::Name;
 use rrset::{Copied, Key, NoMemory, Table, changes};
 use std::alloc::Global;
 
@@ -88,18 +88,18 @@ fn planned(alloc: Global, moves: Vec<RowChange>) -> Result<Vec<PlannedRow>, NoMe
 /// The plan that leads from a part of a link's rows to another one.
 pub(crate) fn plan_between(
     alloc: Global,
-    domain: &Name,
+    rules: &LinkRules,
     usable: bool,
     part: &Table<HeardRow>,
     work: &Table<HeardRow>,
 ) -> Result<HearPlan, NoMemory>
-    requires part { AreLinkRows domain.now part.now.rows }
-    requires work { AreLinkRows domain.now work.now.rows }
+    requires part { AreLinkRows rules.now part.now.rows }
+    requires work { AreLinkRows rules.now work.now.rows }
     ensures usable { IfOk result (λ plan. plan.usable ≡ usable) }
-    ensures between { IfOk result (IsPlanBetween domain.now part.now.rows work.now.rows) }
+    ensures between { IfOk result (IsPlanBetween rules.now part.now.rows work.now.rows) }
 {
-    let before = shown_rows(alloc, domain, part.entries())?;
-    let after = shown_rows(alloc, domain, work.entries())?;
+    let before = shown_rows(alloc, rules, part.entries())?;
+    let after = shown_rows(alloc, rules, work.entries())?;
     let changed = changes(alloc, &before, &after)?;
     let rows = planned(alloc, moves(alloc, part, work)?)?;
     Ok(HearPlan {

@@ -1,6 +1,6 @@
-//! What hearings, moments and reconfirmations will change.
+//! What hearings, moments, reconfirmations and a link's going will change.
 
-ghost use Rattle.std.specs.Prelude.{◌≡◌, ◌≤◌, ◌<◌, ◌+◌, ◌^◌, length, IfOk};
+ghost use Rattle.std.specs.Prelude.{◌≡◌, ◌≤◌, ◌<◌, ◌+◌, ◌^◌, length, is_none, IfOk};
 ghost use Rattle.clockqueue.specs.Deadlines.{AreDeadlines, first_moment};
 ghost use Rattle.push_base.specs.Limits.{max_moment};
 ghost use Rattle.dnsname.specs.Names.{Labels};
@@ -8,7 +8,7 @@ ghost use Rattle.rrset.specs.Records.{key_cmp};
 ghost use Rattle.nametable.specs.Nodes.{HasRoomFor, room_at};
 ghost use Rattle.linkcache.specs.Ends.{AreEnds, has_come};
 ghost use Rattle.linkcache.specs.Links.{IsLink};
-ghost use Rattle.linkcache.specs.Plans.{IsHeardPlan, IsMomentPlan, IsReconfirmPlan, keys_put};
+ghost use Rattle.linkcache.specs.Plans.{IsGonePlan, IsHeardPlan, IsMomentPlan, IsReconfirmPlan, keys_put};
 ghost use Rattle.linkcache.specs.Rows.{has_key};
 
 use crate::end_key::EndKey;
@@ -16,9 +16,9 @@ use crate::heard_rows::{end_row, heard, some_usable};
 use crate::moving::plan_between;
 use crate::plan::HearPlan;
 use crate::row::{HeardRow, RECONFIRMATION};
-use crate::touching::{copy_row, due_rows, touched};
+use crate::rules::LinkRules;
+use crate::touching::{all_rows, copy_row, due_rows, touched};
 use clockqueue::Deadlines;
-use dnsname::Name;
 use nametable::NameTable;
 use rrset::{HeardRr, Key, NoMemory, Table};
 use std::alloc::Global;
@@ -42,26 +42,26 @@ fn rows_beside(part: &Table<HeardRow>, rows: &NameTable<HeardRow>) -> usize
 /// The plan of a hearing, with room for the rows that it puts. It looks at the records heard and the rows of their owners.
 pub(crate) fn heard_plan(
     alloc: Global,
-    domain: &Name,
+    rules: &LinkRules,
     rows: &mut NameTable<HeardRow>,
     now: u64,
     hearing: &[HeardRr],
 ) -> Result<HearPlan, NoMemory>
     requires moment { now ≤ max_moment }
-    requires link { IsLink (record { domain = domain.now; rows = rows.old.rows }) }
-    ensures plan { IfOk result (IsHeardPlan domain.now rows.old.rows now hearing.now) }
+    requires link { IsLink (record { rules = rules.now; rows = rows.old.rows }) }
+    ensures plan { IfOk result (IsHeardPlan rules.now rows.old.rows now hearing.now) }
     ensures rows { rows.new.rows ≡ rows.old.rows }
     ensures room { IfOk result (λ plan. HasRoomFor (keys_put plan.rows) rows.new.nodes) }
     ensures kept { (name : Labels) → room_at rows.old.nodes name ≤ room_at rows.new.nodes name }
 {
-    if !some_usable(domain, hearing) {
+    if !some_usable(rules, hearing) {
         return Ok(HearPlan::nothing(alloc));
     }
-    let part = touched(alloc, domain, rows, hearing)?;
+    let part = touched(alloc, rules, rows, hearing)?;
     let others = rows_beside(&part, rows);
-    let work = heard(alloc, domain, now, others, &part, hearing)?;
+    let work = heard(alloc, rules, now, others, &part, hearing)?;
     rows.reserve_for_rows(&work)?;
-    plan_between(alloc, domain, true, &part, &work)
+    plan_between(alloc, rules, true, &part, &work)
 }
 
 /// Whether the least moment has come.
@@ -79,14 +79,14 @@ fn some_due(ends: &Deadlines<EndKey>, now: u64) -> bool
 /// later.
 pub(crate) fn moment_plan(
     alloc: Global,
-    domain: &Name,
+    rules: &LinkRules,
     rows: &NameTable<HeardRow>,
     ends: &Deadlines<EndKey>,
     now: u64,
 ) -> Result<HearPlan, NoMemory>
-    requires link { IsLink (record { domain = domain.now; rows = rows.now.rows }) }
+    requires link { IsLink (record { rules = rules.now; rows = rows.now.rows }) }
     requires ends { AreEnds ends.now.deadlines rows.now.rows }
-    ensures plan { IfOk result (IsMomentPlan domain.now rows.now.rows now) }
+    ensures plan { IfOk result (IsMomentPlan rules.now rows.now.rows now) }
     ensures room { IfOk result (λ plan. HasRoomFor (keys_put plan.rows) rows.now.nodes) }
 {
     if !some_due(ends, now) {
@@ -94,20 +94,20 @@ pub(crate) fn moment_plan(
     }
     let part = due_rows(alloc, rows, ends, now)?;
     let work = Table::new(alloc);
-    plan_between(alloc, domain, false, &part, &work)
+    plan_between(alloc, rules, false, &part, &work)
 }
 
 /// The plan of a reconfirmation, with room for the row that it puts. It looks at the row of the key.
 pub(crate) fn reconfirm_plan(
     alloc: Global,
-    domain: &Name,
+    rules: &LinkRules,
     rows: &mut NameTable<HeardRow>,
     key: &Key,
     now: u64,
 ) -> Result<HearPlan, NoMemory>
     requires moment { now ≤ max_moment }
-    requires link { IsLink (record { domain = domain.now; rows = rows.old.rows }) }
-    ensures plan { IfOk result (IsReconfirmPlan domain.now rows.old.rows key.now now) }
+    requires link { IsLink (record { rules = rules.now; rows = rows.old.rows }) }
+    ensures plan { IfOk result (IsReconfirmPlan rules.now rows.old.rows key.now now) }
     ensures rows { rows.new.rows ≡ rows.old.rows }
     ensures room { IfOk result (λ plan. HasRoomFor (keys_put plan.rows) rows.new.nodes) }
     ensures kept { (name : Labels) → room_at rows.old.nodes name ≤ room_at rows.new.nodes name }
@@ -120,5 +120,32 @@ pub(crate) fn reconfirm_plan(
     let mut work = part.copy()?;
     end_row(&mut work, key, now + RECONFIRMATION)?;
     rows.reserve_for_rows(&work)?;
-    plan_between(alloc, domain, false, &part, &work)
+    plan_between(alloc, rules, false, &part, &work)
+}
+
+/// Whether no row ends.
+fn none_ends(ends: &Deadlines<EndKey>) -> bool
+    ensures { result ≡ is_none (first_moment ends.now.deadlines) }
+{
+    ends.next().is_none()
+}
+
+/// The plan of a link's going, which takes out all rows and puts none.
+pub(crate) fn gone_plan(
+    alloc: Global,
+    rules: &LinkRules,
+    rows: &NameTable<HeardRow>,
+    ends: &Deadlines<EndKey>,
+) -> Result<HearPlan, NoMemory>
+    requires link { IsLink (record { rules = rules.now; rows = rows.now.rows }) }
+    requires ends { AreEnds ends.now.deadlines rows.now.rows }
+    ensures plan { IfOk result (IsGonePlan rules.now rows.now.rows) }
+    ensures room { IfOk result (λ plan. HasRoomFor (keys_put plan.rows) rows.now.nodes) }
+{
+    if none_ends(ends) {
+        return Ok(HearPlan::nothing(alloc));
+    }
+    let part = all_rows(alloc, rows)?;
+    let work = Table::new(alloc);
+    plan_between(alloc, rules, true, &part, &work)
 }

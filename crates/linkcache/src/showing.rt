@@ -8,7 +8,7 @@ ghost use Rattle.linkcache.specs.Rows.{put_shown, shown_rows};
 ghost use Rattle.linkcache.specs.Sound.{IsLinkRow, AreLinkRows};
 
 use crate::row::{HeardRow, record_of};
-use dnsname::Name;
+use crate::rules::LinkRules;
 use linkmap::show;
 use nametable::{Block, Node};
 use rrset::{Key, NoMemory, Rr, Shown, Table};
@@ -32,16 +32,16 @@ fn put_rr(set: &mut Table, rr: Rr) -> Result<(), NoMemory>
 /// Puts what a row shows, if anything.
 fn put_shown(
     alloc: Global,
-    domain: &Name,
+    rules: &LinkRules,
     set: &mut Table,
     key: &Key,
     row: &HeardRow,
 ) -> Result<(), NoMemory>
-    requires { IsLinkRow domain.now (key.now, row.now) }
-    ensures { OnOk result (set.new.rows ≡ put_shown domain.now set.old.rows (key.now, row.now)) }
+    requires { IsLinkRow rules.now (key.now, row.now) }
+    ensures { OnOk result (set.new.rows ≡ put_shown rules.now set.old.rows (key.now, row.now)) }
 {
     let rr = record_of(key, row)?;
-    match show(alloc, domain, &rr)? {
+    match show(alloc, &rules.domain, rules.cap, &rr)? {
         Some(shown) => put_rr(set, shown),
         None => Ok(()),
     }
@@ -50,15 +50,15 @@ fn put_shown(
 /// Puts what rows show.
 fn put_shown_rows(
     alloc: Global,
-    domain: &Name,
+    rules: &LinkRules,
     set: &mut Table,
     rows: &[(Key, HeardRow)],
 ) -> Result<(), NoMemory>
-    requires { AreLinkRows domain.now rows.now }
-    ensures { OnOk result (set.new.rows ≡ fold (put_shown domain.now) set.old.rows rows.now) }
+    requires { AreLinkRows rules.now rows.now }
+    ensures { OnOk result (set.new.rows ≡ fold (put_shown rules.now) set.old.rows rows.now) }
 {
     'rows: for (key, row) in rows {
-        put_shown(alloc, domain, set, key, row)?;
+        put_shown(alloc, rules, set, key, row)?;
     }
     Ok(())
 }
@@ -66,29 +66,29 @@ fn put_shown_rows(
 /// The records that rows of a link show under its domain.
 pub(crate) fn shown_rows(
     alloc: Global,
-    domain: &Name,
+    rules: &LinkRules,
     rows: &[(Key, HeardRow)],
 ) -> Result<Table, NoMemory>
-    requires { AreLinkRows domain.now rows.now }
-    ensures { IfOk result (λ set. set.rows ≡ shown_rows domain.now rows.now) }
+    requires { AreLinkRows rules.now rows.now }
+    ensures { IfOk result (λ set. set.rows ≡ shown_rows rules.now rows.now) }
 {
     let mut set = Table::new(alloc);
-    put_shown_rows(alloc, domain, &mut set, rows)?;
+    put_shown_rows(alloc, rules, &mut set, rows)?;
     Ok(set)
 }
 
 /// Puts what the rows of some names show.
 fn put_shown_nodes(
     alloc: Global,
-    domain: &Name,
+    rules: &LinkRules,
     set: &mut Table,
     nodes: &[Node<HeardRow>],
 ) -> Result<(), NoMemory>
-    requires { AreLinkRows domain.now (all_rows nodes.now) }
-    ensures { OnOk result (set.new.rows ≡ fold (put_shown domain.now) set.old.rows (all_rows nodes.now)) }
+    requires { AreLinkRows rules.now (all_rows nodes.now) }
+    ensures { OnOk result (set.new.rows ≡ fold (put_shown rules.now) set.old.rows (all_rows nodes.now)) }
 {
     'nodes: for node in nodes {
-        put_shown_rows(alloc, domain, set, node.table().entries())?;
+        put_shown_rows(alloc, rules, set, node.table().entries())?;
     }
     Ok(())
 }
@@ -96,15 +96,15 @@ fn put_shown_nodes(
 /// The records that the rows of names in blocks show under a link's domain.
 pub(crate) fn shown_blocks(
     alloc: Global,
-    domain: &Name,
+    rules: &LinkRules,
     blocks: &[Block<HeardRow>],
 ) -> Result<Table, NoMemory>
-    requires { AreLinkRows domain.now (all_rows (nodes_in blocks.now)) }
-    ensures { IfOk result (λ set. set.rows ≡ shown_rows domain.now (all_rows (nodes_in blocks.now))) }
+    requires { AreLinkRows rules.now (all_rows (nodes_in blocks.now)) }
+    ensures { IfOk result (λ set. set.rows ≡ shown_rows rules.now (all_rows (nodes_in blocks.now))) }
 {
     let mut set = Table::new(alloc);
     'blocks: for block in blocks {
-        put_shown_nodes(alloc, domain, &mut set, block.nodes())?;
+        put_shown_nodes(alloc, rules, &mut set, block.nodes())?;
     }
     Ok(set)
 }

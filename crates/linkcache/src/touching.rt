@@ -1,7 +1,9 @@
 //! The part of a link's rows that a step looks at.
 
-ghost use Rattle.std.specs.Prelude.{◌≡◌, ◌≤◌, Bool, ◌||◌, List, [], fold, IfOk, OnOk, IsTrue};
+ghost use Rattle.std.specs.Prelude.{◌≡◌, ◌≤◌, Bool, ◌||◌, ◌++◌, List, [], fold, IfOk, OnOk, IsTrue};
 ghost use Rattle.dnsname.specs.Names.{same_name};
+ghost use Rattle.nametable.specs.Blocks.{nodes_in};
+ghost use Rattle.nametable.specs.Nodes.{all_rows};
 ghost use Rattle.rrset.specs.KeyedRows.{is_rising, only_rows};
 ghost use Rattle.rrset.specs.Tables.{HaveLowerOwners};
 ghost use Rattle.rrset.specs.declared.record.HeardRr.{HeardRr};
@@ -12,10 +14,11 @@ ghost use Rattle.linkcache.specs.Rows.{usable_of};
 
 use crate::end_key::EndKey;
 use crate::row::HeardRow;
+use crate::rules::LinkRules;
 use clockqueue::Deadlines;
 use dnsname::Name;
 use linkmap::usable;
-use nametable::NameTable;
+use nametable::{Block, NameTable, Node};
 use rrset::{Copied, HeardRr, Key, NoMemory, Table};
 use std::alloc::Global;
 
@@ -72,17 +75,17 @@ fn touch(
 /// The rows of the owners of usable records.
 pub(crate) fn touched(
     alloc: Global,
-    domain: &Name,
+    rules: &LinkRules,
     rows: &NameTable<HeardRow>,
     hearing: &[HeardRr],
 ) -> Result<Table<HeardRow>, NoMemory>
     requires order { IsTrue (is_rising rows.now.rows) }
     requires lower { HaveLowerOwners rows.now.rows }
-    ensures { IfOk result (λ part. part.rows ≡ only_rows (is_touched (usable_of domain.now hearing.now)) rows.now.rows) }
+    ensures { IfOk result (λ part. part.rows ≡ only_rows (is_touched (usable_of rules.now hearing.now)) rows.now.rows) }
 {
     let mut part = Table::new(alloc);
     'hearing: for heard in hearing {
-        if usable(domain, &heard.rr) {
+        if usable(&rules.domain, &heard.rr) {
             touch(&mut part, rows, &heard.rr.owner)?;
         }
     }
@@ -108,4 +111,48 @@ pub(crate) fn due_rows(
         copy_row(&mut part, rows, end.1.key())?;
     }
     Ok(part)
+}
+
+/// Puts copies of the rows of a name behind those of others.
+fn copy_entries(all: &mut Vec<(Key, HeardRow)>, entries: &[(Key, HeardRow)]) -> Result<(), NoMemory>
+    ensures { OnOk result (all.new.items ≡ all.old.items ++ entries.now) }
+{
+    'entries: for (key, row) in entries {
+        all.push((key.copy()?, row.copied()?))?;
+    }
+    Ok(())
+}
+
+/// Puts copies of the rows of some names behind those of others.
+fn copy_nodes(all: &mut Vec<(Key, HeardRow)>, nodes: &[Node<HeardRow>]) -> Result<(), NoMemory>
+    ensures { OnOk result (all.new.items ≡ all.old.items ++ all_rows nodes.now) }
+{
+    'nodes: for node in nodes {
+        copy_entries(all, node.table().entries())?;
+    }
+    Ok(())
+}
+
+/// Puts copies of the rows of names in blocks behind those of others.
+fn copy_blocks(all: &mut Vec<(Key, HeardRow)>, blocks: &[Block<HeardRow>]) -> Result<(), NoMemory>
+    ensures { OnOk result (all.new.items ≡ all.old.items ++ all_rows (nodes_in blocks.now)) }
+{
+    'blocks: for block in blocks {
+        copy_nodes(all, block.nodes())?;
+    }
+    Ok(())
+}
+
+/// Copies of all rows, in time linear in them.
+pub(crate) fn all_rows(
+    alloc: Global,
+    rows: &NameTable<HeardRow>,
+) -> Result<Table<HeardRow>, NoMemory>
+    requires order { IsTrue (is_rising rows.now.rows) }
+    requires lower { HaveLowerOwners rows.now.rows }
+    ensures { IfOk result (λ part. part.rows ≡ rows.now.rows) }
+{
+    let mut all = Vec::new(alloc);
+    copy_blocks(&mut all, rows.blocks())?;
+    Ok(Table::from_entries(all))
 }

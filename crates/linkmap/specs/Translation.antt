@@ -1,10 +1,11 @@
 -- A link's records under its domain (RFC 8766, 5.5).
 --     is_usable domain rr      the record can be shown under the domain, or is an address that isn't shown
 --     shown_as domain rr      the record as it is shown
+--     lessened most rr      the record with a TTL of at most so much
 --     heard_as domain rr      the record of the link that would be shown with this key
 --     is_of_link, is_translatable      its class, kind and owner are those of a link's records; its names can be those of the other domain
 --     renamed, names_fit, is_link_local      a name with the other domain; owner and names inside fit with it; addresses that aren't shown
-use Rattle.std.specs.Prelude.{ℕ, ◌/◌, Bool, not, ◌&&◌, ◌||◌, List, [], ◌∷◌, length, slice_index, Option, Some, None, nat_le, ◌==◌, codes, if◌then◌else◌}
+use Rattle.std.specs.Prelude.{ℕ, ◌/◌, min, Bool, not, ◌&&◌, ◌||◌, List, [], ◌∷◌, length, slice_index, Option, Some, None, nat_le, ◌==◌, codes, if◌then◌else◌}
 use Rattle.std.specs.List.{list_all, list_any}
 use Rattle.dnsname.specs.Names.{Labels, max_name, octets, ends_in, swapped_suffix}
 use Rattle.rrset.specs.Kinds.{in_class, a_kind, aaaa_kind, nsec_kind, is_meta}
@@ -56,6 +57,10 @@ is_link_local rr = shape_fits rr.kind rr.rdata
 -- RFC 8766, 5.5 and 5.5.2
 abbrev pub shown_as : Labels → Rr → Option Rr
 shown_as domain rr = if is_link_local rr then None else Some (renamed_rr local domain rr)
+
+-- the lesser of the record's TTL and another (this project's own)
+abbrev pub lessened : ℕ → Rr → Rr
+lessened most rr = record rr { ttl = min rr.ttl most }
 
 -- the record of the link that would be shown with this record's key; nothing where the owner isn't under the domain, a name
 -- inside ends in local., a name wouldn't fit, or it is an address that isn't shown. Class and kind aren't asked: of records

@@ -13,7 +13,7 @@ ghost use Rattle.dnsname.specs.Names.{octets};
 ghost use Rattle.dnsname.specs.Text.{name};
 ghost use Rattle.rrset.specs.Records.{key_of};
 ghost use Rattle.rrset.specs.declared.record.Rr.{Rr};
-ghost use Rattle.linkmap.specs.Translation.{is_usable, shown_as, heard_as, local, renamed};
+ghost use Rattle.linkmap.specs.Translation.{is_usable, shown_as, lessened, heard_as, local, renamed};
 ghost use Rattle.linkmap.specs.Worked.{lan, at_link, at_domain, long_name};
 
 pub use translation::{
@@ -31,6 +31,12 @@ pub fn worked_rows()
     ensures heard_is_shown { let lan = name (codes "lan.example.com.") in let rr : Rr = record { owner = name (codes "h.Lan.example.com."); class = 1; kind = 12; ttl = 0; rdata = hex (codes "0161034c414e076578616d706c6503636f6d00") } in
         option_map key_of (option_and_then (shown_as lan) (heard_as lan rr)) ≡ Some (key_of rr) }
     ensures not_usable { is_usable (name (codes "lan.example.com.")) (record { owner = name (codes "h.local."); class = 1; kind = 12; ttl = 120; rdata = hex (codes "0161036c616e076578616d706c6503636f6d00") }) ≡ false }
+{}
+
+/// Examples of the TTL with which a record of TTL 120 is shown under a cap.
+pub fn capped_rows()
+    ensures lesser { option_map (λ rr. rr.ttl) (shown_as lan (lessened 10 (at_link 16 []))) ≡ Some 10 }
+    ensures greater { option_map (λ rr. rr.ttl) (shown_as lan (lessened 4294967295 (at_link 16 []))) ≡ Some 120 }
 {}
 
 /// Examples of which records of a link are used.

@@ -6,7 +6,7 @@ ghost use Rattle.rrset.specs.Rdata.{rdata_names, with_names};
 ghost use Rattle.linkmap.specs.Names.{is_renamable};
 ghost use Rattle.dnsname.specs.Names.{SpellsName, ends_in};
 ghost use Rattle.dnsname.specs.Octets.{labels_of};
-ghost use Rattle.linkmap.specs.Translation.{local, is_of_link, is_translatable, is_usable, is_link_local, names_fit, fits_a_name, renamed, renamed_rr, shown_as, heard_as};
+ghost use Rattle.linkmap.specs.Translation.{local, is_of_link, is_translatable, is_usable, is_link_local, names_fit, fits_a_name, renamed, renamed_rr, shown_as, lessened, heard_as};
 
 use crate::inside::names_are_renamable;
 use crate::names::{fits_renamed, local, spelling};
@@ -174,15 +174,18 @@ pub fn translated(alloc: Global, domain: &Name, rr: &Rr) -> Result<Rr, NoMemory>
 }
 
 /// The record of the link's domain as which a usable record of the link is shown (RFC 8766, 5.5). Nothing exactly where
-/// it is an address of its link alone (RFC 8766, 5.5.2).
-pub fn show(alloc: Global, domain: &Name, rr: &Rr) -> Result<Option<Rr>, NoMemory>
+/// it is an address of its link alone (RFC 8766, 5.5.2). Its TTL is the lesser of the cap and the record's (this project's
+/// own).
+pub fn show(alloc: Global, domain: &Name, cap: u32, rr: &Rr) -> Result<Option<Rr>, NoMemory>
     requires { is_usable domain.now rr.now ≡ true }
-    ensures { IfOk result (λ shown. shown ≡ shown_as domain.now rr.now) }
+    ensures { IfOk result (λ shown. shown ≡ shown_as domain.now (lessened cap rr.now)) }
 {
     if is_link_local(rr) {
         return Ok(None);
     }
-    Ok(Some(translated(alloc, domain, rr)?))
+    let mut shown = translated(alloc, domain, rr)?;
+    shown.ttl = shown.ttl.min(cap);
+    Ok(Some(shown))
 }
 
 /// The record of the link that would be shown with the key of this record of its domain. Nothing exactly where its owner

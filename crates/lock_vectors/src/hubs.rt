@@ -9,7 +9,7 @@ ghost use Rattle.hublock.specs.Inside.{counted};
 
 use dnsname::Name;
 use dsosession::session::Timers;
-use history::Homes;
+use history::{Homes, NO_CAP};
 use pushserver::Hub;
 use std::alloc::Global;
 use std::test::Fail;
@@ -53,8 +53,8 @@ fn hub_of(zone: Zone, alloc: Global) -> Result<Hub, Fail>
 {
     let mut homes = Homes::new(alloc);
     homes.add_zone(zone)?;
-    homes.add_link(Name::from_text(alloc, "lan.example.com.")?)?;
-    homes.add_link(Name::from_text(alloc, "wlan.example.com.")?)?;
+    homes.add_link(Name::from_text(alloc, "lan.example.com.")?, NO_CAP)?;
+    homes.add_link(Name::from_text(alloc, "wlan.example.com.")?, NO_CAP)?;
     let hub = Hub::new(homes, TIMERS)?;
     Ok(hub)
 }

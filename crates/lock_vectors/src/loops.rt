@@ -2,13 +2,14 @@
 
 ghost use Rattle.std.specs.Prelude.{◌≤◌, None, length};
 
-use crate::hubs::{HOST, SUBSCRIBE, SUBSCRIBED, connected_hub};
+use crate::hubs::{HOST, SUBSCRIBE, SUBSCRIBED, connected_hub, example_hub};
 use crate::rows::are_octets;
 use history::entry::Totals;
-use hublock::{Alone, LoopEnd, clock_loop, link_loop, read_loop, write_loop};
+use hublock::{Alone, Gate, LoopEnd, clock_loop, link_loop, read_loop, write_loop};
 use push_base::{
     Failed, Got, Line, MemClock, MemDatagrams, MemItem, MemSink, Sink, Wire, hex_octets,
 };
+use pushserver::Hub;
 use std::alloc::Global;
 use std::test::Fail;
 
@@ -251,4 +252,44 @@ fn is_so(alloc: Global, quit: bool, wanted: &Ends) -> Result<(), Fail> {
 fn loops_end(rt: HostRuntime) -> Result<(), Fail> {
     is_so(rt.alloc(), false, &GOING)?;
     is_so(rt.alloc(), true, &STOPPED)
+}
+
+/// The entries of a hub whose one record was heard, and then went with its link.
+const GONE: Totals = Totals {
+    changes: 0,
+    heard: 2,
+    moments: 0,
+};
+
+/// A hub that heard `HOST` on its first link, and has no session.
+fn hub_that_heard(alloc: Global) -> Result<Hub, Fail> {
+    let mut hub = example_hub(alloc)?;
+    let datagram = hex_octets(alloc, HOST)?;
+    hub.hear_uncounted(0, datagram.as_slice())?;
+    Ok(hub)
+}
+
+/// Fails where the loop of the first link, whose first receipt fails, ends otherwise, or leaves it a record.
+fn is_gone_so(alloc: Global, alone: &mut Alone) -> Result<(), Fail> {
+    let mut datagrams = MemDatagrams::new(Vec::new(alloc), vec![in alloc; 1]?);
+    is_end(
+        link_loop(alloc, alone, 0, &mut datagrams, 1),
+        LoopEnd::LinkFault,
+    )?;
+    if alone.gone(0)? {
+        return Err(Fail::new(format_args!("a record is left")));
+    }
+    Ok(())
+}
+
+#[test]
+fn a_broken_link_has_no_records(rt: HostRuntime) -> Result<(), Fail> {
+    let mut alone = Alone::new(hub_that_heard(rt.alloc())?, false);
+    let gone = is_gone_so(rt.alloc(), &mut alone);
+    let (calls, _, counts) = left_by(alone);
+    gone?;
+    if calls > 0 {
+        return Err(Fail::new(format_args!("{calls} turns")));
+    }
+    are_counts(counts, GONE)
 }

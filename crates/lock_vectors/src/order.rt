@@ -65,7 +65,7 @@ fn queue_of(alloc: Global, numbers: &[usize]) -> Result<VecDeque<usize>, Fail> {
 }
 
 /// A gate that takes and gives as many octets as it is told to: `t` where it took some, `n` none; `g` for each piece of work,
-/// `h` for a datagram, `m` for a moment, `p` where it is waited for, `x` for a connection that is gone, `o` for a line that is
+/// `h` for a datagram, `l` where a link is gone, `m` for a moment, `p` where it is waited for, `x` for a connection that is gone, `o` for a line that is
 /// over, `s` for a session that is.
 #[derive(Drop)]
 struct Told<R: Wait + Copy> {
@@ -105,6 +105,11 @@ impl<R: Wait + Copy> Gate for Told<R> {
     fn hear(&mut self, link: usize, datagram: &[u8]) -> Result<Heard, HubFault> {
         self.log.add(b'h');
         self.alone.hear(link, datagram)
+    }
+
+    fn gone(&mut self, _link: usize) -> Result<bool, HubFault> {
+        self.log.add(b'l');
+        Ok(true)
     }
 
     fn moment(&mut self, _at: u64) -> Result<(), HubFault> {
@@ -171,12 +176,14 @@ impl<R: Wait + Copy> Line for LoggedLine<R> {
     }
 }
 
-/// Datagrams, each the same: `r` for each, `e` for the end.
+/// Datagrams, each the same: `r` for each, and behind them `b` where they break, `e` for the end.
 #[derive(Drop)]
 struct LoggedLinks<R: Wait + Copy> {
     log: Log<R>,
     left: u64,
     datagram: Vec<u8>,
+    breaks: bool,
+    faults: u64,
 }
 
 /// Puts a datagram at the front of the buffer, as much of it as fits. Gives the number of its octets.
@@ -195,16 +202,21 @@ impl<R: Wait + Copy> Datagrams for LoggedLinks<R> {
 
     ghost calls = { λ _. None };
 
-    ghost faults = { λ _. 0 };
+    ghost faults = { λ l. l.faults };
 
     fn recv(&mut self, buf: &mut [u8]) -> Result<Got, Failed> {
-        if self.left == 0 {
-            self.log.add(b'e');
-            return Ok(Got::End);
+        if self.left > 0 {
+            self.left -= 1;
+            self.log.add(b'r');
+            return Ok(Got::Bytes(put_datagram(self.datagram.as_slice(), buf)));
         }
-        self.left -= 1;
-        self.log.add(b'r');
-        Ok(Got::Bytes(put_datagram(self.datagram.as_slice(), buf)))
+        if self.breaks {
+            self.log.add(b'b');
+            self.faults = self.faults.saturating_add(1);
+            return Err(Failed);
+        }
+        self.log.add(b'e');
+        Ok(Got::End)
     }
 }
 
@@ -310,6 +322,7 @@ fn links_of<R: Wait + Copy>(
     alloc: Global,
     log: &Log<R>,
     left: u64,
+    breaks: bool,
 ) -> Result<LoggedLinks<R>, Fail> {
     let log = log.again()?;
     let mut datagram = Vec::new(alloc);
@@ -318,6 +331,8 @@ fn links_of<R: Wait + Copy>(
         log,
         left,
         datagram,
+        breaks,
+        faults: 0,
     })
 }
 
@@ -362,14 +377,15 @@ fn write<R: Wait + Copy + Send + 'static>(
     Ok(run(Job::writer(alloc, gate, 0, wire, turns)))
 }
 
-/// So many datagrams come.
+/// So many datagrams come, behind which they end or break.
 fn hear<R: Wait + Copy + Send + 'static>(
     alloc: Global,
     log: &Log<R>,
     left: u64,
+    breaks: bool,
     turns: u64,
 ) -> Result<LoopEnd, Fail> {
-    let links = links_of(alloc, log, left)?;
+    let links = links_of(alloc, log, left, breaks)?;
     let gate = gate_of(alloc, log, &[], &[])?;
     Ok(run(Job::link(alloc, gate, 0, links, turns)))
 }
@@ -394,6 +410,8 @@ enum Work {
     Write(&'static [Given], usize),
     /// So many datagrams come.
     Hear(u64),
+    /// So many datagrams come, behind which they break.
+    Break(u64),
     /// The clock is asked.
     Tick,
 }
@@ -494,6 +512,19 @@ const CASES: &[Case] = &[
         log: "rhr",
         end: LoopEnd::Turns,
     },
+    // Where datagrams break, the link is told gone, also with the last turn, and nothing behind it.
+    Case {
+        work: Work::Break(1),
+        turns: 100,
+        log: "rhbl",
+        end: LoopEnd::LinkFault,
+    },
+    Case {
+        work: Work::Break(1),
+        turns: 3,
+        log: "rhbl",
+        end: LoopEnd::LinkFault,
+    },
     Case {
         work: Work::Tick,
         turns: 4,
@@ -512,7 +543,8 @@ fn end_of<R: Wait + Copy + Send + 'static>(
     match work {
         Work::Read(sizes, takes) => read(alloc, log, sizes, takes, turns),
         Work::Write(gives, most) => write(alloc, log, gives, most, turns),
-        Work::Hear(left) => hear(alloc, log, left, turns),
+        Work::Hear(left) => hear(alloc, log, left, false, turns),
+        Work::Break(left) => hear(alloc, log, left, true, turns),
         Work::Tick => tick(alloc, log, turns),
     }
 }

@@ -1,6 +1,6 @@
 -- What a call adds to the entries of each group, and how many octets it hands on.
---     give-adds, hear-adds, moment-adds      at most one change; one hearing where the datagram was entered; at most one moment
---     change-forgets, moment-forgets, hearing-forgets      the same where entries are forgotten then
+--     give-adds, hear-adds, gone-adds, moment-adds      at most one change; one hearing where the datagram was entered, and where a link's rows went; at most one moment
+--     change-forgets, moment-forgets, hearing-forgets, going-forgets      the same where entries are forgotten then
 --     give-within      no more octets than there is room for
 --     connect-counts, connect-many      one session is made; where no seat is free, as many were made
 use Rattle.std.proofs.Common.{◌≡◌, ℕ, suc, ◌+◌, ◌<◌, ◌≤◌, Bool, true, false, cond, not, ◌&&◌, ◌||◌, List, [], ◌∷◌, map, length, Option, Some, None, Result, Ok, Err, T, inl, inr, refl, sym, ap, subst, arith}
@@ -27,9 +27,9 @@ use Rattle.pushsession.specs.declared.request.Request.TheVariants as requests
 use Rattle.pushsession.specs.declared.session_status.SessionStatus.{SessionStatus}
 use Rattle.pushsession.specs.declared.session_status.SessionStatus.TheVariants.{Live, AskedToStop, Stopped, Ended}
 use Rattle.pushserver.specs.Observing.{SaysWhy}
-use Rattle.pushserver.specs.Counting.{AddsHearing, MayAddChange, MayAddMoment, octets_of}
+use Rattle.pushserver.specs.Counting.{AddsGoing, AddsHearing, MayAddChange, MayAddMoment, octets_of}
 use Rattle.pushserver.specs.Giving.{reconfirms, by_request, reacted, after_reaction, by_standing, given_after, give}
-use Rattle.pushserver.specs.Hubs.{Numbered, state_now, session_of, each_session, entered_keeping, can_enter, update, hear, moment, connect, max_sessions}
+use Rattle.pushserver.specs.Hubs.{Numbered, state_now, session_of, each_session, entered_keeping, can_enter, update, hear, link_gone, moment, connect, max_sessions}
 use Rattle.pushserver.specs.KeptHubs.{KeptHub, Forgets}
 use Rattle.pushserver.specs.NumberedSessions.{AreApart, AreBelow}
 use Rattle.pushserver.specs.declared.given.Given.{Given}
@@ -39,7 +39,7 @@ use Rattle.pushserver.specs.declared.given.Heard.{Heard}
 use Rattle.pushserver.specs.declared.given.Heard.TheVariants.{Entered, Ignored}
 use Rattle.pushserver.proofs.SessionLists.{same-number}
 use Rattle.pushserver.proofs.Walks.{with_new}
-use Rattle.pushserver.proofs.hub_steps.Cases.{enters_update, update_as, enters_hearing, hear_as, key_as, session_as, copies_as, found_as, works_as, output_as, give_as}
+use Rattle.pushserver.proofs.hub_steps.Cases.{enters_update, update_as, enters_hearing, hear_as, enters_going, key_as, session_as, copies_as, found_as, works_as, output_as, give_as}
 
 -- ---- `give`, a datagram and a moment
 
@@ -181,6 +181,13 @@ hear-says hub link datagram = by (hearing_of datagram)
     by (Err fault) = refl
     by (Ok hearing) = by_room hearing (accepts (state_now hub) (entries.Heard link hearing)) (can_enter hub)
 
+pub gone-adds : (hub : KeptHub) (link : ℕ) → AddsGoing (Ok (link_gone hub link).0) hub (link_gone hub link).1
+gone-adds hub link = by (accepts (state_now hub) (entries.LinkGone link) && can_enter hub)
+  where
+    by : (b : Bool) → AddsGoing (Ok (enters_going hub link b).0) hub (enters_going hub link b).1
+    by true = (refl, refl)
+    by false = (refl, refl)
+
 pub moment-adds : (hub : KeptHub) (t : ℕ) → MayAddMoment hub (moment hub t)
 moment-adds hub t = by (accepts (state_now hub) (entries.Moment t) && can_enter hub)
   where
@@ -200,6 +207,11 @@ module _ (k mid later : KeptHub) (forgets : Forgets mid later) where
   hearing-forgets (Ok Entered) adds = subst (λ (h : KeptHub). AddsHearing (Ok Entered) k h) (sym forgets.is) adds
   hearing-forgets (Ok (Ignored why)) adds = subst (λ (h : KeptHub). AddsHearing (Ok (Ignored why)) k h) (sym forgets.is) adds
   hearing-forgets (Err fault) adds = subst (λ (h : KeptHub). AddsHearing (Err fault) k h) (sym forgets.is) adds
+
+  pub going-forgets : (gone : Result Bool HubFault) → AddsGoing gone k mid → AddsGoing gone k later
+  going-forgets (Ok true) adds = subst (λ (h : KeptHub). AddsGoing (Ok true) k h) (sym forgets.is) adds
+  going-forgets (Ok false) adds = subst (λ (h : KeptHub). AddsGoing (Ok false) k h) (sym forgets.is) adds
+  going-forgets (Err fault) adds = subst (λ (h : KeptHub). AddsGoing (Err fault) k h) (sym forgets.is) adds
 
 -- ---- a session is made
 

@@ -1,12 +1,12 @@
 -- Each call keeps a hub that stands for a plain one.
 --     keeps-hub      what is kept then stands for a plain hub
---     update-stands, hear-stands, moment-stands, connect-stands, take-stands, stop-stands, end-stands, give-stands      each call
-use Rattle.std.proofs.Common.{◌≡◌, ℕ, List, ◌++◌, length, drop, Option, sym, ap, subst, ◌∙◌}
+--     update-stands, hear-stands, gone-stands, moment-stands, connect-stands, take-stands, stop-stands, end-stands, give-stands      each call
+use Rattle.std.proofs.Common.{◌≡◌, ℕ, Bool, List, ◌++◌, length, drop, Option, sym, ap, subst, ◌∙◌}
 use Rattle.pushserver.specs.declared.given.Given.{Given}
 use Rattle.pushserver.specs.declared.given.Heard.{Heard}
 use Rattle.pushserver.specs.declared.hub_state.HubState.{HubState}
 use Rattle.pushserver.specs.PlainHubs.{Hub}
-use Rattle.pushserver.specs.Hubs.{records_now, update, hear, moment, connect, taken_by, take_octets, stop, disconnect}
+use Rattle.pushserver.specs.Hubs.{records_now, update, hear, link_gone, moment, connect, taken_by, take_octets, stop, disconnect}
 use Rattle.pushserver.specs.Giving.{give}
 use Rattle.pushserver.specs.KeptHubs.{KeptHub, Forgets, StandsFor}
 use Rattle.dsotlv.specs.Laws.{AreOctets}
@@ -15,7 +15,7 @@ use Rattle.pushserver.specs.HubState.{Gave, IsHub, kept_of}
 use Rattle.pushserver.specs.Watched.{Watches}
 use Rattle.subscr.specs.Watching.{watching_of}
 use Rattle.pushserver.proofs.ForgottenEntries.{forgets-same}
-use Rattle.pushserver.proofs.hub_steps.Calls.{updates_stand, hears_stand, moments_stand, connects_stand, takes_stand, stops_stand, ends_stand}
+use Rattle.pushserver.proofs.hub_steps.Calls.{updates_stand, hears_stand, goings_stand, moments_stand, connects_stand, takes_stand, stops_stand, ends_stand}
 use Rattle.pushserver.proofs.hub_steps.Forgetting.{forgetting_stands}
 use Rattle.pushserver.proofs.hub_steps.Giving.{gives_stand}
 
@@ -45,6 +45,9 @@ update-stands k later message code octets code_is is hub stands = answers code l
 pub hear-stands : (k later : KeptHub) (link : ℕ) (datagram : List ℕ) (heard : Heard) → AreOctets datagram → heard ≡ (hear k link datagram).0 → Forgets (hear k link datagram).1 later
     → (hub : Hub) → StandsFor k hub → (heard ≡ (hear hub link datagram).0) × StandsFor later (hear hub link datagram).1
 hear-stands k later link datagram heard octets heard_is is hub stands = answers heard later (hear k link datagram) (hear hub link datagram) heard_is is (hears_stand k hub link datagram stands octets)
+
+pub gone-stands : (k later : KeptHub) (link : ℕ) (gone : Bool) → gone ≡ (link_gone k link).0 → Forgets (link_gone k link).1 later → (hub : Hub) → StandsFor k hub → (gone ≡ (link_gone hub link).0) × StandsFor later (link_gone hub link).1
+gone-stands k later link gone gone_is is hub stands = answers gone later (link_gone k link) (link_gone hub link) gone_is is (goings_stand k hub link stands)
 
 pub moment-stands : (k later : KeptHub) (t : ℕ) → Forgets (moment k t) later → (hub : Hub) → StandsFor k hub → StandsFor later (moment hub t)
 moment-stands k later t is hub stands = forgetting_stands (moment k t) later (moment hub t) (moments_stand k hub t stands) is

@@ -1,7 +1,7 @@
 -- What becomes of an entry that is offered, and of the calls that offer one.
 --     offered-refused, offered-idle, offered-accepted      by the answer to its plan
 --     plan-held, plan-changes, offered-room      what is entered from a plan that is held
---     update-offered, hear-offered, reconfirm-offered, moment-offered      each call that makes an entry offers it
+--     update-offered, hear-offered, gone-offered, reconfirm-offered, moment-offered      each call that makes an entry offers it
 --     update-unread, reconfirm-none      no update; no key to reconfirm
 --     found-fits, read-fits      what is made of one message fits an empty journal
 --     moment-early, moment-last, moment-made      an earlier moment; one at the last point; a later one, which is one for each session, too
@@ -36,13 +36,13 @@ use Rattle.pushsession.specs.Kept.{keeping}
 use Rattle.pushsession.specs.Sessions.{timed}
 use Rattle.pushserver.specs.Giving.{reconfirm}
 use Rattle.pushserver.specs.KeptHubs.{KeptHub}
-use Rattle.pushserver.specs.Hubs.{SessionKind, HubOf, now, state_now, each_session, entry_changes, entered_keeping, can_enter, why_not, update, hear, moment}
+use Rattle.pushserver.specs.Hubs.{SessionKind, HubOf, now, state_now, each_session, entry_changes, entered_keeping, can_enter, why_not, update, hear, link_gone, moment}
 use Rattle.pushserver.specs.HubState.{kept_of}
 use Rattle.pushserver.specs.declared.hub_state.HubState.{HubState}
-use Rattle.pushserver.specs.Offering.{offered_by, offered, code_of, heard_of}
+use Rattle.pushserver.specs.Offering.{offered_by, offered, code_of, heard_of, is_made}
 use Rattle.history.proofs.ToldPlans.{changes-told, held-told}
 use Rattle.pushserver.proofs.EntrySteps.{same_past, with_past}
-use Rattle.pushserver.proofs.hub_steps.Cases.{enters_update, update_as, enters_hearing, hear_as, key_as}
+use Rattle.pushserver.proofs.hub_steps.Cases.{enters_update, update_as, enters_hearing, hear_as, enters_going, key_as}
 
 module _ {A Q M S : Type 0} {kind : SessionKind A Q M S} (hub : HubOf kind) (entry : Entry) where
   -- what an accepted one becomes, where one more may be made
@@ -101,6 +101,9 @@ module _ {A Q M S : Type 0} {kind : SessionKind A Q M S} (hub : HubOf kind) wher
   abbrev pub as_hearing : Offered × HubOf kind → Heard × HubOf kind
   as_hearing o = (heard_of o.0, o.1)
 
+  abbrev pub as_going : Offered × HubOf kind → Bool × HubOf kind
+  as_going o = (is_made o.0, o.1)
+
   pub update-offered : (message : List ℕ) (u : Update) → update_in message ≡ Ok u → update hub message ≡ as_update (offered (entries.Update u) hub)
   update-offered message u reads = ap (λ (r : Result Update ℕ). update_as hub (r >>= λ v. updated (state_now hub) v >>= λ _. Ok v)) reads ∙ by (updated (state_now hub) u)
     where
@@ -129,6 +132,17 @@ module _ {A Q M S : Type 0} {kind : SessionKind A Q M S} (hub : HubOf kind) wher
 
   pub hear-offered : (link : ℕ) (datagram : List ℕ) (hearing : Hearing) → hearing_of datagram ≡ Ok hearing → hear hub link datagram ≡ as_hearing (offered (entries.Heard link hearing) hub)
   hear-offered link datagram hearing reads = ap (hear_as hub link) reads ∙ hearing-offered link hearing
+
+  pub gone-offered : (link : ℕ) → link_gone hub link ≡ as_going (offered (entries.LinkGone link) hub)
+  gone-offered link = by (accepts (state_now hub) (entries.LinkGone link))
+    where
+      by_room_of : (room : Bool) → enters_going hub link room ≡ as_going (by_room hub (entries.LinkGone link) room)
+      by_room_of true = refl
+      by_room_of false = refl
+
+      by : (accepted : Bool) → enters_going hub link (accepted && can_enter hub) ≡ as_going (by_test hub (entries.LinkGone link) accepted)
+      by true = by_room_of (can_enter hub)
+      by false = refl
 
   pub key-offered : (link : ℕ) (key : Key) → key_as hub (Some (link, key)) ≡ (offered (entries.Reconfirm link key) hub).1
   key-offered link key = by (accepts (state_now hub) (entries.Reconfirm link key))

@@ -1,7 +1,7 @@
 -- How many steps an entry takes.
 --     within-reserved, within-noted, within-made      room for its keys, those that note it, and its changes are within what is allowed
 --     offered-is      what an entry that is accepted changes
---     update-changes, hear-changes      what an update, and a datagram, would change
+--     update-changes, hear-changes, gone-changes      what an update, a datagram, and a link's going would change
 use Rattle.std.proofs.Common.{◌≡◌, ℕ, ◌+◌, Bool, true, false, cond, List, [], length, Result, Ok, Err, refl, sym, ap, ◌∙◌, subst, arith}
 use Rattle.push_base.specs.Cases.{◌>>=◌}
 use Rattle.push_base.specs.Counted.{CountsUpTo}
@@ -22,7 +22,7 @@ use Rattle.pushserver.specs.HubState.{kept_of}
 use Rattle.pushserver.specs.declared.hub_state.HubState.{HubState}
 use Rattle.pushserver.specs.KeptHubs.{KeptHub}
 use Rattle.pushserver.specs.Offering.{changes_by, offered_changes}
-use Rattle.pushserver.specs.Watched.{allowed, noting_steps, update_changes, hear_changes}
+use Rattle.pushserver.specs.Watched.{allowed, noting_steps, update_changes, hear_changes, gone_changes}
 use Rattle.history.proofs.ToldPlans.{changes-told}
 use Rattle.pushserver.proofs.EntrySteps.{same_past, with_past}
 use Rattle.pushserver.proofs.NotedSessions.{all-within}
@@ -76,18 +76,23 @@ heard_changes k link (Ok hearing) = cond (accepts (state_now k) (entries.Heard l
 abbrev test_plan : KeptHub → Entry → Bool → Plan
 test_plan k entry accepted = cond accepted (accept (changes (records (state_now k)) (records (after (state_now k) entry)))) idle
 
-pub hear-changes : (k : KeptHub) (link : ℕ) (datagram : List ℕ) (hearing : Hearing) → hearing_of datagram ≡ Ok hearing → offered_changes (entries.Heard link hearing) k ≡ hear_changes k link datagram
-hear-changes k link datagram hearing reads = by (accepts (state_now k) entry) refl ∙ sym (ap (heard_changes k link) reads)
+-- an entry whose plan goes by whether it is accepted
+test-changes : (k : KeptHub) (entry : Entry) → planned (state_now k) entry ≡ test_plan k entry (accepts (state_now k) entry) → offered_changes entry k ≡ cond (accepts (state_now k) entry) (entry_changes entry k) []
+test-changes k entry plan = by (accepts (state_now k) entry) refl
   where
-    entry : Entry
-    entry = entries.Heard link hearing
-
-    by : (b : Bool) → accepts (state_now k) (entries.Heard link hearing) ≡ b → changes_by (test_plan k (entries.Heard link hearing) (accepts (state_now k) (entries.Heard link hearing))) ≡ cond (accepts (state_now k) (entries.Heard link hearing)) (entry_changes (entries.Heard link hearing) k) []
+    by : (b : Bool) → accepts (state_now k) entry ≡ b → changes_by (planned (state_now k) entry) ≡ cond (accepts (state_now k) entry) (entry_changes entry k) []
     by true is =
-        ap (λ b. changes_by (test_plan k entry b)) is
-        ∙ changes-told (state_now k) entry (changes (records (state_now k)) (records (after (state_now k) entry))) (sym (ap (λ b. told_plan (test_plan k entry b)) is))
+        let same : planned (state_now k) entry ≡ test_plan k entry true = plan ∙ ap (test_plan k entry) is in
+        ap changes_by same
+        ∙ changes-told (state_now k) entry (changes (records (state_now k)) (records (after (state_now k) entry))) (sym (ap told_plan same))
         ∙ sym (ap (λ (b : Bool). cond b (entry_changes entry k) []) is)
-    by false is = ap (λ b. changes_by (test_plan k entry b)) is ∙ sym (ap (λ (b : Bool). cond b (entry_changes entry k) []) is)
+    by false is = ap changes_by (plan ∙ ap (test_plan k entry) is) ∙ sym (ap (λ (b : Bool). cond b (entry_changes entry k) []) is)
+
+pub hear-changes : (k : KeptHub) (link : ℕ) (datagram : List ℕ) (hearing : Hearing) → hearing_of datagram ≡ Ok hearing → offered_changes (entries.Heard link hearing) k ≡ hear_changes k link datagram
+hear-changes k link datagram hearing reads = test-changes k (entries.Heard link hearing) refl ∙ sym (ap (heard_changes k link) reads)
+
+pub gone-changes : (k : KeptHub) (link : ℕ) → offered_changes (entries.LinkGone link) k ≡ gone_changes k link
+gone-changes k link = test-changes k (entries.LinkGone link) refl
 
 -- what an entry takes behind its plan, which is held with the past
 pub offer-steps : (keeping : HubState) (past : Past) → past ≡ keeping.points.past → (entry : Entry) (changed : List Changed) → plans.Accept changed ≡ told_plan (planned (state_now (kept_of keeping)) entry) → (old new : ℕ)

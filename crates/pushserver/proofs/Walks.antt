@@ -2,7 +2,7 @@
 --     Step Good hub f      a step of one session, where the messages that it is for are good
 --     Entering Good hub entry, has_room      an entry that may be made: the point isn't the last one
 --     EndsSome, entering-kept, timed-kept      what ending any sessions leaves; so does an entry where those that fall behind by it end first; and the time
---     holds-offered, holds-update, holds-hear, holds-reconfirm, holds-moment, holds-connect      what holds with an entry and without
+--     holds-offered, holds-update, holds-hear, holds-going, holds-reconfirm, holds-moment, holds-connect      what holds with an entry and without
 --     Reacts Good number P R      the steps that hand nothing out keep P, and what is P before an entry is R behind it
 --     reacts-give      so `give` leads from P to R, but for the octets that it hands out (Gives)
 --     Walks Good number P R      and all steps do
@@ -48,12 +48,12 @@ use Rattle.pushserver.specs.declared.given.Given.{Given}
 use Rattle.pushserver.specs.declared.given.Given.TheVariants.{Worked, Nothing}
 use Rattle.pushserver.specs.declared.given.Heard.{Heard}
 use Rattle.pushserver.specs.Offering.{offered_by, offered}
-use Rattle.pushserver.specs.Hubs.{SessionKind, HubOf, newest, now, state_now, keeps_now, tells_now, session_of, each_session, in_session, entered, behind_at, ended_behind, ends_behind, entered_keeping, can_enter, update, hear, why_not, moment, max_sessions, connect, take_octets, stop, disconnect}
+use Rattle.pushserver.specs.Hubs.{SessionKind, HubOf, newest, now, state_now, keeps_now, tells_now, session_of, each_session, in_session, entered, behind_at, ended_behind, ends_behind, entered_keeping, can_enter, update, hear, link_gone, why_not, moment, max_sessions, connect, take_octets, stop, disconnect}
 use Rattle.pushserver.specs.Giving.{GivingOf, has_home, reconfirm, reconfirms, by_request, reacted, did, copies, copies_or, given_after, after_reaction, after_packing, by_standing, give}
-use Rattle.pushserver.proofs.Offering.{by_room, hear-offered, reconfirm-offered, unread-is}
+use Rattle.pushserver.proofs.Offering.{by_room, gone-offered, hear-offered, reconfirm-offered, unread-is}
 use Rattle.pushserver.proofs.hub_steps.Cases.{enters_update, update_as, moment_as, key_as, session_as, request_as, copies_as, found_as, works_as, output_as, give_as}
 use Rattle.pushserver.proofs.told_rows.HeardRows.{Brought, brings_nothing, brings_read}
-use Rattle.pushserver.specs.Calls.{HubCall, updates as updating, hears, moves, connects, takes, gives, stops, ends as ending, called, after_calls}
+use Rattle.pushserver.specs.Calls.{HubCall, updates as updating, hears, goes, moves, connects, takes, gives, stops, ends as ending, called, after_calls}
 
 -- ---- the steps
 
@@ -149,6 +149,11 @@ module _ {A Q M S : Type 0} {kind : SessionKind A Q M S} (Good : List ℕ → Ty
           let entry = entries.Heard link hearing in
           subst (λ (o : Heard × HubOf kind). R o.1) (sym (hear-offered hub link datagram hearing reads))
           (holds-offered entry (λ is room. by_link entry link refl (brings_read datagram hearing good reads) is room))
+
+  pub holds-going : (link : ℕ) → R (link_gone hub link).1
+  holds-going link =
+      let entry = entries.LinkGone link in
+      subst (λ (o : Bool × HubOf kind). R o.1) (sym (gone-offered hub link)) (holds-offered entry (λ is room. by_link entry link refl brings_nothing is room))
 
   pub holds-reconfirm : (rr : Rr) → R (reconfirm hub rr)
   holds-reconfirm rr = by (reconfirm_key (state_now hub) rr) refl
@@ -388,6 +393,7 @@ module _ {A Q M S : Type 0} {kind : SessionKind A Q M S} (Good : List ℕ → Ty
   pub keeps-called : (call : HubCall) (hub : HubOf kind) → BringsGood Good call → P hub → P (called call hub)
   keeps-called (updating message) hub good h = holds-update Good P hub (λ entry by. entering-kept Good P P k.ends k.enters hub entry by h) h message good
   keeps-called (hears link datagram) hub good h = holds-hear Good P hub (λ entry by. entering-kept Good P P k.ends k.enters hub entry by h) h link datagram good
+  keeps-called (goes link) hub good h = holds-going Good P hub (λ entry by. entering-kept Good P P k.ends k.enters hub entry by h) h link
   keeps-called (moves t) hub good h = holds-moment Good P hub (λ entry by. entering-kept Good P P k.ends k.enters hub entry by h) h (timed-kept P k.ends) t
   keeps-called connects hub good h = holds-connect P hub (k.makes hub h) h
   keeps-called (takes number piece) hub good h = k.takes_in hub number piece good h

@@ -4,12 +4,13 @@
 --     BringsOctets      what comes as octets are octets
 use Rattle.std.specs.Prelude.{ℕ, List, fold}
 use Rattle.dsotlv.specs.Laws.{AreOctets}
-use Rattle.pushserver.specs.Hubs.{SessionKind, HubOf, update, hear, moment, connect, take_octets, stop, disconnect}
+use Rattle.pushserver.specs.Hubs.{SessionKind, HubOf, update, hear, link_gone, moment, connect, take_octets, stop, disconnect}
 use Rattle.pushserver.specs.Giving.{give}
 
 pub data HubCall : Type 0 where
   updates : List ℕ → HubCall
   hears : ℕ → List ℕ → HubCall
+  goes : ℕ → HubCall
   moves : ℕ → HubCall
   connects : HubCall
   takes : ℕ → List ℕ → HubCall
@@ -20,6 +21,7 @@ pub data HubCall : Type 0 where
 abbrev pub called : {A Q M S : Type 0} {kind : SessionKind A Q M S} → HubCall → HubOf kind → HubOf kind
 called (updates message) hub = (update hub message).1
 called (hears link datagram) hub = (hear hub link datagram).1
+called (goes link) hub = (link_gone hub link).1
 called (moves t) hub = moment hub t
 called connects hub = (connect hub).1
 called (takes number piece) hub = take_octets hub number piece

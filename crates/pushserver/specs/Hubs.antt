@@ -5,8 +5,8 @@
 --     newest, state_now, now, records_now      the newest point, and the state and the records there
 --     entry_changes entry hub, entered entry hub      the keys that an entry changes; the hub after it
 --     behind_at hub entry session, entered_keeping entry hub      why a session falls behind by an entry; such ones end, and then it is made
---     update, hear, moment, connect, take_octets, stop, disconnect      the calls beside `give`
-use Rattle.std.specs.Prelude.{ℕ, ◌+◌, Bool, not, ◌&&◌, cond, List, [], ◌∷◌, ◌++◌, map, length, filter, find, min, Option, Some, None, Ok, Err, nat_lt, ◌==◌, option_map, if◌then◌else◌}
+--     update, hear, link_gone, moment, connect, take_octets, stop, disconnect      the calls beside `give`
+use Rattle.std.specs.Prelude.{ℕ, ◌+◌, Bool, true, false, not, ◌&&◌, cond, List, [], ◌∷◌, ◌++◌, map, length, filter, find, min, Option, Some, None, Ok, Err, nat_lt, ◌==◌, option_map, if◌then◌else◌}
 use Rattle.push_base.specs.Limits.{max_number}
 use Rattle.dnsname.specs.Reading.{place_of}
 use Rattle.rrset.specs.RecordSet.{RecordSet, changes}
@@ -168,6 +168,11 @@ hear hub link datagram = elim (hearing_of datagram) [
       if not (accepts (state_now hub) entry) then (Ignored whys.Nothing, hub)
       else if can_enter hub then (Entered, entered_keeping entry hub) else (Ignored whys.Last, hub))
 ]
+
+-- a link goes away: whether its rows went, which is an entry, and the hub after it
+abbrev pub link_gone : {A Q M S : Type 0} {kind : SessionKind A Q M S} → HubOf kind → ℕ → Bool × HubOf kind
+link_gone hub link = (let entry = entries.LinkGone link in
+    if accepts (state_now hub) entry && can_enter hub then (true, entered_keeping entry hub) else (false, hub))
 
 -- the hub at a later moment: the entry is made first, and then sessions end by their timers
 abbrev pub moment : {A Q M S : Type 0} {kind : SessionKind A Q M S} → HubOf kind → ℕ → HubOf kind

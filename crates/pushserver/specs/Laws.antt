@@ -24,7 +24,7 @@ use Rattle.pushsession.specs.Requests.{request_of}
 use Rattle.pushsession.specs.declared.request.Request.TheVariants as requests
 use Rattle.pushsession.specs.Subscribing.{Accept, first_answer_octets, verdict_on}
 use Rattle.pushserver.specs.PlainHubs.{Hub, Session, sent, first_answer, wanted}
-use Rattle.pushserver.specs.Hubs.{SessionKind, HubOf, keeps_now, records_now, session_of, entered_keeping, update, hear, moment, connect, take_octets, stop, disconnect}
+use Rattle.pushserver.specs.Hubs.{SessionKind, HubOf, keeps_now, records_now, session_of, entered_keeping, update, hear, link_gone, moment, connect, take_octets, stop, disconnect}
 use Rattle.pushserver.specs.Giving.{has_home, give, reacted}
 use Rattle.pushserver.specs.SoundHubs.{IsSoundHub}
 use Rattle.pushserver.specs.ToldMessages.{TellsHistory, set_after}
@@ -63,7 +63,7 @@ KeepsOutput hub later number = (before : Session) → session_of hub number ≡ 
 -- of the calls beside `give`, none changes an output, and `disconnect` alone takes a session away
 abbrev pub OtherCallsKeepOutputs : Type 0
 OtherCallsKeepOutputs = (hub : Hub) (number other : ℕ) (octets : List ℕ) (n m : ℕ)
-    → KeepsOutput hub (update hub octets).1 number × KeepsOutput hub (hear hub n octets).1 number × KeepsOutput hub (moment hub n) number
+    → KeepsOutput hub (update hub octets).1 number × KeepsOutput hub (hear hub n octets).1 number × KeepsOutput hub (link_gone hub n).1 number × KeepsOutput hub (moment hub n) number
     × KeepsOutput hub (connect hub).1 number × KeepsOutput hub (take_octets hub other octets) number × KeepsOutput hub (stop hub other n m) number
     × ((number ≡ other → ⊥) → KeepsOutput hub (disconnect hub other) number)
 

@@ -1,8 +1,8 @@
 -- An entry that is offered to a hub: it is made where it is accepted and the point isn't the last one.
 --     offered entry hub      what became of it, and the hub after it
 --     offered_changes entry hub      the keys that it would change
---     code_of, heard_of      what that says of an update, which is never idle; of a hearing, which is never refused
-use Rattle.std.specs.Prelude.{ℕ, List, [], if◌then◌else◌}
+--     code_of, heard_of, is_made      what that says of an update, which is never idle; of a hearing, which is never refused; of a link that goes
+use Rattle.std.specs.Prelude.{ℕ, Bool, true, false, List, [], if◌then◌else◌}
 use Rattle.rrset.specs.Rcodes.{noerror, servfail}
 use Rattle.rrset.specs.declared.record.Changed.{Changed}
 use Rattle.history.specs.Plans.{Plan, refuse, idle, accept, planned}
@@ -31,6 +31,10 @@ abbrev pub heard_of : Offered → Heard
 heard_of offers.Made = Entered
 heard_of offers.Last = Ignored whys.Last
 heard_of _ = Ignored whys.Nothing
+
+abbrev pub is_made : Offered → Bool
+is_made offers.Made = true
+is_made _ = false
 
 -- the keys that an entry which is offered would change: none where it isn't accepted
 abbrev pub changes_by : Plan → List Changed

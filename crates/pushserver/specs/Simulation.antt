@@ -1,5 +1,5 @@
 -- What the calls do to the hub that is kept is what they do to the plain hub that it stands for.
---     UpdatesStand, HearsStand, MomentsStand, ConnectsStand, TakesStand, StopsStand, EndsStand, GivesStand      each call
+--     UpdatesStand, HearsStand, GoingsStand, MomentsStand, ConnectsStand, TakesStand, StopsStand, EndsStand, GivesStand      each call
 --     HubsTell      what is told of records can be told
 --     CountsStand      both count alike
 --     ForgettingStands      where the oldest entries are forgotten
@@ -9,7 +9,7 @@ use Rattle.history.specs.Totals.{totals}
 use Rattle.pushsession.specs.Kept.{KeptSession}
 use Rattle.dsotlv.specs.Laws.{AreOctets}
 use Rattle.pushserver.specs.PlainHubs.{Hub, Giving}
-use Rattle.pushserver.specs.Hubs.{session_of, records_now, update, hear, moment, connect, taken_by, take_octets, stop, disconnect}
+use Rattle.pushserver.specs.Hubs.{session_of, records_now, update, hear, link_gone, moment, connect, taken_by, take_octets, stop, disconnect}
 use Rattle.pushserver.specs.Giving.{give}
 use Rattle.pushserver.specs.KeptHubs.{KeptHub, KeptGiving, StandsFor, Forgets}
 use Rattle.pushserver.specs.Rows.{AreTold}
@@ -23,6 +23,9 @@ UpdatesStand = (k : KeptHub) (hub : Hub) (message : List ℕ) → StandsFor k hu
 
 abbrev pub HearsStand : Type 0
 HearsStand = (k : KeptHub) (hub : Hub) (link : ℕ) (datagram : List ℕ) → StandsFor k hub → AreOctets datagram → BothAnswer (hear k link datagram) (hear hub link datagram)
+
+abbrev pub GoingsStand : Type 0
+GoingsStand = (k : KeptHub) (hub : Hub) (link : ℕ) → StandsFor k hub → BothAnswer (link_gone k link) (link_gone hub link)
 
 abbrev pub MomentsStand : Type 0
 MomentsStand = (k : KeptHub) (hub : Hub) (t : ℕ) → StandsFor k hub → StandsFor (moment k t) (moment hub t)

@@ -2,7 +2,7 @@
 --     Watches watching sessions      each session watches each name as often as its questions have it
 --     watching_in name sessions, sessions_watching name hub      how many sessions watch a name
 --     noting_steps changed sessions      how many steps are taken where sessions note changes
---     update_changes, hear_changes      the keys that an update, and a datagram of a link, show otherwise
+--     update_changes, hear_changes, gone_changes      the keys that an update, a datagram of a link, and its going show otherwise
 --     allowed hub changed      the most steps for an event that changes these keys: 8, 8 for each of them, and 4 for each session that watches its name
 use Rattle.std.specs.Prelude.{◌≡◌, ℕ, ◌+◌, ◌*◌, List, [], Option, Some, None, Ok, Err, count_by, sum_by, if◌then◌else◌}
 use Rattle.dnsname.specs.Names.{Labels}
@@ -44,6 +44,10 @@ hear_changes hub link datagram = elim (hearing_of datagram) [
   | Err fault ↦ []
   | Ok hearing ↦ if accepts (state_now hub) (entries.Heard link hearing) then entry_changes (entries.Heard link hearing) hub else []
 ]
+
+-- none where the link has no row
+abbrev pub gone_changes : KeptHub → ℕ → List Changed
+gone_changes hub link = if accepts (state_now hub) (entries.LinkGone link) then entry_changes (entries.LinkGone link) hub else []
 
 abbrev pub allowed : KeptHub → List Changed → ℕ
 allowed hub changed = 8 + sum_by (λ c. 8 + 4 * sessions_watching c.key.owner hub) changed

@@ -7,7 +7,7 @@ ghost use Rattle.history.specs.States.{entry_size, max_journal_octets};
 ghost use Rattle.pushserver.specs.Hubs.{can_enter, entered_keeping, entry_changes, records_now};
 ghost use Rattle.pushserver.specs.HubState.{IsSound, kept_of};
 ghost use Rattle.pushserver.specs.KeptHubs.{Forgets};
-ghost use Rattle.pushserver.specs.Offering.{code_of, heard_of, offered, offered_changes};
+ghost use Rattle.pushserver.specs.Offering.{code_of, heard_of, is_made, offered, offered_changes};
 ghost use Rattle.pushserver.specs.Watched.{Watches, allowed};
 ghost use Rattle.push_base.specs.Counted.{CountsUpTo};
 ghost use Rattle.subscr.specs.Watching.{watching_of};
@@ -56,6 +56,16 @@ pub(crate) fn heard_of(offered: Offered) -> Heard
         Offered::Refused(_) | Offered::Idle => Heard::Ignored(Why::Nothing),
         Offered::Last => Heard::Ignored(Why::Last),
         Offered::Made => Heard::Entered,
+    }
+}
+
+/// Whether an entry that was offered was made.
+pub(crate) fn is_made(offered: Offered) -> bool
+    ensures { result ≡ is_made offered }
+{
+    match offered {
+        Offered::Refused(_) | Offered::Idle | Offered::Last => false,
+        Offered::Made => true,
     }
 }
 

@@ -5,14 +5,14 @@ ghost use Rattle.push_base.specs.Limits.{max_moment};
 ghost use Rattle.dnswire.specs.Reading.{hearing_of};
 ghost use Rattle.history.specs.Kept.{state_of};
 ghost use Rattle.history.specs.Plans.{IsStart};
-ghost use Rattle.pushserver.specs.Counting.{AddsHearing, MayAddChange, MayAddMoment, octets_of};
+ghost use Rattle.pushserver.specs.Counting.{AddsGoing, AddsHearing, MayAddChange, MayAddMoment, octets_of};
 ghost use Rattle.pushserver.specs.Giving.{give};
-ghost use Rattle.pushserver.specs.Hubs.{can_enter, connect, disconnect, hear, max_sessions, moment, stop, take_octets, taken_by, update};
+ghost use Rattle.pushserver.specs.Hubs.{can_enter, connect, disconnect, hear, link_gone, max_sessions, moment, stop, take_octets, taken_by, update};
 ghost use Rattle.pushserver.specs.Laws.{MayWantMemory};
 ghost use Rattle.pushserver.specs.Observing.{SaysWhy};
 ghost use Rattle.pushserver.specs.KeptHubs.{Forgets, StandsFor, new_kept};
 ghost use Rattle.pushserver.specs.PlainHubs.{Hub as Plain, new_hub};
-ghost use Rattle.pushserver.specs.Watched.{allowed, hear_changes, update_changes};
+ghost use Rattle.pushserver.specs.Watched.{allowed, gone_changes, hear_changes, update_changes};
 ghost use Rattle.push_base.specs.Counted.{CountsUpTo};
 
 use crate::fault::{ConnectFault, HubFault};
@@ -150,6 +150,51 @@ impl Hub {
     {
         let mut steps = Steps::<L>::begin(blank);
         self.hear(link, datagram, &mut steps)
+    }
+
+    /// A link, counted from 0, has gone away, and all its rows with it, which is entered. Gives whether it was: nothing changes
+    /// where there is no such link, it has no row, or the point is the last one.
+    /// At most 8 steps are counted, and 8 for each key that it changes, and 4 for each session that watches the key's name,
+    /// whatever the answer is.
+    pub fn link_gone<L: Ledger>(
+        &mut self,
+        link: usize,
+        steps: &mut Steps<L>,
+    ) -> Result<bool, HubFault>
+        ensures ok { IfOk result (λ gone. (hub : Plain) → StandsFor self.old hub → (gone ≡ (link_gone hub link).0) × StandsFor self.new (link_gone hub link).1) }
+        ensures err { OnErr result ((hub : Plain) → StandsFor self.old hub → StandsFor self.new hub) }
+        ensures kept { IfOk result (λ gone. (gone ≡ (link_gone self.old link).0) × Forgets (link_gone self.old link).1 self.new) }
+        ensures same { OnErr result (self.new ≡ self.old) }
+        ensures counts { AddsGoing result self.old self.new }
+        ensures steps { CountsUpTo (allowed self.old (gone_changes self.old link)) steps.old steps.new }
+    {
+        Ok(self.keeping.link_gone(link, steps)?)
+    }
+
+    /// The same where nobody counts steps.
+    pub fn link_gone_uncounted(&mut self, link: usize) -> Result<bool, HubFault>
+        ensures ok { IfOk result (λ gone. (hub : Plain) → StandsFor self.old hub → (gone ≡ (link_gone hub link).0) × StandsFor self.new (link_gone hub link).1) }
+        ensures err { OnErr result ((hub : Plain) → StandsFor self.old hub → StandsFor self.new hub) }
+        ensures kept { IfOk result (λ gone. (gone ≡ (link_gone self.old link).0) × Forgets (link_gone self.old link).1 self.new) }
+        ensures same { OnErr result (self.new ≡ self.old) }
+        ensures counts { AddsGoing result self.old self.new }
+    {
+        self.link_gone_under::<Brand>(Blank::new(1), link)
+    }
+
+    /// The same with a counter of its own.
+    fn link_gone_under<L: Ledger>(&mut self, blank: Blank, link: usize) -> Result<bool, HubFault>
+        requires name { blank.name ≡ L.name }
+        requires parts { blank.parts ≡ L.parts }
+        requires some { 0 < blank.parts }
+        ensures ok { IfOk result (λ gone. (hub : Plain) → StandsFor self.old hub → (gone ≡ (link_gone hub link).0) × StandsFor self.new (link_gone hub link).1) }
+        ensures err { OnErr result ((hub : Plain) → StandsFor self.old hub → StandsFor self.new hub) }
+        ensures kept { IfOk result (λ gone. (gone ≡ (link_gone self.old link).0) × Forgets (link_gone self.old link).1 self.new) }
+        ensures same { OnErr result (self.new ≡ self.old) }
+        ensures counts { AddsGoing result self.old self.new }
+    {
+        let mut steps = Steps::<L>::begin(blank);
+        self.link_gone(link, &mut steps)
     }
 
     /// It is a moment: where it is a later one, it is entered, and sessions end by their timers (RFC 8490, 6.4 to 6.6).

@@ -11,16 +11,16 @@ ghost use Rattle.history.specs.Plans.{IsStart};
 ghost use Rattle.history.specs.AtHome.{AreAtHome, homes_in};
 ghost use Rattle.history.specs.States.{entry_size, max_journal_octets, update_in};
 ghost use Rattle.history.specs.declared.entry.Entry.TheVariants as entries;
-ghost use Rattle.pushserver.specs.Hubs.{can_enter, connect, disconnect, hear, moment, records_now, stop, take_octets, taken_by, update};
+ghost use Rattle.pushserver.specs.Hubs.{can_enter, connect, disconnect, hear, link_gone, moment, records_now, stop, take_octets, taken_by, update};
 ghost use Rattle.pushserver.specs.Giving.{reconfirm};
 ghost use Rattle.pushserver.specs.KeptHubs.{Forgets, new_kept};
 ghost use Rattle.pushserver.specs.HubState.{IsSound, kept_of};
-ghost use Rattle.pushserver.specs.Watched.{Watches, allowed, hear_changes, update_changes};
+ghost use Rattle.pushserver.specs.Watched.{Watches, allowed, gone_changes, hear_changes, update_changes};
 ghost use Rattle.push_base.specs.Counted.{CountsUpTo};
 ghost use Rattle.subscr.specs.Watching.{watching_of};
 
 use crate::decode::{read_datagram, read_message};
-use crate::entering::{code_of, heard_of};
+use crate::entering::{code_of, heard_of, is_made};
 use crate::given::Heard;
 use crate::numbered_sessions::{MAX_SESSIONS, Sessions};
 use dnswire::Update;
@@ -161,6 +161,24 @@ impl HubState {
             Ok(hearing) => self.enter_hearing(link, hearing, steps),
             Err(why) => Ok(Heard::Ignored(why)),
         }
+    }
+
+    /// Enters that a link has gone away, and all its rows with it. Gives whether that was entered.
+    pub(crate) fn link_gone<L: Ledger>(
+        &mut self,
+        link: usize,
+        steps: &mut Steps<L>,
+    ) -> Result<bool, NoMemory>
+        requires { IsSound self.old }
+        ensures gone { IfOk result (λ gone. gone ≡ (link_gone (kept_of self.old) link).0) }
+        ensures hub { IfOk result (λ gone. Forgets (link_gone (kept_of self.old) link).1 (kept_of self.new)) }
+        ensures err { OnErr result (kept_of self.new ≡ kept_of self.old) }
+        ensures index { self.new.index.rows ≡ records_now (kept_of self.new) }
+        ensures watched { Watches (watching_of self.new.watchers) self.new.sessions }
+        ensures steps { CountsUpTo (allowed (kept_of self.old) (gone_changes (kept_of self.old) link)) steps.old steps.new }
+    {
+        let offered = self.offer(Entry::LinkGone(link), steps)?;
+        Ok(is_made(offered))
     }
 
     /// Reconfirms a record where a link shows it; else it is ignored (RFC 8765, 6.5).

@@ -1,6 +1,6 @@
 //! Laws that the hub's contracts stand on.
 
-ghost use Rattle.pushserver.specs.Simulation.{UpdatesStand, HearsStand, MomentsStand, ConnectsStand, TakesStand, StopsStand, EndsStand, GivesStand, HubsTell, CountsStand, ForgettingStands};
+ghost use Rattle.pushserver.specs.Simulation.{UpdatesStand, HearsStand, GoingsStand, MomentsStand, ConnectsStand, TakesStand, StopsStand, EndsStand, GivesStand, HubsTell, CountsStand, ForgettingStands};
 ghost use Rattle.pushserver.specs.Laws.{NothingWhereAllIsTold, NothingMeansAllIsShown, GiveChangesOneSession, OtherCallsKeepOutputs, SessionsStayWithin, SubscribeIsAnswered};
 
 /// What each call does to the hub as it is kept is what it does to the plain hub that it stands for, and what is told of
@@ -8,6 +8,7 @@ ghost use Rattle.pushserver.specs.Laws.{NothingWhereAllIsTold, NothingMeansAllIs
 pub fn kept_hubs_stand()
     ensures updates { UpdatesStand }
     ensures hears { HearsStand }
+    ensures goings { GoingsStand }
     ensures moments { MomentsStand }
     ensures connects { ConnectsStand }
     ensures takes { TakesStand }

@@ -33,7 +33,7 @@ brings-good (takes number piece) octets = octets
 brings-good _ octets = tt
 
 -- the names of the links, which stand behind the zones
-link-names : (zones : List NamedHome) (links : List LinkState) → AllByRecursion (λ h. IsTrue (is_name h.0)) (zones ++ named_links links) → AllByRecursion (λ l. IsTrue (is_name l.domain)) links
+link-names : (zones : List NamedHome) (links : List LinkState) → AllByRecursion (λ h. IsTrue (is_name h.0)) (zones ++ named_links links) → AllByRecursion (λ l. IsTrue (is_name l.rules.domain)) links
 link-names [] [] all = tt
 link-names [] (l ∷ ls) all = (all.0, link-names [] ls all.1)
 link-names (z ∷ zs) ls all = link-names zs ls all.1

@@ -9,7 +9,7 @@ use Rattle.pushsession.specs.Sessions.{room_of, with_piece, is_open, asked_to_st
 use Rattle.dsosession.specs.declared.session.EndReason.{EndReason}
 use Rattle.pushsession.specs.declared.session_status.SessionStatus.{SessionStatus}
 use Rattle.pushsession.specs.declared.session_status.SessionStatus.TheVariants.{Live, AskedToStop, Stopped, Ended}
-use Rattle.pushserver.specs.Calls.{HubCall, updates, hears, moves, connects, takes as taking, gives, stops, ends as ending, called}
+use Rattle.pushserver.specs.Calls.{HubCall, updates, hears, goes, moves, connects, takes as taking, gives, stops, ends as ending, called}
 use Rattle.pushserver.specs.Hubs.{session_of, in_session, taken_by}
 use Rattle.pushserver.specs.PlainHubs.{Hub, Session, plain_keeps}
 use Rattle.pushserver.proofs.SessionLists.{same-number}
@@ -80,6 +80,7 @@ module _ (number : ℕ) where
       by true is = own (session_of hub other) (subst (λ n. OfOne n IsClosed hub.sessions) (same-number number other is) h.one)
   nothing_in hub (updates message) h = refl
   nothing_in hub (hears link datagram) h = refl
+  nothing_in hub (goes link) h = refl
   nothing_in hub (moves t) h = refl
   nothing_in hub connects h = refl
   nothing_in hub (gives other room) h = refl
@@ -104,6 +105,7 @@ module _ (number : ℕ) where
       by true is = own (session_of hub other) (subst (λ n. OfOne n IsClosed hub.sessions) (same-number number other is) h.one)
   nothing_up hub (updates message) h = refl
   nothing_up hub (hears link datagram) h = refl
+  nothing_up hub (goes link) h = refl
   nothing_up hub (moves t) h = refl
   nothing_up hub connects h = refl
   nothing_up hub (taking other piece) h = refl

@@ -22,11 +22,11 @@ use Rattle.pushsession.specs.declared.session_status.SessionStatus.TheVariants.{
 use Rattle.pushserver.specs.PlainHubs.{Hub, Giving, Session, Made, frame_of, plain_keeps}
 use Rattle.pushserver.specs.Hubs.{now, keeps_now, session_of, in_session, entered, entered_keeping, taken_by, take_octets, disconnect}
 use Rattle.pushserver.specs.Giving.{by_standing, give, reacted, after_reaction}
-use Rattle.pushserver.specs.Calls.{HubCall, updates, hears, moves, connects, takes as taking, gives, stops, ends as ending, called, after_calls, BringsOctets}
+use Rattle.pushserver.specs.Calls.{HubCall, updates, hears, goes, moves, connects, takes as taking, gives, stops, ends as ending, called, after_calls, BringsOctets}
 use Rattle.pushserver.proofs.SessionLists.{same-number, found-changed, found-in, found-last, found-left}
 use Rattle.pushserver.proofs.hub_steps.Cases.{works_as, output_as, give_as}
 use Rattle.pushserver.proofs.session_steps.Octets.{rest_octets}
-use Rattle.pushserver.proofs.Walks.{AnyMessage, Entering, EndsSome, entering-kept, timed-kept, holds-update, holds-hear, holds-moment, holds-connect, with_new, Reacts, Gives, hands_nothing, hands_front, TakesUp, reacts-give, Walks, walks-give}
+use Rattle.pushserver.proofs.Walks.{AnyMessage, Entering, EndsSome, entering-kept, timed-kept, holds-update, holds-hear, holds-going, holds-moment, holds-connect, with_new, Reacts, Gives, hands_nothing, hands_front, TakesUp, reacts-give, Walks, walks-give}
 use Rattle.pushtelling.specs.Runs.{hands_out, takes_in, is_live, first_of, message_up, reacts_to, handed_out, taken_in, reacted_to, MadeGoesOut, EachIsReactedToOnce, GiveReacts}
 use Rattle.pushtelling.proofs.Tells.{by_entry}
 use Rattle.pushtelling.proofs.OneSession.{one-changed, one-last, one-left}
@@ -318,6 +318,8 @@ module _ (Octets : Type 0) (number : ℕ) (first : Session) where
       still handed taken reacted _ (holds-update AnyMessage (Runs handed taken reacted) hub (λ entry by. enters_keeping handed taken reacted hub entry by r) r message tt)
   runs-called handed taken reacted (hears link datagram) hub good r =
       still handed taken reacted _ (holds-hear AnyMessage (Runs handed taken reacted) hub (λ entry by. enters_keeping handed taken reacted hub entry by r) r link datagram tt)
+  runs-called handed taken reacted (goes link) hub good r =
+      still handed taken reacted _ (holds-going AnyMessage (Runs handed taken reacted) hub (λ entry by. enters_keeping handed taken reacted hub entry by r) r link)
   runs-called handed taken reacted (moves t) hub good r =
       still handed taken reacted _ (holds-moment AnyMessage (Runs handed taken reacted) hub (λ entry by. enters_keeping handed taken reacted hub entry by r) r (timed-kept (Runs handed taken reacted) (ends-some handed taken reacted)) t)
   runs-called handed taken reacted connects hub good r = still handed taken reacted _ (holds-connect (Runs handed taken reacted) hub (makes handed taken reacted hub r) r)

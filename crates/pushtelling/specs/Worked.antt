@@ -9,7 +9,7 @@ use Rattle.dsotlv.specs.Messages.{frame, tlv_octets}
 use Rattle.dsotlv.specs.TlvKinds.{keepalive_tlv, reconfirm_tlv}
 use Rattle.dsosession.specs.Timing.{default_timers}
 use Rattle.zoneupdate.specs.Zones.{new_zone}
-use Rattle.history.specs.States.{State}
+use Rattle.history.specs.States.{State, no_cap}
 use Rattle.pushserver.specs.PlainHubs.{Session, new_hub}
 use Rattle.pushserver.specs.Hubs.{session_of}
 use Rattle.pushserver.specs.Calls.{HubCall, connects, takes, gives, updates, hears, after_calls}
@@ -22,7 +22,7 @@ one_zone = record { zones = new_zone (name (codes "example.com.")) 1 true ∷ []
 
 -- a link that has heard nothing yet
 abbrev pub one_link : State
-one_link = record { zones = []; links = (record { domain = name (codes "lan.example.net."); rows = [] }) ∷ []; now = 0 }
+one_link = record { zones = []; links = (record { rules = record { domain = name (codes "lan.example.net."); cap = no_cap }; rows = [] }) ∷ []; now = 0 }
 
 -- an address for `a.example.com.`
 abbrev pub adds_address : HubCall

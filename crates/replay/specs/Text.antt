@@ -144,9 +144,11 @@ link_number w world = number_or_zero (position (bytes_eq w) world.links)
 -- the call of the hub that an event on a link is, and what is printed of it
 abbrev pub link_call : LinkEvent → Word → World → HubCall
 link_call (link_events.Hear datagram) w world = hub_calls.hears (link_number w world) datagram
+link_call link_events.Gone w world = hub_calls.goes (link_number w world)
 
 abbrev pub link_words : LinkEvent → Word → World → List (List ℕ)
 link_words (link_events.Hear datagram) w world = heard_words (hubs.hear world.hub (link_number w world) datagram).0 ∷ []
+link_words link_events.Gone w world = codes "gone" ∷ w ∷ yes_or_no (hubs.link_gone world.hub (link_number w world)).0 ∷ []
 
 abbrev pub updates : List ℕ → World → Printed
 updates message world = (let r = hubs.update world.hub message in printing (codes "update" ∷ decimal r.0 ∷ []) (record world { hub = r.1 }))
@@ -234,6 +236,9 @@ link_does event w world = printing (link_words event w world) (record world { hu
 
 abbrev pub hears : Word → List ℕ → World → Printed
 hears w datagram world = link_does (link_events.Hear datagram) w world
+
+abbrev pub goes : Word → World → Printed
+goes w world = link_does link_events.Gone w world
 
 -- to a client
 abbrev pub client_does : HeldRecords → ClientEvent → Word → World → Printed

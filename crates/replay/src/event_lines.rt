@@ -18,7 +18,7 @@ ghost use Rattle.replay.specs.World.{World as Plain, stopped_hub};
 use crate::client_lines::{call_line, joining_line, open_line, timed_lines};
 use crate::exchanging::{Exchanged, exchange};
 use crate::feed_lines::feed_lines;
-use crate::hear_lines::hear_line;
+use crate::hear_lines::{gone_line, hear_line};
 use crate::passing_lines::passing_line;
 use crate::printed::{
     bytes_line, cut_text, end_text, end_words, noseat_text, point_text, stop_text, update_text,
@@ -94,10 +94,12 @@ fn link_line(
     link: usize,
     event: &LinkEvent,
 ) -> Result<String, NoMemory>
+    requires { link < length world.old.links.items }
     ensures { (w : Word) → position (bytes_eq w) (words_of world.old.links.items) ≡ Some link → IfOk result (λ text. Does (link_does event.now w) world.old (string_bytes text) world.new) }
 {
     match event {
         LinkEvent::Hear(datagram) => hear_line(alloc, world, link, datagram.as_slice()),
+        LinkEvent::Gone => gone_line(alloc, world, link),
     }
 }
 

@@ -42,6 +42,17 @@ pub(crate) fn heard_text(alloc: Global, heard: Heard) -> Result<String, NoMemory
     }
 }
 
+/// The line of a link that goes away, with whether its records went.
+pub(crate) fn gone_text(alloc: Global, word: &str, is_gone: bool) -> Result<String, NoMemory>
+    ensures { IfOk result (λ text. string_bytes text ≡ codes "gone " ++ (word.now ++ 32 ∷ (yes_or_no is_gone ++ 10 ∷ []))) }
+{
+    if is_gone {
+        format!(in alloc; "gone {word} yes\n")
+    } else {
+        format!(in alloc; "gone {word} no\n")
+    }
+}
+
 fn ignored_text(alloc: Global, words: &str) -> Result<String, NoMemory>
     ensures { IfOk result (λ text. string_bytes text ≡ codes "ignored " ++ (words.now ++ 10 ∷ [])) }
 {

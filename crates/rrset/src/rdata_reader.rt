@@ -1,14 +1,18 @@
 //! Rdata read from a message (RFC 1035, 3.2.1 and 4.1.4).
 
-ghost use Rattle.std.specs.Prelude.{◌≡◌, ◌+◌, ◌≤◌, length, take, IfOk};
+ghost use Rattle.std.specs.Prelude.{◌≡◌, ◌+◌, ◌<◌, ◌≤◌, length, take, IfOk};
+ghost use Rattle.dnsname.specs.Reading.{Gives, name_up_to};
+ghost use Rattle.dnsname.specs.Spelling.{SpellsNameIn};
 ghost use Rattle.rrset.specs.Rdata.{rdata_at};
 ghost use Rattle.rrset.specs.ReadParts.{GivesRdata, grown, onto, read_at, read_from};
 ghost use Rattle.rrset.specs.declared.rdata_reader.RdataFault.TheVariants as faults;
 
 use crate::shape::{ShapePart, are_strings, shape};
 use dnsname::{Name, NameFault};
-use push_base::Octets;
+use push_base::{Octets, Steps};
 use std::alloc::{AllocError, AllocFailed, Global};
+use std::marker::Brand;
+use std::sync::ledger::{Blank, Ledger};
 use thiserror::Error;
 
 /// Why rdata could not be read.
@@ -39,6 +43,25 @@ impl<T: Drop> From<AllocFailed<T>> for RdataFault {
     }
 }
 
+/// The name at a place of rdata that ends at `end`, and the place after it, with a counter of its own.
+fn name_under<L: Ledger>(
+    alloc: Global,
+    blank: Blank,
+    message: &[u8],
+    end: usize,
+    place: usize,
+) -> Result<(Name, usize), NameFault>
+    requires name { blank.name ≡ L.name }
+    requires parts { blank.parts ≡ L.parts }
+    requires some { 0 < blank.parts }
+    requires end { end ≤ length message.now }
+    ensures name { IfOk result (λ read. SpellsNameIn (take end message.now) message.now place read.0 read.1) }
+    ensures exact { Gives result (name_up_to end message.now place) }
+{
+    let mut steps = Steps::<L>::begin(blank);
+    Name::read_up_to(alloc, message, end, place, &mut steps)
+}
+
 /// Appends the name at a place of rdata that ends at `end`, and gives the place after it.
 fn append_name(
     message: &[u8],
@@ -51,7 +74,7 @@ fn append_name(
     ensures within { IfOk result (λ after. after ≤ end) }
 {
     let alloc = *out.allocator();
-    match Name::read_up_to(alloc, message, end, place) {
+    match name_under::<Brand>(alloc, Blank::new(1), message, end, place) {
         Ok((name, after)) => {
             name.write_to(out)?;
             Ok(after)

@@ -41,7 +41,7 @@ IsWord w = IsTrue (list_all is_word_octet w)
 abbrev pub IsHeadWithin : HeadLine → Type 0
 IsHeadWithin (timers inactivity keepalive) = CanBeGranted (record { inactivity = inactivity; keepalive = keepalive })
 IsHeadWithin (zone apex serial mode) = IsTrue (is_name apex) × (serial < 2 ^ 32)
-IsHeadWithin (link w domain) = IsTrue (is_name domain)
+IsHeadWithin (link w domain most) = IsTrue (is_name domain)
 
 abbrev pub IsHubWithin : HubEvent → Type 0
 IsHubWithin (hub_events.At t) = t ≤ max_moment
@@ -50,6 +50,7 @@ IsHubWithin hub_events.Point = Unit {0}
 
 abbrev pub IsLinkWithin : LinkEvent → Type 0
 IsLinkWithin (link_events.Hear datagram) = AreWritten datagram
+IsLinkWithin link_events.Gone = Unit {0}
 
 abbrev pub IsCallWithin : Call → Type 0
 IsCallWithin (calls.Ask question) = IsTrue (is_question question)

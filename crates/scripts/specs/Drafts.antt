@@ -110,7 +110,7 @@ with_link state link = record state { links = state.links ++ link ∷ [] }
 
 -- a further link, which has heard nothing
 pub record HasLink (homes : HomesKept) (line : LinkLine) (homes_then : HomesKept) : Type 0 where
-  pub state : state_of homes_then ≡ with_link (state_of homes) (record { domain = line.domain; rows = [] })
+  pub state : state_of homes_then ≡ with_link (state_of homes) (record { rules = record { domain = line.domain; cap = line.cap }; rows = [] })
   pub named : homes_then.names ≡ homes.names ++ (line.domain, true) ∷ []
 
 -- the head with a further line of its own

@@ -21,7 +21,7 @@ empty_head = record { timers = default_timers; start = record { zones = []; link
 abbrev pub with_head : Head → HeadLine → Head
 with_head head (timers i k) = record head { timers = record { inactivity = i; keepalive = k } }
 with_head head (zone apex serial mode) = record head { start = record head.start { zones = head.start.zones ++ new_zone apex serial mode ∷ [] } }
-with_head head (link w domain) = record head { start = record head.start { links = head.start.links ++ (record { domain = domain; rows = [] }) ∷ [] }; links = head.links ++ w ∷ [] }
+with_head head (link w domain most) = record head { start = record head.start { links = head.start.links ++ (record { rules = record { domain = domain; cap = most }; rows = [] }) ∷ [] }; links = head.links ++ w ∷ [] }
 
 abbrev pub with_head_line : Head → ScriptLine → Head
 with_head_line head (head_line line) = with_head head line

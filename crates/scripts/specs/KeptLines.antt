@@ -23,7 +23,7 @@ words_of words = map (λ w. string_bytes w) words
 abbrev pub head_said : HeadLine → plain.HeadLine
 head_said (heads.Timers t) = plain.timers t.inactivity t.keepalive
 head_said (heads.Zone z) = plain.zone z.apex z.serial z.writable
-head_said (heads.Link l) = plain.link (string_bytes l.word) l.domain
+head_said (heads.Link l) = plain.link (string_bytes l.word) l.domain l.cap
 
 -- what a line says that happens
 abbrev pub happening_said : EventLine → ScriptLine

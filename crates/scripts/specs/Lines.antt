@@ -11,8 +11,10 @@ use Rattle.push_base.specs.Limits.{max_moment}
 use Rattle.push_base.specs.Optional.{◌>>=◌}
 use Rattle.push_base.specs.Hexadecimal.{hex_octets}
 use Rattle.dsosession.specs.Timing.{least_keepalive}
+use Rattle.history.specs.States.{no_cap}
 use Rattle.dnsname.specs.Names.{Labels}
 use Rattle.dnsname.specs.Text.{name_of_text}
+use Rattle.dsotlv.specs.Notices.{last_ttl}
 use Rattle.rrset.specs.declared.record.Question.{Question}
 use Rattle.scripts.specs.declared.line.HubEvent.{HubEvent}
 use Rattle.scripts.specs.declared.line.HubEvent.TheVariants as hub_events
@@ -37,7 +39,8 @@ Word = List ℕ
 pub data HeadLine : Type 0 where
   timers : ℕ → ℕ → HeadLine
   zone : Labels → ℕ → Bool → HeadLine
-  link : Word → Labels → HeadLine
+  -- its word, its domain, and its cap
+  link : Word → Labels → ℕ → HeadLine
 
 pub data ScriptLine : Type 0 where
   -- an empty line or one that begins with #
@@ -114,6 +117,10 @@ number greatest (c ∷ cs) =
     let n = fold (λ n d. 10 * n + (d - 48)) 0 (c ∷ cs) in
     if has_form (c ∷ cs) && nat_le n greatest then Some n else None
 
+-- a number from one to another
+abbrev pub number_from : ℕ → ℕ → Word → Option ℕ
+number_from least greatest w = number greatest w >>= λ n. if nat_le least n then Some n else None
+
 abbrev pub number16 : Word → Option ℕ
 number16 = number max_u16
 
@@ -183,8 +190,17 @@ abbrev pub zone_line : List Word → Option ScriptLine
 zone_line (n ∷ s ∷ mode ∷ []) = name_of_text n >>= λ apex. number32 s >>= λ serial. option_map (λ writable. head_line (zone apex serial writable)) (writable_of mode)
 zone_line _ = None
 
+-- a cap: a TTL (RFC 2181, 8), but not 0
+abbrev pub cap_written : Word → Option ℕ
+cap_written w = number_from 1 last_ttl w
+
+-- a link of that word, name and cap
+abbrev pub link_named : Word → Word → Option ℕ → Option ScriptLine
+link_named w n most = word w >>= λ l. name_of_text n >>= λ domain. option_map (λ m. head_line (link l domain m)) most
+
 abbrev pub link_line : List Word → Option ScriptLine
-link_line (w ∷ n ∷ []) = word w >>= λ l. name_of_text n >>= λ domain. Some (head_line (link l domain))
+link_line (w ∷ n ∷ []) = link_named w n (Some no_cap)
+link_line (w ∷ n ∷ c ∷ []) = link_named w n (cap_written c)
 link_line _ = None
 
 abbrev pub at_line : List Word → Option ScriptLine
@@ -220,7 +236,10 @@ hub_kinds w =
     ∷ []
 
 abbrev pub link_kinds : Word → List (Bool × Kind)
-link_kinds w = (is w (codes "hear"), kinds.Hear) ∷ []
+link_kinds w =
+    (is w (codes "hear"), kinds.Hear)
+    ∷ (is w (codes "gone"), kinds.Gone)
+    ∷ []
 
 abbrev pub session_kinds : Word → List (Bool × Kind)
 session_kinds w =
@@ -274,6 +293,7 @@ line_behind kinds.At ws = at_line ws
 line_behind kinds.Update ws = of_octets (λ o. hub_event (hub_events.Update o)) ws
 line_behind kinds.Point ws = alone (hub_event hub_events.Point) ws
 line_behind kinds.Hear ws = of_word_and_octets (λ w o. link_event w (link_events.Hear o)) ws
+line_behind kinds.Gone ws = of_word (λ w. link_event w link_events.Gone) ws
 line_behind kinds.Send ws = of_word_and_octets send ws
 line_behind kinds.Stop ws = stop_line ws
 line_behind kinds.Cut ws = of_word (λ w. session_event w session_events.Cut) ws

@@ -104,7 +104,7 @@ with_client w is_lone known = record known { in_head = false; clients = known.cl
 abbrev pub may_head : Known → HeadLine → Bool
 may_head known (timers i k) = not known.has_timers
 may_head known (zone apex serial mode) = is_none (home_fault known.homes (apex, false))
-may_head known (link w domain) = not (is_among known.links w) && is_none (home_fault known.homes (domain, true))
+may_head known (link w domain most) = not (is_among known.links w) && is_none (home_fault known.homes (domain, true))
 
 -- octets come to lone clients alone
 abbrev pub may_happen_to : List (Word × Bool) → Word → ClientEvent → Bool
@@ -134,7 +134,7 @@ may_follow all known (session_event w event) = may_meet all known.clients w even
 abbrev pub known_in_head : Known → HeadLine → Known
 known_in_head known (timers i k) = record known { has_timers = true }
 known_in_head known (zone apex serial mode) = with_home (apex, false) known
-known_in_head known (link w domain) = with_home (domain, true) (record known { links = known.links ++ w ∷ [] })
+known_in_head known (link w domain most) = with_home (domain, true) (record known { links = known.links ++ w ∷ [] })
 
 -- what is known behind it
 abbrev pub known_behind : Known → ScriptLine → Known

@@ -17,7 +17,7 @@ pub use client_readers::question_of;
 pub use clients::KnownClient;
 pub use last_text::{NO_MEMORY, READ_FAULT, tell};
 pub use line::{Line, one_word, read_line, split_word, three_words, two_words};
-pub use line_words::{number_of_word, number_up_to, plain_word};
+pub use line_words::{number_from, number_of_word, number_up_to, plain_word};
 pub use outcome::Outcome;
 pub use read::{ReadError, read_script};
 pub use script::{Draft, ReadScript, Script, read_script_lines};

@@ -1,7 +1,7 @@
 //! The lines of a script.
 
 ghost use Rattle.std.specs.Prelude.{◌≡◌, false, ◌∷◌, [], IfOk, IfSome, IfNone, None, position, ◌==◌, ◌<◌, option_map, length, string_bytes, List, ℕ};
-ghost use Rattle.scripts.specs.Lines.{words_in, Word, ScriptLine, hub_event, link_event, session_event, timers_line, zone_line, link_line, at_line, stop_line, of_word, of_octets, of_word_and_octets, line_of, kind_of, client_kind, line_behind};
+ghost use Rattle.scripts.specs.Lines.{words_in, Word, ScriptLine, hub_event, link_event, session_event, timers_line, zone_line, link_line, at_line, stop_line, of_word, of_octets, of_word_and_octets, line_of, kind_of, client_kind, line_behind, link_named};
 ghost use Rattle.scripts.specs.KeptLines.{said, one_in, two_in, three_in, four_in, five_in, begins_silent};
 
 use crate::client_readers::{
@@ -9,12 +9,13 @@ use crate::client_readers::{
     say_line, settle_line, show_line, up_line,
 };
 use crate::line_words::{
-    Moment, Written, moment_of_word, name_of_word, number_of_word, octets_of_word, plain_word,
-    rcode_of_word, writable_of_word,
+    Moment, Written, cap_of_word, moment_of_word, name_of_word, number_of_word, octets_of_word,
+    plain_word, rcode_of_word, writable_of_word,
 };
 use dnsname::name::{Name, Octets};
 use dsosession::session::Timers;
 use dsosession::times::LEAST_KEEPALIVE;
+use history::NO_CAP;
 use push_base::NoMemory;
 use rrset::record::{Question, Rr};
 use std::alloc::Global;
@@ -30,13 +31,15 @@ pub struct ZoneLine {
     pub writable: bool,
 }
 
-/// A link line: the link's word, and the domain under which it is shown.
+/// A link line: the link's word, the domain under which it is shown, and the greatest TTL that its records are shown with.
 #[derive(Debug, Drop)]
 pub struct LinkLine {
     /// The link's word.
     pub word: String,
     /// The domain (RFC 8766, 5.5).
     pub domain: Name,
+    /// The cap on the TTLs that it shows: a record heard with a greater one is shown with this.
+    pub cap: u32,
 }
 
 /// What a line before all events says of the server.
@@ -66,6 +69,8 @@ pub enum HubEvent {
 pub enum LinkEvent {
     /// A datagram comes (RFC 6762, 18).
     Hear(Octets),
+    /// It goes away, with all that was heard on it.
+    Gone,
 }
 
 /// A call of a client that answers a word.
@@ -160,6 +165,7 @@ enum Kind {
     Update,
     Point,
     Hear,
+    Gone,
     Send,
     Stop,
     Cut,
@@ -229,6 +235,8 @@ fn kind_of(word: &[u8]) -> Kind
         Kind::Point
     } else if word == b"hear".as_slice() {
         Kind::Hear
+    } else if word == b"gone".as_slice() {
+        Kind::Gone
     } else if word == b"send".as_slice() {
         Kind::Send
     } else if word == b"stop".as_slice() {
@@ -281,8 +289,8 @@ fn single_word(kind: Kind) -> Option<Line>
 {
     match kind {
         Kind::Point => Some(Line::Event(EventLine::Hub(HubEvent::Point))),
-        Kind::Timers | Kind::Zone | Kind::Link | Kind::At | Kind::Update | Kind::Hear => None,
-        Kind::Send | Kind::Stop | Kind::Cut => None,
+        Kind::Timers | Kind::Zone | Kind::Link | Kind::At | Kind::Update => None,
+        Kind::Hear | Kind::Gone | Kind::Send | Kind::Stop | Kind::Cut => None,
         Kind::Client | Kind::Lone | Kind::Open | Kind::Ask | Kind::Drop | Kind::Reconfirm => None,
         Kind::Say | Kind::Up | Kind::Emit | Kind::Down | Kind::Settle => None,
         Kind::Feed | Kind::Show | Kind::Other => None,
@@ -300,6 +308,7 @@ fn longer_line(alloc: Global, kind: Kind, text: &[u8]) -> Result<Option<Line>, N
         Kind::At => Ok(at_line(text)),
         Kind::Update => update_line(alloc, text),
         Kind::Hear => hear_line(alloc, text),
+        Kind::Gone => gone_line(alloc, text),
         Kind::Send => send_line(alloc, text),
         Kind::Stop => stop_line(alloc, text),
         Kind::Cut => cut_line(alloc, text),
@@ -360,20 +369,38 @@ fn zone_line(alloc: Global, text: &[u8]) -> Result<Option<Line>, NoMemory>
     }))))
 }
 
-// What follows the first word of a link line: its word, and its domain.
+// What follows the first word of a link line: its word, its domain, and the cap, if it has one.
 fn link_line(alloc: Global, text: &[u8]) -> Result<Option<Line>, NoMemory>
     ensures exact { IfOk result (λ found. option_map (λ l. said l) found ≡ link_line (words_in text.now)) }
 {
-    let Some((word, domain)) = two_words(text) else {
-        return Ok(None);
-    };
+    if let Some((word, domain, cap)) = three_words(text) {
+        link_named(alloc, word, domain, cap_of_word(cap))
+    } else if let Some((word, domain)) = two_words(text) {
+        link_named(alloc, word, domain, Some(NO_CAP))
+    } else {
+        Ok(None)
+    }
+}
+
+// The link of that word, of that name, and with that cap.
+fn link_named(
+    alloc: Global,
+    word: &[u8],
+    domain: &[u8],
+    cap: Option<u32>,
+) -> Result<Option<Line>, NoMemory>
+    ensures exact { IfOk result (λ found. option_map (λ l. said l) found ≡ link_named word.now domain.now cap) }
+{
     let Some(word) = plain_word(alloc, word)? else {
         return Ok(None);
     };
     let Some(domain) = name_of_word(alloc, domain)? else {
         return Ok(None);
     };
-    Ok(Some(Line::Head(HeadLine::Link(LinkLine { word, domain }))))
+    let Some(cap) = cap else {
+        return Ok(None);
+    };
+    Ok(Some(Line::Head(HeadLine::Link(LinkLine { word, domain, cap }))))
 }
 
 // What follows the first word of a line with a moment: the moment, in milliseconds.
@@ -424,6 +451,17 @@ pub(crate) fn word_and_octets(
         return Ok(None);
     };
     Ok(Some((word, octets)))
+}
+
+// What follows the first word of a line with which a link goes away: the link's word.
+fn gone_line(alloc: Global, text: &[u8]) -> Result<Option<Line>, NoMemory>
+    ensures exact { IfOk result (λ found. option_map (λ l. said l) found ≡ of_word (λ w. link_event w LinkEvent.Gone) (words_in text.now)) }
+{
+    let Some(word) = word_alone(alloc, text)? else {
+        return Ok(None);
+    };
+    let event = LinkEvent::Gone;
+    Ok(Some(Line::Event(EventLine::Link { word, event })))
 }
 
 // What follows the first word of a line that cuts a connection: the word of the peer or of the client.

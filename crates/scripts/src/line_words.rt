@@ -6,10 +6,11 @@ ghost use Rattle.std.specs.List.{list_all};
 ghost use Rattle.std.specs.Result.{result_ok};
 ghost use Rattle.push_base.specs.Hexadecimal.{hex_octets};
 ghost use Rattle.push_base.specs.Limits.{max_moment, max_number};
-ghost use Rattle.scripts.specs.Lines.{number, max_octets_passed, max_rcode, max_u16, max_u32, word, octets_written, is_digit, has_form, writable_of, is_word_octet};
+ghost use Rattle.scripts.specs.Lines.{number, number_from, cap_written, max_octets_passed, max_rcode, max_u16, max_u32, word, octets_written, is_digit, has_form, writable_of, is_word_octet};
 
 use dnsname::name::{Name, Octets, TextFault};
 use dsotlv::MAX_FRAME;
+use dsotlv::ttls::LAST_TTL;
 use push_base::limits::MAX_MOMENT;
 use push_base::{HexFault, NoMemory, hex_octets};
 use std::alloc::Global;
@@ -125,6 +126,14 @@ pub(crate) fn short_number_of_word(text: &[u8]) -> Option<u16>
     Some(number as u16)
 }
 
+/// The cap of a link that a word is: from 1 to the greatest TTL (RFC 2181, 8).
+pub(crate) fn cap_of_word(text: &[u8]) -> Option<u32>
+    ensures { result ≡ cap_written text.now }
+{
+    let number = number_from(1, LAST_TTL as u64, text)?;
+    Some(number as u32)
+}
+
 /// The RCODE that a word is, from 0 to 15 (RFC 1035, 4.1.1).
 pub(crate) fn rcode_of_word(text: &[u8]) -> Option<u8>
     ensures { result ≡ number max_rcode text.now }
@@ -183,6 +192,18 @@ pub fn number_up_to(greatest: u64, text: &[u8]) -> Option<u64>
 {
     let number = whole_number(text)?;
     if number > greatest {
+        return None;
+    }
+    Some(number)
+}
+
+/// The decimal number that a word is, without leading zeros, from one to another.
+pub fn number_from(least: u64, greatest: u64, text: &[u8]) -> Option<u64>
+    ensures exact { result ≡ number_from least greatest text.now }
+    ensures small { IfSome result (λ number. number ≤ greatest) }
+{
+    let number = number_up_to(greatest, text)?;
+    if number < least {
         return None;
     }
     Some(number)

@@ -173,11 +173,11 @@ impl Draft {
         requires { length self.old.events.items ≡ 0 }
         ensures { (all : List Word) → IfOk result (λ taken. TakesLine all self.old (lines.Head (heads.Link line)) self.new taken) }
     {
-        let LinkLine { word, domain } = line;
+        let LinkLine { word, domain, cap } = line;
         if is_among(&self.links, word.as_bytes()) {
             return Ok(false);
         }
-        match self.homes.add_link(domain) {
+        match self.homes.add_link(domain, cap) {
             Ok(()) => {
                 push_word(&mut self.links, word)?;
                 Ok(true)

@@ -1,10 +1,14 @@
 //! Names in messages, names without pointers and texts of names (RFC 1035, 2.3.4, 3.1, 4.1.4 and 5.1).
 
+ghost use Rattle.std.specs.Prelude.{◌≡◌, ◌<◌};
+
 use crate::shown::{holds, is_text};
 use crate::spaced_octets;
 use dnsname::{Name, NameFault, NoMemory};
-use push_base::hex_text;
+use push_base::{Steps, hex_text};
 use std::alloc::Global;
+use std::marker::Brand;
+use std::sync::ledger::{Blank, Ledger};
 use std::test::Fail;
 
 /// The names of RFC 1035, 4.1.4: F.ISI.ARPA at 20, FOO.F.ISI.ARPA at 40, ARPA at 64, and the root at 92.
@@ -275,11 +279,31 @@ fn is_read_so(
     holds(shows, place == gives.1)
 }
 
+/// The name with pointers at a place, and the place after it, with a counter of its own.
+fn pointed_name<L: Ledger>(
+    alloc: Global,
+    blank: Blank,
+    message: &[u8],
+    at: usize,
+) -> Result<(Name, usize), NameFault>
+    requires name { blank.name ≡ L.name }
+    requires parts { blank.parts ≡ L.parts }
+    requires some { 0 < blank.parts }
+{
+    let mut steps = Steps::<L>::begin(blank);
+    Name::read(alloc, message, at, &mut steps)
+}
+
 /// Whether both readings of a case give what they are to give.
 fn are_read_so(alloc: Global, case: &Case) -> Result<(), Fail> {
     let octets = spaced_octets(alloc, case.1)?;
     let message = octets.as_slice();
-    is_read_so(alloc, case.0, Name::read(alloc, message, case.2), case.3)?;
+    is_read_so(
+        alloc,
+        case.0,
+        pointed_name::<Brand>(alloc, Blank::new(1), message, case.2),
+        case.3,
+    )?;
     is_read_so(
         alloc,
         case.0,

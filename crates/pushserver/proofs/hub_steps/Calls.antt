@@ -1,6 +1,6 @@
 -- The calls beside `give`, on the hub that is kept and on the plain one.
 --     entry-stands, offered-stands      an entry; one that is offered
---     updates_stand, hears_stand, moments_stand, connects_stand, takes_stand, stops_stand, ends_stand
+--     updates_stand, hears_stand, goings_stand, moments_stand, connects_stand, takes_stand, stops_stand, ends_stand
 use Rattle.std.proofs.Common.{◌≡◌, ℕ, ◌+◌, ◌-◌, ◌<◌, Bool, true, false, cond, not, ◌&&◌, ◌||◌, List, [], ◌∷◌, ◌++◌, length, Option, Some, None, Result, Ok, Err, sym, ap, subst, refl, arith}
 use Rattle.std.proofs.lemmas.Bool.{ltb-true}
 use Rattle.std.proofs.lemmas.List.{length-append}
@@ -21,24 +21,24 @@ use Rattle.history.specs.declared.entry.Entry.TheVariants as entries
 use Rattle.pushsession.specs.Kept.{KeptSession, keeping}
 use Rattle.pushsession.specs.Sessions.{is_open, room_of, new_session, with_piece, asked_to_stop, due, timed}
 use Rattle.pushserver.specs.PlainHubs.{Hub, Session, plain_keeps}
-use Rattle.pushserver.specs.Hubs.{Numbered, session_in, without_session, newest, now, state_now, each_session, entered, entered_keeping, can_enter, update, hear, moment, connect, take_octets, stop, disconnect, max_sessions}
-use Rattle.pushserver.specs.Offering.{offered_by, offered, heard_of}
+use Rattle.pushserver.specs.Hubs.{Numbered, session_in, without_session, newest, now, state_now, each_session, entered, entered_keeping, can_enter, update, hear, link_gone, moment, connect, take_octets, stop, disconnect, max_sessions}
+use Rattle.pushserver.specs.Offering.{offered_by, offered, heard_of, is_made}
 use Rattle.pushserver.specs.Rows.{IsTellable}
 use Rattle.pushserver.specs.KeptHubs.{KeptHub, StandsFor, WaitSince}
 use Rattle.pushserver.specs.SoundHubs.{IsSoundSession}
 use Rattle.dsotlv.specs.Laws.{AreOctets}
-use Rattle.pushserver.specs.Simulation.{BothAnswer, UpdatesStand, HearsStand, MomentsStand, ConnectsStand, TakesStand, StopsStand, EndsStand}
+use Rattle.pushserver.specs.Simulation.{BothAnswer, UpdatesStand, HearsStand, GoingsStand, MomentsStand, ConnectsStand, TakesStand, StopsStand, EndsStand}
 use Rattle.pushserver.proofs.session_steps.Parts.{SessionFits, of_parts, asks_nothing, none_waits, reads_nothing, writes_nothing}
 use Rattle.pushserver.proofs.session_steps.Standing.{with_piece-keeps, asked-keeps, timed-keeps}
 use Rattle.pushserver.proofs.told_rows.Updated.{update-tellable, moment-tellable}
 use Rattle.pushserver.proofs.told_rows.Histories.{state_at-last}
 use Rattle.pushserver.proofs.told_rows.HubTells.{StatesTell}
-use Rattle.pushserver.proofs.told_rows.HeardRows.{brings_read}
+use Rattle.pushserver.proofs.told_rows.HeardRows.{brings_nothing, brings_read}
 use Rattle.pushserver.proofs.told_rows.Hubs.{link_tells}
 use Rattle.pushserver.proofs.hub_steps.Pairs.{zip-all, zip-push, zip-filter}
 use Rattle.pushserver.proofs.hub_steps.Standing.{kept_of, Stands, with_kept, fitting, fits-stand, fits-sound, with_sessions-stands, each-stands, in-stands, session-moved, FoundBoth, both_found}
 use Rattle.pushserver.proofs.hub_steps.Cases.{enters_update, update_as, hear_as, moment_as}
-use Rattle.pushserver.proofs.Offering.{as_hearing, by_room, hearing-offered}
+use Rattle.pushserver.proofs.Offering.{as_going, as_hearing, by_room, gone-offered, hearing-offered}
 use Rattle.pushserver.proofs.hub_steps.Entering.{keeping-stands}
 use Rattle.pushserver.proofs.session_steps.Since.{asked_to_stop-since, ended_where-since}
 use Rattle.rrset.proofs.Places.{all_filter}
@@ -99,6 +99,18 @@ hear-stands hub from ks link datagram octets h = by (hearing_of datagram) refl
 
 pub hears_stand : HearsStand
 hears_stand k hub link datagram h octets = with_kept (λ k. BothAnswer (hear k link datagram) (hear hub link datagram)) k hub h (hear-stands hub k.seen.number k.sessions link datagram octets)
+
+-- ---- `link_gone`
+
+pub gone-stands : (hub : Hub) (from : ℕ) (ks : Numbered KeptSession) (link : ℕ) → Stands hub from ks → BothAnswer (link_gone (kept_of hub from ks) link) (link_gone hub link)
+gone-stands hub from ks link h =
+    let entry = entries.LinkGone link in
+    let both = offered-stands hub from ks entry (link_tells hub entry link refl brings_nothing h.sound.states) h in
+    subst (λ k. BothAnswer k (link_gone hub link)) (sym (gone-offered (kept_of hub from ks) link))
+    (subst (λ p. BothAnswer (as_going (kept_of hub from ks) (offered entry (kept_of hub from ks))) p) (sym (gone-offered hub link)) (ap is_made both.0, both.1))
+
+pub goings_stand : GoingsStand
+goings_stand k hub link h = with_kept (λ k. BothAnswer (link_gone k link) (link_gone hub link)) k hub h (gone-stands hub k.seen.number k.sessions link)
 
 -- ---- `moment`
 

@@ -2,6 +2,7 @@
 --     ends_as      a session ends
 --     update_as, moment_as      by the verdict on an update; by the time and the journal's room
 --     hear_as, enters_hearing      a datagram by what it says; a hearing by whether it is accepted, and by the journal's room
+--     enters_going      a link's going, by whether it is entered
 --     key_as, session_as      a RECONFIRM by the key of its record; a message by the session
 --     request_as, clocks_as, itself_as      a message by its head: what is needed for it, the clocks behind it, what a session makes of it by itself
 --     found_as, works_as, give_as      `give` by the session, by the first message, and by the output
@@ -73,6 +74,11 @@ module _ {A Q M S : Type 0} {kind : SessionKind A Q M S} where
   abbrev pub hear_as : HubOf kind → ℕ → Result Hearing HearFault → Heard × HubOf kind
   hear_as hub link (Err fault) = (Ignored (why_not fault), hub)
   hear_as hub link (Ok hearing) = enters_hearing hub link hearing (accepts (state_now hub) (entries.Heard link hearing)) (can_enter hub)
+
+  -- ---- a link that goes away
+
+  abbrev pub enters_going : HubOf kind → ℕ → Bool → Bool × HubOf kind
+  enters_going hub link goes = cond goes (true, entered_keeping (entries.LinkGone link) hub) (false, hub)
 
   -- ---- a message
 

@@ -13,7 +13,7 @@ use Rattle.pushserver.specs.PlainHubs.{Session, Hub, plain_keeps}
 use Rattle.pushserver.specs.Hubs.{Numbered, session_in, newest, now, keeps_now, records_now, session_of, each_session, in_session, entered, entered_keeping}
 use Rattle.pushserver.specs.Laws.{OtherCallsKeepOutputs}
 use Rattle.pushserver.proofs.SessionLists.{found-changed, found-last, found-left, other-number}
-use Rattle.pushserver.proofs.Walks.{AnyMessage, EndsSome, Entering, entering-kept, timed-kept, with_new, holds-update, holds-hear, holds-moment, holds-connect}
+use Rattle.pushserver.proofs.Walks.{AnyMessage, EndsSome, Entering, entering-kept, timed-kept, with_new, holds-update, holds-hear, holds-going, holds-moment, holds-connect}
 
 -- ---- what leaves the output of a session
 
@@ -84,6 +84,7 @@ pub other_calls_keep_outputs : OtherCallsKeepOutputs
 other_calls_keep_outputs hub number other octets n m = (
   λ s was. holds-update AnyMessage (HasOutput number s.output) hub (keeping-keeps number s.output hub (has s was)) (has s was) octets tt,
   λ s was. holds-hear AnyMessage (HasOutput number s.output) hub (keeping-keeps number s.output hub (has s was)) (has s was) n octets tt,
+  λ s was. holds-going AnyMessage (HasOutput number s.output) hub (keeping-keeps number s.output hub (has s was)) (has s was) n,
   λ s was. holds-moment AnyMessage (HasOutput number s.output) hub (keeping-keeps number s.output hub (has s was)) (has s was) (timed-keeps number s.output) n,
   λ s was. holds-connect (HasOutput number s.output) hub (makes-keeps number s.output hub (has s was)) (has s was),
   λ s was. in-keeps number s.output hub other (with_piece octets) (λ s. refl) (has s was),

@@ -162,10 +162,10 @@ are_read rrs (brings_read datagram hearing below read) = hearing_read datagram h
 
 rows-so : (entry : Entry) (now : ℕ) (l : LinkState) → Brought AreOctets (brought entry) → list_all is_heard_so l.rows ≡ true → list_all is_heard_so (rows_after entry now l) ≡ true
 rows-so entry now l brings h =
-    let usable : List HeardRr = usable_of l.domain (brought entry) in
+    let usable : List HeardRr = usable_of l.rules (brought entry) in
     all-rows (rows_after entry now l)
     (kept-after IsHeardSo ends-alike entry now l
-    (all-brought l.domain now usable (usable-of l.domain (brought entry)) (all_filter IsHeardRr (λ h. is_usable l.domain h.rr) (brought entry) (are_read (brought entry) brings)))
+    (all-brought l.rules.domain now usable (usable-of l.rules (brought entry)) (all_filter IsHeardRr (λ h. is_usable l.rules.domain h.rr) (brought entry) (are_read (brought entry) brings)))
     (each-row l.rows h))
 
 -- ---- all links
@@ -218,5 +218,5 @@ shown-all : (set : RecordSet) → AllByRecursion (IsShownWhole last_ttl) set →
 shown-all [] h = refl
 shown-all (e ∷ set) h = and-both (is_tellable e) (list_all is_tellable set) (shown-told e h.0) (shown-all set h.1)
 
-pub link-shows : (link : LinkState) → IsLink link → list_all is_heard_so link.rows ≡ true → list_all is_tellable (shown_rows link.domain link.rows) ≡ true
-link-shows link is h = shown-all (shown_rows link.domain link.rows) (all-shown last_ttl link.domain is.name link.rows is.sound (whole_rows link.rows (each-row link.rows h)))
+pub link-shows : (link : LinkState) → IsLink link → list_all is_heard_so link.rows ≡ true → list_all is_tellable (shown_rows link.rules link.rows) ≡ true
+link-shows link is h = shown-all (shown_rows link.rules link.rows) (all-shown last_ttl link.rules is.name link.rows is.sound (whole_rows link.rows (each-row link.rows h)))

@@ -100,15 +100,15 @@ tell-at (y ∷ zones) tell (suc i) z e = tell-at zones tell.1 i z e
 
 -- a link whose rows are as datagrams bring them
 record LinkTells (link : LinkState) : Type 0 where
-  pub tellable : list_all is_tellable (shown_rows link.domain link.rows) ≡ true
-  pub room : HaveRoom (shown_rows link.domain link.rows)
+  pub tellable : list_all is_tellable (shown_rows link.rules link.rows) ≡ true
+  pub room : HaveRoom (shown_rows link.rules link.rows)
 
 link-tells : (links : List LinkState) → AllByRecursion IsLink links → AreHeard links → (i : ℕ) (l : LinkState) → slice_get links i ≡ Some l → LinkTells l
 link-tells [] are heard zero l e = absurd cc
 link-tells [] are heard (suc i) l e = absurd cc
 link-tells (k ∷ links) are heard zero l e =
     let same : k ≡ l = cc in
-    subst LinkTells same (record { tellable = link-shows k are.0 heard.0; room = shown_fits k.domain k.rows are.0.sound are.0.within })
+    subst LinkTells same (record { tellable = link-shows k are.0 heard.0; room = shown_fits k.rules k.rows are.0.sound are.0.within })
 link-tells (k ∷ links) are heard (suc i) l e = link-tells links are.1 heard.1 i l e
 
 -- ---- each home
@@ -127,10 +127,10 @@ module _ (state : State) (is : IsTellable state) (name : Labels) where
       by (Some z) e set = let tell = tell-at state.zones (told-zones state is) i z e in rows-told name z.rows set tell.tellable (tell.room name)
   home-told (Some (homes.Link i)) set = by (slice_get state.links i) refl set
     where
-      by : (o : Option LinkState) → slice_get state.links i ≡ o → is_record_set (at_name name (elim o as (λ _. RecordSet) [ None ↦ [] | Some l ↦ shown_rows l.domain l.rows ])) ≡ true
-          → IsTold name (at_name name (elim o as (λ _. RecordSet) [ None ↦ [] | Some l ↦ shown_rows l.domain l.rows ]))
+      by : (o : Option LinkState) → slice_get state.links i ≡ o → is_record_set (at_name name (elim o as (λ _. RecordSet) [ None ↦ [] | Some l ↦ shown_rows l.rules l.rows ])) ≡ true
+          → IsTold name (at_name name (elim o as (λ _. RecordSet) [ None ↦ [] | Some l ↦ shown_rows l.rules l.rows ]))
       by None e set = none-told name
-      by (Some l) e set = let tell = link-tells state.links is.home.links is.heard i l e in rows-told name (shown_rows l.domain l.rows) set tell.tellable (tell.room name)
+      by (Some l) e set = let tell = link-tells state.links is.home.links is.heard i l e in rows-told name (shown_rows l.rules l.rows) set tell.tellable (tell.room name)
 
   told-at : IsTold name (at_name name (records state))
   told-at =

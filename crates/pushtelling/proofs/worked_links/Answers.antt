@@ -5,7 +5,7 @@ use Rattle.std.specs.Prelude.{codes}
 use Rattle.zoneupdate.specs.Zones.{ZoneState, new_zone}
 use Rattle.dnsname.specs.Names.{octets}
 use Rattle.dnsname.specs.Text.{name}
-use Rattle.history.specs.States.{LinkState}
+use Rattle.history.specs.States.{LinkState, no_cap}
 use Rattle.pushtelling.proofs.worked_links.Goals as goal
 
 pub returns-clause-start : goal.returns-clause-start
@@ -13,7 +13,7 @@ unfolding IsDistinct
 returns-clause-start c = record {
   begins = record {
     zones = All-nil (λ (z : ZoneState). (serial : ℕ) × (z ≡ new_zone z.apex serial z.writable));
-    links = All-cons (λ (l : LinkState). l.rows ≡ []) (record { domain = name (codes "lan.example.net."); rows = [] }) [] refl (All-nil (λ (l : LinkState). l.rows ≡ []));
+    links = All-cons (λ (l : LinkState). l.rows ≡ []) (record { rules = record { domain = name (codes "lan.example.net."); cap = no_cap }; rows = [] }) [] refl (All-nil (λ (l : LinkState). l.rows ≡ []));
     now = refl;
   };
   apart = record { apart = (tt, tt); short = ((let few : length (octets (name (codes "lan.example.net."))) ≡ 17 = refl in omega (arith, few)), tt) };

@@ -19,7 +19,7 @@ use Rattle.pushserver.specs.Laws.{LeavesSession}
 use Rattle.pushserver.proofs.OtherSessions.{stays, in_session-stays, give_changes_one_session}
 use Rattle.pushserver.proofs.SessionLists.{other-number, found-left}
 use Rattle.pushserver.proofs.hub_steps.Cases.{moment_as}
-use Rattle.pushserver.proofs.Walks.{AnyMessage, holds-update, holds-hear, with_new}
+use Rattle.pushserver.proofs.Walks.{AnyMessage, holds-update, holds-hear, holds-going, with_new}
 use Rattle.scripts.specs.Lines.{Word, ScriptLine, silent, head_line, joining, hub_event, link_event, client_call, client_passing, client_event, session_event}
 use Rattle.scripts.specs.declared.line.HubEvent.{HubEvent}
 use Rattle.scripts.specs.declared.line.HubEvent.TheVariants as hub_events
@@ -159,6 +159,9 @@ module _ (hub : Hub) (number : ℕ) (s : Session) where
   leaves-hear : (later : Hub) (on : ℕ) (datagram : List ℕ) → At hub number later s → Leaves (hubs.hear later on datagram).1
   leaves-hear later on datagram at = holds-hear AnyMessage Leaves later (λ entry by. inr (entered-longer later (entered_keeping entry later) entry at refl)) (inl at) on datagram tt
 
+  leaves-gone : (later : Hub) (on : ℕ) → At hub number later s → Leaves (hubs.link_gone later on).1
+  leaves-gone later on at = holds-going AnyMessage Leaves later (λ entry by. inr (entered-longer later (entered_keeping entry later) entry at refl)) (inl at) on
+
   leaves-more : (later : Hub) → Leaves later → Leaves (with_new later)
   leaves-more later (inl at) =
       let one = (later.numbers_given, new_session (keeps_now later) (now later)) ∷ [] in
@@ -267,6 +270,7 @@ module _ (hub : Hub) (number : ℕ) (s : Session) where
 
     leaves-link : (event : LinkEvent) (v : Word) (world : World) → At hub number world.hub s → Leaves (link_does event v world).0.hub
     leaves-link (link_events.Hear datagram) v world at = leaves-hear world.hub (link_number v world) datagram at
+    leaves-link link_events.Gone v world at = leaves-gone world.hub (link_number v world) at
 
     leaves-client : (event : ClientEvent) (v : Word) (world : World) → IsApart world → session_number world w ≡ Some number → At hub number world.hub s → Leaves (client_does by_history event v world).0.hub
     leaves-client client_events.Open v world a known at = open-does world (λ later. Leaves later.hub) v (inl at) (λ seat e. inl at) (λ seat e hub. leaves-more world.hub (inl at))

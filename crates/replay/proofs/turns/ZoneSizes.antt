@@ -20,7 +20,7 @@ use Rattle.linkcache.proofs.ShownSizes.{shown_fits}
 use Rattle.coalesce.proofs.ReadBack.{each-append}
 use Rattle.pushclient.proofs.SoundWishes.{all_map}
 use Rattle.history.specs.Entries.{Concern, a_zone, a_link, all_links, concern}
-use Rattle.history.specs.States.{State, LinkState, home_names, with_rows, zone_for, updated, after, after_by, state_at, records, link_after, link_at_moment}
+use Rattle.history.specs.States.{State, LinkState, LinkRules, home_names, with_rows, zone_for, updated, after, after_by, state_at, records, link_after, link_at_moment}
 use Rattle.history.specs.declared.entry.Entry.{Entry}
 use Rattle.history.proofs.OneLink.{AreRows, rows-after, rows-moment}
 use Rattle.pushserver.proofs.Queues.{same_name-octets}
@@ -88,11 +88,11 @@ judged-small homes zone update =
 
 -- ---- one link
 
-small-shown : (link : LinkState) → AreRows link → IsSmall (shown_rows link.domain link.rows)
-small-shown link are name = shown_fits link.domain link.rows are.sound are.within name
+small-shown : (link : LinkState) → AreRows link → IsSmall (shown_rows link.rules link.rows)
+small-shown link are name = shown_fits link.rules link.rows are.sound are.within name
 
-pub small-silent : (domain : Labels) → AreRows (record { domain = domain; rows = [] })
-small-silent domain = record { order = tt; sound = tt; within = record { few = omega arith; owners = λ owner. omega arith } }
+pub small-silent : (rules : LinkRules) → AreRows (record { rules = rules; rows = [] })
+small-silent rules = record { order = tt; sound = tt; within = record { few = omega arith; owners = λ owner. omega arith } }
 
 -- ---- all homes
 
@@ -190,11 +190,11 @@ sets-size name set (s ∷ ss) all =
 pub records-size : (state : State) (name : Labels) → IsBounded state → size_at name (records state) ≤ 1920000
 records-size state name b =
     let zones = map (λ (z : ZoneState). z.rows) state.zones in
-    let links = map (λ (l : LinkState). shown_rows l.domain l.rows) state.links in
+    let links = map (λ (l : LinkState). shown_rows l.rules l.rows) state.links in
     let all = each-append IsSmall zones links (all_map (λ (z : ZoneState). IsSmall z.rows) IsSmall (λ (z : ZoneState). z.rows) (λ z h. h) state.zones b.small)
-    (all_map AreRows IsSmall (λ (l : LinkState). shown_rows l.domain l.rows) small-shown state.links b.links) in
+    (all_map AreRows IsSmall (λ (l : LinkState). shown_rows l.rules l.rows) small-shown state.links b.links) in
     sum _ (length (zones ++ links)) (length zones) (length links) (sets-size name [] (zones ++ links) all) (length-append zones links)
-    (subst (λ n. n ≤ 16) (sym (length-map state.zones (λ (z : ZoneState). z.rows))) b.few) (subst (λ n. n ≤ 16) (sym (length-map state.links (λ (l : LinkState). shown_rows l.domain l.rows))) b.few_links)
+    (subst (λ n. n ≤ 16) (sym (length-map state.zones (λ (z : ZoneState). z.rows))) b.few) (subst (λ n. n ≤ 16) (sym (length-map state.links (λ (l : LinkState). shown_rows l.rules l.rows))) b.few_links)
   where
     sum : (n m z l : ℕ) → n ≤ 0 + 60000 * m → m ≡ z + l → z ≤ 16 → l ≤ 16 → n ≤ 1920000
     sum n m z l h same few few_links = omega (arith, h, same, few, few_links)

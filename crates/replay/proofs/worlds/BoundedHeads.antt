@@ -78,12 +78,12 @@ zone-turn known head apex serial mode none h =
     }
 
 -- a further link
-link-turn : (known : Known) (head : Head) (w : Word) (domain : Labels) → is_none (home_fault known.homes (domain, true)) ≡ true → HeadIs known head
-    → HeadIs (known_in_head known (link w domain)) (with_head head (link w domain))
-link-turn known head w domain none h =
+link-turn : (known : Known) (head : Head) (w : Word) (domain : Labels) (most : ℕ) → is_none (home_fault known.homes (domain, true)) ≡ true → HeadIs known head
+    → HeadIs (known_in_head known (link w domain most)) (with_head head (link w domain most))
+link-turn known head w domain most none h =
     let no_fault = free (nat_le 16 (length (filter is_link known.homes))) (nat_lt 200 (length (octets domain))) _ none in
     let few : length (filter is_link known.homes) < 16 = few_below (length (filter is_link known.homes)) no_fault.0 in
-    let l : LinkState = record { domain = domain; rows = [] } in
+    let l : LinkState = record { rules = record { domain = domain; cap = most }; rows = [] } in
     let longer : length (head.start.links ++ l ∷ []) ≡ length head.start.links + 1 = length-append head.start.links (l ∷ []) in
     let more : length (filter is_link (known.homes ++ (domain, true) ∷ [])) ≡ length (filter is_link known.homes) + 1 =
     ap length (filter-append is_link known.homes ((domain, true) ∷ [])) ∙ length-append (filter is_link known.homes) ((domain, true) ∷ []) in
@@ -92,7 +92,7 @@ link-turn known head w domain none h =
       link_count = longer ∙ ap (λ n. n + 1) h.link_count ∙ sym more;
       bounded = record {
         few_links = sum _ _ _ longer h.link_count few;
-        links = each-append AreRows head.start.links (l ∷ []) h.bounded.links (small-silent domain, tt);
+        links = each-append AreRows head.start.links (l ∷ []) h.bounded.links (small-silent (record { domain = domain; cap = most }), tt);
         few = h.bounded.few;
         small = h.bounded.small;
       };
@@ -102,7 +102,7 @@ link-turn known head w domain none h =
 head-turn : (known : Known) (head : Head) (line : HeadLine) → may_head known line ≡ true → HeadIs known head → HeadIs (known_in_head known line) (with_head head line)
 head-turn known head (timers i k) may h = record { count = h.count; link_count = h.link_count; bounded = h.bounded }
 head-turn known head (zone apex serial mode) may h = zone-turn known head apex serial mode may h
-head-turn known head (link w domain) may h = link-turn known head w domain (both_true (not (is_among known.links w)) (is_none (home_fault known.homes (domain, true))) may).1 h
+head-turn known head (link w domain most) may h = link-turn known head w domain most (both_true (not (is_among known.links w)) (is_none (home_fault known.homes (domain, true))) may).1 h
 
 -- and one that is none, behind which the same homes are known
 event-turn : (test : Bool) (known behind later : Known) (head : Head) → behind.homes ≡ known.homes → allowed test behind ≡ Some later → HeadIs known head → HeadIs later head

@@ -88,6 +88,7 @@ any-ready world = any-seats world.seats
 -- an event on a link brings what its line sends
 pub link-brings : (Good : List ℕ → Type 0) (event : LinkEvent) (w : Word) (world : World) → AllByRecursion Good (sent_by (link_event w event)) → BringsGood Good (link_call event w world)
 link-brings Good (link_events.Hear datagram) w world q = q.0
+link-brings Good link_events.Gone w world q = tt
 
 module _ (Good : List ℕ → Type 0) (P : Hub → Type 0) (kept : IsKept Good P) (parts : InParts Good) (C : Client → Type 0) (clients : KeepsClients Good C) where
   abbrev Ready : Seat → Type 0

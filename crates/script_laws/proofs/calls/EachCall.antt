@@ -13,7 +13,7 @@ use Rattle.dsosession.specs.declared.session.EndReason.{EndReason}
 use Rattle.pushserver.specs.PlainHubs.{Hub}
 use Rattle.pushserver.specs.Hubs as hubs
 use Rattle.pushserver.specs.Hubs.{now, connect, taken_by}
-use Rattle.pushserver.specs.Calls.{HubCall, updates as updating, hears as hearing, moves as moving, connects as connecting, takes as taking, gives as giving, stops as stopping, ends as ending}
+use Rattle.pushserver.specs.Calls.{HubCall, updates as updating, hears as hearing, goes as going, moves as moving, connects as connecting, takes as taking, gives as giving, stops as stopping, ends as ending}
 use Rattle.pushserver.proofs.session_steps.Lists.{found-each}
 use Rattle.pushclient.specs.Clients.{Client, closed_as, is_connected, output_of}
 use Rattle.pushclient.specs.Steps as steps
@@ -41,6 +41,7 @@ use Rattle.script_laws.proofs.calls.Emitting.{all-emitted, all-exchanged}
 pub record HoldsOfCalls (P : HubCall → Type 0) (Good : List ℕ → Type 0) (Has : ℕ → Type 0) : Type 0 where
   pub updates : (message : List ℕ) → AreOctets message → P (updating message)
   pub hears : (link : ℕ) (datagram : List ℕ) → AreOctets datagram → P (hearing link datagram)
+  pub goes : (link : ℕ) → P (going link)
   pub moves : (t : ℕ) → P (moving t)
   pub connects : P connecting
   pub takes : (number : ℕ) (piece : List ℕ) → Has number → Good piece → P (taking number piece)
@@ -221,6 +222,7 @@ module _ (P : HubCall → Type 0) (Good : List ℕ → Type 0) (Has : ℕ → Ty
 
   link-each : (event : LinkEvent) (w : Word) (world : World) → IsLinkWithin event → Each (link_calls event w world)
   link-each (link_events.Hear datagram) w world is = (holds.hears _ datagram is.0, tt)
+  link-each link_events.Gone w world is = (holds.goes _, tt)
 
   client-each : (event : ClientEvent) (w : Word) (world : World) → Each (client_calls event w world)
   client-each client_events.Open w world = opens-each w world

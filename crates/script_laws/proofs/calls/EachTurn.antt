@@ -38,7 +38,7 @@ use Rattle.pushserver.specs.declared.given.Given.TheVariants.{Worked}
 use Rattle.pushserver.specs.PlainHubs.{Hub, Session, Subscription, Made, Giving, asked_of, first_answer}
 use Rattle.pushserver.specs.Hubs.{now, state_now, newest, keeps_now, tells_now, session_of, in_session, behind_at, ended_behind, ends_behind, entered_keeping, entry_changes, can_enter, update}
 use Rattle.pushserver.specs.Giving.{has_home, copies_or, given_after, reconfirm, reconfirms, by_request, give, reacted, after_reaction}
-use Rattle.pushserver.specs.Calls.{HubCall, updates, hears, moves, connects, takes, gives, stops, ends as ending, called, after_calls}
+use Rattle.pushserver.specs.Calls.{HubCall, updates, hears, goes, moves, connects, takes, gives, stops, ends as ending, called, after_calls}
 use Rattle.pushserver.specs.Laws.{IsAcceptable}
 use Rattle.pushserver.proofs.SessionLists.{same-number, found-in, found-all}
 use Rattle.pushserver.proofs.hub_steps.Cases.{enters_update, update_as, key_as, session_as, request_as, copies_as, found_as}
@@ -146,6 +146,7 @@ has-its-turn number [] hub [] message back is = absurd cc
 has-its-turn number [] hub (f ∷ fs) message back is = absurd cc
 has-its-turn number (updates m ∷ calls) hub front message back is = passes number (updates m) calls hub front message back refl (has-its-turn number calls) is
 has-its-turn number (hears link datagram ∷ calls) hub front message back is = passes number (hears link datagram) calls hub front message back refl (has-its-turn number calls) is
+has-its-turn number (goes link ∷ calls) hub front message back is = passes number (goes link) calls hub front message back refl (has-its-turn number calls) is
 has-its-turn number (moves t ∷ calls) hub front message back is = passes number (moves t) calls hub front message back refl (has-its-turn number calls) is
 has-its-turn number (connects ∷ calls) hub front message back is = passes number connects calls hub front message back refl (has-its-turn number calls) is
 has-its-turn number (takes other piece ∷ calls) hub front message back is = passes number (takes other piece) calls hub front message back refl (has-its-turn number calls) is

@@ -22,7 +22,7 @@ use Rattle.push_base.specs.Cases.{is_empty}
 use Rattle.pushserver.specs.Giving.{did, by_standing, give}
 use Rattle.pushserver.proofs.hub_steps.Cases.{output_as, give_as}
 use Rattle.replay.proofs.turns.Turns.{emitted-turn}
-use Rattle.pushserver.specs.Calls.{HubCall, updates, hears, moves, connects, takes as taking, gives, stops, ends, after_calls}
+use Rattle.pushserver.specs.Calls.{HubCall, updates, hears, goes, moves, connects, takes as taking, gives, stops, ends, after_calls}
 use Rattle.pushserver.proofs.SessionLists.{found-in, number-itself}
 use Rattle.pushtelling.specs.Runs.{takes_in, handed_out, taken_in}
 use Rattle.replay.specs.PassedOctets.{Emitted, Exchanged, emitted, nothing_emitted, with_giving, exchanged, enough}
@@ -134,6 +134,7 @@ module _ (number : ℕ) where
       of_all (gives other room ∷ calls) h all = of_all calls (give h other room).hub all.1
       of_all (updates m ∷ calls) h all = absurd all.0
       of_all (hears l m ∷ calls) h all = absurd all.0
+      of_all (goes l ∷ calls) h all = absurd all.0
       of_all (moves t ∷ calls) h all = absurd all.0
       of_all (connects ∷ calls) h all = absurd all.0
       of_all (taking other piece ∷ calls) h all = absurd all.0

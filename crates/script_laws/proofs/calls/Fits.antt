@@ -53,6 +53,7 @@ hub-brings hub_events.Point is = tt
 
 link-brings : (w : Word) (event : LinkEvent) → IsLinkWithin event → AllByRecursion AreOctets (sent_by (link_event w event))
 link-brings w (link_events.Hear datagram) is = (is.0, tt)
+link-brings w link_events.Gone is = tt
 
 call-brings : (w : Word) (call : Call) → IsCallWithin call → AllByRecursion AreOctets (sent_by (client_call w call))
 call-brings w (calls.Ask question) is = (name-octets question.name (named question is), tt)
@@ -89,6 +90,7 @@ fits-calls : HoldsOfCalls FitsCall AreOctets Any
 fits-calls = record {
   updates = λ message good. (good, tt);
   hears = λ link datagram good. (good, tt);
+  goes = λ link. (tt, tt);
   moves = λ t. (tt, tt);
   connects = (tt, tt);
   takes = λ number piece has good. (good, tt);

@@ -22,9 +22,9 @@ use Rattle.pushserver.specs.declared.given.Given.TheVariants.{Nothing, End, Endi
 use Rattle.pushserver.specs.PlainHubs.{Hub, Session, Made, Giving, plain_keeps, nets_of}
 use Rattle.pushserver.specs.Hubs.{now, keeps_now, tells_now, session_of, in_session, entered, entered_keeping, disconnect}
 use Rattle.pushserver.specs.Giving.{give, did, after_reaction, after_packing, by_standing}
-use Rattle.pushserver.specs.Calls.{HubCall, updates, hears, moves, connects, takes as taking, gives, stops, ends as ending, called, after_calls}
+use Rattle.pushserver.specs.Calls.{HubCall, updates, hears, goes, moves, connects, takes as taking, gives, stops, ends as ending, called, after_calls}
 use Rattle.pushserver.proofs.SessionLists.{same-number, other-number, found-changed, found-last, found-left}
-use Rattle.pushserver.proofs.Walks.{AnyMessage, EndsSome, Entering, Walks, entering-kept, timed-kept, walks-give, holds-update, holds-hear, holds-moment, holds-connect, with_new}
+use Rattle.pushserver.proofs.Walks.{AnyMessage, EndsSome, Entering, Walks, entering-kept, timed-kept, walks-give, holds-update, holds-hear, holds-going, holds-moment, holds-connect, with_new}
 use Rattle.pushserver.proofs.hub_steps.Cases.{found_as, works_as, output_as, give_as}
 use Rattle.pushtelling.specs.Runs.{is_live, first_of}
 use Rattle.pushtelling.proofs.OneSession.{OfOne, one-changed, one-last, one-left}
@@ -303,6 +303,7 @@ module _ (number : ℕ) where
     sofar-called : (call : HubCall) (hub : Hub) → Sofar made hub → Sofar (made ++ makes number hub call) (called call hub)
     sofar-called (updates message) hub h = still (called (updates message) hub) (holds-update AnyMessage (Sofar made) hub (λ entry by. enters_keeping hub entry by h) h message tt)
     sofar-called (hears link datagram) hub h = still (called (hears link datagram) hub) (holds-hear AnyMessage (Sofar made) hub (λ entry by. enters_keeping hub entry by h) h link datagram tt)
+    sofar-called (goes link) hub h = still (called (goes link) hub) (holds-going AnyMessage (Sofar made) hub (λ entry by. enters_keeping hub entry by h) h link)
     sofar-called (moves t) hub h = still (called (moves t) hub) (holds-moment AnyMessage (Sofar made) hub (λ entry by. enters_keeping hub entry by h) h (timed-kept (Sofar made) ends-some) t)
     sofar-called connects hub h = still (called connects hub) (holds-connect (Sofar made) hub (comes hub h) h)
     sofar-called (taking other piece) hub h = still (called (taking other piece) hub) (in-changed hub other (with_piece piece) (λ s. refl) h)

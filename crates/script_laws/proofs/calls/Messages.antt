@@ -15,7 +15,7 @@ use Rattle.dsotlv.proofs.FrameLaws.{frames_found, frames_there}
 use Rattle.dsotlv.proofs.StreamLaws.{one_by_one}
 use Rattle.pushserver.specs.PlainHubs.{Hub, Session}
 use Rattle.pushserver.specs.Hubs.{session_of}
-use Rattle.pushserver.specs.Calls.{HubCall, updates, hears, moves, connects, takes, gives, stops, ends, called, after_calls, BringsOctets}
+use Rattle.pushserver.specs.Calls.{HubCall, updates, hears, goes, moves, connects, takes, gives, stops, ends, called, after_calls, BringsOctets}
 use Rattle.pushserver.proofs.Walks.{keeps-called, keeps-calls, BringsGood}
 use Rattle.pushtelling.specs.Runs.{is_live, first_of, message_up, reacts_to, reacted_to, taken_in}
 use Rattle.pushtelling.proofs.Running.{made_goes_out, each_is_reacted_to_once}
@@ -50,6 +50,7 @@ up-small hub number h = by (session_of hub number) refl
 called-small : (number : ℕ) (call : HubCall) (hub : Hub) → HoldsOctets hub → AllByRecursion IsSmall (reacts_to number hub call)
 called-small number (updates message) hub h = tt
 called-small number (hears link datagram) hub h = tt
+called-small number (goes link) hub h = tt
 called-small number (moves t) hub h = tt
 called-small number connects hub h = tt
 called-small number (takes other piece) hub h = tt
@@ -68,6 +69,7 @@ brings-good (call ∷ calls) good = (by call good.0, brings-good calls good.1)
     by : (c : HubCall) → BringsOctets c → BringsGood AreOctets c
     by (updates message) good = good
     by (hears link datagram) good = good
+    by (goes link) good = tt
     by (moves t) good = tt
     by connects good = tt
     by (takes other piece) good = good

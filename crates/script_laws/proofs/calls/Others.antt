@@ -9,9 +9,9 @@ use Rattle.pushsession.specs.Sessions.{is_open, new_session, with_piece, asked_t
 use Rattle.pushsession.specs.declared.session_status.SessionStatus.TheVariants.{AskedToStop}
 use Rattle.pushserver.specs.PlainHubs.{Hub, Session, plain_keeps}
 use Rattle.pushserver.specs.Hubs.{now, keeps_now, in_session, entered, entered_keeping}
-use Rattle.pushserver.specs.Calls.{HubCall, updates, hears, moves, connects, takes as taking, gives, stops, ends, called, after_calls}
+use Rattle.pushserver.specs.Calls.{HubCall, updates, hears, goes, moves, connects, takes as taking, gives, stops, ends, called, after_calls}
 use Rattle.pushserver.proofs.SessionLists.{other-number}
-use Rattle.pushserver.proofs.Walks.{AnyMessage, Entering, EndsSome, entering-kept, timed-kept, holds-update, holds-hear, holds-moment, holds-connect, with_new, Walks, walks-give}
+use Rattle.pushserver.proofs.Walks.{AnyMessage, Entering, EndsSome, entering-kept, timed-kept, holds-update, holds-hear, holds-going, holds-moment, holds-connect, with_new, Walks, walks-give}
 use Rattle.history.specs.declared.entry.Entry.{Entry}
 use Rattle.pushtelling.proofs.OneSession.{OfOne, one-changed, one-last, one-left}
 use Rattle.pushtelling.proofs.Tells.{by_entry}
@@ -78,6 +78,7 @@ module _ (number : ℕ) where
   other-serves : (call : HubCall) (hub : Hub) → NotFor number call → ServedAt number hub → ServedAt number (called call hub)
   other-serves (updates message) hub other h = holds-update AnyMessage (ServedAt number) hub (λ entry by. enters_keeping hub entry by h) h message tt
   other-serves (hears link datagram) hub other h = holds-hear AnyMessage (ServedAt number) hub (λ entry by. enters_keeping hub entry by h) h link datagram tt
+  other-serves (goes link) hub other h = holds-going AnyMessage (ServedAt number) hub (λ entry by. enters_keeping hub entry by h) h link
   other-serves (moves t) hub other h = holds-moment AnyMessage (ServedAt number) hub (λ entry by. enters_keeping hub entry by h) h (timed-kept (ServedAt number) ends-some) t
   other-serves connects hub other h = holds-connect (ServedAt number) hub (makes hub h) h
   other-serves (taking n piece) hub other h = other-served hub n (with_piece piece) other h

@@ -55,6 +55,7 @@ module _ (n : ℕ) where
   apart-calls = record {
     updates = λ message good. tt;
     hears = λ link datagram good. tt;
+    goes = λ link. tt;
     moves = λ t. tt;
     connects = tt;
     takes = λ number piece other good. other;

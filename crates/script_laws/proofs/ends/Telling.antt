@@ -25,7 +25,7 @@ use Rattle.scripts.specs.Scripts.{Known, lone_of, may_happen_to, may_meet, in_ev
 use Rattle.replay.specs.World.{World, Seat, seat_of, with_seat, start_world}
 use Rattle.scripts.specs.Words.{spaced}
 use Rattle.replay.specs.TextWords.{record_line, by_history, show_at}
-use Rattle.replay.specs.Text.{Printed, quietly, printing, call_word, called, asks, heard_words, opens_lone, opens_hub, opens, shows, hub_does, link_does, client_does, session_does, line_does, world_after}
+use Rattle.replay.specs.Text.{Printed, quietly, printing, call_word, called, asks, heard_words, yes_or_no, link_number, opens_lone, opens_hub, opens, shows, hub_does, link_does, client_does, session_does, line_does, world_after}
 use Rattle.replay.proofs.worlds.SeatLines.{asks_by}
 use Rattle.script_laws.specs.Joined.{ShownToEach}
 use Rattle.script_laws.specs.Lines.{IsWord, IsSessionWithin, IsRead}
@@ -58,6 +58,9 @@ module _ (w : Word) where
   heard-say : (heard : Heard) → Say (spaced (heard_words heard ∷ []) ∷ [])
   heard-say Entered = one-line (codes "heard") refl
   heard-say (Ignored why) = one-line (heard_words (Ignored why)) refl
+
+  gone-say : (v : Word) (is_gone : Bool) → Say (spaced (codes "gone" ∷ v ∷ yes_or_no is_gone ∷ []) ∷ [])
+  gone-say v is_gone = one-line (spaced (codes "gone" ∷ v ∷ yes_or_no is_gone ∷ [])) refl
 
   module _ (world : World) where
     asks-say : (call : Call) (v : Word) → Say (asks call v world).1
@@ -118,6 +121,7 @@ module _ (laws : LineLaws) (all : List Word) (words : AllByRecursion IsWord all)
 
   link-says : (v : Word) (event : LinkEvent) → Say own.word (link_does event v world).1
   link-says v (link_events.Hear datagram) = heard-say own.word _
+  link-says v link_events.Gone = gone-say own.word v (hubs.link_gone world.hub (link_number v world)).0
 
   client-says : (v : Word) (event : ClientEvent) → may_happen_to known.clients v event ≡ true → Say own.word (client_does by_history event v world).1
   client-says v client_events.Open may = opens-say own.word world v

@@ -5,7 +5,7 @@ use Rattle.std.specs.List.{AllByRecursion}
 use Rattle.std.specs.Str.{bytes_eq}
 use Rattle.coalesce.proofs.ReadBack.{each-append}
 use Rattle.pushclient.specs.SoundClients.{count_of}
-use Rattle.pushserver.specs.Calls.{HubCall, updates, hears, moves, connects, takes, gives, stops, ends}
+use Rattle.pushserver.specs.Calls.{HubCall, updates, hears, goes, moves, connects, takes, gives, stops, ends}
 use Rattle.pushserver.proofs.hub_steps.Pairs.{all-weaken}
 use Rattle.scripts.specs.Lines.{Word}
 use Rattle.replay.specs.World.{Seat, session_number}
@@ -25,6 +25,7 @@ own-call number (takes other piece) own = (ap (λ (n : ℕ). Some n) (sym own), 
 own-call number (gives other room) own = (ap (λ (n : ℕ). Some n) (sym own), tt)
 own-call number (updates message) own = absurd own
 own-call number (hears link datagram) own = absurd own
+own-call number (goes link) own = absurd own
 own-call number (moves t) own = absurd own
 own-call number connects own = absurd own
 own-call number (stops other rcode delay) own = absurd own
@@ -49,6 +50,7 @@ of-others own number (gives other room) apart is = λ same. apart other is (ap (
 of-others own number (ends other) apart is = λ same. apart other is (ap (λ (n : ℕ). Some n) same)
 of-others own number (updates message) apart is = tt
 of-others own number (hears link datagram) apart is = tt
+of-others own number (goes link) apart is = tt
 of-others own number (moves t) apart is = tt
 of-others own number connects apart is = tt
 of-others own number (stops other rcode delay) apart is = tt

@@ -8,7 +8,7 @@ use Rattle.std.specs.Option.{option_or}
 use Rattle.std.proofs.lemmas.List.{map-append}
 use Rattle.push_base.specs.Limits.{max_number}
 use Rattle.pushsession.specs.Sessions.{new_session, with_piece, asked_to_stop, ended_where, without_first}
-use Rattle.pushserver.specs.Calls.{HubCall, updates, hears, moves, connects, takes, gives, stops, ends, called, after_calls}
+use Rattle.pushserver.specs.Calls.{HubCall, updates, hears, goes, moves, connects, takes, gives, stops, ends, called, after_calls}
 use Rattle.pushserver.specs.Hubs.{now, keeps_now, session_of, in_session, connect, max_sessions}
 use Rattle.pushserver.specs.PlainHubs.{Hub, Session, plain_keeps}
 use Rattle.pushserver.proofs.SessionLists.{found-last, number-itself}
@@ -43,6 +43,7 @@ module _ (hub : Hub) where
   called-keeps : (call : HubCall) (later : Hub) → KeepsNumbers call → HasNumbers later → HasNumbers (called call later)
   called-keeps (updates message) later keeps h = keeps-inside HasNumbers numbers-kept (updates message) later tt h
   called-keeps (hears link datagram) later keeps h = keeps-inside HasNumbers numbers-kept (hears link datagram) later tt h
+  called-keeps (goes link) later keeps h = keeps-inside HasNumbers numbers-kept (goes link) later tt h
   called-keeps (moves t) later keeps h = keeps-inside HasNumbers numbers-kept (moves t) later tt h
   called-keeps connects later keeps h = absurd keeps
   called-keeps (takes number piece) later keeps h = keeps-inside HasNumbers numbers-kept (takes number piece) later tt h

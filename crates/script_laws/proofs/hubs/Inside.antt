@@ -6,10 +6,10 @@ use Rattle.std.proofs.Common.{ℕ, List, Option}
 use Rattle.dsosession.specs.declared.session.EndReason.{EndReason}
 use Rattle.history.specs.declared.entry.Entry.{Entry}
 use Rattle.pushsession.specs.Sessions.{ended_where, without_first}
-use Rattle.pushserver.specs.Calls.{HubCall, updates, hears, moves, connects, takes, gives, stops, ends as ending, called}
+use Rattle.pushserver.specs.Calls.{HubCall, updates, hears, goes, moves, connects, takes, gives, stops, ends as ending, called}
 use Rattle.pushserver.specs.Hubs.{each_session, in_session, entered, entered_keeping, take_octets}
 use Rattle.pushserver.specs.PlainHubs.{Hub, Session, plain_keeps}
-use Rattle.pushserver.proofs.Walks.{AnyMessage, Step, Entering, entering-kept, timed-kept, Walks, holds-update, holds-hear, holds-moment, walks-give}
+use Rattle.pushserver.proofs.Walks.{AnyMessage, Step, Entering, entering-kept, timed-kept, Walks, holds-update, holds-hear, holds-going, holds-moment, walks-give}
 
 abbrev pub IsInside : HubCall → Type 0
 IsInside connects = ⊥
@@ -41,6 +41,7 @@ module _ (P : Hub → Type 0) (k : IsKeptInside P) where
   pub keeps-inside : (call : HubCall) (hub : Hub) → IsInside call → P hub → P (called call hub)
   keeps-inside (updates message) hub inside h = holds-update AnyMessage P hub (λ entry by. enters_keeping hub entry by h) h message tt
   keeps-inside (hears link datagram) hub inside h = holds-hear AnyMessage P hub (λ entry by. enters_keeping hub entry by h) h link datagram tt
+  keeps-inside (goes link) hub inside h = holds-going AnyMessage P hub (λ entry by. enters_keeping hub entry by h) h link
   keeps-inside (moves t) hub inside h = holds-moment AnyMessage P hub (λ entry by. enters_keeping hub entry by h) h (timed-kept P k.ends) t
   keeps-inside connects hub inside h = absurd inside
   keeps-inside (takes number piece) hub inside h = k.takes_in hub number piece h

@@ -8,14 +8,14 @@ use Rattle.dsosession.specs.declared.session.EndReason.{EndReason}
 use Rattle.dsosession.specs.declared.session.EndReason.TheVariants as reasons
 use Rattle.history.specs.declared.entry.Entry.{Entry}
 use Rattle.pushsession.specs.Sessions.{new_session, with_piece, asked_to_stop, due, ended_with, ended_where, timed}
-use Rattle.pushserver.specs.Calls.{HubCall, updates, hears, moves, connects, takes, gives, stops, ends, called}
+use Rattle.pushserver.specs.Calls.{HubCall, updates, hears, goes, moves, connects, takes, gives, stops, ends, called}
 use Rattle.pushserver.specs.Giving.{give}
 use Rattle.pushserver.specs.Hubs.{now, keeps_now, session_of, newest, each_session, entered, behind_at, ends_behind, entered_keeping, disconnect}
 use Rattle.pushserver.specs.Laws.{LeavesSession}
 use Rattle.pushserver.specs.PlainHubs.{Hub, Session, Queue, plain_keeps}
 use Rattle.pushserver.proofs.OtherSessions.{give_changes_one_session}
 use Rattle.pushserver.proofs.SessionLists.{found-all, found-changed, found-elsewhere, found-last, found-left}
-use Rattle.pushserver.proofs.Walks.{AnyMessage, holds-update, holds-hear, holds-moment, holds-connect, with_new}
+use Rattle.pushserver.proofs.Walks.{AnyMessage, holds-update, holds-hear, holds-going, holds-moment, holds-connect, with_new}
 use Rattle.pushtelling.proofs.Tells.{by_entry}
 use Rattle.flight_laws.specs.OtherCalls.{IsOfOthers}
 use Rattle.replay.specs.Promises.{is_end_by_itself}
@@ -84,6 +84,7 @@ module _ (number : ℕ) (Q : Session → Type 0)
   pub others-keep : (hub : Hub) (call : HubCall) → IsOfOthers number call → IsThereSo hub → IsThereSo (called call hub)
   others-keep hub (updates message) apart h = holds-update AnyMessage IsThereSo hub (λ entry by. behind-keeping hub entry h) h message tt
   others-keep hub (hears link datagram) apart h = holds-hear AnyMessage IsThereSo hub (λ entry by. behind-keeping hub entry h) h link datagram tt
+  others-keep hub (goes link) apart h = holds-going AnyMessage IsThereSo hub (λ entry by. behind-keeping hub entry h) h link
   others-keep hub (moves t) apart h = holds-moment AnyMessage IsThereSo hub (λ entry by. behind-keeping hub entry h) h behind-timers t
   others-keep hub connects apart h = holds-connect IsThereSo hub (behind-connection hub h) h
   others-keep hub (takes other piece) apart (session, there, q) = (session, found-elsewhere other (with_piece piece) number apart hub.sessions ∙ there, q)

@@ -4,13 +4,13 @@
 use Rattle.std.proofs.Common.{List, [], ◌∷◌, sym, subst}
 use Rattle.dsosession.specs.declared.session.Timers.{Timers}
 use Rattle.history.specs.States.{State}
-use Rattle.pushserver.specs.Calls.{HubCall, updates, hears, moves, connects, takes, gives, stops, ends, called, after_calls}
+use Rattle.pushserver.specs.Calls.{HubCall, updates, hears, goes, moves, connects, takes, gives, stops, ends, called, after_calls}
 use Rattle.pushserver.specs.Giving.{give}
-use Rattle.pushserver.specs.Hubs.{update, hear, moment, connect, take_octets, stop, disconnect}
+use Rattle.pushserver.specs.Hubs.{update, hear, link_gone, moment, connect, take_octets, stop, disconnect}
 use Rattle.pushserver.specs.KeptHubs.{KeptHub, StandsFor, new_kept}
 use Rattle.pushserver.specs.PlainHubs.{Hub, new_hub}
 use Rattle.pushserver.specs.SoundHubs.{IsSoundHub}
-use Rattle.pushserver.proofs.hub_steps.Calls.{updates_stand, hears_stand, moments_stand, connects_stand, takes_stand, stops_stand, ends_stand}
+use Rattle.pushserver.proofs.hub_steps.Calls.{updates_stand, hears_stand, goings_stand, moments_stand, connects_stand, takes_stand, stops_stand, ends_stand}
 use Rattle.pushserver.proofs.hub_steps.Giving.{gives_stand}
 use Rattle.pushserver.proofs.told_rows.Hubs.{new_stands}
 use Rattle.pushtelling.specs.Laws.{IsStartOfHomes}
@@ -26,6 +26,7 @@ IsStoodFor hub = (k : KeptHub) × StandsFor k hub
 called-stands : (call : HubCall) (hub : Hub) → FitsCall call → IsStoodFor hub → IsStoodFor (called call hub)
 called-stands (updates message) hub fit (k, s) = ((update k message).1, (updates_stand k hub message s fit.0).1)
 called-stands (hears link datagram) hub fit (k, s) = ((hear k link datagram).1, (hears_stand k hub link datagram s fit.0).1)
+called-stands (goes link) hub fit (k, s) = ((link_gone k link).1, (goings_stand k hub link s).1)
 called-stands (moves t) hub fit (k, s) = (moment k t, moments_stand k hub t s)
 called-stands connects hub fit (k, s) = ((connect k).1, (connects_stand k hub s).1)
 called-stands (takes number piece) hub fit (k, s) = (take_octets k number piece, (takes_stand k hub number piece s fit.0).1)

@@ -7,7 +7,7 @@ use Rattle.coalesce.proofs.ReadBack.{each-append}
 use Rattle.rrset.proofs.Places.{all_filter}
 use Rattle.pushsession.specs.Sessions.{new_session, is_open, with_piece, asked_to_stop, ended_where, without_first}
 use Rattle.pushsession.specs.declared.session_status.SessionStatus.TheVariants.{AskedToStop}
-use Rattle.pushserver.specs.Calls.{HubCall, updates, hears, moves, connects, takes, gives, stops, ends, called, after_calls}
+use Rattle.pushserver.specs.Calls.{HubCall, updates, hears, goes, moves, connects, takes, gives, stops, ends, called, after_calls}
 use Rattle.pushserver.specs.Hubs.{now, keeps_now, in_session}
 use Rattle.pushserver.specs.PlainHubs.{Hub, Session, plain_keeps}
 use Rattle.pushserver.proofs.SessionLists.{each-changed}
@@ -43,6 +43,7 @@ fit-kept = record {
 called-fit : (call : HubCall) (hub : Hub) → FitsCall call → HaveFitStops hub → HaveFitStops (called call hub)
 called-fit (updates message) hub fit h = keeps-inside HaveFitStops fit-kept (updates message) hub tt h
 called-fit (hears link datagram) hub fit h = keeps-inside HaveFitStops fit-kept (hears link datagram) hub tt h
+called-fit (goes link) hub fit h = keeps-inside HaveFitStops fit-kept (goes link) hub tt h
 called-fit (moves t) hub fit h = keeps-inside HaveFitStops fit-kept (moves t) hub tt h
 called-fit connects hub fit h =
     holds-connect HaveFitStops hub (each-append (λ (e : ℕ × Session). HasFitStop e.1) hub.sessions ((hub.numbers_given, new_session (keeps_now hub) (now hub)) ∷ []) h (tt, tt)) h

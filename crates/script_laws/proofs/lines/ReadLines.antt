@@ -114,13 +114,13 @@ each_within : (w : Word) (ws : List Word) → OnEach AreWithin w ws
 each_within w ws = record {
   on_head = (
     timers_reads AreWithin (λ v i is x k at long. (below_max i (number_at_most max_u32 v i is), le_from least_keepalive k long, below_max k (number_at_most max_u32 x k at))) ws,
-    (zone_reads AreWithin (λ v apex is x serial at mode. (name_is_name v apex is, below_max serial (number_at_most max_u32 x serial at))) ws, (link_reads AreWithin (λ v u is x domain at. name_is_name x domain at) ws, tt)),
+    (zone_reads AreWithin (λ v apex is x serial at mode. (name_is_name v apex is, below_max serial (number_at_most max_u32 x serial at))) ws, (link_reads AreWithin (λ v u is x domain at most. name_is_name x domain at) ws, tt)),
   );
   on_hub = (
     at_reads AreWithin (λ v t is. number_at_most max_moment v t is) ws,
     (octets_reads AreWithin (λ o. hub_event (hub_events.Update o)) (λ v o is. written_gives v o is) ws, (alone_reads AreWithin (hub_event hub_events.Point) tt ws, tt)),
   );
-  on_link = (word_octets_reads AreWithin (λ u o. link_event u (link_events.Hear o)) (λ v u is x o at. written_gives x o at) ws, tt);
+  on_link = (word_octets_reads AreWithin (λ u o. link_event u (link_events.Hear o)) (λ v u is x o at. written_gives x o at) ws, (word_reads AreWithin (λ u. link_event u link_events.Gone) (λ v u is. tt) ws, tt));
   on_session = (
     word_octets_reads AreWithin send (λ v u is x o at. (word_gives v u is, written_gives x o at)) ws,
     (

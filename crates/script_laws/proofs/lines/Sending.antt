@@ -44,6 +44,7 @@ number-new w n (e ∷ es) none = by (bytes_eq e.0 w) none (number-new w n es)
 -- a call on a link fits, and neither connects nor is for a session
 link-is-own : (event : LinkEvent) (w : Word) (world : World) (session : Option ℕ) → IsLinkWithin event → FitsCall (link_call event w world) × KeepsNumbers (link_call event w world) × IsForNoOther session (link_call event w world)
 link-is-own (link_events.Hear datagram) w world session within = ((within.0, tt), tt, tt)
+link-is-own link_events.Gone w world session within = ((tt, tt), tt, tt)
 
 module _ (laws : LineLaws) (all : List Word) (shown : ShownToEach) where
   -- ---- calls of the hub

@@ -90,14 +90,14 @@ module _ (known : Known) (head : Head) (h : HeadFits known head) where
         granted = h.granted;
       }
 
-  head-link : (w : Word) (domain : Labels) → is_none (home_fault known.homes (domain, true)) ≡ true → IsTrue (is_name domain)
-      → HeadFits (with_home (domain, true) (record known { links = known.links ++ w ∷ [] })) (with_head head (link w domain))
-  head-link w domain free name =
-      let l : LinkState = record { domain = domain; rows = [] } in
+  head-link : (w : Word) (domain : Labels) (most : ℕ) → is_none (home_fault known.homes (domain, true)) ≡ true → IsTrue (is_name domain)
+      → HeadFits (with_home (domain, true) (record known { links = known.links ++ w ∷ [] })) (with_head head (link w domain most))
+  head-link w domain most free name =
+      let l : LinkState = record { rules = record { domain = domain; cap = most }; rows = [] } in
       record {
         homes = record {
           zones = left (λ n. not n.1) (domain, true) (named_zones head.start.zones) refl h.homes.zones;
-          links = kept (λ n. n.1) (domain, true) (named_links head.start.links) refl h.homes.links ∙ sym (map-append (λ (y : LinkState). (y.domain, true)) head.start.links (l ∷ []));
+          links = kept (λ n. n.1) (domain, true) (named_links head.start.links) refl h.homes.links ∙ sym (map-append (λ (y : LinkState). (y.rules.domain, true)) head.start.links (l ∷ []));
         };
         together = together-then (domain, true) free;
         names = each-append IsNamedWell known.homes ((domain, true) ∷ []) h.names (name, tt);
@@ -131,7 +131,7 @@ module _ (all : List Word) (known later : Known) (head : Head) (h : HeadFits kno
   head-more : (line : HeadLine) → IsHeadWithin line → may_head known line ≡ true → HeadFits (known_in_head known line) (with_head head line)
   head-more (timers i k) within may = record { homes = h.homes; together = h.together; names = h.names; zones = h.zones; links = h.links; now = h.now; granted = within }
   head-more (zone apex serial mode) within may = head-zone known head h apex serial mode may within.0
-  head-more (link w domain) within may = head-link known head h w domain (both_true (not (is_among known.links w)) (is_none (home_fault known.homes (domain, true))) may).1 within
+  head-more (link w domain most) within may = head-link known head h w domain most (both_true (not (is_among known.links w)) (is_none (home_fault known.homes (domain, true))) may).1 within
 
   head-line : (line : ScriptLine) → IsRead all line → fits all known line ≡ Some later → HeadFits later (with_head_line head line)
   head-line silent is e = goes-allowed true known refl e

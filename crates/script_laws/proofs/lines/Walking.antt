@@ -209,7 +209,7 @@ module _ (laws : LineLaws) (all : List Word) (known next : Known) (shown : Shown
   head-clients : (line : HeadLine) → (known_in_head known line).clients ≡ known.clients
   head-clients (timers i k) = refl
   head-clients (zone apex serial mode) = refl
-  head-clients (link w domain) = refl
+  head-clients (link w domain most) = refl
 
   pub walked-line : (line : ScriptLine) → IsRead all line → fits all known line ≡ Some next → Walked all next shown (line_does by_history line world).0
   walked-line silent is e = by-test all known next shown world h true known world e refl (λ may. nothing)

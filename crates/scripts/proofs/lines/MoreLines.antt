@@ -17,7 +17,7 @@ use Rattle.dnsname.specs.Names.{Labels}
 use Rattle.dnsname.proofs.Decisions.{and_true}
 use Rattle.zoneupdate.specs.Zones.{ZoneState, new_zone}
 use Rattle.history.specs.Homes.{NamedHome}
-use Rattle.history.specs.States.{State, LinkState}
+use Rattle.history.specs.States.{LinkRules, State, LinkState}
 use Rattle.history.specs.Plans.{IsStart}
 use Rattle.history.specs.Kept.{HomesKept, state_of}
 use Rattle.scripts.specs.Lines.{Word, ScriptLine, head_line, joining}
@@ -152,25 +152,25 @@ zone_added taken homes z has = record {
 
 -- ---- a link
 
-abbrev pub silent_link : Labels → LinkState
-silent_link domain = record { domain = domain; rows = [] }
+abbrev pub silent_link : LinkRules → LinkState
+silent_link rules = record { rules = rules; rows = [] }
 
 abbrev IsSilent : LinkState → Type 0
 IsSilent l = l.rows ≡ []
 
-one_silent : (domain : Labels) → All IsSilent (silent_link domain ∷ [])
-one_silent domain zero d before = refl
-one_silent domain (suc k) d before = absurd (omega (arith, before))
+one_silent : (rules : LinkRules) → All IsSilent (silent_link rules ∷ [])
+one_silent rules zero d before = refl
+one_silent rules (suc k) d before = absurd (omega (arith, before))
 
 -- a start with a further link
-pub start_linked : (start : State) (domain : Labels) → IsStart start → IsStart (with_link start (silent_link domain))
-start_linked start domain is = record { zones = is.zones; links = All-append IsSilent start.links (silent_link domain ∷ []) is.links (one_silent domain); now = is.now }
+pub start_linked : (start : State) (rules : LinkRules) → IsStart start → IsStart (with_link start (silent_link rules))
+start_linked start rules is = record { zones = is.zones; links = All-append IsSilent start.links (silent_link rules ∷ []) is.links (one_silent rules); now = is.now }
 
 link_added : (taken : Taken) (homes : HomesKept) (l : LinkLine) → HasLink taken.homes l homes → AddsHead taken (heads.Link l) taken.timers homes (taken.links ++ string_bytes l.word ∷ [])
 link_added taken homes l has = record {
   known = ap (λ (names : List NamedHome). record (known_of taken) { homes = names; links = taken.links ++ string_bytes l.word ∷ [] }) (sym has.named);
   head = ap (λ (s : State). head_of taken.timers s (taken.links ++ string_bytes l.word ∷ [])) (sym has.state);
-  start = λ is. subst IsStart (sym has.state) (start_linked (state_of taken.homes) l.domain is);
+  start = λ is. subst IsStart (sym has.state) (start_linked (state_of taken.homes) (record { domain = l.domain; cap = l.cap }) is);
 }
 
 -- ---- an event

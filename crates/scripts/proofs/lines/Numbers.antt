@@ -133,11 +133,15 @@ is-some-map : {X Y : Type 0} (f : X → Y) (o : Option X) → is_some (option_ma
 is-some-map f None = refl
 is-some-map f (Some x) = refl
 
+-- the word that has the number
+pub link-word : (links : List Word) (w : Word) (number : ℕ) → position (bytes_eq w) links ≡ Some number → w ≡ link_at links number
+link-word links w number at = same_word w (link_at links number) (at-found (bytes_eq w) links number [] at)
+
 -- of a link
 module _ (all links : List Word) (clients : List (Word × Bool)) (word : String Global) (event : LinkEvent) where
   pub numbered-link : (number : ℕ) → position (bytes_eq (string_bytes word)) links ≡ Some number → Numbered all links clients (event_lines.Link word event) (Some (events.Link number event))
   numbered-link number at =
-      let same : string_bytes word ≡ link_at links number = same_word (string_bytes word) (link_at links number) (at-found (bytes_eq (string_bytes word)) links number [] at) in
+      let same : string_bytes word ≡ link_at links number = link-word links (string_bytes word) number at in
       (any-found (bytes_eq (string_bytes word)) links number at, (ap (λ (w : Word). link_event w event) (sym same), subst (λ (w : Word). position (bytes_eq w) links ≡ Some number) same at))
 
   pub unnumbered-link : position (bytes_eq (string_bytes word)) links ≡ None → Numbered all links clients (event_lines.Link word event) None

@@ -7,10 +7,10 @@ use Rattle.clockqueue.proofs.deadlines.position.Goals as goal
 pub returns-then-is_eq : goal.returns-then-is_eq
 returns-then-is_eq g c =
     let is = is_of g.K.Ord.cmp c.args.key.now in
-    let here = ap is (sym c.index.ensures) ∙ sym (ap is_eq c.cmp.ensures) ∙ sym c.is_eq.ensures ∙ c.if-is_eq.true in
-    sym (position-here is c.args.entries.now.items c.places.index c.index.result.now (omega (arith, c.args.entries.now.ok.0, c.len-index-end.ensures, c.places-test.true)) c.places.invariant here)
+    let here = ap is (sym c.at.ensures) ∙ sym (ap is_eq c.cmp.ensures) ∙ sym c.is_eq.ensures ∙ c.if-is_eq.true in
+    sym (position-here is c.args.entries.now.items c.places.index c.at.result.now (omega (arith, c.len-index-end.ensures, c.places-test.true)) c.places.invariant here)
 
 pub returns : goal.returns
 returns g c =
     let is = is_of g.K.Ord.cmp c.args.key.now in
-    sym (position-nowhere is c.args.entries.now.items (λ k d low high. c.places.invariant k d low (omega (arith, c.args.entries.now.ok.0, c.len-index-end.ensures, c.places-test.false))))
+    sym (position-nowhere is c.args.entries.now.items (λ k d low high. c.places.invariant k d low (omega (arith, c.len-index-end.ensures, c.places-test.false))))

@@ -1,15 +1,21 @@
-use Rattle.std.proofs.Common.{rules, of_calls, subst}
-use Rattle.std.specs.List.Sorted.{IsSearchInRange}
+use Rattle.std.proofs.Common.{ℕ, ◌+◌, ◌-◌, ◌/◌, ◌∙◌, sym, ap, arith}
 use Rattle.clockqueue.specs.Deadlines.{due_cmp}
-use Rattle.clockqueue.proofs.Keyed.{position-from_clause, search_found, search_absent}
+use Rattle.clockqueue.proofs.Halves.{less_up_to, greater_from}
+use Rattle.clockqueue.proofs.Keyed.{due_cmp_total}
 use Rattle.clockqueue.proofs.deadlines.search.Goals as goal
 
-pub returns-clause-found : goal.returns-clause-found
-returns-clause-found g c =
-    let answer = position-from_clause (λ d. due_cmp g.K.Ord.cmp d (c.args.moment, c.args.key.now)) c.args.entries.now.items c.binary_search_by.result c.binary_search_by.ensures.position (λ a b f k. search (rules, of_calls)) in
-    search_found g.met.K.Ord.total c.args.moment c.args.key.now c.args.entries.now.items c.binary_search_by.result (subst (IsSearchInRange c.binary_search_by.result) c.args.entries.now.ok.0 c.binary_search_by.ensures.bound) answer
+pub halves-preserved-in-Less : goal.halves-preserved-in-Less
+halves-preserved-in-Less g c =
+    let at : ℕ × g.row.K.Denot = (c.args.moment, c.args.key.now) in
+    let seen = ap (λ (d : ℕ × g.row.K.Denot). due_cmp g.K.Ord.cmp d at) (sym c.at.ensures) ∙ sym c.in-Less.ensures in
+    let there = c.halves.invariant.3 in
+    let test = c.halves-test.true in
+    (less_up_to (due_cmp_total g.met.K.Ord.total) c.args.entries.now.items at (c.halves.low + (c.halves.high - c.halves.low) / 2) c.at.result.now c.requires.order (omega (arith, there, test)) seen, c.halves.invariant.1, omega (arith, test), there)
 
-pub returns-clause-absent : goal.returns-clause-absent
-returns-clause-absent g c =
-    let answer = position-from_clause (λ d. due_cmp g.K.Ord.cmp d (c.args.moment, c.args.key.now)) c.args.entries.now.items c.binary_search_by.result c.binary_search_by.ensures.position (λ a b f k. search (rules, of_calls)) in
-    search_absent g.met.K.Ord.total c.args.moment c.args.key.now c.args.entries.now.items c.binary_search_by.result c.requires (subst (IsSearchInRange c.binary_search_by.result) c.args.entries.now.ok.0 c.binary_search_by.ensures.bound) answer
+pub halves-preserved : goal.halves-preserved
+halves-preserved g c =
+    let at : ℕ × g.row.K.Denot = (c.args.moment, c.args.key.now) in
+    let seen = ap (λ (d : ℕ × g.row.K.Denot). due_cmp g.K.Ord.cmp d at) (sym c.at.ensures) ∙ sym c.in-Greater.ensures in
+    let there = c.halves.invariant.3 in
+    let test = c.halves-test.true in
+    (c.halves.invariant.0, greater_from (due_cmp_total g.met.K.Ord.total) c.args.entries.now.items at (c.halves.low + (c.halves.high - c.halves.low) / 2) c.at.result.now c.requires.order (omega (arith, there, test)) seen, omega arith, omega (arith, there, test))

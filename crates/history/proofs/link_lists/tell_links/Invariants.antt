@@ -4,4 +4,4 @@ use Rattle.history.proofs.TellingNames.{AreNamed}
 use Rattle.history.proofs.link_lists.tell_links.Given as goal
 
 abbrev pub invariant-links : goal.invariant-links
-invariant-links l = AreNamed (λ (k : LinkKept). k.state.domain) (drop l.link-index l.links) → AreNamed (λ (k : LinkKept). k.state.domain) l.links
+invariant-links l = AreNamed (λ (k : LinkKept). k.state.rules.domain) (drop l.link-index l.links) → AreNamed (λ (k : LinkKept). k.state.rules.domain) l.links

@@ -3,4 +3,4 @@ use Rattle.linkcache.specs.Rows.{flushed_by, usable_of}
 use Rattle.linkcache.proofs.heard_rows.flush_all.Given as goal
 
 abbrev pub invariant-hearing : goal.invariant-hearing
-invariant-hearing l = fold (flushed_by l.now) l.work.rows (filter (λ h. h.flush) (usable_of l.domain (drop l.heard-index l.hearing))) ≡ fold (flushed_by l.now) l.fn.work.rows (filter (λ h. h.flush) (usable_of l.domain l.hearing))
+invariant-hearing l = fold (flushed_by l.now) l.work.rows (filter (λ h. h.flush) (usable_of l.rules (drop l.heard-index l.hearing))) ≡ fold (flushed_by l.now) l.fn.work.rows (filter (λ h. h.flush) (usable_of l.rules l.hearing))

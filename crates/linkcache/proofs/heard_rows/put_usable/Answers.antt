@@ -18,12 +18,12 @@ put_heard-requires-clause-rows c = c.hearing.invariant.sound
 
 pub hearing-preserved : goal.hearing-preserved
 hearing-preserved c = elim c.if-usable.branch [
-  | then-usable+in_ok-put_heard w ↦ put_more c.args.domain.now c.args.now c.args.others c.args.work.now.rows c.args.hearing.now c.hearing.heard-index c.heard-item.result c.hearing-test.true c.heard-item.is
+  | then-usable+in_ok-put_heard w ↦ put_more c.args.rules.now c.args.now c.args.others c.args.work.now.rows c.args.hearing.now c.hearing.heard-index c.heard-item.result c.hearing-test.true c.heard-item.is
       c.hearing.work.rows c.if-usable.work.rows (sym c.usable.ensures ∙ w.if-usable.true) c.hearing.invariant (ap (λ (t : TableState _). t.rows) w.work-is ∙ w.in_ok-put_heard.ensures)
-  | else-usable w ↦ subst (λ (t : TableState _). PutSoFar c.args.domain.now c.args.now c.args.others c.args.work.now.rows t.rows (drop (c.hearing.heard-index + 1) c.args.hearing.now) c.args.hearing.now) (sym w.work-is)
-      (put_skip c.args.domain.now c.args.now c.args.others c.args.work.now.rows c.args.hearing.now c.hearing.heard-index c.heard-item.result c.hearing-test.true c.heard-item.is
+  | else-usable w ↦ subst (λ (t : TableState _). PutSoFar c.args.rules.now c.args.now c.args.others c.args.work.now.rows t.rows (drop (c.hearing.heard-index + 1) c.args.hearing.now) c.args.hearing.now) (sym w.work-is)
+      (put_skip c.args.rules.now c.args.now c.args.others c.args.work.now.rows c.args.hearing.now c.hearing.heard-index c.heard-item.result c.hearing-test.true c.heard-item.is
       c.hearing.work.rows (sym c.usable.ensures ∙ w.if-usable.false) c.hearing.invariant)
 ]
 
 pub returns : goal.returns
-returns c = ap (λ (l : List HeardRr). fold (put_heard c.args.domain.now c.args.now c.args.others) c.hearing.work.rows (usable_of c.args.domain.now l)) (sym (drop_all c.hearing.heard-index c.args.hearing.now (omega (arith, c.hearing-test.false)))) ∙ c.hearing.invariant.rest
+returns c = ap (λ (l : List HeardRr). fold (put_heard c.args.rules.now c.args.now c.args.others) c.hearing.work.rows (usable_of c.args.rules.now l)) (sym (drop_all c.hearing.heard-index c.args.hearing.now (omega (arith, c.hearing-test.false)))) ∙ c.hearing.invariant.rest

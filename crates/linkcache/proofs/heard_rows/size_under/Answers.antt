@@ -8,7 +8,7 @@ use Rattle.linkcache.proofs.SoundSteps.{all_at}
 use Rattle.linkcache.proofs.heard_rows.size_under.Goals as goal
 
 pub size_of_row-requires : goal.size_of_row-requires
-size_of_row-requires c = subst (IsLinkRow c.args.domain.now) (sym c.rows-item.is) (all_at (IsLinkRow c.args.domain.now) c.args.rows.now c.rows.key-index c.rows-item.result c.requires c.rows-test.true)
+size_of_row-requires c = subst (IsLinkRow c.args.rules.now) (sym c.rows-item.is) (all_at (IsLinkRow c.args.rules.now) c.args.rows.now c.rows.key-index c.rows-item.result c.requires c.rows-test.true)
 
 pub returns : goal.returns
-returns c = size_done (λ row. rr_size (renamed_rr local c.args.domain.now (rr_of_row row))) c.args.rows.now c.rows.key-index c.rows.size c.rows.invariant.0 (omega (arith, c.rows-test.false)) c.rows.invariant.1
+returns c = size_done (λ row. rr_size (renamed_rr local c.args.rules.now.domain (rr_of_row row))) c.args.rows.now c.rows.key-index c.rows.size c.rows.invariant.0 (omega (arith, c.rows-test.false)) c.rows.invariant.1

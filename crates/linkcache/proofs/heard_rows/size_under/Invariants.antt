@@ -8,4 +8,4 @@ use Rattle.linkcache.proofs.heard_rows.size_under.Given as goal
 
 abbrev pub invariant-rows : goal.invariant-rows
 invariant-rows l = (l.size ≤ 18446744073709551615)
-    × (counted (l.size + sum_by (λ row. rr_size (renamed_rr local l.domain (rr_of_row row))) (drop l.key-index l.rows)) ≡ counted (sum_by (λ row. rr_size (renamed_rr local l.domain (rr_of_row row))) l.rows))
+    × (counted (l.size + sum_by (λ row. rr_size (renamed_rr local l.rules.domain (rr_of_row row))) (drop l.key-index l.rows)) ≡ counted (sum_by (λ row. rr_size (renamed_rr local l.rules.domain (rr_of_row row))) l.rows))

@@ -3,4 +3,4 @@ use Rattle.linkcache.proofs.Touched.{heard-part}
 use Rattle.linkcache.proofs.laws.hearings_keep_to_their_owners.Goals as goal
 
 pub returns : goal.returns
-returns c domain now hearing rows rising = let part = heard-part domain now hearing rows (subst T (sym rising) tt) in (part.inside, part.outside)
+returns c rules now hearing rows rising = let part = heard-part rules now hearing rows (subst T (sym rising) tt) in (part.inside, part.outside)

@@ -10,10 +10,10 @@ pub returns-clause-between : goal.returns-clause-between
 returns-clause-between c =
     let part = c.args.part.now.rows in
     let work = c.args.work.now.rows in
-    let domain = c.args.domain.now in
+    let rules = c.args.rules.now in
     let moved = c.in_ok-rows.ensures.rows ∙ c.in_ok-moves.ensures in
-    let before = c.in_ok-before.ensures ∙ ap (shown_rows domain) c.entries.ensures.rows in
-    let after = c.in_ok-after.ensures ∙ ap (shown_rows domain) c.entries-2.ensures.rows in
+    let before = c.in_ok-before.ensures ∙ ap (shown_rows rules) c.entries.ensures.rows in
+    let after = c.in_ok-after.ensures ∙ ap (shown_rows rules) c.entries-2.ensures.rows in
     record {
       keys = subst HaveLowerKeys (sym moved) (lower_moves part work (subst (λ (l : LinkRows). HaveLowerOwners l) c.entries.ensures.rows c.entries.ensures.lower) (subst (λ (l : LinkRows). HaveLowerOwners l) c.entries-2.ensures.rows c.entries-2.ensures.lower));
       moved = moved;

@@ -1,4 +1,4 @@
-use Rattle.pushserver.proofs.hub_steps.Calls.{updates_stand, hears_stand, moments_stand, connects_stand, takes_stand, stops_stand, ends_stand}
+use Rattle.pushserver.proofs.hub_steps.Calls.{updates_stand, hears_stand, goings_stand, moments_stand, connects_stand, takes_stand, stops_stand, ends_stand}
 use Rattle.pushserver.proofs.hub_steps.Forgetting.{forgetting_stands}
 use Rattle.pushserver.proofs.hub_steps.Giving.{gives_stand}
 use Rattle.pushserver.proofs.told_rows.HubTells.{hubs_tell}
@@ -9,6 +9,9 @@ returns-clause-updates c = updates_stand
 
 pub returns-clause-hears : goal.returns-clause-hears
 returns-clause-hears c = hears_stand
+
+pub returns-clause-goings : goal.returns-clause-goings
+returns-clause-goings c = goings_stand
 
 pub returns-clause-moments : goal.returns-clause-moments
 returns-clause-moments c = moments_stand

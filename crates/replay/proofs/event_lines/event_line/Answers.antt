@@ -5,6 +5,7 @@ use Rattle.scripts.specs.KeptLines.{words_of}
 use Rattle.scripts.specs.Events.{client_at, known_clients, link_at, IsNamed}
 use Rattle.replay.specs.KeptWorlds.{seated, words_seated}
 use Rattle.replay.specs.KeptSeats.{has_word}
+use Rattle.replay.proofs.worlds.HearDoing.{few-links}
 use Rattle.replay.proofs.worlds.SeatNumbers.{seat-at, seat-within, known-at, few-known}
 use Rattle.replay.proofs.event_lines.event_line.Goals as goal
 
@@ -99,6 +100,14 @@ returns-in-Client c = rw (c.in-Client.is, ← c.word_of-in-Client.ensures) c.cli
 
 pub returns-in-Joining : goal.returns-in-Joining
 returns-in-Joining c = rw (c.in-Joining.is, known-at c.args.clients.now c.in-Joining.client c.index-clients-client.result (few-known c.args.clients.now c.in-Joining.client (subst (IsNamed (words_of c.args.world.now.links.items) (known_clients c.args.clients.now) (words_seated (seated c.args.world.now.seats.items))) c.in-Joining.is c.requires)) c.index-clients-client.is) c.client_joins.ensures
+
+pub link_line-requires : goal.link_line-requires
+link_line-requires c =
+    let items = c.args.world.now.links.items in
+    let links = words_of items in
+    let clients = known_clients c.args.clients.now in
+    let before = words_seated (seated c.args.world.now.seats.items) in
+    few-links items (link_at links c.in-Link.link) c.in-Link.link (subst (IsNamed links clients before) c.in-Link.is c.requires)
 
 pub returns-in-Link : goal.returns-in-Link
 returns-in-Link c =

@@ -9,18 +9,18 @@ use Rattle.clockqueue.proofs.Keyed.{Takes, taken, without_absent}
 use Rattle.clockqueue.proofs.deadlines.Deadlines.drop_key.Given.{Over}
 use Rattle.clockqueue.proofs.deadlines.Deadlines.drop_key.Goals as goal
 
-takes : (g : Over) (c : goal.After-drop-remove_at g) → Takes g.met.K.Ord.total c.args.key.now c.self.inside.entries.items c.in-Some.index c.remove_at.result c.remove_at.new.entries.items
+takes : (g : Over) (c : goal.After-drop-remove g) → Takes g.met.K.Ord.total c.args.key.now c.self.inside.entries.items c.in-Some.index c.remove.result c.remove.new.self.items
 takes g c =
-    let at = position-Some (is_of g.K.Ord.cmp c.args.key.now) c.self.inside.entries.items c.in-Some.index c.remove_at.result (sym c.in-Some.ensures) in
-    taken g.met.K.Ord.total c.args.key.now c.self.inside.entries.items c.remove_at.new.entries.items c.in-Some.index c.remove_at.result c.self.invariant at.0 at.1 c.remove_at.ensures.items
+    let at = position-Some (is_of g.K.Ord.cmp c.args.key.now) c.self.inside.entries.items c.in-Some.index c.remove.result (sym c.in-Some.ensures) in
+    taken g.met.K.Ord.total c.args.key.now c.self.inside.entries.items c.remove.new.self.items c.in-Some.index c.remove.result c.self.invariant at.0 at.1 c.remove.ensures.items
 
 none : (g : Over) (c : goal.In-None g) → moment_of g.K.Ord.cmp c.args.key.now c.args.self.now.deadlines ≡ None
 none g c =
     ap (option_map (λ d. d.0)) (no_place (λ d e. is_of g.K.Ord.cmp e.1 d) (is_of g.K.Ord.cmp c.args.key.now) c.args.self.now.deadlines
     (ap (λ t. position (is_of g.K.Ord.cmp c.args.key.now) t.deadlines) (sym c.self.view_is) ∙ sym c.in-None.ensures))
 
-pub remove_at-requires : goal.remove_at-requires
-remove_at-requires g c = position-within (is_of g.K.Ord.cmp c.args.key.now) c.self.inside.entries.items c.in-Some.index (sym c.in-Some.ensures)
+pub remove-requires : goal.remove-requires
+remove-requires g c = position-within (is_of g.K.Ord.cmp c.args.key.now) c.self.inside.entries.items c.in-Some.index (sym c.in-Some.ensures)
 
 pub invariant_of-self : goal.invariant_of-self
 invariant_of-self g c = (takes g c).are

@@ -7,22 +7,22 @@ use Rattle.clockqueue.proofs.Keyed.{Takes, taken_at, found_due, none_due}
 use Rattle.clockqueue.proofs.deadlines.Deadlines.take_at.Given.{Over}
 use Rattle.clockqueue.proofs.deadlines.Deadlines.take_at.Goals as goal
 
-takes : (g : Over) (c : goal.After-remove_at-key g) → Takes g.met.K.Ord.total c.args.key.now c.self.inside.entries.items c.in-Ok.index c.remove_at-key.result c.remove_at-key.new.entries.items
-takes g c = taken_at g.met.K.Ord.total c.args.key.now c.args.moment c.self.inside.entries.items c.remove_at-key.new.entries.items c.in-Ok.index c.remove_at-key.result c.self.invariant c.in-Ok.ensures.found c.remove_at-key.ensures.items
+takes : (g : Over) (c : goal.After-remove-key g) → Takes g.met.K.Ord.total c.args.key.now c.self.inside.entries.items c.in-Ok.index c.remove-key.result c.remove-key.new.self.items
+takes g c = taken_at g.met.K.Ord.total c.args.key.now c.args.moment c.self.inside.entries.items c.remove-key.new.self.items c.in-Ok.index c.remove-key.result c.self.invariant c.in-Ok.ensures.found c.remove-key.ensures.items
 
-found : (g : Over) (c : goal.After-remove_at-key g) → find (is_set_to g.K.Ord.cmp c.args.key.now c.args.moment) c.args.self.now.deadlines ≡ Some c.remove_at-key.result
+found : (g : Over) (c : goal.After-remove-key g) → find (is_set_to g.K.Ord.cmp c.args.key.now c.args.moment) c.args.self.now.deadlines ≡ Some c.remove-key.result
 found g c =
     ap (λ t. find (is_set_to g.K.Ord.cmp c.args.key.now c.args.moment) t.deadlines) (sym c.self.view_is)
-    ∙ found_due g.met.K.Ord.total c.args.key.now c.args.moment c.self.inside.entries.items c.in-Ok.index c.remove_at-key.result c.self.invariant c.in-Ok.ensures.found
-    ∙ ap (λ (d : ℕ × g.row.K.Denot). Some d) (sym c.remove_at-key.ensures.value)
+    ∙ found_due g.met.K.Ord.total c.args.key.now c.args.moment c.self.inside.entries.items c.in-Ok.index c.remove-key.result c.self.invariant c.in-Ok.ensures.found
+    ∙ ap (λ (d : ℕ × g.row.K.Denot). Some d) (sym c.remove-key.ensures.value)
 
 none : (g : Over) (c : goal.In-Err g) → find (is_set_to g.K.Ord.cmp c.args.key.now c.args.moment) c.args.self.now.deadlines ≡ None
 none g c =
     none_due g.met.K.Ord.total c.args.key.now c.args.moment c.args.self.now.deadlines c.in-Err.field-0
     (subst (λ l. IsGapFor g.K.Ord.cmp c.args.moment c.args.key.now l c.in-Err.field-0) (ap (λ t. t.deadlines) c.self.view_is) c.in-Err.ensures.absent)
 
-pub remove_at-key-requires : goal.remove_at-key-requires
-remove_at-key-requires g c = c.in-Ok.ensures.found.within
+pub remove-key-requires : goal.remove-key-requires
+remove-key-requires g c = c.in-Ok.ensures.found.within
 
 pub invariant_of-self : goal.invariant_of-self
 invariant_of-self g c = (takes g c).are

@@ -1,6 +1,7 @@
 -- The homes may stand together with one link more.
 use Rattle.std.proofs.Common.{◌≡◌, true, not, [], ◌∷◌, ◌++◌, length, filter, sym, ap, ◌∙◌, arith}
 use Rattle.std.specs.Prelude.{if◌then◌else◌}
+use Rattle.linkcache.specs.declared.rules.LinkRules.{LinkRules}
 use Rattle.history.specs.Homes.{NamedHome, home_fault}
 use Rattle.history.specs.Kept.{HomesKept}
 use Rattle.history.proofs.KeptHomes.{many-links, kept-link-as}
@@ -16,5 +17,5 @@ pub invariant_of-self-2 : goal.invariant_of-self-2
 invariant_of-self-2 c =
     let kept : HomesKept = record { zones = c.self.inside.zones.items; links = c.self.inside.links.items; names = c.self.inside.names.items } in
     let none = ap (λ hs. home_fault hs (c.args.domain, true)) (sym c.deref.ensures.value) ∙ sym c.fault_of.ensures ∙ c.in_default.is in
-    kept-link-as kept c.push_reserved.new.self.items c.put_behind.new.homes.items c.new.result c.args.domain c.self.invariant none c.new.ensures.domain
+    kept-link-as kept c.push_reserved.new.self.items c.put_behind.new.homes.items c.new.result c.args.domain c.self.invariant none (ap (λ (r : LinkRules). r.domain) c.new.ensures.rules)
     (c.push_reserved.ensures.items ∙ ap (λ ls. ls ++ c.new.result ∷ []) c.reserve.ensures.items) c.in_ok-put_behind.ensures.ok

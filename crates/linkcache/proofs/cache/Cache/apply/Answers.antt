@@ -16,7 +16,7 @@ make_changes-requires-clause-row_room c =
 
 pub invariant_of-self : goal.invariant_of-self
 invariant_of-self c = record {
-  sound = applied c.self.inside.domain c.self.inside.rows.rows c.make_changes.new.rows.rows (map (λ r. r.change) c.plan.inside.rows.items) c.args.plan c.self.invariant.sound c.make_changes.ensures.rows
-      (ap (λ (p : LinkPlan). p.rows) c.plan.view_is) (subst (λ (k : LinkKept). IsPlanOf k.state.domain k.state.rows c.args.plan) (sym c.self.view_is) c.requires.planned);
+  sound = applied c.self.inside.rules c.self.inside.rows.rows c.make_changes.new.rows.rows (map (λ r. r.change) c.plan.inside.rows.items) c.args.plan c.self.invariant.sound c.make_changes.ensures.rows
+      (ap (λ (p : LinkPlan). p.rows) c.plan.view_is) (subst (λ (k : LinkKept). IsPlanOf k.state.rules k.state.rows c.args.plan) (sym c.self.view_is) c.requires.planned);
   ends = c.make_changes.ensures.ends;
 }

@@ -1,0 +1,9 @@
+use Rattle.std.proofs.Common.{◌-◌, ◌≡◌, ◌≤◌, length}
+use Rattle.clockqueue.specs.Tiers.{HasHole, joined}
+use Rattle.clockqueue.proofs.blocks.push_all.Given as goal
+
+abbrev pub invariant-holes : goal.invariant-holes
+invariant-holes g l = HasHole l.len l.full l.blocks × (joined l.blocks ≡ joined l.fn.blocks) × (length l.blocks ≡ length l.fn.blocks) × (l.hole ≤ l.full)
+
+abbrev pub decreases-holes : goal.decreases-holes
+decreases-holes g l = l.full - l.hole

@@ -1,0 +1,4 @@
+use Rattle.dnswire.proofs.field.read_name.Given as goal
+
+abbrev pub ghosts-name_under : goal.ghosts-name_under
+ghosts-name_under a = record { name = a.blank.name; parts = a.blank.parts }
