@@ -1,6 +1,7 @@
--- What the calls of datagrams give.
+-- What the calls of datagrams give and send.
 --     FitsWithin      no more octets than there is room for
 --     DatagramGives, DatagramTakes      beside the datagrams given so far; of those that are left
+--     DatagramSent      beside the datagrams sent so far
 use Rattle.std.specs.Prelude.{◌≡◌, ℕ, ◌≤◌, ⊤, Some, None, List, [], ◌∷◌, length, take, Result, Ok, Err, IfOk}
 use Rattle.std.specs.declared.option.Option.{Option}
 use Rattle.push_base.specs.Told.{TellsMore}
@@ -41,3 +42,8 @@ DatagramTakes left now (Ok (Bytes n)) buf = TakesFirst left now (take n buf)
 DatagramTakes left now (Ok Quiet) buf = now ≡ left
 DatagramTakes left now (Ok End) buf = (now ≡ left) × AreOver now
 DatagramTakes left now (Err e) buf = now ≡ left
+
+-- a call adds the datagram that it sends to those sent so far; a fault adds none
+abbrev pub DatagramSent : {T E : Type 0} → Option (List (List ℕ)) → Option (List (List ℕ)) → Result T E → List ℕ → Type 0
+DatagramSent sent now (Ok done) octets = TellsMore sent now (octets ∷ [])
+DatagramSent sent now (Err e) octets = now ≡ sent
