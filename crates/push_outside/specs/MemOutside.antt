@@ -40,7 +40,7 @@ abbrev pub IsNewDoors : DoorsState LineState SinkState → Type 0
 IsNewDoors doors = (doors.calls.faults ≡ 0) × (doors.accepted ≡ 0)
 
 abbrev pub AreNewLinks : DatagramsState → Type 0
-AreNewLinks links = (links.calls.faults ≡ 0) × IsFresh (given_told links.items)
+AreNewLinks links = (links.calls.faults ≡ 0) × IsFresh (given_told links.items) × (links.sent ≡ [])
 
 abbrev pub IsNewClock : ClockState → Type 0
 IsNewClock clock = IsFresh (moments_told clock)

@@ -299,6 +299,7 @@ impl Outside for MemOutside {
     fn datagrams(&mut self, address: &str) -> Result<MemDatagrams, OpenFault>
         ensures faults { IfOk result (λ links. links.calls.faults ≡ 0) }
         ensures fresh { IfOk result (λ links. IsFresh (given_told links.items)) }
+        ensures unsent { IfOk result (λ links. IsFresh (Some links.sent)) }
         ensures reads { self.new.reads ≡ self.old.reads }
         ensures writes { self.new.writes ≡ self.old.writes }
         ensures others { CountsFailure self.old.others self.new.others result }

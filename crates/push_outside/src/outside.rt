@@ -76,10 +76,11 @@ pub trait Outside: Surroundings {
         ensures dialled { TellsWords (told self.old).dialled (told self.new).dialled result address.now }
         ensures told { told self.new ≡ record (told self.old) { dialled = (told self.new).dialled } };
 
-    /// The datagrams that come to an address.
+    /// The datagrams that come to an address, and are sent from it.
     fn datagrams(&mut self, address: &str) -> Result<Self::Links, OpenFault>
         ensures faults { IfOk result (λ links. Self.Links.faults links ≡ 0) }
         ensures fresh { IfOk result (λ links. IsFresh (Self.Links.given links)) }
+        ensures unsent { IfOk result (λ links. IsFresh (Self.Links.sent links)) }
         ensures reads { reads self.new ≡ reads self.old }
         ensures writes { writes self.new ≡ writes self.old }
         ensures others { CountsFailure (others self.old) (others self.new) result }

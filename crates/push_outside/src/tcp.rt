@@ -124,7 +124,7 @@ fn accept_one<R: Log>(rt: &R, alloc: Global, listener: &TcpListener) -> io::Resu
 }
 
 /// Whether the system's number of an error is among these.
-fn has_code(error: &Error, codes: &[i32]) -> bool {
+pub(crate) fn has_code(error: &Error, codes: &[i32]) -> bool {
     error
         .raw_os_error()
         .is_some_and(|code| codes.contains(&code))
