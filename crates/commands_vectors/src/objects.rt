@@ -188,7 +188,7 @@ fn feeds(alloc: Global, fault: &Fault<'_>) -> Result<Vec<MemDatagrams>, AllocErr
     }
     let fails = times(alloc, fault, matches!(fault.call, Call::Hear))?;
     let announcement = MemItem::Bytes(Octets::from_slice(alloc, DATAGRAM)?);
-    let datagrams = MemDatagrams::new(vec![in alloc; announcement]?, fails);
+    let datagrams = MemDatagrams::new(alloc, vec![in alloc; announcement]?, fails, 0)?;
     Ok(vec![in alloc; datagrams]?)
 }
 

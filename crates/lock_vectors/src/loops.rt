@@ -100,7 +100,7 @@ fn request_of_a_client(alloc: Global) -> Result<Drip, Fail> {
 /// One datagram.
 pub(crate) fn heard(alloc: Global, text: &str) -> Result<MemDatagrams, Fail> {
     let items = vec![in alloc; MemItem::Bytes(hex_octets(alloc, text)?)]?;
-    Ok(MemDatagrams::new(items, Vec::new(alloc)))
+    Ok(MemDatagrams::new(alloc, items, Vec::new(alloc), 0)?)
 }
 
 /// Datagrams with `HOST` alone.
@@ -271,7 +271,8 @@ fn hub_that_heard(alloc: Global) -> Result<Hub, Fail> {
 
 /// Fails where the loop of the first link, whose first receipt fails, ends otherwise, or leaves it a record.
 fn is_gone_so(alloc: Global, alone: &mut Alone) -> Result<(), Fail> {
-    let mut datagrams = MemDatagrams::new(Vec::new(alloc), vec![in alloc; 1]?);
+    let fails = vec![in alloc; 1]?;
+    let mut datagrams = MemDatagrams::new(alloc, Vec::new(alloc), fails, 0)?;
     is_end(
         link_loop(alloc, alone, 0, &mut datagrams, 1),
         LoopEnd::LinkFault,

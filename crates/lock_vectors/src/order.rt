@@ -176,7 +176,7 @@ impl<R: Wait + Copy> Line for LoggedLine<R> {
     }
 }
 
-/// Datagrams, each the same: `r` for each, and behind them `b` where they break, `e` for the end.
+/// Datagrams, each the same: `r` for each, and behind them `b` where they break, `e` for the end; `a` for one that is sent.
 #[derive(Drop)]
 struct LoggedLinks<R: Wait + Copy> {
     log: Log<R>,
@@ -200,6 +200,8 @@ impl<R: Wait + Copy> Datagrams for LoggedLinks<R> {
 
     ghost left = { λ _. None };
 
+    ghost sent = { λ _. None };
+
     ghost calls = { λ _. None };
 
     ghost faults = { λ l. l.faults };
@@ -217,6 +219,11 @@ impl<R: Wait + Copy> Datagrams for LoggedLinks<R> {
         }
         self.log.add(b'e');
         Ok(Got::End)
+    }
+
+    fn send(&mut self, _piece: &[u8]) -> Result<(), Failed> {
+        self.log.add(b'a');
+        Ok(())
     }
 }
 

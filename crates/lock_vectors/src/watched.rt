@@ -218,6 +218,8 @@ impl<R: Wait + Copy> Datagrams for Hearings<R> {
 
     ghost left = { λ _. None };
 
+    ghost sent = { λ _. None };
+
     ghost calls = { λ _. None };
 
     ghost faults = { λ d. d.datagrams.calls.faults };
@@ -234,6 +236,10 @@ impl<R: Wait + Copy> Datagrams for Hearings<R> {
             self.watch.tell(Event::Heard);
         }
         Ok(got)
+    }
+
+    fn send(&mut self, piece: &[u8]) -> Result<(), Failed> {
+        self.datagrams.send(piece)
     }
 }
 
