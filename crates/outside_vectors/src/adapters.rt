@@ -2,7 +2,10 @@
 
 use push_base::{Clock, Datagrams, Failed, Got, Line, Sink, Source};
 use push_outside::{OpenFault, Origin, Outside, Reading, System, TcpLine, Writing};
+use std::alloc::Global;
+use std::net::{Net, UdpSocket};
 use std::test::Fail;
+use std::time::Duration;
 
 // A source over two readers, of which the second is there, and a sink with room for two octets.
 #[test]
@@ -87,4 +90,98 @@ fn a_quiet_link(rt: HostRuntime) -> Result<(), Fail> {
         return Ok(());
     }
     Err(Fail::new(format_args!("{is_quiet} {goes_on}")))
+}
+
+// Fails where a link is made at this address.
+fn is_refused<O: Outside>(outside: &mut O, address: &str) -> Result<(), Fail> {
+    if has_failed(outside.datagrams(address)) {
+        return Ok(());
+    }
+    Err(Fail::new(format_args!("{address} was reached")))
+}
+
+// Addresses of links of which one can't be reached: no text of one, no port, no number as one, an end of the other family, and
+// one beyond the loopback from it.
+const UNREACHED: &[&str] = &[
+    "nowhere,127.0.0.1:9",
+    "127.0.0.1:0,",
+    "127.0.0.1:0,nowhere",
+    "127.0.0.1:0,127.0.0.1:0",
+    "127.0.0.1:0,127.0.0.1:9,",
+    "127.0.0.1:0,[::1]:9",
+    "127.0.0.1:0,192.0.2.1:9",
+];
+
+#[test]
+fn no_link_with_a_wrong_address(rt: HostRuntime) -> Result<(), Fail> {
+    let mut system = System::new(rt, rt, rt.alloc());
+    'rows: for address in UNREACHED {
+        is_refused(&mut system, address)?;
+    }
+    Ok(())
+}
+
+// The address of a link that sends to a socket.
+fn address_of(alloc: Global, receiver: &UdpSocket) -> Result<String, Fail> {
+    let peer = receiver.local_addr()?;
+    Ok(format!(in alloc; "127.0.0.1:0,{peer}")?)
+}
+
+// Whether a datagram that a link sends comes to a socket.
+fn comes<O: Outside>(outside: &mut O, address: &str, receiver: &UdpSocket, piece: &[u8]) -> bool {
+    let Ok(mut links) = outside.datagrams(address) else {
+        return false;
+    };
+    let sent = links.send(piece);
+    outside.back_links(links);
+    let mut buf = [0; 4];
+    match receiver.recv(&mut buf) {
+        Ok(count) => sent == Ok(()) && &buf[..count] == piece,
+        Err(_) => false,
+    }
+}
+
+#[test]
+fn datagrams_come_to_the_second_address(rt: HostRuntime) -> Result<(), Fail> {
+    let receiver = UdpSocket::bind(&rt, "127.0.0.1:0")?;
+    receiver.set_read_timeout(Some(Duration::from_millis(5000)))?;
+    let address = address_of(rt.alloc(), &receiver)?;
+    let mut system = System::new(rt, rt, rt.alloc());
+    let some = comes(&mut system, &address, &receiver, b"abc");
+    let none = comes(&mut system, &address, &receiver, b"");
+    if some && none {
+        return Ok(());
+    }
+    Err(Fail::new(format_args!("{some} {none}")))
+}
+
+// Whether a link is as it was behind a datagram that it sends.
+fn goes_on_behind<O: Outside>(outside: &mut O, address: &str, piece: &[u8]) -> bool {
+    let Ok(mut links) = outside.datagrams(address) else {
+        return false;
+    };
+    let sent = links.send(piece);
+    let got = links.recv(&mut [0; 4]);
+    outside.back_links(links);
+    sent == Ok(()) && got == Ok(Got::Quiet)
+}
+
+// The address of a link that sends to a socket that is closed.
+fn closed_address<N: Net>(net: &N, alloc: Global) -> Result<String, Fail> {
+    let receiver = UdpSocket::bind(net, "127.0.0.1:0")?;
+    address_of(alloc, &receiver)
+}
+
+#[test]
+fn what_is_not_taken_breaks_no_link(rt: HostRuntime) -> Result<(), Fail> {
+    let address = closed_address(&rt, rt.alloc())?;
+    let long = vec![in rt.alloc(); 0; 70_000]?;
+    let mut system = System::new(rt, rt, rt.alloc());
+    let nowhere = goes_on_behind(&mut system, "127.0.0.1:0", b"abc");
+    let closed = goes_on_behind(&mut system, &address, b"abc");
+    let too_long = goes_on_behind(&mut system, &address, &long);
+    if nowhere && closed && too_long {
+        return Ok(());
+    }
+    Err(Fail::new(format_args!("{nowhere} {closed} {too_long}")))
 }
