@@ -4,7 +4,7 @@
 --     shares_nothing, shares_read, shares_so, not-shared      what a run says of that
 use Rattle.std.proofs.Common.{◌≡◌, ◌⊎◌, inl, inr, ℕ, Bool, true, false, Option, Some, None, Result, Ok, Err, List, refl, sym, subst}
 use Rattle.push_outside.specs.Outside.{Used}
-use Rattle.pushserver.specs.KeptHubs.{KeptHub}
+use Rattle.hubasking.specs.AskingHubs.{AskingHub}
 use Rattle.hublock.specs.Registers.{entered}
 use Rattle.scripts.specs.Sources.{front_read}
 use Rattle.configurations.specs.Configurations.{Serving, serving_of}
@@ -13,17 +13,17 @@ use Rattle.commands.specs.Serving.{BeginsBy, IsShared, Shares, first_hub, tells_
 use Rattle.commands.specs.Words.{Request, Serve}
 
 abbrev Hubs : Type 0
-Hubs = Option (List KeptHub)
+Hubs = Option (List AskingHub)
 
-pub begins_one : (full : Bool) (hub : KeptHub) (before now : Hubs) → now ≡ entered before hub → BeginsBy full hub before now
+pub begins_one : (full : Bool) (hub : AskingHub) (before now : Hubs) → now ≡ entered before hub → BeginsBy full hub before now
 begins_one true hub before now e = e
 begins_one false hub before now e = inr e
 
-pub begins_none : (full : Bool) (hub : KeptHub) (before now : Hubs) → full ≡ false → now ≡ before → BeginsBy full hub before now
+pub begins_none : (full : Bool) (hub : AskingHub) (before now : Hubs) → full ≡ false → now ≡ before → BeginsBy full hub before now
 begins_none full hub before now less e = subst (λ (t : Bool). BeginsBy t hub before now) (sym less) (inl e)
 
 -- what is told is a full run only where there was one
-pub begins_told : (told full : Bool) (hub : KeptHub) (before now : Hubs) → (told ≡ true → full ≡ true) → BeginsBy full hub before now → BeginsBy told hub before now
+pub begins_told : (told full : Bool) (hub : AskingHub) (before now : Hubs) → (told ≡ true → full ≡ true) → BeginsBy full hub before now → BeginsBy told hub before now
 begins_told true full hub before now h begins = subst (λ (t : Bool). BeginsBy t hub before now) (h refl) begins
 begins_told false true hub before now h begins = inr begins
 begins_told false false hub before now h begins = begins

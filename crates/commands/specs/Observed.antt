@@ -10,7 +10,7 @@ use Rattle.scripts.specs.declared.outcome.Outcome.TheVariants as outcomes
 use Rattle.scripts.specs.Outcomes.{status_of}
 use Rattle.push_base.specs.Written.{IsFrontOf, Took}
 use Rattle.scripts.specs.Words.{line}
-use Rattle.replay.specs.Text.{outside_text}
+use Rattle.replay.specs.ScriptTexts.{outside_text}
 
 -- what the outside tells, what the output took, and two of the outside's counts of faults
 pub record Observed : Type 0 where

@@ -15,7 +15,7 @@ use Rattle.std.specs.List.{list_any}
 use Rattle.push_base.specs.Causes.{Rose}
 use Rattle.push_base.specs.declared.role.Role.{Role}
 use Rattle.push_outside.specs.Outside.{Telling, Used, Adds, AddsTold, AddsSome}
-use Rattle.pushserver.specs.KeptHubs.{KeptHub, new_kept}
+use Rattle.hubasking.specs.AskingHubs.{AskingHub, new_asking}
 use Rattle.hublock.specs.Registers.{Ending, entered}
 use Rattle.hublock.specs.declared.loop_end.LoopEnd.{LoopEnd}
 use Rattle.scripts.specs.Heads.{Head}
@@ -25,7 +25,7 @@ use Rattle.scripts.specs.Words.{spaced, line}
 use Rattle.scripts.specs.declared.outcome.Outcome.TheVariants as outcomes
 use Rattle.scripts.specs.Outcomes.{status_of}
 use Rattle.push_base.specs.Written.{IsFrontOf, Took}
-use Rattle.replay.specs.Text.{outside_text}
+use Rattle.replay.specs.ScriptTexts.{outside_text}
 use Rattle.configurations.specs.Configurations.{Serving, serving_of}
 use Rattle.serving.specs.declared.serve_end.ServeEnd.{ServeEnd}
 use Rattle.serving.specs.declared.serve_end.ServeEnd.TheVariants as ends
@@ -159,11 +159,11 @@ IsServed request before now Counts status octets = ⊤
 -- ---- which hub is served
 
 -- the hub with these homes and timers, in which nothing has changed yet
-abbrev pub first_hub : Head → KeptHub
-first_hub head = new_kept head.start head.timers
+abbrev pub first_hub : Head → AskingHub
+first_hub head = new_asking head.start head.timers
 
 -- just this hub went behind a lock; or perhaps none
-abbrev pub BeginsBy : Bool → KeptHub → Option (List KeptHub) → Option (List KeptHub) → Type 0
+abbrev pub BeginsBy : Bool → AskingHub → Option (List AskingHub) → Option (List AskingHub) → Type 0
 BeginsBy true hub before now = now ≡ entered before hub
 BeginsBy false hub before now = (now ≡ before) ⊎ (now ≡ entered before hub)
 
@@ -172,11 +172,11 @@ abbrev pub tells_full_run : ℕ → Bool
 tells_full_run status = status == 0
 
 -- where a configuration was read so, its jobs share the hub with its homes and timers, and no other goes behind a lock
-abbrev pub Shares : Result Serving ℕ → ℕ → Option (List KeptHub) → Option (List KeptHub) → Type 0
+abbrev pub Shares : Result Serving ℕ → ℕ → Option (List AskingHub) → Option (List AskingHub) → Type 0
 Shares (Ok configuration) status before now = BeginsBy (tells_full_run status) (first_hub configuration.head) before now
 Shares (Err number) status before now = now ≡ before
 
 -- so it is where a server is asked for, and these may be the octets of its configuration; else no hub goes behind a lock
-abbrev pub IsShared : Option Request → Option (List Used) → Option (List Used) → Option (List KeptHub) → Option (List KeptHub) → ℕ → List ℕ → Type 0
+abbrev pub IsShared : Option Request → Option (List Used) → Option (List Used) → Option (List AskingHub) → Option (List AskingHub) → ℕ → List ℕ → Type 0
 IsShared (Some (Serve path)) used used_now before now status octets = MayHaveGiven used used_now octets → Shares (serving_of (front_read octets)) status before now
 IsShared request used used_now before now status octets = now ≡ before

@@ -14,7 +14,7 @@ use Rattle.scripts.specs.declared.outcome.Outcome.TheVariants as outcomes
 use Rattle.scripts.specs.Outcomes.{status_of}
 use Rattle.push_base.specs.Written.{Took}
 use Rattle.scripts.specs.Words.{line}
-use Rattle.replay.specs.Text.{outside_text}
+use Rattle.replay.specs.ScriptTexts.{outside_text}
 use Rattle.configurations.specs.Configurations.{Subscribing, subscribing_of}
 use Rattle.subscriber.specs.Said.{saying}
 use Rattle.subscriber.specs.Subscribed.{AnswersSaying, AsksClock, IsOpenUntil, IsSent, MayStopWithin}

@@ -4,7 +4,7 @@ ghost use Rattle.std.specs.Prelude.{◌≡◌, ◌⊎◌, ◌≤◌, ℕ, List, 
 ghost use Rattle.push_base.specs.Causes.{Rose};
 ghost use Rattle.push_outside.specs.Outside.{Adds, AddsSome};
 ghost use Rattle.scripts.specs.Sources.{front_read};
-ghost use Rattle.replay.specs.Text.{outside_text};
+ghost use Rattle.replay.specs.ScriptTexts.{outside_text};
 ghost use Rattle.commands.specs.Runs.{GivesSourceBack, MayHaveGiven, UsesAtMost, UsesWhole};
 ghost use Rattle.commands.specs.Observed.{TellsNumber};
 

@@ -27,11 +27,11 @@ use crate::log_lines::{tell_links, tell_listening, tell_server_end};
 use crate::status::{OUTSIDE_FAULT, Status, tell_status};
 use configurations::{FedLink, ReadServe, ServeConfiguration, read_serve};
 use history::entry::Totals;
+use hubasking::Hub;
 use hublock::{Blanks, Books, Register};
 use log::Log;
 use push_base::{NoMemory, Sink};
 use push_outside::{OpenFault, Outside};
-use pushserver::Hub;
 use scripts::{NO_MEMORY, Outcome, READ_FAULT, ReadError, tell};
 use serving::{Fed, ServeEnd, Served, Setup, serve};
 use std::alloc::Global;
@@ -253,8 +253,8 @@ fn serve_doors<R: Log + Threads + Wait + Copy + Send + 'static, O: Outside, W: R
     outside: &mut O,
     register: &mut W,
 ) -> ServeEnd
-    requires hub { (counted hub ≡ each 0) × (hub.numbers_given ≡ 0) }
-    requires stands { (plain : Plain) × StandsFor hub plain }
+    requires hub { (counted hub ≡ each 0) × (hub.hub.numbers_given ≡ 0) }
+    requires stands { (plain : Plain) × StandsFor hub.hub plain }
     ensures few { sessions ≤ 2 ^ 64 - 1 }
     ensures shared { BeginsBy (is_full_run result) hub (W.hubs register.old) (W.hubs register.new) }
     ensures counts { CountsAsTold (W.endings register.old) (W.endings register.new) result }
@@ -299,8 +299,8 @@ fn serve_setup<
     outside: &mut O,
     register: &mut W,
 ) -> ServeEnd
-    requires hub { (counted setup.hub ≡ each 0) × (setup.hub.numbers_given ≡ 0) }
-    requires stands { (plain : Plain) × StandsFor setup.hub plain }
+    requires hub { (counted setup.hub ≡ each 0) × (setup.hub.hub.numbers_given ≡ 0) }
+    requires stands { (plain : Plain) × StandsFor setup.hub.hub plain }
     requires names { AreNamed blanks B.names }
     ensures registered { W.hubs register.new ≡ entered (W.hubs register.old) setup.hub }
     ensures counts { CountsAsTold (W.endings register.old) (W.endings register.new) result }

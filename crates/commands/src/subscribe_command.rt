@@ -7,7 +7,7 @@ ghost use Rattle.configurations.specs.Configurations.{subscribing_of};
 ghost use Rattle.configurations.specs.Kept.{subscribing_kept};
 ghost use Rattle.scripts.specs.Sources.{front_read};
 ghost use Rattle.scripts.specs.Outcomes.{HasRead};
-ghost use Rattle.replay.specs.Text.{outside_text};
+ghost use Rattle.replay.specs.ScriptTexts.{outside_text};
 ghost use Rattle.commands.specs.Runs.{GivesSourceBack, MayHaveGiven, UsesAtMost, UsesWhole};
 ghost use Rattle.commands.specs.Status.{code_of};
 ghost use Rattle.commands.specs.Subscribing.{Conversation, Follows};

@@ -2,18 +2,15 @@
 --     matching-part      the records that a question asks for are those of its name that it asks for
 --     found-step, none-step, alias-step      the three ways in which a step is made
 --     alias-fits, alias-small      the first CNAME of a name
-use Rattle.std.proofs.Common.{◌≡◌, ℕ, ◌+◌, ◌<◌, ◌≤◌, ◌^◌, Bool, true, false, cond, ◌&&◌, ◌||◌, List, [], ◌∷◌, ◌++◌, length, Some, None, Result, Ok, Err, refl, sym, ◌∙◌, ap, subst, arith}
-use Rattle.std.specs.Prelude.{IsTrue, is_ok, filter, find, flat_map, ◌==◌}
+use Rattle.std.proofs.Common.{◌≡◌, ℕ, ◌+◌, ◌<◌, ◌≤◌, ◌^◌, Bool, true, false, cond, ◌&&◌, ◌||◌, List, [], ◌∷◌, ◌++◌, length, Some, None, refl, sym, ◌∙◌, ap, subst, arith}
+use Rattle.std.specs.Prelude.{IsTrue, filter, find, flat_map, ◌==◌}
 use Rattle.std.specs.List.{list_all}
-use Rattle.std.proofs.lemmas.List.{append-nil, length-append}
+use Rattle.std.proofs.lemmas.List.{append-nil}
 use Rattle.push_base.specs.Limits.{max_octets_at_name}
-use Rattle.dnsname.specs.Names.{Labels, octets, same_name}
-use Rattle.dnsname.specs.Reading.{place_of, plain_name_at}
-use Rattle.dnsname.specs.Spelling.{SpellsPlainNameAt}
-use Rattle.dnsname.specs.declared.name.NameFault.{NameFault}
+use Rattle.dnsname.specs.Names.{Labels, same_name}
 use Rattle.rrset.specs.Kinds.{cname_kind, any_kind, in_class, any_class}
 use Rattle.rrset.specs.Rcodes.{noerror}
-use Rattle.rrset.specs.Rdata.{Field, named, shape_fits, with_field}
+use Rattle.rrset.specs.Rdata.{shape_fits}
 use Rattle.rrset.specs.Records.{rr_of, rr_size}
 use Rattle.rrset.specs.RecordSet.{RecordSet, matching, at_name, size_of}
 use Rattle.rrset.specs.declared.record.Key.{Key}
@@ -21,7 +18,6 @@ use Rattle.rrset.specs.declared.record.Shown.{Shown}
 use Rattle.rrset.specs.declared.record.Question.{Question}
 use Rattle.rrset.proofs.Sizes.{size_of-cons}
 use Rattle.dnswire.specs.Writing.{record_octets}
-use Rattle.dnswire.proofs.RecordSizes.{records-size}
 use Rattle.dnsquery.specs.Replies.{Known, Answered, at_step, behind, fits_its_kind, nothing_at, rrs_of, target_of}
 use Rattle.dnsquery.specs.Steps.{asks_for, is_alias, leads_to}
 
@@ -45,7 +41,7 @@ step_by known name goes_on (e ∷ es) aliases = record { rcode = noerror; answer
 step_by known name goes_on [] [] = nothing_at known name
 step_by known name goes_on [] (alias ∷ others) = behind alias (goes_on (target_of alias))
 
-step-is : (known : Known) (question : Question) (name : Labels) (goes_on : Labels → Answered)
+pub step-is : (known : Known) (question : Question) (name : Labels) (goes_on : Labels → Answered)
     → at_step known question name goes_on
     ≡ step_by known name goes_on (part_for question.kind question.class (at_name name known.records)) (part_for cname_kind in_class (at_name name known.records))
 step-is known question name goes_on =
@@ -149,14 +145,14 @@ all-filtered {X} p q (x ∷ xs) all = by (all-filtered p q xs) (p x) (q x) refl 
     by rest true true c-is h = ap (λ d. d && list_all q (filter p xs)) c-is ∙ rest h
     by rest false true c-is h = rest h
 
-is-cname : (kind : ℕ) (rest : Bool) → ((cname_kind == kind || false) && rest) ≡ true → kind ≡ cname_kind
+pub is-cname : (kind : ℕ) (rest : Bool) → ((cname_kind == kind || false) && rest) ≡ true → kind ≡ cname_kind
 is-cname kind rest e = by (cname_kind == kind) refl e
   where
     by : (b : Bool) → (cname_kind == kind) ≡ b → ((b || false) && rest) ≡ true → kind ≡ cname_kind
     by true is h = grind (arith, is)
     by false is h = absurd cc
 
-and-true : (a b : Bool) → (a && b) ≡ true → b ≡ true
+pub and-true : (a b : Bool) → (a && b) ≡ true → b ≡ true
 and-true true b h = h
 and-true false b h = absurd cc
 
@@ -182,45 +178,3 @@ pub alias-small : (known : Known) (name : Labels) (rows : RecordSet) (alias : Ke
 alias-small known name rows alias few rows-is found =
     let small = found-size (λ (e : Key × Shown). is_alias e.0) rows alias found in
     omega (arith, small, ap size_of rows-is, few)
-
--- ---- how much is written
-
-size-filtered : (p : Key × Shown → Bool) (rows : RecordSet) → size_of (filter p rows) ≤ size_of rows
-size-filtered p [] = omega arith
-size-filtered p (e ∷ es) = by (size-filtered p es) (p e)
-  where
-    by : size_of (filter p es) ≤ size_of es → (b : Bool) → size_of (cond b (e ∷ filter p es) (filter p es)) ≤ size_of (e ∷ es)
-    by h true = let first = size_of-cons e (filter p es) in let all = size_of-cons e es in omega (arith, first, all, h)
-    by h false = let all = size_of-cons e es in omega (arith, all, h)
-
-pub found-sized : (known : Known) (name : Labels) (kind class : ℕ) (rows : RecordSet) (before after : List ℕ) → size_of (at_name name known.records) ≤ max_octets_at_name → rows ≡ at_name name known.records
-    → after ≡ before ++ flat_map record_octets (rrs_of (part_for kind class rows)) → length after ≤ length before + max_octets_at_name
-found-sized known name kind class rows before after few rows-is written =
-    let long = ap length written ∙ length-append before (flat_map record_octets (rrs_of (part_for kind class rows))) in
-    let size = records-size (part_for kind class rows) in
-    let less = size-filtered (λ (e : Key × Shown). asks_for kind class e.0) rows in
-    let same = ap size_of rows-is in
-    omega (arith, long, size, less, same, few)
-
--- a CNAME's rdata is a name, to its end
-pub alias-ends : (rdata : List ℕ) (name : Labels) (after : ℕ) → IsTrue (shape_fits cname_kind rdata) → plain_name_at rdata 0 ≡ Ok (name, after) → after ≡ length rdata
-alias-ends rdata name after fits read = by (after == length rdata) refl fits-so
-  where
-    fits-so : is_ok (with_field (named name) (cond (after == length rdata) (Ok []) (Err after))) ≡ true
-    fits-so =
-        subst (λ (r : Result (Labels × ℕ) NameFault). is_ok (elim r as (λ _. Result (List Field) ℕ) [ Err fault ↦ Err (place_of fault) | Ok found ↦ with_field (named found.0) (cond (found.1 == length rdata) (Ok []) (Err found.1)) ]) ≡ true) read fits
-
-    by : (b : Bool) → (after == length rdata) ≡ b → is_ok (with_field (named name) (cond b (Ok []) (Err after))) ≡ true → after ≡ length rdata
-    by true is h = grind (arith, is)
-    by false is h = absurd cc
-
--- so it is no longer than a name
-pub alias-short : (rdata : List ℕ) (name : Labels) (after : ℕ) → IsTrue (shape_fits cname_kind rdata) → plain_name_at rdata 0 ≡ Ok (name, after) → SpellsPlainNameAt rdata 0 name after → length rdata ≤ 255
-alias-short rdata name after fits read spelled =
-    let ends = alias-ends rdata name after fits read in
-    omega (arith, ends, spelled.ends, spelled.is_name.size)
-
-pub alias-sized : (before between after rdata : List ℕ) → between ≡ before ++ [] → length after ≤ length between + 265 + length rdata → length rdata ≤ 255 → length after ≤ length before + 520
-alias-sized before between after rdata same written short =
-    let long = ap length (same ∙ append-nil before) in
-    omega (arith, long, written, short)

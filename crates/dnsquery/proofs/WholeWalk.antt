@@ -1,7 +1,7 @@
 -- A walk, turn by turn.
 --     WalkSoFar      what was written, and what is left of the walk
 --     walk-begins, walk-ends, walk-full, walk-back, walk-on      its first turn; it ends; no target is left; it goes to none; it goes on
-use Rattle.std.proofs.Common.{◌≡◌, ℕ, zero, suc, ◌+◌, ◌-◌, ◌*◌, ◌<◌, ◌≤◌, Bool, true, false, cond, List, [], ◌∷◌, ◌++◌, length, Option, Some, None, refl, sym, ◌∙◌, ap, subst, arith}
+use Rattle.std.proofs.Common.{◌≡◌, ℕ, zero, suc, ◌+◌, ◌-◌, ◌*◌, ◌<◌, ◌≤◌, Bool, true, false, cond, List, [], ◌∷◌, ◌++◌, length, Option, Some, None, refl, sym, ◌∙◌, ap, arith}
 use Rattle.std.specs.Prelude.{flat_map}
 use Rattle.std.proofs.lemmas.List.{append-nil, append_assoc, length-append}
 use Rattle.dnsname.specs.Names.{Labels}
@@ -11,7 +11,7 @@ use Rattle.rrset.specs.RecordSet.{RecordSet}
 use Rattle.rrset.specs.declared.record.Question.{Question}
 use Rattle.dnswire.specs.Writing.{record_octets}
 use Rattle.dnsquery.specs.Replies.{Known, Answered, at_step, ends_here, is_left_out, rrs_of, walk_from}
-use Rattle.dnsquery.specs.Steps.{IsStep, IsWalked, joined, leads_to, room_of}
+use Rattle.dnsquery.specs.Steps.{IsStep, IsWalked, joined, leads_to}
 use Rattle.dnsquery.specs.declared.walk.Turn.{Turn}
 
 abbrev pub octets_of : RecordSet → List ℕ
@@ -42,7 +42,6 @@ module _ (known : Known) (question : Question) (most : ℕ) where
       pub octets : out ++ octets_of (left_of visited name).answers ≡ before ++ octets_of whole.answers
       pub counted : count + length (left_of visited name).answers ≡ length whole.answers
       pub is_rcode : (left_of visited name).rcode ≡ whole.rcode
-      pub sized : length out ≤ length before + 520 * length visited
 
     pub walk-begins : (name : Labels) → most ≤ 8 → whole ≡ left_of [] name → WalkSoFar before [] name 0
     walk-begins name most-is is = record {
@@ -52,18 +51,16 @@ module _ (known : Known) (question : Question) (most : ℕ) where
       octets = ap (λ (a : Answered). before ++ octets_of a.answers) (sym is);
       counted = let same = ap (λ (a : Answered). length a.answers) (sym is) in omega (arith, same);
       is_rcode = ap (λ (a : Answered). a.rcode) (sym is);
-      sized = omega arith;
     }
 
     -- the walk's last records
     ends : (out after : List ℕ) (visited : List Labels) (name : Labels) (count : ℕ) (part : RecordSet) (more rcode : ℕ) → WalkSoFar out visited name count
-        → after ≡ out ++ octets_of part → more ≡ length part → more ≤ 5454 → length after ≤ length before + 64160 → left_of visited name ≡ record { rcode = rcode; answers = part } → IsWalked whole before after (count + more) rcode
-    ends out after visited name count part more rcode s written more-is small sized is = record {
+        → after ≡ out ++ octets_of part → more ≡ length part → more ≤ 5454 → left_of visited name ≡ record { rcode = rcode; answers = part } → IsWalked whole before after (count + more) rcode
+    ends out after visited name count part more rcode s written more-is small is = record {
       octets = written ∙ ap (λ (a : Answered). out ++ octets_of a.answers) (sym is) ∙ s.octets;
       counted = ap (λ n. count + n) more-is ∙ ap (λ (a : Answered). count + length a.answers) (sym is) ∙ s.counted;
       is_rcode = ap (λ (a : Answered). a.rcode) (sym is) ∙ s.is_rcode;
       small = omega (arith, s.small, s.few, s.most-is, small);
-      sized = sized;
     }
 
     left-by : (visited : List Labels) (name : Labels) (out after : List ℕ) (turn : Turn) (target : Option Labels) (s : IsStep known question name out after turn) → turn.target ≡ target
@@ -71,20 +68,11 @@ module _ (known : Known) (question : Question) (most : ℕ) where
     left-by visited name out after turn target s is =
         from-is (most - length visited) visited name ∙ s.leads (goes (most - length visited) visited name) ∙ ap (λ t. leads_to s.part turn.rcode t (goes (most - length visited) visited name)) is
 
-    -- what is written at the last name
-    last-sized : (out after : List ℕ) (visited : List Labels) (name : Labels) (count : ℕ) (target : Option Labels) → WalkSoFar out visited name count
-        → length after ≤ length out + room_of target → length after ≤ length before + 64160
-    last-sized out after visited name count None s more = omega (arith, s.sized, s.few, s.most-is, more)
-    last-sized out after visited name count (Some target) s more = omega (arith, s.sized, s.few, s.most-is, more)
-
-    sized-at : (out after : List ℕ) (name : Labels) (turn : Turn) (target : Option Labels) → IsStep known question name out after turn → turn.target ≡ target → length after ≤ length out + room_of target
-    sized-at out after name turn target step is = subst (λ t. length after ≤ length out + room_of t) is step.sized
-
     -- without a target
     pub walk-ends : (out after : List ℕ) (visited : List Labels) (name : Labels) (count : ℕ) (turn : Turn) → WalkSoFar out visited name count
         → IsStep known question name out after turn → turn.target ≡ None → IsWalked whole before after (count + turn.count) turn.rcode
     walk-ends out after visited name count turn s step none =
-        ends out after visited name count step.part turn.count turn.rcode s step.written step.count step.few (last-sized out after visited name count None s (sized-at out after name turn None step none)) (left-by visited name out after turn None step none)
+        ends out after visited name count step.part turn.count turn.rcode s step.written step.count step.few (left-by visited name out after turn None step none)
 
     -- with a target to which it doesn't go
     stops : (part : RecordSet) → joined part (record { rcode = noerror; answers = [] }) ≡ record { rcode = noerror; answers = part }
@@ -97,7 +85,6 @@ module _ (known : Known) (question : Question) (most : ℕ) where
         → IsStep known question name out after turn → turn.target ≡ Some target → length visited ≡ most → IsWalked whole before after (count + turn.count) noerror
     walk-full out after visited name count turn target s step some full =
         ends out after visited name count step.part turn.count noerror s step.written step.count step.few
-        (last-sized out after visited name count (Some target) s (sized-at out after name turn (Some target) step some))
         (left-by visited name out after turn (Some target) step some
         ∙ ap (λ n. joined step.part (goes n visited name target)) (left-none visited full) ∙ stops step.part)
 
@@ -115,7 +102,6 @@ module _ (known : Known) (question : Question) (most : ℕ) where
         → IsWalked whole before after (count + turn.count) noerror
     walk-back out after visited name count turn target s step some more gone =
         ends out after visited name count step.part turn.count noerror s step.written step.count step.few
-        (last-sized out after visited name count (Some target) s (sized-at out after name turn (Some target) step some))
         (left-by visited name out after turn (Some target) step some ∙ goes-by visited name target step.part true more gone ∙ stops step.part)
 
     pub walk-on : (out after : List ℕ) (visited : List Labels) (name : Labels) (count : ℕ) (turn : Turn) (target : Labels) → WalkSoFar out visited name count
@@ -141,5 +127,4 @@ module _ (known : Known) (question : Question) (most : ℕ) where
               let same : length (left_of visited name).answers ≡ length (step.part ++ next.answers) = ap (λ (a : Answered). length a.answers) left in
               omega (arith, both, same, step.count, s.counted);
           is_rcode = ap (λ (a : Answered). a.rcode) (sym left) ∙ s.is_rcode;
-          sized = let more-written = sized-at out after name turn (Some target) step some in omega (arith, s.sized, more-written, long);
         }

@@ -7,18 +7,18 @@ pub mod query;
 pub mod replying;
 mod walk;
 
-ghost use Rattle.std.specs.Prelude.{◌≡◌, ◌++◌, [], ◌∷◌, codes, Ok, Err, length};
+ghost use Rattle.std.specs.Prelude.{◌≡◌, ◌++◌, [], ◌∷◌, codes, false, true, Ok, Err};
 ghost use Rattle.push_base.specs.Hexadecimal.{hex};
 ghost use Rattle.dnsname.specs.Text.{name};
 ghost use Rattle.dnsname.specs.declared.name.NameFault.TheVariants as names;
 ghost use Rattle.dnswire.specs.declared.message.WireFault.TheVariants as wires;
 ghost use Rattle.dnsquery.specs.Queries.{query_of};
 ghost use Rattle.dnsquery.specs.Replies.{reply_to};
-ghost use Rattle.dnsquery.specs.Worked.{asks, zone};
+ghost use Rattle.dnsquery.specs.Worked.{asks, reached, zone};
 
 pub use lookup::Lookup;
 pub use query::{Query, QueryFault, read_query};
-pub use replying::{reply, write_reply};
+pub use replying::{reply, write_reply, write_reply_to};
 
 /// Examples of queries.
 pub fn worked_queries()
@@ -51,4 +51,10 @@ pub fn worked_replies()
     ensures usual { reply_to zone (hex (codes "000c01200001000000000001" ++ codes "0161076578616d706c6503636f6d0000010001" ++ codes "0000291000000000000000")) ≡ hex (codes "000c85000001000100000000" ++ codes "0161076578616d706c6503636f6d0000010001" ++ codes "0161076578616d706c6503636f6d00000100010000003c0004c0000201") }
     ensures apex { reply_to zone (asks 9 256 (codes "example.com.") 1 1) ≡ hex (codes "000985000001000000000000" ++ codes "076578616d706c6503636f6d0000010001") }
     ensures any_class { reply_to zone (asks 15 0 (codes "a.example.com.") 255 255) ≡ hex (codes "000f84000001000100000000" ++ codes "0161076578616d706c6503636f6d0000ff00ff" ++ codes "0161076578616d706c6503636f6d00000100010000003c0004c0000201") }
+{}
+
+/// Examples of walks along CNAMEs: at the eighth target its CNAME is still added, and the ninth is not gone to.
+pub fn worked_walks()
+    ensures eight { reached 8 ≡ (true, 9) }
+    ensures nine { reached 9 ≡ (false, 9) }
 {}

@@ -2,16 +2,18 @@
 
 ghost use Rattle.std.specs.Prelude.{◌≡◌, ◌+◌, ◌≤◌, ◌++◌, drop, length, take, IfOk, OnOk, OnErr};
 ghost use Rattle.dnswire.specs.Writing.{message_header, question_octets};
-ghost use Rattle.dnsquery.specs.Replies.{CanBeReplied, answers_query, is_answerable, is_unserved, max_reply, own_flags, plain_flags, refuses_query, reply_to_query, walk};
+ghost use Rattle.rrset.specs.Header.{answer_octets, flags_of, id_of};
+ghost use Rattle.dnsquery.specs.Replies.{CanBeReplied, answers_query, is_answerable, is_unserved, malformed_flags, max_reply, own_flags, plain_flags, refuses_query, reply_to, reply_to_query, walk};
 
 use crate::lookup::Lookup;
-use crate::query::Query;
+use crate::query::{Query, QueryFault, read_query};
 use crate::walk::walk;
+use dnswire::header_field;
 use dnswire::writing::{message_header, write_question};
 use rrset::classes::{ANY, IN};
-use rrset::header::RESPONSE;
+use rrset::header::{KEPT_FLAGS, RESPONSE};
 use rrset::kinds::{self, is_meta};
-use rrset::rcodes::{NOTIMP, REFUSED};
+use rrset::rcodes::{FORMERR, NOTIMP, REFUSED};
 use rrset::{NoMemory, Question};
 use std::alloc::Global;
 
@@ -21,7 +23,7 @@ pub const RECURSION_DESIRED: u16 = 0x0100;
 /// AA (RFC 1035, 4.1.1).
 pub const AUTHORITATIVE: u16 = 0x0400;
 
-/// The most octets of a reply: a header, a question, eight CNAMEs, and the records of a name; this project's own.
+/// The most octets of a reply: a header, a question, eight CNAMEs, and the records of a name (this project's own).
 pub const MAX_REPLY: usize = 64_431;
 
 /// QR, RD as asked, and an RCODE.
@@ -69,7 +71,17 @@ fn write_message(
     out.extend_from_slice(answers)
 }
 
-/// Appends a reply without answers, with an RCODE of a server that isn't asked.
+/// Appends the answer to a message that is no query: its ID, OPCODE and RD, and FORMERR (RFC 1035, 4.1.1).
+fn write_malformed(message: &[u8], out: &mut Vec<u8>) -> Result<(), NoMemory>
+    requires { 12 ≤ length message.now }
+    ensures octets { OnOk result (out.new.items ≡ out.old.items ++ answer_octets (id_of message.now) (malformed_flags (flags_of message.now))) }
+    ensures size { OnOk result (length out.new.items ≤ length out.old.items + 12) }
+{
+    let flags = RESPONSE + (header_field(message, 2) & KEPT_FLAGS) + u16::from(FORMERR);
+    out.extend_from_slice(&message_header(header_field(message, 0), flags, 0, 0, 0))
+}
+
+/// Appends a reply with an RCODE, without AA and answers.
 fn refuse(query: &Query, rcode: u8, out: &mut Vec<u8>) -> Result<(), NoMemory>
     ensures octets { OnOk result (out.new.items ≡ out.old.items ++ refuses_query query.now rcode) }
     ensures size { OnOk result (length out.new.items ≤ length out.old.items + 271) }
@@ -114,6 +126,27 @@ pub fn write_reply<R: Lookup>(
         return refuse(query, NOTIMP, out);
     }
     answer(alloc, query, records, out)
+}
+
+/// Appends the reply to a message, that of FORMERR where it is no query (RFC 1034, 4.3.2; RFC 1035, 4.1.1). Where memory runs
+/// out part of it may have been appended.
+pub fn write_reply_to<R: Lookup>(
+    alloc: Global,
+    message: &[u8],
+    records: &R,
+    out: &mut Vec<u8>,
+) -> Result<(), NoMemory>
+    requires header { 12 ≤ length message.now }
+    requires records { CanBeReplied (R.known records.now).records }
+    ensures octets { OnOk result (out.new.items ≡ out.old.items ++ reply_to (R.known records.now) message.now) }
+    ensures size { OnOk result (length out.new.items ≤ length out.old.items + max_reply) }
+{
+    match read_query(alloc, message) {
+        Ok(query) => write_reply(alloc, &query, records, out),
+        Err(QueryFault::NoMemory) => Err(NoMemory),
+        Err(QueryFault::Counts) => write_malformed(message, out),
+        Err(QueryFault::Wire(_)) => write_malformed(message, out),
+    }
 }
 
 /// Copies octets to the front of a buffer.

@@ -25,7 +25,7 @@ pub const MAX_TARGETS: usize = 8;
 
 /// What a walk does at a name: how many records it adds, and the target to which it goes on, or else the RCODE with which
 /// it ends.
-#[derive(Debug, Drop)]
+#[derive(Drop)]
 pub(crate) struct Turn {
     pub(crate) count: usize,
     pub(crate) rcode: u8,
@@ -33,7 +33,7 @@ pub(crate) struct Turn {
 }
 
 /// How many records a walk has added, and the RCODE with which it ended.
-#[derive(Clone, Copy, Debug)]
+#[derive(Clone, Copy)]
 pub(crate) struct Walked {
     pub(crate) count: usize,
     pub(crate) rcode: u8,
@@ -91,7 +91,6 @@ fn first_alias(rows: &[(Key, Shown)]) -> Option<&(Key, Shown)>
 fn target_in(alloc: Global, rdata: &[u8]) -> Result<Name, NoMemory>
     requires { IsTrue (shape_fits cname_kind rdata.now) }
     ensures name { IfOk result (λ name. name ≡ target_in rdata.now) }
-    ensures small { IfOk result (λ name. length rdata.now ≤ 255) }
 {
     match Name::read_plain(alloc, rdata, 0) {
         Ok((name, _)) => Ok(name),

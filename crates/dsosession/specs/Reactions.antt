@@ -9,14 +9,19 @@ use Rattle.rrset.specs.Header.{is_response, opcode_of, update_opcode}
 use Rattle.dsotlv.specs.Messages.{dso_opcode}
 use Rattle.dsotlv.specs.TlvKinds.{keepalive_tlv, retry_delay_tlv, padding_tlv, subscribe_tlv, push_tlv, unsubscribe_tlv, reconfirm_tlv, keepalive_size, retry_delay_size, unsubscribe_size}
 use Rattle.dsotlv.specs.declared.message.DsoHead.{DsoHead}
+use Rattle.dsosession.specs.declared.reaction.TheConstants as reaction
 use Rattle.dsosession.specs.declared.session.EndReason.{EndReason}
 use Rattle.dsosession.specs.declared.session.EndReason.TheVariants as ends
 use Rattle.dsosession.specs.declared.session.CloseReason.{CloseReason}
 use Rattle.dsosession.specs.declared.session.CloseReason.TheVariants as closes
 use Rattle.dsosession.specs.declared.session.Reaction.{Reaction}
-use Rattle.dsosession.specs.declared.session.Reaction.TheVariants.{Answer, Grant, Abort, Subscribe, Unsubscribe, Reconfirm, Update, NotImplemented}
+use Rattle.dsosession.specs.declared.session.Reaction.TheVariants.{Answer, Grant, Abort, Subscribe, Unsubscribe, Reconfirm, Update, Query, NotImplemented}
 use Rattle.dsosession.specs.declared.session.ClientReaction.{ClientReaction}
 use Rattle.dsosession.specs.declared.session.ClientReaction.TheVariants as clients
+
+-- OPCODE of a query (RFC 1035, 4.1.1)
+abbrev pub query_opcode : ℕ
+query_opcode = reaction.QUERY_OPCODE
 
 -- a Keepalive, as a request or without an answer: the primary TLV alone makes it one (RFC 8490, 7.1)
 abbrev pub is_keepalive : DsoHead → Bool
@@ -53,6 +58,7 @@ abbrev pub server_reaction : DsoHead → Bool → Reaction
 server_reaction head established = chosen (
     (is_response head.flags, Abort ends.Answer)
     ∷ (opcode_of head.flags == update_opcode, Update)
+    ∷ (opcode_of head.flags == query_opcode, Query)
     ∷ (not (opcode_of head.flags == dso_opcode), NotImplemented)
     ∷ (not head.zero_counts, answer_or_end head formerr ends.Counts)
     ∷ []) (dso_reaction head established)

@@ -9,6 +9,9 @@ use dsotlv::{DsoHead, data_sizes};
 use rrset::header::{DSO_OPCODE, UPDATE_OPCODE, is_response, opcode_of};
 use rrset::rcodes::{DSOTYPENI, FORMERR};
 
+/// OPCODE of a query (RFC 1035, 4.1.1).
+pub const QUERY_OPCODE: u16 = 0;
+
 /// Whether a message is a Keepalive that is no answer (RFC 8490, 7.1).
 pub(crate) fn is_keepalive(head: &DsoHead) -> bool
     ensures { result ≡ is_keepalive head.now }
@@ -84,6 +87,9 @@ pub fn server_reaction(head: &DsoHead, established: bool) -> Reaction
     }
     if opcode == UPDATE_OPCODE {
         return Reaction::Update;
+    }
+    if opcode == QUERY_OPCODE {
+        return Reaction::Query;
     }
     if opcode != DSO_OPCODE {
         return Reaction::NotImplemented;

@@ -11,11 +11,12 @@ use Rattle.std.proofs.lemmas.List.{append_assoc, take-append-le, take_min}
 use Rattle.std.proofs.lemmas.List.Sums.{sum_by-append}
 use Rattle.coalesce.proofs.ReadBack.{each-append}
 use Rattle.coalesce.specs.Net.{push_frame}
+use Rattle.dnsquery.specs.Replies.{reply_to}
 use Rattle.dsosession.specs.Reactions.{server_reaction}
 use Rattle.dsosession.specs.declared.session.EndReason.{EndReason}
 use Rattle.dsosession.specs.declared.session.EndReason.TheVariants as ends
 use Rattle.dsosession.specs.declared.session.Reaction.{Reaction}
-use Rattle.dsosession.specs.declared.session.Reaction.TheVariants.{Answer, Grant, Abort, Subscribe, Unsubscribe, Reconfirm, Update, NotImplemented}
+use Rattle.dsosession.specs.declared.session.Reaction.TheVariants.{Answer, Grant, Abort, Subscribe, Unsubscribe, Reconfirm, Update, Query, NotImplemented}
 use Rattle.dsotlv.specs.Answers.{answer_to, refusal_to, grant_to, not_implemented, answer_to_update, stop_message, push_message}
 use Rattle.dsotlv.specs.Messages.{head_of, primary_data, frame}
 use Rattle.dsotlv.specs.Notices.{question_of}
@@ -23,12 +24,12 @@ use Rattle.dsotlv.specs.declared.message.DsoHead.{DsoHead}
 use Rattle.dsotlv.specs.declared.message.Notice.{Notice}
 use Rattle.inflight.specs.Flight.{EndsAMessage, FirstAnswersEnd}
 use Rattle.pushserver.specs.Calls.{after_calls}
-use Rattle.pushserver.specs.Giving.{has_home}
-use Rattle.pushserver.specs.Hubs.{newest, now, keeps_now, tells_now, in_session, update}
+use Rattle.pushserver.specs.Giving.{has_home, known_at}
+use Rattle.pushserver.specs.Hubs.{newest, now, state_now, keeps_now, tells_now, in_session, update}
 use Rattle.pushserver.specs.PlainHubs.{Hub, Session, Subscription, Queue, Made, frame_of, size_of_made, plain_keeps, new_hub}
 use Rattle.pushserver.proofs.SessionLists.{each-changed}
 use Rattle.pushserver.proofs.Subscribing.{verdict-holds}
-use Rattle.pushserver.proofs.Walks.{AnyMessage, bring_any, Step, restarts, reacts, answers_subscribe, answers_update, packs_names, comes_to_stop, ends_with, copies_front, IsKept, keeps-calls}
+use Rattle.pushserver.proofs.Walks.{AnyMessage, bring_any, Step, restarts, reacts, answers_subscribe, answers_update, answers_query, packs_names, comes_to_stop, ends_with, copies_front, IsKept, keeps-calls}
 use Rattle.pushserver.proofs.hub_steps.Cases.{itself_as}
 use Rattle.pushserver.proofs.hub_steps.Pairs.{all-weaken}
 use Rattle.pushsession.specs.Reactions.{reacts_itself, by_itself}
@@ -143,6 +144,7 @@ module _ (hub : Hub) where
   ends-by_itself Subscribe message session h = h
   ends-by_itself Reconfirm message session h = h
   ends-by_itself Update message session h = h
+  ends-by_itself Query message session h = h
 
   ends-itself : (message : List ℕ) (session : Session) → Ends session → Ends (reacts_itself (keeps_now hub) hub.timers (now hub) message session)
   ends-itself message session h = by (head_of message)
@@ -166,6 +168,7 @@ module _ (hub : Hub) where
   ends-step (reacts message) session h = ends-itself message session h
   ends-step (answers_subscribe message any) session h = ends-answered (id_of message) (question_of (primary_data message)) session h
   ends-step (answers_update before message) session h = ends-answers (newest hub) (now hub) false (answer_to_update (id_of message) (update before message).0) session h
+  ends-step (answers_query message any) session h = ends-answers (newest hub) (now hub) false (reply_to (known_at (state_now hub)) message) session h
   ends-step packs_names session h =
       let pack = (tells_now hub).packed session.subscriptions session.queue in
       ends-notices (newest hub) (now hub) pack.0 (record session { queue = pack.1 }) h

@@ -6,7 +6,7 @@ use Rattle.std.specs.List.{AllByRecursion}
 use Rattle.std.specs.Io.KnownBytes.{append_known}
 use Rattle.push_base.specs.Causes.{next_count, CountsOne}
 use Rattle.push_base.specs.Told.{TellsMore}
-use Rattle.pushserver.specs.KeptHubs.{KeptHub}
+use Rattle.hubasking.specs.AskingHubs.{AskingHub}
 use Rattle.hublock.specs.declared.loop_end.LoopEnd.{LoopEnd}
 use Rattle.hublock.specs.declared.loop_end.LoopEnd.TheVariants as ends
 use Rattle.hublock.specs.Calls.{HubCall}
@@ -68,8 +68,8 @@ tells_join {A} (Some x) (Some y) (Some z) xs ys p q = q ∙ (ap (λ (s : List A)
 
 -- ---- calls
 
-leads_join : (a b c : KeptHub) (xs ys : List HubCall) → Leads a xs b → Leads b ys c → Leads a (xs ++ ys) c
-leads_join a b c [] ys p q = subst (λ (h : KeptHub). Leads h ys c) p q
+leads_join : (a b c : AskingHub) (xs ys : List HubCall) → Leads a xs b → Leads b ys c → Leads a (xs ++ ys) c
+leads_join a b c [] ys p q = subst (λ (h : AskingHub). Leads h ys c) p q
 leads_join a b c (x ∷ xs) ys p q = (p.0, p.1, leads_join p.0 b c xs ys p.2 q)
 
 pub to_none : (s : Option GateState) → LeadsTo [] s s

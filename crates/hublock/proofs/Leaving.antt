@@ -6,6 +6,7 @@ use Rattle.hublock.specs.Calls.{Left}
 use Rattle.hublock.specs.Gates.{GateState, DoesApart, Tells, with_session}
 use Rattle.hublock.specs.Loops.{Observed, observed, Starves}
 use Rattle.hublock.specs.Writer.{WritesUntil}
+use Rattle.hublock.specs.LinkReader.{LinkSeen, seen}
 use Rattle.hublock.specs.Ticker.{TicksUntil}
 use Rattle.hublock.specs.Runs.{ReadsSession, WritesSession, HearsLink}
 
@@ -17,9 +18,9 @@ pub writes_left : (session : ℕ) (before : Observed ℕ) (a b : Option GateStat
     → b ≡ a → WritesSession session before (observed a told calls) turns end → WritesSession session before (observed b told calls) turns end
 writes_left session before a b told calls turns end e p = subst (λ (s : Option GateState). WritesSession session before (observed s told calls) turns end) (sym e) p
 
-pub hears_left : (link : ℕ) (failed : Type 0) (before : Observed (List ℕ)) (a b : Option GateState) (told : Option (List (List ℕ))) (calls : Option ℕ) (rest : Option (List (List ℕ))) (turns : ℕ) (end : LoopEnd)
-    → b ≡ a → HearsLink link failed before (observed a told calls) rest turns end → HearsLink link failed before (observed b told calls) rest turns end
-hears_left link failed before a b told calls rest turns end e p = subst (λ (s : Option GateState). HearsLink link failed before (observed s told calls) rest turns end) (sym e) p
+pub hears_left : (link : ℕ) (failed : Type 0) (before : LinkSeen) (a b : Option GateState) (given sent : Option (List (List ℕ))) (calls : Option ℕ) (rest : Option (List (List ℕ))) (turns : ℕ) (end : LoopEnd)
+    → b ≡ a → HearsLink link failed before (seen a given sent calls) rest turns end → HearsLink link failed before (seen b given sent calls) rest turns end
+hears_left link failed before a b given sent calls rest turns end e p = subst (λ (s : Option GateState). HearsLink link failed before (seen s given sent calls) rest turns end) (sym e) p
 
 pub ticks_left : (before : Observed ℕ) (a b : Option GateState) (told : Option (List ℕ)) (calls : Option ℕ) (turns : ℕ) (end : LoopEnd)
     → b ≡ a → TicksUntil before (observed a told calls) turns end → TicksUntil before (observed b told calls) turns end

@@ -1,4 +1,5 @@
 pub mod Answering
+pub mod Holding
 pub mod Turning
 pub mod Leading
 pub mod Ticks

@@ -11,7 +11,8 @@ use Rattle.std.proofs.lemmas.Map.Made.{is_member-filter, length-le_from_is_membe
 use Rattle.std.proofs.lemmas.Slice.Zip.{AllZip-long}
 use Rattle.rrset.proofs.Distinct.{distinct_filter, distinct_push}
 use Rattle.pushserver.specs.Hubs.{Numbered, session_in, max_sessions}
-use Rattle.pushserver.specs.KeptHubs.{KeptHub, SessionStandsFor}
+use Rattle.pushserver.specs.KeptHubs.{SessionStandsFor}
+use Rattle.hubasking.specs.AskingHubs.{AskingHub}
 use Rattle.hublock.specs.Inside.{AreMarks, has_mark, is_live}
 use Rattle.hublock.proofs.Answering.{StandsForOne}
 
@@ -32,7 +33,7 @@ second : (a b : Bool) → (a && b) ≡ true → b ≡ true
 second true b h = h
 second false b h = absurd (true≢false (sym h))
 
-module _ (hub : KeptHub) (over : List ℕ) (session : ℕ) (live : is_live hub session ≡ true) where
+module _ (hub : AskingHub) (over : List ℕ) (session : ℕ) (live : is_live hub session ≡ true) where
   abbrev kept : List ℕ
   kept = filter (is_live hub) over
 
@@ -56,6 +57,6 @@ module _ (hub : KeptHub) (over : List ℕ) (session : ℕ) (live : is_live hub s
 
   pub marks_fit : StandsForOne hub → AreMarks over → has_mark session kept ≡ false → length kept < max_sessions
   marks_fit (plain, stands) apart fresh =
-      let short = length-le_from_is_member nat_eq_equiv (kept ++ session ∷ []) (numbers hub.sessions) (marks_apart apart fresh) (λ q m. found_in q hub.sessions (alive q m)) in
-      let as_many : length plain.sessions ≡ length hub.sessions = AllZip-long (SessionStandsFor plain) hub.sessions plain.sessions stands.sessions in
-      omega (arith, short, length-append kept (session ∷ []), length-map hub.sessions (λ e. e.0), as_many, stands.sound.few)
+      let short = length-le_from_is_member nat_eq_equiv (kept ++ session ∷ []) (numbers hub.hub.sessions) (marks_apart apart fresh) (λ q m. found_in q hub.hub.sessions (alive q m)) in
+      let as_many : length plain.sessions ≡ length hub.hub.sessions = AllZip-long (SessionStandsFor plain) hub.hub.sessions plain.sessions stands.sessions in
+      omega (arith, short, length-append kept (session ∷ []), length-map hub.hub.sessions (λ e. e.0), as_many, stands.sound.few)

@@ -7,9 +7,10 @@ use Rattle.hublock.specs.declared.loop_end.LoopEnd.{LoopEnd}
 use Rattle.hublock.specs.declared.jobs.Work.TheVariants as works
 use Rattle.hublock.specs.Gates.{GateState}
 use Rattle.hublock.specs.Loops.{Observed}
+use Rattle.hublock.specs.LinkReader.{LinkSeen}
 use Rattle.hublock.specs.Runs.{HearsLink, DoesWork}
 
-pub does_hear : {L K D T : Type 0} (line : Option GateState → L → Observed ℕ) (wire : Option GateState → K → Observed ℕ) (datagrams : Option GateState → D → Observed (List ℕ)) (left : D → Option (List (List ℕ))) (faults : D → ℕ) (clock : Option GateState → T → Observed ℕ) (link : ℕ) (d : D) (links : Option D) (before after : Option GateState) (turns : ℕ) (end : LoopEnd)
+pub does_hear : {L K D T : Type 0} (line : Option GateState → L → Observed ℕ) (wire : Option GateState → K → Observed ℕ) (datagrams : Option GateState → D → LinkSeen) (left : D → Option (List (List ℕ))) (faults : D → ℕ) (clock : Option GateState → T → Observed ℕ) (link : ℕ) (d : D) (links : Option D) (before after : Option GateState) (turns : ℕ) (end : LoopEnd)
     → IsSomeAnd links (λ e. HearsLink link (Rose (faults d) (faults e)) (datagrams before d) (datagrams after e) (left e) turns end) → DoesWork line wire datagrams left faults clock (works.Hear link d) links before after turns end
 does_hear line wire datagrams left faults clock link d None before after turns end p = absurd p
 does_hear line wire datagrams left faults clock link d (Some e) before after turns end p = p

@@ -13,7 +13,7 @@ use Rattle.pushserver.specs.declared.fault.HubFault.{HubFault}
 use Rattle.pushserver.specs.declared.fault.HubFault.TheVariants as faults
 use Rattle.hublock.specs.declared.loop_end.LoopEnd.{LoopEnd}
 use Rattle.hublock.specs.declared.loop_end.LoopEnd.TheVariants as ends
-use Rattle.hublock.specs.Calls.{HubCall, Took, Gave, Received, Went, Passed, Left, Connected}
+use Rattle.hublock.specs.Calls.{HubCall, Took, Gave, Received, Asked, Went, Passed, Left, Connected}
 use Rattle.hublock.specs.Gates.{GateState, DoesTurn, Answers, GoesOn, WasDone, WaitsUnless, LeadsTo}
 use Rattle.hublock.specs.Loops.{Observed, CountsMore, UsesTurns, LeavesRest, LastWas, IsEndOf}
 use Rattle.hublock.specs.Writer.{IsGive, octets_of, given_in, octets_given, WriteRun, GoesOnWith, IsPassingGive, EndsWith, IsLastGive, IsStarvedGive, WriteCause, WritesUntil, WritesOn, TakesPiece}
@@ -186,6 +186,7 @@ give_moved : (b c : Option GateState) (call : HubCall) → (GoesOn b → GoesOn 
 give_moved b c (Gave session before after answer) f p = with_moved b c answer f p
 give_moved b c (Took session piece count) f p = absurd p
 give_moved b c (Received link datagram answer) f p = absurd p
+give_moved b c (Asked link before after answer) f p = absurd p
 give_moved b c (Went link answer) f p = absurd p
 give_moved b c (Passed at fault) f p = absurd p
 give_moved b c (Left session) f p = absurd p

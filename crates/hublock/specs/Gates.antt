@@ -15,14 +15,14 @@ use Rattle.push_base.specs.declared.role.Role.{Role}
 use Rattle.pushserver.specs.declared.given.Given.{Given}
 use Rattle.pushserver.specs.declared.given.Given.TheVariants as givens
 use Rattle.pushserver.specs.declared.fault.HubFault.{HubFault}
-use Rattle.pushserver.specs.KeptHubs.{KeptHub}
+use Rattle.hubasking.specs.AskingHubs.{AskingHub}
 use Rattle.hublock.specs.Calls.{HubCall, Does}
 use Rattle.hublock.specs.declared.signal.Overs.{Overs}
 
 -- the number of calls counts those that are turns; it stays at its last value. Its caller may wait once where the last call
 -- found nothing to take or to give
 pub record GateState : Type 0 where
-  pub hub : KeptHub
+  pub hub : AskingHub
   pub quit : Bool
   pub calls : ℕ
   pub idle : Bool
@@ -107,9 +107,9 @@ StopsAtOnce None used = ⊤
 StopsAtOnce (Some state) used = (state.quit ≡ true) × (used ≡ 0)
 
 -- each call by the contract of the hub's call
-abbrev pub Leads : KeptHub → List HubCall → KeptHub → Type 0
+abbrev pub Leads : AskingHub → List HubCall → AskingHub → Type 0
 Leads before [] after = after ≡ before
-Leads before (call ∷ calls) after = (next : KeptHub) × Does before call next × Leads next calls after
+Leads before (call ∷ calls) after = (next : AskingHub) × Does before call next × Leads next calls after
 
 -- a count rose by so many, or stands at its last value
 abbrev pub RoseBy : ℕ → ℕ → ℕ → Type 0

@@ -7,8 +7,10 @@ pub mod Sharing
 pub mod Loops
 pub mod Reader
 pub mod Writer
+pub mod Rounds
 pub mod LinkReader
 pub mod Ticker
+pub mod Worked
 pub mod Runs
 pub mod Jobs
 pub mod Registers

@@ -24,7 +24,7 @@ abbrev pub observed : {A : Type 0} → Option GateState → Option (List A) → 
 observed gate told calls = record { gate = gate; told = told; calls = calls }
 
 -- memory for a buffer ran out before all
-abbrev pub Starves : {A : Type 0} → Observed A → Observed A → LoopEnd → Type 0
+abbrev pub Starves : {A : Type 0} → A → A → LoopEnd → Type 0
 Starves before after end = (end ≡ ends.NoMemory) × (after ≡ before)
 
 -- calls of one kind lead from one state of a gate to another

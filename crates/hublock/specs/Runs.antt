@@ -13,7 +13,7 @@ use Rattle.hublock.specs.Gates.{GateState, DoesApart, Tells, with_line, with_ses
 use Rattle.hublock.specs.Loops.{Observed, observed, Starves}
 use Rattle.hublock.specs.Reader.{ReadsUntil}
 use Rattle.hublock.specs.Writer.{WritesUntil}
-use Rattle.hublock.specs.LinkReader.{HearsUntil}
+use Rattle.hublock.specs.LinkReader.{LinkSeen, HearsUntil}
 use Rattle.hublock.specs.Ticker.{TicksUntil}
 
 -- the loop of a session's line ended so, and then others were told that the line is over
@@ -30,13 +30,13 @@ WritesSession session before after turns end =
     × (Starves before (record after { gate = gate }) end ⊎ WritesUntil session before (record after { gate = gate }) turns end)
     × DoesApart (Left session) gate gone × Tells with_session gone after.gate
 
--- the loop of a link ended so; a receipt may have failed
-abbrev pub HearsLink : ℕ → Type 0 → Observed (List ℕ) → Observed (List ℕ) → Option (List (List ℕ)) → ℕ → LoopEnd → Type 0
+-- the loop of a link ended so; the datagrams may have failed
+abbrev pub HearsLink : ℕ → Type 0 → LinkSeen → LinkSeen → Option (List (List ℕ)) → ℕ → LoopEnd → Type 0
 HearsLink link failed before after left turns end = Starves before after end ⊎ HearsUntil link failed before after left turns end
 
 -- what a job did, by its work: how its object is observed with a gate is given for each kind. Lines, wires and clocks aren't
 -- given back
-abbrev pub DoesWork : {L K D T : Type 0} → (Option GateState → L → Observed ℕ) → (Option GateState → K → Observed ℕ) → (Option GateState → D → Observed (List ℕ)) → (D → Option (List (List ℕ))) → (D → ℕ) → (Option GateState → T → Observed ℕ) → Work L K D T → Option D → Option GateState → Option GateState → ℕ → LoopEnd → Type 0
+abbrev pub DoesWork : {L K D T : Type 0} → (Option GateState → L → Observed ℕ) → (Option GateState → K → Observed ℕ) → (Option GateState → D → LinkSeen) → (D → Option (List (List ℕ))) → (D → ℕ) → (Option GateState → T → Observed ℕ) → Work L K D T → Option D → Option GateState → Option GateState → ℕ → LoopEnd → Type 0
 DoesWork line wire datagrams left faults clock (works.Read session l) links before after turns end =
     (told : Option (List ℕ)) × (calls : Option ℕ) × (rest : Option (List ℕ)) × ReadsSession session (line before l) (observed after told calls) rest turns end
 DoesWork line wire datagrams left faults clock (works.Write session w) links before after turns end =

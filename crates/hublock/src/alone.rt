@@ -4,7 +4,8 @@ ghost use Rattle.std.specs.Prelude.{◌≡◌, None, Some, false};
 ghost use Rattle.hublock.specs.Gates.{has_nothing};
 
 use crate::{Gate, Overs};
-use pushserver::{Given, Heard, Hub, HubFault};
+use hubasking::Hub;
+use pushserver::{Given, Heard, HubFault};
 use std::marker::Model;
 
 /// A hub of one thread. It tells its hub, the number of its calls that are turns, and what it told others. It never waits.
@@ -103,6 +104,12 @@ impl Gate for Alone {
         self.calls = self.calls.saturating_add(1);
         self.idle = false;
         self.hub.hear_uncounted(link, datagram)
+    }
+
+    fn ask(&mut self, link: usize, buf: &mut [u8]) -> Result<Option<usize>, HubFault> {
+        self.calls = self.calls.saturating_add(1);
+        self.idle = false;
+        Ok(self.hub.ask(link, buf)?)
     }
 
     fn gone(&mut self, link: usize) -> Result<bool, HubFault> {

@@ -1,11 +1,11 @@
 //! What the loops ask of a hub.
 
-ghost use Rattle.std.specs.Prelude.{◌≡◌, ◌==◌, ◌≤◌, false, true, Option, length, IfOk};
-ghost use Rattle.push_base.specs.Limits.{max_moment};
+ghost use Rattle.std.specs.Prelude.{◌≡◌, ◌==◌, ◌≤◌, false, true, Option, length, IfOk, IfSome};
+ghost use Rattle.push_base.specs.Limits.{max_datagram, max_moment};
 ghost use Rattle.dnswire.specs.Reading.{hearing_of};
 ghost use Rattle.pushserver.specs.Counting.{octets_of};
 ghost use Rattle.pushserver.specs.Observing.{SaysWhy};
-ghost use Rattle.hublock.specs.Calls.{Gave, Left, Passed, Received, Took, Went, fault_of};
+ghost use Rattle.hublock.specs.Calls.{Asked, Gave, Left, Passed, Received, Took, Went, fault_of};
 ghost use Rattle.push_base.specs.declared.role.Role.{Role};
 ghost use Rattle.hublock.specs.Gates.{Answers, DoesApart, DoesTurn, GateState, IsIdle, Tells, Waits, has_nothing, with_line, with_session};
 
@@ -42,6 +42,14 @@ pub trait Gate: Drop {
         ensures call { DoesTurn (Received link datagram.now result) (state self.old) (state self.new) }
         ensures idle { IsIdle false (state self.new) }
         ensures unread { IfOk result (λ heard. SaysWhy heard (hearing_of datagram.now)) };
+
+    /// The link is asked what is due first (RFC 6762, 5.2). Gives how many octets its datagram has, which stands at the front of
+    /// the buffer, of which the rest stays, or nothing where nothing is due.
+    fn ask(&mut self, link: usize, buf: &mut [u8]) -> Result<Option<usize>, HubFault>
+        requires { max_datagram ≤ length buf.old }
+        ensures call { DoesTurn (Asked link buf.old buf.new result) (state self.old) (state self.new) }
+        ensures idle { IsIdle false (state self.new) }
+        ensures bound { IfOk result (λ count. IfSome count (λ n. n ≤ length buf.old)) };
 
     /// A link has gone away, and all its rows with it. Gives whether that was entered.
     fn gone(&mut self, link: usize) -> Result<bool, HubFault>

@@ -6,6 +6,7 @@ ghost use Rattle.push_base.specs.declared.role.Role.TheVariants as roles;
 ghost use Rattle.hublock.specs.declared.loop_end.LoopEnd.TheVariants.{LinkFault};
 ghost use Rattle.hublock.specs.Gates.{IsFor};
 ghost use Rattle.hublock.specs.Jobs.{GivesBack, role_in};
+ghost use Rattle.hublock.specs.LinkReader.{seen};
 ghost use Rattle.hublock.specs.Loops.{observed};
 ghost use Rattle.hublock.specs.Runs.{DoesWork, HearsLink, ReadsSession, WritesSession};
 ghost use Rattle.hublock.specs.Ticker.{TicksUntil};
@@ -157,7 +158,7 @@ fn hear<G: Gate, D: Datagrams + Drop>(
     mut datagrams: D,
     turns: u64,
 ) -> JobEnd<D, G::Left>
-    ensures run { IsSomeAnd result.links (λ links. HearsLink link (Rose (D.faults datagrams) (D.faults links)) (observed (G.state gate) (D.given datagrams) (D.calls datagrams)) (observed (G.left result.left) (D.given links) (D.calls links)) (D.left links) turns result.end) }
+    ensures run { IsSomeAnd result.links (λ links. HearsLink link (Rose (D.faults datagrams) (D.faults links)) (seen (G.state gate) (D.given datagrams) (D.sent datagrams) (D.calls datagrams)) (seen (G.left result.left) (D.given links) (D.sent links) (D.calls links)) (D.left links) turns result.end) }
 {
     let end = hear_link(alloc, &mut gate, link, &mut datagrams, turns);
     let left = gate.leave();
@@ -219,7 +220,7 @@ where
         ensures links { GivesBack (role_in self.work) result.links }
 
         // Over any gate that tells: the loop of its work ended so, over its own object, with its turns, and what others are told then.
-        ensures run { DoesWork (λ gate line. observed gate (L.given line) (L.calls line)) (λ gate wire. observed gate (K.taken wire) (K.calls wire)) (λ gate links. observed gate (D.given links) (D.calls links)) D.left D.faults (λ gate clock. observed gate (T.moments clock) (T.calls clock))
+        ensures run { DoesWork (λ gate line. observed gate (L.given line) (L.calls line)) (λ gate wire. observed gate (K.taken wire) (K.calls wire)) (λ gate links. seen gate (D.given links) (D.sent links) (D.calls links)) D.left D.faults (λ gate clock. observed gate (T.moments clock) (T.calls clock))
             self.work result.links (G.state self.gate) (G.left result.left) self.turns result.end }
     {
         let Job {

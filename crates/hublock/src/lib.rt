@@ -21,6 +21,7 @@ mod shared;
 mod signal;
 mod ticker;
 mod wakeups;
+mod worked;
 mod writer;
 
 pub use alone::Alone;
@@ -40,4 +41,5 @@ pub use seats::Seats;
 pub use shared::{OnePart, Shared};
 pub use signal::{Overs, Signal};
 pub use ticker::clock_loop;
+pub use worked::worked_rounds;
 pub use writer::write_loop;

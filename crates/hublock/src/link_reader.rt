@@ -1,9 +1,10 @@
 //! The loop of a link.
 
-ghost use Rattle.std.specs.Prelude.{◌≡◌, ◌<◌, ◌≤◌, ◌⊎◌, length, IsErrOf};
+ghost use Rattle.std.specs.Prelude.{◌≡◌, ◌≤◌, ◌⊎◌, false, length, true, IsErrOf};
 ghost use Rattle.push_base.specs.Causes.{Rose};
-ghost use Rattle.hublock.specs.LinkReader.{EndsGone, HearsOn, HearsUntil};
-ghost use Rattle.hublock.specs.Loops.{Starves, observed};
+ghost use Rattle.push_base.specs.Limits.{max_datagram};
+ghost use Rattle.hublock.specs.LinkReader.{EndsGone, HearsUntil, TurnsOn, seen};
+ghost use Rattle.hublock.specs.Loops.{Starves};
 
 use crate::{Gate, LoopEnd};
 use push_base::limits::MAX_DATAGRAM;
@@ -24,16 +25,16 @@ fn tell_gone<G: Gate>(gate: &mut G, link: usize) -> LoopEnd
     }
 }
 
-/// Receives once, and hands the datagram on. Gives the turns that are left.
+/// Receives once, and hands the datagram on. Gives that the link is asked next, and the turns that are left.
 fn hear_on<G: Gate, D: Datagrams>(
     gate: &mut G,
     link: usize,
     datagrams: &mut D,
     buf: &mut [u8],
     turns: u64,
-) -> Result<u64, LoopEnd>
-    requires { 0 < length buf.old }
-    ensures run { HearsOn link (Rose (D.faults datagrams.old) (D.faults datagrams.new)) (observed (G.state gate.old) (D.given datagrams.old) (D.calls datagrams.old)) (observed (G.state gate.new) (D.given datagrams.new) (D.calls datagrams.new)) (D.left datagrams.new) turns result }
+) -> Result<(bool, u64), LoopEnd>
+    requires { max_datagram ≤ length buf.old }
+    ensures run { TurnsOn false link (Rose (D.faults datagrams.old) (D.faults datagrams.new)) (seen (G.state gate.old) (D.given datagrams.old) (D.sent datagrams.old) (D.calls datagrams.old)) (seen (G.state gate.new) (D.given datagrams.new) (D.sent datagrams.new) (D.calls datagrams.new)) (D.left datagrams.new) turns result }
     ensures later { D.faults datagrams.old ≤ D.faults datagrams.new }
     ensures cause { IsErrOf result LoopEnd.LinkFault → Rose (D.faults datagrams.old) (D.faults datagrams.new) }
 {
@@ -45,7 +46,7 @@ fn hear_on<G: Gate, D: Datagrams>(
     }
     let count = match datagrams.recv(buf) {
         Ok(Got::Bytes(count)) => count,
-        Ok(Got::Quiet) => return Ok(turns - 1),
+        Ok(Got::Quiet) => return Ok((true, turns - 1)),
         Ok(Got::End) => return Err(LoopEnd::Finished),
         Err(_) => return Err(tell_gone(gate, link)),
     };
@@ -53,8 +54,59 @@ fn hear_on<G: Gate, D: Datagrams>(
         return Err(LoopEnd::Turns);
     }
     match gate.hear(link, &buf[..count]) {
-        Ok(_) => Ok(turns - 2),
+        Ok(_) => Ok((true, turns - 2)),
         Err(HubFault::NoMemory) => Err(LoopEnd::NoMemory),
+    }
+}
+
+/// Asks the link once, and sends what it is asked. Gives whether it is asked again, and the turns that are left.
+fn ask_on<G: Gate, D: Datagrams>(
+    gate: &mut G,
+    link: usize,
+    datagrams: &mut D,
+    buf: &mut [u8],
+    turns: u64,
+) -> Result<(bool, u64), LoopEnd>
+    requires { max_datagram ≤ length buf.old }
+    ensures run { TurnsOn true link (Rose (D.faults datagrams.old) (D.faults datagrams.new)) (seen (G.state gate.old) (D.given datagrams.old) (D.sent datagrams.old) (D.calls datagrams.old)) (seen (G.state gate.new) (D.given datagrams.new) (D.sent datagrams.new) (D.calls datagrams.new)) (D.left datagrams.new) turns result }
+    ensures later { D.faults datagrams.old ≤ D.faults datagrams.new }
+    ensures cause { IsErrOf result LoopEnd.LinkFault → Rose (D.faults datagrams.old) (D.faults datagrams.new) }
+{
+    if turns == 0 {
+        return Err(LoopEnd::Turns);
+    }
+    let count = match gate.ask(link, buf) {
+        Ok(Some(count)) => count,
+        Ok(None) => return Ok((false, turns - 1)),
+        Err(HubFault::NoMemory) => return Err(LoopEnd::NoMemory),
+    };
+    if turns == 1 {
+        return Err(LoopEnd::Turns);
+    }
+    match datagrams.send(&buf[..count]) {
+        Ok(()) => Ok((true, turns - 2)),
+        Err(_) => Err(tell_gone(gate, link)),
+    }
+}
+
+/// Asks the link or receives. Gives whether the link is asked next, and the turns that are left.
+fn turn_on<G: Gate, D: Datagrams>(
+    gate: &mut G,
+    link: usize,
+    datagrams: &mut D,
+    buf: &mut [u8],
+    asks: bool,
+    turns: u64,
+) -> Result<(bool, u64), LoopEnd>
+    requires { max_datagram ≤ length buf.old }
+    ensures run { TurnsOn asks link (Rose (D.faults datagrams.old) (D.faults datagrams.new)) (seen (G.state gate.old) (D.given datagrams.old) (D.sent datagrams.old) (D.calls datagrams.old)) (seen (G.state gate.new) (D.given datagrams.new) (D.sent datagrams.new) (D.calls datagrams.new)) (D.left datagrams.new) turns result }
+    ensures later { D.faults datagrams.old ≤ D.faults datagrams.new }
+    ensures cause { IsErrOf result LoopEnd.LinkFault → Rose (D.faults datagrams.old) (D.faults datagrams.new) }
+{
+    if asks {
+        ask_on(gate, link, datagrams, buf, turns)
+    } else {
+        hear_on(gate, link, datagrams, buf, turns)
     }
 }
 
@@ -66,23 +118,28 @@ fn hear_all<G: Gate, D: Datagrams>(
     buf: &mut [u8],
     turns: u64,
 ) -> LoopEnd
-    requires { 0 < length buf.old }
-    ensures run { HearsUntil link (Rose (D.faults datagrams.old) (D.faults datagrams.new)) (observed (G.state gate.old) (D.given datagrams.old) (D.calls datagrams.old)) (observed (G.state gate.new) (D.given datagrams.new) (D.calls datagrams.new)) (D.left datagrams.new) turns result }
+    requires { max_datagram ≤ length buf.old }
+    ensures run { HearsUntil link (Rose (D.faults datagrams.old) (D.faults datagrams.new)) (seen (G.state gate.old) (D.given datagrams.old) (D.sent datagrams.old) (D.calls datagrams.old)) (seen (G.state gate.new) (D.given datagrams.new) (D.sent datagrams.new) (D.calls datagrams.new)) (D.left datagrams.new) turns result }
     ensures later { D.faults datagrams.old ≤ D.faults datagrams.new }
     ensures cause { result ≡ LoopEnd.LinkFault → Rose (D.faults datagrams.old) (D.faults datagrams.new) }
 {
     let mut left = turns;
+    let mut asks = false;
     'turns: loop {
-        match hear_on(gate, link, datagrams, buf, left) {
-            Ok(less) => left = less,
+        match turn_on(gate, link, datagrams, buf, asks, left) {
+            Ok((again, less)) => {
+                asks = again;
+                left = less;
+            }
             Err(end) => return end,
         }
     }
 }
 
-/// Hands each datagram of a link to the hub, until they end, or nothing is left to do, or all turns were used. A turn is one
-/// call of the datagrams or one of the hub. Where the datagrams fail, the hub is told that the link is gone, which is no turn,
-/// and the loop ends so, or for want of memory where that call had none.
+/// Hands each datagram of a link to the hub, and behind each, and where none came for a while, asks the link what is due, until
+/// nothing is, and sends that, each datagram before the next call (RFC 8766, 5.6); until the datagrams end, or nothing is left
+/// to do, or all turns were used. A turn is one call of the datagrams or one of the hub. Where a receipt or a send fails, the
+/// hub is told that the link is gone, which is no turn, and the loop ends so, or for want of memory where that call had none.
 pub fn link_loop<G: Gate, D: Datagrams>(
     alloc: Global,
     gate: &mut G,
@@ -90,7 +147,7 @@ pub fn link_loop<G: Gate, D: Datagrams>(
     datagrams: &mut D,
     turns: u64,
 ) -> LoopEnd
-    ensures run { Starves (observed (G.state gate.old) (D.given datagrams.old) (D.calls datagrams.old)) (observed (G.state gate.new) (D.given datagrams.new) (D.calls datagrams.new)) result ⊎ HearsUntil link (Rose (D.faults datagrams.old) (D.faults datagrams.new)) (observed (G.state gate.old) (D.given datagrams.old) (D.calls datagrams.old)) (observed (G.state gate.new) (D.given datagrams.new) (D.calls datagrams.new)) (D.left datagrams.new) turns result }
+    ensures run { Starves (seen (G.state gate.old) (D.given datagrams.old) (D.sent datagrams.old) (D.calls datagrams.old)) (seen (G.state gate.new) (D.given datagrams.new) (D.sent datagrams.new) (D.calls datagrams.new)) result ⊎ HearsUntil link (Rose (D.faults datagrams.old) (D.faults datagrams.new)) (seen (G.state gate.old) (D.given datagrams.old) (D.sent datagrams.old) (D.calls datagrams.old)) (seen (G.state gate.new) (D.given datagrams.new) (D.sent datagrams.new) (D.calls datagrams.new)) (D.left datagrams.new) turns result }
     ensures later { D.faults datagrams.old ≤ D.faults datagrams.new }
     ensures cause { result ≡ LoopEnd.LinkFault → Rose (D.faults datagrams.old) (D.faults datagrams.new) }
 {

@@ -14,8 +14,9 @@ use crate::marks::Marks;
 use crate::wakeups::{LastSeen, Wakeups};
 use crate::{Blanks, Ended, Feed, Locked, Register, Seats, Signal};
 use history::entry::Totals;
+use hubasking::Hub;
 use push_base::{NoMemory, Role};
-use pushserver::{ConnectFault, Hub};
+use pushserver::ConnectFault;
 use std::alloc::Global;
 use std::sync::{Arc, Mutex, MutexGuard, Wait};
 
@@ -48,8 +49,8 @@ impl<B: Books> Held<B> {
 
 /// What goes behind the lock, and the feed and the seats that have every part of its ledgers.
 fn opened<B: Books>(hub: Hub, blanks: Blanks, over: Marks) -> (Locked<B>, Feed<B>, Seats<B>)
-    requires hub { (counted hub ≡ each 0) × (hub.numbers_given ≡ 0) }
-    requires stands { (plain : Plain) × StandsFor hub plain }
+    requires hub { (counted hub ≡ each 0) × (hub.hub.numbers_given ≡ 0) }
+    requires stands { (plain : Plain) × StandsFor hub.hub plain }
     requires names { AreNamed blanks B.names }
     ensures hub { result.0.hub ≡ hub }
     ensures feed { result.1 ≡ all_parts }
@@ -88,8 +89,8 @@ impl<B: Books> HubLock<B> {
         blanks: Blanks,
         register: &mut W,
     ) -> Result<(HubLock<B>, Feed<B>, Seats<B>), NoMemory>
-        requires hub { (counted hub ≡ each 0) × (hub.numbers_given ≡ 0) }
-        requires stands { (plain : Plain) × StandsFor hub plain }
+        requires hub { (counted hub ≡ each 0) × (hub.hub.numbers_given ≡ 0) }
+        requires stands { (plain : Plain) × StandsFor hub.hub plain }
         requires names { AreNamed blanks B.names }
         ensures registered { W.hubs register.new ≡ entered (W.hubs register.old) hub }
         ensures endings { W.endings register.new ≡ W.endings register.old }

@@ -1,7 +1,7 @@
 //! The value under the lock.
 
-ghost use Rattle.std.specs.Prelude.{◌≡◌, ◌≤◌, ◌+◌, length, IfOk, OnOk, OnErr, IsErrOf};
-ghost use Rattle.push_base.specs.Limits.{max_moment};
+ghost use Rattle.std.specs.Prelude.{◌≡◌, ◌≤◌, ◌+◌, length, IfOk, IfSome, OnErr, IsErrOf};
+ghost use Rattle.push_base.specs.Limits.{max_datagram, max_moment};
 ghost use Rattle.dnswire.specs.Reading.{hearing_of};
 ghost use Rattle.history.specs.Totals.{totals};
 ghost use Rattle.pushserver.specs.PlainHubs.{Hub as Plain};
@@ -9,7 +9,7 @@ ghost use Rattle.pushserver.specs.Hubs.{max_sessions};
 ghost use Rattle.pushserver.specs.KeptHubs.{StandsFor};
 ghost use Rattle.pushserver.specs.Counting.{octets_of};
 ghost use Rattle.pushserver.specs.Observing.{SaysWhy};
-ghost use Rattle.hublock.specs.Calls.{Connected, Does, Gave, Left, Passed, Received, Took, Went, fault_of};
+ghost use Rattle.hublock.specs.Calls.{Asked, Connected, Does, Gave, Left, Passed, Received, Took, Went, fault_of};
 ghost use Rattle.hublock.specs.Feeds.{IsBelow, each, parts_each};
 ghost use Rattle.hublock.specs.Inside.{AcceptsAsGone, AcceptsAsHeard, AcceptsNone, MayAcceptChange, MayAcceptMoment, counted, is_done, signalled, with_hub, without_mark};
 
@@ -18,8 +18,9 @@ use crate::marks::Marks;
 use crate::wakeups::{Wakes, wakes_at_entry, wakes_at_give, wakes_at_signal, wakes_at_take};
 use crate::{Feed, Seats, Signal};
 use history::entry::Totals;
+use hubasking::Hub;
 use push_base::Role;
-use pushserver::{ConnectFault, Given, Heard, Hub, HubFault};
+use pushserver::{ConnectFault, Given, Heard, HubFault};
 use std::marker::Model;
 use std::sync::ledger::Book;
 
@@ -60,8 +61,8 @@ impl<B: Books> Locked<B> {
         requires changes { changes.total ≡ (counted hub).changes }
         requires heard { heard.total ≡ (counted hub).heard }
         requires moments { moments.total ≡ (counted hub).moments }
-        requires made { made.total ≡ hub.numbers_given }
-        requires stands { (plain : Plain) × StandsFor hub plain }
+        requires made { made.total ≡ hub.hub.numbers_given }
+        requires stands { (plain : Plain) × StandsFor hub.hub plain }
         ensures { result.hub ≡ hub }
     {
         Locked {
@@ -79,7 +80,7 @@ impl<B: Books> Locked<B> {
 
     /// The hub stands for a plain one, whose counts are the totals of the books.
     pub fn holds(&self)
-        ensures { (plain : Plain) × StandsFor self.now.hub plain × (self.now.books ≡ totals plain.history) × (self.now.seats ≡ plain.numbers_given) }
+        ensures { (plain : Plain) × StandsFor self.now.hub.hub plain × (self.now.books ≡ totals plain.history) × (self.now.seats ≡ plain.numbers_given) }
     {
         let _ = &self.hub;
     }
@@ -150,6 +151,18 @@ impl<B: Books> Locked<B> {
         answer
     }
 
+    /// The link is asked what is due first. Gives how many octets its datagram has. Nobody waits for that.
+    pub fn ask(&mut self, link: usize, buf: &mut [u8]) -> Result<Option<usize>, HubFault>
+        requires { max_datagram ≤ length buf.old }
+        ensures call { Does self.old.hub (Asked link buf.old buf.new result) self.new.hub }
+        ensures rest { self.new ≡ with_hub self.old self.new.hub }
+        ensures counts { counted self.new.hub ≡ counted self.old.hub }
+        ensures bound { IfOk result (λ count. IfSome count (λ n. n ≤ length buf.old)) }
+    {
+        self.wakes = Wakes::Nobody;
+        Ok(self.hub.ask(link, buf)?)
+    }
+
     /// A link has gone away, and all its rows with it. Gives whether that was entered.
     pub fn gone(&mut self, link: usize, feed: &mut Feed<B>) -> Result<bool, HubFault>
         ensures call { Does self.old.hub (Went link result) self.new.hub }
@@ -209,7 +222,7 @@ impl<B: Books> Locked<B> {
         requires { seats.old.parts ≡ parts_each }
         ensures call { Does self.old.hub (Connected result) self.new.hub }
         ensures parts { seats.new.parts ≡ seats.old.parts }
-        ensures made { seats.old.made ≡ self.old.hub.numbers_given }
+        ensures made { seats.old.made ≡ self.old.hub.hub.numbers_given }
         ensures ok { IfOk result (λ number. (number ≡ seats.old.made) × (seats.new.made ≡ seats.old.made + 1)) }
         ensures err { OnErr result (seats.new.made ≡ seats.old.made) }
         ensures no_seat { IsErrOf result ConnectFault.NoSeat → max_sessions ≤ seats.old.made }

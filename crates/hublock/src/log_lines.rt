@@ -43,6 +43,15 @@ pub(crate) fn tell_hearing<R: Log>(
     debug!(rt; "link {link}: {octets} octets, {}", hearing_words(answer));
 }
 
+/// What a link is asked.
+pub(crate) fn tell_asking<R: Log>(rt: &R, link: usize, answer: &Result<Option<usize>, HubFault>) {
+    match answer {
+        Ok(Some(octets)) => debug!(rt; "link {link}: asked with {octets} octets"),
+        Ok(None) => {}
+        Err(HubFault::NoMemory) => info!(rt; "link {link}: not asked: no memory"),
+    }
+}
+
 /// A link that has gone away.
 pub(crate) fn tell_going<R: Log>(rt: &R, link: usize, answer: &Result<bool, HubFault>) {
     match answer {

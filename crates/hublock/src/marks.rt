@@ -5,8 +5,9 @@ ghost use Rattle.pushserver.specs.PlainHubs.{Hub as Plain};
 ghost use Rattle.pushserver.specs.KeptHubs.{StandsFor};
 ghost use Rattle.hublock.specs.Inside.{has_mark, is_live, marked, without_mark};
 
+use hubasking::Hub;
 use push_base::NoMemory;
-use pushserver::{Hub, MAX_SESSIONS};
+use pushserver::MAX_SESSIONS;
 use std::alloc::Global;
 use std::marker::Model;
 
@@ -62,7 +63,7 @@ impl Marks {
 
     /// A session that lives is marked. The marks of those that don't go.
     pub(crate) fn add(&mut self, session: u64, hub: &Hub)
-        requires { (plain : Plain) × StandsFor hub.now plain }
+        requires { (plain : Plain) × StandsFor hub.now.hub plain }
         ensures { self.new ≡ marked hub.now session self.old }
     {
         if !hub.live(session) {

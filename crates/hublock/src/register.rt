@@ -1,18 +1,18 @@
 //! Which hubs go behind locks, and how servers finish.
 
 ghost use Rattle.std.specs.Prelude.{◌≡◌, None, Option, List};
-ghost use Rattle.pushserver.specs.KeptHubs.{KeptHub};
+ghost use Rattle.hubasking.specs.AskingHubs.{AskingHub};
 ghost use Rattle.hublock.specs.Registers.{Ending, entered};
 
 use crate::Ended;
 use history::entry::Totals;
-use pushserver::Hub;
+use hubasking::Hub;
 
 /// Is told of each hub that goes behind a lock, and of each server that finishes, so that what runs a server can say which hub
 /// its jobs share, and what its counts are.
 pub trait Register {
     /// The hubs of which it was told, in order, where it tells them.
-    ghost hubs: { Self → Option (List KeptHub) };
+    ghost hubs: { Self → Option (List AskingHub) };
 
     /// How the servers ended of which it was told, in order, where it tells that.
     ghost endings: { Self → Option (List Ending) };

@@ -2,6 +2,7 @@
 
 ghost use Rattle.std.specs.Prelude.{◌≡◌, ◌≤◌};
 ghost use Rattle.push_base.specs.Causes.{Rose};
+ghost use Rattle.hublock.specs.LinkReader.{seen};
 ghost use Rattle.hublock.specs.Loops.{observed};
 ghost use Rattle.hublock.specs.Runs.{HearsLink, ReadsSession, WritesSession};
 ghost use Rattle.hublock.specs.Ticker.{TicksUntil};
@@ -78,7 +79,7 @@ pub(crate) fn hear_link<G: Gate, D: Datagrams>(
     datagrams: &mut D,
     turns: u64,
 ) -> Ended
-    ensures run { HearsLink link (Rose (D.faults datagrams.old) (D.faults datagrams.new)) (observed (G.state gate.old) (D.given datagrams.old) (D.calls datagrams.old)) (observed (G.state gate.new) (D.given datagrams.new) (D.calls datagrams.new)) (D.left datagrams.new) turns result }
+    ensures run { HearsLink link (Rose (D.faults datagrams.old) (D.faults datagrams.new)) (seen (G.state gate.old) (D.given datagrams.old) (D.sent datagrams.old) (D.calls datagrams.old)) (seen (G.state gate.new) (D.given datagrams.new) (D.sent datagrams.new) (D.calls datagrams.new)) (D.left datagrams.new) turns result }
     ensures later { D.faults datagrams.old ≤ D.faults datagrams.new }
     ensures cause { result ≡ LoopEnd.LinkFault → Rose (D.faults datagrams.old) (D.faults datagrams.new) }
 {

@@ -1,16 +1,16 @@
 //! A hub behind its lock, as one thread calls it.
 
-ghost use Rattle.std.specs.Prelude.{◌≡◌, ◌==◌, ◌≤◌, ◌⊎◌, None, Some, false, true, length, IfOk, OnErr};
-ghost use Rattle.push_base.specs.Limits.{max_moment};
+ghost use Rattle.std.specs.Prelude.{◌≡◌, ◌==◌, ◌≤◌, ◌⊎◌, None, Some, false, true, length, IfOk, IfSome, OnErr};
+ghost use Rattle.push_base.specs.Limits.{max_datagram, max_moment};
 ghost use Rattle.dnswire.specs.Reading.{hearing_of};
 ghost use Rattle.pushserver.specs.Counting.{octets_of};
 ghost use Rattle.pushserver.specs.Observing.{SaysWhy};
-ghost use Rattle.hublock.specs.Calls.{Gave, Left, Passed, Received, Took, Went, fault_of};
+ghost use Rattle.hublock.specs.Calls.{Asked, Gave, Left, Passed, Received, Took, Went, fault_of};
 ghost use Rattle.hublock.specs.Feeds.{each, one_change_more, one_moment_more, RisesAsGone, RisesAsHeard};
 ghost use Rattle.hublock.specs.Gates.{DoesApart, DoesTurn, IsIdle, Tells, Waits, has_nothing, with_line, with_session};
 ghost use Rattle.hublock.specs.Sharing.{with_feed};
 
-use crate::log_lines::{reason_in, tell_change, tell_end, tell_going, tell_hearing};
+use crate::log_lines::{reason_in, tell_asking, tell_change, tell_end, tell_going, tell_hearing};
 use crate::wakeups::LastSeen;
 use crate::{Books, Feed, Gate, HubLock, Signal};
 use dsosession::session::EndReason;
@@ -116,6 +116,20 @@ impl<R: Log + Wait + Copy, B: Books> Gate for Shared<R, B> {
         let answer = locked.hear(link, datagram, &mut self.feed);
         self.known = self.lock.held.leave(self.role, locked);
         tell_hearing(&self.rt, link, datagram.len(), &answer);
+        answer
+    }
+
+    fn ask(&mut self, link: usize, buf: &mut [u8]) -> Result<Option<usize>, HubFault>
+        requires { max_datagram ≤ length buf.old }
+        ensures call { DoesTurn (Asked link buf.old buf.new result) None None }
+        ensures idle { IsIdle false None }
+        ensures bound { IfOk result (λ count. IfSome count (λ n. n ≤ length buf.old)) }
+        ensures feed { self.new ≡ self.old }
+    {
+        let mut locked = self.lock.held.locked.lock(&self.rt);
+        let answer = locked.ask(link, buf);
+        self.known = self.lock.held.leave(self.role, locked);
+        tell_asking(&self.rt, link, &answer);
         answer
     }
 

@@ -1,6 +1,6 @@
 -- When questions are due, and that what was asked isn't.
---     due_by_moment, waits_a_second
-use Rattle.std.proofs.Common.{◌≡◌, ℕ, ◌+◌, ◌≤◌, Bool, true, false, cond, ◌&&◌, ◌||◌, List, [], ◌∷◌, length, drop, refl, sym, ◌∙◌, ap, arith}
+--     due_by_moment, due_within_a_second, not_due_at_once
+use Rattle.std.proofs.Common.{◌≡◌, ℕ, ◌+◌, ◌<◌, ◌≤◌, Bool, true, false, cond, ◌&&◌, ◌||◌, List, [], ◌∷◌, length, drop, refl, sym, ◌∙◌, ap, arith}
 use Rattle.std.specs.Prelude.{min, filter, fold, flat_map, nat_le, nat_lt, ◌==◌}
 use Rattle.std.specs.List.{list_any}
 use Rattle.push_base.specs.Causes.{next_count}
@@ -14,7 +14,7 @@ use Rattle.linkask.specs.declared.asks.KeptAsks.{KeptAsks}
 use Rattle.rrset.specs.Records.{matches}
 use Rattle.rrset.specs.Tables.{counted}
 use Rattle.std.proofs.lemmas.List.{length-drop}
-use Rattle.linkask.specs.Laws.{DueByMoment, WaitsASecond}
+use Rattle.linkask.specs.Laws.{DueByMoment, DueWithinASecond, NotDueAtOnce}
 use Rattle.linkask.proofs.Pauses.{pause-second}
 use Rattle.linkask.proofs.Tests.{fold-capped, fold-come, any-filter, any-flat, any-none}
 
@@ -49,11 +49,16 @@ asked-some count = grind arith
 not-between : (now moment : ℕ) → (nat_lt now moment && nat_le moment now) ≡ false
 not-between now moment = grind arith
 
-pause-to-come : (now pause : ℕ) → 1000 ≤ pause → nat_le (now + pause) now ≡ false
-pause-to-come now pause long = grind (arith, long)
+pause-to-come : (now pause moment : ℕ) → 1000 ≤ pause → moment < now + 1000 → nat_le (now + pause) moment ≡ false
+pause-to-come now pause moment long soon = grind (arith, long, soon)
 
-pub waits_a_second : WaitsASecond
-waits_a_second rows now question asks = λ i. (asked-some asks.count i || pause-to-come now (pause_after (next_count asks.count)) (pause-second (next_count asks.count)) i) || none i
+pub due_within_a_second : DueWithinASecond
+due_within_a_second rows now moment question asks soon = λ i.
+    (asked-some asks.count i || pause-to-come now (pause_after (next_count asks.count)) moment (pause-second (next_count asks.count)) soon i)
+    || list_any (λ (row : Key × HeardRow). wants_refresh now moment row.1) (rows_for question rows)
+
+pub not_due_at_once : NotDueAtOnce
+not_due_at_once rows now question asks = due_within_a_second rows now now question asks (omega arith) ∙ none
   where
     none : list_any (λ (row : Key × HeardRow). wants_refresh now now row.1) (rows_for question rows) ≡ false
     none = any-none (λ (row : Key × HeardRow). wants_refresh now now row.1) (λ row. any-none (λ m. nat_lt now m && nat_le m now) (not-between now) (refreshes row.1)) (rows_for question rows)

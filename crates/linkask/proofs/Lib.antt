@@ -1,4 +1,5 @@
 pub mod Pauses
+pub mod Sizes
 pub mod Tests
 pub mod Due
 pub mod Order

@@ -1,16 +1,18 @@
 -- What the schedule promises.
 --     DueByMoment      a question is due where its moment has come
 --     AskedOnce      what was asked isn't due at the same moment, and all else as it was: so asking until none is due sends what is due, each once
---     WaitsASecond      nor within the next second, whatever is heard or goes meanwhile
+--     NotDueAtOnce      at the same moment it isn't due, whatever is heard or goes meanwhile
+--     DueWithinASecond      within the next second only a record that grows old makes it due
 --     EndingKeepsBounds, ReconfirmingKeepsBounds, HearingKeepsBounds      bounds stay bounds where rows end, where one is reconfirmed, and, lowered, where a link is heard
 --     GoingKeepsBounds, ReasonsKeepBounds      and where all rows of a link go at once, and where a reason comes or goes or a question begins anew
 --     WantingWants, UnwantingDrops, BeginningAnew      what these do to the questions that are wanted
-use Rattle.std.specs.Prelude.{◌≡◌, ℕ, false, List, [], ◌∷◌, Some, None, nat_le, nat_lt, IsTrue, if◌then◌else◌}
+use Rattle.std.specs.Prelude.{◌≡◌, ◌<◌, ◌+◌, ℕ, false, List, [], ◌∷◌, Some, None, nat_le, nat_lt, IsTrue, if◌then◌else◌}
+use Rattle.std.specs.List.{list_any}
 use Rattle.rrset.specs.declared.record.Key.{Key}
 use Rattle.rrset.specs.declared.record.Question.{Question}
 use Rattle.rrset.specs.declared.record.HeardRr.{HeardRr}
-use Rattle.linkcache.specs.Rows.{LinkRows, at_moment, heard, reconfirmed}
-use Rattle.linkask.specs.Asking.{Asks, Wanted, anew, are_in_order, is_due, next, all_due, all_asked, asked_now, unwanted, wanted}
+use Rattle.linkcache.specs.Rows.{LinkRows, at_moment, heard, reconfirmed, second}
+use Rattle.linkask.specs.Asking.{Asks, Wanted, anew, are_in_order, is_due, next, all_due, all_asked, asked_now, rows_for, unwanted, wanted, wants_refresh}
 use Rattle.linkask.specs.Bounds.{Kept, due_moment, AreBounds, all_heard, are_kept, begun_anew, reasons_for, wanted_in, with_reason, without_reason}
 use Rattle.linkcache.specs.declared.rules.LinkRules.{LinkRules}
 
@@ -18,8 +20,13 @@ abbrev pub DueByMoment : Type 0
 DueByMoment = (rows : LinkRows) (now : ℕ) (e : Question × Asks) → is_due rows now e ≡ nat_le (due_moment rows e) now
 
 -- the rows may be others then
-abbrev pub WaitsASecond : Type 0
-WaitsASecond = (rows : LinkRows) (now : ℕ) (question : Question) (asks : Asks) → is_due rows now (question, asked_now now asks) ≡ false
+abbrev pub NotDueAtOnce : Type 0
+NotDueAtOnce = (rows : LinkRows) (now : ℕ) (question : Question) (asks : Asks) → is_due rows now (question, asked_now now asks) ≡ false
+
+-- as the first pause is a second, and no later one is shorter
+abbrev pub DueWithinASecond : Type 0
+DueWithinASecond = (rows : LinkRows) (now moment : ℕ) (question : Question) (asks : Asks) → moment < now + second
+    → is_due rows moment (question, asked_now now asks) ≡ list_any (λ row. wants_refresh now moment row.1) (rows_for question rows)
 
 -- one step of asking until none is due
 pub record AsksTheFirst (rows : LinkRows) (now : ℕ) (all : Wanted) (sent : List ℕ) (others : List (List ℕ)) : Type 0 where

@@ -1,7 +1,7 @@
 //! The questions that a link is asked, so that not all are looked at (RFC 6762, 5.2).
 
-ghost use Rattle.std.specs.Prelude.{◌≡◌, ◌<◌, ◌≤◌, [], length, false, Some, None, IfOk, OnOk, OnErr, if◌then◌else◌};
-ghost use Rattle.push_base.specs.Limits.{max_moment};
+ghost use Rattle.std.specs.Prelude.{◌≡◌, ◌<◌, ◌≤◌, [], length, false, true, Some, None, IfOk, OnOk, OnErr, if◌then◌else◌};
+ghost use Rattle.push_base.specs.Limits.{max_datagram, max_moment};
 ghost use Rattle.linkask.specs.Asking.{next};
 ghost use Rattle.linkask.specs.Bounds.{AreBounds, IsFirstDue, IsLeast, IsDueAt, all_heard, all_reasons, asked_at, begun_anew, unbounded, wanted_in, with_reason, without_reason};
 
@@ -47,7 +47,7 @@ fn is_due_at(entries: &mut [(Question, KeptAsks)], place: usize, cache: &Cache, 
         return false;
     }
     let question = &entries[place].0;
-    let due = due_moment(cache.rows().at(&question.name), question, asks);
+    let due = due_moment(cache.rows_at(&question.name), question, asks);
     entries[place].1 = KeptAsks { due, ..asks };
     due <= now
 }
@@ -94,7 +94,7 @@ fn ask_at(entries: &mut [(Question, KeptAsks)], place: usize, cache: &Cache, now
         ..entries[place].1
     };
     let question = &entries[place].0;
-    let due = due_moment(cache.rows().at(&question.name), question, asks);
+    let due = due_moment(cache.rows_at(&question.name), question, asks);
     entries[place].1 = KeptAsks { due, ..asks };
 }
 
@@ -158,6 +158,7 @@ impl Asker {
         ensures err { OnErr result (wanted_in self.new ≡ wanted_in self.old) }
         ensures none { IfOk result (λ found. found ≡ false → out.new.items ≡ out.old.items) }
         ensures nothing { OnErr result (out.new.items ≡ out.old.items) }
+        ensures size { IfOk result (λ found. found ≡ true → length out.new.items ≤ max_datagram) }
         ensures reasons { all_reasons self.new ≡ all_reasons self.old }
         ensures bounds { AreBounds cache.now.state.rows self.new }
     {
@@ -170,7 +171,7 @@ impl Asker {
         };
         self.least = 0;
         let question = &self.entries[place].0;
-        *out = datagram(alloc, cache.rows().at(&question.name), question, now)?;
+        *out = datagram(alloc, cache.rows_at(&question.name), question, now)?;
         ask_at(&mut self.entries, place, cache, now);
         Ok(true)
     }

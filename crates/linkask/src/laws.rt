@@ -1,12 +1,14 @@
 //! Laws of the schedule.
 
-ghost use Rattle.linkask.specs.Laws.{AskedOnce, BeginningAnew, DueByMoment, EndingKeepsBounds, GoingKeepsBounds, HearingKeepsBounds, ReasonsKeepBounds, ReconfirmingKeepsBounds, UnwantingDrops, WaitsASecond, WantingWants};
+ghost use Rattle.linkask.specs.Laws.{AskedOnce, BeginningAnew, DueByMoment, DueWithinASecond, EndingKeepsBounds, GoingKeepsBounds, HearingKeepsBounds, NotDueAtOnce, ReasonsKeepBounds, ReconfirmingKeepsBounds, UnwantingDrops, WantingWants};
 
 /// A question is due where its moment has come. What was asked isn't due at the same moment, whatever is heard or goes
-/// meanwhile; so asking until none is due sends what is due, in its order, each once.
+/// meanwhile; so asking until none is due sends what is due, in its order, each once. Within a second only a record that grows
+/// old makes it due.
 pub fn schedule()
     ensures moment { DueByMoment }
-    ensures asked { WaitsASecond }
+    ensures asked { NotDueAtOnce }
+    ensures second { DueWithinASecond }
     ensures once { AskedOnce }
 {}
 

@@ -4,6 +4,7 @@ ghost use Rattle.std.specs.Prelude.{◌≡◌, ◌≤◌, [], length, IfOk, OnOk
 ghost use Rattle.push_base.specs.Limits.{max_moment};
 ghost use Rattle.clockqueue.specs.Deadlines.{AreDeadlines};
 ghost use Rattle.dnsname.specs.Names.{Labels};
+ghost use Rattle.rrset.specs.KeyedRows.{rows_of};
 ghost use Rattle.rrset.specs.Records.{key_cmp};
 ghost use Rattle.nametable.specs.Nodes.{room_at};
 ghost use Rattle.linkcache.specs.Links.{HasRoom, IsLink};
@@ -82,6 +83,13 @@ impl Cache {
         ensures link { IsLink self.now.state }
     {
         &self.rows
+    }
+
+    /// What the link has heard of a name, in key order. Names are those of the link.
+    pub fn rows_at(&self, name: &Name) -> &[(Key, HeardRow)]
+        ensures { result.now ≡ rows_of name.now self.now.state.rows }
+    {
+        self.rows.at(name)
     }
 
     /// The records that the link shows under its domain.

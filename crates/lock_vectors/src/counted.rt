@@ -2,7 +2,7 @@
 
 ghost use Rattle.std.specs.Prelude.{◌≡◌, ◌<◌};
 
-use crate::hubs::example_hub;
+use crate::hubs::{TIMERS, example_homes};
 use crate::rows::are_octets;
 use push_base::{Steps, hex_octets};
 use pushserver::{Given, Hub, MAX_SESSIONS};
@@ -29,7 +29,8 @@ const PUSHED: &str =
 
 /// As many sessions as there may be, of which the first asks.
 fn asking_hub(alloc: Global) -> Result<Hub, Fail> {
-    let mut hub = example_hub(alloc)?;
+    let homes = example_homes(alloc)?;
+    let mut hub = Hub::new(homes, TIMERS)?;
     'sessions: for _ in 0..MAX_SESSIONS {
         hub.connect()?;
     }

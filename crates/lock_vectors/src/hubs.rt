@@ -1,6 +1,8 @@
 //! A hub of one zone and two links, and what is sent to it.
 
 ghost use Rattle.std.specs.Prelude.{◌≡◌, ℕ, IfOk};
+ghost use Rattle.history.specs.Kept.{state_of};
+ghost use Rattle.history.specs.Plans.{IsStart};
 ghost use Rattle.zoneupdate.specs.Zones.{new_zone};
 ghost use Rattle.pushserver.specs.PlainHubs.{Hub as Plain};
 ghost use Rattle.pushserver.specs.KeptHubs.{StandsFor};
@@ -10,7 +12,7 @@ ghost use Rattle.hublock.specs.Inside.{counted};
 use dnsname::Name;
 use dsosession::session::Timers;
 use history::{Homes, NO_CAP};
-use pushserver::Hub;
+use hubasking::Hub;
 use std::alloc::Global;
 use std::test::Fail;
 use zoneupdate::Zone;
@@ -40,33 +42,40 @@ pub(crate) const OF_THE_HOST_TOLD: &str =
     "000c0002b00000000000000000000031000030000000000000000000004100210168036c616e076578616d706c6503636f6d0000010001000000780004c0000201";
 
 /// What a Keepalive is granted: 15 s each (RFC 8490, 6.2).
-const TIMERS: Timers = Timers {
+pub(crate) const TIMERS: Timers = Timers {
     inactivity: 15_000,
     keepalive: 15_000,
 };
 
-/// A hub of one zone, and the links `lan.example.com.` and `wlan.example.com.`.
-fn hub_of(zone: Zone, alloc: Global) -> Result<Hub, Fail>
+/// One zone, and the links `lan.example.com.` and `wlan.example.com.`.
+fn homes_of(zone: Zone, alloc: Global) -> Result<Homes, Fail>
     requires { (serial : ℕ) × (zone.state ≡ new_zone zone.state.apex serial zone.state.writable) }
-    ensures fresh { IfOk result (λ hub. (counted hub ≡ each 0) × (hub.numbers_given ≡ 0)) }
-    ensures stands { IfOk result (λ hub. (plain : Plain) × StandsFor hub plain) }
+    ensures { IfOk result (λ homes. IsStart (state_of homes)) }
 {
     let mut homes = Homes::new(alloc);
     homes.add_zone(zone)?;
     homes.add_link(Name::from_text(alloc, "lan.example.com.")?, NO_CAP)?;
     homes.add_link(Name::from_text(alloc, "wlan.example.com.")?, NO_CAP)?;
-    let hub = Hub::new(homes, TIMERS)?;
-    Ok(hub)
+    Ok(homes)
 }
 
-/// A hub of `example.com.`, which may be written, and of the links.
-pub(crate) fn example_hub(alloc: Global) -> Result<Hub, Fail>
-    ensures fresh { IfOk result (λ hub. (counted hub ≡ each 0) × (hub.numbers_given ≡ 0)) }
-    ensures stands { IfOk result (λ hub. (plain : Plain) × StandsFor hub plain) }
+/// The zone `example.com.`, which may be written, and the links.
+pub(crate) fn example_homes(alloc: Global) -> Result<Homes, Fail>
+    ensures { IfOk result (λ homes. IsStart (state_of homes)) }
 {
     let apex = Name::from_text(alloc, "example.com.")?;
     let zone = Zone::new(alloc, apex, 1, true)?;
-    hub_of(zone, alloc)
+    homes_of(zone, alloc)
+}
+
+/// A hub of these.
+pub(crate) fn example_hub(alloc: Global) -> Result<Hub, Fail>
+    ensures fresh { IfOk result (λ hub. (counted hub ≡ each 0) × (hub.hub.numbers_given ≡ 0)) }
+    ensures stands { IfOk result (λ hub. (plain : Plain) × StandsFor hub.hub plain) }
+{
+    let homes = example_homes(alloc)?;
+    let hub = Hub::new(homes, TIMERS)?;
+    Ok(hub)
 }
 
 /// The same with one session.

@@ -2,14 +2,14 @@
 
 ghost use Rattle.std.specs.Prelude.{◌≤◌, None, length};
 
-use crate::hubs::{HOST, SUBSCRIBE, SUBSCRIBED, connected_hub, example_hub};
+use crate::hubs::{HOST, OF_THE_HOST, SUBSCRIBE, SUBSCRIBED, connected_hub, example_hub};
 use crate::rows::are_octets;
 use history::entry::Totals;
+use hubasking::Hub;
 use hublock::{Alone, Gate, LoopEnd, clock_loop, link_loop, read_loop, write_loop};
 use push_base::{
     Failed, Got, Line, MemClock, MemDatagrams, MemItem, MemSink, Sink, Wire, hex_octets,
 };
-use pushserver::Hub;
 use std::alloc::Global;
 use std::test::Fail;
 
@@ -147,7 +147,7 @@ const GOING: Ends = Ends {
     flushes: 2,
     heard: LoopEnd::Finished,
     ticked: LoopEnd::Turns,
-    calls: 41,
+    calls: 42,
     now: 2,
     counts: Totals {
         changes: 0,
@@ -293,4 +293,41 @@ fn a_broken_link_has_no_records(rt: HostRuntime) -> Result<(), Fail> {
         return Err(Fail::new(format_args!("{calls} turns")));
     }
     are_counts(counts, GONE)
+}
+
+/// A query for addresses of `h.local.` (RFC 6762, 5.2; RFC 1035, 4.1).
+pub(crate) const ASKED: &str = "0000000000010000000000000168056c6f63616c0000010001";
+
+/// A hub whose one session asks for addresses of `h.lan.example.com.`.
+fn hub_that_asks(alloc: Global) -> Result<Alone, Fail> {
+    let mut alone = Alone::new(connected_hub(alloc)?, false);
+    let octets = hex_octets(alloc, OF_THE_HOST)?;
+    alone.take(0, octets.as_slice());
+    alone.give(0, &mut [0; 100])?;
+    Ok(alone)
+}
+
+/// Fails where other datagrams were sent than this one.
+fn is_sent(alloc: Global, datagrams: &MemDatagrams, wanted: &str) -> Result<(), Fail> {
+    if datagrams.sent_count() != 1 {
+        return Err(Fail::new(format_args!("{} sent", datagrams.sent_count())));
+    }
+    are_octets(alloc, 1, datagrams.sent_at(0).unwrap_or(&[]), wanted)
+}
+
+/// Fails where the loop of the first link, on which nothing comes, ends otherwise, or doesn't ask just this.
+fn is_asked_so(alloc: Global, alone: &mut Alone, wanted: &str) -> Result<(), Fail> {
+    let items = vec![in alloc; MemItem::Quiet]?;
+    let mut datagrams = MemDatagrams::new(alloc, items, Vec::new(alloc), 100)?;
+    is_end(
+        link_loop(alloc, alone, 0, &mut datagrams, 100),
+        LoopEnd::Finished,
+    )?;
+    is_sent(alloc, &datagrams, wanted)
+}
+
+#[test]
+fn a_link_is_asked(rt: HostRuntime) -> Result<(), Fail> {
+    let mut alone = hub_that_asks(rt.alloc())?;
+    is_asked_so(rt.alloc(), &mut alone, ASKED)
 }

@@ -65,7 +65,8 @@ fn queue_of(alloc: Global, numbers: &[usize]) -> Result<VecDeque<usize>, Fail> {
 }
 
 /// A gate that takes and gives as many octets as it is told to: `t` where it took some, `n` none; `g` for each piece of work,
-/// `h` for a datagram, `l` where a link is gone, `m` for a moment, `p` where it is waited for, `x` for a connection that is gone, `o` for a line that is
+/// `h` for a datagram, `k` where a link is asked, which it is with datagrams of these sizes, and with none where the size is 0
+/// and behind the last; `l` where a link is gone, `m` for a moment, `p` where it is waited for, `x` for a connection that is gone, `o` for a line that is
 /// over, `s` for a session that is.
 #[derive(Drop)]
 struct Told<R: Wait + Copy> {
@@ -73,6 +74,7 @@ struct Told<R: Wait + Copy> {
     alone: Alone,
     takes: VecDeque<usize>,
     gives: VecDeque<Given>,
+    asks: VecDeque<usize>,
 }
 
 impl<R: Wait + Copy> Gate for Told<R> {
@@ -105,6 +107,14 @@ impl<R: Wait + Copy> Gate for Told<R> {
     fn hear(&mut self, link: usize, datagram: &[u8]) -> Result<Heard, HubFault> {
         self.log.add(b'h');
         self.alone.hear(link, datagram)
+    }
+
+    fn ask(&mut self, _link: usize, buf: &mut [u8]) -> Result<Option<usize>, HubFault> {
+        self.log.add(b'k');
+        match next_of(&mut self.asks) {
+            0 => Ok(None),
+            count => Ok(Some(count.min(buf.len()))),
+        }
     }
 
     fn gone(&mut self, _link: usize) -> Result<bool, HubFault> {
@@ -176,13 +186,15 @@ impl<R: Wait + Copy> Line for LoggedLine<R> {
     }
 }
 
-/// Datagrams, each the same: `r` for each, and behind them `b` where they break, `e` for the end; `a` for one that is sent.
+/// Datagrams, each the same: `r` for each, and behind them `b` where they break, `e` for the end; `a` for one that is sent, or
+/// that wasn't, where sending is broken.
 #[derive(Drop)]
 struct LoggedLinks<R: Wait + Copy> {
     log: Log<R>,
     left: u64,
     datagram: Vec<u8>,
     breaks: bool,
+    is_mute: bool,
     faults: u64,
 }
 
@@ -223,6 +235,10 @@ impl<R: Wait + Copy> Datagrams for LoggedLinks<R> {
 
     fn send(&mut self, _piece: &[u8]) -> Result<(), Failed> {
         self.log.add(b'a');
+        if self.is_mute {
+            self.faults = self.faults.saturating_add(1);
+            return Err(Failed);
+        }
         Ok(())
     }
 }
@@ -311,16 +327,19 @@ fn gate_of<R: Wait + Copy>(
     log: &Log<R>,
     takes: &[usize],
     gives: &[Given],
+    asks: &[usize],
 ) -> Result<Told<R>, Fail> {
     let log = log.again()?;
     let takes = queue_of(alloc, takes)?;
     let gives = gives_of(alloc, gives)?;
+    let asks = queue_of(alloc, asks)?;
     let hub = connected_hub(alloc)?;
     Ok(Told {
         log,
         alone: Alone::new(hub, false),
         takes,
         gives,
+        asks,
     })
 }
 
@@ -330,6 +349,7 @@ fn links_of<R: Wait + Copy>(
     log: &Log<R>,
     left: u64,
     breaks: bool,
+    is_mute: bool,
 ) -> Result<LoggedLinks<R>, Fail> {
     let log = log.again()?;
     let mut datagram = Vec::new(alloc);
@@ -339,6 +359,7 @@ fn links_of<R: Wait + Copy>(
         left,
         datagram,
         breaks,
+        is_mute,
         faults: 0,
     })
 }
@@ -362,7 +383,7 @@ fn read<R: Wait + Copy + Send + 'static>(
         log: log.again()?,
         sizes,
     };
-    let gate = gate_of(alloc, log, takes, &[])?;
+    let gate = gate_of(alloc, log, takes, &[], &[])?;
     Ok(run(Job::reader(alloc, gate, 0, line, turns)))
 }
 
@@ -374,7 +395,7 @@ fn write<R: Wait + Copy + Send + 'static>(
     most: usize,
     turns: u64,
 ) -> Result<LoopEnd, Fail> {
-    let gate = gate_of(alloc, log, &[], gives)?;
+    let gate = gate_of(alloc, log, &[], gives, &[])?;
     let log = log.again()?;
     let wire = LoggedWire {
         log,
@@ -384,16 +405,16 @@ fn write<R: Wait + Copy + Send + 'static>(
     Ok(run(Job::writer(alloc, gate, 0, wire, turns)))
 }
 
-/// So many datagrams come, behind which they end or break.
+/// So many datagrams come, behind which they end or break; the link is asked with some, which are sent, or can't be.
 fn hear<R: Wait + Copy + Send + 'static>(
     alloc: Global,
     log: &Log<R>,
-    left: u64,
-    breaks: bool,
+    links: Links,
+    asks: &[usize],
     turns: u64,
 ) -> Result<LoopEnd, Fail> {
-    let links = links_of(alloc, log, left, breaks)?;
-    let gate = gate_of(alloc, log, &[], &[])?;
+    let links = links_of(alloc, log, links.left, links.breaks, links.is_mute)?;
+    let gate = gate_of(alloc, log, &[], &[], asks)?;
     Ok(run(Job::link(alloc, gate, 0, links, turns)))
 }
 
@@ -404,8 +425,25 @@ fn tick<R: Wait + Copy + Send + 'static>(
     turns: u64,
 ) -> Result<LoopEnd, Fail> {
     let clock = LoggedClock { log: log.again()? };
-    let gate = gate_of(alloc, log, &[], &[])?;
+    let gate = gate_of(alloc, log, &[], &[], &[])?;
     Ok(run(Job::clock(alloc, gate, clock, turns)))
+}
+
+/// How many datagrams of a link come, whether they break behind these, and whether none can be sent.
+#[derive(Clone, Copy)]
+struct Links {
+    left: u64,
+    breaks: bool,
+    is_mute: bool,
+}
+
+/// These.
+fn links_with(left: u64, breaks: bool, is_mute: bool) -> Links {
+    Links {
+        left,
+        breaks,
+        is_mute,
+    }
 }
 
 /// The work of a job.
@@ -415,10 +453,12 @@ enum Work {
     Read(&'static [usize], &'static [usize]),
     /// This is given, and the wire takes so many octets at once.
     Write(&'static [Given], usize),
-    /// So many datagrams come.
-    Hear(u64),
+    /// So many datagrams come, and the link is asked with some of these sizes.
+    Hear(u64, &'static [usize]),
     /// So many datagrams come, behind which they break.
     Break(u64),
+    /// The same, where none can be sent.
+    Mute(u64, &'static [usize]),
     /// The clock is asked.
     Tick,
 }
@@ -506,30 +546,49 @@ const CASES: &[Case] = &[
         log: "gwfxsd",
         end: LoopEnd::WriteFault,
     },
-    // Each datagram and each moment is handed on before the next.
+    // Each datagram and each moment is handed on before the next, and behind each datagram the link is asked until nothing is due,
+    // which is sent before it is asked again.
     Case {
-        work: Work::Hear(2),
+        work: Work::Hear(2, &[]),
         turns: 100,
-        log: "rhrhe",
+        log: "rhkrhke",
         end: LoopEnd::Finished,
     },
     Case {
-        work: Work::Hear(2),
+        work: Work::Hear(2, &[3, 3, 0, 2]),
+        turns: 100,
+        log: "rhkakakrhkake",
+        end: LoopEnd::Finished,
+    },
+    Case {
+        work: Work::Hear(2, &[3]),
         turns: 3,
-        log: "rhr",
+        log: "rhk",
         end: LoopEnd::Turns,
     },
-    // Where datagrams break, the link is told gone, also with the last turn, and nothing behind it.
+    Case {
+        work: Work::Hear(2, &[3]),
+        turns: 6,
+        log: "rhkakr",
+        end: LoopEnd::Turns,
+    },
+    // Where datagrams break, or can't be sent, the link is told gone, also with the last turn, and nothing behind it.
     Case {
         work: Work::Break(1),
         turns: 100,
-        log: "rhbl",
+        log: "rhkbl",
         end: LoopEnd::LinkFault,
     },
     Case {
         work: Work::Break(1),
-        turns: 3,
-        log: "rhbl",
+        turns: 4,
+        log: "rhkbl",
+        end: LoopEnd::LinkFault,
+    },
+    Case {
+        work: Work::Mute(2, &[3, 3]),
+        turns: 4,
+        log: "rhkal",
         end: LoopEnd::LinkFault,
     },
     Case {
@@ -550,8 +609,9 @@ fn end_of<R: Wait + Copy + Send + 'static>(
     match work {
         Work::Read(sizes, takes) => read(alloc, log, sizes, takes, turns),
         Work::Write(gives, most) => write(alloc, log, gives, most, turns),
-        Work::Hear(left) => hear(alloc, log, left, false, turns),
-        Work::Break(left) => hear(alloc, log, left, true, turns),
+        Work::Hear(left, asks) => hear(alloc, log, links_with(left, false, false), asks, turns),
+        Work::Break(left) => hear(alloc, log, links_with(left, true, false), &[], turns),
+        Work::Mute(left, asks) => hear(alloc, log, links_with(left, false, true), asks, turns),
         Work::Tick => tick(alloc, log, turns),
     }
 }

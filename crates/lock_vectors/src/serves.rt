@@ -10,9 +10,9 @@ ghost use Rattle.hublock.specs.Ledgers.{AreNamed};
 use crate::hubs::{
     HOST, OF_THE_HOST, OF_THE_HOST_TOLD, OTHER_HOST, SUBSCRIBE, SUBSCRIBED, example_hub,
 };
-use crate::loops::{Drip, heard};
+use crate::loops::{ASKED, Drip, heard};
 use crate::rows::are_octets;
-use crate::threads::{Apart, List, Listed};
+use crate::threads::{Apart, List, Listed, new_list};
 use crate::watched::{Hearings, Porter, Still, Until, Watch, Watched};
 use history::entry::Totals;
 use hublock::{Blanks, Books, NoRegister};
@@ -21,7 +21,7 @@ use push_base::{Surroundings, hex_octets, hex_text};
 use serving::{Fed, ServeEnd, Served, Setup, serve};
 use std::alloc::Global;
 use std::marker::Brand;
-use std::sync::{Arc, Mutex, Wait};
+use std::sync::{Arc, Wait};
 use std::test::Fail;
 use std::thread::Threads;
 
@@ -55,6 +55,8 @@ struct Case {
     /// What the datagrams of the links wait for, and these, one of each.
     link: Until,
     hears: &'static [&'static str],
+    /// What the links are asked.
+    asks: &'static str,
     /// What the clock gives.
     moment: u64,
     /// How the server ends.
@@ -82,6 +84,7 @@ const ONE: Case = Case {
     answer: SUBSCRIBED,
     link: Until::Now,
     hears: &[],
+    asks: "",
     moment: 0,
     end: ServeEnd::Served(NOTHING),
 };
@@ -101,6 +104,7 @@ const TWO: Case = Case {
     answer: SUBSCRIBED,
     link: Until::Now,
     hears: &[],
+    asks: "",
     moment: 0,
     end: ServeEnd::Served(NOTHING),
 };
@@ -119,6 +123,7 @@ const HEARING: Case = Case {
     answer: SUBSCRIBED,
     link: Until::Now,
     hears: &[HOST],
+    asks: "",
     moment: 1,
     end: ServeEnd::Served(Totals {
         changes: 0,
@@ -141,12 +146,32 @@ const HEARING_TWO: Case = Case {
     answer: OF_THE_HOST_TOLD,
     link: Until::Now,
     hears: &[HOST, OTHER_HOST],
+    asks: "",
     moment: 1,
     end: ServeEnd::Served(Totals {
         changes: 0,
         heard: 2,
         moments: 1,
     }),
+};
+
+/// One session, which asks for the host of a link when nothing of it was heard. The link is asked, and answers.
+const ASKING: Case = Case {
+    sessions: 2,
+    come: 1,
+    answered: 1,
+    numbered: false,
+    line: Until::Now,
+    stays: true,
+    first_wire: Until::Now,
+    last_session: Until::Written(65),
+    request: OF_THE_HOST,
+    answer: OF_THE_HOST_TOLD,
+    link: Until::Written(14),
+    hears: &[HOST],
+    asks: ASKED,
+    moment: 0,
+    end: ServeEnd::OutsideFault,
 };
 
 /// Two sessions. The link is quiet until the first has ended, and the second comes once it was heard.
@@ -163,6 +188,7 @@ const HEARING_LATER: Case = Case {
     answer: SUBSCRIBED,
     link: Until::Dropped(1),
     hears: &[HOST],
+    asks: "",
     moment: 1,
     end: ServeEnd::Served(Totals {
         changes: 0,
@@ -185,6 +211,7 @@ const ONE_MORE: Case = Case {
     answer: SUBSCRIBED,
     link: Until::Now,
     hears: &[],
+    asks: "",
     moment: 0,
     end: ServeEnd::Served(NOTHING),
 };
@@ -203,6 +230,7 @@ const ONE_TOO_MANY: Case = Case {
     answer: SUBSCRIBED,
     link: Until::Now,
     hears: &[],
+    asks: "",
     moment: 0,
     end: ServeEnd::Served(NOTHING),
 };
@@ -221,6 +249,7 @@ const GIVEN_UP: Case = Case {
     answer: SUBSCRIBED,
     link: Until::Now,
     hears: &[],
+    asks: "",
     moment: 0,
     end: ServeEnd::OutsideFault,
 };
@@ -281,7 +310,7 @@ fn add_wire<R: Wait + Copy>(
     place: u16,
     lists: &mut Vec<List>,
 ) -> Result<(), Fail> {
-    let list = Arc::new(alloc, Mutex::new(Vec::new(alloc)))?;
+    let list = new_list(alloc)?;
     lists.push(Arc::try_clone(&list)?)?;
     doors.add_wire(Listed::new(rt, list), case.wire(place))?;
     Ok(())
@@ -308,28 +337,27 @@ fn add_hearing<R: Wait + Copy>(
     links: &mut Vec<Fed<Hearings<R>>>,
     watch: &Watch<R>,
     until: Until,
+    sent: &List,
     link: usize,
     text: &str,
 ) -> Result<(), Fail> {
     let watch = watch.again()?;
-    let datagrams = Hearings {
-        watch,
-        until,
-        datagrams: heard(alloc, text)?,
-    };
+    let sent = Arc::try_clone(sent)?;
+    let datagrams = Hearings::new(watch, until, heard(alloc, text)?, sent);
     links.push(Fed { link, datagrams })?;
     Ok(())
 }
 
-/// The links are fed that are.
+/// The links are fed that are. What is sent goes to one list.
 fn add_hearings<R: Wait + Copy>(
     alloc: Global,
     links: &mut Vec<Fed<Hearings<R>>>,
     watch: &Watch<R>,
     case: &Case,
+    sent: &List,
 ) -> Result<(), Fail> {
     'links: for (link, text) in case.hears.iter().enumerate() {
-        add_hearing(alloc, links, watch, case.link, link, text)?;
+        add_hearing(alloc, links, watch, case.link, sent, link, text)?;
     }
     Ok(())
 }
@@ -346,8 +374,8 @@ fn end_of<
     setup: Setup<O::Links, O::Clock>,
     blanks: Blanks,
 ) -> ServeEnd
-    requires hub { (counted setup.hub ≡ each 0) × (setup.hub.numbers_given ≡ 0) }
-    requires stands { (plain : Plain) × StandsFor setup.hub plain }
+    requires hub { (counted setup.hub ≡ each 0) × (setup.hub.hub.numbers_given ≡ 0) }
+    requires stands { (plain : Plain) × StandsFor setup.hub.hub plain }
     requires names { AreNamed blanks B.names }
 {
     let mut starter = Apart { faults: 0 };
@@ -427,7 +455,7 @@ fn are_answered<R: Wait>(rt: &R, alloc: Global, case: &Case, lists: &[List]) -> 
     Ok(())
 }
 
-/// Fails where a server ends otherwise.
+/// Fails where a server ends otherwise, or asks its links something else.
 fn ends_so<R: Log + Threads + Wait + Copy + Send + 'static>(
     rt: R,
     alloc: Global,
@@ -439,10 +467,12 @@ fn ends_so<R: Log + Threads + Wait + Copy + Send + 'static>(
         watch: watch.again()?,
         moment: case.moment,
     };
+    let sent = new_list(alloc)?;
     let mut links = Vec::new(alloc);
-    add_hearings(alloc, &mut links, watch, case)?;
+    add_hearings(alloc, &mut links, watch, case, &sent)?;
     let end = end_over_hub::<R, Watched<R>>(rt, alloc, doors, links, clock, case.sessions)?;
-    is_end(end, case.end)
+    is_end(end, case.end)?;
+    are_octets(alloc, 0, sent.lock(&rt).as_slice(), case.asks)
 }
 
 /// Fails where sessions aren't served so by these doors.
@@ -494,6 +524,11 @@ fn a_link_is_heard_when_a_session_has_ended(rt: HostRuntime) -> Result<(), Fail>
 #[test]
 fn links_are_heard_as_they_are_numbered(rt: HostRuntime) -> Result<(), Fail> {
     are_served(rt, rt.alloc(), &HEARING_TWO)
+}
+
+#[test]
+fn a_link_is_asked_and_its_answer_told(rt: HostRuntime) -> Result<(), Fail> {
+    are_served(rt, rt.alloc(), &ASKING)
 }
 
 #[test]

@@ -2,7 +2,8 @@
 
 ghost use Rattle.std.specs.Prelude.{None, true};
 
-use push_base::{Failed, Refusal, Role, Sink, Starter, Wire};
+use push_base::{Failed, NoMemory, Refusal, Role, Sink, Starter, Wire};
+use std::alloc::Global;
 use std::sync::{Arc, Mutex, Wait};
 
 /// Each job gets a thread of its own.
@@ -33,6 +34,11 @@ impl Starter for Apart {
 
 /// Octets that the test keeps.
 pub(crate) type List = Arc<Mutex<Vec<u8>>>;
+
+/// A list without octets.
+pub(crate) fn new_list(alloc: Global) -> Result<List, NoMemory> {
+    Ok(Arc::new(alloc, Mutex::new(Vec::new(alloc)))?)
+}
 
 /// A wire whose octets go to a list.
 #[derive(Drop)]

@@ -3,7 +3,7 @@
 ghost use Rattle.std.specs.Prelude.{None};
 
 use crate::loops::Drip;
-use crate::threads::{Apart, Listed};
+use crate::threads::{Apart, List, Listed};
 use push_base::{
     Clock, Datagrams, Doors, Failed, Got, Line, MemDatagrams, NoMemory, Sink, Surroundings, Wire,
 };
@@ -205,12 +205,32 @@ impl<R: Wait + Copy> Drop for Held<R> {
     }
 }
 
-/// Datagrams that are quiet until something was done elsewhere, and tell their end.
+/// Datagrams that are quiet until something was done elsewhere, and tell their end. What is sent goes to a list.
 #[derive(Drop)]
 pub(crate) struct Hearings<R: Wait + Copy> {
-    pub(crate) watch: Watch<R>,
-    pub(crate) until: Until,
-    pub(crate) datagrams: MemDatagrams,
+    watch: Watch<R>,
+    until: Until,
+    datagrams: MemDatagrams,
+    sent: List,
+    faults: u64,
+}
+
+impl<R: Wait + Copy> Hearings<R> {
+    /// Nothing was received so far.
+    pub(crate) fn new(
+        watch: Watch<R>,
+        until: Until,
+        datagrams: MemDatagrams,
+        sent: List,
+    ) -> Hearings<R> {
+        Hearings {
+            watch,
+            until,
+            datagrams,
+            sent,
+            faults: 0,
+        }
+    }
 }
 
 impl<R: Wait + Copy> Datagrams for Hearings<R> {
@@ -222,7 +242,7 @@ impl<R: Wait + Copy> Datagrams for Hearings<R> {
 
     ghost calls = { λ _. None };
 
-    ghost faults = { λ d. d.datagrams.calls.faults };
+    ghost faults = { λ d. d.faults };
 
     fn recv(&mut self, buf: &mut [u8]) -> Result<Got, Failed> {
         let until = self.until;
@@ -231,7 +251,10 @@ impl<R: Wait + Copy> Datagrams for Hearings<R> {
             self.until = Until::Now;
             return Ok(Got::Quiet);
         }
-        let got = self.datagrams.recv(buf)?;
+        let Ok(got) = self.datagrams.recv(buf) else {
+            self.faults = self.faults.saturating_add(1);
+            return Err(Failed);
+        };
         if got == Got::End {
             self.watch.tell(Event::Heard);
         }
@@ -239,7 +262,16 @@ impl<R: Wait + Copy> Datagrams for Hearings<R> {
     }
 
     fn send(&mut self, piece: &[u8]) -> Result<(), Failed> {
-        self.datagrams.send(piece)
+        if self
+            .sent
+            .lock(&self.watch.rt)
+            .extend_from_slice(piece)
+            .is_err()
+        {
+            self.faults = self.faults.saturating_add(1);
+            return Err(Failed);
+        }
+        Ok(())
     }
 }
 

@@ -14,3 +14,4 @@ pub mod BlockPlaces
 pub mod BlockSets
 pub mod Turns
 pub mod IndexRows
+pub mod Below

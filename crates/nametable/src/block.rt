@@ -2,8 +2,8 @@
 
 ghost use Rattle.std.specs.Prelude.{◌≡◌, ℕ, ◌≤◌, ◌<◌, ◌+◌, ◌%◌, ◌^◌, ◌⊎◌, ◌++◌, [], false, length, nat_lt, IfOk, IsOk, OnOk, OnErr, IsTrue, is_some};
 ghost use Rattle.std.specs.Ordering.{is_eq};
-ghost use Rattle.std.specs.List.{filter};
-ghost use Rattle.dnsname.specs.Names.{Labels, lower};
+ghost use Rattle.std.specs.List.{filter, list_any};
+ghost use Rattle.dnsname.specs.Names.{Labels, ends_in, lower};
 ghost use Rattle.rrset.specs.Records.{same_key};
 ghost use Rattle.rrset.specs.KeyedRows.{put_row, without_rows, row_at};
 ghost use Rattle.rrset.specs.Tables.{HasLowerOwner};
@@ -11,7 +11,7 @@ ghost use Rattle.nametable.specs.FirstOctets.{HasFirst};
 ghost use Rattle.nametable.specs.Nodes.{AreAlike, AreNodes, all_rows, has_rows, name_cmp, names_in, room_at};
 ghost use Rattle.nametable.specs.Blocks.{AddsNoOther, begins_by};
 
-use crate::node::{Node, add_name, drop_empty, put_in, remove_in, reserve_in};
+use crate::node::{Node, add_name, below_in, drop_empty, put_in, remove_in, reserve_in};
 use dnsname::Name;
 use rrset::{Copied, Key, NoMemory};
 use std::alloc::Global;
@@ -45,6 +45,14 @@ impl<V: Drop> Block<V> {
         let mut nodes = Vec::new(alloc);
         add_name(&mut nodes, 0, owner, 0)?;
         Ok(Block { nodes })
+    }
+
+    /// Whether the owner of a row ends in a name.
+    pub(crate) fn below(&self, name: &Name) -> bool
+        requires { AreNodes self.now }
+        ensures { result ≡ list_any (λ e. ends_in e.0.owner name.now) (all_rows self.now) }
+    {
+        below_in(&self.nodes, name)
     }
 
     /// The nodes, in the order of names.

@@ -2,8 +2,8 @@
 
 ghost use Rattle.std.specs.Prelude.{◌≡◌, get_or, ◌≤◌, ◌<◌, ◌+◌, ◌%◌, ◌^◌, ◌⊎◌, [], false, length, map, IfOk, IsOk, OnOk, OnErr, IsTrue, is_some, Some, None, MatchOption};
 ghost use Rattle.std.specs.Ordering.{is_eq};
-ghost use Rattle.std.specs.List.{filter};
-ghost use Rattle.dnsname.specs.Names.{Labels, lower};
+ghost use Rattle.std.specs.List.{filter, list_any};
+ghost use Rattle.dnsname.specs.Names.{Labels, ends_in, lower};
 ghost use Rattle.rrset.specs.Records.{same_key};
 ghost use Rattle.rrset.specs.KeyedRows.{put_row, without_rows, row_at};
 ghost use Rattle.rrset.specs.Tables.{HasLowerOwner};
@@ -287,4 +287,17 @@ pub(crate) fn copied_blocks<V: Copied + Drop>(
         copies.push(copy)?;
     }
     Ok(copies)
+}
+
+/// Whether the owner of a row in some blocks ends in a name.
+pub(crate) fn below_in_blocks<V: Drop>(blocks: &[Block<V>], name: &Name) -> bool
+    requires { AreBlocks blocks.now }
+    ensures { result ≡ list_any (λ e. ends_in e.0.owner name.now) (all_rows (nodes_in blocks.now)) }
+{
+    'blocks: for block in blocks {
+        if block.below(name) {
+            return true;
+        }
+    }
+    false
 }

@@ -2,8 +2,8 @@
 
 ghost use Rattle.std.specs.Prelude.{◌≡◌, ◌≤◌, ◌+◌, ◌⊎◌, [], false, length, IfOk, IsOk, OnOk, OnErr, IsTrue, is_some, Some, None, MatchOption};
 ghost use Rattle.std.specs.Ordering.{is_eq};
-ghost use Rattle.std.specs.List.{AllByRecursion};
-ghost use Rattle.dnsname.specs.Names.{Labels};
+ghost use Rattle.std.specs.List.{AllByRecursion, list_any};
+ghost use Rattle.dnsname.specs.Names.{Labels, ends_in};
 ghost use Rattle.rrset.specs.Records.{same_key};
 ghost use Rattle.rrset.specs.KeyedRows.{is_rising, row_at, put_row, without_rows, rows_of};
 ghost use Rattle.rrset.specs.Tables.{HasLowerOwner};
@@ -74,6 +74,15 @@ impl<V: Drop> Index<V> {
         // Its clauses say that all rows are in key order.
         self.table.blocks();
         self.table.at(name)
+    }
+
+    /// Whether the owner of a row ends in a name (RFC 8020, 2).
+    pub fn below<L: Ledger>(&self, name: &Name, steps: &mut Steps<L>) -> bool
+        ensures below { result ≡ list_any (λ e. ends_in e.0.owner name.now) self.now.rows }
+        ensures steps { steps.new ≡ steps.old + 1 }
+    {
+        steps.tick();
+        self.table.below(name)
     }
 
     /// Makes room for the keys that changes put, in time linear in the changes but for searches. It counts a step for

@@ -2,8 +2,8 @@
 
 ghost use Rattle.std.specs.Prelude.{◌≡◌, ◌≤◌, ◌<◌, ◌+◌, ◌-◌, ◌%◌, ◌^◌, ◌⊎◌, [], false, cond, length, IfOk, IsOk, OnOk, OnErr, IsTrue, is_some, Some, None, MatchOption};
 ghost use Rattle.std.specs.Ordering.{is_eq};
-ghost use Rattle.std.specs.List.{AllByRecursion};
-ghost use Rattle.dnsname.specs.Names.{Labels};
+ghost use Rattle.std.specs.List.{AllByRecursion, list_any};
+ghost use Rattle.dnsname.specs.Names.{Labels, ends_in};
 ghost use Rattle.rrset.specs.Records.{same_key};
 ghost use Rattle.rrset.specs.KeyedRows.{row_at, put_row, without_rows, rows_of};
 ghost use Rattle.rrset.specs.Tables.{HasLowerOwner};
@@ -12,8 +12,8 @@ ghost use Rattle.nametable.specs.Nodes.{AreNodes, HasRoomFor, HaveRisingKeys, al
 
 use crate::block::Block;
 use crate::blocks::{
-    copied_blocks, drop_empty_blocks, names_in_blocks, put_in_blocks, remove_in_blocks,
-    table_for_in_blocks, table_of_in_blocks,
+    below_in_blocks, copied_blocks, drop_empty_blocks, names_in_blocks, put_in_blocks,
+    remove_in_blocks, table_for_in_blocks, table_of_in_blocks,
 };
 use crate::reserving::{reserve_all, reserve_rows};
 use dnsname::Name;
@@ -99,6 +99,13 @@ impl<V: Drop> NameTable<V> {
             Some(table) => table.entries(),
             None => &[],
         }
+    }
+
+    /// Whether the owner of a row ends in a name (RFC 8020, 2). It looks at each name.
+    pub fn below(&self, name: &Name) -> bool
+        ensures { result ≡ list_any (λ e. ends_in e.0.owner name.now) self.now.rows }
+    {
+        below_in_blocks(&self.blocks, name)
     }
 
     /// How many rows there are, where they are fewer than 2^64.

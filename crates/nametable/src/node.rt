@@ -1,9 +1,9 @@
 //! A name with its rows (RFC 1034, 3.1), and lists of them in the order of names.
 
-ghost use Rattle.std.specs.Prelude.{◌≡◌, ℕ, ◌≤◌, ◌+◌, ◌-◌, ◌%◌, ◌^◌, ◌⊎◌, [], false, cond, IfOk, IfErr, IsOk, OnOk, OnErr, IsTrue, is_some, Some, None, MatchOption};
+ghost use Rattle.std.specs.Prelude.{◌≡◌, ℕ, ◌≤◌, ◌+◌, ◌-◌, ◌%◌, ◌^◌, ◌⊎◌, ◌&&◌, [], false, cond, IfOk, IfErr, IsOk, OnOk, OnErr, IsTrue, is_some, Some, None, MatchOption};
 ghost use Rattle.std.specs.Ordering.{is_eq};
-ghost use Rattle.std.specs.List.{filter};
-ghost use Rattle.dnsname.specs.Names.{Labels, lower};
+ghost use Rattle.std.specs.List.{filter, list_any};
+ghost use Rattle.dnsname.specs.Names.{Labels, ends_in, lower};
 ghost use Rattle.rrset.specs.Records.{same_key};
 ghost use Rattle.rrset.specs.KeyedRows.{put_row, without_rows, row_at};
 ghost use Rattle.rrset.specs.Tables.{HasLowerOwner};
@@ -107,6 +107,16 @@ impl<V: Drop> Node<V> {
         ensures { result ≡ has_rows self.now }
     {
         self.table().len() > 0
+    }
+
+    /// Whether it has rows, and its name ends in another.
+    fn is_below(&self, name: &Name) -> bool
+        ensures { result ≡ (has_rows self.now && ends_in self.now.0 name.now) }
+    {
+        if !self.has_rows() {
+            return false;
+        }
+        self.owner().ends_in(name)
     }
 
     /// Gives a key this value.
@@ -373,4 +383,17 @@ pub(crate) fn drop_empty<V: Drop>(nodes: &mut Vec<Node<V>>)
 {
     nodes.retain(|node| node.has_rows());
     nodes.shrink_to_fit();
+}
+
+/// Whether the owner of a row of some nodes ends in a name.
+pub(crate) fn below_in<V: Drop>(nodes: &[Node<V>], name: &Name) -> bool
+    requires { AreNodes nodes.now }
+    ensures { result ≡ list_any (λ e. ends_in e.0.owner name.now) (all_rows nodes.now) }
+{
+    'nodes: for node in nodes {
+        if node.is_below(name) {
+            return true;
+        }
+    }
+    false
 }

@@ -80,6 +80,7 @@ module _ (number room : ℕ) where
   adds-request hub message requests.Update = adds-update hub message
   adds-request hub message (requests.Reconfirm rr) = adds-reconfirm hub rr
   adds-request hub message (requests.Subscribe question) = (refl, inl refl)
+  adds-request hub message requests.Query = (refl, inl refl)
   adds-request hub message requests.Itself = (refl, inl refl)
 
   adds-message : (hub : KeptHub) (message : List ℕ) → MayAddChange hub (reacted message number hub)

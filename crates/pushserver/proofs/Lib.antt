@@ -8,6 +8,7 @@ pub mod Queues
 pub mod OtherSessions
 pub mod Observed
 pub mod Subscribing
+pub mod Replying
 pub mod Wanting
 pub mod Walks
 pub mod WaitingNames

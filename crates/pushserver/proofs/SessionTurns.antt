@@ -2,7 +2,7 @@
 --     GaveExactly, gave-forgets, gave-as      what a call gave; where some was forgotten afterwards; where nothing was
 --     becomes t      the hub with the session as it is then
 --     output-gave, ended-gave, stopped-gave, stop-gave      octets wait; it has ended, is stopped, stops
---     packed-gave, itself-gave, subscribe-gave, no_record-gave      it goes on: no message waits; by the request of its first one
+--     packed-gave, itself-gave, subscribe-gave, query-gave, no_record-gave      it goes on: no message waits; by the request of its first one
 use Rattle.std.proofs.Common.{◌≡◌, ℕ, Bool, true, false, cond, not, min, List, [], ◌∷◌, ◌++◌, length, take, drop, Option, Some, None, inl, inr, refl, sym, ap, subst, ◌∙◌, arith}
 use Rattle.std.specs.Prelude.{option_map, unwrap_or}
 use Rattle.std.proofs.lemmas.Bool.{cases_lt}
@@ -11,6 +11,7 @@ use Rattle.push_base.specs.Cases.{is_empty}
 use Rattle.rrset.specs.Header.{id_of}
 use Rattle.rrset.specs.RecordSet.{RecordSet}
 use Rattle.rrset.specs.declared.record.Question.{Question}
+use Rattle.dnsquery.specs.Replies.{reply_to}
 use Rattle.dsotlv.specs.Messages.{first_message}
 use Rattle.dsotlv.specs.TlvKinds.{reconfirm_tlv}
 use Rattle.dsosession.specs.declared.session.EndReason.{EndReason}
@@ -19,16 +20,16 @@ use Rattle.dsosession.specs.declared.session.Timers.{Timers}
 use Rattle.history.specs.States.{State}
 use Rattle.pushsession.specs.Sessions.{copied, ended_with, laid_over, stopped, without_first}
 use Rattle.pushsession.specs.Subscribing.{answered, with_next_push}
-use Rattle.pushsession.specs.Reactions.{restarted_by, request_in, reacts_itself}
+use Rattle.pushsession.specs.Reactions.{restarted_by, request_in, reacts_itself, answers_query}
 use Rattle.pushsession.specs.Kept.{KeptSession, keeping, telling}
-use Rattle.pushsession.specs.Requests.{CanBeTold, message_of, taken_up, request_of, reacted, subscribed_by, reconfirmed}
+use Rattle.pushsession.specs.Requests.{CanBeTold, message_of, taken_up, request_of, reacted, subscribed_by, replied, reconfirmed}
 use Rattle.pushsession.specs.declared.request.Request.{Request}
 use Rattle.pushsession.specs.declared.request.Request.TheVariants as requests
 use Rattle.pushsession.specs.declared.session_status.SessionStatus.{SessionStatus}
 use Rattle.pushsession.specs.declared.session_status.SessionStatus.TheVariants.{Live, AskedToStop, Stopped, Ended}
 use Rattle.pushserver.specs.Hubs.{Numbered, session_in, state_now, now, records_now, in_session}
 use Rattle.pushserver.specs.Giving as giving
-use Rattle.pushserver.specs.Giving.{has_home, by_request, bytes_of, given_of, did, copies, copies_or, given_after, after_reaction, after_packing, give}
+use Rattle.pushserver.specs.Giving.{has_home, known_at, by_request, bytes_of, given_of, did, copies, copies_or, given_after, after_reaction, after_packing, give}
 use Rattle.pushserver.specs.KeptHubs.{KeptHub, KeptGiving, Forgets}
 use Rattle.pushserver.specs.HubState.{Gave}
 use Rattle.pushserver.specs.Rows.{AreTold}
@@ -254,6 +255,12 @@ module _ (number : ℕ) (k : KeptHub) (s : KeptSession) (there : session_in numb
           ∙ further (answered keeping (telling (records_now k)) (now k) (id_of message) question (has_home k question)) (taken_up (now k) s)
           ∙ ap (λ m. becomes (answered keeping (telling (records_now k)) (now k) (id_of m) question (has_home k question) (taken_up (now k) s))) (sym message-is)
 
+      query-is : request_of s ≡ Some requests.Query → after_message ≡ becomes (replied (reply_to (known_at (state_now k)) (message_of s)) (now k) s)
+      query-is is =
+          after-request requests.Query is
+          ∙ further (answers_query keeping (now k) (reply_to (known_at (state_now k)) message)) (taken_up (now k) s)
+          ∙ ap (λ m. becomes (answers_query keeping (now k) (reply_to (known_at (state_now k)) m) (taken_up (now k) s))) (sym message-is)
+
       no_record-is : request_of s ≡ Some (requests.Reconfirm None) → after_message ≡ becomes (reconfirmed false (now k) s)
       no_record-is is = after-request (requests.Reconfirm None) is ∙ further (ended_with keeping (ends.BadData reconfirm_tlv)) (taken_up (now k) s)
 
@@ -281,6 +288,12 @@ module _ (number : ℕ) (k : KeptHub) (s : KeptSession) (there : session_in numb
     subscribe-gave question has rows t r old new mid s_now is home shown moment step on =
         let (first, waits) = waiting (requests.Subscribe question) is in
         message-gave first waits r old new mid s_now (subscribe-is first waits question is ∙ (λ i. becomes (subscribed_by question (sym home i) (sym shown i) (sym moment i) s)) ∙ sym (ap becomes step)) on
+
+    pub query-gave : (state : State) (r : Given) (old new : List ℕ) (mid s_now : KeptSession) → request_of s ≡ Some requests.Query → state_now k ≡ state → mid ≡ replied (reply_to (known_at state) (message_of s)) state.now s
+        → HandsOn mid (given_after mid.standing) r old new s_now → Gave (give k number (length old)) r old new (becomes s_now)
+    query-gave state r old new mid s_now is same step on =
+        let (first, waits) = waiting requests.Query is in
+        message-gave first waits r old new mid s_now (query-is first waits is ∙ (λ i. becomes (replied (reply_to (known_at (same i)) (message_of s)) (same i).now s)) ∙ sym (ap becomes step)) on
 
     -- a RECONFIRM whose data is no record
     pub no_record-gave : (t : ℕ) (r : Given) (old new : List ℕ) (mid s_now : KeptSession) → request_of s ≡ Some (requests.Reconfirm None) → t ≡ now k → mid ≡ reconfirmed false t s → HandsOn mid (given_after mid.standing) r old new s_now

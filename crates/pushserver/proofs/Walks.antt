@@ -21,6 +21,7 @@ use Rattle.rrset.specs.declared.record.Rr.{Rr}
 use Rattle.dnswire.specs.Reading.{hearing_of}
 use Rattle.dnswire.specs.declared.message.HearFault.{HearFault}
 use Rattle.dnswire.specs.declared.message.Update.{Update}
+use Rattle.dnsquery.specs.Replies.{reply_to}
 use Rattle.dsotlv.specs.Messages.{first_message, head_of, primary_data}
 use Rattle.dsotlv.specs.Notices.{question_of, reconfirm_of}
 use Rattle.dsotlv.specs.TlvKinds.{reconfirm_tlv}
@@ -49,7 +50,7 @@ use Rattle.pushserver.specs.declared.given.Given.TheVariants.{Worked, Nothing}
 use Rattle.pushserver.specs.declared.given.Heard.{Heard}
 use Rattle.pushserver.specs.Offering.{offered_by, offered}
 use Rattle.pushserver.specs.Hubs.{SessionKind, HubOf, newest, now, state_now, keeps_now, tells_now, session_of, each_session, in_session, entered, behind_at, ended_behind, ends_behind, entered_keeping, can_enter, update, hear, link_gone, why_not, moment, max_sessions, connect, take_octets, stop, disconnect}
-use Rattle.pushserver.specs.Giving.{GivingOf, has_home, reconfirm, reconfirms, by_request, reacted, did, copies, copies_or, given_after, after_reaction, after_packing, by_standing, give}
+use Rattle.pushserver.specs.Giving.{GivingOf, has_home, known_at, reconfirm, reconfirms, by_request, reacted, did, copies, copies_or, given_after, after_reaction, after_packing, by_standing, give}
 use Rattle.pushserver.proofs.Offering.{by_room, gone-offered, hear-offered, reconfirm-offered, unread-is}
 use Rattle.pushserver.proofs.hub_steps.Cases.{enters_update, update_as, moment_as, key_as, session_as, request_as, copies_as, found_as, works_as, output_as, give_as}
 use Rattle.pushserver.proofs.told_rows.HeardRows.{Brought, brings_nothing, brings_read}
@@ -68,6 +69,7 @@ pub data Step {A Q M S : Type 0} {kind : SessionKind A Q M S} (Good : List ℕ �
   answers_subscribe : (message : List ℕ) → Good message
       → Step Good hub (answered (keeps_now hub) (tells_now hub) (now hub) (id_of message) (question_of (primary_data message)) (has_home hub (question_of (primary_data message))))
   answers_update : (before : HubOf kind) (message : List ℕ) → Step Good hub (answers (keeps_now hub) false (now hub) (answer_to_update (id_of message) (update before message).0))
+  answers_query : (message : List ℕ) → Good message → Step Good hub (answers (keeps_now hub) false (now hub) (reply_to (known_at (state_now hub)) message))
   packs_names : Step Good hub (with_next_push (keeps_now hub) (tells_now hub) (now hub))
   comes_to_stop : (rcode delay : ℕ) → Step Good hub (stopped (keeps_now hub) rcode delay (now hub))
   ends_with : (reason : EndReason) → Step Good hub (ended_with (keeps_now hub) reason)
@@ -232,6 +234,7 @@ module _ {A Q M S : Type 0} {kind : SessionKind A Q M S} (Good : List ℕ → Ty
   reacts-reaction hub message reactions.Update good h =
       let judged = update hub message in
       w.changes_behind judged.1 (answers (keeps_now judged.1) false (now judged.1) (answer_to_update (id_of message) judged.0)) (answers_update hub message) tt (reacts-update hub message good h)
+  reacts-reaction hub message reactions.Query good h = steps hub (answers (keeps_now hub) false (now hub) (reply_to (known_at (state_now hub)) message)) (answers_query message good) tt h
   reacts-reaction hub message (reactions.Answer rcode) good h = itself hub message h
   reacts-reaction hub message reactions.Grant good h = itself hub message h
   reacts-reaction hub message (reactions.Abort reason) good h = itself hub message h

@@ -7,4 +7,5 @@ pub mod Told
 pub mod Updated
 pub mod Histories
 pub mod HubTells
+pub mod Replied
 pub mod Hubs

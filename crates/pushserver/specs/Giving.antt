@@ -1,14 +1,16 @@
 -- What `give` does: the first case that applies, and the reaction to one message (RFC 8490, 5; RFC 8765, 6).
 --     give hub number room      the octets copied, what was done, and the hub after it
 --     reconfirm hub rr      the hub after a record was reconfirmed
+--     known_at state      what replies to queries are made of
 --     reacted message number hub      the hub after a session has reacted to a message
 use Rattle.std.specs.Prelude.{ℕ, Bool, true, false, ◌&&◌, List, [], length, take, Option, Some, None, is_some, min, if◌then◌else◌}
 use Rattle.push_base.specs.Cases.{is_empty}
 use Rattle.rrset.specs.declared.record.Question.{Question}
 use Rattle.rrset.specs.declared.record.Rr.{Rr}
+use Rattle.dnsquery.specs.Replies.{Known, reply_to}
 use Rattle.dsotlv.specs.Messages.{first_message}
 use Rattle.dsosession.specs.declared.session.EndReason.TheVariants as ends
-use Rattle.history.specs.States.{State, home_of, reconfirm_key, accepts}
+use Rattle.history.specs.States.{State, home_of, reconfirm_key, records, accepts}
 use Rattle.history.specs.declared.entry.Entry.TheVariants as entries
 use Rattle.pushsession.specs.declared.request.Request.{Request}
 use Rattle.pushsession.specs.declared.request.Request.TheVariants as requests
@@ -16,7 +18,7 @@ use Rattle.pushsession.specs.declared.session_status.SessionStatus.{SessionStatu
 use Rattle.pushsession.specs.declared.session_status.SessionStatus.TheVariants.{Live, AskedToStop, Stopped, Ended}
 use Rattle.pushsession.specs.Sessions.{SessionOf, copied, stopped, without_first}
 use Rattle.pushsession.specs.Subscribing.{may_be_served, with_next_push}
-use Rattle.pushsession.specs.Reactions.{restarted_by, request_in, reacts_itself, answers_subscribe, takes_reconfirm, answers_update}
+use Rattle.pushsession.specs.Reactions.{restarted_by, request_in, reacts_itself, answers_subscribe, takes_reconfirm, answers_update, answers_query}
 use Rattle.pushserver.specs.declared.given.Given.{Given}
 use Rattle.pushserver.specs.declared.given.Given.TheVariants.{Bytes, Worked, Nothing, Ending, End}
 use Rattle.pushserver.specs.Hubs.{SessionKind, HubOf, now, state_now, keeps_now, tells_now, session_of, in_session, entered_keeping, can_enter, update}
@@ -57,11 +59,20 @@ updates number message hub =
     let judged = update hub message in
     in_session number (answers_update (keeps_now judged.1) (now judged.1) message judged.0) judged.1
 
+-- what replies to queries are made of: the names that have a home, and all records
+abbrev pub known_at : State → Known
+known_at state = record { has_home = λ name. is_some (home_of state name); records = records state }
+
+-- a query is answered with its reply at the newest point (RFC 1034, 4.3.2)
+abbrev pub queries : {A Q M S : Type 0} {kind : SessionKind A Q M S} → ℕ → List ℕ → HubOf kind → HubOf kind
+queries number message hub = in_session number (answers_query (keeps_now hub) (now hub) (reply_to (known_at (state_now hub)) message)) hub
+
 -- by what is needed for the message; a further kind of request changes the calls of a kept session, too
 abbrev pub by_request : {A Q M S : Type 0} {kind : SessionKind A Q M S} → Request → ℕ → List ℕ → HubOf kind → HubOf kind
 by_request (requests.Subscribe question) number message hub = subscribes question number message hub
 by_request (requests.Reconfirm rr) number message hub = reconfirms rr number hub
 by_request requests.Update number message hub = updates number message hub
+by_request requests.Query number message hub = queries number message hub
 by_request requests.Itself number message hub = in_session number (reacts_itself (keeps_now hub) hub.timers (now hub) message) hub
 
 -- a message that is reacted to restarts the timers, and then its line applies

@@ -272,7 +272,7 @@ impl Hub {
 
     /// One piece of work for a session, in its order: octets of its output that wait, its stop, the reaction to one whole
     /// message, or a PUSH of what has changed. Octets are written to the front of `buf`.
-    /// Want of memory comes only where a SUBSCRIBE, a RECONFIRM or an update is reacted to.
+    /// Want of memory comes only where a SUBSCRIBE, a RECONFIRM, an update or a query is reacted to.
     pub fn give<L: Ledger>(
         &mut self,
         session: u64,

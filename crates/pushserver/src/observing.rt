@@ -1,17 +1,45 @@
 //! What is seen of a hub.
 
-ghost use Rattle.std.specs.Prelude.{◌≡◌, is_some};
+ghost use Rattle.std.specs.Prelude.{◌≡◌, MatchOption, None, Some, is_some, IfOk};
+ghost use Rattle.history.specs.Kept.{state_of};
+ghost use Rattle.history.specs.States.{reconfirm_key};
 ghost use Rattle.history.specs.Totals.{totals};
-ghost use Rattle.pushserver.specs.Hubs.{newest, now, session_of};
+ghost use Rattle.pushserver.specs.Hubs.{newest, now, session_of, state_now};
 ghost use Rattle.pushserver.specs.PlainHubs.{Hub as Plain};
 ghost use Rattle.pushserver.specs.Observing.{all_filled_in, filled_in, told_in};
 ghost use Rattle.pushserver.specs.KeptHubs.{StandsFor};
 
 use crate::hub::Hub;
 use dnsname::Name;
+use history::Homes;
 use history::entry::Totals;
+use pushsession::{NoMemory, PushSession};
+use rrset::{Key, Rr};
+use std::alloc::Global;
 
 impl Hub {
+    /// The homes at the newest point.
+    pub fn homes(&self) -> &Homes
+        ensures { state_of result.now ≡ record (state_now self.now) { now = 0 } }
+    {
+        self.keeping.points.homes()
+    }
+
+    /// The session of a number, as it is kept.
+    pub fn session(&self, session: u64) -> Option<&PushSession>
+        ensures { MatchOption result (session_of self.now session ≡ None) (λ found. session_of self.now session ≡ Some found.now) }
+    {
+        self.keeping.sessions.get(session)
+    }
+
+    /// The link and the key that a reconfirmation of a record is about (RFC 8765, 6.5). Nothing exactly where the home of its
+    /// owner is no link, or the link could hear no such record.
+    pub fn reconfirm_key(&self, alloc: Global, rr: &Rr) -> Result<Option<(usize, Key)>, NoMemory>
+        ensures { IfOk result (λ found. found ≡ reconfirm_key (state_now self.now) rr.now) }
+    {
+        self.keeping.points.reconfirm_key(alloc, rr)
+    }
+
     /// The newest point: how many entries there are.
     pub fn point(&self) -> u64
         ensures hub { (hub : Plain) → StandsFor self.now hub → result ≡ newest hub }

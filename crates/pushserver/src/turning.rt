@@ -16,6 +16,7 @@ ghost use Rattle.pushsession.specs.declared.session_status.SessionStatus.TheVari
 
 use crate::decode::read_message;
 use crate::given::Given;
+use crate::querying::answer_query;
 use dnswire::Update;
 use dsosession::session::Timers;
 use history::Points;
@@ -116,6 +117,7 @@ fn work<L: Ledger>(
         Request::Reconfirm(Some(rr)) => return Ok(Turn::Reconfirm(rr)),
         Request::Reconfirm(None) => session.reconfirm(None, now, watchers, number),
         Request::Itself => session.react(timers, now, watchers, number),
+        Request::Query => answer_query(session, alloc, points, index)?,
         Request::Subscribe(question) => {
             let has_home = has_home(points, &question);
             session.subscribe(question, has_home, index, now, watchers, number, steps)?;

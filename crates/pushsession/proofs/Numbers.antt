@@ -12,11 +12,11 @@ use Rattle.dsotlv.specs.TlvKinds.{keepalive_tlv, retry_delay_tlv, padding_tlv, s
 use Rattle.dsotlv.specs.declared.message.Tlv.{Tlv}
 use Rattle.dsotlv.specs.declared.message.DsoHead.{DsoHead}
 use Rattle.dsotlv.specs.declared.message.DsoFault.{DsoFault}
-use Rattle.dsosession.specs.Reactions.{server_reaction, primary_reaction, answer_or_end}
+use Rattle.dsosession.specs.Reactions.{server_reaction, primary_reaction, answer_or_end, query_opcode}
 use Rattle.dsosession.specs.declared.session.Timers.{Timers}
 use Rattle.dsosession.specs.declared.session.EndReason.TheVariants as ends
 use Rattle.dsosession.specs.declared.session.Reaction.{Reaction}
-use Rattle.dsosession.specs.declared.session.Reaction.TheVariants.{Answer, Grant, Abort, Subscribe, Unsubscribe, Reconfirm, Update, NotImplemented}
+use Rattle.dsosession.specs.declared.session.Reaction.TheVariants.{Answer, Grant, Abort, Subscribe, Unsubscribe, Reconfirm, Update, Query, NotImplemented}
 use Rattle.pushsession.specs.Sessions.{ended_with}
 use Rattle.pushsession.specs.Reactions.{by_itself}
 use Rattle.pushsession.specs.Kept.{KeptSession, keeping}
@@ -63,26 +63,28 @@ primary_size head kind size said =
     (head.id == 0) (size == 8) (size == 2) kind said
 
 -- the table of headers by its tests
-abbrev by_header : Bool → Bool → Bool → Bool → Bool → Bool → Bool → Reaction → Reaction
-by_header response update other counts tlvs early zero rest = chosen (
+abbrev by_header : Bool → Bool → Bool → Bool → Bool → Bool → Bool → Bool → Reaction → Reaction
+by_header response update query other counts tlvs early zero rest = chosen (
     (response, Abort ends.Answer)
     ∷ (update, Update)
+    ∷ (query, Query)
     ∷ (other, NotImplemented)
     ∷ (counts, if zero then Abort ends.Counts else Answer formerr)
     ∷ (tlvs, if zero then Abort ends.Tlvs else Answer formerr)
     ∷ (early, Abort ends.Early)
     ∷ []) rest
 
-by_rest : (response update other counts tlvs early zero : Bool) (rest : Reaction) → is_unsubscribe (by_header response update other counts tlvs early zero rest) ≡ true → is_unsubscribe rest ≡ true
-by_rest true update other counts tlvs early zero rest said = absurd cc
-by_rest false true other counts tlvs early zero rest said = absurd cc
-by_rest false false true counts tlvs early zero rest said = absurd cc
-by_rest false false false true tlvs early true rest said = absurd cc
-by_rest false false false true tlvs early false rest said = absurd cc
-by_rest false false false false true early true rest said = absurd cc
-by_rest false false false false true early false rest said = absurd cc
-by_rest false false false false false true zero rest said = absurd cc
-by_rest false false false false false false zero rest said = said
+by_rest : (response update query other counts tlvs early zero : Bool) (rest : Reaction) → is_unsubscribe (by_header response update query other counts tlvs early zero rest) ≡ true → is_unsubscribe rest ≡ true
+by_rest true update query other counts tlvs early zero rest said = absurd cc
+by_rest false true query other counts tlvs early zero rest said = absurd cc
+by_rest false false true other counts tlvs early zero rest said = absurd cc
+by_rest false false false true counts tlvs early zero rest said = absurd cc
+by_rest false false false false true tlvs early true rest said = absurd cc
+by_rest false false false false true tlvs early false rest said = absurd cc
+by_rest false false false false false true early true rest said = absurd cc
+by_rest false false false false false true early false rest said = absurd cc
+by_rest false false false false false false true zero rest said = absurd cc
+by_rest false false false false false false false zero rest said = said
 
 -- the first TLV has two octets
 abbrev HasTwo : Option (ℕ × ℕ) → Type 0
@@ -98,7 +100,7 @@ by_primary head (Some first) said = (first, refl, primary_size head first.0 firs
 
 unsubscribe_has_two : (head : DsoHead) (established : Bool) → server_reaction head established ≡ Unsubscribe → HasTwo head.primary
 unsubscribe_has_two head established is =
-    by_primary head head.primary (by_rest (is_response head.flags) (opcode_of head.flags == update_opcode) (not (opcode_of head.flags == dso_opcode)) (not head.zero_counts) (not (head.tlvs_good && is_some head.primary))
+    by_primary head head.primary (by_rest (is_response head.flags) (opcode_of head.flags == update_opcode) (opcode_of head.flags == query_opcode) (not (opcode_of head.flags == dso_opcode)) (not head.zero_counts) (not (head.tlvs_good && is_some head.primary))
     (head.id == 0 && not established) (head.id == 0) (elim head.primary [ None ↦ answer_or_end head formerr ends.Tlvs | Some primary ↦ primary_reaction head primary.0 primary.1 ]) (ap is_unsubscribe is))
 
 -- ---- the message

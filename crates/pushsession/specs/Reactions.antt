@@ -5,7 +5,7 @@
 --     granted, unsubscribed      a Keepalive is granted; an ID goes with its question
 --     let_go      the last question of a name goes
 --     reacts_itself, by_itself      a message for which nothing is needed; what each such reaction does
---     ends_short, answers_subscribe, takes_reconfirm, answers_update      a message without a whole header; a SUBSCRIBE; a RECONFIRM; an update that was judged
+--     ends_short, answers_subscribe, takes_reconfirm, answers_update, answers_query      a message without a whole header; a SUBSCRIBE; a RECONFIRM; an update that was judged; a query with its reply
 use Rattle.std.specs.Prelude.{ℕ, Bool, true, false, cond, List, Option, Some, None, if◌then◌else◌}
 use Rattle.std.specs.Int.{w16, from_be_bytes}
 use Rattle.rrset.specs.Header.{id_of}
@@ -19,7 +19,7 @@ use Rattle.dsosession.specs.Timing.{restarted}
 use Rattle.dsosession.specs.declared.session.EndReason.TheVariants as ends
 use Rattle.dsosession.specs.declared.session.Timers.{Timers}
 use Rattle.dsosession.specs.declared.session.Reaction.{Reaction}
-use Rattle.dsosession.specs.declared.session.Reaction.TheVariants.{Answer, Grant, Abort, Subscribe, Unsubscribe, Reconfirm, Update, NotImplemented}
+use Rattle.dsosession.specs.declared.session.Reaction.TheVariants.{Answer, Grant, Abort, Subscribe, Unsubscribe, Reconfirm, Update, Query, NotImplemented}
 use Rattle.pushsession.specs.declared.request.Request.{Request}
 use Rattle.pushsession.specs.declared.request.Request.TheVariants as requests
 use Rattle.pushsession.specs.Sessions.{SessionOf, Keeps, establishes, answers, ended_with}
@@ -33,11 +33,12 @@ restarted_by message now session = record session { clocks = elim (head_of messa
 
 -- ---- what is needed of the server
 
--- a question's home and records (RFC 8765, 6.2); the reconfirming of a record (RFC 8765, 6.5); the judging of an update (RFC 2136, 3)
+-- a question's home and records (RFC 8765, 6.2); the reconfirming of a record (RFC 8765, 6.5); the judging of an update (RFC 2136, 3); the reply to a query (RFC 1035, 4.1)
 abbrev pub request_for : Reaction → List ℕ → Request
 request_for Subscribe message = requests.Subscribe (question_of (primary_data message))
 request_for Reconfirm message = requests.Reconfirm (reconfirm_of (primary_data message))
 request_for Update message = requests.Update
+request_for Query message = requests.Query
 request_for (Answer rcode) message = requests.Itself
 request_for Grant message = requests.Itself
 request_for (Abort reason) message = requests.Itself
@@ -57,11 +58,13 @@ IsRead (Some (requests.Subscribe question)) = Unit {0}
 IsRead (Some (requests.Reconfirm rr)) = Unit {0}
 IsRead (Some requests.Itself) = ⊥
 IsRead (Some requests.Update) = ⊥
+IsRead (Some requests.Query) = ⊥
 IsRead None = ⊥
 
--- memory is taken for these, and for an update
+-- memory is taken for these, for an update and for the reply to a query
 abbrev pub TakesMemory : Option Request → Type 0
 TakesMemory (Some requests.Update) = Unit {0}
+TakesMemory (Some requests.Query) = Unit {0}
 TakesMemory request = IsRead request
 
 -- ---- what a session does by itself
@@ -91,6 +94,7 @@ by_itself keeps NotImplemented timers now message session = answers keeps false 
 by_itself keeps Subscribe timers now message session = session
 by_itself keeps Reconfirm timers now message session = session
 by_itself keeps Update timers now message session = session
+by_itself keeps Query timers now message session = session
 
 -- a message without a whole header ends the session (RFC 8490, 5.4)
 abbrev pub ends_short : {A Q M : Type 0} → Keeps A Q M → SessionOf A Q M → SessionOf A Q M
@@ -116,3 +120,7 @@ takes_reconfirm keeps is_record session = if is_record then session else ended_w
 -- the answer to an update has its ID, and the RCODE that it got (RFC 2136, 3.8)
 abbrev pub answers_update : {A Q M : Type 0} → Keeps A Q M → ℕ → List ℕ → ℕ → SessionOf A Q M → SessionOf A Q M
 answers_update keeps now message rcode session = answers keeps false now (answer_to_update (id_of message) rcode) session
+
+-- the reply to a query goes out as it is; it doesn't establish the session (RFC 1035, 4.1)
+abbrev pub answers_query : {A Q M : Type 0} → Keeps A Q M → ℕ → List ℕ → SessionOf A Q M → SessionOf A Q M
+answers_query keeps now reply session = answers keeps false now reply session

@@ -2,7 +2,7 @@
 --     first_waiting, message_of, rest_of      the first whole message, if one waits; what is behind it
 --     taken_up now      it leaves the input, and restarts the timers
 --     request_of      what is needed for it
---     reacted, subscribed_by, updated, reconfirmed      the first message is reacted to
+--     reacted, subscribed_by, updated, replied, reconfirmed      the first message is reacted to
 --     CanBeTold      records as nets are made of
 -- The server's `give` composes the same of any message and in both worlds, as its laws need it; the calls here are of a kept session alone, and read the
 -- message in its input. A further kind of request changes both.
@@ -14,7 +14,7 @@ use Rattle.coalesce.specs.Laws.{can_be_sent}
 use Rattle.coalesce.specs.Sides.{IsOneSide}
 use Rattle.dsosession.specs.declared.session.Timers.{Timers}
 use Rattle.pushsession.specs.Sessions.{SessionOf, without_first}
-use Rattle.pushsession.specs.Reactions.{restarted_by, request_in, reacts_itself, answers_subscribe, takes_reconfirm, answers_update}
+use Rattle.pushsession.specs.Reactions.{restarted_by, request_in, reacts_itself, answers_subscribe, takes_reconfirm, answers_update, answers_query}
 use Rattle.pushsession.specs.Kept.{KeptSession, keeping, telling}
 use Rattle.pushsession.specs.declared.request.Request.{Request}
 
@@ -57,6 +57,10 @@ CanBeTold _ _ rows = Unit {0}
 -- to an update that got this RCODE
 abbrev pub updated : ℕ → ℕ → KeptSession → KeptSession
 updated rcode now session = answers_update keeping now (message_of session) rcode (taken_up now session)
+
+-- to a query with this reply
+abbrev pub replied : List ℕ → ℕ → KeptSession → KeptSession
+replied reply now session = answers_query keeping now reply (taken_up now session)
 
 -- to a RECONFIRM, whose data is a record or not
 abbrev pub reconfirmed : Bool → ℕ → KeptSession → KeptSession

@@ -1,6 +1,6 @@
 //! How a session reacts to its first whole message (RFC 8490, 5; RFC 8765, 6.4 and 6.5).
 
-ghost use Rattle.std.specs.Prelude.{◌≡◌, ◌≤◌, [], length, Some, is_some};
+ghost use Rattle.std.specs.Prelude.{◌≡◌, ◌<◌, ◌≤◌, ◌^◌, [], length, Some, is_some};
 ghost use Rattle.std.specs.Int.{w16, from_be_bytes};
 ghost use Rattle.rrset.specs.Header.{header_octets};
 ghost use Rattle.dsotlv.specs.Messages.{primary_data};
@@ -9,7 +9,7 @@ ghost use Rattle.pushsession.specs.Kept.{keeping, without_filled};
 ghost use Rattle.subscr.specs.Watching.{watching_of};
 ghost use Rattle.pushsession.specs.Watched.{Rewatches};
 ghost use Rattle.pushsession.specs.Reactions.{granted, let_go, unsubscribed};
-ghost use Rattle.pushsession.specs.Requests.{reacted, reconfirmed, request_of, updated};
+ghost use Rattle.pushsession.specs.Requests.{reacted, reconfirmed, replied, request_of, updated};
 ghost use Rattle.pushsession.specs.declared.request.Request.TheVariants as requests;
 
 use crate::session::PushSession;
@@ -110,7 +110,7 @@ impl PushSession {
                     let header = header(head.id, flags);
                     self.say(false, now, &header, &[]);
                 }
-                Reaction::Subscribe | Reaction::Reconfirm | Reaction::Update => {}
+                Reaction::Subscribe | Reaction::Reconfirm | Reaction::Update | Reaction::Query => {}
             },
         }
     }
@@ -125,6 +125,17 @@ impl PushSession {
         let _ = self.take_up(now);
         let header = header(id, UPDATE_ANSWER + u16::from(rcode));
         self.say(false, now, &header, &[]);
+    }
+
+    /// Answers a query with this reply (RFC 1035, 4.1).
+    pub fn answer_query(&mut self, reply: &[u8], now: u64)
+        requires output { self.old.output ≡ [] }
+        requires request { request_of self.old ≡ Some requests.Query }
+        requires size { length reply.now < 2 ^ 16 }
+        ensures { self.new ≡ replied reply.now now self.old }
+    {
+        let _ = self.take_up(now);
+        self.say(false, now, &[], reply);
     }
 
     /// Takes up a RECONFIRM whose data is a record, or ends where it is none (RFC 8765, 6.5).

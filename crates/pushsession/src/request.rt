@@ -14,4 +14,6 @@ pub enum Request {
     Reconfirm(Option<Rr>),
     /// The judging of the update that the message is (RFC 2136, 3).
     Update,
+    /// The reply to the query that the message is (RFC 1035, 4.1).
+    Query,
 }

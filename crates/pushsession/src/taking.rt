@@ -31,6 +31,7 @@ fn request_for(alloc: Global, reaction: Reaction, message: &[u8]) -> Result<Requ
             Ok(Request::Reconfirm(record))
         }
         Reaction::Update => Ok(Request::Update),
+        Reaction::Query => Ok(Request::Query),
         Reaction::Answer(_)
         | Reaction::Grant
         | Reaction::Abort(_)

@@ -10,11 +10,12 @@ use Rattle.std.proofs.lemmas.List.{length-append}
 use Rattle.coalesce.proofs.ReadBack.{each-append}
 use Rattle.coalesce.specs.Net.{packed}
 use Rattle.dnsname.specs.Names.{Labels, same_name}
+use Rattle.dnsquery.specs.Replies.{reply_to}
 use Rattle.dsosession.specs.Reactions.{server_reaction}
 use Rattle.dsosession.specs.declared.session.EndReason.{EndReason}
 use Rattle.dsosession.specs.declared.session.EndReason.TheVariants as ends
 use Rattle.dsosession.specs.declared.session.Reaction.{Reaction}
-use Rattle.dsosession.specs.declared.session.Reaction.TheVariants.{Answer, Grant, Abort, Subscribe, Unsubscribe, Reconfirm, Update, NotImplemented}
+use Rattle.dsosession.specs.declared.session.Reaction.TheVariants.{Answer, Grant, Abort, Subscribe, Unsubscribe, Reconfirm, Update, Query, NotImplemented}
 use Rattle.dsotlv.specs.Answers.{answer_to, refusal_to, grant_to, not_implemented, answer_to_update, stop_message, push_message}
 use Rattle.dsotlv.specs.Messages.{head_of, primary_data}
 use Rattle.dsotlv.specs.Notices.{question_of}
@@ -22,12 +23,12 @@ use Rattle.dsotlv.specs.declared.message.DsoHead.{DsoHead}
 use Rattle.dsotlv.specs.declared.message.Notice.{Notice}
 use Rattle.history.specs.declared.entry.Entry.{Entry}
 use Rattle.pushserver.specs.Calls.{after_calls}
-use Rattle.pushserver.specs.Giving.{has_home}
-use Rattle.pushserver.specs.Hubs.{newest, now, keeps_now, tells_now, session_of, in_session, entered, update}
+use Rattle.pushserver.specs.Giving.{has_home, known_at}
+use Rattle.pushserver.specs.Hubs.{newest, now, state_now, keeps_now, tells_now, session_of, in_session, entered, update}
 use Rattle.pushserver.specs.PlainHubs.{Hub, Session, Made, Queue, told, note_of, nets_of, plain_keeps}
 use Rattle.pushserver.specs.ToldMessages.{IsNoEarlier}
 use Rattle.pushserver.proofs.Subscribing.{verdict-holds}
-use Rattle.pushserver.proofs.Walks.{AnyMessage, bring_any, Step, restarts, reacts, answers_subscribe, answers_update, packs_names, comes_to_stop, ends_with, copies_front, IsKept, keeps-calls}
+use Rattle.pushserver.proofs.Walks.{AnyMessage, bring_any, Step, restarts, reacts, answers_subscribe, answers_update, answers_query, packs_names, comes_to_stop, ends_with, copies_front, IsKept, keeps-calls}
 use Rattle.pushserver.proofs.hub_steps.Cases.{itself_as}
 use Rattle.pushserver.proofs.hub_steps.Pairs.{all-map, all-weaken}
 use Rattle.pushserver.proofs.hub_steps.Queued.{points-fold}
@@ -123,6 +124,7 @@ module _ (low : ℕ) (hub : Hub) (order : low ≤ newest hub) where
   between-by_itself Subscribe message session h = h
   between-by_itself Reconfirm message session h = h
   between-by_itself Update message session h = h
+  between-by_itself Query message session h = h
 
   between-itself : (message : List ℕ) (session : Session) → IsBetween session → IsBetween (reacts_itself (keeps_now hub) hub.timers (now hub) message session)
   between-itself message session h = by (head_of message)
@@ -155,6 +157,7 @@ module _ (low : ℕ) (hub : Hub) (order : low ≤ newest hub) where
   between-step (reacts message) session h = between-itself message session h
   between-step (answers_subscribe message any) session h = between-answered (id_of message) (question_of (primary_data message)) session h
   between-step (answers_update before message) session h = between-answers false (answer_to_update (id_of message) (update before message).0) session h
+  between-step (answers_query message any) session h = between-answers false (reply_to (known_at (state_now hub)) message) session h
   between-step packs_names session h =
       let pack = packed (nets_of hub.start hub.history session.subscriptions session.queue) in
       let left : Session = record session { queue = ((tells_now hub).packed session.subscriptions session.queue).1 } in

@@ -10,7 +10,7 @@ use Rattle.pushsession.specs.Sessions.{new_session, with_piece, copied, asked_to
 use Rattle.pushserver.specs.PlainHubs.{Hub, Session, plain_keeps}
 use Rattle.pushserver.specs.Hubs.{session_in, now, keeps_now, session_of, each_session, in_session, disconnect}
 use Rattle.pushserver.proofs.SessionLists.{found-changed, found-last, found-left, other-number}
-use Rattle.pushserver.proofs.Walks.{AnyMessage, Step, restarts, reacts, answers_subscribe, answers_update, packs_names, comes_to_stop, ends_with, copies_front, IsKept, with_new}
+use Rattle.pushserver.proofs.Walks.{AnyMessage, Step, restarts, reacts, answers_subscribe, answers_update, answers_query, packs_names, comes_to_stop, ends_with, copies_front, IsKept, with_new}
 use Rattle.pushtelling.specs.Laws.{Grows}
 use Rattle.pushtelling.proofs.Tells.{by_entry}
 use Rattle.pushtelling.proofs.Saying.{Said, said-step, said-ended_where, said-asked}
@@ -31,6 +31,7 @@ grows-step hub (restarts message) session = grown (said-step hub (restarts messa
 grows-step hub (reacts message) session = grown (said-step hub (reacts message) tt session)
 grows-step hub (answers_subscribe message any) session = grown (said-step hub (answers_subscribe message any) tt session)
 grows-step hub (answers_update before message) session = grown (said-step hub (answers_update before message) tt session)
+grows-step hub (answers_query message any) session = grown (said-step hub (answers_query message any) tt session)
 grows-step hub packs_names session = grown (said-step hub packs_names tt session)
 grows-step hub (comes_to_stop rcode delay) session = grown (said-step hub (comes_to_stop rcode delay) tt session)
 grows-step hub (ends_with reason) session = grown (said-step hub (ends_with reason) tt session)

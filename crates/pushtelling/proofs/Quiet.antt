@@ -1,5 +1,6 @@
 -- Which messages are quiet: no notices in them, and no NOERROR answer to a SUBSCRIBE.
 --     other_flags, other_length      a message that isn't such an answer
+--     quiet-response, quiet-reply      responses whose flags aren't those of such an answer, so the replies to queries
 --     answer-itself, answer-other      one that is, by its ID
 use Rattle.std.proofs.Common.{◌≡◌, ℕ, ◌+◌, ◌<◌, ◌≤◌, Bool, true, false, cond, List, [], ◌∷◌, length, sym, ◌∙◌, ap, refl, arith, Ok, Err, min, bit_and, eqb→eq, T, subst, nat_le}
 use Rattle.std.specs.Prelude.{◌==◌}
@@ -10,6 +11,7 @@ use Rattle.std.proofs.lemmas.Nat.Bits.{bit_at_and}
 use Rattle.std.proofs.lemmas.Slice.Eq.{bytes_eq-Decides}
 use Rattle.rrset.specs.Header.{id_of, flags_of, is_response, answer_octets}
 use Rattle.rrset.specs.Rcodes.{noerror, formerr, refused, notauth, dsotypeni}
+use Rattle.dnsquery.specs.Laws.{IsAnswer}
 use Rattle.dsotlv.specs.Answers.{answer_to, not_implemented, answer_to_update, stop_message}
 use Rattle.dsotlv.specs.Messages.{tlvs_of}
 use Rattle.dsotlv.specs.declared.message.Notice.{Notice}
@@ -68,16 +70,21 @@ quiet-stop rcode delay = (by (is_response (flags_of (stop_message rcode delay)))
 
 -- ---- answers whose flags are no literal
 
+-- a message is quiet where its flags are those of a response and not those of a granted SUBSCRIBE
+quiet-response : (message : List ℕ) → is_response (flags_of message) ≡ true → (flags_of message == 0xb000) ≡ false → IsQuiet message
+quiet-response message response other =
+    (ap (λ b. cond b [] (elim (tlvs_of message) as (λ _. List Notice) [ Err fault ↦ [] | Ok tlvs ↦ notices_in_tlvs tlvs ])) response, λ id. other_flags message id other)
+
+-- so is the reply to a query
+pub quiet-reply : (reply : List ℕ) → IsAnswer reply → IsQuiet reply
+quiet-reply reply answer = quiet-response reply answer.response answer.no_session
+
 pub flags_read : (id flags : ℕ) → flags < 65536 → flags_of (answer_octets id flags) ≡ flags
 flags_read id flags small = from_be_bytes-to_be_bytes_2 flags small
 
--- an answer of a header alone is quiet where its flags are those of a response and not those of a granted SUBSCRIBE
+-- so is an answer of a header alone, by its flags
 pub quiet-header : (id flags : ℕ) → flags < 65536 → is_response flags ≡ true → (flags == 0xb000) ≡ false → IsQuiet (answer_octets id flags)
-quiet-header id flags small response other = (
-  ap (λ f. cond (is_response f) [] (elim (tlvs_of (answer_octets id flags)) as (λ _. List Notice) [ Err fault ↦ [] | Ok tlvs ↦ notices_in_tlvs tlvs ])) (flags_read id flags small)
-      ∙ ap (λ b. cond b [] (elim (tlvs_of (answer_octets id flags)) as (λ _. List Notice) [ Err fault ↦ [] | Ok tlvs ↦ notices_in_tlvs tlvs ])) response,
-  λ other_id. other_flags (answer_octets id flags) other_id (ap (λ f. f == 0xb000) (flags_read id flags small) ∙ other),
-)
+quiet-header id flags small response other = quiet-response (answer_octets id flags) (ap is_response (flags_read id flags small) ∙ response) (ap (λ f. f == 0xb000) (flags_read id flags small) ∙ other)
 
 -- the answer to an update with a small RCODE
 pub quiet-update : (id code : ℕ) → code < 2048 → IsQuiet (answer_to_update id code)

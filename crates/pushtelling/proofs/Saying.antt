@@ -9,6 +9,7 @@ use Rattle.std.proofs.lemmas.List.{append-nil, append_assoc}
 use Rattle.rrset.specs.Header.{id_of}
 use Rattle.rrset.specs.Rcodes.{noerror, formerr, refused, notauth}
 use Rattle.rrset.specs.declared.record.Question.{Question}
+use Rattle.dnsquery.specs.Replies.{reply_to}
 use Rattle.dsotlv.specs.Answers.{answer_to, refusal_to, grant_to, not_implemented, answer_to_update, stop_message, push_message}
 use Rattle.dsotlv.specs.Messages.{frame, head_of, primary_data}
 use Rattle.dsotlv.specs.Notices.{question_of}
@@ -18,17 +19,17 @@ use Rattle.dsosession.specs.Reactions.{server_reaction}
 use Rattle.dsosession.specs.declared.session.EndReason.{EndReason}
 use Rattle.dsosession.specs.declared.session.EndReason.TheVariants as ends
 use Rattle.dsosession.specs.declared.session.Reaction.{Reaction}
-use Rattle.dsosession.specs.declared.session.Reaction.TheVariants.{Answer, Grant, Abort, Subscribe, Unsubscribe, Reconfirm, Update, NotImplemented}
+use Rattle.dsosession.specs.declared.session.Reaction.TheVariants.{Answer, Grant, Abort, Subscribe, Unsubscribe, Reconfirm, Update, Query, NotImplemented}
 use Rattle.pushsession.specs.Sessions.{is_open, asked_to_stop, ended_with, ended_where, with_frame, answers, says_stop}
 use Rattle.pushsession.specs.Subscribing.{Verdict, says_notices, subscribed, says_first_answer, first_answer_size, decided, answered}
 use Rattle.pushsession.specs.Reactions.{restarted_by, reacts_itself, by_itself}
 use Rattle.pushsession.specs.declared.session_status.SessionStatus.TheVariants.{AskedToStop}
 use Rattle.pushserver.specs.PlainHubs.{Hub, Session, Made, Queue, frame_of, plain_keeps}
-use Rattle.pushserver.specs.Hubs.{newest, now, keeps_now, tells_now, update}
-use Rattle.pushserver.specs.Giving.{has_home}
+use Rattle.pushserver.specs.Hubs.{newest, now, state_now, keeps_now, tells_now, update}
+use Rattle.pushserver.specs.Giving.{has_home, known_at}
 use Rattle.pushserver.proofs.Subscribing.{verdict-holds}
 use Rattle.pushserver.proofs.hub_steps.Cases.{itself_as}
-use Rattle.pushserver.proofs.Walks.{AnyMessage, Step, restarts, reacts, answers_subscribe, answers_update, packs_names, comes_to_stop, ends_with, copies_front, HandsNothing}
+use Rattle.pushserver.proofs.Walks.{AnyMessage, Step, restarts, reacts, answers_subscribe, answers_update, answers_query, packs_names, comes_to_stop, ends_with, copies_front, HandsNothing}
 
 pub record Said (before after : Session) : Type 0 where
   pub more : List Made
@@ -87,6 +88,7 @@ said-by_itself hub NotImplemented message session = said-with_frame (newest hub)
 said-by_itself hub Subscribe message session = said-none session session refl refl refl
 said-by_itself hub Reconfirm message session = said-none session session refl refl refl
 said-by_itself hub Update message session = said-none session session refl refl refl
+said-by_itself hub Query message session = said-none session session refl refl refl
 
 said-itself : (hub : Hub) (message : List ℕ) (session : Session) → Said session (reacts_itself (keeps_now hub) hub.timers (now hub) message session)
 said-itself hub message session = by (head_of message)
@@ -121,6 +123,7 @@ said-step hub (restarts message) out session = said-none session (restarted_by m
 said-step hub (reacts message) out session = said-itself hub message session
 said-step hub (answers_subscribe message any) out session = said-answered hub (id_of message) (question_of (primary_data message)) session
 said-step hub (answers_update before message) out session = said-with_frame (newest hub) (now hub) false (answer_to_update (id_of message) (update before message).0) session.queue session
+said-step hub (answers_query message any) out session = said-with_frame (newest hub) (now hub) false (reply_to (known_at (state_now hub)) message) session.queue session
 said-step hub packs_names out session =
     let pack = (tells_now hub).packed session.subscriptions session.queue in
     let left : Session = record session { queue = pack.1 } in

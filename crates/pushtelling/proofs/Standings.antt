@@ -7,7 +7,7 @@ use Rattle.dsosession.specs.Reactions.{server_reaction}
 use Rattle.dsosession.specs.declared.session.EndReason.{EndReason}
 use Rattle.dsosession.specs.declared.session.EndReason.TheVariants as ends
 use Rattle.dsosession.specs.declared.session.Reaction.{Reaction}
-use Rattle.dsosession.specs.declared.session.Reaction.TheVariants.{Answer, Grant, Abort, Subscribe, Unsubscribe, Reconfirm, Update, NotImplemented}
+use Rattle.dsosession.specs.declared.session.Reaction.TheVariants.{Answer, Grant, Abort, Subscribe, Unsubscribe, Reconfirm, Update, Query, NotImplemented}
 use Rattle.dsotlv.specs.Answers.{answer_to}
 use Rattle.dsotlv.specs.Messages.{head_of, primary_data}
 use Rattle.dsotlv.specs.Notices.{question_of}
@@ -22,7 +22,7 @@ use Rattle.pushserver.specs.Giving.{has_home}
 use Rattle.pushserver.specs.Hubs.{now, keeps_now, tells_now}
 use Rattle.pushserver.specs.PlainHubs.{Hub, Session, Queue, plain_keeps}
 use Rattle.pushserver.proofs.Subscribing.{verdict-holds}
-use Rattle.pushserver.proofs.Walks.{AnyMessage, Step, restarts, reacts, answers_subscribe, answers_update, packs_names, comes_to_stop, ends_with, copies_front}
+use Rattle.pushserver.proofs.Walks.{AnyMessage, Step, restarts, reacts, answers_subscribe, answers_update, answers_query, packs_names, comes_to_stop, ends_with, copies_front}
 use Rattle.pushserver.proofs.hub_steps.Cases.{itself_as}
 use Rattle.rrset.specs.Header.{id_of}
 use Rattle.rrset.specs.Rcodes.{noerror}
@@ -50,6 +50,7 @@ module _ (Q : SessionStatus → Type 0) (ended : (reason : EndReason) → Q (End
     has-by_itself Subscribe message session h = h
     has-by_itself Reconfirm message session h = h
     has-by_itself Update message session h = h
+    has-by_itself Query message session h = h
 
     has-itself : (message : List ℕ) (session : Session) → Has Q session → Has Q (reacts_itself (keeps_now hub) hub.timers (now hub) message session)
     has-itself message session h = by (head_of message)
@@ -77,6 +78,7 @@ module _ (Q : SessionStatus → Type 0) (ended : (reason : EndReason) → Q (End
     has-step (reacts message) session h = has-itself message session h
     has-step (answers_subscribe message any) session h = has-answered (id_of message) (question_of (primary_data message)) session h
     has-step (answers_update before message) session h = h
+    has-step (answers_query message any) session h = h
     has-step packs_names session h =
         let pack = (tells_now hub).packed session.subscriptions session.queue in
         has-notices _ (now hub) pack.0 (record session { queue = pack.1 }) h

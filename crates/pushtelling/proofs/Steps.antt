@@ -12,16 +12,18 @@ use Rattle.rrset.specs.Header.{id_of, is_response, opcode_of, update_opcode}
 use Rattle.rrset.specs.Rcodes.{formerr, refused, notauth, dsotypeni}
 use Rattle.rrset.specs.Records.{same_question}
 use Rattle.rrset.specs.declared.record.Question.{Question}
+use Rattle.dnsquery.specs.Replies.{reply_to}
+use Rattle.dnsquery.proofs.ReplyLaws.{replies_are_answers}
 use Rattle.dsotlv.specs.Answers.{answer_to, refusal_to, grant_to, not_implemented, answer_to_update, stop_message}
 use Rattle.dsotlv.specs.Messages.{dso_opcode, head_of, primary_data}
 use Rattle.dsotlv.specs.Notices.{question_of}
 use Rattle.dsotlv.specs.TlvKinds.{keepalive_tlv, retry_delay_tlv, padding_tlv, subscribe_tlv, push_tlv, unsubscribe_tlv, reconfirm_tlv}
 use Rattle.dsotlv.specs.declared.message.DsoHead.{DsoHead}
-use Rattle.dsosession.specs.Reactions.{server_reaction, dso_reaction, primary_reaction, answer_or_end}
+use Rattle.dsosession.specs.Reactions.{query_opcode, server_reaction, dso_reaction, primary_reaction, answer_or_end}
 use Rattle.dsosession.specs.declared.session.EndReason.{EndReason}
 use Rattle.dsosession.specs.declared.session.EndReason.TheVariants as ends
 use Rattle.dsosession.specs.declared.session.Reaction.{Reaction}
-use Rattle.dsosession.specs.declared.session.Reaction.TheVariants.{Answer, Grant, Abort, Subscribe, Unsubscribe, Reconfirm, Update, NotImplemented}
+use Rattle.dsosession.specs.declared.session.Reaction.TheVariants.{Answer, Grant, Abort, Subscribe, Unsubscribe, Reconfirm, Update, Query, NotImplemented}
 use Rattle.history.specs.States.{State}
 use Rattle.history.specs.declared.entry.Entry.{Entry}
 use Rattle.pushsession.specs.Sessions.{answers, ended_with, ended_where, says_stop}
@@ -29,20 +31,20 @@ use Rattle.pushsession.specs.Subscribing.{Verdict, decided, answered}
 use Rattle.pushsession.specs.Reactions.{reacts_itself, by_itself}
 use Rattle.pushsession.specs.declared.session_status.SessionStatus.TheVariants.{Stopped, Ended}
 use Rattle.pushserver.specs.PlainHubs.{Hub, Session, Subscription, subscription_for, plain_keeps}
-use Rattle.pushserver.specs.Hubs.{now, keeps_now, tells_now, update}
-use Rattle.pushserver.specs.Giving.{has_home}
+use Rattle.pushserver.specs.Hubs.{now, state_now, keeps_now, tells_now, update}
+use Rattle.pushserver.specs.Giving.{has_home, known_at}
 use Rattle.pushserver.proofs.Subscribing.{verdict-holds}
 use Rattle.rrset.proofs.Distinct.{any_found}
 use Rattle.pushserver.proofs.session_steps.Lists.{some-find}
 use Rattle.pushserver.proofs.hub_steps.Cases.{itself_as}
-use Rattle.pushserver.proofs.Walks.{Step, restarts, reacts, answers_subscribe, answers_update, packs_names, comes_to_stop, ends_with, copies_front}
+use Rattle.pushserver.proofs.Walks.{Step, restarts, reacts, answers_subscribe, answers_update, answers_query, packs_names, comes_to_stop, ends_with, copies_front}
 use Rattle.dsotlv.specs.Laws.{AreOctets}
 use Rattle.dsotlv.proofs.Numbers.{two_below}
 use Rattle.pushserver.proofs.session_steps.Octets.{question-named}
 use Rattle.pushserver.proofs.told_rows.HubTells.{StatesTell}
 use Rattle.pushtelling.proofs.Tells.{Tells, IsQuiet, tells-says_quiet, tells-cleared}
 use Rattle.pushtelling.proofs.LettingGo.{tells-let_go}
-use Rattle.pushtelling.proofs.Quiet.{quiet-formerr, quiet-dsotypeni, quiet-refusal_formerr, quiet-refusal_refused, quiet-refusal_notauth, quiet-grant, quiet-stop, quiet-update, quiet-not_implemented}
+use Rattle.pushtelling.proofs.Quiet.{quiet-formerr, quiet-dsotypeni, quiet-refusal_formerr, quiet-refusal_refused, quiet-refusal_notauth, quiet-grant, quiet-stop, quiet-update, quiet-not_implemented, quiet-reply}
 use Rattle.pushtelling.proofs.Leading.{first_is_read}
 use Rattle.pushtelling.proofs.Accepting.{tells-with_accepted}
 use Rattle.pushtelling.proofs.Pushing.{tells-with_next_push}
@@ -118,10 +120,11 @@ quiet-reaction : (head : DsoHead) (established : Bool) → QuietAnswer (server_r
 quiet-reaction head established = chosen-all QuietAnswer (
     (is_response head.flags, Abort ends.Answer)
     ∷ (opcode_of head.flags == update_opcode, Update)
+    ∷ (opcode_of head.flags == query_opcode, Query)
     ∷ (not (opcode_of head.flags == dso_opcode), NotImplemented)
     ∷ (not head.zero_counts, answer_or_end head formerr ends.Counts)
     ∷ []) (dso_reaction head established)
-    (tt, (tt, (tt, (quiet-answer_or_end head formerr ends.Counts quiet-formerr, tt))))
+    (tt, (tt, (tt, (tt, (quiet-answer_or_end head formerr ends.Counts quiet-formerr, tt)))))
     (quiet-dso head established)
 
 -- ---- the steps
@@ -143,6 +146,7 @@ module _ (hub : Hub) where
   tells-by_itself Subscribe quiet message session t = t
   tells-by_itself Reconfirm quiet message session t = t
   tells-by_itself Update quiet message session t = t
+  tells-by_itself Query quiet message session t = t
 
   tells-itself : (message : List ℕ) (session : Session) → TellsNow session → TellsNow (reacts_itself (keeps_now hub) hub.timers (now hub) message session)
   tells-itself message session t = by (head_of message)
@@ -185,6 +189,9 @@ module _ (hub : Hub) where
     tells-step (answers_update before message) session t =
         let code = (update before message).0 in
         tells-answers false (answer_to_update (id_of message) code) (quiet-update (id_of message) code (codes_are_small before message)) session t
+    tells-step (answers_query message octets) session t =
+        let reply = reply_to (known_at (state_now hub)) message in
+        tells-answers false reply (quiet-reply reply (replies_are_answers (known_at (state_now hub)) message)) session t
     tells-step packs_names session t = tells-with_next_push hub session states t
     tells-step (comes_to_stop rcode delay) session t = by session.established
       where

@@ -4,4 +4,5 @@ pub mod TurnSizes
 pub mod ZoneSizes
 pub mod StartSizes
 pub mod ReplySizes
+pub mod QuerySizes
 pub mod SendSizes

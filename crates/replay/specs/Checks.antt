@@ -6,7 +6,7 @@ use Rattle.scripts.specs.Outcomes.{status_of}
 use Rattle.scripts.specs.Reply.{Reply}
 use Rattle.scripts.specs.Words.{line}
 use Rattle.scripts.specs.Scripts.{lines_in, script_of}
-use Rattle.replay.specs.Text.{outside_text}
+use Rattle.replay.specs.ScriptTexts.{outside_text}
 
 -- what is written of a script with so many lines
 abbrev pub good_text : ℕ → List ℕ

@@ -13,12 +13,17 @@ use Rattle.pushserver.specs.declared.given.Given.{Given}
 use Rattle.pushserver.specs.declared.given.Given.TheVariants.{Bytes, Worked, Nothing, Ending, End}
 use Rattle.pushserver.specs.PlainHubs.{Hub, Giving}
 use Rattle.pushserver.specs.Giving.{give}
-use Rattle.pushserver.specs.KeptHubs.{KeptHub, StandsFor}
+use Rattle.pushserver.specs.Calls.{gives}
+use Rattle.hubasking.specs.AskingHubs.{AskingHub}
+use Rattle.hubasking.specs.LinkAskings.{Askings, plain_questions, asking_after}
 use Rattle.inflight.specs.Ends.{remembers}
 use Rattle.replay.specs.declared.exchanging.Turn.{Turn}
 use Rattle.replay.specs.declared.exchanging.Turn.TheVariants.{More, Last}
 use Rattle.replay.specs.declared.exchanging.Emission.{Emission}
 use Rattle.replay.specs.PassedOctets.{Emitted, Exchanged, emitted, exchanged, nothing_emitted, subscriptions_in, enough}
+use Rattle.replay.specs.Askings.{calls_asks}
+use Rattle.replay.specs.LineCalls.{emit_calls, exchange_calls}
+use Rattle.replay.specs.KeptAskings.{StandsFor}
 use Rattle.replay.specs.KeptWorlds.{TellsEnds}
 
 -- the octets that a call of give copied into a buffer
@@ -51,40 +56,43 @@ has_end told id = list_any (λ e. e.0 == id) told
 abbrev pub not_told : List (ℕ × ℕ) → ℕ × ℕ → Bool
 not_told told entry = not (has_end told entry.0)
 
--- one call of give was this
-pub record IsGiven (g : Giving) (number : ℕ) (before : List ℕ) (told : List (ℕ × ℕ)) (later : KeptHub) (octets : List ℕ) (told_later : List (ℕ × ℕ)) (given : Given) : Type 0 where
+-- one call of give was this, behind which links are asked this
+pub record IsGiven (g : Giving) (asked : Askings) (number : ℕ) (before : List ℕ) (told : List (ℕ × ℕ)) (later : AskingHub) (octets : List ℕ) (told_later : List (ℕ × ℕ)) (given : Given) : Type 0 where
   pub answers : given ≡ g.given
   pub written : octets ≡ before ++ g.octets
   pub ends : Remembers g.hub number told told_later
   pub stands : StandsFor later g.hub
+  pub asks : later.askings ≡ asked
 
 -- in every hub that is stood for
-unfoldable pub Gives : ℕ → KeptHub → ℕ → List ℕ → List (ℕ × ℕ) → KeptHub → List ℕ → List (ℕ × ℕ) → Given → Type 0
-Gives room kept number before told later octets told_later given = (hub : Hub) → StandsFor kept hub → IsGiven (give hub number room) number before told later octets told_later given
+unfoldable pub Gives : ℕ → AskingHub → ℕ → List ℕ → List (ℕ × ℕ) → AskingHub → List ℕ → List (ℕ × ℕ) → Given → Type 0
+Gives room kept number before told later octets told_later given = (hub : Hub) → StandsFor kept hub → IsGiven (give hub number room) (asking_after plain_questions (gives number room) hub kept.askings) number before told later octets told_later given
 
--- calls of give made these octets behind others, and this end
-pub record IsEmitted (e : Emitted) (before : List ℕ) (later : KeptHub) (octets : List ℕ) (told : List (ℕ × ℕ)) (emission : Emission) : Type 0 where
+-- calls of give made these octets behind others, and this end, and links are asked this then
+pub record IsEmitted (e : Emitted) (asked : Askings) (before : List ℕ) (later : AskingHub) (octets : List ℕ) (told : List (ℕ × ℕ)) (emission : Emission) : Type 0 where
   pub end_told : emission.over ≡ e.over
   pub reacts : emission.reacted ≡ e.reacted
   pub written : octets ≡ before ++ e.octets
   pub ends : TellsEnds told e.filled
   pub stands : StandsFor later e.hub
+  pub asks : later.askings ≡ asked
 
 -- a number of octets that are allowed, or the greatest number for any greater one
 abbrev pub Allows : ℕ → ℕ → Type 0
 Allows count budget = (count ≤ budget) × ((count ≡ budget) ⊎ (count ≡ max_number))
 
 -- in every hub that is stood for, whatever was told of first answers, where so many octets may come
-unfoldable pub Emits : ℕ → KeptHub → ℕ → List ℕ → List (ℕ × ℕ) → KeptHub → List ℕ → List (ℕ × ℕ) → Emission → Type 0
+unfoldable pub Emits : ℕ → AskingHub → ℕ → List ℕ → List (ℕ × ℕ) → AskingHub → List ℕ → List (ℕ × ℕ) → Emission → Type 0
 Emits count kept number before told later octets told_later emission = (budget : ℕ) (hub : Hub) (plain : List (ℕ × ℕ)) → Allows count budget → StandsFor kept hub → TellsEnds told plain
-    → IsEmitted (emitted enough number budget (nothing_emitted hub plain)) before later octets told_later emission
+    → IsEmitted (emitted enough number budget (nothing_emitted hub plain)) (calls_asks (emit_calls enough number budget hub) hub kept.askings) before later octets told_later emission
 
--- an exchange made these octets and this end
-pub record IsExchanged (x : Exchanged) (later : KeptHub) (octets : List ℕ) (over : Option EndReason) : Type 0 where
+-- an exchange made these octets and this end, and links are asked this then
+pub record IsExchanged (x : Exchanged) (asked : Askings) (later : AskingHub) (octets : List ℕ) (over : Option EndReason) : Type 0 where
   pub end_told : over ≡ x.over
   pub written : octets ≡ x.octets
   pub stands : StandsFor later x.hub
+  pub asks : later.askings ≡ asked
 
 -- in every hub that is stood for
-unfoldable pub Exchanges : KeptHub → ℕ → List ℕ → KeptHub → List ℕ → Option EndReason → Type 0
-Exchanges kept number sent later octets over = (hub : Hub) → StandsFor kept hub → IsExchanged (exchanged enough number sent hub []) later octets over
+unfoldable pub Exchanges : AskingHub → ℕ → List ℕ → AskingHub → List ℕ → Option EndReason → Type 0
+Exchanges kept number sent later octets over = (hub : Hub) → StandsFor kept hub → IsExchanged (exchanged enough number sent hub []) (calls_asks (exchange_calls enough number sent hub) hub kept.askings) later octets over

@@ -6,19 +6,22 @@
 --     TellsConnected seats place answer      whether the client at a place has a connection
 --     closing_text w closing      the line of a client that has closed, if it has
 --     Times t kept before kept_later later told, TimesWorld kept known later known_later told      the clients at a moment, one after the other
-use Rattle.std.specs.Prelude.{◌≡◌, ℕ, Bool, List, Option, None, fold, set, get_or}
+use Rattle.std.specs.Prelude.{◌≡◌, ℕ, Bool, cond, List, [], Option, None, fold, flat_map, set, get_or}
 use Rattle.std.specs.Str.{bytes_eq}
 use Rattle.dsosession.specs.declared.session.CloseReason.{CloseReason}
 use Rattle.dsosession.specs.declared.session.EndReason.{EndReason}
 use Rattle.pushserver.specs.PlainHubs.{Hub}
 use Rattle.pushserver.specs.Hubs.{now}
-use Rattle.pushserver.specs.KeptHubs.{KeptHub, StandsFor}
+use Rattle.hubasking.specs.AskingHubs.{AskingHub}
+use Rattle.hubasking.specs.LinkAskings.{Askings}
 use Rattle.pushclient.specs.Clients.{Client, closed_as, is_connected}
 use Rattle.pushclient.specs.Steps.{moment}
 use Rattle.scripts.specs.Lines.{Word}
 use Rattle.replay.specs.World.{World, Seat, with_client, is_over, cut_if, hub_without, hub_cut_if}
 use Rattle.replay.specs.Text.{quietly, close_lines, timed}
 use Rattle.scripts.specs.Words.{ended_lines}
+use Rattle.replay.specs.LineCalls.{end_calls, timed_calls}
+use Rattle.replay.specs.KeptAskings.{StandsFor, AsksAfter}
 use Rattle.replay.specs.KeptWorlds.{KeptSeat, Seated, Parties, StandsForSeat, StandForSeats, words_in}
 use Rattle.scripts.specs.Scripts.{AreDistinct}
 
@@ -54,18 +57,18 @@ abbrev pub Answers : (Client → Type 0) → Seat → Type 0
 Answers answers seat = answers seat.client
 
 -- its session is gone from the hub, if it had one
-abbrev pub HasCut : KeptHub → KeptHub → Seat → Type 0
-HasCut before later seat = (hub : Hub) → StandsFor before hub → StandsFor later (hub_without seat.session hub)
+abbrev pub HasCut : AskingHub → AskingHub → Seat → Type 0
+HasCut before later seat = (hub : Hub) → StandsFor before hub → StandsFor later (hub_without seat.session hub) × AsksAfter (end_calls seat.session) hub before.askings later.askings
 
 -- once a connection may be over, its client has closed so, or hasn't, and its session is gone where that or an end is told
-pub record HasFinished (over : Option EndReason) (closing : Option CloseReason) (before later : KeptHub) (seat : Seat) : Type 0 where
+pub record HasFinished (over : Option EndReason) (closing : Option CloseReason) (before later : AskingHub) (seat : Seat) : Type 0 where
   pub closes : closing ≡ closed_as seat.client
-  pub hub : (hub : Hub) → StandsFor before hub → StandsFor later (hub_cut_if (is_over over closing) seat hub)
+  pub hub : (hub : Hub) → StandsFor before hub → StandsFor later (hub_cut_if (is_over over closing) seat hub) × AsksAfter (cond (is_over over closing) (end_calls seat.session) []) hub before.askings later.askings
 
 -- it has closed at a moment, or hasn't, and its session is gone where it has
-pub record HasTimed (t : ℕ) (closing : Option CloseReason) (before later : KeptHub) (seat : Seat) : Type 0 where
+pub record HasTimed (t : ℕ) (closing : Option CloseReason) (before later : AskingHub) (seat : Seat) : Type 0 where
   pub closes : closing ≡ closed_as (moment seat.client t)
-  pub hub : (hub : Hub) → StandsFor before hub → StandsFor later (hub_cut_if (is_over None closing) seat hub)
+  pub hub : (hub : Hub) → StandsFor before hub → StandsFor later (hub_cut_if (is_over None closing) seat hub) × AsksAfter (cond (is_over None closing) (end_calls seat.session) []) hub before.askings later.askings
 
 -- ---- clients at a moment
 
@@ -73,16 +76,17 @@ abbrev pub closing_text : Word → Option CloseReason → List ℕ
 closing_text w closing = ended_lines (close_lines w closing)
 
 -- In every world that is stood for, the clients print at a moment what was told.
-pub record IsTimed (t : ℕ) (kept : KeptHub) (later : Seated) (told : List ℕ) (world : World) : Type 0 where
+pub record IsTimed (t : ℕ) (before : Askings) (kept : AskingHub) (later : Seated) (told : List ℕ) (world : World) : Type 0 where
   pub text : told ≡ ended_lines (fold (timed t) (quietly world) world.seats).1
   pub hub : StandsFor kept (fold (timed t) (quietly world) world.seats).0.hub
   pub stands : StandForSeats later (fold (timed t) (quietly world) world.seats).0.seats
+  pub asks : AsksAfter (flat_map (timed_calls t) world.seats) world.hub before kept.askings
 
-unfoldable pub Times : ℕ → KeptHub → Seated → KeptHub → Seated → List ℕ → Type 0
-Times t kept before kept_later later told = (world : World) → StandsFor kept world.hub → StandForSeats before world.seats → AreDistinct (words_in world) → IsTimed t kept_later later told world
+unfoldable pub Times : ℕ → AskingHub → Seated → AskingHub → Seated → List ℕ → Type 0
+Times t kept before kept_later later told = (world : World) → StandsFor kept world.hub → StandForSeats before world.seats → AreDistinct (words_in world) → IsTimed t kept.askings kept_later later told world
 
 -- so at the hub's moment; the links and the peers are the same
-pub record TimesWorld (kept : KeptHub) (known : Parties) (later : KeptHub) (known_later : Parties) (told : List ℕ) : Type 0 where
+pub record TimesWorld (kept : AskingHub) (known : Parties) (later : AskingHub) (known_later : Parties) (told : List ℕ) : Type 0 where
   pub at : ℕ
   pub links : known_later.links ≡ known.links
   pub peers : known_later.peers ≡ known.peers

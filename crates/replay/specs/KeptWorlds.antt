@@ -4,20 +4,25 @@
 --     TellsEnds kept plain      the ends of first answers, counted up to the last number
 --     StandsForSeat kept seat      what is kept of a client stands for its seat
 --     StandsForWorld kept parties world, IsWorld kept world      what is kept stands for the world
---     HasPrinted kept parties text printed      this text was printed, and what is kept stands for the world behind it
---     Acts act .., Does act before text after      so it is of the act, whatever world is stood for in which each client has its own word
-use Rattle.std.specs.Prelude.{◌≡◌, ℕ, ◌<◌, Bool, Option, option_map, min, List, [], ◌∷◌, map, string_bytes}
+--     HasPrinted asked kept parties text printed      this text was printed, what is kept stands for the world behind it, and links are asked this
+--     Acts act calls .., Does act calls before text after      so it is of the act, whatever world is stood for in which each client has its own word
+--     Runs records line .., RunsLine records line before text after      so of a line, with what it tells of what a link is asked
+use Rattle.std.specs.Prelude.{◌≡◌, ℕ, ◌<◌, Bool, Option, option_map, min, List, [], ◌∷◌, ◌++◌, map, string_bytes}
 use Rattle.push_base.specs.Limits.{max_number}
-use Rattle.pushserver.specs.KeptHubs as hubs
-use Rattle.pushserver.specs.KeptHubs.{KeptHub}
+use Rattle.pushserver.specs.Calls.{HubCall}
+use Rattle.hubasking.specs.AskingHubs.{AskingHub}
+use Rattle.hubasking.specs.LinkAskings.{Askings}
 use Rattle.pushclient.specs.Rule as clients
 use Rattle.pushclient.specs.Rule.{KeptClient}
 use Rattle.inflight.specs.Ends.{told_end}
-use Rattle.scripts.specs.Lines.{Word}
+use Rattle.scripts.specs.Lines.{Word, ScriptLine}
 use Rattle.scripts.specs.KeptLines.{words_of}
 use Rattle.scripts.specs.Scripts.{AreDistinct}
 use Rattle.replay.specs.World.{Seat, World}
-use Rattle.replay.specs.Text.{Printed}
+use Rattle.replay.specs.TextWords.{HeldRecords}
+use Rattle.replay.specs.Text.{Printed, line_does}
+use Rattle.replay.specs.Askings.{AreOrdered, calls_asks, line_asks, asked_lines}
+use Rattle.replay.specs.KeptAskings as hubs
 use Rattle.scripts.specs.Words.{ended_lines}
 use Rattle.replay.specs.declared.world.Peer.{Peer}
 use Rattle.replay.specs.declared.seats.Seat as program_seats
@@ -96,7 +101,7 @@ abbrev pub words_in : World → List Word
 words_in world = map (λ (s : Seat). s.word) world.seats
 
 -- a hub, words, peers and clients that are kept stand for a world
-pub record StandsForWorld (kept : KeptHub) (known : Parties) (world : World) : Type 0 where
+pub record StandsForWorld (kept : AskingHub) (known : Parties) (world : World) : Type 0 where
   pub hub : hubs.StandsFor kept world.hub
   pub peers : known.peers ≡ world.peers
   pub seats : StandForSeats known.seats world.seats
@@ -105,14 +110,23 @@ pub record StandsForWorld (kept : KeptHub) (known : Parties) (world : World) : T
 abbrev pub IsWorld : program.World → World → Type 0
 IsWorld kept world = StandsForWorld kept.hub (parties_of kept) world
 
--- this text was printed, and what is kept stands for the world behind it
-pub record HasPrinted (kept : KeptHub) (known : Parties) (written : List ℕ) (printed : Printed) : Type 0 where
+-- this text was printed, what is kept stands for the world behind it, and links are asked this
+pub record HasPrinted (asked : Askings) (kept : AskingHub) (known : Parties) (written : List ℕ) (printed : Printed) : Type 0 where
   pub text : written ≡ ended_lines printed.1
   pub stands : StandsForWorld kept known printed.0
+  pub asks : kept.askings ≡ asked
 
-unfoldable pub Acts : (World → Printed) → KeptHub → Parties → List ℕ → KeptHub → Parties → Type 0
-Acts act kept known written later known_later = (world : World) → StandsForWorld kept known world → AreDistinct (words_in world) → HasPrinted later known_later written (act world)
+unfoldable pub Acts : (World → Printed) → (World → List HubCall) → AskingHub → Parties → List ℕ → AskingHub → Parties → Type 0
+Acts act calls kept known written later known_later = (world : World) → StandsForWorld kept known world → AreDistinct (words_in world) → HasPrinted (calls_asks (calls world) world.hub kept.askings) later known_later written (act world)
 
--- whatever world is stood for, the act prints this text in it
-abbrev pub Does : (World → Printed) → program.World → List ℕ → program.World → Type 0
-Does act before written after = Acts act before.hub (parties_of before) written after.hub (parties_of after)
+-- whatever world is stood for, the act prints this text in it, and these are its calls of the hub
+abbrev pub Does : (World → Printed) → (World → List HubCall) → program.World → List ℕ → program.World → Type 0
+Does act calls before written after = Acts act calls before.hub (parties_of before) written after.hub (parties_of after)
+
+-- so of a line, with what it tells of what a link is asked, where questions are in order
+unfoldable pub Runs : HeldRecords → ScriptLine → AskingHub → Parties → List ℕ → AskingHub → Parties → Type 0
+Runs records line kept known written later known_later = (world : World) → StandsForWorld kept known world → AreDistinct (words_in world) → AreOrdered kept.askings
+    → HasPrinted (line_asks line world kept.askings) later known_later written (let one = line_does records line world in (one.0, one.1 ++ asked_lines line world kept.askings))
+
+abbrev pub RunsLine : HeldRecords → ScriptLine → program.World → List ℕ → program.World → Type 0
+RunsLine records line before written after = Runs records line before.hub (parties_of before) written after.hub (parties_of after)

@@ -39,7 +39,8 @@ use Rattle.scripts.specs.Lines.{Word, ScriptLine, show, settle}
 use Rattle.scripts.specs.Scripts.{is_among, script_of}
 use Rattle.replay.specs.World.{World, Seat, seat_of, start_world, last_of}
 use Rattle.replay.specs.TextWords.{HeldRecords, by_history, show_at, with_records, is_filling, records_told, shown_lines, end_line, closed_line}
-use Rattle.replay.specs.Text.{line_does, world_after, text_of_script, text_by_notices}
+use Rattle.replay.specs.Text.{line_does, world_after}
+use Rattle.replay.specs.ScriptTexts.{text_of_script, text_by_notices}
 use Rattle.replay.specs.PassedOctets.{max_wire}
 use Rattle.replay.specs.HeldPoints.{NeverEarlier, held_points_from, settled_from, settles_alone}
 use Rattle.pushclient.specs.SoundClients.{count_of}

@@ -20,10 +20,13 @@ use Rattle.scripts.specs.Lines.{Word, ScriptLine, session_event, send}
 use Rattle.scripts.specs.Scripts.{script_of}
 use Rattle.replay.specs.World.{World, session_number}
 use Rattle.replay.specs.TextWords.{bytes_line, HeldRecords, by_history}
-use Rattle.replay.specs.Text.{end_lines, placed, line_does, printed_by, world_after}
+use Rattle.replay.specs.Text.{end_lines, placed, line_does, world_after}
+use Rattle.hubasking.specs.LinkAskings.{Askings}
+use Rattle.replay.specs.Askings.{line_asks, lines_asks}
+use Rattle.replay.specs.ScriptTexts.{printed_by}
 use Rattle.replay.specs.SessionPieces.{IsAtRest, ArePassable, answers_to, standing_of}
 use Rattle.scripts.specs.Reply.{Reply}
-use Rattle.replay.specs.Between.{Between, lines_of, world_then, world_behind, reply_between}
+use Rattle.replay.specs.Between.{Between, lines_of, world_then, world_behind, askings_then, reply_between}
 
 -- whether a line neither sends a peer's octets, nor stops its session, nor cuts its connection
 abbrev pub is_of_others : Word → ScriptLine → Bool
@@ -97,15 +100,16 @@ end_behind [] over = over
 end_behind (turn ∷ turns) over = None
 
 -- a line with each of these, behind the last the line of the end, if there is one, and then what the lines of others print
-abbrev pub printed_turns : HeldRecords → Word → Option EndReason → List Turn → List (List ℕ) → World → List (List ℕ)
-printed_turns records w over [] told world = []
-printed_turns records w over (turn ∷ turns) [] world = []
-printed_turns records w over (turn ∷ turns) (octets ∷ told) world =
+abbrev pub printed_turns : HeldRecords → Word → Option EndReason → List Turn → List (List ℕ) → World → Askings → List (List ℕ)
+printed_turns records w over [] told world askings = []
+printed_turns records w over (turn ∷ turns) [] world askings = []
+printed_turns records w over (turn ∷ turns) (octets ∷ told) world askings =
     let later = (line_does by_history (send w turn.0) world).0 in
-    bytes_line w octets ∷ (end_lines w (end_behind turns over) ++ (printed_by records turn.1 later ++ printed_turns records w over turns told (world_after turn.1 later)))
+    let asked = line_asks (send w turn.0) world askings in
+    bytes_line w octets ∷ (end_lines w (end_behind turns over) ++ (printed_by records turn.1 later asked ++ printed_turns records w over turns told (world_after turn.1 later) (lines_asks turn.1 later asked)))
 
 abbrev pub pieces_reply : HeldRecords → SentInPieces → List (List ℕ) → Reply
-pieces_reply records sent told = reply_between records (sent_between sent) (printed_turns records sent.word sent.over sent.turns told (world_then (sent_between sent)))
+pieces_reply records sent told = reply_between records (sent_between sent) (printed_turns records sent.word sent.over sent.turns told (world_then (sent_between sent)) (askings_then (sent_between sent)))
 
 -- Behind its lines the peer has the session that has answered all messages, with the octets behind them in its input; or, where that
 -- has ended, it has none, and the session is gone.

@@ -3,7 +3,7 @@
 --     reply_to_script records octets      the status and the text for the octets that were read
 use Rattle.std.specs.Prelude.{ℕ, List, string_bytes}
 use Rattle.replay.specs.TextWords.{HeldRecords}
-use Rattle.replay.specs.Text.{text_with}
+use Rattle.replay.specs.ScriptTexts.{text_with}
 use Rattle.scripts.specs.Outcomes.{status_of}
 use Rattle.scripts.specs.Reply.{Reply}
 use Rattle.replay.specs.declared.reply.Reply as program

@@ -1,12 +1,11 @@
--- The text of a script.
+-- What the lines of a script do, and what they print.
 --     by_seat act w world      what is done and printed of the client of a word
 --     passing_of way, passes_way way      the passing of a way, with a session and without
---     link_call event w, link_words event w      the call of the hub that an event on a link is, and what is printed of it
+--     link_calls event w, link_lines event w      the calls of the hub that an event on a link is, and what is printed of it; what a link is asked is printed apart (Askings)
 --     hub_does event, link_does event w, client_does records event w, session_does event w      what happens at the hub, on a link, to a client and to a session
 --     line_does records line world      the world after a line, and the lines that it prints
---     text_by records script      the text of a script
---     text_with records text, text_of text      what is written for the octets of a script
-use Rattle.std.specs.Prelude.{ℕ, Bool, cond, List, [], ◌∷◌, ◌++◌, fold, position, Option, Some, None, Ok, Err, option_map, codes, decimal, unwrap_or, if◌then◌else◌}
+--     world_after lines world      the world after lines
+use Rattle.std.specs.Prelude.{ℕ, Bool, cond, List, [], ◌∷◌, ◌++◌, fold, position, Option, Some, None, option_map, codes, decimal, unwrap_or, if◌then◌else◌}
 use Rattle.std.specs.Str.{bytes_eq}
 use Rattle.rrset.specs.declared.record.Question.{Question}
 use Rattle.rrset.specs.declared.record.Rr.{Rr}
@@ -36,11 +35,8 @@ use Rattle.scripts.specs.declared.line.ClientEvent.{ClientEvent}
 use Rattle.scripts.specs.declared.line.ClientEvent.TheVariants as client_events
 use Rattle.scripts.specs.declared.line.SessionEvent.{SessionEvent}
 use Rattle.scripts.specs.declared.line.SessionEvent.TheVariants as session_events
-use Rattle.scripts.specs.declared.outcome.Outcome.TheVariants as outcomes
-use Rattle.scripts.specs.Outcomes.{status_of}
-use Rattle.scripts.specs.Words.{line, spaced, ended_lines}
-use Rattle.scripts.specs.Scripts.{script_of}
-use Rattle.replay.specs.World.{Seat, World, new_seat, start_world, seat_of, with_seat, session_number, with_client, joined, stopped_hub, cut_connection, cut_peer, is_over, world_cut_if}
+use Rattle.scripts.specs.Words.{spaced}
+use Rattle.replay.specs.World.{Seat, World, new_seat, seat_of, with_seat, session_number, with_client, joined, stopped_hub, cut_connection, cut_peer, is_over, world_cut_if}
 use Rattle.replay.specs.PassedOctets as running
 use Rattle.replay.specs.PassedOctets.{Passed, passed, by_session, enough, exchanged, settled, reached_by, fed_client}
 use Rattle.replay.specs.TextWords.{why_words, bytes_words, bytes_line, open_words, noseat_words, end_line, closed_line, shown_lines, HeldRecords, by_history, by_notices, show_at}
@@ -141,14 +137,16 @@ heard_words (Ignored why) = spaced (codes "ignored" ∷ why_words why ∷ [])
 abbrev pub link_number : Word → World → ℕ
 link_number w world = number_or_zero (position (bytes_eq w) world.links)
 
--- the call of the hub that an event on a link is, and what is printed of it
-abbrev pub link_call : LinkEvent → Word → World → HubCall
-link_call (link_events.Hear datagram) w world = hub_calls.hears (link_number w world) datagram
-link_call link_events.Gone w world = hub_calls.goes (link_number w world)
+-- the calls of the hub that an event on a link is, and what is printed of it
+abbrev pub link_calls : LinkEvent → Word → World → List HubCall
+link_calls (link_events.Hear datagram) w world = hub_calls.hears (link_number w world) datagram ∷ []
+link_calls link_events.Gone w world = hub_calls.goes (link_number w world) ∷ []
+link_calls link_events.Asks w world = []
 
-abbrev pub link_words : LinkEvent → Word → World → List (List ℕ)
-link_words (link_events.Hear datagram) w world = heard_words (hubs.hear world.hub (link_number w world) datagram).0 ∷ []
-link_words link_events.Gone w world = codes "gone" ∷ w ∷ yes_or_no (hubs.link_gone world.hub (link_number w world)).0 ∷ []
+abbrev pub link_lines : LinkEvent → Word → World → List (List ℕ)
+link_lines (link_events.Hear datagram) w world = heard_words (hubs.hear world.hub (link_number w world) datagram).0 ∷ []
+link_lines link_events.Gone w world = spaced (codes "gone" ∷ w ∷ yes_or_no (hubs.link_gone world.hub (link_number w world)).0 ∷ []) ∷ []
+link_lines link_events.Asks w world = []
 
 abbrev pub updates : List ℕ → World → Printed
 updates message world = (let r = hubs.update world.hub message in printing (codes "update" ∷ decimal r.0 ∷ []) (record world { hub = r.1 }))
@@ -232,7 +230,7 @@ hub_does hub_events.Point world = printing (codes "point" ∷ decimal (newest wo
 
 -- on a link
 abbrev pub link_does : LinkEvent → Word → World → Printed
-link_does event w world = printing (link_words event w world) (record world { hub = hub_calls.called (link_call event w world) world.hub })
+link_does event w world = (record world { hub = hub_calls.after_calls (link_calls event w world) world.hub }, link_lines event w world)
 
 abbrev pub hears : Word → List ℕ → World → Printed
 hears w datagram world = link_does (link_events.Hear datagram) w world
@@ -267,30 +265,3 @@ line_does records _ world = quietly world
 abbrev pub world_after : List ScriptLine → World → World
 world_after [] world = world
 world_after (line ∷ lines) world = world_after lines (line_does by_history line world).0
-
--- what the lines print, in order
-abbrev pub printed_by : HeldRecords → List ScriptLine → World → List (List ℕ)
-printed_by records [] world = []
-printed_by records (line ∷ lines) world = (let one = line_does records line world in one.1 ++ printed_by records lines one.0)
-
-abbrev pub text_by : HeldRecords → List ScriptLine → List ℕ
-text_by records script = ended_lines (printed_by records script (start_world script))
-
--- the text, where what is held is that of the history
-abbrev pub text_of_script : List ScriptLine → List ℕ
-text_of_script script = text_by by_history script
-
--- the same text, where what is held is worked out from the notices alone
-abbrev pub text_by_notices : List ScriptLine → List ℕ
-text_by_notices script = text_by by_notices script
-
--- what is written where that line is the first outside
-abbrev pub outside_text : ℕ → List ℕ
-outside_text number = line (codes "line " ++ decimal number)
-
--- the status and the whole text for the octets of a script
-abbrev pub text_with : HeldRecords → List ℕ → ℕ × List ℕ
-text_with records text = elim (script_of text) [ Ok script ↦ (status_of outcomes.Done, text_by records script) | Err n ↦ (status_of outcomes.Outside, outside_text n) ]
-
-abbrev pub text_of : List ℕ → ℕ × List ℕ
-text_of text = text_with by_history text

@@ -35,7 +35,8 @@ use Rattle.scripts.specs.Words.{spaced, close_words}
 use Rattle.replay.specs.TextWords.{end_words, ShowTold, show_at, with_records, by_history}
 use Rattle.scripts.specs.Scripts.{script_of}
 use Rattle.replay.specs.PassedOctets.{max_wire}
-use Rattle.replay.specs.Text.{line_does, text_of_script, text_by_notices}
+use Rattle.replay.specs.Text.{line_does}
+use Rattle.replay.specs.ScriptTexts.{text_of_script, text_by_notices}
 use Rattle.pushclient.specs.ServerMessages.{server_octets}
 
 abbrev pub is_right_after : Hub → List Made → Made → Bool

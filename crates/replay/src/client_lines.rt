@@ -1,17 +1,18 @@
 //! The lines that events of clients print.
 
-ghost use Rattle.std.specs.Prelude.{◌≡◌, ◌<◌, length, position, Some, IfOk, string_bytes};
+ghost use Rattle.std.specs.Prelude.{[], ◌≡◌, ◌<◌, length, position, Some, IfOk, string_bytes};
 ghost use Rattle.replay.specs.World.{new_seat};
 ghost use Rattle.replay.specs.Text.{asks, opens, opens_hub, opens_lone, seated as takes_seat, by_seat};
+ghost use Rattle.replay.specs.LineCalls.{connect_calls, of_seat, open_calls};
 ghost use Rattle.replay.specs.KeptWorlds.{Does, StandsForSeat, seat_kept, seated};
 ghost use Rattle.replay.specs.KeptSeats.{Times, has_word};
 
 use crate::printed::{already_text, call_text, closing_line, noseat_text, open_text};
 use crate::seats::{Seat, call_at, is_connected_at, is_lone_at, join_at, moment_at, open_at};
 use crate::world::World;
+use hubasking::{ConnectFault, Hub};
 use push_base::NoMemory;
 use pushclient::Client;
-use pushserver::{ConnectFault, Hub};
 use scripts::line::Call;
 use std::alloc::Global;
 
@@ -22,7 +23,7 @@ pub(crate) fn joining_line(
     word: &str,
     is_lone: bool,
 ) -> Result<String, NoMemory>
-    ensures { IfOk result (λ text. Does (takes_seat word.now is_lone) world.old (string_bytes text) world.new) }
+    ensures { IfOk result (λ text. Does (takes_seat word.now is_lone) (λ plain. []) world.old (string_bytes text) world.new) }
 {
     let seat = new_seat(alloc, word, is_lone)?;
     world.seats.push(seat)?;
@@ -56,7 +57,7 @@ pub(crate) fn call_line(
 ) -> Result<String, NoMemory>
     requires at { position (has_word word.now) (seated world.old.seats.items) ≡ Some client }
     requires within { client < length world.old.seats.items }
-    ensures { IfOk result (λ text. Does (asks call.now word.now) world.old (string_bytes text) world.new) }
+    ensures { IfOk result (λ text. Does (asks call.now word.now) (λ plain. []) world.old (string_bytes text) world.new) }
 {
     let answer = call_at(alloc, &mut world.seats, client, call)?;
     call_text(alloc, call, word, answer.as_str())
@@ -71,7 +72,7 @@ pub(crate) fn open_line(
 ) -> Result<String, NoMemory>
     requires at { position (has_word word.now) (seated world.old.seats.items) ≡ Some client }
     requires within { client < length world.old.seats.items }
-    ensures { IfOk result (λ text. Does (opens word.now) world.old (string_bytes text) world.new) }
+    ensures { IfOk result (λ text. Does (opens word.now) (of_seat open_calls word.now) world.old (string_bytes text) world.new) }
 {
     if is_connected_at(&world.seats, client) {
         return already_text(alloc, word);
@@ -85,7 +86,7 @@ pub(crate) fn open_line(
 // The lone client at a place opens a connection.
 fn open_lone(alloc: Global, world: &mut World, place: usize, word: &str) -> Result<String, NoMemory>
     requires { place < length world.old.seats.items }
-    ensures { position (has_word word.now) (seated world.old.seats.items) ≡ Some place → IfOk result (λ text. Does (by_seat opens_lone word.now) world.old (string_bytes text) world.new) }
+    ensures { position (has_word word.now) (seated world.old.seats.items) ≡ Some place → IfOk result (λ text. Does (by_seat opens_lone word.now) (λ plain. []) world.old (string_bytes text) world.new) }
 {
     let now = world.hub.now();
     open_at(&mut world.seats, place, now)?;
@@ -95,7 +96,7 @@ fn open_lone(alloc: Global, world: &mut World, place: usize, word: &str) -> Resu
 // The client at a place opens a connection to the hub, if that has a seat.
 fn open_hub(alloc: Global, world: &mut World, place: usize, word: &str) -> Result<String, NoMemory>
     requires { place < length world.old.seats.items }
-    ensures { position (has_word word.now) (seated world.old.seats.items) ≡ Some place → IfOk result (λ text. Does (by_seat opens_hub word.now) world.old (string_bytes text) world.new) }
+    ensures { position (has_word word.now) (seated world.old.seats.items) ≡ Some place → IfOk result (λ text. Does (by_seat opens_hub word.now) (λ plain. connect_calls plain.hub) world.old (string_bytes text) world.new) }
 {
     let now = world.hub.now();
     match world.hub.connect() {

@@ -5,9 +5,9 @@ ghost use Rattle.replay.specs.KeptWorlds.{seated};
 
 use crate::seats::Seat;
 use crate::world::World;
+use hubasking::Hub;
 use push_base::NoMemory;
 use pushclient::Client;
-use pushserver::Hub;
 use std::alloc::Global;
 
 /// The hub and the clients that ran a script, as they stand behind its last line.

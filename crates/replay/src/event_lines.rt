@@ -4,21 +4,22 @@ ghost use Rattle.push_base.specs.Limits.{max_moment};
 ghost use Rattle.std.specs.Prelude.{◌≡◌, ◌≤◌, ◌<◌, ◌++◌, ◌∷◌, [], Some, codes, decimal, length, position, IfOk, IfSome, string_bytes};
 ghost use Rattle.std.specs.Str.{bytes_eq};
 ghost use Rattle.replay.specs.TextWords.{by_notices, end_words};
-ghost use Rattle.replay.specs.Text.{client_does, cuts, exchanges, hub_does, line_does, link_does, moments, printing, sends, seated as takes_seat, session_does, session_of_word, stops, updates};
+ghost use Rattle.replay.specs.Text.{client_does, cuts, exchanges, hub_does, moments, printing, sends, seated as takes_seat, session_does, session_of_word, stops, updates};
 ghost use Rattle.pushserver.specs.Hubs.{newest, now};
-ghost use Rattle.pushserver.specs.KeptHubs.{StandsFor};
 ghost use Rattle.pushserver.specs.PlainHubs.{Hub as PlainHub};
-ghost use Rattle.scripts.specs.Lines.{Word};
+ghost use Rattle.scripts.specs.Lines.{Word, link_event};
 ghost use Rattle.scripts.specs.KeptLines.{words_of};
 ghost use Rattle.scripts.specs.Events.{client_at, event_said, known_clients, party_word, IsNamed, IsNamedParty};
-ghost use Rattle.replay.specs.KeptWorlds.{Does, IsWorld, parties_of, seated, words_seated};
+ghost use Rattle.replay.specs.LineCalls.{client_calls, exchanges_calls, hub_calls, send_calls, session_calls, stop_calls};
+ghost use Rattle.replay.specs.KeptAskings.{AsksAfter, StandsFor};
+ghost use Rattle.replay.specs.KeptWorlds.{Does, IsWorld, RunsLine, parties_of, seated, words_seated};
 ghost use Rattle.replay.specs.KeptSeats.{TimesWorld, has_word};
 ghost use Rattle.replay.specs.World.{World as Plain, stopped_hub};
 
 use crate::client_lines::{call_line, joining_line, open_line, timed_lines};
 use crate::exchanging::{Exchanged, exchange};
 use crate::feed_lines::feed_lines;
-use crate::hear_lines::{gone_line, hear_line};
+use crate::hear_lines::{asks_line, gone_line, hear_line};
 use crate::passing_lines::passing_line;
 use crate::printed::{
     bytes_line, cut_text, end_text, end_words, noseat_text, point_text, stop_text, update_text,
@@ -27,8 +28,8 @@ use crate::seats::{cut_at, session_at};
 use crate::show_lines::show_lines;
 use crate::world::{Peer, World};
 use dsosession::session::EndReason;
+use hubasking::{ConnectFault, Hub, HubFault};
 use push_base::NoMemory;
-use pushserver::{ConnectFault, Hub, HubFault};
 use scripts::KnownClient;
 use scripts::event::{Event, Party};
 use scripts::line::{ClientEvent, HubEvent, LinkEvent, SessionEvent};
@@ -42,7 +43,7 @@ pub fn event_line(
     event: &Event,
 ) -> Result<String, NoMemory>
     requires { IsNamed (words_of world.old.links.items) (known_clients clients.now) (words_seated (seated world.old.seats.items)) event.now }
-    ensures { IfOk result (λ text. Does (line_does by_notices (event_said (words_of world.old.links.items) (known_clients clients.now) event.now)) world.old (string_bytes text) world.new) }
+    ensures { IfOk result (λ text. RunsLine by_notices (event_said (words_of world.old.links.items) (known_clients clients.now) event.now) world.old (string_bytes text) world.new) }
 {
     match event {
         Event::Joining { client } => client_joins(alloc, world, &clients[*client]),
@@ -71,14 +72,14 @@ fn word_of(clients: &[KnownClient], client: usize) -> &str
 
 // There is one client more.
 fn client_joins(alloc: Global, world: &mut World, client: &KnownClient) -> Result<String, NoMemory>
-    ensures { IfOk result (λ text. Does (takes_seat (string_bytes client.now.word) client.now.is_lone) world.old (string_bytes text) world.new) }
+    ensures { IfOk result (λ text. Does (takes_seat (string_bytes client.now.word) client.now.is_lone) (λ plain. []) world.old (string_bytes text) world.new) }
 {
     joining_line(alloc, world, client.word.as_str(), client.is_lone)
 }
 
 // What happens at the hub.
 fn hub_line(alloc: Global, world: &mut World, event: &HubEvent) -> Result<String, NoMemory>
-    ensures { IfOk result (λ text. Does (hub_does event.now) world.old (string_bytes text) world.new) }
+    ensures { IfOk result (λ text. Does (hub_does event.now) (hub_calls event.now) world.old (string_bytes text) world.new) }
 {
     match event {
         HubEvent::At(moment) => moment_lines(alloc, world, moment.millis()),
@@ -95,11 +96,12 @@ fn link_line(
     event: &LinkEvent,
 ) -> Result<String, NoMemory>
     requires { link < length world.old.links.items }
-    ensures { (w : Word) → position (bytes_eq w) (words_of world.old.links.items) ≡ Some link → IfOk result (λ text. Does (link_does event.now w) world.old (string_bytes text) world.new) }
+    ensures { (w : Word) → position (bytes_eq w) (words_of world.old.links.items) ≡ Some link → IfOk result (λ text. RunsLine by_notices (link_event w event.now) world.old (string_bytes text) world.new) }
 {
     match event {
         LinkEvent::Hear(datagram) => hear_line(alloc, world, link, datagram.as_slice()),
         LinkEvent::Gone => gone_line(alloc, world, link),
+        LinkEvent::Asks => asks_line(alloc, world, link),
     }
 }
 
@@ -113,7 +115,7 @@ fn client_line(
 ) -> Result<String, NoMemory>
     requires at { position (has_word word.now) (seated world.old.seats.items) ≡ Some client }
     requires within { client < length world.old.seats.items }
-    ensures { IfOk result (λ text. Does (client_does by_notices event.now word.now) world.old (string_bytes text) world.new) }
+    ensures { IfOk result (λ text. Does (client_does by_notices event.now word.now) (client_calls event.now word.now) world.old (string_bytes text) world.new) }
 {
     match event {
         ClientEvent::Open => open_line(alloc, world, client, word),
@@ -133,7 +135,7 @@ fn party_line(
     event: &SessionEvent,
 ) -> Result<String, NoMemory>
     requires { IsNamedParty (known_clients clients.now) (words_seated (seated world.old.seats.items)) party.now }
-    ensures { IfOk result (λ text. Does (session_does event.now (party_word (known_clients clients.now) party.now)) world.old (string_bytes text) world.new) }
+    ensures { IfOk result (λ text. Does (session_does event.now (party_word (known_clients clients.now) party.now)) (session_calls event.now (party_word (known_clients clients.now) party.now)) world.old (string_bytes text) world.new) }
 {
     match party {
         Party::Client(client) => {
@@ -159,7 +161,7 @@ fn session_line(
 ) -> Result<String, NoMemory>
     requires at { position (has_word word.now) (seated world.old.seats.items) ≡ seat }
     requires within { IfSome seat (λ place. place < length world.old.seats.items) }
-    ensures { IfOk result (λ text. Does (session_does event.now word.now) world.old (string_bytes text) world.new) }
+    ensures { IfOk result (λ text. Does (session_does event.now word.now) (session_calls event.now word.now) world.old (string_bytes text) world.new) }
 {
     match event {
         SessionEvent::Send(octets) => send_lines(alloc, world, word, octets.as_slice()),
@@ -170,7 +172,7 @@ fn session_line(
 
 // An update message comes.
 fn update_line(alloc: Global, world: &mut World, message: &[u8]) -> Result<String, NoMemory>
-    ensures { IfOk result (λ text. Does (updates message.now) world.old (string_bytes text) world.new) }
+    ensures { IfOk result (λ text. Does (updates message.now) (hub_calls (HubEvent.Update message.now)) world.old (string_bytes text) world.new) }
 {
     match world.hub.update_uncounted(message) {
         Ok(code) => update_text(alloc, code),
@@ -180,7 +182,7 @@ fn update_line(alloc: Global, world: &mut World, message: &[u8]) -> Result<Strin
 
 // The newest point and the moment are asked for.
 fn point_line(alloc: Global, world: &mut World) -> Result<String, NoMemory>
-    ensures { IfOk result (λ text. Does (λ plain. printing (codes "point" ∷ decimal (newest plain.hub) ∷ decimal (now plain.hub) ∷ []) plain) world.old (string_bytes text) world.new) }
+    ensures { IfOk result (λ text. Does (λ plain. printing (codes "point" ∷ decimal (newest plain.hub) ∷ decimal (now plain.hub) ∷ []) plain) (λ plain. []) world.old (string_bytes text) world.new) }
 {
     point_text(alloc, world.hub.point(), world.hub.now())
 }
@@ -188,7 +190,7 @@ fn point_line(alloc: Global, world: &mut World) -> Result<String, NoMemory>
 // A moment comes: for the hub, and then for each client at the hub's moment.
 fn moment_lines(alloc: Global, world: &mut World, moment: u64) -> Result<String, NoMemory>
     requires { moment ≤ max_moment }
-    ensures { IfOk result (λ text. Does (moments moment) world.old (string_bytes text) world.new) }
+    ensures { IfOk result (λ text. Does (moments moment) (hub_calls (HubEvent.At moment)) world.old (string_bytes text) world.new) }
 {
     match world.hub.moment_uncounted(moment) {
         Ok(()) => clients_timed(alloc, world),
@@ -216,7 +218,7 @@ fn stop_line(
 ) -> Result<String, NoMemory>
     requires at { position (has_word word.now) (seated world.old.seats.items) ≡ seat }
     requires within { IfSome seat (λ place. place < length world.old.seats.items) }
-    ensures { IfOk result (λ text. Does (stops word.now rcode delay) world.old (string_bytes text) world.new) }
+    ensures { IfOk result (λ text. Does (stops word.now rcode delay) (session_calls (SessionEvent.Stop rcode delay) word.now) world.old (string_bytes text) world.new) }
 {
     let session = session_of_word(world, seat, word);
     stop_session(&mut world.hub, session, rcode, delay);
@@ -243,7 +245,7 @@ fn session_of_word(world: &World, seat: Option<usize>, word: &str) -> Option<u64
 
 // A session is asked to stop, if there is one.
 fn stop_session(hub: &mut Hub, session: Option<u64>, rcode: u8, delay: u32)
-    ensures { (plain : PlainHub) → StandsFor hub.old plain → StandsFor hub.new (stopped_hub session rcode delay plain) }
+    ensures { (plain : PlainHub) → StandsFor hub.old plain → StandsFor hub.new (stopped_hub session rcode delay plain) × AsksAfter (stop_calls session rcode delay) plain hub.old.askings hub.new.askings }
 {
     if let Some(session) = session {
         hub.stop(session, rcode, delay);
@@ -259,7 +261,7 @@ fn cut_line(
 ) -> Result<String, NoMemory>
     requires at { position (has_word word.now) (seated world.old.seats.items) ≡ seat }
     requires within { IfSome seat (λ place. place < length world.old.seats.items) }
-    ensures { IfOk result (λ text. Does (cuts word.now) world.old (string_bytes text) world.new) }
+    ensures { IfOk result (λ text. Does (cuts word.now) (session_calls SessionEvent.Cut word.now) world.old (string_bytes text) world.new) }
 {
     match seat {
         Some(place) => {
@@ -280,7 +282,7 @@ fn send_lines(
     word: &str,
     octets: &[u8],
 ) -> Result<String, NoMemory>
-    ensures { IfOk result (λ text. Does (sends word.now octets.now) world.old (string_bytes text) world.new) }
+    ensures { IfOk result (λ text. Does (sends word.now octets.now) (send_calls word.now octets.now) world.old (string_bytes text) world.new) }
 {
     if let Some(session) = world.session(word) {
         return exchange_lines(alloc, world, word, session, octets);
@@ -307,7 +309,7 @@ fn exchange_lines(
     session: u64,
     octets: &[u8],
 ) -> Result<String, NoMemory>
-    ensures { IfOk result (λ text. Does (exchanges word.now session octets.now) world.old (string_bytes text) world.new) }
+    ensures { IfOk result (λ text. Does (exchanges word.now session octets.now) (exchanges_calls word.now session octets.now) world.old (string_bytes text) world.new) }
 {
     let Exchanged { octets, over } = exchange(
         alloc,

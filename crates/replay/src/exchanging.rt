@@ -4,16 +4,16 @@ ghost use Rattle.std.specs.Prelude.{◌≡◌, ◌==◌, ◌||◌, ◌≤◌, �
 ghost use Rattle.coalesce.specs.Sides.{frame_octets};
 ghost use Rattle.pushserver.specs.Counting.{octets_of};
 ghost use Rattle.pushserver.specs.PlainHubs.{Hub as PlainHub};
-ghost use Rattle.pushserver.specs.KeptHubs.{StandsFor};
+ghost use Rattle.replay.specs.KeptAskings.{StandsFor};
 ghost use Rattle.replay.specs.KeptExchanges.{has_worked, turn_of, written, Gives, Emits, Exchanges, Remembers};
 
 use crate::told_ends::put_in_front;
 use crate::world::make_room;
 use coalesce::MAX_FRAME;
 use dsosession::session::EndReason;
+use hubasking::{Given, Hub, HubFault};
 use push_base::NoMemory;
 use pushserver::laws::kept_hubs_stand;
-use pushserver::{Given, Hub, HubFault};
 use std::alloc::Global;
 
 /// The octets that came back, and the end of the session, if it was told.

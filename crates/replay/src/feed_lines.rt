@@ -2,6 +2,7 @@
 
 ghost use Rattle.std.specs.Prelude.{◌≡◌, ◌<◌, Some, length, position, IfOk, string_bytes};
 ghost use Rattle.replay.specs.Text.{feeds};
+ghost use Rattle.replay.specs.LineCalls.{feed_calls, of_seat};
 ghost use Rattle.replay.specs.KeptWorlds.{Does, seat_kept, seated};
 ghost use Rattle.replay.specs.KeptSeats.{Calls, Makes, has_word};
 ghost use Rattle.replay.specs.KeptFeeds.{HasFed, fed_seat, fed_text};
@@ -11,8 +12,8 @@ use crate::seats::{Seat, finish, is_connected_at};
 use crate::stepping::{deliver, hand_out};
 use crate::world::World;
 use dsosession::session::CloseReason;
+use hubasking::Hub;
 use push_base::NoMemory;
-use pushserver::Hub;
 use std::alloc::Global;
 
 // What a client had to send once octets had gone in, and why it closed, if it did.
@@ -33,7 +34,7 @@ pub(crate) fn feed_lines(
 ) -> Result<String, NoMemory>
     requires at { position (has_word word.now) (seated world.old.seats.items) ≡ Some client }
     requires within { client < length world.old.seats.items }
-    ensures { IfOk result (λ text. Does (feeds word.now octets.now) world.old (string_bytes text) world.new) }
+    ensures { IfOk result (λ text. Does (feeds word.now octets.now) (of_seat (feed_calls octets.now) word.now) world.old (string_bytes text) world.new) }
 {
     if !is_connected_at(&world.seats, client) {
         return bytes_line(alloc, word, &[]);

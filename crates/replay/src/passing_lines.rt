@@ -2,6 +2,7 @@
 
 ghost use Rattle.std.specs.Prelude.{◌≡◌, ◌<◌, ◌≤◌, ◌++◌, Some, length, position, IfOk, string_bytes};
 ghost use Rattle.replay.specs.Text.{end_lines, passes, passes_way};
+ghost use Rattle.replay.specs.LineCalls.{passes_calls, way_calls, with_session};
 ghost use Rattle.scripts.specs.Words.{ended_lines};
 ghost use Rattle.replay.specs.KeptWorlds.{Does, seat_kept, seated};
 ghost use Rattle.replay.specs.KeptSeats.{closing_text, has_word};
@@ -13,8 +14,8 @@ use crate::seats::{Seat, finish};
 use crate::settling::{Passage, pass};
 use crate::world::{World, make_room};
 use dsosession::session::{CloseReason, EndReason};
+use hubasking::Hub;
 use push_base::NoMemory;
-use pushserver::Hub;
 use scripts::line::Way;
 use scripts::line_words::MAX_WIRE;
 use std::alloc::Global;
@@ -42,7 +43,7 @@ pub(crate) fn passing_line(
 ) -> Result<String, NoMemory>
     requires at { position (has_word word.now) (seated world.old.seats.items) ≡ Some client }
     requires within { client < length world.old.seats.items }
-    ensures { IfOk result (λ text. Does (passes way word.now) world.old (string_bytes text) world.new) }
+    ensures { IfOk result (λ text. Does (passes way word.now) (passes_calls way word.now) world.old (string_bytes text) world.new) }
 {
     let ending = pass_at(
         &mut world.hub,
@@ -63,7 +64,7 @@ fn pass_at(
     buffer: &mut Vec<u8>,
 ) -> Result<Ending, NoMemory>
     requires { place < length seats.old }
-    ensures { IfOk result (λ ending. EndsAt (passes_way way) hub.old (seated seats.old) place ending.count ending.over ending.closing hub.new (seated seats.new)) }
+    ensures { IfOk result (λ ending. EndsAt (passes_way way) (with_session (way_calls way)) hub.old (seated seats.old) place ending.count ending.over ending.closing hub.new (seated seats.new)) }
 {
     make_room(buffer, MAX_WIRE)?;
     let ending = pass_one(hub, &mut seats[place], way, buffer.as_mut_slice())?;
@@ -73,7 +74,7 @@ fn pass_at(
 // Octets of a client pass, and its connection is cut where an end or a close is told.
 fn pass_one(hub: &mut Hub, seat: &mut Seat, way: Way, buffer: &mut [u8]) -> Result<Ending, NoMemory>
     requires { max_wire ≤ length buffer.old }
-    ensures { IfOk result (λ ending. EndsSo (passes_way way) hub.old (seat_kept seat.old) ending.count ending.over ending.closing hub.new (seat_kept seat.new)) }
+    ensures { IfOk result (λ ending. EndsSo (passes_way way) (with_session (way_calls way)) hub.old (seat_kept seat.old) ending.count ending.over ending.closing hub.new (seat_kept seat.new)) }
 {
     let passage = pass_by(hub, seat, way, buffer)?;
     let closing = finish(hub, seat, passage.over);
@@ -87,7 +88,7 @@ fn pass_one(hub: &mut Hub, seat: &mut Seat, way: Way, buffer: &mut [u8]) -> Resu
 // Without a session nothing passes.
 fn pass_by(hub: &mut Hub, seat: &mut Seat, way: Way, buffer: &mut [u8]) -> Result<Passage, NoMemory>
     requires { max_wire ≤ length buffer.old }
-    ensures { IfOk result (λ passage. Moves (passes_way way) hub.old (seat_kept seat.old) passage.count passage.over hub.new (seat_kept seat.new)) }
+    ensures { IfOk result (λ passage. Moves (passes_way way) (with_session (way_calls way)) hub.old (seat_kept seat.old) passage.count passage.over hub.new (seat_kept seat.new)) }
 {
     match seat.session {
         None => Ok(Passage {

@@ -53,6 +53,27 @@ pub(crate) fn gone_text(alloc: Global, word: &str, is_gone: bool) -> Result<Stri
     }
 }
 
+/// The line of what a link is asked, with the number of its datagrams.
+pub(crate) fn asks_text(alloc: Global, word: &str, count: usize) -> Result<String, NoMemory>
+    ensures { IfOk result (λ text. string_bytes text ≡ codes "asks " ++ (word.now ++ 32 ∷ (decimal count ++ 10 ∷ []))) }
+{
+    format!(in alloc; "asks {word} {count}\n")
+}
+
+/// The line of a datagram that a link is sent.
+pub(crate) fn out_line(alloc: Global, datagram: &[u8]) -> Result<String, NoMemory>
+    ensures { IfOk result (λ text. string_bytes text ≡ codes "out " ++ (octets_text datagram.now ++ 10 ∷ [])) }
+{
+    let digits = octets_text(alloc, datagram)?;
+    out_text(alloc, digits.as_str())
+}
+
+fn out_text(alloc: Global, digits: &str) -> Result<String, NoMemory>
+    ensures { IfOk result (λ text. string_bytes text ≡ codes "out " ++ (digits.now ++ 10 ∷ [])) }
+{
+    format!(in alloc; "out {digits}\n")
+}
+
 fn ignored_text(alloc: Global, words: &str) -> Result<String, NoMemory>
     ensures { IfOk result (λ text. string_bytes text ≡ codes "ignored " ++ (words.now ++ 10 ∷ [])) }
 {

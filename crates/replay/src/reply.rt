@@ -1,7 +1,7 @@
 //! What a script is answered.
 
 ghost use Rattle.std.specs.Prelude.{◌≡◌, ◌⊎◌, IfOk, IfSome, string_bytes};
-ghost use Rattle.replay.specs.Text.{outside_text};
+ghost use Rattle.replay.specs.ScriptTexts.{outside_text};
 ghost use Rattle.replay.specs.TextWords.{by_notices};
 ghost use Rattle.replay.specs.ScriptReplies.{reply_to_script, reply_of};
 ghost use Rattle.replay.specs.KeptEnds.{AreEnds, EndsWhenDone};

@@ -1,19 +1,20 @@
 //! Clients, each where it stands.
 
 ghost use Rattle.std.specs.Prelude.{◌≡◌, ◌<◌, length, get_or, IfOk, OnOk, string_bytes};
-ghost use Rattle.pushserver.specs.KeptHubs.{StandsFor};
 ghost use Rattle.pushserver.specs.PlainHubs.{Hub as PlainHub};
 ghost use Rattle.pushclient.specs.Clients.{closed_as, connected};
 ghost use Rattle.replay.specs.Text.{called, reconfirming, subscribing, unsubscribing};
 ghost use Rattle.replay.specs.World.{cut_if, cut_seat, hub_without, is_over, joined, with_client};
+ghost use Rattle.replay.specs.LineCalls.{end_calls};
+ghost use Rattle.replay.specs.KeptAskings.{AsksAfter, StandsFor};
 ghost use Rattle.replay.specs.KeptWorlds.{KeptSeat, seat_kept, seated};
 ghost use Rattle.replay.specs.KeptSeats.{Makes, Calls, Answers, HasCut, HasTimed, HasFinished, TellsConnected, timed_seat};
 
 use crate::printed::{asked_words, yes_or_no};
 use dsosession::session::{CloseReason, EndReason};
+use hubasking::Hub;
 use push_base::NoMemory;
 use pushclient::Client;
-use pushserver::Hub;
 use rrset::record::{Question, Rr};
 use scripts::line::Call;
 use std::alloc::Global;
@@ -111,7 +112,7 @@ fn join_one(seat: &mut Seat, now: u64, session: u64) -> Result<(), NoMemory>
 
 // A session is gone, if there is one.
 fn end_session(hub: &mut Hub, session: Option<u64>)
-    ensures { (plain : PlainHub) → StandsFor hub.old plain → StandsFor hub.new (hub_without session plain) }
+    ensures { (plain : PlainHub) → StandsFor hub.old plain → StandsFor hub.new (hub_without session plain) × AsksAfter (end_calls session) plain hub.old.askings hub.new.askings }
 {
     if let Some(session) = session {
         hub.end(session);

@@ -1,12 +1,13 @@
 //! Octets between a client and its session in the hub: one way, or each way until nothing moves.
 
-ghost use Rattle.std.specs.Prelude.{◌≡◌, ◌-◌, ◌<◌, ◌≤◌, ◌++◌, ◌==◌, ◌&&◌, ◌||◌, ◌+◌, not, false, true, None, length, min, take, drop, nat_lt, is_some, if◌then◌else◌, IfOk, OnOk};
+ghost use Rattle.std.specs.Prelude.{[], ◌≡◌, ◌-◌, ◌<◌, ◌≤◌, ◌++◌, ◌==◌, ◌&&◌, ◌||◌, ◌+◌, not, false, true, None, length, min, take, drop, nat_lt, is_some, if◌then◌else◌, IfOk, OnOk};
 ghost use Rattle.push_base.specs.Limits.{max_number};
 ghost use Rattle.coalesce.specs.Sides.{frame_octets};
-ghost use Rattle.pushserver.specs.KeptHubs.{KeptHub};
+ghost use Rattle.hubasking.specs.AskingHubs.{AskingHub};
 ghost use Rattle.replay.specs.World.{World as Plain, Seat as PlainSeat};
 ghost use Rattle.replay.specs.PassedOctets as passing;
 ghost use Rattle.replay.specs.PassedOctets.{max_wire, settled, enough};
+ghost use Rattle.replay.specs.LineCalls.{out_calls, settle_calls, up_calls, way_calls};
 ghost use Rattle.replay.specs.KeptWorlds.{seat_kept};
 ghost use Rattle.replay.specs.KeptPassings.{Moves, Passes, Turns};
 ghost use Rattle.replay.specs.Text.{passing_of};
@@ -15,9 +16,9 @@ use crate::exchanging::{Emission, emit};
 use crate::seats::Seat;
 use crate::stepping::deliver;
 use dsosession::session::EndReason;
+use hubasking::Hub;
 use push_base::{NoMemory, front_of};
 use pushclient::Client;
-use pushserver::Hub;
 use scripts::line::Way;
 use scripts::line_words::MAX_WIRE;
 
@@ -46,7 +47,7 @@ pub(crate) fn pass(
     buffer: &mut [u8],
 ) -> Result<Passage, NoMemory>
     requires { max_wire ≤ length buffer.old }
-    ensures { IfOk result (λ passage. Moves (passing_of way session) hub.old (seat_kept seat.old) passage.count passage.over hub.new (seat_kept seat.new)) }
+    ensures { IfOk result (λ passage. Moves (passing_of way session) (way_calls way session) hub.old (seat_kept seat.old) passage.count passage.over hub.new (seat_kept seat.new)) }
 {
     match way {
         Way::Say(most) => {
@@ -82,7 +83,7 @@ fn settle(
     buffer: &mut [u8],
 ) -> Result<Option<EndReason>, NoMemory>
     requires { max_wire ≤ length buffer.old }
-    ensures { IfOk result (λ over. Moves (λ world s. settled enough session world s None) hub.old (seat_kept seat.old) 0 over hub.new (seat_kept seat.new)) }
+    ensures { IfOk result (λ over. Moves (λ world s. settled enough session world s None) (settle_calls enough session) hub.old (seat_kept seat.old) 0 over hub.new (seat_kept seat.new)) }
 {
     let mut over = None;
     let mut left = u64::MAX;
@@ -146,7 +147,7 @@ fn room_on(most: usize, wire: usize) -> usize
 // From the client onto the upward wire, as far as that has room.
 fn say(seat: &mut Seat, most: usize, buffer: &mut [u8]) -> Result<usize, NoMemory>
     requires { max_wire ≤ length buffer.old }
-    ensures { (hub : KeptHub) → IfOk result (λ count. Passes (passing.say most) hub (seat_kept seat.old) count false None hub (seat_kept seat.new)) }
+    ensures { (hub : AskingHub) → IfOk result (λ count. Passes (passing.say most) (λ world s. []) hub (seat_kept seat.old) count false None hub (seat_kept seat.new)) }
 {
     let room = room_on(most, seat.up_wire.len());
     say_into(seat, most, &mut buffer[..room])
@@ -155,7 +156,7 @@ fn say(seat: &mut Seat, most: usize, buffer: &mut [u8]) -> Result<usize, NoMemor
 // As many as there is room for.
 fn say_into(seat: &mut Seat, most: usize, buffer: &mut [u8]) -> Result<usize, NoMemory>
     requires { length buffer.old ≡ min most (max_wire - length seat.old.up_wire.items) }
-    ensures { (hub : KeptHub) → IfOk result (λ count. Passes (passing.say most) hub (seat_kept seat.old) count false None hub (seat_kept seat.new)) }
+    ensures { (hub : AskingHub) → IfOk result (λ count. Passes (passing.say most) (λ world s. []) hub (seat_kept seat.old) count false None hub (seat_kept seat.new)) }
 {
     let count = seat.client.give(buffer);
     seat.up_wire.extend_from_slice(front_of(buffer, count))?;
@@ -177,7 +178,7 @@ pub(crate) fn drop_front<T: Drop>(list: &mut Vec<T>, count: usize)
 
 // From the upward wire into the session, as far as that has room.
 fn up(hub: &mut Hub, session: u64, seat: &mut Seat, most: usize) -> usize
-    ensures { Passes (passing.up session most) hub.old (seat_kept seat.old) result false None hub.new (seat_kept seat.new) }
+    ensures { Passes (passing.up session most) (up_calls session most) hub.old (seat_kept seat.old) result false None hub.new (seat_kept seat.new) }
 {
     let count = hub.take(session, front_of(&seat.up_wire, most));
     drop_front(&mut seat.up_wire, count);
@@ -193,7 +194,7 @@ fn emit_down(
     buffer: &mut [u8],
 ) -> Result<(usize, Emission), NoMemory>
     requires { frame_octets ≤ length buffer.old }
-    ensures { IfOk result (λ r. Passes (passing.emit session most) hub.old (seat_kept seat.old) r.0 (r.1.reacted || nat_lt 0 r.0) r.1.over hub.new (seat_kept seat.new)) }
+    ensures { IfOk result (λ r. Passes (passing.emit session most) (out_calls session most) hub.old (seat_kept seat.old) r.0 (r.1.reacted || nat_lt 0 r.0) r.1.over hub.new (seat_kept seat.new)) }
 {
     let before = seat.down_wire.len();
     let room = room_on(most, before) as u64;
@@ -210,7 +211,7 @@ fn emit_down(
 
 // From the downward wire to the client, as far as it has room, and reacts.
 fn down(seat: &mut Seat, most: usize) -> Result<usize, NoMemory>
-    ensures { (hub : KeptHub) → IfOk result (λ count. Passes (passing.down most) hub (seat_kept seat.old) count (nat_lt 0 count) None hub (seat_kept seat.new)) }
+    ensures { (hub : AskingHub) → IfOk result (λ count. Passes (passing.down most) (λ world s. []) hub (seat_kept seat.old) count (nat_lt 0 count) None hub (seat_kept seat.new)) }
 {
     let count = deliver(&mut seat.client, front_of(&seat.down_wire, most))?;
     drop_front(&mut seat.down_wire, count);

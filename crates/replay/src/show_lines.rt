@@ -30,7 +30,7 @@ pub(crate) fn show_lines(
 ) -> Result<String, NoMemory>
     requires at { position (has_word word.now) (seated world.now.seats.items) ≡ Some client }
     requires within { client < length world.now.seats.items }
-    ensures { IfOk result (λ text. Does (shows by_notices word.now question.now written.now) world.now (string_bytes text) world.now) }
+    ensures { IfOk result (λ text. Does (shows by_notices word.now question.now written.now) (λ plain. []) world.now (string_bytes text) world.now) }
 {
     seat_lines(alloc, &world.seats[client], word, question, written)
 }

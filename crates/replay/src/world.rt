@@ -3,15 +3,18 @@
 ghost use Rattle.std.specs.Prelude.{◌≡◌, ◌≤◌, [], length, IfOk, OnOk};
 ghost use Rattle.history.specs.Kept.{state_of};
 ghost use Rattle.history.specs.Plans.{IsStart};
-ghost use Rattle.replay.specs.World.{World as Plain, world_of, cut_peer, number_in, without};
+ghost use Rattle.replay.specs.World.{World as Plain, world_of, cut_peer, number_in, session_number, without};
+ghost use Rattle.hubasking.specs.LinkAskings.{new_askings};
+ghost use Rattle.replay.specs.LineCalls.{end_calls};
+ghost use Rattle.replay.specs.KeptAskings.{AsksAfter};
 ghost use Rattle.replay.specs.KeptWorlds.{IsWorld, named};
 ghost use Rattle.scripts.specs.KeptLines.{words_of};
 
 use crate::seats::Seat;
 use dsosession::session::Timers;
 use history::Homes;
+use hubasking::Hub;
 use push_base::NoMemory;
-use pushserver::Hub;
 use std::alloc::Global;
 
 /// A peer that sends octets as they are: its word, and the number of its session.
@@ -76,7 +79,7 @@ impl World {
         timers: Timers,
     ) -> Result<World, NoMemory>
         requires { IsStart (state_of homes) }
-        ensures { IfOk result (λ kept. IsWorld kept (world_of (record { timers = timers; start = state_of homes; links = words_of links.items }))) }
+        ensures { IfOk result (λ kept. IsWorld kept (world_of (record { timers = timers; start = state_of homes; links = words_of links.items })) × (kept.hub.askings ≡ new_askings (state_of homes))) }
     {
         Ok(World {
             hub: Hub::new(homes, timers)?,
@@ -96,7 +99,7 @@ impl World {
 
     /// The connection of a peer is cut: its session goes, and its word has none any more.
     pub fn cut(&mut self, word: &str)
-        ensures { (world : Plain) → IsWorld self.old world → IsWorld self.new (cut_peer word.now world) }
+        ensures { (world : Plain) → IsWorld self.old world → IsWorld self.new (cut_peer word.now world) × AsksAfter (end_calls (session_number world word.now)) world.hub self.old.hub.askings self.new.hub.askings }
     {
         if let Some(session) = self.session(word) {
             self.hub.end(session);

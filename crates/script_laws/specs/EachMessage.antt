@@ -13,6 +13,7 @@ use Rattle.rrset.specs.Header.{id_of}
 use Rattle.rrset.specs.Rcodes.{noerror}
 use Rattle.rrset.specs.declared.record.Question.{Question}
 use Rattle.rrset.specs.declared.record.Rr.{Rr}
+use Rattle.dnsquery.specs.Replies.{reply_to}
 use Rattle.dsotlv.specs.Answers.{answer_to, answer_to_update, refusal_to, grant_to, not_implemented, push_message}
 use Rattle.dsotlv.specs.Messages.{first_message, messages_in, frame, head_of, primary_data}
 use Rattle.dsotlv.specs.Notices.{question_of, reconfirm_of}
@@ -33,7 +34,7 @@ use Rattle.pushsession.specs.declared.session_status.SessionStatus.{SessionStatu
 use Rattle.pushsession.specs.declared.session_status.SessionStatus.TheVariants.{Live, Ended}
 use Rattle.pushserver.specs.PlainHubs.{Hub, Session, frame_of, asked_of, first_answer}
 use Rattle.pushserver.specs.Hubs.{state_now, keeps_now, session_of, in_session, behind_at, can_enter, update}
-use Rattle.pushserver.specs.Giving.{has_home, reconfirm, give, reacted, after_reaction}
+use Rattle.pushserver.specs.Giving.{has_home, known_at, reconfirm, give, reacted, after_reaction}
 use Rattle.pushserver.specs.Calls.{HubCall, gives, after_calls}
 use Rattle.pushserver.specs.Laws.{IsAcceptable}
 use Rattle.pushtelling.specs.Runs.{handed_out, taken_in, reacted_to}
@@ -42,7 +43,7 @@ use Rattle.scripts.specs.Lines.{ScriptLine}
 use Rattle.scripts.specs.Scripts.{script_of}
 use Rattle.replay.specs.World.{start_world}
 use Rattle.script_laws.specs.Reached.{FitCalls}
-use Rattle.script_laws.specs.LineCalls.{script_calls, AreFirst}
+use Rattle.replay.specs.LineCalls.{script_calls, AreFirst}
 
 abbrev pub ScriptCallsFit : Type 0
 ScriptCallsFit = (text : List ℕ) (script : List ScriptLine) → script_of text ≡ Ok script → FitCalls (script_calls script (start_world script))
@@ -148,6 +149,7 @@ effect_by hub session message (reactions.Abort reason) = ends_by hub session rea
 effect_by hub session message reactions.Unsubscribe = record (effect_of_messages hub session []) { asks = without_asked message session }
 effect_by hub session message reactions.NotImplemented = effect_of_messages hub session (not_implemented message ∷ [])
 effect_by hub session message reactions.Update = effect_of_update hub session message
+effect_by hub session message reactions.Query = effect_of_messages hub session (reply_to (known_at (state_now hub)) message ∷ [])
 effect_by hub session message reactions.Reconfirm = effect_of_reconfirm hub session (reconfirm_of (primary_data message))
 effect_by hub session message reactions.Subscribe = effect_of_subscribe hub session message (question_of (primary_data message))
 

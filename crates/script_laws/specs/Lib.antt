@@ -9,7 +9,6 @@ pub mod Lines
 pub mod Settling
 pub mod Turns
 pub mod Replies
-pub mod LineCalls
 pub mod EachMessage
 pub mod InTurn
 pub mod Sending

@@ -51,6 +51,7 @@ IsHubWithin hub_events.Point = Unit {0}
 abbrev pub IsLinkWithin : LinkEvent → Type 0
 IsLinkWithin (link_events.Hear datagram) = AreWritten datagram
 IsLinkWithin link_events.Gone = Unit {0}
+IsLinkWithin link_events.Asks = Unit {0}
 
 abbrev pub IsCallWithin : Call → Type 0
 IsCallWithin (calls.Ask question) = IsTrue (is_question question)

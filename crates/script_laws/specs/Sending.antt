@@ -29,7 +29,10 @@ use Rattle.scripts.specs.Scripts.{script_of}
 use Rattle.replay.specs.World.{World, start_world}
 use Rattle.replay.specs.PassedOctets.{Exchanged, exchanged, enough}
 use Rattle.replay.specs.TextWords.{bytes_line, by_history, HeldRecords}
-use Rattle.replay.specs.Text.{placed, end_lines, line_does, printed_by, world_after}
+use Rattle.replay.specs.Text.{placed, end_lines, line_does, world_after}
+use Rattle.hubasking.specs.LinkAskings.{Askings}
+use Rattle.replay.specs.Askings.{line_asks, lines_asks, start_askings}
+use Rattle.replay.specs.ScriptTexts.{printed_by}
 use Rattle.scripts.specs.Words.{ended_lines}
 use Rattle.scripts.specs.declared.outcome.Outcome.TheVariants as outcomes
 use Rattle.scripts.specs.Outcomes.{status_of}
@@ -37,7 +40,7 @@ use Rattle.scripts.specs.Reply.{Reply}
 use Rattle.replay.specs.ScriptReplies.{reply_to_script}
 use Rattle.replay.specs.Between.{world_then}
 use Rattle.replay.specs.Serving.{Asked, asked_between, connected_then, AsksFirst, served_reply}
-use Rattle.script_laws.specs.LineCalls.{exchange_calls}
+use Rattle.replay.specs.LineCalls.{exchange_calls}
 use Rattle.script_laws.specs.EachMessage.{HasItsTurn, TurnHasEffect}
 use Rattle.script_laws.specs.InTurn.{made_in}
 
@@ -119,6 +122,10 @@ lines_asked asked = asked.before ++ send asked.word asked.octets ∷ asked.behin
 abbrev pub world_asked : Asks → World
 world_asked asked = world_after asked.before (start_world (lines_asked asked))
 
+-- what links are asked behind the line
+abbrev pub askings_behind : Asks → Askings
+askings_behind asked = line_asks (send asked.word asked.octets) (world_asked asked) (lines_asks asked.before (start_world (lines_asked asked)) (start_askings (lines_asked asked)))
+
 -- what the line does to the peer's session
 abbrev pub calls_asked : Asks → List HubCall
 calls_asked asked = exchange_calls enough asked.number asked.octets asked.world.hub
@@ -147,8 +154,8 @@ lines_told text asked asks front back over =
 abbrev pub asked_reply : (records : HeldRecords) (text : List ℕ) (asked : Asks) → AsksAnywhere text asked → List Made → List Made → Option EndReason → Reply
 asked_reply records text asked asks front back over = record {
   status = status_of outcomes.Done;
-  text = ended_lines (printed_by records asked.before (start_world (lines_asked asked)))
-      ++ (ended_lines (lines_told text asked asks front back over) ++ ended_lines (printed_by records asked.behind (line_does by_history (send asked.word asked.octets) (world_asked asked)).0));
+  text = ended_lines (printed_by records asked.before (start_world (lines_asked asked)) (start_askings (lines_asked asked)))
+      ++ (ended_lines (lines_told text asked asks front back over) ++ ended_lines (printed_by records asked.behind (line_does by_history (send asked.word asked.octets) (world_asked asked)).0 (askings_behind asked)));
 }
 
 -- what the line tells before it, and behind it, is what was made in turn by the calls before and behind; its end is that to which the session has come

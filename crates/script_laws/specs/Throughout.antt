@@ -19,7 +19,7 @@ use Rattle.replay.specs.TextWords.{by_history, by_notices}
 use Rattle.replay.specs.Promises.{KeepsPromises, ShownPoints, ConnectionHolds, WhatIsHeld, EndsStandFor}
 use Rattle.replay.specs.KeptEnds.{AreEnds}
 use Rattle.replay.specs.declared.ends.Ends.{Ends}
-use Rattle.script_laws.specs.LineCalls.{AreFirst}
+use Rattle.replay.specs.LineCalls.{AreFirst}
 use Rattle.script_laws.specs.EachMessage.{IsReactedTo, HasItsTurn, TurnHasEffect, messages_of}
 use Rattle.script_laws.specs.InTurn.{made_in}
 use Rattle.script_laws.specs.Settling.{TurnsSufficeIn, SettlesEmptyIn}
@@ -39,7 +39,7 @@ AreMirrorsOfHistory script = (kept : KeptHub) (clients : List KeptClient)
 
 abbrev pub ReplaysMirrorHistory : Type 0
 ReplaysMirrorHistory = (octets : List ℕ) (ends : Ends) (script : List ScriptLine) → AreEnds octets ends → script_of octets ≡ Ok script
-    → EndsStandFor by_history ends.hub ends.clients.items (world_after script (start_world script))
+    → EndsStandFor by_history ends.hub.hub ends.clients.items (world_after script (start_world script))
 
 -- The octets that came are the messages that were reacted to, and what waits; each of these has its turn, in which what the server's table
 -- tells is done; and the session's messages are those that its turns make, and that it makes between them.

@@ -9,7 +9,8 @@ use Rattle.rrset.specs.declared.record.Question.{Question}
 use Rattle.scripts.specs.Lines.{Word, ScriptLine}
 use Rattle.scripts.specs.Scripts.{script_of}
 use Rattle.replay.specs.World.{World, Seat, start_world, seat_of}
-use Rattle.replay.specs.Text.{world_after, text_by}
+use Rattle.replay.specs.Text.{world_after}
+use Rattle.replay.specs.ScriptTexts.{text_by}
 use Rattle.replay.specs.Between.{lines_of, world_then}
 use Rattle.replay.specs.FedLines.{Fed, fed_between}
 use Rattle.replay.specs.HeldPoints.{NeverEarlier, held_points_from}

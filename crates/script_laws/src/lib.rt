@@ -5,7 +5,7 @@ ghost use Rattle.std.specs.Prelude.{◌≡◌, [], ◌∷◌, codes};
 ghost use Rattle.replay.specs.Promises.{HoldsTheHistory, HoldsAfterEachLine, NoMessageEnds, EveryScriptKeepsPromises, EveryScriptTellsOneText, EverySettleEmptiesBothWays};
 ghost use Rattle.script_laws.specs.EachMessage.{ScriptCallsFit, MessagesAreReactedTo, EachHasItsTurn, SubscribesAreAnswered};
 ghost use Rattle.script_laws.specs.InTurn.{MadeInTurn};
-ghost use Rattle.script_laws.specs.LineCalls.{LinesAreCalls, ScriptsAreCalls};
+ghost use Rattle.replay.specs.LineCalls.{LinesAreCalls, ScriptsAreCalls};
 ghost use Rattle.script_laws.specs.Replies.{RepliesAreOne};
 ghost use Rattle.script_laws.specs.Sending.{SendsAreAnswered, AsksAreAnswered, EachIsBroughtUp, FirstOnesAskAnywhere};
 ghost use Rattle.script_laws.specs.Settling.{TurnsSuffice};

@@ -239,6 +239,7 @@ abbrev pub link_kinds : Word → List (Bool × Kind)
 link_kinds w =
     (is w (codes "hear"), kinds.Hear)
     ∷ (is w (codes "gone"), kinds.Gone)
+    ∷ (is w (codes "asks"), kinds.Asks)
     ∷ []
 
 abbrev pub session_kinds : Word → List (Bool × Kind)
@@ -294,6 +295,7 @@ line_behind kinds.Update ws = of_octets (λ o. hub_event (hub_events.Update o)) 
 line_behind kinds.Point ws = alone (hub_event hub_events.Point) ws
 line_behind kinds.Hear ws = of_word_and_octets (λ w o. link_event w (link_events.Hear o)) ws
 line_behind kinds.Gone ws = of_word (λ w. link_event w link_events.Gone) ws
+line_behind kinds.Asks ws = of_word (λ w. link_event w link_events.Asks) ws
 line_behind kinds.Send ws = of_word_and_octets send ws
 line_behind kinds.Stop ws = stop_line ws
 line_behind kinds.Cut ws = of_word (λ w. session_event w session_events.Cut) ws

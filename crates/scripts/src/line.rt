@@ -71,6 +71,8 @@ pub enum LinkEvent {
     Hear(Octets),
     /// It goes away, with all that was heard on it.
     Gone,
+    /// What it is asked now is told (RFC 8766, 5.6).
+    Asks,
 }
 
 /// A call of a client that answers a word.
@@ -166,6 +168,7 @@ enum Kind {
     Point,
     Hear,
     Gone,
+    Asks,
     Send,
     Stop,
     Cut,
@@ -237,6 +240,8 @@ fn kind_of(word: &[u8]) -> Kind
         Kind::Hear
     } else if word == b"gone".as_slice() {
         Kind::Gone
+    } else if word == b"asks".as_slice() {
+        Kind::Asks
     } else if word == b"send".as_slice() {
         Kind::Send
     } else if word == b"stop".as_slice() {
@@ -290,7 +295,8 @@ fn single_word(kind: Kind) -> Option<Line>
     match kind {
         Kind::Point => Some(Line::Event(EventLine::Hub(HubEvent::Point))),
         Kind::Timers | Kind::Zone | Kind::Link | Kind::At | Kind::Update => None,
-        Kind::Hear | Kind::Gone | Kind::Send | Kind::Stop | Kind::Cut => None,
+        Kind::Hear | Kind::Gone | Kind::Asks => None,
+        Kind::Send | Kind::Stop | Kind::Cut => None,
         Kind::Client | Kind::Lone | Kind::Open | Kind::Ask | Kind::Drop | Kind::Reconfirm => None,
         Kind::Say | Kind::Up | Kind::Emit | Kind::Down | Kind::Settle => None,
         Kind::Feed | Kind::Show | Kind::Other => None,
@@ -309,6 +315,7 @@ fn longer_line(alloc: Global, kind: Kind, text: &[u8]) -> Result<Option<Line>, N
         Kind::Update => update_line(alloc, text),
         Kind::Hear => hear_line(alloc, text),
         Kind::Gone => gone_line(alloc, text),
+        Kind::Asks => asks_line(alloc, text),
         Kind::Send => send_line(alloc, text),
         Kind::Stop => stop_line(alloc, text),
         Kind::Cut => cut_line(alloc, text),
@@ -461,6 +468,17 @@ fn gone_line(alloc: Global, text: &[u8]) -> Result<Option<Line>, NoMemory>
         return Ok(None);
     };
     let event = LinkEvent::Gone;
+    Ok(Some(Line::Event(EventLine::Link { word, event })))
+}
+
+// What follows the first word of a line that tells what a link is asked: the link's word.
+fn asks_line(alloc: Global, text: &[u8]) -> Result<Option<Line>, NoMemory>
+    ensures exact { IfOk result (λ found. option_map (λ l. said l) found ≡ of_word (λ w. link_event w LinkEvent.Asks) (words_in text.now)) }
+{
+    let Some(word) = word_alone(alloc, text)? else {
+        return Ok(None);
+    };
+    let event = LinkEvent::Asks;
     Ok(Some(Line::Event(EventLine::Link { word, event })))
 }
 

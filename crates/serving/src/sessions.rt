@@ -41,8 +41,8 @@ pub fn serve<
     blanks: Blanks,
     register: &mut W,
 ) -> Served<O::Links, B>
-    requires hub { (counted setup.hub ≡ each 0) × (setup.hub.numbers_given ≡ 0) }
-    requires stands { (plain : Plain) × StandsFor setup.hub plain }
+    requires hub { (counted setup.hub ≡ each 0) × (setup.hub.hub.numbers_given ≡ 0) }
+    requires stands { (plain : Plain) × StandsFor setup.hub.hub plain }
     requires names { AreNamed blanks B.names }
 
     // The hub of the setup went behind a lock, and no other.

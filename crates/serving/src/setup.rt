@@ -1,8 +1,8 @@
 //! What a server is given, and what it gives back.
 
 use crate::ServeEnd;
+use hubasking::Hub;
 use hublock::{Books, Ended, Feed};
-use pushserver::Hub;
 
 /// The datagrams that a link is fed with, and the link's number.
 #[derive(Drop)]

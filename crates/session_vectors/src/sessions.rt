@@ -2,7 +2,7 @@
 
 use crate::rows::holds;
 use dsosession::ServerSession;
-use dsosession::session::Reaction::{Abort, Answer, NotImplemented, Update};
+use dsosession::session::Reaction::{Abort, Answer, NotImplemented, Query, Update};
 use dsosession::session::{EndReason as End, Reaction, Timers};
 use dsotlv::DsoHead;
 use std::test::Fail;
@@ -26,7 +26,9 @@ const HEADERS: &[(u16, u16, bool, bool, Primary, Reaction)] = &[
     (0, 0x8100, true, true, None, Abort(End::Answer)),
     (1, 0x2800, false, false, None, Update),
     (0, 0x2800, true, true, SUBSCRIBE, Update),
-    (9, 0x0100, true, true, None, NotImplemented),
+    (9, 0x0100, false, true, None, Query),
+    (0, 0x07ff, true, false, SUBSCRIBE, Query),
+    (9, 0x0900, true, true, None, NotImplemented),
     (0, 0x7800, false, true, SUBSCRIBE, NotImplemented),
     (4, DSO, false, true, SUBSCRIBE, Answer(1)),
     (4, DSO, false, false, None, Answer(1)),

@@ -8,6 +8,7 @@ use Rattle.rrset.specs.declared.record.Key.{Key}
 use Rattle.rrset.specs.declared.record.Question.{Question}
 use Rattle.rrset.specs.declared.record.Rr.{Rr}
 use Rattle.dnswire.specs.declared.message.Update.{Update}
+use Rattle.dnsquery.specs.Replies.{reply_to}
 use Rattle.dsotlv.specs.Messages.{head_of, primary_data}
 use Rattle.dsotlv.specs.Notices.{question_of, reconfirm_of}
 use Rattle.dsotlv.specs.TlvKinds.{reconfirm_tlv}
@@ -24,12 +25,12 @@ use Rattle.pushsession.specs.Kept.{KeptSession, keeping, telling}
 use Rattle.dsotlv.specs.Answers.{answer_to_update}
 use Rattle.pushsession.specs.Sessions.{is_open, ended_with, ended_where, answers}
 use Rattle.pushsession.specs.Subscribing.{answered}
-use Rattle.pushsession.specs.Reactions.{restarted_by, request_in, request_for, reacts_itself}
+use Rattle.pushsession.specs.Reactions.{restarted_by, request_in, request_for, reacts_itself, answers_query}
 use Rattle.pushsession.specs.declared.request.Request.TheVariants as requests
 use Rattle.pushserver.specs.PlainHubs.{Hub, Session, plain_keeps, plain_tells}
 use Rattle.pushserver.specs.Hubs.{Numbered, session_in, in_sessions, newest, now, state_now, records_now, session_of, in_session, entered, behind_at, ended_behind, ends_behind, entered_keeping, can_enter, update}
 use Rattle.pushserver.specs.Offering.{offered}
-use Rattle.pushserver.specs.Giving.{has_home, subscribes, reconfirms, updates, by_request, reacted}
+use Rattle.pushserver.specs.Giving.{has_home, subscribes, reconfirms, updates, known_at, queries, by_request, reacted}
 use Rattle.pushserver.specs.KeptHubs.{KeptHub, StandsFor}
 use Rattle.dsotlv.specs.Laws.{AreOctets}
 use Rattle.pushserver.specs.Simulation.{BothAnswer}
@@ -42,6 +43,7 @@ use Rattle.pushserver.proofs.session_steps.Accepting.{answered-keeps}
 use Rattle.pushserver.proofs.session_steps.Since.{itself-since, answered-since}
 use Rattle.pushserver.proofs.told_rows.HubTells.{hub_told}
 use Rattle.pushserver.proofs.told_rows.HeardRows.{brings_nothing}
+use Rattle.pushserver.proofs.told_rows.Replied.{reply_short}
 use Rattle.pushserver.proofs.told_rows.Hubs.{link_tells}
 use Rattle.pushserver.proofs.hub_steps.Standing.{kept_of, Stands, with_kept, fitting, in-stands, found-stands, FoundBoth, both_found}
 use Rattle.pushserver.proofs.hub_steps.Cases.{ends_as, enters_update, update_as, key_as, session_as, request_as}
@@ -142,10 +144,18 @@ module _ (number : ℕ) (hub : Hub) (from : ℕ) (ks : Numbered KeptSession) (h 
     updates-stands : (message : List ℕ) → AreOctets message → StandsFor (updates number message khub) (updates number message hub)
     updates-stands message octets = answered-stands number (id_of message) (update khub message) (update hub message) (quiet-updated number hub message quiet) (update-stands hub from ks message octets h)
 
+    -- both hubs have one state, so the reply is the same
+    queries-stands : (message : List ℕ) → StandsFor (queries number message khub) (queries number message hub)
+    queries-stands message =
+        let reply = reply_to (known_at (state_now hub)) message in
+        found-stands hub from ks (answers_query keeping (now hub) reply) (answers_query (plain_keeps (newest hub)) (now hub) reply) (λ point session since. since) number
+        (λ k p found s. answers-keeps hub (newest hub) false (now hub) reply k p (quiet p.1 found) (reply_short hub message h.sound.states) s) h
+
     reaction-stands : (reaction : Reaction) (message : List ℕ) → AreOctets message → StandsFor (by_request (request_for reaction message) number message khub) (by_request (request_for reaction message) number message hub)
     reaction-stands reactions.Subscribe message octets = subscribes-stands message octets (question_of (primary_data message)) refl
     reaction-stands reactions.Reconfirm message octets = reconfirms-stands (reconfirm_of (primary_data message))
     reaction-stands reactions.Update message octets = updates-stands message octets
+    reaction-stands reactions.Query message octets = queries-stands message
     reaction-stands (reactions.Answer rcode) message octets = itself-stands message
     reaction-stands reactions.Grant message octets = itself-stands message
     reaction-stands (reactions.Abort reason) message octets = itself-stands message

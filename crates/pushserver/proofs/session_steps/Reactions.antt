@@ -9,7 +9,7 @@ use Rattle.dsosession.specs.Reactions.{server_reaction}
 use Rattle.dsosession.specs.declared.session.EndReason.TheVariants as ends
 use Rattle.dsosession.specs.declared.session.Timers.{Timers}
 use Rattle.dsosession.specs.declared.session.Reaction.{Reaction}
-use Rattle.dsosession.specs.declared.session.Reaction.TheVariants.{Answer, Grant, Abort, Subscribe, Unsubscribe, Reconfirm, Update, NotImplemented}
+use Rattle.dsosession.specs.declared.session.Reaction.TheVariants.{Answer, Grant, Abort, Subscribe, Unsubscribe, Reconfirm, Update, Query, NotImplemented}
 use Rattle.pushsession.specs.Kept.{KeptSession, keeping}
 use Rattle.pushsession.specs.Reactions.{by_itself, reacts_itself}
 use Rattle.pushserver.specs.PlainHubs.{Hub, Session, plain_keeps}
@@ -29,6 +29,7 @@ module _ (hub : Hub) (n : ℕ) where
   by_itself-keeps Subscribe timers now message k p silent s = s
   by_itself-keeps Reconfirm timers now message k p silent s = s
   by_itself-keeps Update timers now message k p silent s = s
+  by_itself-keeps Query timers now message k p silent s = s
 
   pub itself-keeps : (timers : Timers) (now : ℕ) (message : List ℕ) (k : ℕ × KeptSession) (p : ℕ × Session) → p.1.output ≡ []
       → SessionFits hub k p → SessionFits hub (k.0, reacts_itself keeping timers now message k.1) (p.0, reacts_itself (plain_keeps n) timers now message p.1)

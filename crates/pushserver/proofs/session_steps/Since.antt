@@ -16,7 +16,7 @@ use Rattle.dsosession.specs.Reactions.{server_reaction}
 use Rattle.dsosession.specs.declared.session.EndReason.{EndReason}
 use Rattle.dsosession.specs.declared.session.EndReason.TheVariants as ends
 use Rattle.dsosession.specs.declared.session.Reaction.{Reaction}
-use Rattle.dsosession.specs.declared.session.Reaction.TheVariants.{Answer, Grant, Abort, Subscribe, Unsubscribe, Reconfirm, Update, NotImplemented}
+use Rattle.dsosession.specs.declared.session.Reaction.TheVariants.{Answer, Grant, Abort, Subscribe, Unsubscribe, Reconfirm, Update, Query, NotImplemented}
 use Rattle.dsosession.specs.declared.session.Timers.{Timers}
 use Rattle.rrset.specs.Rcodes.{noerror}
 use Rattle.coalesce.specs.FirstAnswers.{first_notices}
@@ -81,6 +81,7 @@ by_itself-since NotImplemented timers now message point session since = since
 by_itself-since Subscribe timers now message point session since = since
 by_itself-since Reconfirm timers now message point session since = since
 by_itself-since Update timers now message point session since = since
+by_itself-since Query timers now message point session since = since
 
 pub itself-since : (timers : Timers) (now : ℕ) (message : List ℕ) → KeepsSince (reacts_itself keeping timers now message)
 itself-since timers now message point session since = by (head_of message)

@@ -10,6 +10,7 @@ use Rattle.rrset.specs.RecordSet.{RecordSet}
 use Rattle.rrset.specs.declared.record.Question.{Question}
 use Rattle.mirror.specs.Held.{set_of}
 use Rattle.pushserver.specs.KeptHubs.{KeptHub}
+use Rattle.hubasking.specs.AskingHubs.{AskingHub}
 use Rattle.pushclient.specs.Clients.{Client, Wish, RequestState, not_asked, unanswered, refused, answered, Held, off, asked_only, refused_with, set_held, held}
 use Rattle.pushclient.specs.Rule.{KeptClient, StandsFor}
 use Rattle.pushclient.specs.Kept.{kept_held, kept_held_as}
@@ -18,16 +19,17 @@ use Rattle.scripts.specs.Lines.{ScriptLine}
 use Rattle.replay.specs.World.{World, Seat, start_world}
 use Rattle.replay.specs.TextWords.{ShowTold, with_records, by_notices, is_filling, told_of}
 use Rattle.replay.specs.Text.{world_after}
+use Rattle.replay.specs.Askings.{lines_asks, start_askings}
 use Rattle.replay.specs.Promises.{ClientStandsFor, EndsStandFor, shows_records}
 use Rattle.replay.specs.declared.world.World as program
 use Rattle.scripts.specs.declared.script.Script.{Script}
 use Rattle.replay.specs.declared.ends.Ends.{Ends}
 use Rattle.replay.specs.KeptWorlds.{KeptSeat, Seated, seated, StandsForSeat, StandForSeats, IsWorld}
 use Rattle.scripts.specs.KeptScripts.{events_said, IsWhole}
-use Rattle.replay.specs.KeptScripts.{world_at_start}
+use Rattle.replay.specs.KeptScripts.{askings_at_start, world_at_start}
 use Rattle.replay.specs.KeptEnds.{AreEnds}
 use Rattle.scripts.proofs.lines.SentOctets.{lines_or}
-use Rattle.replay.proofs.worlds.Happening.{starts-so, leaves-so}
+use Rattle.replay.proofs.worlds.Happening.{starts-so, leaves-so, asked-so}
 
 -- ---- a client
 
@@ -95,17 +97,20 @@ module _ (world : World) where
 
 -- ---- all of it
 
-pub ends-stand : (kept : program.World) (hub : KeptHub) (clients : List KeptClient) (world : World) → IsWorld kept world → hub ≡ kept.hub → clients ≡ map (λ (k : KeptSeat). k.client) (seated kept.seats.items) → EndsStandFor by_notices hub clients world
+pub ends-stand : (kept : program.World) (hub : KeptHub) (clients : List KeptClient) (world : World) → IsWorld kept world → hub ≡ kept.hub.hub → clients ≡ map (λ (k : KeptSeat). k.client) (seated kept.seats.items) → EndsStandFor by_notices hub clients world
 ends-stand kept hub clients world stands hub_is clients_are =
     subst (λ (h : KeptHub). EndsStandFor by_notices h clients world) (sym hub_is)
-    (subst (λ (cs : List KeptClient). EndsStandFor by_notices kept.hub cs world) (sym clients_are)
+    (subst (λ (cs : List KeptClient). EndsStandFor by_notices kept.hub.hub cs world) (sym clients_are)
     (record { hub = stands.hub; seats = all-stand world (seated kept.seats.items) world.seats stands.seats }))
 
 pub ends-are : (octets : List ℕ) (script : Script) (kept : program.World) (ends : Ends) → IsWhole octets script → IsWorld kept (world_after (events_said script) (world_at_start script))
+    → kept.hub.askings ≡ lines_asks (events_said script) (world_at_start script) (askings_at_start script)
     → ends.hub ≡ kept.hub → ends.clients.items ≡ map (λ (k : KeptSeat). k.client) (seated kept.seats.items) → AreEnds octets ends
 unfolding AreEnds
-ends-are octets script kept ends whole stands hub_is clients_are lines read =
+ends-are octets script kept ends whole stands asked hub_is clients_are lines read =
     let same : whole.lines ≡ lines = ap (lines_or []) (sym whole.read ∙ read) in
-    let last : world_after whole.lines (start_world whole.lines) ≡ world_after (events_said script) (world_at_start script) = leaves-so octets script whole ∙ ap (world_after (events_said script)) (sym (starts-so octets script whole)) in
-    subst (λ (ls : List ScriptLine). EndsStandFor by_notices ends.hub ends.clients.items (world_after ls (start_world ls))) same
-    (subst (EndsStandFor by_notices ends.hub ends.clients.items) (sym last) (ends-stand kept ends.hub ends.clients.items (world_after (events_said script) (world_at_start script)) stands hub_is clients_are))
+    let last : world_after whole.lines (start_world whole.lines) ≡ world_after (events_said script) (world_at_start script) = leaves-so octets script whole ∙ ap (world_after (events_said script)) (sym (starts-so octets script whole)) in (
+      subst (λ (ls : List ScriptLine). EndsStandFor by_notices ends.hub.hub ends.clients.items (world_after ls (start_world ls))) same
+          (subst (EndsStandFor by_notices ends.hub.hub ends.clients.items) (sym last) (ends-stand kept ends.hub.hub ends.clients.items (world_after (events_said script) (world_at_start script)) stands (ap (λ (h : AskingHub). h.hub) hub_is) clients_are)),
+      ap (λ (h : AskingHub). h.askings) hub_is ∙ asked ∙ sym (asked-so octets script whole) ∙ ap (λ (ls : List ScriptLine). lines_asks ls (start_world ls) (start_askings ls)) same,
+    )

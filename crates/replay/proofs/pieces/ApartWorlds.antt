@@ -12,7 +12,7 @@ use Rattle.rrset.proofs.Places.{all_filter}
 use Rattle.dsotlv.proofs.Results.{same_found}
 use Rattle.pushserver.specs.PlainHubs.{Hub}
 use Rattle.pushserver.specs.Hubs.{now, connect}
-use Rattle.pushserver.specs.Calls.{HubCall, called as hub_called, updates, moves, stops}
+use Rattle.pushserver.specs.Calls.{HubCall, called as hub_called, after_calls, updates, moves, stops}
 use Rattle.pushserver.proofs.Walks.{AnyMessage, IsKept, keeps-called, bring_any, with_new}
 use Rattle.scripts.specs.Lines.{Word, ScriptLine, silent, head_line, joining, hub_event, link_event, client_call, client_passing, client_event, session_event}
 use Rattle.scripts.specs.declared.line.HubEvent.{HubEvent}
@@ -30,7 +30,7 @@ use Rattle.pushclient.specs.Clients.{closed_as, connected}
 use Rattle.pushclient.specs.Steps as steps
 use Rattle.replay.specs.PassedOctets.{enough}
 use Rattle.replay.specs.TextWords.{by_history}
-use Rattle.replay.specs.Text.{placed, Printed, timed, feeds, called, asks, opens, seated, exchanges, sends, session_of_word, line_does, link_call, hub_does, client_does, session_does, world_after, passes_way, passes}
+use Rattle.replay.specs.Text.{placed, Printed, timed, feeds, called, asks, opens, seated, exchanges, sends, session_of_word, line_does, link_calls, hub_does, client_does, session_does, world_after, passes_way, passes}
 use Rattle.replay.proofs.worlds.OneWorld.{shows-leave}
 use Rattle.replay.proofs.worlds.FedSeats.{fed, fed_over}
 use Rattle.replay.proofs.worlds.LinesDoing.{with_peer, made_or_not, has_room, hub_timed, moment_now, stopped, exchanged_with, cut-does, exchange-does, send-does, ask-does, open-does, feed-does}
@@ -349,6 +349,10 @@ apart-called : (call : HubCall) (world : World) → IsApart world → IsApart (r
 apart-called call world a = (let given = world.hub.numbers_given in
     apart-hub world (hub_called call world.hub) (keeps-called AnyMessage (MadeFrom given) (made-kept given) call world.hub (bring_any (call ∷ [])).0 (itself given)) a)
 
+apart-calls : (calls : List HubCall) (world : World) → IsApart world → IsApart (record world { hub = after_calls calls world.hub })
+apart-calls [] world a = a
+apart-calls (call ∷ calls) world a = apart-calls calls (record world { hub = hub_called call world.hub }) (apart-called call world a)
+
 apart-hub-event : (event : HubEvent) (world : World) → IsApart world → IsApart (hub_does event world).0
 apart-hub-event (hub_events.At t) world a = (let later = apart-called (moves t) world a in apart-timed (moment_now world t) world.seats (hub_timed world t) later.seats later)
 apart-hub-event (hub_events.Update message) world a = apart-called (updates message) world a
@@ -373,7 +377,7 @@ apart-line silent world a = a
 apart-line (head_line line) world a = a
 apart-line (joining w is_lone) world a = apart-seated w is_lone world a
 apart-line (hub_event event) world a = apart-hub-event event world a
-apart-line (link_event w event) world a = apart-called (link_call event w world) world a
+apart-line (link_event w event) world a = apart-calls (link_calls event w world) world a
 apart-line (client_call w call) world a = apart-asks call w world a
 apart-line (client_passing w way) world a = apart-passes way w world a
 apart-line (client_event w event) world a = apart-client event w world a

@@ -271,6 +271,7 @@ module _ (hub : Hub) (number : ℕ) (s : Session) where
     leaves-link : (event : LinkEvent) (v : Word) (world : World) → At hub number world.hub s → Leaves (link_does event v world).0.hub
     leaves-link (link_events.Hear datagram) v world at = leaves-hear world.hub (link_number v world) datagram at
     leaves-link link_events.Gone v world at = leaves-gone world.hub (link_number v world) at
+    leaves-link link_events.Asks v world at = inl at
 
     leaves-client : (event : ClientEvent) (v : Word) (world : World) → IsApart world → session_number world w ≡ Some number → At hub number world.hub s → Leaves (client_does by_history event v world).0.hub
     leaves-client client_events.Open v world a known at = open-does world (λ later. Leaves later.hub) v (inl at) (λ seat e. inl at) (λ seat e hub. leaves-more world.hub (inl at))

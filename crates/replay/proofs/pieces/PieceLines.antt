@@ -19,7 +19,10 @@ use Rattle.scripts.specs.Lines.{Word, ScriptLine, send}
 use Rattle.replay.specs.World.{World, session_number, hub_without, cut_peer}
 use Rattle.replay.specs.PassedOctets.{Exchanged, exchanged, enough}
 use Rattle.replay.specs.TextWords.{bytes_line, HeldRecords, by_history}
-use Rattle.replay.specs.Text.{Printed, end_lines, exchanges, sends, line_does, printed_by, world_after}
+use Rattle.replay.specs.Text.{Printed, end_lines, exchanges, sends, line_does, world_after}
+use Rattle.hubasking.specs.LinkAskings.{Askings}
+use Rattle.replay.specs.Askings.{line_asks, lines_asks}
+use Rattle.replay.specs.ScriptTexts.{printed_by}
 use Rattle.replay.specs.ScriptPieces.{is_of_others, Turn, end_behind, printed_turns}
 use Rattle.replay.proofs.turns.ZoneSizes.{IsBounded}
 use Rattle.replay.proofs.rest.AtRest.{Core, Ran, resting, ran, behind_octets, At, Longer, EmitsAsRan, StaysLonger}
@@ -139,7 +142,7 @@ pub record TellsTurns (hub : Hub) (number : ℕ) (core : Core) (input : List ℕ
   pub told : List (List ℕ)
   pub count : length told ≡ length turns
   pub in_turn : (n : ℕ) → Makes hub (messages_in (input ++ concat (take n (pieces_in turns)))).0 core (concat (take n told))
-  pub lines : (records : HeldRecords) → printed_by records (lines_in w turns) world ≡ printed_turns records w over turns told world
+  pub lines : (records : HeldRecords) (askings : Askings) → printed_by records (lines_in w turns) world askings ≡ printed_turns records w over turns told world askings
   pub left : LeavesWith hub number w core (messages_in (input ++ concat (pieces_in turns))) (world_after (lines_in w turns) world) over
 
 -- of no octets nothing is made
@@ -191,20 +194,21 @@ last_turn hub piece core input none r octets is same = by
 -- the lines of a turn before those of others
 turn-before : (records : HeldRecords) (w : Word) (over : Option EndReason) (turn : Turn) (turns : List Turn) (octets : List ℕ) (told : List (List ℕ)) (world : World)
     → (line_does by_history (send w turn.0) world).1 ≡ bytes_line w octets ∷ end_lines w (end_behind turns over)
-    → printed_by records (lines_in w turns) (world_after turn.1 (line_does by_history (send w turn.0) world).0) ≡ printed_turns records w over turns told (world_after turn.1 (line_does by_history (send w turn.0) world).0)
-    → printed_by records (lines_in w (turn ∷ turns)) world ≡ printed_turns records w over (turn ∷ turns) (octets ∷ told) world
-turn-before records w over turn turns octets told world one rest =
+    → ((askings : Askings) → printed_by records (lines_in w turns) (world_after turn.1 (line_does by_history (send w turn.0) world).0) askings ≡ printed_turns records w over turns told (world_after turn.1 (line_does by_history (send w turn.0) world).0) askings)
+    → (askings : Askings) → printed_by records (lines_in w (turn ∷ turns)) world askings ≡ printed_turns records w over (turn ∷ turns) (octets ∷ told) world askings
+turn-before records w over turn turns octets told world one rest askings =
     let later : World = (line_does by_history (send w turn.0) world).0 in
-    ap (λ (lines : List (List ℕ)). lines ++ printed_by records (turn.1 ++ lines_in w turns) later) one
+    let asked : Askings = line_asks (send w turn.0) world askings in
+    ap (λ (lines : List (List ℕ)). lines ++ printed_by records (turn.1 ++ lines_in w turns) later asked) one
     ∙ ap (λ (lines : List (List ℕ)). bytes_line w octets ∷ (end_lines w (end_behind turns over) ++ lines))
-    (printed-append records turn.1 (lines_in w turns) later ∙ ap (λ (lines : List (List ℕ)). printed_by records turn.1 later ++ lines) rest)
+    (printed-append records turn.1 (lines_in w turns) later asked ∙ ap (λ (lines : List (List ℕ)). printed_by records turn.1 later asked ++ lines) (rest (lines_asks turn.1 later asked)))
 
 -- what is said of turns
 abbrev pub PrintsTurns : Hub → ℕ → Word → Option EndReason → List Turn → Type 0
 PrintsTurns hub number w over turns = (world : World) (core : Core) (input : List ℕ) → Waits hub number w over turns world core input → TellsTurns hub number core input w over turns world
 
 no-turn : (hub : Hub) (number : ℕ) (w : Word) (over : Option EndReason) → PrintsTurns hub number w over []
-no-turn hub number w over world core input h = record { told = []; count = refl; in_turn = first; lines = λ records. refl; left = by over (h.ends (silent_run core) nothing) }
+no-turn hub number w over world core input h = record { told = []; count = refl; in_turn = first; lines = λ records askings. refl; left = by over (h.ends (silent_run core) nothing) }
   where
     silent_run : Core → Ran
     silent_run core = record { octets = []; over = None; core = core }
@@ -372,7 +376,7 @@ module _ (hub : Hub) (number : ℕ) (w : Word) (reason : EndReason) (turn : Turn
       told = ending.octets ∷ [];
       count = refl;
       in_turn = last_turn hub turn.0 core input h.none m.run ending.octets m.is m.told.octets;
-      lines = λ records. turn-before records w (Some reason) turn [] ending.octets [] world (ap (λ (p : Printed). p.1) end_is) refl;
+      lines = λ records. turn-before records w (Some reason) turn [] ending.octets [] world (ap (λ (p : Printed). p.1) end_is) (λ askings. refl);
       left = subst (HasNone number w) (sym last-lines) has-none;
     }
 

@@ -8,16 +8,21 @@ use Rattle.std.proofs.lemmas.List.Folds.{find-append}
 use Rattle.std.proofs.lemmas.Slice.Eq.{bytes_eq-Decides}
 use Rattle.dsotlv.proofs.Results.{same_found}
 use Rattle.pushserver.specs.PlainHubs.{Hub}
+use Rattle.pushserver.specs.Calls.{HubCall, connects}
 use Rattle.pushserver.specs.Hubs.{connect}
+use Rattle.hubasking.specs.LinkAskings.{Askings}
 use Rattle.scripts.specs.Lines.{Word}
 use Rattle.replay.specs.World.{World, session_number}
 use Rattle.replay.specs.Text.{placed, sends, exchanges}
+use Rattle.replay.specs.Askings.{calls_asks}
+use Rattle.replay.specs.LineCalls.{exchanges_calls, send_calls}
 use Rattle.replay.proofs.worlds.LinesDoing.{by_connected, by_number}
 
 -- the peer has the session; its next line does what it does in the world with the session; and the hub is the one before, or has one session more
 pub record IsPlaced (w : Word) (earlier : World) (number : ℕ) (world : World) : Type 0 where
   pub known : session_number world w ≡ Some number
   pub does : (octets : List ℕ) → sends w octets earlier ≡ exchanges w number octets world
+  pub asks : (octets : List ℕ) (askings : Askings) → calls_asks (send_calls w octets earlier) earlier.hub askings ≡ calls_asks (exchanges_calls w number octets world) world.hub askings
   pub hub : (world.hub ≡ earlier.hub) ⊎ (world.hub ≡ (connect earlier.hub).1)
 
 abbrev Peers : Type 0
@@ -39,6 +44,13 @@ last-peer w peers number none =
     by None none = ap (λ b. option_map (λ (e : Word × ℕ). e.1) (cond b (Some (w, number)) None)) itself
     by (Some e) none = absurd cc
 
+-- the calls of its octets, by the session that it has, and by the new one
+abbrev sending : Word → List ℕ → List HubCall → Option (ℕ × World) → List HubCall
+sending w octets first o = elim o as (λ _. List HubCall) [ None ↦ [] | Some place ↦ first ++ exchanges_calls w place.0 octets place.1 ]
+
+abbrev connecting : Option ℕ → List HubCall
+connecting o = elim o as (λ _. List HubCall) [ None ↦ [] | Some number ↦ connects ∷ [] ]
+
 module _ (w : Word) (earlier : World) where
   abbrev with_peer : ℕ → World
   with_peer number = record earlier { hub = (connect earlier.hub).1; peers = earlier.peers ++ (w, number) ∷ [] }
@@ -52,15 +64,23 @@ module _ (w : Word) (earlier : World) where
   abbrev at_place : ℕ → World → Option (ℕ × World)
   at_place number world = Some (number, world)
 
+  abbrev calls_by : List ℕ → Option ℕ → List HubCall
+  calls_by octets o = sending w octets (elim o as (λ _. List HubCall) [ None ↦ connecting (connect earlier.hub).0 | Some number ↦ [] ]) (by_place o)
+
+  pub asks-known : (number : ℕ) → session_number earlier w ≡ Some number → (octets : List ℕ) (askings : Askings)
+      → calls_asks (send_calls w octets earlier) earlier.hub askings ≡ calls_asks (exchanges_calls w number octets earlier) earlier.hub askings
+  asks-known number known octets askings = ap (λ (o : Option ℕ). calls_asks (calls_by octets o) earlier.hub askings) known
+
   -- the session that the peer has
   has-one : (number : ℕ) → session_number earlier w ≡ Some number → IsPlaced w earlier number earlier
-  has-one number known = record { known = known; does = λ octets. ap (by_number earlier w octets) known; hub = inl refl }
+  has-one number known = record { known = known; does = λ octets. ap (by_number earlier w octets) known; asks = asks-known number known; hub = inl refl }
 
   -- a new one
   has-new : (number : ℕ) → session_number earlier w ≡ None → (connect earlier.hub).0 ≡ Some number → IsPlaced w earlier number (with_peer number)
   has-new number none made = record {
     known = last-peer w earlier.peers number none;
     does = λ octets. ap (by_number earlier w octets) none ∙ ap (λ o. by_connected earlier w octets (o, (connect earlier.hub).1)) made;
+    asks = λ octets askings. ap (λ (o : Option ℕ). calls_asks (calls_by octets o) earlier.hub askings) none ∙ ap (λ (o : Option ℕ). calls_asks (sending w octets (connecting o) (by_new o)) earlier.hub askings) made;
     hub = inr refl;
   }
 

@@ -15,13 +15,16 @@ use Rattle.pushsession.specs.declared.session_status.SessionStatus.{SessionStatu
 use Rattle.pushsession.specs.Sessions.{without_first}
 use Rattle.pushserver.specs.PlainHubs.{Session, Hub}
 use Rattle.pushserver.specs.Hubs.{state_now}
-use Rattle.scripts.specs.Lines.{Word, ScriptLine}
+use Rattle.scripts.specs.Lines.{Word, ScriptLine, send}
 use Rattle.replay.specs.World.{World}
 use Rattle.replay.specs.TextWords.{bytes_line, HeldRecords}
 use Rattle.replay.specs.SessionPieces.{answers_to, standing_of}
-use Rattle.replay.specs.Text.{Printed, end_lines, sends, printed_by, world_after}
+use Rattle.replay.specs.Text.{Printed, end_lines, sends, world_after}
+use Rattle.hubasking.specs.LinkAskings.{Askings}
+use Rattle.replay.specs.Askings.{line_asks, lines_asks}
+use Rattle.replay.specs.ScriptTexts.{printed_by}
 use Rattle.replay.specs.ScriptPieces.{Turn, SentInPieces, pieces_of, lines_sent, sent_between, answered_to_first, messages_sent, answered_to_all, standing_with, SendsPieces, TellsInTurn, end_behind, printed_turns, pieces_reply, LeavesPeer}
-use Rattle.replay.specs.Between.{lines_of, world_start, world_then, world_behind}
+use Rattle.replay.specs.Between.{lines_of, world_start, world_then, world_behind, askings_then}
 use Rattle.replay.specs.ScriptReplies.{reply_to_script}
 use Rattle.replay.proofs.turns.ZoneSizes.{IsBounded}
 use Rattle.replay.proofs.rest.AtRest.{Core, Ran, core_of, resting, ran, At, Longer, EmitsAsRan}
@@ -30,7 +33,7 @@ use Rattle.replay.proofs.worlds.InputOctets.{HoldsOctets, found_octets, octets-l
 use Rattle.replay.proofs.pieces.ApartWorlds.{IsApart, apart-start, apart-lines, apart-placed}
 use Rattle.replay.proofs.pieces.GonePeers.{gone-none}
 use Rattle.replay.proofs.pieces.PieceLines.{Makes, IsOverWith, LeavesWith, Waits, TellsTurns, lines_in, sends-known, turn-lines}
-use Rattle.replay.proofs.pieces.Placing.{IsPlaced, placed-is, placed-holds}
+use Rattle.replay.proofs.pieces.Placing.{IsPlaced, asks-known, placed-is, placed-holds}
 use Rattle.replay.proofs.rest.Turning.{turns-as-told}
 use Rattle.replay.proofs.turns.TurnSizes.{writes-few}
 use Rattle.replay.proofs.worlds.Longer.{stays-longer}
@@ -106,17 +109,23 @@ module _ (w : Word) (earlier : World) (number : ℕ) (world : World) (p : IsPlac
   does-same : (octets : List ℕ) → sends w octets earlier ≡ sends w octets world
   does-same octets = p.does octets ∙ sym (sends-known w number octets world p.known)
 
+  asks-same : (octets : List ℕ) (askings : Askings) → line_asks (send w octets) earlier askings ≡ line_asks (send w octets) world askings
+  asks-same octets askings = p.asks octets askings ∙ sym (asks-known w world number p.known octets askings)
+
   -- so all lines print the same
-  printed-placed : (records : HeldRecords) (turns : List Turn) → printed_by records (lines_in w turns) earlier ≡ printed_by records (lines_in w turns) world
-  printed-placed records [] = refl
-  printed-placed records (turn ∷ turns) = ap (λ (one : Printed). one.1 ++ printed_by records (turn.1 ++ lines_in w turns) one.0) (does-same turn.0)
+  printed-placed : (records : HeldRecords) (turns : List Turn) (askings : Askings) → printed_by records (lines_in w turns) earlier askings ≡ printed_by records (lines_in w turns) world askings
+  printed-placed records [] askings = refl
+  printed-placed records (turn ∷ turns) askings =
+      let behind : Printed → Askings → List (List ℕ) = λ one asked. one.1 ++ printed_by records (turn.1 ++ lines_in w turns) one.0 asked in
+      λ i. behind (does-same turn.0 i) (asks-same turn.0 askings i)
 
   -- the same is told
-  turns-placed : (records : HeldRecords) (over : Option EndReason) (turns : List Turn) (told : List (List ℕ)) → printed_turns records w over turns told earlier ≡ printed_turns records w over turns told world
-  turns-placed records over [] told = refl
-  turns-placed records over (turn ∷ turns) [] = refl
-  turns-placed records over (turn ∷ turns) (octets ∷ told) =
-      ap (λ (one : Printed). bytes_line w octets ∷ (end_lines w (end_behind turns over) ++ (printed_by records turn.1 one.0 ++ printed_turns records w over turns told (world_after turn.1 one.0)))) (does-same turn.0)
+  turns-placed : (records : HeldRecords) (over : Option EndReason) (turns : List Turn) (told : List (List ℕ)) (askings : Askings) → printed_turns records w over turns told earlier askings ≡ printed_turns records w over turns told world askings
+  turns-placed records over [] told askings = refl
+  turns-placed records over (turn ∷ turns) [] askings = refl
+  turns-placed records over (turn ∷ turns) (octets ∷ told) askings =
+      let behind : Printed → Askings → List (List ℕ) = λ one asked. bytes_line w octets ∷ (end_lines w (end_behind turns over) ++ (printed_by records turn.1 one.0 asked ++ printed_turns records w over turns told (world_after turn.1 one.0) (lines_asks turn.1 one.0 asked))) in
+      λ i. behind (does-same turn.0 i) (asks-same turn.0 askings i)
 
   -- the world behind them is the same
   after-placed : (turns : List Turn) → 1 ≤ length turns → world_after (lines_in w turns) earlier ≡ world_after (lines_in w turns) world
@@ -235,11 +244,12 @@ module _ (script : List ℕ) (sent : SentInPieces) (s : SendsPieces script sent)
 
   pub pieces-told : (told : List (List ℕ)) × TellsInTurn sent told × ((records : HeldRecords) → reply_to_script records script ≡ pieces_reply records sent told)
   pieces-told =
-      let lines : (records : HeldRecords) → printed_by records (lines_sent sent) (world_then (sent_between sent)) ≡ printed_turns records sent.word sent.over sent.turns tells.told (world_then (sent_between sent)) = λ records.
-      printed-placed sent.word (world_then (sent_between sent)) sent.number sent.world place records sent.turns
-      ∙ tells.lines records
-      ∙ sym (turns-placed sent.word (world_then (sent_between sent)) sent.number sent.world place records sent.over sent.turns tells.told) in
-      (tells.told, in-turn, λ records. between-replied records script (sent_between sent) (printed_turns records sent.word sent.over sent.turns tells.told (world_then (sent_between sent))) s.read (lines records))
+      let lines : (records : HeldRecords) → printed_by records (lines_sent sent) (world_then (sent_between sent)) (askings_then (sent_between sent)) ≡ printed_turns records sent.word sent.over sent.turns tells.told (world_then (sent_between sent)) (askings_then (sent_between sent)) = λ records.
+      let askings = askings_then (sent_between sent) in
+      printed-placed sent.word (world_then (sent_between sent)) sent.number sent.world place records sent.turns askings
+      ∙ tells.lines records askings
+      ∙ sym (turns-placed sent.word (world_then (sent_between sent)) sent.number sent.world place records sent.over sent.turns tells.told askings) in
+      (tells.told, in-turn, λ records. between-replied records script (sent_between sent) (printed_turns records sent.word sent.over sent.turns tells.told (world_then (sent_between sent)) (askings_then (sent_between sent))) s.read (lines records))
 
   left-by : (over : Option EndReason) → LeavesWith hub sent.number sent.word core (messages_sent sent) (world_behind (sent_between sent)) over → IsOverWith hub core over (messages_sent sent).0 → LeavesPeer sent over
   left-by None l ends =

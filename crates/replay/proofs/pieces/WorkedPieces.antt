@@ -10,12 +10,14 @@ use Rattle.dsosession.specs.declared.session.EndReason.TheVariants as ends
 use Rattle.pushsession.specs.Sessions.{new_session}
 use Rattle.pushserver.specs.PlainHubs.{plain_keeps}
 use Rattle.pushserver.specs.Hubs.{connect}
+use Rattle.hubasking.specs.LinkAskings.{Askings}
 use Rattle.scripts.specs.Lines.{ScriptLine, silent, zone, head_line, hub_event, send}
 use Rattle.scripts.specs.declared.line.HubEvent.TheVariants as hub_events
 use Rattle.scripts.specs.Scripts.{nothing_known, lines_from, client_words, lines_read}
 use Rattle.replay.specs.World.{World, start_world}
 use Rattle.replay.specs.TextWords.{by_notices}
 use Rattle.replay.specs.Text.{world_after}
+use Rattle.replay.specs.Askings.{lines_asks, start_askings}
 use Rattle.replay.specs.ScriptPieces.{Turn, SentInPieces, sent_between, answered_to_first, SendsPieces, printed_turns}
 use Rattle.replay.specs.Between.{lines_of}
 use Rattle.replay.proofs.worlds.ClientOutputs.{all_octets}
@@ -32,9 +34,12 @@ before = head_line (zone (name (codes "example.com.")) 1 true) ∷ []
 abbrev turns : List Turn
 turns = (take 7 frame_sent, silent ∷ hub_event hub_events.Point ∷ send (codes "q") (take 3 frame_sent) ∷ []) ∷ (drop 7 frame_sent, []) ∷ []
 
--- the world behind the zone, and that with the peer's session
+-- the world behind the zone, what links are asked there, and the world with the peer's session
 abbrev earlier : World
 earlier = world_after before (start_world before)
+
+abbrev asked : Askings
+asked = lines_asks before (start_world before) (start_askings before)
 
 abbrev connected : World
 connected = record earlier { hub = (connect earlier.hub).1; peers = (codes "p", 0) ∷ [] }
@@ -82,7 +87,7 @@ both_told : (answered_to_first 2 sent).0 ≡ answers
 both_told = refl
 
 -- the line of the other peer stands between these two, behind the point
-printed : printed_turns by_notices (codes "p") None turns ([] ∷ answers ∷ []) earlier ≡ codes "bytes p -" ∷ codes "point 0 0" ∷ codes "bytes q -" ∷ (codes "bytes p " ++ answers_text) ∷ []
+printed : printed_turns by_notices (codes "p") None turns ([] ∷ answers ∷ []) earlier asked ≡ codes "bytes p -" ∷ codes "point 0 0" ∷ codes "bytes q -" ∷ (codes "bytes p " ++ answers_text) ∷ []
 unfolding digits
 printed = refl
 
@@ -110,6 +115,6 @@ sends_short = record {
 }
 
 -- nothing is told of its octets, and the end behind the second
-printed_short : printed_turns by_notices (codes "p") (Some ends.Short) short_turns ([] ∷ [] ∷ []) earlier ≡ codes "bytes p -" ∷ codes "point 0 0" ∷ codes "bytes p -" ∷ codes "end p short" ∷ []
+printed_short : printed_turns by_notices (codes "p") (Some ends.Short) short_turns ([] ∷ [] ∷ []) earlier asked ≡ codes "bytes p -" ∷ codes "point 0 0" ∷ codes "bytes p -" ∷ codes "end p short" ∷ []
 unfolding digits
 printed_short = refl

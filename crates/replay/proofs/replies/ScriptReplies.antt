@@ -2,17 +2,16 @@
 use Rattle.std.proofs.Common.{◌≡◌, ℕ, List, Result, Ok, Err, length, sym, ◌∙◌, ap}
 use Rattle.scripts.specs.Lines.{ScriptLine}
 use Rattle.scripts.specs.Scripts.{lines_in, script_of}
-use Rattle.replay.specs.World.{World}
 use Rattle.replay.specs.TextWords.{HeldRecords, by_notices}
-use Rattle.replay.specs.Text.{printed_by, text_by, text_with, outside_text}
+use Rattle.replay.specs.ScriptTexts.{printed_by, text_by, text_with, outside_text}
 use Rattle.scripts.specs.Words.{ended_lines}
 use Rattle.scripts.specs.KeptScripts.{IsWhole, events_said}
-use Rattle.replay.specs.KeptScripts.{world_at_start}
+use Rattle.replay.specs.KeptScripts.{askings_at_start, world_at_start}
 use Rattle.scripts.specs.Reply.{Reply}
 use Rattle.replay.specs.ScriptReplies.{reply_to_script}
 use Rattle.replay.specs.Checks.{checked, good_text}
 use Rattle.scripts.specs.declared.script.Script.{Script}
-use Rattle.replay.proofs.worlds.Happening.{starts-so, prints-so}
+use Rattle.replay.proofs.worlds.Happening.{starts-so, asks-so, prints-so}
 
 -- the status and the text, by the lines
 abbrev pub told : HeldRecords → Result (List ScriptLine) ℕ → ℕ × List ℕ
@@ -21,13 +20,13 @@ told records (Err n) = (2, outside_text n)
 
 -- what the events of a script print
 abbrev pub text_said : Script → List ℕ
-text_said script = ended_lines (printed_by by_notices (events_said script) (world_at_start script))
+text_said script = ended_lines (printed_by by_notices (events_said script) (world_at_start script) (askings_at_start script))
 
 whole_text : (octets : List ℕ) (script : Script) → IsWhole octets script → text_with by_notices octets ≡ (0, text_said script)
 whole_text octets script whole =
     ap (told by_notices) whole.read
     ∙ ap (λ (lines : List (List ℕ)). (0, ended_lines lines)) (prints-so octets script whole)
-    ∙ ap (λ (world : World). (0, ended_lines (printed_by by_notices (events_said script) world))) (sym (starts-so octets script whole))
+    ∙ (λ i. (0, ended_lines (printed_by by_notices (events_said script) (sym (starts-so octets script whole) i) (sym (asks-so octets script whole) i))))
 
 -- the text of a script
 pub whole_reply : (octets text : List ℕ) (script : Script) → IsWhole octets script → text ≡ text_said script → record { status = 0; text = text } ≡ reply_to_script by_notices octets

@@ -12,6 +12,7 @@ use Rattle.rrset.specs.Rcodes.{servfail}
 use Rattle.rrset.specs.declared.record.Rr.{Rr}
 use Rattle.rrset.specs.declared.record.Key.{Key}
 use Rattle.dnswire.specs.declared.message.Update.{Update}
+use Rattle.dnsquery.specs.Replies.{reply_to}
 use Rattle.dsotlv.specs.Messages.{head_of, primary_data, messages_in}
 use Rattle.dsotlv.specs.Notices.{question_of, reconfirm_of}
 use Rattle.dsotlv.specs.TlvKinds.{reconfirm_tlv}
@@ -32,7 +33,7 @@ use Rattle.pushsession.specs.Subscribing.{answered}
 use Rattle.pushsession.specs.Reactions.{restarted_by, by_itself}
 use Rattle.pushserver.specs.PlainHubs.{Session, Subscription, Made, Hub}
 use Rattle.pushserver.specs.Hubs.{now, state_now, keeps_now, tells_now, session_of, can_enter}
-use Rattle.pushserver.specs.Giving.{has_home, reacted, after_reaction, give}
+use Rattle.pushserver.specs.Giving.{has_home, known_at, reacted, after_reaction, give}
 use Rattle.replay.specs.PassedOctets.{Emitted, emitted, exchanged, nothing_emitted, enough}
 use Rattle.replay.proofs.turns.ZoneSizes.{IsBounded}
 
@@ -103,6 +104,10 @@ module _ (hub : Hub) where
   abbrev pub subscribing : List ℕ → Session → Session
   subscribing message s = (let question = question_of (primary_data message) in answered (keeps_now hub) (tells_now hub) (now hub) (id_of message) question (has_home hub question) s)
 
+  -- a query is answered with its reply
+  abbrev pub replying : List ℕ → Session → Session
+  replying message s = answers_with (reply_to (known_at (state_now hub)) message) s
+
   -- a reaction that needs nothing of the server
   abbrev pub reacting : Reaction → List ℕ → Session → Session
   reacting reaction message s = by_itself (keeps_now hub) reaction hub.timers (now hub) message s
@@ -111,6 +116,7 @@ module _ (hub : Hub) where
   turned_by reactions.Subscribe message core = left_as (subscribing message (silent core))
   turned_by reactions.Reconfirm message core = by_record core (reconfirm_of (primary_data message))
   turned_by reactions.Update message core = by_verdict message core (verdict (state_now hub) message)
+  turned_by reactions.Query message core = left_as (replying message (silent core))
   turned_by (reactions.Answer rcode) message core = left_as (reacting (reactions.Answer rcode) message (silent core))
   turned_by reactions.Grant message core = left_as (reacting reactions.Grant message (silent core))
   turned_by (reactions.Abort reason) message core = left_as (reacting (reactions.Abort reason) message (silent core))
@@ -173,7 +179,7 @@ TurnsAsTold = (hub : Hub) (number : ℕ) (later : Hub) (message : List ℕ) (cor
 abbrev pub IsFew : Turned → Type 0
 IsFew None = Unit {0}
 IsFew (Some (inl reason)) = Unit {0}
-IsFew (Some (inr left)) = length left.1 ≤ 2000000
+IsFew (Some (inr left)) = length left.1 ≤ 20000000
 
 abbrev pub WritesFew : Type 0
 WritesFew = (hub : Hub) (message : List ℕ) (core : Core) → IsBounded (state_now hub) → IsFew (turned hub message core)

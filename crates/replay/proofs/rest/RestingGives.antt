@@ -71,7 +71,7 @@ not_zero budget n h = ne_eqb budget 0 (omega (arith, h))
 module _ (hub : Hub) (number : ℕ) where
   -- calls of give, from a session at rest with this input, write what it writes behind what was written
   abbrev pub Emits : List ℕ → Type 0
-  Emits input = (turns budget : ℕ) (so_far : Emitted) (core : Core) → At hub number so_far.hub (resting core input []) → so_far.over ≡ None → length input < turns → 2000000 * length input < budget
+  Emits input = (turns budget : ℕ) (so_far : Emitted) (core : Core) → At hub number so_far.hub (resting core input []) → so_far.over ≡ None → length input < turns → 20000000 * length input < budget
       → EmittedAs hub number (messages_in input).1 (emitted turns number budget so_far) (option_map (behind_octets so_far.octets) (ran hub (messages_in input).0 core))
 
   -- no message is whole
@@ -80,7 +80,7 @@ module _ (hub : Hub) (number : ℕ) where
   emits-none input e (suc turns) budget so_far core a live few fits =
       let g = did Nothing (in_session number (packing so_far.hub) so_far.hub) in
       let once : emitted (suc turns) number budget so_far ≡ with_giving g number so_far =
-      emitted-turn turns number budget so_far (not_zero budget (2000000 * length input) fits) g (give-nothing number budget so_far.hub core input a.there e) in
+      emitted-turn turns number budget so_far (not_zero budget (20000000 * length input) fits) g (give-nothing number budget so_far.hub core input a.there e) in
       let all : Ran = record { octets = so_far.octets ++ []; over = None; core = core } in
       let is : EmittedAs hub number input (with_giving g number so_far) (Some all) = record { octets = refl; over = live; at = at-in_session hub number so_far.hub (resting core input []) (packing so_far.hub) a } in
       subst (λ (x : Split). EmittedAs hub number x.1 (emitted (suc turns) number budget so_far) (option_map (behind_octets so_far.octets) (ran hub x.0 core))) (sym (none_found input e))
@@ -101,7 +101,7 @@ module _ (hub : Hub) (number : ℕ) where
     -- one call that reacted to a message, and the calls for what is left
     module _ (left : List ℕ) (further : Emits left) (turns budget : ℕ) (so_far : Emitted) (core : Core) (later : Hub)
         (some : (budget == 0) ≡ false) (gives : give so_far.hub number budget ≡ after_reaction number budget later) (live : so_far.over ≡ None)
-        (few : length left < turns) (fits : 2000000 * length left + 2000000 < budget) where
+        (few : length left < turns) (fits : 20000000 * length left + 20000000 < budget) where
       abbrev Emitting : Option Ran → Type 0
       Emitting o = EmittedAs hub number (messages_in left).1 (emitted (suc turns) number budget so_far) (option_map (behind_octets so_far.octets) o)
 
@@ -121,7 +121,7 @@ module _ (hub : Hub) (number : ℕ) where
           subst (λ (x : Emitted). EmittedAs hub number (messages_in left).1 x (Some all)) (sym (once (did (End reason) later) (give-ended hub number budget later reason o))) is
 
       -- behind octets that were written, or none
-      emits-wrote : (next : Core) (octets : List ℕ) → At hub number later (resting next left octets) → length octets ≤ 2000000 → Emitting (option_map (behind_octets octets) (ran hub (messages_in left).0 next))
+      emits-wrote : (next : Core) (octets : List ℕ) → At hub number later (resting next left octets) → length octets ≤ 20000000 → Emitting (option_map (behind_octets octets) (ran hub (messages_in left).0 next))
       emits-wrote next octets a small =
           subst (λ (x : Emitted). EmittedAs hub number (messages_in left).1 x (option_map (behind_octets so_far.octets) (option_map (behind_octets octets) others))) (sym (once (wrote number budget later octets) (give-wrote number budget later next left octets a.there (omega (arith, small, fits)))))
           (subst (λ (o : Option Ran). EmittedAs hub number (messages_in left).1 (after_turn turns number budget so_far (wrote number budget later octets)) o) (sym (behind-behind so_far.octets octets others)) (by octets a small))
@@ -129,7 +129,7 @@ module _ (hub : Hub) (number : ℕ) where
           others : Option Ran
           others = ran hub (messages_in left).0 next
 
-          by : (octets : List ℕ) → At hub number later (resting next left octets) → length octets ≤ 2000000
+          by : (octets : List ℕ) → At hub number later (resting next left octets) → length octets ≤ 20000000
               → EmittedAs hub number (messages_in left).1 (after_turn turns number budget so_far (wrote number budget later octets)) (option_map (behind_octets (so_far.octets ++ octets)) (ran hub (messages_in left).0 next))
           by [] a small = further turns budget (record (with_giving (did Worked later) number so_far) { reacted = true }) next a live few (omega (arith, fits))
           by (o ∷ os) a small =
@@ -155,7 +155,7 @@ module _ (turns-as-told : TurnsAsTold) (writes-few : WritesFew) (stays-longer : 
         let later = in_session number (without_first left) so_far.hub in
         subst (λ (x : Split). EmittedAs hub number x.1 (emitted (suc turns) number budget so_far) (option_map (behind_octets so_far.octets) (ran hub x.0 core))) (sym (one_by_one input message left e))
         (emits-reaction hub number (stays-longer hub) left further turns budget so_far core (reacted message number later)
-        (not_zero budget (2000000 * length input) fits) (give-resting number budget so_far.hub core input (Some (message, left)) a.there e) live
+        (not_zero budget (20000000 * length input) fits) (give-resting number budget so_far.hub core input (Some (message, left)) a.there e) live
         (omega (arith, few, shorter)) (omega (arith, fits, shorter))
         (turned hub message core) (turns-as-told hub number later message core left taken) (writes-few hub message core bounded))
 

@@ -31,7 +31,7 @@ use Rattle.pushserver.specs.PlainHubs.{Session, Subscription, Queue, Hub, plain_
 use Rattle.pushserver.specs.Hubs.{newest, now, state_now, keeps_now, tells_now, session_of, in_session, entered_keeping, can_enter}
 use Rattle.pushserver.specs.Giving.{has_home, reconfirms, by_request, reacted}
 use Rattle.pushserver.proofs.hub_steps.Cases.{ends_as, enters_update, update_as, key_as, session_as, request_as, itself_as}
-use Rattle.replay.proofs.rest.AtRest.{Core, resting, core_of, silent, Turned, enters, ends_for, goes_on, left_as, answers_with, by_shown, by_record, by_verdict, subscribing, reacting, turned_by, listening, by_head, turned, with_sessions, At, Follows, TurnsAsTold}
+use Rattle.replay.proofs.rest.AtRest.{Core, resting, core_of, silent, Turned, enters, ends_for, goes_on, left_as, answers_with, by_shown, by_record, by_verdict, subscribing, replying, reacting, turned_by, listening, by_head, turned, with_sessions, At, Follows, TurnsAsTold}
 use Rattle.replay.proofs.rest.RestingHubs.{at-in_session}
 
 -- from an empty queue no name goes
@@ -81,6 +81,7 @@ module _ (hub : Hub) (number : ℕ) (input : List ℕ) where
       (none-goes (newest hub) ((keeps_now hub).question_of id core.subscriptions) left) at
   reacting-alike reactions.Reconfirm message core later at = at
   reacting-alike reactions.Update message core later at = at
+  reacting-alike reactions.Query message core later at = at
   reacting-alike reactions.NotImplemented message core later at = at
 
   subscribing-alike : (message : List ℕ) (core : Core) → Alike (subscribing hub message) core
@@ -137,6 +138,7 @@ module _ (hub : Hub) (number : ℕ) (input : List ℕ) where
     reaction-turns reactions.Subscribe message is = subscribing-alike message core (in_session number (subscribing hub message) here) (changed (subscribing hub message))
     reaction-turns reactions.Reconfirm message is = reconfirming (reconfirm_of (primary_data message))
     reaction-turns reactions.Update message is = updating message (verdict (state_now hub) message)
+    reaction-turns reactions.Query message is = changed (replying hub message)
     reaction-turns (reactions.Answer rcode) message is = itself (reactions.Answer rcode) message is
     reaction-turns reactions.Grant message is = itself reactions.Grant message is
     reaction-turns (reactions.Abort reason) message is = itself (reactions.Abort reason) message is

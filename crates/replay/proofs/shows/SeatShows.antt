@@ -12,7 +12,7 @@ use Rattle.push_base.specs.Limits.{max_number}
 use Rattle.rrset.specs.RecordSet.{RecordSet}
 use Rattle.rrset.specs.declared.record.Question.{Question}
 use Rattle.pushserver.specs.PlainHubs.{Hub}
-use Rattle.pushserver.specs.KeptHubs.{KeptHub}
+use Rattle.hubasking.specs.AskingHubs.{AskingHub}
 use Rattle.pushclient.specs.Clients.{Client, Wish, RequestState, not_asked, unanswered, refused, answered, Held, off, asked_only, refused_with, set_held, held_as, held, wish_for, is_connected, id_asked, id_of}
 use Rattle.pushclient.specs.Rule.{StandsFor}
 use Rattle.pushclient.specs.Kept.{IsHeld}
@@ -158,10 +158,10 @@ shows-set kept showing rows text holds law hub seat stands = law hub seat stands
 
 -- ---- the line
 
-pub shows-act : (kept : KeptHub) (known : Parties) (showing : Showing) (place : ℕ) (k : KeptSeat) (told : List ℕ) → position (has_word showing.word) known.seats ≡ Some place → k ≡ get_or known.seats place k → ShowsSeat k showing told
-    → Acts (shows by_notices showing.word showing.question showing.written) kept known told kept known
+pub shows-act : (kept : AskingHub) (known : Parties) (showing : Showing) (place : ℕ) (k : KeptSeat) (told : List ℕ) → position (has_word showing.word) known.seats ≡ Some place → k ≡ get_or known.seats place k → ShowsSeat k showing told
+    → Acts (shows by_notices showing.word showing.question showing.written) (λ world. []) kept known told kept known
 unfolding Acts ShowsSeat
 shows-act kept known showing place k told at there law world s d =
     let p : IsSeated showing.word known.seats place world = is-seated showing.word known.seats world place s.seats at in
-    subst (λ (o : Option Seat). HasPrinted kept known told (shows_by by_notices showing.word showing.question showing.written world o)) (sym p.found)
-    (record { text = law world.hub p.seat (p.here k there); stands = s })
+    subst (λ (o : Option Seat). HasPrinted kept.askings kept known told (shows_by by_notices showing.word showing.question showing.written world o)) (sym p.found)
+    (record { text = law world.hub p.seat (p.here k there); stands = s; asks = refl })

@@ -15,10 +15,13 @@ use Rattle.scripts.specs.Lines.{ScriptLine}
 use Rattle.scripts.specs.Scripts.{script_of}
 use Rattle.replay.specs.World.{World, start_world}
 use Rattle.replay.specs.TextWords.{HeldRecords, by_history}
-use Rattle.replay.specs.Text.{line_does, printed_by, text_by, world_after}
+use Rattle.replay.specs.Text.{line_does, world_after}
+use Rattle.hubasking.specs.LinkAskings.{Askings}
+use Rattle.replay.specs.Askings.{asked_lines, line_asks, lines_asks}
+use Rattle.replay.specs.ScriptTexts.{printed_by, text_by}
 use Rattle.scripts.specs.Words.{ended_lines}
 use Rattle.replay.specs.ScriptReplies.{reply_to_script}
-use Rattle.replay.specs.Between.{Between, lines_of, world_start, world_then, world_behind, reply_between}
+use Rattle.replay.specs.Between.{Between, lines_of, world_start, world_then, world_behind, askings_start, askings_then, askings_behind, reply_between}
 use Rattle.replay.proofs.worlds.OneWorld.{one-world}
 use Rattle.replay.proofs.worlds.BoundedHeads.{bounded-script}
 use Rattle.replay.proofs.worlds.Numbers.{IsFrom, from-lines}
@@ -33,14 +36,19 @@ lines-append [] ys = refl
 lines-append (x ∷ xs) ys = ap (λ (rest : List ℕ). (x ++ 10 ∷ []) ++ rest) (lines-append xs ys) ∙ sym (append_assoc (x ++ 10 ∷ []) (ended_lines xs) (ended_lines ys))
 
 -- so is what they print
-pub printed-append : (records : HeldRecords) (before behind : List ScriptLine) (world : World) → printed_by records (before ++ behind) world ≡ printed_by records before world ++ printed_by records behind (world_after before world)
-printed-append records [] behind world = refl
-printed-append records (l ∷ ls) behind world =
+pub printed-append : (records : HeldRecords) (before behind : List ScriptLine) (world : World) (askings : Askings)
+    → printed_by records (before ++ behind) world askings ≡ printed_by records before world askings ++ printed_by records behind (world_after before world) (lines_asks before world askings)
+printed-append records [] behind world askings = refl
+printed-append records (l ∷ ls) behind world askings =
     let one = line_does records l world in
-    let told = one.1 ++ printed_by records ls one.0 in
-    ap (λ (rest : List (List ℕ)). one.1 ++ rest) (printed-append records ls behind one.0)
-    ∙ sym (append_assoc one.1 (printed_by records ls one.0) (printed_by records behind (world_after ls one.0)))
-    ∙ ap (λ (later : World). told ++ printed_by records behind (world_after ls later)) (one-world records l world)
+    let asked = asked_lines l world askings in
+    let then = line_asks l world askings in
+    let first = printed_by records ls one.0 then in
+    let rest : World → List (List ℕ) = λ later. printed_by records behind (world_after ls later) (lines_asks ls later then) in
+    ap (λ (lines : List (List ℕ)). one.1 ++ (asked ++ lines)) (printed-append records ls behind one.0 then)
+    ∙ ap (λ (lines : List (List ℕ)). one.1 ++ lines) (sym (append_assoc asked first (rest one.0)))
+    ∙ sym (append_assoc one.1 (asked ++ first) (rest one.0))
+    ∙ ap (λ (later : World). (one.1 ++ (asked ++ first)) ++ rest later) (one-world records l world)
 
 -- the world behind both parts
 pub after-append : (before behind : List ScriptLine) (world : World) → world_after (before ++ behind) world ≡ world_after behind (world_after before world)
@@ -84,16 +92,16 @@ reply-is records script lines text read is =
     ∙ ap (λ (t : List ℕ). record { status = 0; text = t }) is
 
 -- so it is with the lines before, some lines, and the lines behind
-pub between-replied : (records : HeldRecords) (script : List ℕ) (between : Between) (told : List (List ℕ)) → script_of script ≡ Ok (lines_of between) → printed_by records between.lines (world_then between) ≡ told
+pub between-replied : (records : HeldRecords) (script : List ℕ) (between : Between) (told : List (List ℕ)) → script_of script ≡ Ok (lines_of between) → printed_by records between.lines (world_then between) (askings_then between) ≡ told
     → reply_to_script records script ≡ reply_between records between told
 between-replied records script between told read is = reply-is records script (lines_of between) (reply_between records between told).text read (
-    ap ended_lines (printed-append records between.before (between.lines ++ between.behind) (world_start between))
-    ∙ lines-append front (printed_by records (between.lines ++ between.behind) (world_then between))
-    ∙ ap (λ (lines : List (List ℕ)). ended_lines front ++ ended_lines lines) (printed-append records between.lines between.behind (world_then between) ∙ ap (λ (lines : List (List ℕ)). lines ++ back) is)
+    ap ended_lines (printed-append records between.before (between.lines ++ between.behind) (world_start between) (askings_start between))
+    ∙ lines-append front (printed_by records (between.lines ++ between.behind) (world_then between) (askings_then between))
+    ∙ ap (λ (lines : List (List ℕ)). ended_lines front ++ ended_lines lines) (printed-append records between.lines between.behind (world_then between) (askings_then between) ∙ ap (λ (lines : List (List ℕ)). lines ++ back) is)
     ∙ ap (λ (rest : List ℕ). ended_lines front ++ rest) (lines-append told back))
   where
     front : List (List ℕ)
-    front = printed_by records between.before (world_start between)
+    front = printed_by records between.before (world_start between) (askings_start between)
 
     back : List (List ℕ)
-    back = printed_by records between.behind (world_behind between)
+    back = printed_by records between.behind (world_behind between) (askings_behind between)

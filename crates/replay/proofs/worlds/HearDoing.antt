@@ -8,11 +8,17 @@ use Rattle.std.proofs.lemmas.List.{length-map}
 use Rattle.std.specs.Str.{bytes_eq}
 use Rattle.pushserver.specs.Hubs as hubs
 use Rattle.pushserver.specs.PlainHubs.{Hub}
-use Rattle.pushserver.specs.KeptHubs.{KeptHub, StandsFor}
+use Rattle.pushserver.specs.Calls as hub_calls
+use Rattle.pushserver.specs.Calls.{HubCall}
+use Rattle.hubasking.specs.AskingHubs.{AskingHub}
 use Rattle.pushserver.specs.declared.given.Heard.{Heard}
 use Rattle.scripts.specs.Lines.{Word}
 use Rattle.replay.specs.World.{World}
-use Rattle.replay.specs.Text.{Printed, printing, heard_words, hears, goes, number_or_zero, yes_or_no}
+use Rattle.scripts.specs.declared.line.LinkEvent.TheVariants as link_events
+use Rattle.replay.specs.Text.{Printed, printing, heard_words, hears, goes, number_or_zero, yes_or_no, link_calls}
+use Rattle.replay.specs.Askings.{calls_asks}
+use Rattle.replay.specs.KeptAskings.{StandsFor}
+use Rattle.replay.proofs.calls.Behind.{AsksOnce}
 use Rattle.scripts.specs.Events.{link_at}
 use Rattle.scripts.specs.KeptLines.{words_of}
 use Rattle.scripts.specs.Words.{spaced, ended_lines}
@@ -24,18 +30,19 @@ use Rattle.replay.proofs.worlds.Doing.{one_line, worded, with_hub}
 abbrev heard_on : List ℕ → World → ℕ → Printed
 heard_on datagram world link = (let r = hubs.hear world.hub link datagram in printing (heard_words r.0 ∷ []) (record world { hub = r.1 }))
 
-pub hears-act : (kept later : KeptHub) (known : Parties) (w : Word) (link : ℕ) (datagram written : List ℕ) (answer : Heard)
+pub hears-act : (kept later : AskingHub) (known : Parties) (w : Word) (link : ℕ) (datagram written : List ℕ) (answer : Heard)
     → link ≡ number_or_zero (position (bytes_eq w) known.links)
     → ((hub : Hub) → StandsFor kept hub → (answer ≡ (hubs.hear hub link datagram).0) × StandsFor later (hubs.hear hub link datagram).1)
-    → written ≡ heard_words answer ++ 10 ∷ [] → Acts (hears w datagram) kept known written later known
+    → AsksOnce (hub_calls.hears link datagram) kept later → written ≡ heard_words answer ++ 10 ∷ [] → Acts (hears w datagram) (link_calls (link_events.Hear datagram) w) kept known written later known
 unfolding Acts
-hears-act kept later known w link datagram written answer at does is world s d =
+hears-act kept later known w link datagram written answer at does asks is world s d =
     let r = does world.hub s.hub in
     let there : link ≡ number_or_zero (position (bytes_eq w) world.links) = at ∙ ap (λ (ls : List Word). number_or_zero (position (bytes_eq w) ls)) s.links in
-    subst (λ (n : ℕ). HasPrinted later known written (heard_on datagram world n)) there
+    subst (λ (n : ℕ). HasPrinted (calls_asks (hub_calls.hears n datagram ∷ []) world.hub kept.askings) later known written (heard_on datagram world n)) there
     (record {
       text = is ∙ one_line (heard_words answer) ∙ ap (λ (a : Heard). ended_lines (heard_words a ∷ [])) r.0;
       stands = with_hub later (hubs.hear world.hub link datagram).1 kept known world s r.1;
+      asks = asks world.hub s.hub;
     })
 
 -- ---- a link that goes away
@@ -47,18 +54,19 @@ gone_on w world link = (let r = hubs.link_gone world.hub link in printing (codes
 abbrev pub gone_written : Word → Bool → List ℕ
 gone_written w is_gone = codes "gone " ++ (w ++ 32 ∷ (yes_or_no is_gone ++ 10 ∷ []))
 
-pub goes-act : (kept later : KeptHub) (known : Parties) (w : Word) (link : ℕ) (written : List ℕ) (answer : Bool)
+pub goes-act : (kept later : AskingHub) (known : Parties) (w : Word) (link : ℕ) (written : List ℕ) (answer : Bool)
     → link ≡ number_or_zero (position (bytes_eq w) known.links)
     → ((hub : Hub) → StandsFor kept hub → (answer ≡ (hubs.link_gone hub link).0) × StandsFor later (hubs.link_gone hub link).1)
-    → written ≡ gone_written w answer → Acts (goes w) kept known written later known
+    → AsksOnce (hub_calls.goes link) kept later → written ≡ gone_written w answer → Acts (goes w) (link_calls link_events.Gone w) kept known written later known
 unfolding Acts
-goes-act kept later known w link written answer at does is world s d =
+goes-act kept later known w link written answer at does asks is world s d =
     let r = does world.hub s.hub in
     let there : link ≡ number_or_zero (position (bytes_eq w) world.links) = at ∙ ap (λ (ls : List Word). number_or_zero (position (bytes_eq w) ls)) s.links in
-    subst (λ (n : ℕ). HasPrinted later known written (gone_on w world n)) there
+    subst (λ (n : ℕ). HasPrinted (calls_asks (hub_calls.goes n ∷ []) world.hub kept.askings) later known written (gone_on w world n)) there
     (record {
       text = is ∙ worded (codes "gone ") w (yes_or_no answer) ∙ one_line (codes "gone " ++ (w ++ 32 ∷ yes_or_no answer)) ∙ ap (λ (b : Bool). ended_lines (spaced (codes "gone" ∷ w ∷ yes_or_no b ∷ []) ∷ [])) r.0;
       stands = with_hub later (hubs.link_gone world.hub link).1 kept known world s r.1;
+      asks = asks world.hub s.hub;
     })
 
 -- ---- the word of the link of a number

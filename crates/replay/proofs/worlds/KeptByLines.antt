@@ -13,7 +13,7 @@ use Rattle.pushserver.specs.PlainHubs.{Hub}
 use Rattle.pushserver.specs.Calls.{updates, moves}
 use Rattle.pushserver.specs.Hubs.{taken_by, now}
 use Rattle.pushserver.proofs.session_steps.Lists.{found-each}
-use Rattle.pushserver.proofs.Walks.{AnyMessage, BringsGood, IsKept, keeps-called, with_new}
+use Rattle.pushserver.proofs.Walks.{AnyMessage, BringsGood, IsKept, keeps-called, keeps-calls, with_new}
 use Rattle.pushclient.specs.Clients.{Client, new_client, subscribe, unsubscribe, reconfirm as doubt, closed_as, connected, cut as cut_client, give_octets, output_of}
 use Rattle.pushclient.specs.Steps as steps
 use Rattle.scripts.specs.Lines.{Word, ScriptLine, silent, head_line, joining, hub_event, link_event, client_call, client_passing, client_event, session_event}
@@ -30,7 +30,7 @@ use Rattle.scripts.specs.declared.line.SessionEvent.TheVariants as session_event
 use Rattle.replay.specs.World.{Seat, World, seat_of, with_seat, with_client, joined, session_number, hub_without, stopped_hub, cut_connection, cut_peer, new_seat, cut_seat, is_over, world_cut_if}
 use Rattle.replay.specs.PassedOctets.{enough, max_wire, to_client, reached_by}
 use Rattle.replay.specs.TextWords.{by_history}
-use Rattle.replay.specs.Text.{Printed, feeds, timed, called, asks, opens, exchanges, sends, cuts, session_of_word, line_does, link_call, hub_does, client_does, session_does, world_after, seated, passes_way, passes}
+use Rattle.replay.specs.Text.{Printed, feeds, timed, called, asks, opens, exchanges, sends, cuts, session_of_word, line_does, link_calls, hub_does, client_does, session_does, world_after, seated, passes_way, passes}
 use Rattle.replay.proofs.worlds.OneWorld.{shows-leave}
 use Rattle.replay.proofs.worlds.FedSeats.{fed, fed_over}
 use Rattle.replay.proofs.worlds.Keeping.{InParts, exchanged-keeps, give-keeps}
@@ -86,9 +86,10 @@ pub any-ready : (world : World) → AreReady AnyMessage AnyClient world
 any-ready world = any-seats world.seats
 
 -- an event on a link brings what its line sends
-pub link-brings : (Good : List ℕ → Type 0) (event : LinkEvent) (w : Word) (world : World) → AllByRecursion Good (sent_by (link_event w event)) → BringsGood Good (link_call event w world)
-link-brings Good (link_events.Hear datagram) w world q = q.0
-link-brings Good link_events.Gone w world q = tt
+pub link-brings : (Good : List ℕ → Type 0) (event : LinkEvent) (w : Word) (world : World) → AllByRecursion Good (sent_by (link_event w event)) → AllByRecursion (BringsGood Good) (link_calls event w world)
+link-brings Good (link_events.Hear datagram) w world q = (q.0, tt)
+link-brings Good link_events.Gone w world q = (tt, tt)
+link-brings Good link_events.Asks w world q = tt
 
 module _ (Good : List ℕ → Type 0) (P : Hub → Type 0) (kept : IsKept Good P) (parts : InParts Good) (C : Client → Type 0) (clients : KeepsClients Good C) where
   abbrev Ready : Seat → Type 0
@@ -231,7 +232,7 @@ module _ (Good : List ℕ → Type 0) (P : Hub → Type 0) (kept : IsKept Good P
   keeps-line (head_line line) world q h = h
   keeps-line (joining w is_lone) world q h = keeps-seated w is_lone world h
   keeps-line (hub_event event) world q h = keeps-hub event world q h
-  keeps-line (link_event w event) world q h = record { hub = keeps-called Good P kept (link_call event w world) world.hub (link-brings Good event w world q) h.hub; seats = h.seats }
+  keeps-line (link_event w event) world q h = record { hub = keeps-calls Good P kept (link_calls event w world) world.hub (link-brings Good event w world q) h.hub; seats = h.seats }
   keeps-line (client_call w call) world q h = keeps-asks call w world q h
   keeps-line (client_passing w way) world q h = keeps-passes way w world h
   keeps-line (client_event w event) world q h = keeps-client event w world h

@@ -14,14 +14,16 @@ use Rattle.history.proofs.Positions.{position-cons}
 use Rattle.history.proofs.Positions.{position-map}
 use Rattle.dsosession.specs.declared.session.CloseReason.{CloseReason}
 use Rattle.pushserver.specs.PlainHubs.{Hub}
-use Rattle.pushserver.specs.KeptHubs as hubs
-use Rattle.pushserver.specs.KeptHubs.{KeptHub}
+use Rattle.hubasking.specs.AskingHubs.{AskingHub}
 use Rattle.pushclient.specs.Clients.{Client, is_connected, connected, cut}
 use Rattle.pushclient.specs.Steps.{moment}
 use Rattle.pushclient.specs.Rule.{KeptClient, StandsFor}
 use Rattle.scripts.specs.Lines.{Word}
 use Rattle.replay.specs.World.{Seat, World, seat_of, with_seat, cut_seat, hub_without, with_client, joined, is_over, cut_if}
 use Rattle.replay.specs.declared.seats.Seat as program
+use Rattle.replay.specs.LineCalls.{end_calls}
+use Rattle.replay.specs.KeptAskings as hubs
+use Rattle.replay.specs.KeptAskings.{AsksAfter}
 use Rattle.replay.specs.KeptWorlds.{KeptSeat, Seated, seat_kept, seated, StandsForSeat, StandForSeats, words_in}
 use Rattle.scripts.specs.Scripts.{AreDistinct}
 use Rattle.scripts.proofs.lines.SameWords.{same_word, word_itself, other_way}
@@ -305,18 +307,18 @@ cut-makes k after client is does = subst (Makes (λ s. Unit {0}) cut_seat k) (sy
 })
 
 -- its session is gone from the hub
-pub cuts-both : (hub later : KeptHub) (k after : KeptSeat) → ((plain : Hub) → hubs.StandsFor hub plain → hubs.StandsFor later (hub_without k.session plain)) → Makes (λ s. Unit {0}) cut_seat k after → Makes (HasCut hub later) cut_seat k after
+pub cuts-both : (hub later : AskingHub) (k after : KeptSeat) → ((plain : Hub) → hubs.StandsFor hub plain → hubs.StandsFor later (hub_without k.session plain) × AsksAfter (end_calls k.session) plain hub.askings later.askings) → Makes (λ s. Unit {0}) cut_seat k after → Makes (HasCut hub later) cut_seat k after
 cuts-both hub later k after ends m = record {
   word = m.word;
-  answer = λ seat s plain stands. subst (λ (o : Option ℕ). hubs.StandsFor later (hub_without o plain)) s.session (ends plain stands);
+  answer = λ seat s plain stands. subst (λ (o : Option ℕ). hubs.StandsFor later (hub_without o plain) × AsksAfter (end_calls o) plain hub.askings later.askings) s.session (ends plain stands);
   stands = m.stands;
 }
 
-module _ (t : ℕ) (hub : KeptHub) (k : KeptSeat) (client : KeptClient) (closing : Option CloseReason) (does : (plain : Client) → StandsFor k.client plain → StandsFor client (moment plain t)) where
+module _ (t : ℕ) (hub : AskingHub) (k : KeptSeat) (client : KeptClient) (closing : Option CloseReason) (does : (plain : Client) → StandsFor k.client plain → StandsFor client (moment plain t)) where
   abbrev timed_first : Makes (Answers (λ c. Unit {0})) (with_client (λ c. moment c t)) k (record k { client = client })
   timed_first = stays-makes (λ c. Unit {0}) (λ c. moment c t) k client (λ plain s. (tt, does plain s))
 
-  pub timed-makes : (later : KeptHub) (after : KeptSeat) → Makes (HasFinished None closing hub later) (cut_if (is_over None closing)) (record k { client = client }) after → Makes (HasTimed t closing hub later) (timed_seat t closing) k after
+  pub timed-makes : (later : AskingHub) (after : KeptSeat) → Makes (HasFinished None closing hub later) (cut_if (is_over None closing)) (record k { client = client }) after → Makes (HasTimed t closing hub later) (timed_seat t closing) k after
   timed-makes later after ends = record {
     word = ends.word;
     answer = λ seat s. (let a = ends.answer (with_client (λ c. moment c t) seat) (timed_first.stands seat s) in record { closes = a.closes; hub = a.hub });

@@ -19,7 +19,7 @@ use Rattle.pushsession.specs.Reactions.{reacts_itself, by_itself}
 use Rattle.pushserver.specs.Hubs.{SessionKind, HubOf, now, keeps_now, tells_now}
 use Rattle.pushserver.specs.Giving.{has_home}
 use Rattle.pushserver.proofs.hub_steps.Cases.{itself_as}
-use Rattle.pushserver.proofs.Walks.{Step, restarts, reacts, answers_subscribe, answers_update, packs_names, comes_to_stop, ends_with, copies_front}
+use Rattle.pushserver.proofs.Walks.{Step, restarts, reacts, answers_subscribe, answers_update, answers_query, packs_names, comes_to_stop, ends_with, copies_front}
 
 module _ {A Q M : Type 0} (keeps : Keeps A Q M) where
   itself-input : (reaction : Reaction) (timers : Timers) (t : ℕ) (message : List ℕ) (s : SessionOf A Q M) → (by_itself keeps reaction timers t message s).input ≡ s.input
@@ -30,6 +30,7 @@ module _ {A Q M : Type 0} (keeps : Keeps A Q M) where
   itself-input reactions.Unsubscribe timers t message s = refl
   itself-input reactions.Reconfirm timers t message s = refl
   itself-input reactions.Update timers t message s = refl
+  itself-input reactions.Query timers t message s = refl
   itself-input reactions.NotImplemented timers t message s = refl
 
   reacts-input : (timers : Timers) (t : ℕ) (message : List ℕ) (s : SessionOf A Q M) → (reacts_itself keeps timers t message s).input ≡ s.input
@@ -62,6 +63,7 @@ step-input {hub = hub} f (answers_subscribe message good) s =
     let question = question_of (primary_data message) in
     decided-input (keeps_now hub) (tells_now hub) (now hub) (id_of message) (verdict_on (keeps_now hub) (id_of message) question (has_home hub question) s.subscriptions) s
 step-input f (answers_update before message) s = refl
+step-input f (answers_query message good) s = refl
 step-input {hub = hub} f packs_names s = (let pack = (tells_now hub).packed s.subscriptions s.queue in notices-input (keeps_now hub) (now hub) pack.0 (record s { queue = pack.1 }))
 step-input {hub = hub} f (comes_to_stop rcode delay) s = by s.established
   where

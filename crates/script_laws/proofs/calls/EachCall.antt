@@ -31,11 +31,11 @@ use Rattle.scripts.specs.declared.line.SessionEvent.TheVariants as session_event
 use Rattle.replay.specs.World.{World, Seat, seat_of, session_number, is_over}
 use Rattle.replay.specs.PassedOctets as passing
 use Rattle.replay.specs.PassedOctets.{Passed, enough, max_wire, round, exchanged, fed_client}
-use Rattle.replay.specs.Text.{placed, passing_of, passes_way, session_of_word}
+use Rattle.replay.specs.Text.{placed, passing_of, passes_way, session_of_word, link_calls}
 use Rattle.replay.proofs.worlds.Keeping.{InParts}
 use Rattle.replay.proofs.worlds.KeptByLines.{KeepsClients, IsReady}
 use Rattle.script_laws.specs.Lines.{IsHubWithin, IsLinkWithin, IsSessionWithin, AreWithin}
-use Rattle.script_laws.specs.LineCalls.{up_calls, out_calls, round_calls, settle_calls, end_calls, cut_calls, passing_calls, of_seat, connect_calls, open_calls, timed_calls, feed_calls, place_calls, exchange_calls, exchanges_calls, send_calls, stop_calls, hub_calls, link_calls, way_calls, client_calls, session_calls, line_calls}
+use Rattle.replay.specs.LineCalls.{up_calls, out_calls, round_calls, settle_calls, end_calls, cut_calls, passing_calls, of_seat, connect_calls, open_calls, timed_calls, feed_calls, place_calls, exchange_calls, exchanges_calls, send_calls, stop_calls, hub_calls, way_calls, client_calls, session_calls, line_calls}
 use Rattle.script_laws.proofs.calls.Emitting.{all-emitted, all-exchanged}
 
 pub record HoldsOfCalls (P : HubCall → Type 0) (Good : List ℕ → Type 0) (Has : ℕ → Type 0) : Type 0 where
@@ -223,6 +223,7 @@ module _ (P : HubCall → Type 0) (Good : List ℕ → Type 0) (Has : ℕ → Ty
   link-each : (event : LinkEvent) (w : Word) (world : World) → IsLinkWithin event → Each (link_calls event w world)
   link-each (link_events.Hear datagram) w world is = (holds.hears _ datagram is.0, tt)
   link-each link_events.Gone w world is = (holds.goes _, tt)
+  link-each link_events.Asks w world is = tt
 
   client-each : (event : ClientEvent) (w : Word) (world : World) → Each (client_calls event w world)
   client-each client_events.Open w world = opens-each w world

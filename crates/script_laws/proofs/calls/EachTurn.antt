@@ -12,6 +12,7 @@ use Rattle.rrset.specs.declared.record.Question.{Question}
 use Rattle.rrset.specs.declared.record.Rr.{Rr}
 use Rattle.rrset.specs.declared.record.Key.{Key}
 use Rattle.dnswire.specs.declared.message.Update.{Update}
+use Rattle.dnsquery.specs.Replies.{reply_to}
 use Rattle.dsotlv.specs.Answers.{answer_to, answer_to_update, push_message}
 use Rattle.dsotlv.specs.Messages.{first_message, frame, head_of, primary_data}
 use Rattle.dsotlv.specs.Notices.{question_of, reconfirm_of}
@@ -37,7 +38,7 @@ use Rattle.pushserver.specs.declared.given.Given.{Given}
 use Rattle.pushserver.specs.declared.given.Given.TheVariants.{Worked}
 use Rattle.pushserver.specs.PlainHubs.{Hub, Session, Subscription, Made, Giving, asked_of, first_answer}
 use Rattle.pushserver.specs.Hubs.{now, state_now, newest, keeps_now, tells_now, session_of, in_session, behind_at, ended_behind, ends_behind, entered_keeping, entry_changes, can_enter, update}
-use Rattle.pushserver.specs.Giving.{has_home, copies_or, given_after, reconfirm, reconfirms, by_request, give, reacted, after_reaction}
+use Rattle.pushserver.specs.Giving.{has_home, known_at, copies_or, given_after, reconfirm, reconfirms, by_request, give, reacted, after_reaction}
 use Rattle.pushserver.specs.Calls.{HubCall, updates, hears, goes, moves, connects, takes, gives, stops, ends as ending, called, after_calls}
 use Rattle.pushserver.specs.Laws.{IsAcceptable}
 use Rattle.pushserver.proofs.SessionLists.{same-number, found-in, found-all}
@@ -275,6 +276,7 @@ module _ (number : ℕ) where
     says-itself reactions.Subscribe own at = absurd cc
     says-itself reactions.Reconfirm own at = absurd cc
     says-itself reactions.Update own at = absurd cc
+    says-itself reactions.Query own at = absurd cc
 
     -- ---- a SUBSCRIBE
 
@@ -401,6 +403,14 @@ module _ (number : ℕ) where
         (ap (λ (ms : List Made). ms ++ m ∷ []) is.fell.made) (ap (λ (os : List ℕ). os ++ frame m.message) is.fell.output)
         (record { standing = is.fell.standing; input = is.fell.input; established = is.fell.established; asks = is.fell.asks; history = refl })
 
+    -- ---- a query
+
+    says-query : Says number (in_session number (answers (keeps_now h) false (now h) (reply_to (known_at (state_now h)) message)) h) s (effect_by h s message reactions.Query)
+    says-query =
+        let f : Session → Session = answers (keeps_now h) false (now h) (reply_to (known_at (state_now h)) message) in
+        says-one (in_session number f h) s (f s) _ (effect_by h s message reactions.Query) refl (in-found h f s there) refl refl
+        (record { standing = refl; input = refl; established = refl; asks = refl; history = refl })
+
     -- ---- by the line of the table
 
     says-line : (r : Reaction) → (request_for r message ≡ requests.Itself → session_of later number ≡ Some (by_line r)) → Says number (by_request (request_for r message) number message h) s (effect_by h s message r)
@@ -412,6 +422,7 @@ module _ (number : ℕ) where
     says-line reactions.Subscribe own = says-subscribe (question_of (primary_data message))
     says-line reactions.Reconfirm own = says-reconfirm (reconfirm_of (primary_data message))
     says-line reactions.Update own = says-update
+    says-line reactions.Query own = says-query
 
     says-request : Says number (by_request (request_in message s.established) number message h) s (effect_of h s message)
     says-request = by (head_of message) refl
@@ -472,6 +483,7 @@ module _ (number : ℕ) where
     same-line (reactions.Abort reason) = refl
     same-line reactions.Unsubscribe = refl
     same-line reactions.NotImplemented = refl
+    same-line reactions.Query = refl
     same-line reactions.Subscribe =
         let question = question_of (primary_data message) in
         same-verdict (verdict_on (keeps_now h) (id_of message) question (has_home h question) s.subscriptions)
@@ -585,6 +597,7 @@ accepted-effect hub session message question a = by (head_of message) refl a.req
     by_line reactions.Unsubscribe e = absurd cc
     by_line reactions.NotImplemented e = absurd cc
     by_line reactions.Update e = absurd cc
+    by_line reactions.Query e = absurd cc
     by_line reactions.Reconfirm e = absurd cc
     by_line reactions.Subscribe e =
         let read : question_of (primary_data message) ≡ Some question = cc in

@@ -17,7 +17,7 @@ use Rattle.pushserver.proofs.SessionLists.{number-itself}
 use Rattle.pushtelling.specs.Runs.{hands_out, in_calls, handed_out}
 use Rattle.replay.specs.PassedOctets.{Emitted, Exchanged, emitted, nothing_emitted, with_giving, exchanged, enough}
 use Rattle.replay.proofs.worlds.Keeping.{InParts}
-use Rattle.script_laws.specs.LineCalls.{emit_calls, fed_calls, exchange_calls}
+use Rattle.replay.specs.LineCalls.{emit_calls, fed_calls, exchange_calls}
 use Rattle.script_laws.proofs.hubs.Reaching.{calls-append}
 
 -- ---- calls one behind the other

@@ -15,7 +15,7 @@ use Rattle.pushtelling.proofs.Running.{made_goes_out, each_is_reacted_to_once}
 use Rattle.replay.specs.PassedOctets.{Exchanged, exchanged, enough}
 use Rattle.replay.proofs.worlds.InputOctets.{HoldsOctets, octets-parts}
 use Rattle.script_laws.specs.Reached.{FitsCall, FitCalls, IsReached}
-use Rattle.script_laws.specs.LineCalls.{exchange_calls}
+use Rattle.replay.specs.LineCalls.{exchange_calls}
 use Rattle.script_laws.specs.Sending.{IsServed, ExchangeSo}
 use Rattle.script_laws.proofs.hubs.Reaching.{reached-go-on}
 use Rattle.script_laws.proofs.hubs.Sessions.{reached-below}

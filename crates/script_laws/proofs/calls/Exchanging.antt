@@ -28,7 +28,7 @@ use Rattle.pushtelling.specs.Runs.{takes_in, handed_out, taken_in}
 use Rattle.replay.specs.PassedOctets.{Emitted, Exchanged, emitted, nothing_emitted, with_giving, exchanged, enough}
 use Rattle.replay.proofs.worlds.InputOctets.{octets-parts}
 use Rattle.script_laws.specs.Reached.{FitsCall, IsReached}
-use Rattle.script_laws.specs.LineCalls.{emit_calls, fed_calls, exchange_calls}
+use Rattle.replay.specs.LineCalls.{emit_calls, fed_calls, exchange_calls}
 use Rattle.script_laws.specs.Sending.{IsDone, IsServed}
 use Rattle.script_laws.proofs.hubs.Reaching.{reached-go-on}
 use Rattle.script_laws.proofs.hubs.Sound.{reached-sound}

@@ -19,7 +19,7 @@ use Rattle.replay.specs.Text.{placed}
 use Rattle.replay.proofs.serving.Serving.{served_is}
 use Rattle.replay.proofs.turns.SendSizes.{sends-short}
 use Rattle.script_laws.specs.Whole.{StandsAfterEachLine}
-use Rattle.script_laws.specs.LineCalls.{emit_calls, fed_calls, exchange_calls}
+use Rattle.replay.specs.LineCalls.{emit_calls, fed_calls, exchange_calls}
 use Rattle.script_laws.specs.EachMessage.{HasItsTurn}
 use Rattle.script_laws.specs.Sending.{first_as, FirstOnesAskAnywhere}
 use Rattle.script_laws.proofs.Reading.{are-lines}

@@ -31,7 +31,7 @@ use Rattle.replay.proofs.worlds.InputOctets.{HoldsOctets, octets-kept, octets-pa
 use Rattle.replay.proofs.worlds.KeptByLines.{IsReady, Has, keeps-line}
 use Rattle.script_laws.specs.Reached.{FitsCall, FitCalls}
 use Rattle.script_laws.specs.Lines.{IsHubWithin, IsLinkWithin, IsCallWithin, IsClientWithin, IsSessionWithin, AreWithin, IsRead}
-use Rattle.script_laws.specs.LineCalls.{line_calls, script_calls}
+use Rattle.replay.specs.LineCalls.{line_calls, script_calls}
 use Rattle.script_laws.specs.EachMessage.{ScriptCallsFit}
 use Rattle.script_laws.proofs.downs.Octets.{name-octets}
 use Rattle.script_laws.proofs.lines.Following.{read-script}
@@ -54,6 +54,7 @@ hub-brings hub_events.Point is = tt
 link-brings : (w : Word) (event : LinkEvent) → IsLinkWithin event → AllByRecursion AreOctets (sent_by (link_event w event))
 link-brings w (link_events.Hear datagram) is = (is.0, tt)
 link-brings w link_events.Gone is = tt
+link-brings w link_events.Asks is = tt
 
 call-brings : (w : Word) (call : Call) → IsCallWithin call → AllByRecursion AreOctets (sent_by (client_call w call))
 call-brings w (calls.Ask question) is = (name-octets question.name (named question is), tt)

@@ -1,8 +1,8 @@
 -- Each line is calls of the hub, and so is each script.
 --     lines-are-calls, scripts-are-calls      the hub behind them
 --     calls-behind      the calls of lines, and of others behind them
-use Rattle.std.proofs.Common.{◌≡◌, ℕ, zero, suc, Bool, true, false, cond, not, ◌&&◌, List, [], ◌∷◌, ◌++◌, fold, Option, Some, None, option_map, refl, sym, ◌∙◌, ap, append_assoc, codes}
-use Rattle.std.specs.Prelude.{◌==◌, flat_map, is_some, if◌then◌else◌}
+use Rattle.std.proofs.Common.{◌≡◌, ℕ, Bool, true, false, cond, List, [], ◌∷◌, ◌++◌, fold, Option, Some, None, option_map, refl, sym, ◌∙◌, ap, append_assoc, codes}
+use Rattle.std.specs.Prelude.{flat_map}
 use Rattle.dsosession.specs.declared.session.EndReason.{EndReason}
 use Rattle.pushserver.specs.PlainHubs.{Hub}
 use Rattle.pushserver.specs.Hubs as hubs
@@ -15,88 +15,40 @@ use Rattle.scripts.specs.declared.line.HubEvent.{HubEvent}
 use Rattle.scripts.specs.declared.line.HubEvent.TheVariants as hub_events
 use Rattle.scripts.specs.declared.line.Call.{Call}
 use Rattle.scripts.specs.declared.line.Way.{Way}
-use Rattle.scripts.specs.declared.line.Way.TheVariants as ways
 use Rattle.scripts.specs.declared.line.ClientEvent.{ClientEvent}
 use Rattle.scripts.specs.declared.line.ClientEvent.TheVariants as client_events
 use Rattle.scripts.specs.declared.line.SessionEvent.{SessionEvent}
 use Rattle.scripts.specs.declared.line.SessionEvent.TheVariants as session_events
-use Rattle.replay.specs.World.{World, Seat, seat_of, session_number, hub_without, world_cut_if, with_seat, with_client, is_over, cut_peer, cut_connection, stopped_hub}
-use Rattle.replay.specs.PassedOctets as passing
-use Rattle.replay.specs.PassedOctets.{Passed, Exchanged, enough, max_wire, round, settled, exchanged, fed_client, nothing_emitted}
+use Rattle.replay.specs.World.{World, Seat, seat_of, session_number, world_cut_if, with_seat, with_client, is_over, cut_peer, cut_connection, stopped_hub}
+use Rattle.replay.specs.PassedOctets.{Passed, Exchanged, enough, exchanged, fed_client}
 use Rattle.replay.specs.TextWords.{by_history}
 use Rattle.replay.specs.Text.{Printed, quietly, printing, passing_of, passes_way, passes, asks, timed, exchanges, sends, opens_lone, opens_hub, opens, cuts, feeds_connected, feeds, session_of_word, hub_does, client_does, session_does, line_does, world_after}
+use Rattle.replay.proofs.calls.Behind.{withouts-by}
+use Rattle.replay.proofs.calls.Passed.{sessions-by}
 use Rattle.replay.proofs.worlds.SeatLines.{asks_by}
 use Rattle.replay.proofs.worlds.OneWorld.{shows-leave}
-use Rattle.replay.proofs.worlds.PassedWorlds.{passed_as, does_by}
-use Rattle.script_laws.specs.LineCalls.{up_calls, out_calls, round_calls, settle_calls, end_calls, cut_calls, passing_calls, of_seat, connect_calls, open_calls, timed_calls, feed_calls, exchange_calls, exchanges_calls, send_calls, stop_calls, hub_calls, way_calls, client_calls, session_calls, line_calls, script_calls, LinesAreCalls, ScriptsAreCalls}
+use Rattle.replay.proofs.worlds.PassedWorlds.{does_by}
+use Rattle.replay.specs.LineCalls.{end_calls, cut_calls, passing_calls, with_session, of_seat, connect_calls, open_calls, timed_calls, feed_calls, exchange_calls, exchanges_calls, send_calls, stop_calls, hub_calls, way_calls, client_calls, session_calls, line_calls, script_calls, LinesAreCalls, ScriptsAreCalls}
 use Rattle.script_laws.proofs.hubs.Reaching.{calls-append}
 use Rattle.script_laws.proofs.calls.Emitting as emitting
 
--- ---- octets between a client and its session
-
-outs : (number n : ℕ) (world : World) (seat : Seat) → (passing.emit number n world seat).world.hub ≡ after_calls (out_calls number n world seat) world.hub
-outs number n world seat = (emitting.emits enough number _ (nothing_emitted world.hub seat.filled)).hub_is
-
-rounds : (number : ℕ) (world : World) (seat : Seat) → (round number world seat).world.hub ≡ after_calls (round_calls number world seat) world.hub
-rounds number world seat =
-    let said = passing.say max_wire world seat in
-    let risen = passing.up number max_wire said.world said.seat in
-    outs number max_wire risen.world risen.seat ∙ sym (calls-append (up_calls number max_wire said.world said.seat) (out_calls number max_wire risen.world risen.seat) world.hub)
-
-settles : (turns number : ℕ) (world : World) (seat : Seat) (over : Option EndReason) → (settled turns number world seat over).world.hub ≡ after_calls (settle_calls turns number world seat) world.hub
-settles zero number world seat over = refl
-settles (suc turns) number world seat over = by (settles turns number r.world r.seat so_far) (r.count == 0 && not r.reacted)
-  where
-    r : Passed
-    r = round number world seat
-
-    so_far : Option EndReason
-    so_far = if is_some over then over else r.over
-
-    by : (settled turns number r.world r.seat so_far).world.hub ≡ after_calls (settle_calls turns number r.world r.seat) r.world.hub → (b : Bool)
-        → (elim b as (λ _. Passed) [ true ↦ record r { over = so_far } | false ↦ settled turns number r.world r.seat so_far ]).world.hub
-        ≡ after_calls (elim b as (λ _. List HubCall) [ true ↦ round_calls number world seat | false ↦ round_calls number world seat ++ settle_calls turns number r.world r.seat ]) world.hub
-    by rest true = rounds number world seat
-    by rest false =
-        rest ∙ ap (λ (h : Hub). after_calls (settle_calls turns number r.world r.seat) h) (rounds number world seat)
-        ∙ sym (calls-append (round_calls number world seat) (settle_calls turns number r.world r.seat) world.hub)
-
 -- ---- ends
 
-withouts : (o : Option ℕ) (hub : Hub) → hub_without o hub ≡ after_calls (end_calls o) hub
-withouts None hub = refl
-withouts (Some number) hub = refl
-
 cuts-if : (over : Bool) (seat : Seat) (world : World) → (world_cut_if over seat world).hub ≡ after_calls (cond over (end_calls seat.session) []) world.hub
-cuts-if true seat world = withouts seat.session world.hub
+cuts-if true seat world = withouts-by seat.session world.hub
 cuts-if false seat world = refl
 
--- octets of a client pass
-ways-so : (way : Way) (number : ℕ) (world : World) (seat : Seat) → (passing_of way number world seat).world.hub ≡ after_calls (way_calls way number world seat) world.hub
-ways-so (ways.Say n) number world seat = refl
-ways-so (ways.Up n) number world seat = refl
-ways-so (ways.Emit n) number world seat = outs number n world seat
-ways-so (ways.Down n) number world seat = refl
-ways-so ways.Settle number world seat = settles enough number world seat None
-
--- with what follows their end
+-- octets of a client pass, with what follows their end
 passes-so : (way : Way) (w : Word) (world : World) → (passes way w world).0.hub ≡ after_calls (of_seat (passing_calls (way_calls way) (passing_of way)) w world) world.hub
 passes-so way w world = by (seat_of world w)
   where
-    own_calls : Seat → Option ℕ → List HubCall
-    own_calls seat o = elim o as (λ _. List HubCall) [ None ↦ [] | Some number ↦ way_calls way number world seat ]
-
-    own : (seat : Seat) (o : Option ℕ) → (passed_as way world seat o).world.hub ≡ after_calls (own_calls seat o) world.hub
-    own seat None = refl
-    own seat (Some number) = ways-so way number world seat
-
     by : (o : Option Seat) → (does_by way w world o).0.hub ≡ after_calls (elim o as (λ _. List HubCall) [ None ↦ [] | Some seat ↦ passing_calls (way_calls way) (passing_of way) world seat ]) world.hub
     by None = refl
     by (Some seat) =
         let p : Passed = passes_way way world seat in
         cuts-if (is_over p.over (closed_as p.seat.client)) p.seat (with_seat p.seat p.world)
-        ∙ ap (λ (h : Hub). after_calls (cut_calls p) h) (own seat seat.session)
-        ∙ sym (calls-append (own_calls seat seat.session) (cut_calls p) world.hub)
+        ∙ ap (λ (h : Hub). after_calls (cut_calls p) h) (sessions-by way world seat)
+        ∙ sym (calls-append (with_session (way_calls way) world seat) (cut_calls p) world.hub)
 
 -- ---- clients
 
@@ -157,8 +109,8 @@ cut-so w world = by (seat_of world w)
   where
     by : (o : Option Seat) → (elim o as (λ _. World) [ None ↦ cut_peer w world | Some seat ↦ cut_connection seat world ]).hub
         ≡ after_calls (elim o as (λ _. List HubCall) [ None ↦ end_calls (session_number world w) | Some seat ↦ end_calls seat.session ]) world.hub
-    by None = withouts (session_number world w) world.hub
-    by (Some seat) = withouts seat.session world.hub
+    by None = withouts-by (session_number world w) world.hub
+    by (Some seat) = withouts-by seat.session world.hub
 
 -- ---- peers
 
@@ -181,7 +133,7 @@ exchanges-so w number octets world = by x.over
         ≡ after_calls (calls ++ (elim o as (λ _. List HubCall) [ None ↦ [] | Some reason ↦ end_calls (session_number world w) ])) world.hub
     by None = is ∙ sym (calls-append calls [] world.hub)
     by (Some reason) =
-        withouts (session_number world w) x.hub ∙ ap (λ (h : Hub). after_calls (end_calls (session_number world w)) h) is
+        withouts-by (session_number world w) x.hub ∙ ap (λ (h : Hub). after_calls (end_calls (session_number world w)) h) is
         ∙ sym (calls-append calls (end_calls (session_number world w)) world.hub)
 
 sends-so : (w : Word) (octets : List ℕ) (world : World) → (sends w octets world).0.hub ≡ after_calls (send_calls w octets world) world.hub

@@ -33,17 +33,19 @@ use Rattle.replay.specs.World.{World, start_world, number_in, session_number, hu
 use Rattle.replay.specs.PassedOctets.{Exchanged, exchanged, enough}
 use Rattle.replay.specs.Promises.{NumbersFit}
 use Rattle.replay.specs.TextWords.{noseat_words, bytes_line, by_history, HeldRecords}
-use Rattle.replay.specs.Text.{Printed, printing, placed, exchanges, end_lines, line_does, printed_by, text_by, world_after}
+use Rattle.replay.specs.Text.{Printed, printing, placed, exchanges, end_lines, line_does, world_after}
+use Rattle.replay.specs.Askings.{start_askings}
+use Rattle.replay.specs.ScriptTexts.{printed_by, text_by}
 use Rattle.scripts.specs.Words.{ended_lines}
 use Rattle.replay.proofs.pieces.ApartWorlds.{IsApart, apart-start, apart-lines, number-all}
 use Rattle.replay.proofs.worlds.BetweenLines.{printed-append, lines-append, after-append, each-behind, reply-is}
 use Rattle.script_laws.specs.Reached.{FitsCall, FitCalls, IsReached}
 use Rattle.script_laws.specs.Lines.{AreWithin}
 use Rattle.script_laws.specs.Whole.{StandsAfterEachLine}
-use Rattle.script_laws.specs.LineCalls.{exchange_calls}
+use Rattle.replay.specs.LineCalls.{exchange_calls}
 use Rattle.script_laws.specs.EachMessage.{HasItsTurn, IsAnswered, messages_of}
 use Rattle.script_laws.specs.InTurn.{made_in}
-use Rattle.script_laws.specs.Sending.{IsServed, ArePeersServed, made_messages, ExchangeSo, SendIsAnswered, SendsAreAnswered, Asks, lines_asked, world_asked, calls_asked, AsksAnywhere, octets_asked, lines_told, AskIsAnswered, AsksAreAnswered, EachIsBroughtUp}
+use Rattle.script_laws.specs.Sending.{askings_behind, IsServed, ArePeersServed, made_messages, ExchangeSo, SendIsAnswered, SendsAreAnswered, Asks, lines_asked, world_asked, calls_asked, AsksAnywhere, octets_asked, lines_told, AskIsAnswered, AsksAreAnswered, EachIsBroughtUp}
 use Rattle.script_laws.proofs.Reading.{are-lines}
 use Rattle.script_laws.proofs.hubs.Counting.{one_where, counted-cons, one-itself}
 use Rattle.script_laws.proofs.hubs.HubNumbers.{new-ones-are-found}
@@ -388,14 +390,14 @@ module _ (stands : StandsAfterEachLine) (records : HeldRecords) (text : List ℕ
   printed_so = sent.printed ∙ ap (λ (os : List ℕ). bytes_line asked.word os ∷ end_lines asked.word over) told_is
 
   abbrev printed_then : List (List ℕ)
-  printed_then = printed_by records asked.before (start_world (lines_asked asked))
+  printed_then = printed_by records asked.before (start_world (lines_asked asked)) (start_askings (lines_asked asked))
 
   abbrev printed_behind : List (List ℕ)
-  printed_behind = printed_by records asked.behind (line_does by_history (send asked.word asked.octets) (world_asked asked)).0
+  printed_behind = printed_by records asked.behind (line_does by_history (send asked.word asked.octets) (world_asked asked)).0 (askings_behind asked)
 
   text_so : text_by records (lines_asked asked) ≡ ended_lines printed_then ++ (ended_lines line_told ++ ended_lines printed_behind)
   text_so =
-      ap ended_lines (printed-append records asked.before (send asked.word asked.octets ∷ asked.behind) (start_world (lines_asked asked)))
+      ap ended_lines (printed-append records asked.before (send asked.word asked.octets ∷ asked.behind) (start_world (lines_asked asked)) (start_askings (lines_asked asked)))
       ∙ ap (λ (lines : List (List ℕ)). ended_lines (printed_then ++ (lines ++ printed_behind))) printed_so
       ∙ lines-append printed_then (line_told ++ printed_behind)
       ∙ ap (λ (rest : List ℕ). ended_lines printed_then ++ rest) (lines-append line_told printed_behind)

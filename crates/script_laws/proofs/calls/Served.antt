@@ -31,7 +31,7 @@ use Rattle.replay.proofs.worlds.PassedWorlds.{passed-world, pass-does}
 use Rattle.replay.proofs.worlds.SeatLines.{peers-asks, peers-opens}
 use Rattle.replay.proofs.worlds.TimedSeats.{peers-timed, peers-cut_if}
 use Rattle.replay.proofs.pieces.ApartWorlds.{IsSeatApart, IsApart}
-use Rattle.script_laws.specs.LineCalls.{line_calls}
+use Rattle.replay.specs.LineCalls.{line_calls}
 use Rattle.script_laws.specs.Lines.{AreWithin}
 use Rattle.script_laws.specs.Sending.{ArePeersServed}
 use Rattle.script_laws.proofs.calls.EachCall.{HoldsOfCalls, Ready, line-each}

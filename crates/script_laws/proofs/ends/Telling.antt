@@ -122,6 +122,7 @@ module _ (laws : LineLaws) (all : List Word) (words : AllByRecursion IsWord all)
   link-says : (v : Word) (event : LinkEvent) → Say own.word (link_does event v world).1
   link-says v (link_events.Hear datagram) = heard-say own.word _
   link-says v link_events.Gone = gone-say own.word v (hubs.link_gone world.hub (link_number v world)).0
+  link-says v link_events.Asks = tt
 
   client-says : (v : Word) (event : ClientEvent) → may_happen_to known.clients v event ≡ true → Say own.word (client_does by_history event v world).1
   client-says v client_events.Open may = opens-say own.word world v

@@ -120,7 +120,7 @@ each_within w ws = record {
     at_reads AreWithin (λ v t is. number_at_most max_moment v t is) ws,
     (octets_reads AreWithin (λ o. hub_event (hub_events.Update o)) (λ v o is. written_gives v o is) ws, (alone_reads AreWithin (hub_event hub_events.Point) tt ws, tt)),
   );
-  on_link = (word_octets_reads AreWithin (λ u o. link_event u (link_events.Hear o)) (λ v u is x o at. written_gives x o at) ws, (word_reads AreWithin (λ u. link_event u link_events.Gone) (λ v u is. tt) ws, tt));
+  on_link = (word_octets_reads AreWithin (λ u o. link_event u (link_events.Hear o)) (λ v u is x o at. written_gives x o at) ws, (word_reads AreWithin (λ u. link_event u link_events.Gone) (λ v u is. tt) ws, (word_reads AreWithin (λ u. link_event u link_events.Asks) (λ v u is. tt) ws, tt)));
   on_session = (
     word_octets_reads AreWithin send (λ v u is x o at. (word_gives v u is, written_gives x o at)) ws,
     (

@@ -3,6 +3,7 @@
 --     updates-stand, links-stand, stops-stand      calls of the hub
 use Rattle.std.proofs.Common.{◌≡◌, ℕ, ◌<◌, ◌^◌, Bool, true, false, cond, List, [], ◌∷◌, ◌++◌, find, Option, Some, None, option_map, refl, sym, ap, subst}
 use Rattle.std.specs.Prelude.{IsTrue, codes}
+use Rattle.std.specs.List.{AllByRecursion}
 use Rattle.std.specs.Str.{bytes_eq}
 use Rattle.coalesce.proofs.ReadBack.{each-append}
 use Rattle.dsotlv.specs.Laws.{AreOctets}
@@ -16,7 +17,7 @@ use Rattle.scripts.specs.declared.line.LinkEvent.TheVariants as link_events
 use Rattle.scripts.specs.Scripts.{is_peer}
 use Rattle.replay.specs.World.{World, seat_of, number_in, session_number, cut_peer}
 use Rattle.replay.specs.PassedOctets.{Exchanged, exchanged, enough}
-use Rattle.replay.specs.Text.{Printed, printing, link_call, link_does, updates, exchanges, sends, asked_to_stop, stops}
+use Rattle.replay.specs.Text.{Printed, printing, link_calls, link_does, updates, exchanges, sends, asked_to_stop, stops}
 use Rattle.scripts.proofs.lines.SameWords.{word_itself}
 use Rattle.replay.proofs.worlds.LinesDoing.{stop-does}
 use Rattle.script_laws.specs.Lines.{IsLinkWithin}
@@ -42,9 +43,11 @@ number-new w n (e ∷ es) none = by (bytes_eq e.0 w) none (number-new w n es)
     by false none rest = rest none
 
 -- a call on a link fits, and neither connects nor is for a session
-link-is-own : (event : LinkEvent) (w : Word) (world : World) (session : Option ℕ) → IsLinkWithin event → FitsCall (link_call event w world) × KeepsNumbers (link_call event w world) × IsForNoOther session (link_call event w world)
-link-is-own (link_events.Hear datagram) w world session within = ((within.0, tt), tt, tt)
-link-is-own link_events.Gone w world session within = ((tt, tt), tt, tt)
+link-is-own : (event : LinkEvent) (w : Word) (world : World) (session : Option ℕ) → IsLinkWithin event
+    → AllByRecursion FitsCall (link_calls event w world) × AllByRecursion KeepsNumbers (link_calls event w world) × AllByRecursion (IsForNoOther session) (link_calls event w world)
+link-is-own (link_events.Hear datagram) w world session within = (((within.0, tt), tt), (tt, tt), (tt, tt))
+link-is-own link_events.Gone w world session within = (((tt, tt), tt), (tt, tt), (tt, tt))
+link-is-own link_events.Asks w world session within = (tt, tt, tt)
 
 module _ (laws : LineLaws) (all : List Word) (shown : ShownToEach) where
   -- ---- calls of the hub
@@ -61,7 +64,7 @@ module _ (laws : LineLaws) (all : List Word) (shown : ShownToEach) where
     pub links-stand : (w : Word) (event : LinkEvent) → IsLinkWithin event → LeadsTo all shown world (link_does event w world).0
     links-stand w event within =
         let own = link-is-own event w world (session_number world []) within in
-        record { stands = laws.hubs_go_on shown world [] (link_call event w world ∷ []) stands (own.0, tt) (own.1, tt) (own.2, tt); clients = λ v. refl; peers = λ h. h }
+        record { stands = laws.hubs_go_on shown world [] (link_calls event w world) stands own.0 own.1 own.2; clients = λ v. refl; peers = λ h. h }
 
     pub stops-stand : (w : Word) (rcode delay : ℕ) → rcode < 16 → delay < 2 ^ 32 → LeadsTo all shown world (stops w rcode delay world).0
     stops-stand w rcode delay small short = stop-does world (LeadsTo all shown world) w rcode delay (λ seat found. stopped-stands seat.session) (stopped-stands (session_number world w))

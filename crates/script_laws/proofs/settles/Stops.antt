@@ -8,7 +8,7 @@ use Rattle.dsosession.specs.Reactions.{server_reaction}
 use Rattle.dsosession.specs.declared.session.EndReason.{EndReason}
 use Rattle.dsosession.specs.declared.session.EndReason.TheVariants as ends
 use Rattle.dsosession.specs.declared.session.Reaction.{Reaction}
-use Rattle.dsosession.specs.declared.session.Reaction.TheVariants.{Answer, Grant, Abort, Subscribe, Unsubscribe, Reconfirm, Update, NotImplemented}
+use Rattle.dsosession.specs.declared.session.Reaction.TheVariants.{Answer, Grant, Abort, Subscribe, Unsubscribe, Reconfirm, Update, Query, NotImplemented}
 use Rattle.dsotlv.specs.Answers.{answer_to}
 use Rattle.dsotlv.specs.Messages.{head_of, primary_data}
 use Rattle.dsotlv.specs.Notices.{question_of}
@@ -24,7 +24,7 @@ use Rattle.pushserver.specs.Hubs.{now, keeps_now, tells_now, in_session}
 use Rattle.pushserver.specs.PlainHubs.{Hub, Session, Queue, Made, plain_keeps, new_hub}
 use Rattle.pushserver.proofs.SessionLists.{each-changed, found-one}
 use Rattle.pushserver.proofs.Subscribing.{verdict-holds}
-use Rattle.pushserver.proofs.Walks.{AnyMessage, Step, restarts, reacts, answers_subscribe, answers_update, packs_names, comes_to_stop, ends_with, copies_front, IsKept, keeps-calls, bring_any}
+use Rattle.pushserver.proofs.Walks.{AnyMessage, Step, restarts, reacts, answers_subscribe, answers_update, answers_query, packs_names, comes_to_stop, ends_with, copies_front, IsKept, keeps-calls, bring_any}
 use Rattle.pushserver.proofs.hub_steps.Cases.{itself_as}
 use Rattle.pushtelling.proofs.Tells.{by_entry}
 use Rattle.rrset.proofs.Places.{all_filter}
@@ -76,6 +76,7 @@ module _ (hub : Hub) where
   said-by_itself Grant message session h = said-more session.standing session.made _ h
   said-by_itself (Abort reason) message session h = ended-said reason session.made
   said-by_itself Unsubscribe message session h = h
+  said-by_itself Query message session h = h
   said-by_itself NotImplemented message session h = said-more session.standing session.made _ h
   said-by_itself Subscribe message session h = h
   said-by_itself Reconfirm message session h = h
@@ -110,6 +111,7 @@ module _ (hub : Hub) where
   said-step (reacts message) session h = said-itself message session h
   said-step (answers_subscribe message any) session h = said-answered (id_of message) (question_of (primary_data message)) session h
   said-step (answers_update before message) session h = said-more session.standing session.made _ h
+  said-step (answers_query message any) session h = said-more session.standing session.made _ h
   said-step packs_names session h =
       let pack = (tells_now hub).packed session.subscriptions session.queue in
       said-notices _ (now hub) pack.0 (record session { queue = pack.1 }) h

@@ -11,7 +11,10 @@ use Rattle.scripts.specs.declared.line.ClientEvent.TheVariants as client_events
 use Rattle.replay.specs.World.{World, Seat, seat_of, start_world}
 use Rattle.replay.specs.TextWords.{ShowTold, HeldRecords, by_history, by_notices, record_line, show_at}
 use Rattle.scripts.specs.Words.{spaced, ended_lines}
-use Rattle.replay.specs.Text.{Printed, quietly, client_does, line_does, world_after, printed_by}
+use Rattle.replay.specs.Text.{Printed, quietly, client_does, line_does, world_after}
+use Rattle.hubasking.specs.LinkAskings.{Askings}
+use Rattle.replay.specs.Askings.{asked_lines, line_asks, start_askings}
+use Rattle.replay.specs.ScriptTexts.{printed_by}
 use Rattle.replay.specs.HeldPoints.{held_points_from}
 use Rattle.replay.proofs.worlds.BetweenLines.{after-append}
 use Rattle.script_laws.specs.Reached.{ReachedSessions}
@@ -55,16 +58,18 @@ module _ (sessions : ReachedSessions) where
 
   -- where the world stands after each front, what is printed is one
   pub printed-alike : (start : World) (before after : List ScriptLine) → ((front back : List ScriptLine) → before ++ after ≡ front ++ back → StandsAfter front start)
-      → printed_by by_history after (world_after before start) ≡ printed_by by_notices after (world_after before start)
-  printed-alike start before [] stands = refl
-  printed-alike start before (line ∷ lines) stands =
+      → (askings : Askings) → printed_by by_history after (world_after before start) askings ≡ printed_by by_notices after (world_after before start) askings
+  printed-alike start before [] stands askings = refl
+  printed-alike start before (line ∷ lines) stands askings =
       let world = world_after before start in
       let one : line_does by_history line world ≡ line_does by_notices line world = line-alike (λ w question. held_points_from w question before start) line world (stands before (line ∷ lines) refl) in
       let later : world_after (before ++ line ∷ []) start ≡ (line_does by_history line world).0 = after-append before (line ∷ []) start in
-      let rest : printed_by by_history lines (world_after (before ++ line ∷ []) start) ≡ printed_by by_notices lines (world_after (before ++ line ∷ []) start) =
-      printed-alike start (before ++ line ∷ []) lines (λ front back split. stands front back (sym (append_assoc before (line ∷ []) lines) ∙ split)) in
-      ap (λ ls. (line_does by_history line world).1 ++ ls) (ap (printed_by by_history lines) (sym later) ∙ rest ∙ ap (printed_by by_notices lines) later)
-      ∙ ap (λ p. p.1 ++ printed_by by_notices lines p.0) one
+      let then = line_asks line world askings in
+      let told = asked_lines line world askings in
+      let rest : printed_by by_history lines (world_after (before ++ line ∷ []) start) then ≡ printed_by by_notices lines (world_after (before ++ line ∷ []) start) then =
+      printed-alike start (before ++ line ∷ []) lines (λ front back split. stands front back (sym (append_assoc before (line ∷ []) lines) ∙ split)) then in
+      ap (λ ls. (line_does by_history line world).1 ++ (told ++ ls)) (ap (λ (w : World). printed_by by_history lines w then) (sym later) ∙ rest ∙ ap (λ (w : World). printed_by by_notices lines w then) later)
+      ∙ ap (λ p. p.1 ++ (told ++ printed_by by_notices lines p.0 then)) one
 
   pub one-text : StandsAfterEachLine → LinesTellOneText
-  one-text stands script are = ap ended_lines (printed-alike (start_world script) [] script (λ front back split. stands script front back are split))
+  one-text stands script are = ap ended_lines (printed-alike (start_world script) [] script (λ front back split. stands script front back are split) (start_askings script))

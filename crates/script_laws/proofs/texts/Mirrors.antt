@@ -45,4 +45,4 @@ module _ (sessions : ReachedSessions) where
 
     pub replays-mirror : ReplaysMirrorHistory
     unfolding AreEnds
-    replays-mirror octets ends script are read = mirrors-of-history script (are-lines octets script read) ends.hub ends.clients.items (are script read)
+    replays-mirror octets ends script are read = mirrors-of-history script (are-lines octets script read) ends.hub.hub ends.clients.items (are script read).0

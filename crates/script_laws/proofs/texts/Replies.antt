@@ -4,7 +4,7 @@ use Rattle.std.proofs.Common.{◌≡◌, ℕ, List, Result, Ok, Err, refl, ap, s
 use Rattle.scripts.specs.Lines.{ScriptLine}
 use Rattle.scripts.specs.Scripts.{script_of}
 use Rattle.replay.specs.TextWords.{HeldRecords, by_history, by_notices}
-use Rattle.replay.specs.Text.{text_by, text_with, outside_text}
+use Rattle.replay.specs.ScriptTexts.{text_by, text_with, outside_text}
 use Rattle.replay.specs.ScriptReplies.{reply_to_script}
 use Rattle.replay.specs.Promises.{EveryScriptTellsOneText}
 use Rattle.script_laws.specs.Replies.{RepliesAreOne}

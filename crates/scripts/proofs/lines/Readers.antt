@@ -181,7 +181,7 @@ module _ (P : ScriptLine → Type 0) where
   hub_reads h w ws = (at_reads P (λ v t is. h (hub_events.At t)) ws, (octets_reads P (λ o. hub_event (hub_events.Update o)) (λ v o is. h (hub_events.Update o)) ws, (alone_reads P (hub_event hub_events.Point) (h hub_events.Point) ws, tt)))
 
   pub on_link_reads : ((v : Word) (event : LinkEvent) → P (link_event v event)) → (w : Word) (ws : List Word) → EachReads P ws (link_kinds w)
-  on_link_reads h w ws = (word_octets_reads P (λ v o. link_event v (link_events.Hear o)) (λ v u is x o at. h u (link_events.Hear o)) ws, (word_reads P (λ v. link_event v link_events.Gone) (λ v u is. h u link_events.Gone) ws, tt))
+  on_link_reads h w ws = (word_octets_reads P (λ v o. link_event v (link_events.Hear o)) (λ v u is x o at. h u (link_events.Hear o)) ws, (word_reads P (λ v. link_event v link_events.Gone) (λ v u is. h u link_events.Gone) ws, (word_reads P (λ v. link_event v link_events.Asks) (λ v u is. h u link_events.Asks) ws, tt)))
 
   pub session_reads : ((v : Word) (event : SessionEvent) → P (session_event v event)) → (w : Word) (ws : List Word) → EachReads P ws (session_kinds w)
   session_reads h w ws = (

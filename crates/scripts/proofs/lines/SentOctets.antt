@@ -37,6 +37,7 @@ sent_to_hub _ = []
 abbrev pub sent_on_link : LinkEvent → List (List ℕ)
 sent_on_link (link_events.Hear octets) = octets ∷ []
 sent_on_link link_events.Gone = []
+sent_on_link link_events.Asks = []
 
 abbrev pub sent_by_call : Call → List (List ℕ)
 sent_by_call (calls.Ask question) = octets question.name ∷ []
@@ -146,7 +147,7 @@ module _ (test : List ℕ → Bool) (written : (h octets : List ℕ) → octets_
   each_passes w ws = record {
     on_head = head_reads Passes (λ line. refl) w ws;
     on_hub = (at_reads Passes (λ v t is. refl) ws, (octets_reads Passes (λ o. hub_event (hub_events.Update o)) (λ v o is. one o (written v o is)) ws, (alone_reads Passes (hub_event hub_events.Point) refl ws, tt)));
-    on_link = (word_octets_reads Passes (λ v o. link_event v (link_events.Hear o)) (λ v u is x o at. one o (written x o at)) ws, (word_reads Passes (λ v. link_event v link_events.Gone) (λ v u is. refl) ws, tt));
+    on_link = (word_octets_reads Passes (λ v o. link_event v (link_events.Hear o)) (λ v u is x o at. one o (written x o at)) ws, (word_reads Passes (λ v. link_event v link_events.Gone) (λ v u is. refl) ws, (word_reads Passes (λ v. link_event v link_events.Asks) (λ v u is. refl) ws, tt)));
     on_session = (
       word_octets_reads Passes send (λ v u is x o at. one o (written x o at)) ws,
       (stop_reads Passes (λ v u is x rcode at y delay there. refl) ws, (word_reads Passes (λ v. session_event v session_events.Cut) (λ v u is. refl) ws, tt)),

@@ -4,7 +4,7 @@ use Rattle.push_outside.specs.Outside.{Adds}
 use Rattle.scripts.specs.Lines.{Word}
 use Rattle.configurations.specs.Kept.{head_kept, serving_kept}
 use Rattle.serving.specs.Serving.{is_full_run}
-use Rattle.pushserver.specs.KeptHubs.{KeptHub}
+use Rattle.hubasking.specs.AskingHubs.{AskingHub}
 use Rattle.commands.specs.Serving.{BeginsBy, GivesBack, ServesBy, first_hub}
 use Rattle.commands.proofs.Serving.{addresses_kept, links_kept, serves_listening, serves_through}
 use Rattle.commands.proofs.Returning.{gives_all, gives_failed, gives_nothing}
@@ -29,7 +29,7 @@ returns-clause-served g c =
 
 pub returns-in-Ok-doors-clause-shared : goal.returns-in-Ok-doors-clause-shared
 returns-in-Ok-doors-clause-shared g c =
-    subst (λ (h : KeptHub). BeginsBy (is_full_run c.serve_doors-end.result) h (g.W.Register.hubs c.args.register.now) (g.W.Register.hubs c.serve_doors-end.new.register)) c.in-Ok.ensures.kept c.serve_doors-end.ensures.shared
+    subst (λ (h : AskingHub). BeginsBy (is_full_run c.serve_doors-end.result) h (g.W.Register.hubs c.args.register.now) (g.W.Register.hubs c.serve_doors-end.new.register)) c.in-Ok.ensures.kept c.serve_doors-end.ensures.shared
 
 pub returns-clause-shared : goal.returns-clause-shared
 returns-clause-shared g c = begins_none (is_full_run c.end_of.result) (first_hub (head_kept c.args.configuration)) (g.W.Register.hubs c.args.register.now) (g.W.Register.hubs c.args.register.now) c.end_of.ensures.less refl

@@ -1,9 +1,9 @@
-use Rattle.std.proofs.Common.{◌≤◌, [], ◌∷◌, length, refl, sym, ◌∙◌, ap, subst, arith}
+use Rattle.std.proofs.Common.{[], ◌∷◌, refl, sym, ◌∙◌, ap, subst, arith}
 use Rattle.std.specs.Prelude.{IsTrue}
 use Rattle.rrset.specs.Kinds.{cname_kind}
 use Rattle.rrset.specs.Rdata.{shape_fits}
 use Rattle.dnsquery.specs.Replies.{target_in}
-use Rattle.dnsquery.proofs.Walking.{alias-fits, alias-sized, alias-small, alias-step, alias-written, found-sized, found-step, none-step, nothing-written, part_for}
+use Rattle.dnsquery.proofs.Walking.{alias-fits, alias-small, alias-step, alias-written, found-step, none-step, nothing-written, part_for}
 use Rattle.dnsquery.proofs.walk.turn_at.Goals as goal
 
 pub returns-then-count-gt0 : goal.returns-then-count-gt0
@@ -12,7 +12,6 @@ returns-then-count-gt0 g c = record {
   written = c.in_ok-count.ensures.octets;
   count = c.in_ok-count.ensures.count;
   few = c.in_ok-count.ensures.few;
-  sized = found-sized (g.R.Lookup.known c.args.records.now) c.args.name.now c.args.question.now.kind c.args.question.now.class c.at-rows.result.now c.args.out.now.items c.push_matching.new.out.items (c.requires.few c.args.name.now) c.at-rows.ensures c.in_ok-count.ensures.octets;
   leads = λ goes_on. found-step (g.R.Lookup.known c.args.records.now) c.args.question.now c.args.name.now goes_on c.at-rows.result.now c.at-rows.ensures c.in_ok-count.count c.if-count-gt0.true c.in_ok-count.ensures.count;
 }
 
@@ -22,7 +21,6 @@ returns-in_default g c = record {
   written = nothing-written c.args.out.now.items c.push_matching.new.out.items (part_for c.args.question.now.kind c.args.question.now.class c.at-rows.result.now) c.in_ok-count.count c.if-count-gt0.false c.in_ok-count.ensures.count c.in_ok-count.ensures.octets;
   count = refl;
   few = omega arith;
-  sized = found-sized (g.R.Lookup.known c.args.records.now) c.args.name.now c.args.question.now.kind c.args.question.now.class c.at-rows.result.now c.args.out.now.items c.push_matching.new.out.items (c.requires.few c.args.name.now) c.at-rows.ensures c.in_ok-count.ensures.octets;
   leads = λ goes_on. none-step (g.R.Lookup.known c.args.records.now) c.args.question.now c.args.name.now goes_on c.at-rows.result.now c.at-rows.ensures c.in_ok-count.count c.rcode_at.result c.if-count-gt0.false c.in_ok-count.ensures.count c.in_default.ensures c.rcode_at.ensures;
 }
 
@@ -43,9 +41,5 @@ returns g c = record {
       c.in_ok-write_shown.ensures.octets;
   count = refl;
   few = omega arith;
-  sized =
-      alias-sized c.args.out.now.items c.push_matching.new.out.items c.write_shown.new.out.items c.in-Some.field-0.now.1.rdata
-      (nothing-written c.args.out.now.items c.push_matching.new.out.items (part_for c.args.question.now.kind c.args.question.now.class c.at-rows.result.now) c.in_ok-count.count c.if-count-gt0.false c.in_ok-count.ensures.count c.in_ok-count.ensures.octets)
-      c.in_ok-write_shown.ensures.size (subst (λ rdata. length rdata ≤ 255) c.as_slice.ensures c.in_ok-target.ensures.small);
   leads = λ goes_on. alias-step (g.R.Lookup.known c.args.records.now) c.args.question.now c.args.name.now goes_on c.at-rows.result.now c.at-rows.ensures c.in_ok-count.count c.in-Some.field-0.now c.in_ok-target.target c.if-count-gt0.false c.in_ok-count.ensures.count c.in-Some.ensures (c.in_ok-target.ensures.name ∙ ap target_in c.as_slice.ensures);
 }

@@ -1,11 +1,11 @@
 use Rattle.std.proofs.Common.{◌≤◌}
-use Rattle.hublock.specs.Loops.{observed}
+use Rattle.hublock.specs.LinkReader.{seen}
 use Rattle.hublock.proofs.Receipts.{HeardSoFar}
 use Rattle.hublock.proofs.link_reader.hear_all.Given as goal
 
 abbrev pub invariant-turns : goal.invariant-turns
 invariant-turns g l = record {
-  run : HeardSoFar l.link (observed (g.G.Gate.state l.fn.gate) (g.D.Datagrams.given l.fn.datagrams) (g.D.Datagrams.calls l.fn.datagrams)) (observed (g.G.Gate.state l.gate) (g.D.Datagrams.given l.datagrams) (g.D.Datagrams.calls l.datagrams)) l.left l.turns;
+  run : HeardSoFar l.link (seen (g.G.Gate.state l.fn.gate) (g.D.Datagrams.given l.fn.datagrams) (g.D.Datagrams.sent l.fn.datagrams) (g.D.Datagrams.calls l.fn.datagrams)) (seen (g.G.Gate.state l.gate) (g.D.Datagrams.given l.datagrams) (g.D.Datagrams.sent l.datagrams) (g.D.Datagrams.calls l.datagrams)) l.asks l.left l.turns;
   later : g.D.Datagrams.faults l.fn.datagrams ≤ g.D.Datagrams.faults l.datagrams;
 }
 

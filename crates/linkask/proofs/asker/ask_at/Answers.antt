@@ -1,5 +1,3 @@
-use Rattle.std.proofs.Common.{ap, ◌∙◌}
-use Rattle.rrset.specs.KeyedRows.{rows_of}
 use Rattle.linkask.proofs.FirstDue.{asked-set, bound-is, bounds-set, exact-asked}
 use Rattle.linkask.proofs.asker.ask_at.Goals as goal
 
@@ -11,4 +9,4 @@ pub returns-clause-bounds : goal.returns-clause-bounds
 returns-clause-bounds c =
     bounds-set c.args.cache.now.state.rows c.args.entries.now c.args.place _ c.requires.bounds
     (bound-is c.args.cache.now.state.rows _ c.due_moment-due.result
-    (exact-asked c.args.cache.now.state.rows c.args.entries.now c.args.place c.index-entries-place-5.result c.index-entries-place-4.result (record { count = c.saturating_add.result; last = c.args.now }) c.at.result.now c.due_moment-due.result c.requires.within (c.at.ensures ∙ ap (rows_of _) c.rows.ensures.rows) c.due_moment-due.ensures))
+    (exact-asked c.args.cache.now.state.rows c.args.entries.now c.args.place c.index-entries-place-5.result c.index-entries-place-4.result (record { count = c.saturating_add.result; last = c.args.now }) c.rows_at.result.now c.due_moment-due.result c.requires.within c.rows_at.ensures c.due_moment-due.ensures))

@@ -1,4 +1,5 @@
 use Rattle.pushserver.proofs.OtherSessions.{give_changes_one_session}
+use Rattle.pushserver.proofs.Replying.{query_is_answered}
 use Rattle.pushserver.proofs.Subscribing.{subscribe_is_answered}
 use Rattle.pushserver.proofs.promises.AllTold.{nothing_where_all_is_told}
 use Rattle.pushserver.proofs.promises.Shown.{nothing_means_all_is_shown}
@@ -19,3 +20,6 @@ returns-clause-outputs c = other_calls_keep_outputs
 
 pub returns-clause-answered : goal.returns-clause-answered
 returns-clause-answered c = subscribe_is_answered
+
+pub returns-clause-replied : goal.returns-clause-replied
+returns-clause-replied c = query_is_answered

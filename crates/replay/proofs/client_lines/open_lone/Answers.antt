@@ -19,5 +19,5 @@ returns c = λ at.
     let changed = c.open_at.new.seats in
     let calls = calls-moved (λ s. Unit {0}) (with_client (connected t)) seats c.deref_mut.result.now changed _ c.args.place c.deref_mut.ensures.value
     (with_items_is world.seats changed (c.open_at.auto.seats ∙ c.deref_mut.ensures.len)) c.in_ok-open_at.ensures in
-    if_acts (by_seat opens_lone w) world.hub world.hub known _ (codes "open " ++ (w ++ 10 ∷ [])) c.open_text.result
+    if_acts (by_seat opens_lone w) (λ plain. []) world.hub world.hub known _ (codes "open " ++ (w ++ 10 ∷ [])) c.open_text.result
     (λ written is. opened-lone world.hub known _ w c.args.place t written at c.now-now.ensures.hub calls is) c.open_text.ensures

@@ -2,6 +2,8 @@ use Rattle.std.proofs.Common.{◌++◌, ◌∷◌, [], ◌∙◌, codes}
 use Rattle.std.proofs.lemmas.List.{with_items_is}
 use Rattle.replay.specs.World.{cut_seat}
 use Rattle.replay.specs.Text.{cuts}
+use Rattle.scripts.specs.declared.line.SessionEvent.TheVariants as session_events
+use Rattle.replay.specs.LineCalls.{session_calls}
 use Rattle.replay.specs.KeptWorlds.{parties_of}
 use Rattle.replay.specs.KeptSeats.{HasCut}
 use Rattle.replay.proofs.worlds.Doing.{if_acts, cuts-act}
@@ -21,7 +23,7 @@ returns-in-Some c =
     let at = c.requires.at ∙ c.in-Some.is in
     let calls = calls-moved (HasCut world.hub c.cut_at.new.hub) cut_seat seats c.deref_mut.result.now changed _ place c.deref_mut.ensures.value
     (with_items_is world.seats changed (c.cut_at.auto.seats ∙ c.deref_mut.ensures.len)) c.cut_at.ensures in
-    if_acts (cuts w) world.hub c.cut_at.new.hub known _ (codes "cut " ++ (w ++ 10 ∷ [])) c.cut_text.result
+    if_acts (cuts w) (session_calls session_events.Cut w) world.hub c.cut_at.new.hub known _ (codes "cut " ++ (w ++ 10 ∷ [])) c.cut_text.result
     (λ written is. cuts-seat world.hub c.cut_at.new.hub known _ w place written at calls is) c.cut_text.ensures
 
 -- a peer
@@ -32,5 +34,5 @@ returns-in-None c =
     let known = parties_of world in
     let known_later = parties_of c.cut.new.self in
     let none = c.requires.at ∙ c.in-None.is in
-    if_acts (cuts w) world.hub c.cut.new.self.hub known known_later (codes "cut " ++ (w ++ 10 ∷ [])) c.cut_text-in-None.result
+    if_acts (cuts w) (session_calls session_events.Cut w) world.hub c.cut.new.self.hub known known_later (codes "cut " ++ (w ++ 10 ∷ [])) c.cut_text-in-None.result
     (λ written is. cuts-act world.hub c.cut.new.self.hub known known_later w written none c.cut.ensures is) c.cut_text-in-None.ensures

@@ -13,5 +13,5 @@ pub returns : goal.returns
 returns c =
     let known = parties_of c.args.world.now in
     let hub = c.args.world.now.hub in
-    if_acts prints hub hub known known (codes "point " ++ (decimal c.point.result ++ 32 ∷ (decimal c.now.result ++ 10 ∷ []))) c.point_text.result
+    if_acts prints (λ plain. []) hub hub known known (codes "point " ++ (decimal c.point.result ++ 32 ∷ (decimal c.now.result ++ 10 ∷ []))) c.point_text.result
     (λ written is. points-act hub known written c.point.result c.now.result c.point.ensures.hub c.now.ensures.hub is) c.point_text.ensures

@@ -9,7 +9,7 @@ returns-in_ok-ends-in-Whole-clause-exact c = whole_reply c.args.octets.now _ c.i
 
 pub returns-in_ok-ends-in-Whole-clause-ends : goal.returns-in_ok-ends-in-Whole-clause-ends
 returns-in_ok-ends-in-Whole-clause-ends c =
-    ends-are c.args.octets.now c.in-Whole.script c.in_ok-text-in-Whole.field-0.world c.in_ok-ends-in-Whole.ends (subst (ReadsAs c.args.octets.now) c.in-Whole.is c.in_ok-script.ensures) c.in_ok-text-in-Whole.ensures.world
+    ends-are c.args.octets.now c.in-Whole.script c.in_ok-text-in-Whole.field-0.world c.in_ok-ends-in-Whole.ends (subst (ReadsAs c.args.octets.now) c.in-Whole.is c.in_ok-script.ensures) c.in_ok-text-in-Whole.ensures.world c.in_ok-text-in-Whole.ensures.asks
     c.in_ok-ends-in-Whole.ensures.hub c.in_ok-ends-in-Whole.ensures.clients
 
 pub returns-in_ok-text-in-Outside-clause-exact : goal.returns-in_ok-text-in-Outside-clause-exact

@@ -1,4 +1,4 @@
-use Rattle.std.proofs.Common.{◌<◌, length, ap, subst, ◌∙◌, arith, string_bytes}
+use Rattle.std.proofs.Common.{[], ◌<◌, length, ap, subst, ◌∙◌, arith, string_bytes}
 use Rattle.std.proofs.lemmas.List.{length-map}
 use Rattle.replay.specs.TextWords.{by_notices}
 use Rattle.replay.specs.Text.{shows}
@@ -23,6 +23,6 @@ returns c =
     let within : place < length seats = c.requires.within in
     let there : place < length (seated seats) = omega (arith, within, length-map seats seat_kept) in
     let here = is-there (seated seats) place there in
-    if_each (ShowsSeat (seat_kept seat) showing) (λ text. Acts (shows by_notices w q c.args.written.now) world.hub known text world.hub known) c.seat_lines.result
+    if_each (ShowsSeat (seat_kept seat) showing) (λ text. Acts (shows by_notices w q c.args.written.now) (λ plain. []) world.hub known text world.hub known) c.seat_lines.result
     (λ text law. shows-act world.hub known showing place here.kept text at here.there
     (subst (λ (k : KeptSeat). ShowsSeat k showing text) (seat-there seats place seat here.kept within c.index.ensures here.there) law)) c.seat_lines.ensures

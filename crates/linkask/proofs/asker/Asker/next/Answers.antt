@@ -1,5 +1,4 @@
 use Rattle.std.proofs.Common.{◌≡◌, length, take, drop, ◌++◌, None, Some, refl, sym, ◌∙◌, ap, subst}
-use Rattle.rrset.specs.KeyedRows.{rows_of}
 use Rattle.linkask.specs.Asking.{next}
 use Rattle.linkask.specs.Bounds.{Kept, IsFirstDue, IsLeast, all_reasons, wanted_in}
 use Rattle.linkask.proofs.Asking.{AskedAt, Searched, asked_there, least-zero, none_next, on_err, one_next, searched}
@@ -51,10 +50,10 @@ invariant_of-self-2 c = ((asked_some c).sorted, least-zero _)
 pub returns-clause-ok : goal.returns-clause-ok
 returns-clause-ok c =
     subst (λ (k : Kept). next c.args.cache.now.state.rows c.args.now (wanted_in k) ≡ (Some c.in_ok-out.field-0.items, wanted_in (take c.self.inside.entries.len (c.ask_at.new.entries ++ drop (length c.ask_at.new.entries) (take c.self.inside.entries.len (c.first_due.new.entries ++ drop (length c.first_due.new.entries) c.self.inside.entries.items)))))) c.self.view_is
-    (one_next c.args.now c.args.cache.now.state.rows c.self.inside.entries.items _ _ c.in-Some.place c.index.result.now c.at.result.now c.in_ok-out.field-0.items c.self.invariant.0
+    (one_next c.args.now c.args.cache.now.state.rows c.self.inside.entries.items _ _ c.in-Some.place c.index.result.now c.rows_at.result.now c.in_ok-out.field-0.items c.self.invariant.0
     (found_some c).same c.index.ensures
     (subst (λ (k : Kept). IsFirstDue c.args.cache.now.state.rows c.args.now (wanted_in k) (Some c.in-Some.place)) c.deref_mut.ensures.value (subst (IsFirstDue c.args.cache.now.state.rows c.args.now (wanted_in c.deref_mut.result.now)) c.in-Some.is c.first_due.ensures.first))
-    (c.at.ensures ∙ ap (rows_of _) c.rows.ensures.rows) c.in_ok-out.ensures (asked_some c).same)
+    c.rows_at.ensures c.in_ok-out.ensures.octets (asked_some c).same)
 
 pub returns-in_default-clause-reasons : goal.returns-in_default-clause-reasons
 returns-in_default-clause-reasons c = (found_none c).reasons ∙ ap all_reasons c.self.view_is
@@ -64,3 +63,6 @@ returns-in_err-out-clause-reasons c = (found_err c).reasons ∙ ap all_reasons c
 
 pub returns-clause-reasons : goal.returns-clause-reasons
 returns-clause-reasons c = (asked_some c).reasons ∙ (found_some c).reasons ∙ ap all_reasons c.self.view_is
+
+pub returns-clause-size : goal.returns-clause-size
+returns-clause-size c = λ found. c.in_ok-out.ensures.size

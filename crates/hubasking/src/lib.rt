@@ -1,0 +1,31 @@
+//! A hub that asks its links what its sessions ask (RFC 8766, 5.6).
+#![tactic(auto)]
+
+mod asking;
+mod following;
+mod giving;
+mod hearing;
+pub mod hub;
+pub mod laws;
+mod seating;
+mod translating;
+
+ghost use Rattle.std.specs.Prelude.{◌≡◌, [], ◌∷◌, codes};
+ghost use Rattle.hubasking.specs.Worked.{asks, at, leaves, plain, reconfirms, says, sends, sent_after, subscribes, unsubscribes};
+
+pub use hub::Hub;
+pub use pushserver::{ConnectFault, Given, Heard, HubFault, NoMemory};
+
+/// Examples of what a link is asked, with the session's timers at their defaults.
+pub fn worked_rows()
+    // It is asked at once, after a second, and two seconds later, and told what is known.
+    ensures begins { sent_after (sends subscribes ∷ asks ∷ asks ∷ at 999 ∷ asks ∷ at 1000 ∷ asks ∷ at 1500 ∷ says 120 1 ∷ at 2999 ∷ asks ∷ at 3000 ∷ asks ∷ []) ≡ (plain ∷ []) ∷ [] ∷ [] ∷ (plain ∷ []) ∷ [] ∷ (codes "0000000000010001000000000168056c6f63616c00000100010168056c6f63616c0000010001000000760004c0000201" ∷ []) ∷ [] }
+    // A question goes with its subscription, and begins anew with another one.
+    ensures unsubscribed { sent_after (sends subscribes ∷ asks ∷ sends unsubscribes ∷ at 1000 ∷ asks ∷ sends subscribes ∷ asks ∷ []) ≡ (plain ∷ []) ∷ [] ∷ (plain ∷ []) ∷ [] }
+    // It goes with the session.
+    ensures ended { sent_after (sends subscribes ∷ asks ∷ leaves ∷ at 1000 ∷ asks ∷ []) ≡ (plain ∷ []) ∷ [] ∷ [] }
+    // Also where that ends as it was silent too long.
+    ensures silent { sent_after (sends subscribes ∷ asks ∷ at 29999 ∷ asks ∷ at 30000 ∷ asks ∷ []) ≡ (plain ∷ []) ∷ (plain ∷ []) ∷ [] ∷ [] }
+    // A row that is reconfirmed is asked for until it goes.
+    ensures confirms_a_row { sent_after (says 120 1 ∷ sends subscribes ∷ sends unsubscribes ∷ asks ∷ sends reconfirms ∷ asks ∷ at 1000 ∷ asks ∷ at 10000 ∷ asks ∷ []) ≡ [] ∷ (plain ∷ []) ∷ (plain ∷ []) ∷ [] ∷ [] }
+{}

@@ -1,0 +1,5 @@
+pub mod AllReasons
+pub mod Changing
+pub mod Counting
+pub mod Laws
+pub mod Tallies
