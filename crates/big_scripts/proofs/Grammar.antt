@@ -12,6 +12,7 @@ use Rattle.push_base.specs.Hexadecimal.{hex_text}
 use Rattle.push_base.specs.Optional.{◌>>=◌}
 use Rattle.dnsname.proofs.Decisions.{and_true}
 use Rattle.dnsname.specs.Text.{name}
+use Rattle.history.specs.declared.entry.HomeKind.TheVariants as of_home
 use Rattle.scripts.specs.Lines.{Word, ScriptLine, silent, head_line, joining, hub_event, link_event, client_call, client_passing, client_event, session_event, line_of}
 use Rattle.scripts.specs.declared.line.HubEvent.{HubEvent}
 use Rattle.scripts.specs.declared.line.LinkEvent.{LinkEvent}
@@ -167,7 +168,7 @@ all_words = codes "c" ∷ []
 
 -- what is known behind the opening lines
 abbrev known : Known
-known = record { in_head = false; has_timers = false; homes = (name (codes "example.com."), false) ∷ (name (codes "lan.example.com."), true) ∷ []; links = codes "lan" ∷ []; clients = (codes "c", false) ∷ [] }
+known = record { in_head = false; has_timers = false; homes = (name (codes "example.com."), of_home.Zone) ∷ (name (codes "lan.example.com."), of_home.Link) ∷ []; links = codes "lan" ∷ []; clients = (codes "c", false) ∷ [] }
 
 abbrev IsRead : Result (List ScriptLine) ℕ → Type 0
 IsRead read = (script : List ScriptLine) × (read ≡ Ok script)

@@ -35,6 +35,12 @@ pub(crate) const SERVE: &[Form] = &[
         is_single: false,
     },
     Form {
+        word: b"reverse",
+        written: "not `reverse WORD NAME`",
+        missing: None,
+        is_single: false,
+    },
+    Form {
         word: b"listen",
         written: "not `listen ADDRESS`",
         missing: Some("there is no line `listen ADDRESS`"),
@@ -86,6 +92,8 @@ const TURNS: Form = Form {
 };
 
 const NO_DOT: &str = "its name doesn't end with a dot";
+
+const NO_LINK: &str = "no line before it is of this link";
 
 /// Logs the number of the first line that is outside, and why it is.
 pub(crate) fn tell_cause<R: Log>(rt: &R, forms: &[Form], octets: &[u8], number: usize) {
@@ -157,6 +165,8 @@ impl Text<'_> {
             cause_in_zone(rest)
         } else if word == b"link".as_slice() {
             self.cause_in_link(rest)
+        } else if word == b"reverse".as_slice() {
+            self.cause_in_reverse(rest)
         } else if word == b"feed".as_slice() {
             self.cause_in_feed(rest)
         } else if word == b"question".as_slice() {
@@ -180,10 +190,23 @@ impl Text<'_> {
         Some("its name can't stand beside the zones and links before it")
     }
 
+    fn cause_in_reverse(&self, rest: &[u8]) -> Option<&'static str> {
+        let (word, name) = two_words(rest)?;
+        if !self.has_before(b"link", word) {
+            return Some(NO_LINK);
+        }
+        if !ends_with_dot(name) {
+            return Some(NO_DOT);
+        }
+        Some(
+            "its name ends in neither in-addr.arpa. nor ip6.arpa., or can't stand beside the homes before it",
+        )
+    }
+
     fn cause_in_feed(&self, rest: &[u8]) -> Option<&'static str> {
         let (word, _) = two_words(rest)?;
         if !self.has_before(b"link", word) {
-            return Some("no line before it is of this link");
+            return Some(NO_LINK);
         }
         if self.has_before(b"feed", word) {
             return Some("this link has a feed before it");

@@ -4,7 +4,7 @@ use Rattle.std.specs.Prelude.{nat_le}
 use Rattle.std.proofs.lemmas.Bool.Decides.{nat_tests}
 use Rattle.dsosession.specs.Timing.{least_keepalive}
 use Rattle.scripts.specs.Lines.{Word, timers, ScriptLine, head_line, line_of}
-use Rattle.scripts.proofs.lines.Readers.{OnEach, timers_reads, zone_reads, link_reads, hub_reads, on_link_reads, session_reads, joining_reads, call_reads, way_reads, client_reads, line-reads}
+use Rattle.scripts.proofs.lines.Readers.{OnEach, timers_reads, zone_reads, link_reads, reverse_reads, hub_reads, on_link_reads, session_reads, joining_reads, call_reads, way_reads, client_reads, line-reads}
 
 abbrev IsGranted : ScriptLine → Type 0
 IsGranted (head_line (timers i k)) = least_keepalive ≤ k
@@ -15,7 +15,7 @@ long_enough k h = grind (arith, nat_tests)
 
 each_granted : (w : Word) (ws : List Word) → OnEach IsGranted w ws
 each_granted w ws = record {
-  on_head = (timers_reads IsGranted (λ v i is x k at long. long_enough k long) ws, (zone_reads IsGranted (λ v apex is x serial at mode. tt) ws, (link_reads IsGranted (λ v u is x domain at most. tt) ws, tt)));
+  on_head = (timers_reads IsGranted (λ v i is x k at long. long_enough k long) ws, (zone_reads IsGranted (λ v apex is x serial at mode. tt) ws, (link_reads IsGranted (λ v u is x domain at most. tt) ws, (reverse_reads IsGranted (λ v u is x domain at. tt) ws, tt))));
   on_hub = hub_reads IsGranted (λ event. tt) w ws;
   on_link = on_link_reads IsGranted (λ v event. tt) w ws;
   on_session = session_reads IsGranted (λ v event. tt) w ws;

@@ -42,6 +42,7 @@ head_grows taken later (lines.Head line) head grows = by line grows
     by (heads.Timers t) grows = ap head_taken (sym grows)
     by (heads.Zone z) grows = ap (λ (s : State). head_of taken.timers s taken.links) (sym grows.0.state) ∙ ap head_taken (sym grows.1)
     by (heads.Link l) grows = ap (λ (s : State). head_of taken.timers s (taken.links ++ string_bytes l.word ∷ [])) (sym grows.0.state) ∙ ap head_taken (sym grows.1)
+    by (heads.Reverse r) grows = ap (λ (s : State). head_of taken.timers s taken.links) (sym grows.0.state) ∙ ap head_taken (sym grows.1)
 head_grows taken later (lines.Joining word is_lone) head grows = absurd cc
 head_grows taken later (lines.Event e) head grows = absurd (no_event e head)
 

@@ -5,12 +5,12 @@ use Rattle.std.specs.List.{position}
 use Rattle.std.specs.Str.{bytes_eq}
 use Rattle.push_base.specs.Optional.{◌>>=◌}
 use Rattle.scripts.specs.Lines as script
-use Rattle.scripts.specs.Lines.{Word, HeadLine, timers, zone, link, ScriptLine, silent, words_in, line_of}
+use Rattle.scripts.specs.Lines.{Word, HeadLine, timers, zone, link, reverse, ScriptLine, silent, words_in, line_of}
 use Rattle.scripts.specs.Scripts.{Known, is_head, fits}
 use Rattle.scripts.specs.Heads.{empty_head, with_head, with_head_line}
 use Rattle.scripts.specs.TextLines.{lines_taken}
 use Rattle.scripts.proofs.lines.LineByLine.{kept}
-use Rattle.scripts.proofs.lines.MoreLines.{start_more, start_linked}
+use Rattle.scripts.proofs.lines.MoreLines.{start_more, start_linked, start_reversed}
 use Rattle.configurations.specs.Configurations.{Serving, ServingDraft, no_serving, max_accepted, max_turns, address, number_once, once, is_fed, listen_line, sessions_line, turns_line, feed_line, head_line, serving_kind, serving_behind, serving_words, serving_line, serving_whole, serving_of, unless_missing}
 use Rattle.configurations.specs.declared.server_config.ServingKind.{ServingKind}
 use Rattle.configurations.specs.declared.server_config.ServingKind.TheVariants as of_server
@@ -84,7 +84,8 @@ line_serves d text (script.head_line line) e s = only_map Serves (fits [] d.know
     by : (line : HeadLine) → line_of text ≡ Some (script.head_line line) → CanServe (with_head d.head line)
     by (timers i m) e = record { start = s.start; keepalive = granted text i m e }
     by (zone apex serial mode) e = record { start = start_more d.head.start apex serial mode s.start; keepalive = s.keepalive }
-    by (link w domain most) e = record { start = start_linked d.head.start (record { domain = domain; cap = most }) s.start; keepalive = s.keepalive }
+    by (link w domain most) e = record { start = start_linked d.head.start (record { domain = domain; reverses = []; cap = most }) s.start; keepalive = s.keepalive }
+    by (reverse w domain) e = record { start = start_reversed d.head.start (position (bytes_eq w) d.head.links) domain s.start; keepalive = s.keepalive }
 line_serves d text _ e s = only_none Serves
 
 head_serves : (d : ServingDraft) (text : List ℕ) → Serves d → Only Serves (head_line d text)

@@ -6,6 +6,7 @@ use Rattle.std.proofs.lemmas.Str.{is_utf8-from_IsUtf8}
 use Rattle.push_base.specs.Optional.{◌>>=◌}
 use Rattle.dnsname.specs.Text.{name}
 use Rattle.history.specs.States.{no_cap}
+use Rattle.history.specs.declared.entry.HomeKind.TheVariants as of_home
 use Rattle.scripts.specs.Lines.{Word, ScriptLine, head_line, link}
 use Rattle.scripts.specs.Scripts.{nothing_known, known_behind}
 use Rattle.scripts.specs.Heads.{empty_head, with_head_line}
@@ -63,16 +64,16 @@ feeds_twice = ap (serving_behind_line 2 (codes "feed lan here" ∷ [])) (feeds l
 
 -- all lines but the last two
 abbrev homes_named : ServingDraft
-homes_named = record listened { head = serving.head; known = record nothing_known { has_timers = true; homes = (name (codes "example.com."), false) ∷ (name (codes "lan.example.com."), true) ∷ []; links = codes "lan" ∷ [] } }
+homes_named = record listened { head = serving.head; known = record nothing_known { has_timers = true; homes = (name (codes "example.com."), of_home.Zone) ∷ (name (codes "lan.example.com."), of_home.Link) ∷ (name (codes "2.0.192.in-addr.arpa."), of_home.Reverse) ∷ []; links = codes "lan" ∷ [] } }
 
 abbrev heads : List (List ℕ)
-heads = [] ∷ codes "timers 20000 10000" ∷ codes "zone example.com. 7 open" ∷ codes "link lan lan.example.com. 120" ∷ codes "feed lan here" ∷ codes "sessions 1000000" ∷ []
+heads = [] ∷ codes "timers 20000 10000" ∷ codes "zone example.com. 7 open" ∷ codes "link lan lan.example.com. 120" ∷ codes "reverse lan 2.0.192.in-addr.arpa." ∷ codes "feed lan here" ∷ codes "sessions 1000000" ∷ []
 
 pub all_lines : serving_of served ≡ Ok serving
 all_lines =
     ap (serving_behind_line 1 (codes "#here" ∷ heads)) (listens no_serving)
     ∙ ap (λ (o : Option ScriptLine). serving_behind_line 2 heads (by_line listened o)) (sym (comment_inside here is_text))
-    ∙ ap (serving_behind_line 7 (codes "sessions 1000000" ∷ [])) (feeds homes_named)
+    ∙ ap (serving_behind_line 8 (codes "sessions 1000000" ∷ [])) (feeds homes_named)
 
 -- ---- of a subscriber
 

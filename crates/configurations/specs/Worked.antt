@@ -13,13 +13,13 @@ text (line ∷ lines) = line ++ 10 ∷ text lines
 
 -- of a server: the last line has no line feed
 abbrev pub served : List ℕ
-served = text (codes "listen here" ∷ codes "#here" ∷ [] ∷ codes "timers 20000 10000" ∷ codes "zone example.com. 7 open" ∷ codes "link lan lan.example.com. 120" ∷ codes "feed lan here" ∷ []) ++ codes "sessions 1000000"
+served = text (codes "listen here" ∷ codes "#here" ∷ [] ∷ codes "timers 20000 10000" ∷ codes "zone example.com. 7 open" ∷ codes "link lan lan.example.com. 120" ∷ codes "reverse lan 2.0.192.in-addr.arpa." ∷ codes "feed lan here" ∷ []) ++ codes "sessions 1000000"
 
 abbrev pub serving : Serving
 serving = record {
   head = record {
     timers = record { inactivity = 20000; keepalive = 10000 };
-    start = record { zones = new_zone (name (codes "example.com.")) 7 true ∷ []; links = (record { rules = record { domain = name (codes "lan.example.com."); cap = 120 }; rows = [] }) ∷ []; now = 0 };
+    start = record { zones = new_zone (name (codes "example.com.")) 7 true ∷ []; links = (record { rules = record { domain = name (codes "lan.example.com."); reverses = name (codes "2.0.192.in-addr.arpa.") ∷ []; cap = 120 }; rows = [] }) ∷ []; now = 0 };
     links = codes "lan" ∷ [];
   };
   listen = codes "here";

@@ -31,6 +31,8 @@ pub fn worked_servers()
     ensures no_word { serving_of (text (codes "listen " ∷ [])) ≡ Err 1 }
     ensures many_turns { serving_of (text (codes "turns 1099511627777" ∷ [])) ≡ Err 1 }
     ensures turns_twice { serving_of (text (codes "turns 0" ∷ codes "turns 1099511627776" ∷ [])) ≡ Err 2 }
+    ensures reverse_first { serving_of (text (codes "reverse lan 2.0.192.in-addr.arpa." ∷ codes "link lan lan.example.com." ∷ [])) ≡ Err 1 }
+    ensures reverse_elsewhere { serving_of (text (codes "link lan lan.example.com." ∷ codes "reverse lan example.org." ∷ [])) ≡ Err 2 }
     ensures event { serving_of (text (codes "zone example.com. 1 open" ∷ codes "point" ∷ [])) ≡ Err 2 }
     ensures client { serving_of (text (codes "client c" ∷ [])) ≡ Err 1 }
     ensures short_keepalive { serving_of (text (codes "timers 0 9999" ∷ [])) ≡ Err 1 }

@@ -18,7 +18,7 @@ ghost use Rattle.dnsquery.specs.Worked.{asks, reached, zone};
 
 pub use lookup::Lookup;
 pub use query::{Query, QueryFault, read_query};
-pub use replying::{reply, write_reply, write_reply_to};
+pub use replying::{USUAL_REPLY, reply, write_reply, write_reply_to};
 
 /// Examples of queries.
 pub fn worked_queries()

@@ -26,6 +26,9 @@ pub const AUTHORITATIVE: u16 = 0x0400;
 /// The most octets of a reply: a header, a question, eight CNAMEs, and the records of a name (this project's own).
 pub const MAX_REPLY: usize = 64_431;
 
+/// The octets that most replies fit into, so that room for them is made at once: those of a message over UDP (RFC 1035, 4.2.1).
+pub const USUAL_REPLY: usize = 512;
+
 /// QR, RD as asked, and an RCODE.
 fn plain_flags(flags: u16, rcode: u8) -> u16
     ensures { result ≡ plain_flags flags rcode }
@@ -101,7 +104,7 @@ fn answer<R: Lookup>(
     ensures octets { OnOk result (out.new.items ≡ out.old.items ++ answers_query query.now (walk (R.known records.now) query.now.question)) }
     ensures size { OnOk result (length out.new.items ≤ length out.old.items + max_reply) }
 {
-    let mut answers = Vec::new(alloc);
+    let mut answers = Vec::with_capacity(alloc, USUAL_REPLY)?;
     let walked = walk(alloc, records, &query.question, &mut answers)?;
     let flags = own_flags(query.flags, walked.rcode);
     let count = walked.count as u16;

@@ -4,11 +4,13 @@
 use Rattle.std.proofs.Common.{◌≡◌, true, ◌&&◌, List, [], ◌∷◌, length, take, Option, Some, None, option_map, fold, ap, ◌∙◌, refl}
 use Rattle.std.specs.Prelude.{is_some, position, ◌==◌}
 use Rattle.std.proofs.lemmas.Bool.{and_parts, eqb-true}
+use Rattle.std.specs.List.{list_any}
 use Rattle.dnsname.specs.Names.{Labels, same_name, home}
 use Rattle.rrset.specs.Records.{same_question}
 use Rattle.rrset.specs.declared.record.Question.{Question}
 use Rattle.history.specs.AtHome.{AreAtHome}
 use Rattle.history.specs.States.{State, home_names, home_of, after}
+use Rattle.linkcache.specs.Rows.{names_of}
 use Rattle.history.specs.declared.entry.Entry.{Entry}
 use Rattle.history.specs.declared.entry.Home.{Home}
 use Rattle.history.specs.declared.entry.Home.TheVariants as homes
@@ -24,7 +26,7 @@ abbrev home_named : State → Option Labels → Option Home
 home_named state None = None
 home_named state (Some h) = elim (position (λ z. same_name z.apex h) state.zones) [
   | Some i ↦ Some (homes.Zone i)
-  | None ↦ option_map (λ i. homes.Link i) (position (λ l. same_name l.rules.domain h) state.links)
+  | None ↦ option_map (λ i. homes.Link i) (position (λ l. list_any (same_name h) (names_of l.rules)) state.links)
 ]
 
 served-alike : (state : State) (p q : Question) → same_question p q ≡ true → is_served_at state p ≡ is_served_at state q

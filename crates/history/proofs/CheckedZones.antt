@@ -3,6 +3,7 @@ use Rattle.std.proofs.Common.{◌≡◌, ℕ, zero, suc, ◌<◌, true, List, []
 use Rattle.std.specs.Prelude.{position, slice_get}
 use Rattle.std.specs.List.{list_any}
 use Rattle.std.proofs.lemmas.List.{length-append}
+use Rattle.std.proofs.lemmas.List.Folds.{flat_map-map}
 use Rattle.push_base.specs.Cases.{changed_at}
 use Rattle.dnsname.specs.Names.{Labels, same_name}
 use Rattle.dnswire.specs.declared.message.Update.{Update}
@@ -16,9 +17,11 @@ use Rattle.zoneupdate.specs.declared.plan.Verdict.TheVariants as verdicts
 use Rattle.zoneupdate.proofs.Filters.{or-left, or-right}
 use Rattle.zoneupdate.proofs.Owners.{same_name-itself}
 use Rattle.linkcache.specs.Links.{LinkState, LinkKept}
+use Rattle.linkcache.specs.Rows.{names_of}
 use Rattle.history.specs.AtHome.{AreAtHome}
 use Rattle.history.specs.HeldPlans.{Checks, IsCheckReady, IsZoneReady, zone_changed}
 use Rattle.history.specs.Kept.{states_at}
+use Rattle.history.specs.Longest.{link_names}
 use Rattle.history.specs.States.{State, home_names, zone_asked}
 use Rattle.history.specs.declared.updating.Checked.TheVariants as results
 use Rattle.history.proofs.Elements.{same_some, slice_get-map, element_at, element_here}
@@ -32,11 +35,8 @@ states zones = map (λ (z : ZoneKept). z.state) zones
 abbrev pub apexes_kept : List ZoneKept → List Labels
 apexes_kept zones = map (λ (z : ZoneKept). z.state.apex) zones
 
-abbrev pub domains_kept : List LinkKept → List Labels
-domains_kept links = map (λ (l : LinkKept). l.state.rules.domain) links
-
-pub names-kept : (zones : List ZoneKept) (links : List LinkKept) (t : ℕ) → apexes_kept zones ++ domains_kept links ≡ home_names (states_at zones links t)
-names-kept zones links t = sym (λ i. map-twice (λ (z : ZoneKept). z.state) (λ (z : ZoneState). z.apex) zones i ++ map-twice (λ (l : LinkKept). l.state) (λ (l : LinkState). l.rules.domain) links i)
+pub names-kept : (zones : List ZoneKept) (links : List LinkKept) (t : ℕ) → apexes_kept zones ++ link_names links ≡ home_names (states_at zones links t)
+names-kept zones links t = sym (λ i. map-twice (λ (z : ZoneKept). z.state) (λ (z : ZoneState). z.apex) zones i ++ flat_map-map (λ (l : LinkState). names_of l.rules) (λ (l : LinkKept). l.state) links i)
 
 -- the first zone of a name
 abbrev pub first_named : List ZoneKept → Labels → Option ℕ
@@ -57,10 +57,10 @@ any_of (z ∷ zones) more (suc i) zone e = or-right (same_name zone.state.apex z
 
 -- the homes that lie under the zone in its place
 abbrev pub UnderAt : List ZoneKept → List LinkKept → ℕ → List Labels → Type 0
-UnderAt zones links i under = (zone : ZoneKept) → slice_get zones i ≡ Some zone → under ≡ filter (lies_under zone.state.apex) (apexes_kept zones ++ domains_kept links)
+UnderAt zones links i under = (zone : ZoneKept) → slice_get zones i ≡ Some zone → under ≡ filter (lies_under zone.state.apex) (apexes_kept zones ++ link_names links)
 
-is_under-at : (zones : List ZoneKept) (links : List LinkKept) (i : ℕ) (under : List Labels) → UnderAt zones links i under → (zone : ZoneKept) → slice_get zones i ≡ Some zone → IsUnder (apexes_kept zones ++ domains_kept links) zone.state.apex under
-is_under-at zones links i under is zone at = record { is_home = any_of zones (domains_kept links) i zone at; are_under = is zone at }
+is_under-at : (zones : List ZoneKept) (links : List LinkKept) (i : ℕ) (under : List Labels) → UnderAt zones links i under → (zone : ZoneKept) → slice_get zones i ≡ Some zone → IsUnder (apexes_kept zones ++ link_names links) zone.state.apex under
+is_under-at zones links i under is zone at = record { is_home = any_of zones (link_names links) i zone at; are_under = is zone at }
 
 -- what the zone in its place gets, whatever the homes are
 abbrev pub JudgesAt : List ZoneKept → ℕ → List Labels → Update → Verdict → Type 0
@@ -71,7 +71,7 @@ judged_at : (zones : List ZoneKept) (links : List LinkKept) (t i : ℕ) (under :
 judged_at zones links t i under update verdict state at is judges =
     let kept = element_at (λ (z : ZoneKept). z.state) zones i state at in
     subst (λ (homes : List Labels). Judges state verdict (judged homes state update)) (names-kept zones links t)
-    (subst (λ s. Judges s verdict (judged (apexes_kept zones ++ domains_kept links) s update)) kept.2 (judges kept.0 (apexes_kept zones ++ domains_kept links) kept.1 (is_under-at zones links i under is kept.0 kept.1)))
+    (subst (λ s. Judges s verdict (judged (apexes_kept zones ++ link_names links) s update)) kept.2 (judges kept.0 (apexes_kept zones ++ link_names links) kept.1 (is_under-at zones links i under is kept.0 kept.1)))
 
 pub checked-refused : (zones : List ZoneKept) (links : List LinkKept) (update : Update) (apex : Labels) (i : ℕ) (under : List Labels) (code : ℕ) → zone_asked update.zones ≡ Ok apex → Some i ≡ first_named zones apex → UnderAt zones links i under
     → JudgesAt zones i under update (verdicts.Refuse code) → (t : ℕ) → Checks (states_at zones links t) update (results.Refuse code)
@@ -111,7 +111,7 @@ pub room-at : (zones now : List ZoneKept) (links : List LinkKept) (update : Upda
 room-at zones now links update apex i under changed found is judges same room =
     let old = element_here zones i (first-within zones apex i found) in
     let later = element_at (λ (z : ZoneKept). z.state) now i old.0.state (ap (λ (ss : List ZoneState). slice_get ss i) same ∙ slice_get-map (λ (z : ZoneKept). z.state) zones i old.0 old.1) in
-    let homes = apexes_kept zones ++ domains_kept links in
+    let homes = apexes_kept zones ++ link_names links in
     let step = judges old.0 homes old.1 (is_under-at zones links i under is old.0 old.1) in
     subst (λ o. IsZoneReady o changed) (sym later.1) (
       (step.0, subst (λ (s : ZoneState). Leads s changed step.0) (sym later.2) (record { homes = homes; update = update; step = step.1; keys = step.2 })),

@@ -32,6 +32,11 @@ slice_get-map f [] i x e = cc
 slice_get-map f (y ∷ xs) zero x e = ap (λ z. Some (f z)) (same_some y x e)
 slice_get-map f (y ∷ xs) (suc i) x e = slice_get-map f xs i x e
 
+pub slice_get-front : {X : Type 0} (a b : List X) (i : ℕ) (x : X) → slice_get a i ≡ Some x → slice_get (a ++ b) i ≡ Some x
+slice_get-front [] b i x e = cc
+slice_get-front (y ∷ a) b zero x e = e
+slice_get-front (y ∷ a) b (suc i) x e = slice_get-front a b i x e
+
 -- the element at a place that there is
 pub element_here : {X : Type 0} (xs : List X) (i : ℕ) → i < length xs → (x : X) × (slice_get xs i ≡ Some x)
 element_here [] i h = absurd (omega arith)

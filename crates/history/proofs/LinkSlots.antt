@@ -1,17 +1,21 @@
 -- What steps get of links that are kept one behind another, and what plans make of them.
 use Rattle.std.proofs.Common.{◌≡◌, ℕ, zero, suc, ◌+◌, ◌<◌, Bool, true, false, List, [], ◌∷◌, ◌++◌, length, get_or, set, take, drop, map, Option, Some, None, Result, Ok, Err, refl, sym, ap, subst, ◌∙◌}
-use Rattle.std.specs.Prelude.{slice_get, IfOk, IfSome}
+use Rattle.std.specs.Prelude.{slice_get, IfOk, IfSome, OnOk}
 use Rattle.std.specs.List.{AllZip}
 use Rattle.push_base.specs.Cases.{changed_at}
+use Rattle.dnsname.specs.Names.{Labels}
 use Rattle.rrset.specs.declared.record.HeardRr.{HeardRr}
 use Rattle.rrset.specs.declared.record.Hearing.{Hearing}
+use Rattle.reversemap.specs.BothKinds.{IsApart}
 use Rattle.linkcache.specs.Links.{LinkState, LinkKept, HasRoom}
 use Rattle.linkcache.specs.Plans.{LinkPlan, IsPlanOf, IsHeardPlan, IsMomentPlan, Leads}
 use Rattle.linkcache.specs.Rows.{LinkRows, at_moment}
+use Rattle.history.specs.Kept.{HasNoRow}
 use Rattle.history.specs.LinkSteps.{EndsBy, StepsIn}
+use Rattle.history.specs.States.{with_reverse}
 use Rattle.history.specs.HeldPlans.{IsPlanIn, IsLinkReady, link_changed, links_changed}
 use Rattle.history.specs.declared.entry.Entry.TheVariants as entries
-use Rattle.history.proofs.Elements.{slice_get-set, slice_get-within, slice_get-map, element_here, ok-as, one_more, zip-more, zip-first}
+use Rattle.history.proofs.Elements.{slice_get-set, slice_get-read, slice_get-within, slice_get-map, map-changed, element_here, element_at, ok-as, one_more, zip-more, zip-first}
 
 abbrev pub link_states : List LinkKept → List LinkState
 link_states links = map (λ l. l.state) links
@@ -109,3 +113,23 @@ plans-more whole links now_links i plan left rest so_far is states behind =
           ∙ ap (λ ss. take (suc i) ss ++ links_changed rest (drop (suc i) ss)) states
           ∙ changed-front (link_changed plan) rest plan (link_states links) i first.0.state refl here ∙ now_left.reached;
     }
+
+-- ---- a reverse domain more
+
+-- there is such a link
+pub row-within : (links : List LinkKept) (i : ℕ) → HasNoRow (slice_get (link_states links) i) → i < length links
+row-within links i none = by (slice_get (link_states links) i) refl none
+  where
+    by : (o : Option LinkState) → slice_get (link_states links) i ≡ o → HasNoRow o → i < length links
+    by None e none = absurd none
+    by (Some link) e none = let kept = element_at (λ (l : LinkKept). l.state) links i link e in slice_get-within links i kept.0 kept.1
+
+pub apart-here : (links : List LinkKept) (i : ℕ) (old : LinkKept) (domain : Labels) → HasNoRow (slice_get (link_states links) i) → old ≡ get_or links i old → ((link : LinkState) → slice_get (link_states links) i ≡ Some link → IsApart link.rules.domain domain)
+    → IsApart (get_or links i old).state.rules.domain domain
+apart-here links i old domain none is apart = subst (λ (l : LinkKept). IsApart l.state.rules.domain domain) is (apart old.state (slice_get-map (λ (l : LinkKept). l.state) links i old (slice_get-read links i old (row-within links i none) is)))
+
+-- the link at a place with a reverse domain more
+pub reversed-here : {X E : Type 0} (links : List LinkKept) (i : ℕ) (old new : LinkKept) (domain : Labels) (r : Result X E) → HasNoRow (slice_get (link_states links) i) → old ≡ get_or links i old
+    → OnOk r (new ≡ record (get_or links i old) { state = with_reverse domain (get_or links i old).state }) → OnOk r (link_states (set links i new) ≡ changed_at i (with_reverse domain) (link_states links))
+reversed-here links i old new domain (Err e) none is made = tt
+reversed-here links i old new domain (Ok x) none is made = map-changed (λ (l : LinkKept). l.state) (with_reverse domain) links i old new (row-within links i none) is (ap (λ (l : LinkKept). l.state) made)

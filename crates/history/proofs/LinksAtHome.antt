@@ -1,45 +1,51 @@
--- A link is the home of each owner that it shows, since no home lies under a link.
-use Rattle.std.proofs.Common.{◌≡◌, Bool, true, false, cond, not, ◌&&◌, List, [], ◌∷◌, ◌++◌, filter, refl, sym, ap, subst, ◌∙◌, append_assoc}
+-- One of a link's names is the home of each owner that it shows, since no home lies under one of them.
+use Rattle.std.proofs.Common.{◌≡◌, Bool, true, false, cond, not, ◌&&◌, ◌||◌, List, [], ◌∷◌, ◌++◌, filter, map, refl, sym, ap, subst, ◌∙◌, append_assoc}
 use Rattle.std.specs.List.{list_all, list_any, AllByRecursion, IsDistinct}
 use Rattle.dnsname.specs.Names.{Labels, same_name, ends_in}
 use Rattle.rrset.specs.RecordSet.{RecordSet}
+use Rattle.rrset.specs.declared.record.Key.{Key}
+use Rattle.rrset.specs.declared.record.Shown.{Shown}
 use Rattle.zoneupdate.specs.KeptZones.{lies_under}
 use Rattle.zoneupdate.specs.Zones.{is_inside}
 use Rattle.zoneupdate.proofs.Filters.{and-both, or-left, or-right}
 use Rattle.zoneupdate.proofs.Homes.{is_inside-under}
 use Rattle.zoneupdate.proofs.Owners.{same_name-itself}
+use Rattle.reversemap.specs.Reverse.{is_under}
 use Rattle.linkcache.specs.Links.{IsLink}
-use Rattle.linkcache.specs.Rows.{LinkRows, shown_rows}
+use Rattle.linkcache.specs.Rows.{LinkRows, names_of, shown_rows}
 use Rattle.linkcache.specs.Sound.{AreLinkRows}
-use Rattle.history.specs.Homes.{NamedHome, clashes}
-use Rattle.history.specs.States.{State, LinkState, home_names}
-use Rattle.history.specs.AtHome.{AreAtHome, homes_in, named_zones, named_links}
-use Rattle.history.proofs.Distinct.{all-both, all-as, distinct-parts}
-use Rattle.history.proofs.HomeSets.{IsSetAtHome, AreSetsAtHome, names_of, names-are, sets-named, home_sets, named_sets, zone_sets, link_sets, zones-at_home}
-use Rattle.history.proofs.LinkShown.{AllUnder, all_under, set-shown}
-use Rattle.history.proofs.Together.{clashes-turned, not-under}
 use Rattle.linkcache.specs.declared.rules.LinkRules.{LinkRules}
+use Rattle.linkcache.proofs.ShownNames.{all-under}
+use Rattle.history.specs.Homes.{NamedHome, is_of_link, clashes}
+use Rattle.history.specs.States.{State, LinkState, home_names}
+use Rattle.history.specs.AtHome.{AreAtHome, homes_in, named_zones, named_link, named_links}
+use Rattle.history.specs.declared.entry.HomeKind.TheVariants as kinds
+use Rattle.history.proofs.Distinct.{all-both, all-as, distinct-parts}
+use Rattle.history.proofs.HomeSets.{IsSetAtHome, AreSetsAtHome, names-are, link-labels, home_sets, zone_sets, link_sets, zones-at_home}
+use Rattle.history.proofs.LinkShown.{set-shown}
+use Rattle.history.proofs.NamesApart.{owns, home_labels}
+use Rattle.history.proofs.Together.{clashes-turned, not-under}
 
 abbrev NotUnder : Labels → NamedHome → Type 0
 NotUnder domain home = lies_under domain home.0 ≡ false
 
-none_under : (domain : Labels) (homes : List NamedHome) → AllByRecursion (NotUnder domain) homes → filter (lies_under domain) (names_of homes) ≡ []
+none_under : (domain : Labels) (homes : List NamedHome) → AllByRecursion (NotUnder domain) homes → filter (lies_under domain) (home_labels homes) ≡ []
 none_under domain [] all = refl
-none_under domain (h ∷ homes) all = ap (λ b. cond b (h.0 ∷ filter (lies_under domain) (names_of homes)) (filter (lies_under domain) (names_of homes))) all.0 ∙ none_under domain homes all.1
+none_under domain (h ∷ homes) all = ap (λ b. cond b (h.0 ∷ filter (lies_under domain) (home_labels homes)) (filter (lies_under domain) (home_labels homes))) all.0 ∙ none_under domain homes all.1
 
-any_named : (before : List NamedHome) (domain : Labels) (behind : List NamedHome) → list_any (same_name domain) (names_of (before ++ (domain, true) ∷ behind)) ≡ true
-any_named [] domain behind = or-left (same_name domain domain) (list_any (same_name domain) (names_of behind)) (same_name-itself domain)
-any_named (h ∷ before) domain behind = or-right (same_name domain h.0) (list_any (same_name domain) (names_of (before ++ (domain, true) ∷ behind))) (any_named before domain behind)
+any_named : (before : List NamedHome) (here : NamedHome) (behind : List NamedHome) → list_any (same_name here.0) (home_labels (before ++ here ∷ behind)) ≡ true
+any_named [] here behind = or-left (same_name here.0 here.0) (list_any (same_name here.0) (home_labels behind)) (same_name-itself here.0)
+any_named (h ∷ before) here behind = or-right (same_name here.0 h.0) (list_any (same_name here.0) (home_labels (before ++ here ∷ behind))) (any_named before here behind)
 
--- what lies under the domain of a link has the link for its home
-pub link-inside : (before : List NamedHome) (domain owner : Labels) (behind : List NamedHome) → IsDistinct clashes (before ++ (domain, true) ∷ behind) → ends_in owner domain ≡ true
-    → is_inside (names_of (before ++ (domain, true) ∷ behind)) domain owner ≡ true
-link-inside before domain owner behind apart ends =
-    is_inside-under (names_of all) domain [] (record { is_home = any_named before domain behind; are_under = sym (none_under domain all none) }) owner
-    ∙ and-both (ends_in owner domain) true ends refl
+-- what lies under a link's domain, or under a reverse domain, has that for its home
+pub name-inside : (before : List NamedHome) (here : NamedHome) (behind : List NamedHome) (owner : Labels) → is_of_link here.1 ≡ true → IsDistinct clashes (before ++ here ∷ behind) → ends_in owner here.0 ≡ true
+    → is_inside (home_labels (before ++ here ∷ behind)) here.0 owner ≡ true
+name-inside before here behind owner of_link apart ends =
+    is_inside-under (home_labels all) here.0 [] (record { is_home = any_named before here behind; are_under = sym (none_under here.0 all none) }) owner
+    ∙ and-both (ends_in owner here.0) true ends refl
   where
     all : List NamedHome
-    all = before ++ (domain, true) ∷ behind
+    all = before ++ here ∷ behind
 
     not-both : (a b : Bool) → a ≡ false → (a && b) ≡ false
     not-both true b e = cc
@@ -50,36 +56,69 @@ link-inside before domain owner behind apart ends =
     itself false true e = refl
     itself a false e = cc
 
-    others : AllByRecursion (λ (y : NamedHome). clashes y (domain, true) ≡ false) before × AllByRecursion (λ (y : NamedHome). clashes (domain, true) y ≡ false) behind
-    others = distinct-parts clashes before (domain, true) behind apart
+    others : AllByRecursion (λ (y : NamedHome). clashes y here ≡ false) before × AllByRecursion (λ (y : NamedHome). clashes here y ≡ false) behind
+    others = distinct-parts clashes before here behind apart
 
-    none : AllByRecursion (NotUnder domain) all
-    none = all-both (NotUnder domain) before ((domain, true) ∷ behind)
-        (all-as (λ (y : NamedHome). clashes y (domain, true) ≡ false) (NotUnder domain) (λ y e. not-both (ends_in y.0 domain) (not (same_name y.0 domain)) (not-under y domain e)) before others.0) (
-          itself (ends_in domain domain) (same_name domain domain) (same_name-itself domain),
-          all-as (λ (y : NamedHome). clashes (domain, true) y ≡ false) (NotUnder domain) (λ y e. not-both (ends_in y.0 domain) (not (same_name y.0 domain)) (not-under y domain (clashes-turned y (domain, true) ∙ e))) behind others.1,
-        )
+    apart-from : (y : NamedHome) → clashes y here ≡ false → NotUnder here.0 y
+    apart-from y e = not-both (ends_in y.0 here.0) (not (same_name y.0 here.0)) (not-under y here of_link e)
 
-inside-under : (homes : List Labels) (domain : Labels) → ((owner : Labels) → ends_in owner domain ≡ true → is_inside homes domain owner ≡ true) → (set : RecordSet) → AllUnder domain set → list_all (λ e. is_inside homes domain e.0.owner) set ≡ true
-inside-under homes domain inside [] all = refl
-inside-under homes domain inside (e ∷ set) all = and-both (is_inside homes domain e.0.owner) (list_all (λ x. is_inside homes domain x.0.owner) set) (inside e.0.owner all.0) (inside-under homes domain inside set all.1)
+    none : AllByRecursion (NotUnder here.0) all
+    none = all-both (NotUnder here.0) before (here ∷ behind) (all-as (λ (y : NamedHome). clashes y here ≡ false) (NotUnder here.0) apart-from before others.0) (
+      itself (ends_in here.0 here.0) (same_name here.0 here.0) (same_name-itself here.0),
+      all-as (λ (y : NamedHome). clashes here y ≡ false) (NotUnder here.0) (λ y e. apart-from y (clashes-turned y here ∙ e)) behind others.1,
+    )
+
+-- homes that are a link's names
+abbrev pub AreOfLink : List NamedHome → Type 0
+AreOfLink own = AllByRecursion (λ h. is_of_link h.1 ≡ true) own
+
+reverses-of_link : (reverses : List Labels) → AreOfLink (map (λ r. (r, kinds.Reverse)) reverses)
+reverses-of_link [] = tt
+reverses-of_link (r ∷ reverses) = (refl, reverses-of_link reverses)
+
+pub names-of_link : (link : LinkState) → AreOfLink (named_link link)
+names-of_link link = (refl, reverses-of_link link.rules.reverses)
+
+-- what lies under one of them has one of them for its home
+names-inside : (homes front own behind : List NamedHome) (owner : Labels) → AreOfLink own → homes ≡ front ++ (own ++ behind) → IsDistinct clashes homes → is_under (home_labels own) owner ≡ true → owns (home_labels homes) (home_labels own) owner ≡ true
+names-inside homes front [] behind owner of_link parts apart under = cc
+names-inside homes front (h ∷ own) behind owner of_link parts apart under = by (ends_in owner h.0) refl under (names-inside homes (front ++ h ∷ []) own behind owner of_link.1 next apart)
+  where
+    next : homes ≡ (front ++ h ∷ []) ++ (own ++ behind)
+    next = parts ∙ sym (append_assoc front (h ∷ []) (own ++ behind))
+
+    by : (b : Bool) → ends_in owner h.0 ≡ b → (b || is_under (home_labels own) owner) ≡ true → (is_under (home_labels own) owner ≡ true → owns (home_labels homes) (home_labels own) owner ≡ true)
+        → (is_inside (home_labels homes) h.0 owner || owns (home_labels homes) (home_labels own) owner) ≡ true
+    by true ends u rest =
+        or-left (is_inside (home_labels homes) h.0 owner) (owns (home_labels homes) (home_labels own) owner)
+        (ap (λ (hs : List NamedHome). is_inside (home_labels hs) h.0 owner) parts ∙ name-inside front h (own ++ behind) owner of_link.0 (subst (IsDistinct clashes) parts apart) ends)
+    by false ends u rest = or-right (is_inside (home_labels homes) h.0 owner) (owns (home_labels homes) (home_labels own) owner) (rest u)
 
 -- all that a link shows is at home
-pub link-at_home : (homes before : List NamedHome) (rules : LinkRules) (behind : List NamedHome) (rows : LinkRows) → homes ≡ before ++ (rules.domain, true) ∷ behind → IsDistinct clashes homes → AreLinkRows rules rows
-    → IsSetAtHome (names_of homes) ((rules.domain, true), shown_rows rules rows)
-link-at_home homes before rules behind rows parts apart sound = record {
+pub link-at_home : (homes front own behind : List NamedHome) (rules : LinkRules) (rows : LinkRows) → AreOfLink own → home_labels own ≡ names_of rules → homes ≡ front ++ (own ++ behind) → IsDistinct clashes homes → AreLinkRows rules rows
+    → IsSetAtHome (home_labels homes) (names_of rules, shown_rows rules rows)
+link-at_home homes front own behind rules rows of_link named parts apart sound = record {
   set = set-shown rules rows;
-  inside = inside-under (names_of homes) rules.domain inside (shown_rows rules rows) (all_under rules rows sound);
+  inside = all-inside (shown_rows rules rows) (all-under rules rows sound);
 }
   where
-    inside : (owner : Labels) → ends_in owner rules.domain ≡ true → is_inside (names_of homes) rules.domain owner ≡ true
-    inside owner ends = ap (λ (hs : List NamedHome). is_inside (names_of hs) rules.domain owner) parts ∙ link-inside before rules.domain owner behind (subst (IsDistinct clashes) parts apart) ends
+    hs : List Labels
+    hs = home_labels homes
 
-links-at_home : (homes front : List NamedHome) (links : List LinkState) → homes ≡ front ++ named_links links → IsDistinct clashes homes → AllByRecursion IsLink links → AreSetsAtHome (names_of homes) (link_sets links)
+    one-inside : (owner : Labels) → is_under (names_of rules) owner ≡ true → owns hs (names_of rules) owner ≡ true
+    one-inside owner under =
+        ap (λ (ns : List Labels). owns hs ns owner) (sym named)
+        ∙ names-inside homes front own behind owner of_link parts apart (ap (λ (ns : List Labels). is_under ns owner) named ∙ under)
+
+    all-inside : (set : RecordSet) → AllByRecursion (λ (e : Key × Shown). is_under (names_of rules) e.0.owner ≡ true) set → list_all (λ (e : Key × Shown). owns hs (names_of rules) e.0.owner) set ≡ true
+    all-inside [] all = refl
+    all-inside (e ∷ set) all = and-both (owns hs (names_of rules) e.0.owner) (list_all (λ (x : Key × Shown). owns hs (names_of rules) x.0.owner) set) (one-inside e.0.owner all.0) (all-inside set all.1)
+
+links-at_home : (homes front : List NamedHome) (links : List LinkState) → homes ≡ front ++ named_links links → IsDistinct clashes homes → AllByRecursion IsLink links → AreSetsAtHome (home_labels homes) (link_sets links)
 links-at_home homes front [] parts apart are = tt
 links-at_home homes front (l ∷ links) parts apart are = (
-  link-at_home homes front l.rules (named_links links) l.rows parts apart are.0.sound,
-  links-at_home homes (front ++ (l.rules.domain, true) ∷ []) links (parts ∙ sym (append_assoc front ((l.rules.domain, true) ∷ []) (named_links links))) apart are.1,
+  link-at_home homes front (named_link l) (named_links links) l.rules l.rows (names-of_link l) (link-labels l) parts apart are.0.sound,
+  links-at_home homes (front ++ named_link l) links (parts ∙ sym (append_assoc front (named_link l) (named_links links))) apart are.1,
 )
 
 pub sets-at_home : (state : State) → AreAtHome state → AreSetsAtHome (home_names state) (home_sets state)
@@ -87,6 +126,3 @@ sets-at_home state home =
     all-both (IsSetAtHome (home_names state)) (zone_sets state.zones) (link_sets state.links)
     (zones-at_home (home_names state) state.zones home.zones)
     (subst (λ (homes : List Labels). AreSetsAtHome homes (link_sets state.links)) (names-are state) (links-at_home (homes_in state) (named_zones state.zones) state.links refl home.apart.apart home.links))
-
-pub sets-apart : (state : State) → AreAtHome state → IsDistinct clashes (named_sets (home_sets state))
-sets-apart state home = subst (IsDistinct clashes) (sym (sets-named state)) home.apart.apart

@@ -32,7 +32,7 @@ are_later : (t : ℕ) (links : List LinkState) (ps : List LinkPlan) → AllZip (
 are_later t [] [] each = tt
 are_later t [] (p ∷ ps) each = absurd each
 are_later t (l ∷ links) [] each = absurd each
-are_later t (l ∷ links) (p ∷ ps) each = (record { domain = refl; sound = each.0.sound }, are_later t links ps each.1)
+are_later t (l ∷ links) (p ∷ ps) each = (record { names = refl; sound = each.0.sound }, are_later t links ps each.1)
 
 keys-changed : (t : ℕ) (links : List LinkState) (ps : List LinkPlan) → AllZip (EndsBy t) links ps → each_changed links (map (link_at_moment t) links) ≡ keys_of ps
 keys-changed t [] [] each = refl

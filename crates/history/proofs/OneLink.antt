@@ -65,7 +65,7 @@ rows-of : (l : LinkState) → IsLink l → AreRows l
 rows-of l is = record { order = holds _ is.order; sound = is.sound; within = is.within }
 
 link-with : (l : LinkState) (rows : LinkRows) → IsLink l → AreRows (record l { rows = rows }) → IsLink (record l { rows = rows })
-link-with l rows is are = record { name = is.name; order = is_true _ are.order; sound = are.sound; within = are.within }
+link-with l rows is are = record { name = is.name; reverses = is.reverses; apart = is.apart; order = is_true _ are.order; sound = are.sound; within = are.within }
 
 pub link-after : (entry : Entry) (now : ℕ) (l : LinkState) → IsLink l → IsLink (link_after entry now l)
 link-after entry now l is = link-with l (rows_after entry now l) is (rows-after entry now l (rows-of l is))

@@ -1,5 +1,5 @@
 -- What is shown otherwise where each home changes for itself: the changes of all, gathered in key order.
---     HomePair      a home's name, and what it showed and shows
+--     HomePair      a home's names, and what it showed and shows
 --     noted_at q before after      what is noted at a key
 use Rattle.std.proofs.Common.{◌≡◌, Bool, true, false, cond, not, ◌&&◌, ◌||◌, T, List, [], ◌∷◌, map, fold, Option, Some, None, is_some, refl, sym, ap, subst, ◌∙◌}
 use Rattle.std.specs.Prelude.{flat_map}
@@ -19,18 +19,15 @@ use Rattle.rrset.proofs.InOrder.{InOrder, in_order-only, in_order-union}
 use Rattle.rrset.proofs.SameRows.{same_key-same}
 use Rattle.rrset.proofs.Sets.{shown_at-only, is_some-union}
 use Rattle.rrset.proofs.WithChanges.{change_at}
-use Rattle.zoneupdate.specs.Zones.{is_inside}
 use Rattle.zoneupdate.proofs.RecordSets.{set-in_order}
-use Rattle.zoneupdate.proofs.NameHomes.{inside-one}
 use Rattle.linkcache.proofs.KeyedParts.{Rising, same_maps, row_at-put, rising-put}
-use Rattle.history.specs.Homes.{NamedHome, clashes}
 use Rattle.history.specs.Laws.{with_change, gathered}
 use Rattle.history.proofs.HomeSets.{IsSetAtHome, not_shown}
-use Rattle.history.proofs.Together.{other-name}
+use Rattle.history.proofs.NamesApart.{share_a_name, owns, owns-one}
 use Rattle.history.proofs.UnitedParts.{united, in_order-united, over, shown_at-union}
 
 abbrev pub HomePair : Type 0
-HomePair = NamedHome × (RecordSet × RecordSet)
+HomePair = List Labels × (RecordSet × RecordSet)
 
 abbrev pub olds : List HomePair → List RecordSet
 olds pairs = map (λ (s : HomePair). s.1.0) pairs
@@ -177,14 +174,14 @@ record IsSilent (q : Key) (s : HomePair) : Type 0 where
   pub old : shown_at q s.1.0 ≡ None
   pub new : shown_at q s.1.1 ≡ None
 
-silent : (homes : List Labels) (q : Key) (s : HomePair) → IsPairAtHome homes s → is_inside homes s.0.0 q.owner ≡ false → IsSilent q s
+silent : (homes : List Labels) (q : Key) (s : HomePair) → IsPairAtHome homes s → owns homes s.0 q.owner ≡ false → IsSilent q s
 silent homes q s at out = record { old = not_shown homes (s.0, s.1.0) q at.old out; new = not_shown homes (s.0, s.1.1) q at.new out }
 
-silent-others : (homes : List Labels) (q : Key) (home : NamedHome) (pairs : List HomePair) → is_inside homes home.0 q.owner ≡ true → ArePairsAtHome homes pairs → AllByRecursion (λ y. clashes home y ≡ false) (map (λ (s : HomePair). s.0) pairs) → AllByRecursion (IsSilent q) pairs
-silent-others homes q home [] inside at apart = tt
-silent-others homes q home (s ∷ pairs) inside at apart = (
-  silent homes q s at.0 (inside-one homes home.0 s.0.0 q.owner (other-name home s.0 apart.0) inside),
-  silent-others homes q home pairs inside at.1 apart.1,
+silent-others : (homes : List Labels) (q : Key) (names : List Labels) (pairs : List HomePair) → owns homes names q.owner ≡ true → ArePairsAtHome homes pairs → AllByRecursion (λ y. share_a_name names y ≡ false) (map (λ (s : HomePair). s.0) pairs) → AllByRecursion (IsSilent q) pairs
+silent-others homes q names [] inside at apart = tt
+silent-others homes q names (s ∷ pairs) inside at apart = (
+  silent homes q s at.0 (owns-one homes names s.0 q.owner apart.0 inside),
+  silent-others homes q names pairs inside at.1 apart.1,
 )
 
 old-silent : (q : Key) (o : Option Shown) (pairs : List HomePair) → AllByRecursion (IsSilent q) pairs → shown_from q o (olds pairs) ≡ o
@@ -200,13 +197,13 @@ noted-silent q o [] h = refl
 noted-silent q o (s ∷ pairs) h = (λ i. noted_from q (over (noted_at q (h.0.old i) (h.0.new i)) o) pairs) ∙ noted-silent q o pairs h.1
 
 -- a key is noted of all as it is of its home
-noted-one : (homes : List Labels) (q : Key) (pairs : List HomePair) → ArePairsAtHome homes pairs → IsDistinct clashes (map (λ (s : HomePair). s.0) pairs)
+noted-one : (homes : List Labels) (q : Key) (pairs : List HomePair) → ArePairsAtHome homes pairs → IsDistinct share_a_name (map (λ (s : HomePair). s.0) pairs)
     → noted_at q (shown_from q None (olds pairs)) (shown_from q None (news pairs)) ≡ noted_from q None pairs
 unfolding IsDistinct
 noted-one homes q [] at apart = refl
-noted-one homes q (s ∷ pairs) at apart = by (is_inside homes s.0.0 q.owner) refl (noted-one homes q pairs at.1 apart.1)
+noted-one homes q (s ∷ pairs) at apart = by (owns homes s.0 q.owner) refl (noted-one homes q pairs at.1 apart.1)
   where
-    by : (b : Bool) → is_inside homes s.0.0 q.owner ≡ b → noted_at q (shown_from q None (olds pairs)) (shown_from q None (news pairs)) ≡ noted_from q None pairs
+    by : (b : Bool) → owns homes s.0 q.owner ≡ b → noted_at q (shown_from q None (olds pairs)) (shown_from q None (news pairs)) ≡ noted_from q None pairs
         → noted_at q (shown_from q (over (shown_at q s.1.0) None) (olds pairs)) (shown_from q (over (shown_at q s.1.1) None) (news pairs)) ≡ noted_from q (over (noted_at q (shown_at q s.1.0) (shown_at q s.1.1)) None) pairs
     by true inside rest =
         let others = silent-others homes q s.0 pairs inside at.1 apart.0 in
@@ -226,7 +223,7 @@ in_order-news : (homes : List Labels) (pairs : List HomePair) → ArePairsAtHome
 in_order-news homes [] at = tt
 in_order-news homes (s ∷ pairs) at = (set-in_order s.1.1 at.0.new.set, in_order-news homes pairs at.1)
 
-pub changes-pairs : (homes : List Labels) (pairs : List HomePair) → ArePairsAtHome homes pairs → IsDistinct clashes (map (λ (s : HomePair). s.0) pairs) → changes (united [] (olds pairs)) (united [] (news pairs)) ≡ gathered (each_of pairs)
+pub changes-pairs : (homes : List Labels) (pairs : List HomePair) → ArePairsAtHome homes pairs → IsDistinct share_a_name (map (λ (s : HomePair). s.0) pairs) → changes (united [] (olds pairs)) (united [] (news pairs)) ≡ gathered (each_of pairs)
 changes-pairs homes pairs at apart =
     sym (unkeyed (changes old new))
     ∙ ap (λ (rows : Rows Changed). map (λ (e : Key × Changed). e.1) rows) (same_maps (keyed (changes old new)) (fold with_change [] (all_of pairs)) rising (rising-fold (all_of pairs) [] tt) same)

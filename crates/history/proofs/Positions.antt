@@ -1,6 +1,6 @@
 -- Where the first of a list stands that passes a test.
 use Rattle.std.proofs.Common.{◌≡◌, ℕ, zero, suc, ◌+◌, Bool, true, false, cond, not, ◌&&◌, ltb, List, [], ◌∷◌, ◌++◌, length, map, Option, Some, None, refl, sym, ap, ◌∙◌, arith}
-use Rattle.std.specs.Prelude.{position, find, slice_get, option_map}
+use Rattle.std.specs.Prelude.{position, find, slice_get, option_map, flat_map}
 use Rattle.std.specs.List.{list_all, position_or_len}
 use Rattle.push_base.specs.Cases.{changed_at}
 
@@ -132,3 +132,8 @@ pub map-changed_at : {X Y : Type 0} (g : X → Y) (f : X → X) → ((x : X) →
 map-changed_at g f same i [] = refl
 map-changed_at g f same zero (x ∷ xs) = ap (λ y. y ∷ map g xs) (same x)
 map-changed_at g f same (suc i) (x ∷ xs) = ap (λ l. g x ∷ l) (map-changed_at g f same i xs)
+
+pub flat_map-changed_at : {X Y : Type 0} (g : X → List Y) (f : X → X) → ((x : X) → g (f x) ≡ g x) → (i : ℕ) (xs : List X) → flat_map g (changed_at i f xs) ≡ flat_map g xs
+flat_map-changed_at g f same i [] = refl
+flat_map-changed_at g f same zero (x ∷ xs) = ap (λ ys. ys ++ flat_map g xs) (same x)
+flat_map-changed_at g f same (suc i) (x ∷ xs) = ap (λ ys. g x ++ ys) (flat_map-changed_at g f same i xs)

@@ -1,8 +1,9 @@
 -- A start of homes that stand apart has each record at home: zones with their two first records, and links without a row.
-use Rattle.std.proofs.Common.{◌≡◌, ℕ, zero, suc, Bool, true, false, not, ◌||◌, List, [], ◌∷◌, ◌++◌, map, filter, refl, sym, ap, subst, ◌∙◌, arith}
-use Rattle.std.specs.Prelude.{All, IsTrue}
-use Rattle.std.specs.List.{list_any, AllByRecursion}
-use Rattle.dnsname.specs.Names.{Labels, same_name, ends_in, is_name}
+use Rattle.std.proofs.Common.{◌≡◌, ℕ, zero, suc, Bool, true, false, cond, not, ◌||◌, List, [], ◌∷◌, ◌++◌, map, filter, refl, sym, ap, subst, ◌∙◌, arith}
+use Rattle.std.specs.Prelude.{All, IsTrue, Option, Some, None, flat_map}
+use Rattle.std.specs.List.{list_any, AllByRecursion, IsDistinct}
+use Rattle.std.proofs.lemmas.Map.Keys.{IsDistinct-head}
+use Rattle.dnsname.specs.Names.{Labels, same_name, ends_in, is_name, IsName}
 use Rattle.dnsname.proofs.Decisions.{is_name-Decides}
 use Rattle.dnsname.proofs.Suffixes.{true-EndsIn, ends_in-length, ends_in-all}
 use Rattle.rrset.specs.KeyedRows.{is_rising}
@@ -13,10 +14,20 @@ use Rattle.zoneupdate.proofs.Homes.{is_inside-under}
 use Rattle.zoneupdate.proofs.Owners.{same_name-itself}
 use Rattle.zoneupdate.proofs.RecordSets.{set-put_rrs}
 use Rattle.zoneupdate.proofs.SomeAndAll.{any_all, all_itself}
+use Rattle.reversemap.specs.Reverse.{is_reverse_domain}
+use Rattle.reversemap.specs.BothKinds.{IsApart, AreApart}
 use Rattle.linkcache.specs.Links.{IsLink}
+use Rattle.linkcache.specs.Rows.{names_of}
 use Rattle.linkcache.specs.Sound.{AreLinkRows}
 use Rattle.linkcache.specs.Within.{IsWithin}
-use Rattle.history.specs.AtHome.{IsAtHome}
+use Rattle.history.specs.AtHome.{IsAtHome, named_zones, named_link, named_links}
+use Rattle.history.specs.Homes.{clashes}
+use Rattle.history.specs.declared.entry.HomeFault.{HomeFault}
+use Rattle.history.specs.declared.entry.HomeFault.TheVariants.{Form}
+use Rattle.history.specs.declared.entry.HomeKind.TheVariants as kinds
+use Rattle.history.proofs.Distinct.{all-as, all-apart, distinct-apart, distinct-front}
+use Rattle.history.proofs.TellingNames.{AreLinkNames}
+use Rattle.history.proofs.Together.{IsFit, clashes-turned, not-under}
 use Rattle.history.specs.Laws.{StartsAreAtHome}
 use Rattle.history.specs.Kept.{HomesKept, state_of}
 use Rattle.history.specs.Plans.{IsStart}
@@ -62,25 +73,50 @@ at_home-start homes (z ∷ zones) new among =
       at_home-start homes zones (λ k d h. new (suc k) d (omega arith)) (λ q h. among q (or-right (q z.apex) (list_any q others) h)),
     )
 
--- a link without a row
-pub new-link : (link : LinkState) → IsTrue (is_name link.rules.domain) → link.rows ≡ [] → IsLink link
-new-link link named none = record {
-  name = (is_name-Decides link.rules.domain).0 named;
+-- ---- a link without a row
+
+-- a reverse domain that doesn't clash with the domain, and has the form of one, stands apart from it
+pub reverse-apart : (domain reverse : Labels) → clashes (domain, kinds.Link) (reverse, kinds.Reverse) ≡ false → IsFit (reverse, kinds.Reverse) → IsApart domain reverse
+reverse-apart domain reverse apart fit = record {
+  form = formed (is_reverse_domain reverse) fit;
+  over = not-under (domain, kinds.Link) (reverse, kinds.Reverse) refl apart;
+  under = not-under (reverse, kinds.Reverse) (domain, kinds.Link) refl (clashes-turned (reverse, kinds.Reverse) (domain, kinds.Link) ∙ apart);
+}
+  where
+    formed : (b : Bool) → cond {A = Option HomeFault} b None (Some Form) ≡ None → b ≡ true
+    formed true e = refl
+    formed false e = cc
+
+reverses-apart : (domain : Labels) (reverses : List Labels) → AllByRecursion (λ y. clashes (domain, kinds.Link) y ≡ false) (map (λ r. (r, kinds.Reverse)) reverses) → AllByRecursion IsFit (map (λ r. (r, kinds.Reverse)) reverses) → AreApart domain reverses
+reverses-apart domain [] apart fit = tt
+reverses-apart domain (r ∷ reverses) apart fit = (reverse-apart domain r apart.0 fit.0, reverses-apart domain reverses apart.1 fit.1)
+
+pub new-link : (link : LinkState) → AreLinkNames link.rules → IsDistinct clashes (named_link link) → AllByRecursion IsFit (named_link link) → link.rows ≡ [] → IsLink link
+new-link link named apart fit none = record {
+  name = (is_name-Decides link.rules.domain).0 named.0;
+  reverses = all-as (λ n. IsTrue (is_name n)) IsName (λ n is. (is_name-Decides n).0 is) link.rules.reverses named.1;
+  apart = reverses-apart link.rules.domain link.rules.reverses (IsDistinct-head clashes (link.rules.domain, kinds.Link) (map (λ r. (r, kinds.Reverse)) link.rules.reverses) apart) fit.1;
   order = ap is_rising none;
   sound = subst (AreLinkRows link.rules) (sym none) tt;
   within = subst (IsWithin link.rules) (sym none) (record { few = omega arith; owners = λ owner. omega arith });
 }
 
-links-start : (links : List LinkState) → All (λ (l : LinkState). l.rows ≡ []) links → AllByRecursion (λ (l : LinkState). IsTrue (is_name l.rules.domain)) links → AllByRecursion IsLink links
-links-start [] new named = tt
-links-start (l ∷ links) new named = (new-link l named.0 (new 0 l (omega arith)), links-start links (λ k d h. new (suc k) d (omega arith)) named.1)
+links-start : (links : List LinkState) → All (λ (l : LinkState). l.rows ≡ []) links → AllByRecursion (λ l. AreLinkNames l.rules) links → IsDistinct clashes (named_links links) → AllByRecursion IsFit (named_links links) → AllByRecursion IsLink links
+links-start [] new named apart fit = tt
+links-start (l ∷ links) new named apart fit =
+    let fits = all-apart IsFit (named_link l) (named_links links) fit in (
+      new-link l named.0 (distinct-apart clashes (named_link l) (named_links links) apart) fits.0 (new 0 l (omega arith)),
+      links-start links (λ k d h. new (suc k) d (omega arith)) named.1 (distinct-front clashes (named_link l) (named_links links) apart).1 fits.1,
+    )
 
 -- a start of homes that stand apart
 pub start-home : StartsAreAtHome
 start-home state start apart named = record {
   apart = apart;
-  zones = at_home-start (home_names state) state.zones start.zones (λ q h. any-front q (map (λ (z : ZoneState). z.apex) state.zones) (map (λ (l : LinkState). l.rules.domain) state.links) h);
-  links = links-start state.links start.links named;
+  zones = at_home-start (home_names state) state.zones start.zones (λ q h. any-front q (map (λ (z : ZoneState). z.apex) state.zones) (flat_map (λ (l : LinkState). names_of l.rules) state.links) h);
+  links =
+      links-start state.links start.links named (distinct-front clashes (named_zones state.zones) (named_links state.links) apart.apart).1
+      (all-apart IsFit (named_zones state.zones) (named_links state.links) apart.fit).1;
 }
   where
     any-front : (q : Labels → Bool) (a b : List Labels) → list_any q a ≡ true → list_any q (a ++ b) ≡ true
@@ -92,10 +128,10 @@ start-home state start apart named = record {
         by false is h rest = or-right (q x) (list_any q (a ++ b)) (rest h)
 
 -- homes of one new zone
-pub one_zone-start : (before after : HomesKept) (zone : ZoneKept) → before ≡ record { zones = []; links = []; names = [] } → after ≡ record before { zones = before.zones ++ zone ∷ []; names = before.names ++ (zone.state.apex, false) ∷ [] } → IsNew zone.state
+pub one_zone-start : (before after : HomesKept) (zone : ZoneKept) → before ≡ record { zones = []; links = []; names = [] } → after ≡ record before { zones = before.zones ++ zone ∷ []; names = before.names ++ (zone.state.apex, kinds.Zone) ∷ [] } → IsNew zone.state
     → IsStart (state_of after)
 one_zone-start before after zone none is new =
-    subst (λ (homes : HomesKept). IsStart (state_of homes)) (sym (is ∙ ap (λ (homes : HomesKept). record homes { zones = homes.zones ++ zone ∷ []; names = homes.names ++ (zone.state.apex, false) ∷ [] }) none))
+    subst (λ (homes : HomesKept). IsStart (state_of homes)) (sym (is ∙ ap (λ (homes : HomesKept). record homes { zones = homes.zones ++ zone ∷ []; names = homes.names ++ (zone.state.apex, kinds.Zone) ∷ [] }) none))
     (record { zones = only_one; links = λ k d h. absurd (omega arith); now = refl })
   where
     only_one : All IsNew (zone.state ∷ [])

@@ -1,7 +1,8 @@
 -- Each state of a history has its records at home, if the start has.
 use Rattle.std.proofs.Common.{◌≡◌, ℕ, zero, suc, Bool, true, false, cond, ltb, List, [], ◌∷◌, ◌++◌, map, Option, Some, None, Result, Ok, Err, refl, sym, ap, subst, ◌∙◌}
-use Rattle.std.specs.Prelude.{position}
+use Rattle.std.specs.Prelude.{position, flat_map}
 use Rattle.std.specs.List.{AllByRecursion}
+use Rattle.std.proofs.lemmas.List.Folds.{flat_map-map}
 use Rattle.push_base.specs.Cases.{◌>>=◌, changed_at}
 use Rattle.dnsname.specs.Names.{Labels}
 use Rattle.dnswire.specs.declared.message.Update.{Update}
@@ -10,10 +11,11 @@ use Rattle.rrset.specs.RecordSet.{RecordSet, changes}
 use Rattle.zoneupdate.specs.Updates.{judged}
 use Rattle.zoneupdate.specs.Zones.{ZoneState}
 use Rattle.linkcache.specs.Links.{IsLink}
+use Rattle.linkcache.specs.Rows.{names_of}
 use Rattle.history.specs.Entries.{Concern, a_zone, a_link, all_links, concern}
 use Rattle.history.specs.Homes.{NamedHome}
-use Rattle.history.specs.AtHome.{IsAtHome, AreAtHome, StandApart, named_zones, named_links}
-use Rattle.history.specs.States.{State, LinkState, home_names, zone_asked, with_rows, updated, after, after_by, link_after, link_at_moment}
+use Rattle.history.specs.AtHome.{IsAtHome, AreAtHome, StandApart, named_zones, named_link, named_links}
+use Rattle.history.specs.States.{State, LinkState, LinkRules, home_names, zone_asked, with_rows, updated, after, after_by, link_after, link_at_moment}
 use Rattle.history.specs.declared.entry.Entry.{Entry}
 use Rattle.history.specs.declared.entry.Entry.TheVariants as entries
 use Rattle.history.proofs.HomeSets.{map-twice}
@@ -52,19 +54,29 @@ home-updated state home update = by (updated state update) refl
 
 -- ---- other entries, which change links alone
 
--- later links of the same domains
-pub home-relinked : (state : State) → AreAtHome state → (links : List LinkState) (now : ℕ) → map (λ (l : LinkState). l.rules.domain) links ≡ map (λ (l : LinkState). l.rules.domain) state.links → AllByRecursion IsLink links → AreAtHome (record { zones = state.zones; links = links; now = now })
+-- what links show by
+abbrev pub rules_of : List LinkState → List LinkRules
+rules_of links = map (λ (l : LinkState). l.rules) links
+
+pub names-by : (links : List LinkState) → flat_map names_of (rules_of links) ≡ flat_map (λ (l : LinkState). names_of l.rules) links
+names-by links = flat_map-map names_of (λ (l : LinkState). l.rules) links
+
+-- later links with the same rules
+pub home-relinked : (state : State) → AreAtHome state → (links : List LinkState) (now : ℕ) → rules_of links ≡ rules_of state.links → AllByRecursion IsLink links → AreAtHome (record { zones = state.zones; links = links; now = now })
 home-relinked state home links now same are = record {
   apart = subst StandApart (ap (λ (l : List NamedHome). named_zones state.zones ++ l) (sym named)) home.apart;
-  zones = subst (λ (hs : List Labels). AllByRecursion (IsAtHome hs) state.zones) (ap (λ (l : List Labels). map (λ (z : ZoneState). z.apex) state.zones ++ l) (sym same)) home.zones;
+  zones = subst (λ (hs : List Labels). AllByRecursion (IsAtHome hs) state.zones) (ap (λ (l : List Labels). map (λ (z : ZoneState). z.apex) state.zones ++ l) (sym names)) home.zones;
   links = are;
 }
   where
-    named_by : (ls : List LinkState) → map (λ (d : Labels). (d, true)) (map (λ (l : LinkState). l.rules.domain) ls) ≡ named_links ls
-    named_by ls = map-twice (λ (l : LinkState). l.rules.domain) (λ (d : Labels). (d, true)) ls
+    named_by : LinkRules → List NamedHome
+    named_by rules = named_link (record { rules = rules; rows = [] })
 
     named : named_links links ≡ named_links state.links
-    named = sym (named_by links) ∙ ap (λ (ds : List Labels). map (λ (d : Labels). (d, true)) ds) same ∙ named_by state.links
+    named = sym (flat_map-map named_by (λ (l : LinkState). l.rules) links) ∙ ap (flat_map named_by) same ∙ flat_map-map named_by (λ (l : LinkState). l.rules) state.links
+
+    names : flat_map (λ (l : LinkState). names_of l.rules) links ≡ flat_map (λ (l : LinkState). names_of l.rules) state.links
+    names = sym (names-by links) ∙ ap (flat_map names_of) same ∙ names-by state.links
 
 -- each link, and one of them, after a step that keeps a link one
 pub links-each : (f : LinkState → LinkState) → ((l : LinkState) → IsLink l → IsLink (f l)) → (links : List LinkState) → AllByRecursion IsLink links → AllByRecursion IsLink (map f links)
@@ -80,12 +92,12 @@ links-one f keeps (suc i) (l ∷ links) are = (are.0, links-one f keeps i links 
 home-by : (entry : Entry) (state : State) → AreAtHome state → (homes : Concern) → AreAtHome (after_by entry state homes)
 home-by entry state home (a_zone update) = home-updated state home update
 home-by entry state home (a_link link) =
-    home-relinked state home (changed_at link (link_after entry state.now) state.links) state.now (map-changed_at (λ (l : LinkState). l.rules.domain) (link_after entry state.now) (λ l. refl) link state.links)
+    home-relinked state home (changed_at link (link_after entry state.now) state.links) state.now (map-changed_at (λ (l : LinkState). l.rules) (link_after entry state.now) (λ l. refl) link state.links)
     (links-one (link_after entry state.now) (link-after entry state.now) link state.links home.links)
 home-by entry state home (all_links t) = by (ltb state.now t)
   where
     by : (b : Bool) → AreAtHome (cond b (record state { now = t; links = map (link_at_moment t) state.links }) state)
-    by true = home-relinked state home (map (link_at_moment t) state.links) t (map-twice (link_at_moment t) (λ (l : LinkState). l.rules.domain) state.links) (links-each (link_at_moment t) (link-moment t) state.links home.links)
+    by true = home-relinked state home (map (link_at_moment t) state.links) t (map-twice (link_at_moment t) (λ (l : LinkState). l.rules) state.links) (links-each (link_at_moment t) (link-moment t) state.links home.links)
     by false = home
 
 pub home-after : (state : State) → AreAtHome state → (entry : Entry) → AreAtHome (after state entry)

@@ -1,17 +1,20 @@
 -- What an update makes of homes in which each record is at home: one zone with other rows.
 use Rattle.std.proofs.Common.{◌≡◌, ℕ, Bool, true, false, cond, List, [], ◌∷◌, ◌++◌, map, length, refl, sym, ap, subst, ◌∙◌, append_assoc}
+use Rattle.std.specs.Prelude.{flat_map}
 use Rattle.std.specs.List.{AllByRecursion, IsDistinct}
 use Rattle.std.proofs.lemmas.List.{map-append}
 use Rattle.dnsname.specs.Names.{Labels, same_name}
 use Rattle.rrset.specs.RecordSet.{RecordSet, changes}
 use Rattle.zoneupdate.specs.Zones.{ZoneState}
 use Rattle.zoneupdate.proofs.Owners.{same_name-itself}
+use Rattle.linkcache.specs.Rows.{names_of}
 use Rattle.history.specs.Homes.{NamedHome, clashes}
 use Rattle.history.specs.AtHome.{IsAtHome, AreAtHome, StandApart, named_zones, named_links}
 use Rattle.history.specs.States.{State, LinkState, home_names, with_rows, records}
+use Rattle.history.specs.declared.entry.HomeKind.TheVariants as kinds
 use Rattle.history.proofs.Distinct.{all-both, all-apart, all-as, all-map, distinct-parts}
-use Rattle.history.proofs.HomeSets.{HomeSet, zone_set, zone_sets, link_sets, home_sets, shown_sets, records-sets, zone-parts, stands, changes-stands}
-use Rattle.history.proofs.LinksAtHome.{sets-at_home, sets-apart}
+use Rattle.history.proofs.HomeSets.{HomeSet, zone_set, zone_sets, link_sets, home_sets, shown_sets, sets-apart, records-sets, zone-parts, zone-at_home, stands, changes-stands}
+use Rattle.history.proofs.LinksAtHome.{sets-at_home}
 use Rattle.history.proofs.Positions.{Found}
 use Rattle.history.proofs.Together.{clashes-turned, other-name}
 use Rattle.history.proofs.UnitedParts.{united}
@@ -31,15 +34,15 @@ pub record Placed (zones : List ZoneState) (i : ℕ) : Type 0 where
 pub others-named : (before : List ZoneState) (zone : ZoneState) (behind : List ZoneState) (links : List LinkState) → IsDistinct clashes (named_zones (before ++ zone ∷ behind) ++ named_links links)
     → AllByRecursion (λ z. same_name z.apex zone.apex ≡ false) before × AllByRecursion (λ z. same_name z.apex zone.apex ≡ false) behind
 others-named before zone behind links apart =
-    let others = distinct-parts clashes (named_zones before) (zone.apex, false) (named_zones behind ++ named_links links) (subst (IsDistinct clashes) parts apart) in (
-      all-as (λ (z : ZoneState). clashes (z.apex, false) (zone.apex, false) ≡ false) (λ (z : ZoneState). same_name z.apex zone.apex ≡ false) (λ z e. other-name (z.apex, false) (zone.apex, false) e) before
-          (all-map (λ (z : ZoneState). (z.apex, false)) (λ y. clashes y (zone.apex, false) ≡ false) before others.0),
-      all-as (λ (z : ZoneState). clashes (zone.apex, false) (z.apex, false) ≡ false) (λ (z : ZoneState). same_name z.apex zone.apex ≡ false) (λ z e. other-name (z.apex, false) (zone.apex, false) (clashes-turned (z.apex, false) (zone.apex, false) ∙ e)) behind
-          (all-map (λ (z : ZoneState). (z.apex, false)) (λ y. clashes (zone.apex, false) y ≡ false) behind (all-apart (λ y. clashes (zone.apex, false) y ≡ false) (named_zones behind) (named_links links) others.1).0),
+    let others = distinct-parts clashes (named_zones before) (zone.apex, kinds.Zone) (named_zones behind ++ named_links links) (subst (IsDistinct clashes) parts apart) in (
+      all-as (λ (z : ZoneState). clashes (z.apex, kinds.Zone) (zone.apex, kinds.Zone) ≡ false) (λ (z : ZoneState). same_name z.apex zone.apex ≡ false) (λ z e. other-name (z.apex, kinds.Zone) (zone.apex, kinds.Zone) e) before
+          (all-map (λ (z : ZoneState). (z.apex, kinds.Zone)) (λ y. clashes y (zone.apex, kinds.Zone) ≡ false) before others.0),
+      all-as (λ (z : ZoneState). clashes (zone.apex, kinds.Zone) (z.apex, kinds.Zone) ≡ false) (λ (z : ZoneState). same_name z.apex zone.apex ≡ false) (λ z e. other-name (z.apex, kinds.Zone) (zone.apex, kinds.Zone) (clashes-turned (z.apex, kinds.Zone) (zone.apex, kinds.Zone) ∙ e)) behind
+          (all-map (λ (z : ZoneState). (z.apex, kinds.Zone)) (λ y. clashes (zone.apex, kinds.Zone) y ≡ false) behind (all-apart (λ y. clashes (zone.apex, kinds.Zone) y ≡ false) (named_zones behind) (named_links links) others.1).0),
     )
   where
-    parts : named_zones (before ++ zone ∷ behind) ++ named_links links ≡ named_zones before ++ (zone.apex, false) ∷ (named_zones behind ++ named_links links)
-    parts = ap (λ (l : List NamedHome). l ++ named_links links) (map-append (λ (z : ZoneState). (z.apex, false)) before (zone ∷ behind)) ∙ append_assoc (named_zones before) ((zone.apex, false) ∷ named_zones behind) (named_links links)
+    parts : named_zones (before ++ zone ∷ behind) ++ named_links links ≡ named_zones before ++ (zone.apex, kinds.Zone) ∷ (named_zones behind ++ named_links links)
+    parts = ap (λ (l : List NamedHome). l ++ named_links links) (map-append (λ (z : ZoneState). (z.apex, kinds.Zone)) before (zone ∷ behind)) ∙ append_assoc (named_zones before) ((zone.apex, kinds.Zone) ∷ named_zones behind) (named_links links)
 
 abbrev pub placed-found : (p : ZoneState → Bool) (state : State) (i : ℕ) → AreAtHome state → (f : Found p state.zones i) → Placed state.zones i
 placed-found p state i home f =
@@ -73,8 +76,8 @@ pub changes-placed : (state : State) (home : AreAtHome state) (i : ℕ) (at : Pl
 changes-placed state home i at rows new =
     (λ j. changes (records-sets state j) (later j))
     ∙ changes-stands (home_names state) (home_sets state) (zone_set at.zone)
-    (stands (home_sets state) (zone_sets at.before) (zone_set at.zone) (zone_sets at.behind ++ link_sets state.links) (zone-parts state.zones at.before at.zone at.behind state.links at.parts) (sets-apart state home))
-    (sets-at_home state home) rows (record { set = new.set; inside = new.inside })
+    (stands (home_sets state) (zone_sets at.before) (zone_set at.zone) (zone_sets at.behind ++ link_sets state.links) (zone-parts state.zones at.before at.zone at.behind state.links at.parts) (sets-apart state home.apart))
+    (sets-at_home state home) rows (zone-at_home (home_names state) (record at.zone { rows = rows }) new)
   where
     changed : ZoneState
     changed = record at.zone { rows = rows }
@@ -92,7 +95,7 @@ same_apexes (z ∷ before) zone rows behind = ap (λ l. z.apex ∷ l) (same_apex
 
 same_named : (before : List ZoneState) (zone : ZoneState) (rows : RecordSet) (behind : List ZoneState) → named_zones (before ++ record zone { rows = rows } ∷ behind) ≡ named_zones (before ++ zone ∷ behind)
 same_named [] zone rows behind = refl
-same_named (z ∷ before) zone rows behind = ap (λ l. (z.apex, false) ∷ l) (same_named before zone rows behind)
+same_named (z ∷ before) zone rows behind = ap (λ l. (z.apex, kinds.Zone) ∷ l) (same_named before zone rows behind)
 
 pub home-placed : (state : State) (home : AreAtHome state) (i : ℕ) (at : Placed state.zones i) (rows : RecordSet) → IsAtHome (home_names state) (record at.zone { rows = rows })
     → AreAtHome (with_zone state at.before (record at.zone { rows = rows }) at.behind)
@@ -107,7 +110,7 @@ home-placed state home i at rows new = record {
     named = ap named_zones at.parts ∙ sym (same_named at.before at.zone rows at.behind)
 
     names : home_names state ≡ home_names (with_zone state at.before (record at.zone { rows = rows }) at.behind)
-    names = ap (λ (a : List Labels). a ++ map (λ (l : LinkState). l.rules.domain) state.links) (ap (λ (zs : List ZoneState). map (λ (z : ZoneState). z.apex) zs) at.parts ∙ sym (same_apexes at.before at.zone rows at.behind))
+    names = ap (λ (a : List Labels). a ++ flat_map (λ (l : LinkState). names_of l.rules) state.links) (ap (λ (zs : List ZoneState). map (λ (z : ZoneState). z.apex) zs) at.parts ∙ sym (same_apexes at.before at.zone rows at.behind))
 
     each : AllByRecursion (IsAtHome (home_names state)) at.before × AllByRecursion (IsAtHome (home_names state)) (at.zone ∷ at.behind)
     each = all-apart (IsAtHome (home_names state)) at.before (at.zone ∷ at.behind) (subst (AllByRecursion (IsAtHome (home_names state))) at.parts home.zones)

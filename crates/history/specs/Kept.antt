@@ -9,12 +9,13 @@
 --     IsPastOf start history past      the past stands for a history
 --     held_for state entry      the state that a plan which is held leads to
 --     GivesFault result fault      what adding a home answers
+--     HasNoRow link      there is such a link, and it has heard nothing
 use Rattle.std.specs.Prelude.{◌≡◌, ℕ, ◌+◌, ◌-◌, ◌≤◌, Bool, true, List, [], ◌∷◌, ◌++◌, map, drop, length, Option, Some, None, Result, Ok, Err, IsTrue, is_some, if◌then◌else◌}
 use Rattle.rrset.specs.RecordSet.{RecordSet}
 use Rattle.zoneupdate.specs.KeptZones.{ZoneKept}
 use Rattle.linkcache.specs.Links.{LinkKept}
 use Rattle.history.specs.Homes.{NamedHome}
-use Rattle.history.specs.States.{State, state_at, records, accepts, after, entry_size, journal_has_room}
+use Rattle.history.specs.States.{State, LinkState, state_at, records, accepts, after, entry_size, journal_has_room}
 use Rattle.history.specs.Totals.{totals, and_one}
 use Rattle.history.specs.Plans.{Plan, refuse, idle, accept}
 use Rattle.history.specs.declared.entry.Entry.{Entry}
@@ -109,3 +110,8 @@ abbrev pub GivesFault : {X : Type 0} → Result X HomeFault → Option HomeFault
 GivesFault (Ok done) fault = fault ≡ None
 GivesFault (Err NoMemory) fault = fault ≡ None
 GivesFault (Err other) fault = fault ≡ Some other
+
+-- there is such a link, and it has heard nothing
+abbrev pub HasNoRow : Option LinkState → Type 0
+HasNoRow None = ⊥
+HasNoRow (Some link) = link.rows ≡ []

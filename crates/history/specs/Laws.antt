@@ -8,7 +8,7 @@
 --     LinksChangeForThemselves, LinksChangeTogether      what is shown otherwise where one link changes; where each does
 use Rattle.std.specs.Prelude.{◌≡◌, ℕ, ◌<◌, ◌≤◌, Bool, false, List, [], ◌∷◌, ◌++◌, map, fold, flat_map, Option, Some, None, Ok, slice_get, IsTrue, is_some, All}
 use Rattle.std.specs.List.{list_any, AllByRecursion, AllZip, IsDistinct}
-use Rattle.dnsname.specs.Names.{Labels, is_name, ends_in}
+use Rattle.dnsname.specs.Names.{Labels, is_name}
 use Rattle.rrset.specs.KeyedRows.{Rows, put_row}
 use Rattle.rrset.specs.RecordSet.{RecordSet, is_record_set, at_name, changes, shown_at}
 use Rattle.rrset.specs.declared.record.Changed.{Changed}
@@ -16,7 +16,8 @@ use Rattle.rrset.specs.declared.record.Hearing.{Hearing}
 use Rattle.dnswire.specs.declared.message.Update.{Update}
 use Rattle.dnswire.specs.Reading.{hearing_of}
 use Rattle.zoneupdate.specs.Zones.{ZoneState}
-use Rattle.linkcache.specs.Rows.{LinkRows, shown_rows}
+use Rattle.reversemap.specs.Reverse.{is_under}
+use Rattle.linkcache.specs.Rows.{LinkRows, shown_rows, names_of}
 use Rattle.linkcache.specs.Sound.{AreLinkRows}
 use Rattle.history.specs.Homes.{NamedHome}
 use Rattle.history.specs.Plans.{may_stand_together, IsStart}
@@ -31,7 +32,7 @@ abbrev pub NamesStandApart : Type 0
 NamesStandApart = (names : List NamedHome) (state : State) → IsTrue (may_stand_together names) → AreNamesOf names state → StandApart (homes_in state)
 
 abbrev pub StartsAreAtHome : Type 0
-StartsAreAtHome = (state : State) → IsStart state → StandApart (homes_in state) → AllByRecursion (λ l. IsTrue (is_name l.rules.domain)) state.links → AreAtHome state
+StartsAreAtHome = (state : State) → IsStart state → StandApart (homes_in state) → AllByRecursion (λ l. AllByRecursion (λ n. IsTrue (is_name n)) (names_of l.rules)) state.links → AreAtHome state
 
 abbrev pub EntriesKeepHomes : Type 0
 EntriesKeepHomes = (state : State) (entry : Entry) → AreAtHome state → AreAtHome (after state entry) × ((name : Labels) → home_of (after state entry) name ≡ home_of state name)
@@ -59,13 +60,13 @@ KeysHaveOnePlace = (state : State) → AreAtHome state → IsDistinct share_a_ke
 abbrev pub RecordsAreTheHomes : Type 0
 RecordsAreTheHomes = (state : State) → AreAtHome state → IsTrue (is_record_set (records state)) × ((name : Labels) → at_name name (records state) ≡ at_name name (set_at state (home_of state name)))
 
--- no owner of the sets lies under the domain
-abbrev pub AreElsewhere : Labels → List RecordSet → Type 0
-AreElsewhere domain sets = AllByRecursion (λ set. list_any (λ e. ends_in e.0.owner domain) set ≡ false) sets
+-- no owner of the sets lies under one of the names
+abbrev pub AreElsewhere : List Labels → List RecordSet → Type 0
+AreElsewhere names sets = AllByRecursion (λ set. list_any (λ e. is_under names e.0.owner) set ≡ false) sets
 
 abbrev pub LinksChangeForThemselves : Type 0
 LinksChangeForThemselves = (zones : List ZoneState) (first last : List LinkState) (link : LinkState) (later : LinkRows) (now later_now : ℕ) → AreLinkRows link.rules link.rows → AreLinkRows link.rules later
-    → AreElsewhere link.rules.domain (map (λ z. z.rows) zones) → AreElsewhere link.rules.domain (shown_by first) → AreElsewhere link.rules.domain (shown_by last)
+    → AreElsewhere (names_of link.rules) (map (λ z. z.rows) zones) → AreElsewhere (names_of link.rules) (shown_by first) → AreElsewhere (names_of link.rules) (shown_by last)
     → changes (records (record { zones = zones; links = first ++ link ∷ last; now = now })) (records (record { zones = zones; links = first ++ (record link { rows = later }) ∷ last; now = later_now }))
     ≡ changes (shown_rows link.rules link.rows) (shown_rows link.rules later)
 
@@ -77,9 +78,9 @@ with_change rows c = put_row c.key c rows
 abbrev pub gathered : List (List Changed) → List Changed
 gathered each = map (λ e. e.1) (fold with_change [] (flat_map (λ changed. changed) each))
 
--- the link of the same domain later
+-- the link of the same names later
 pub record IsLater (link later : LinkState) : Type 0 where
-  pub domain : later.rules.domain ≡ link.rules.domain
+  pub names : names_of later.rules ≡ names_of link.rules
   pub sound : AreLinkRows later.rules later.rows
 
 -- what each link shows otherwise

@@ -2,8 +2,10 @@
 --     lacks_update_header, update_in      a message has no header of an update; the update that a message is
 --     verdict state message      what an update gets: the update that is entered, or an RCODE
 --     accepts state entry, after state entry      whether the entry is made; the state after it, each by the homes that it concerns
+--     home_names state, home_of state name      the names of all homes, reverse domains among them; the zone or link that a name belongs to
 --     state_at, records_at      the state and the records after the first entries of a history
-use Rattle.std.specs.Prelude.{ℕ, ◌+◌, Bool, false, not, ◌&&◌, ◌||◌, cond, List, [], ◌∷◌, ◌++◌, map, length, take, fold, find, position, sum_by, Option, Some, None, Result, Ok, Err, is_ok, nat_lt, nat_le, ◌==◌, slice_get, option_map, option_and_then, if◌then◌else◌}
+use Rattle.std.specs.Prelude.{ℕ, ◌+◌, Bool, false, not, ◌&&◌, ◌||◌, cond, List, [], ◌∷◌, ◌++◌, map, flat_map, length, take, fold, find, position, sum_by, Option, Some, None, Result, Ok, Err, is_ok, nat_lt, nat_le, ◌==◌, slice_get, option_map, option_and_then, if◌then◌else◌}
+use Rattle.std.specs.List.{list_any}
 use Rattle.push_base.specs.Cases.{◌>>=◌, fault_as, changed_at}
 use Rattle.dnsname.specs.Names.{Labels, same_name, home}
 use Rattle.rrset.specs.Kinds.{in_class, soa_kind}
@@ -18,11 +20,10 @@ use Rattle.dnswire.specs.declared.message.Update.{Update}
 use Rattle.dnswire.specs.Reading.{update_of}
 use Rattle.zoneupdate.specs.Zones.{ZoneState}
 use Rattle.zoneupdate.specs.Updates.{judged}
-use Rattle.linkmap.specs.Translation.{heard_as}
 pub use Rattle.linkcache.specs.Links.{LinkState}
 pub use Rattle.linkcache.specs.declared.rules.LinkRules.{LinkRules}
 pub use Rattle.linkcache.specs.Rows.{no_cap}
-use Rattle.linkcache.specs.Rows.{at_moment, shown_rows}
+use Rattle.linkcache.specs.Rows.{at_moment, shown_rows, names_of, heard_by}
 pub use Rattle.history.specs.Entries.{entry_octets, entry_size}
 use Rattle.history.specs.Entries.{Concern, a_zone, a_link, all_links, concern, is_taken, rows_after}
 use Rattle.history.specs.declared.past.TheConstants as pasts
@@ -36,8 +37,13 @@ pub record State : Type 0 where
   pub links : List LinkState
   pub now : ℕ
 
+-- the names of the zones, and behind them of each link its domain and its reverse domains
 abbrev pub home_names : State → List Labels
-home_names state = map (λ z. z.apex) state.zones ++ map (λ l. l.rules.domain) state.links
+home_names state = map (λ z. z.apex) state.zones ++ flat_map (λ l. names_of l.rules) state.links
+
+-- a link with a reverse domain more
+abbrev pub with_reverse : Labels → LinkState → LinkState
+with_reverse domain link = record link { rules = record link.rules { reverses = link.rules.reverses ++ domain ∷ [] } }
 
 -- the zone of an apex
 abbrev pub zone_of : State → Labels → Option ZoneState
@@ -46,13 +52,13 @@ zone_of state apex = find (λ z. same_name z.apex apex) state.zones
 abbrev pub with_rows : State → Labels → RecordSet → State
 with_rows state apex rows = record state { zones = map (λ z. cond (same_name z.apex apex) (record z { rows = rows }) z) state.zones }
 
--- the home of a name: a zone or a link, counted from 0 among its kind
+-- the home of a name: a zone, or the link of which the nearest home above is one of its names, counted from 0 among its kind
 abbrev pub home_of : State → Labels → Option Home
 home_of state name = elim (home (home_names state) name) [
   | None ↦ None
   | Some h ↦ elim (position (λ z. same_name z.apex h) state.zones) [
     | Some i ↦ Some (homes.Zone i)
-    | None ↦ option_map (λ i. homes.Link i) (position (λ l. same_name l.rules.domain h) state.links)
+    | None ↦ option_map (λ i. homes.Link i) (position (λ l. list_any (same_name h) (names_of l.rules)) state.links)
   ]
 ]
 
@@ -122,7 +128,7 @@ records_at start history point = records (state_at start history point)
 
 -- the link and the key that a row would have of which a record is the shown form; whether there is such a row isn't tested
 abbrev pub key_heard : State → Rr → Option Home → Option (ℕ × Key)
-key_heard state rr (Some (homes.Link i)) = option_and_then (λ l. option_map (λ r. (i, key_of r)) (heard_as l.rules.domain rr)) (slice_get state.links i)
+key_heard state rr (Some (homes.Link i)) = option_and_then (λ l. option_map (λ r. (i, key_of r)) (heard_by l.rules rr)) (slice_get state.links i)
 key_heard state rr _ = None
 
 abbrev pub reconfirm_key : State → Rr → Option (ℕ × Key)

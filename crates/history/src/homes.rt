@@ -1,23 +1,25 @@
-//! The homes of names (RFC 1034, 4.2; RFC 8766, 5.5).
+//! The homes of names (RFC 1034, 4.2; RFC 8766, 5.4 and 5.5).
 
-ghost use Rattle.std.specs.Prelude.{◌≡◌, ◌≤◌, ◌++◌, ◌∷◌, ℕ, [], map, None, Some, true, false, IfOk, IfSome, MatchOption, OnErr, OnOk, IsTrue, slice_get, option_map, option_and_then};
+ghost use Rattle.std.specs.Prelude.{◌≡◌, ◌≤◌, ◌++◌, ◌∷◌, ℕ, [], map, None, Some, IfOk, IfSome, MatchOption, OnErr, OnOk, IsTrue, slice_get, option_map, option_and_then};
 ghost use Rattle.std.specs.List.{AllByRecursion, AllZip};
+ghost use Rattle.push_base.specs.Cases.{changed_at};
 ghost use Rattle.push_base.specs.Limits.{max_moment};
 ghost use Rattle.dnsname.specs.Names.{is_name};
 ghost use Rattle.rrset.specs.RecordSet.{matching};
 ghost use Rattle.rrset.specs.Records.{key_of, rr_of};
-ghost use Rattle.linkmap.specs.Translation.{heard_as};
+ghost use Rattle.linkcache.specs.Rows.{heard_by};
 ghost use Rattle.history.specs.Homes.{home_fault};
-ghost use Rattle.history.specs.States.{home_of, records, reconfirm_key};
-ghost use Rattle.history.specs.Kept.{GivesFault, at_moment, state_of, states_at};
+ghost use Rattle.history.specs.States.{home_of, records, reconfirm_key, with_reverse};
+ghost use Rattle.history.specs.Kept.{GivesFault, HasNoRow, at_moment, state_of, states_at};
+ghost use Rattle.history.specs.declared.entry.HomeKind.TheVariants as kinds;
 ghost use Rattle.history.specs.AtHome.{AreAtHome, homes_in};
 ghost use Rattle.history.specs.LinkSteps.{EndsBy, StepsTo};
 ghost use Rattle.history.specs.HeldPlans.{Checks, IsCheckReady, IsLinkReady, IsPlanIn, IsReady, led_to};
 
-use crate::entry::{Entry, Home, HomeFault};
+use crate::entry::{Entry, Home, HomeFault, HomeKind};
 use crate::link_lists::{
-    apply_link, apply_links, copies_of_links, link_matching, longest_link, moments, put_all_shown,
-    rows_of_links, step_of, tell_links,
+    add_reverse_to, apply_link, apply_links, copies_of_links, link_matching, longest_link, moments,
+    put_all_shown, rows_of_links, step_of, tell_links,
 };
 use crate::naming::{NamedHome, copies_of, fault_of, put_behind};
 use crate::planning::HeldPlan;
@@ -29,7 +31,6 @@ use crate::zone_lists::{
 use dnsname::Name;
 use dnswire::Update;
 use linkcache::{Cache, HearPlan};
-use linkmap::back;
 use rrset::{Key, NoMemory, Question, Rr, Rrs, Shown, Table};
 use std::alloc::Global;
 use std::marker::Model;
@@ -87,10 +88,10 @@ fn apply_plan(zones: &mut [Zone], links: &mut [Cache], moment: u64, plan: HeldPl
 }
 
 /// The key of the record that a link would have heard to show a record.
-fn heard_key(alloc: Global, domain: &Name, rr: &Rr) -> Result<Option<Key>, NoMemory>
-    ensures { IfOk result (λ key. key ≡ option_map key_of (heard_as domain.now rr.now)) }
+fn heard_key(alloc: Global, link: &Cache, rr: &Rr) -> Result<Option<Key>, NoMemory>
+    ensures { IfOk result (λ key. key ≡ option_map key_of (heard_by link.now.state.rules rr.now)) }
 {
-    match back(alloc, domain, rr)? {
+    match link.heard_back(alloc, rr)? {
         Some(heard) => Ok(Some(heard.key()?)),
         None => Ok(None),
     }
@@ -103,12 +104,12 @@ fn heard_key_at(
     index: usize,
     rr: &Rr,
 ) -> Result<Option<(usize, Key)>, NoMemory>
-    ensures { IfOk result (λ found. found ≡ option_and_then (λ l. option_map (λ r. (index, key_of r)) (heard_as l.state.rules.domain rr.now)) (slice_get links.now index)) }
+    ensures { IfOk result (λ found. found ≡ option_and_then (λ l. option_map (λ r. (index, key_of r)) (heard_by l.state.rules rr.now)) (slice_get links.now index)) }
 {
     let Some(link) = links.get(index) else {
         return Ok(None);
     };
-    match heard_key(alloc, link.domain(), rr)? {
+    match heard_key(alloc, link, rr)? {
         Some(key) => Ok(Some((index, key))),
         None => Ok(None),
     }
@@ -132,18 +133,18 @@ impl Homes {
     }
 
     /// Adds a zone behind the others. `Many`: there are 16 zones. `Long`: its name has more than 200 octets. `Clash(i)`:
-    /// home i, counted from 0 in the order of adding, has the same name, or is a link under which the zone lies. These are
-    /// tested in this order, before any memory is taken, so that they come always.
+    /// home i, counted from 0 in the order of adding, has the same name, or is a link's domain or a reverse domain under
+    /// which the zone lies. These are tested in this order, before any memory is taken, so that they come always.
     pub fn add_zone(&mut self, zone: Zone) -> Result<(), HomeFault>
-        ensures fault { GivesFault result (home_fault self.old.names (zone.state.apex, false)) }
-        ensures ok { OnOk result (self.new ≡ record self.old { zones = self.old.zones ++ zone ∷ []; names = self.old.names ++ (zone.state.apex, false) ∷ [] }) }
+        ensures fault { GivesFault result (home_fault self.old.names (zone.state.apex, kinds.Zone)) }
+        ensures ok { OnOk result (self.new ≡ record self.old { zones = self.old.zones ++ zone ∷ []; names = self.old.names ++ (zone.state.apex, kinds.Zone) ∷ [] }) }
         ensures none { OnErr result (self.new ≡ self.old) }
     {
-        if let Some(fault) = fault_of(&self.names, self.zones.len(), zone.apex(), false) {
+        if let Some(fault) = fault_of(&self.names, zone.apex(), HomeKind::Zone) {
             return Err(fault);
         }
         self.zones.reserve(1)?;
-        put_behind(&mut self.names, zone.apex(), false)?;
+        put_behind(&mut self.names, zone.apex(), HomeKind::Zone)?;
         self.zones.push_reserved(zone);
         Ok(())
     }
@@ -151,21 +152,43 @@ impl Homes {
     /// Adds a link, which has heard nothing, behind the others, to be shown under this domain (RFC 8766, 5.5) with no TTL
     /// beyond the cap. `Many`: there are 16 links. `Long`: the domain has more than 200 octets. `Local`: it ends in
     /// `local.`. `Clash(i)`: home i, counted from 0 in the order of adding, has the same name, lies under the domain, or is
-    /// a link under which the domain lies. These are tested in this order, before any memory is taken, so that they come
-    /// always.
+    /// a link's domain or a reverse domain under which the domain lies. These are tested in this order, before any memory
+    /// is taken, so that they come always.
     pub fn add_link(&mut self, domain: Name, cap: u32) -> Result<(), HomeFault>
-        ensures fault { GivesFault result (home_fault self.old.names (domain, true)) }
-        ensures ok { OnOk result (state_of self.new ≡ record (state_of self.old) { links = (state_of self.old).links ++ (record { rules = record { domain = domain; cap = cap }; rows = [] }) ∷ [] }) }
-        ensures names { OnOk result (self.new.names ≡ self.old.names ++ (domain, true) ∷ []) }
+        ensures fault { GivesFault result (home_fault self.old.names (domain, kinds.Link)) }
+        ensures ok { OnOk result (state_of self.new ≡ record (state_of self.old) { links = (state_of self.old).links ++ (record { rules = record { domain = domain; reverses = []; cap = cap }; rows = [] }) ∷ [] }) }
+        ensures names { OnOk result (self.new.names ≡ self.old.names ++ (domain, kinds.Link) ∷ []) }
         ensures none { OnErr result (self.new ≡ self.old) }
     {
-        if let Some(fault) = fault_of(&self.names, self.links.len(), &domain, true) {
+        if let Some(fault) = fault_of(&self.names, &domain, HomeKind::Link) {
             return Err(fault);
         }
         let alloc = self.allocator();
         self.links.reserve(1)?;
-        put_behind(&mut self.names, &domain, true)?;
+        put_behind(&mut self.names, &domain, HomeKind::Link)?;
         self.links.push_reserved(Cache::new(alloc, domain, cap));
+        Ok(())
+    }
+
+    /// Adds a reverse domain (RFC 8766, 5.4) to a link that has heard nothing, behind its others. `Many`: the links have 16
+    /// reverse domains. `Long`: the domain has more than 200 octets. `Form`: it ends neither in `in-addr.arpa.` nor in
+    /// `ip6.arpa.`. `Clash(i)`: home i, counted from 0 in the order of adding, has the same name, lies under the domain, or
+    /// is a link's domain or a reverse domain under which the domain lies. These are tested in this order, before any
+    /// memory is taken, so that they come always.
+    pub fn add_reverse(&mut self, link: usize, domain: Name) -> Result<(), HomeFault>
+        requires { HasNoRow (slice_get (state_of self.old).links link) }
+        ensures fault { GivesFault result (home_fault self.old.names (domain, kinds.Reverse)) }
+        ensures ok { OnOk result (state_of self.new ≡ record (state_of self.old) { links = changed_at link (with_reverse domain) (state_of self.old).links }) }
+        ensures names { OnOk result (self.new.names ≡ self.old.names ++ (domain, kinds.Reverse) ∷ []) }
+        ensures none { OnErr result (self.new ≡ self.old) }
+    {
+        if let Some(fault) = fault_of(&self.names, &domain, HomeKind::Reverse) {
+            return Err(fault);
+        }
+        let name = domain.copy()?;
+        self.names.reserve(1)?;
+        add_reverse_to(&mut self.links, link, domain)?;
+        self.names.push_reserved((name, HomeKind::Reverse));
         Ok(())
     }
 

@@ -22,10 +22,11 @@ ghost use Rattle.std.specs.Prelude.{◌≡◌, [], ◌∷◌, true, false, codes
 ghost use Rattle.std.specs.Result.{result_ok};
 ghost use Rattle.push_base.specs.Hexadecimal.{hex};
 ghost use Rattle.push_base.specs.Limits.{max_home_octets, max_octets_at_name};
+ghost use Rattle.dnsname.specs.Names.{octets};
 ghost use Rattle.dnsname.specs.Text.{name};
 ghost use Rattle.history.specs.Homes.{max_zones, fault_of_last};
 ghost use Rattle.history.specs.States.{entry_octets, max_journal_entries, max_journal_octets, verdict, accepts, reconfirm_key};
-ghost use Rattle.history.specs.Worked.{start, heard_host, added_address, sizes_after};
+ghost use Rattle.history.specs.Worked.{start, mapped, zone, link, reverse, heard_host, added_address, sizes_after};
 
 use crate::entry::HomeFault;
 pub use homes::Homes;
@@ -35,22 +36,37 @@ pub use points::Points;
 
 /// Examples of states and of faults of homes.
 pub fn worked_rows()
-    ensures nested_zone { fault_of_last ((name (codes "com."), false) ∷ (name (codes "example.com."), false) ∷ []) ≡ None }
-    ensures same_zone { fault_of_last ((name (codes "com."), false) ∷ (name (codes "example.com."), false) ∷ (name (codes "Example.com."), false) ∷ []) ≡ Some (HomeFault.Clash 1) }
-    ensures link_under_link { fault_of_last ((name (codes "a.com."), true) ∷ (name (codes "b.a.com."), true) ∷ []) ≡ Some (HomeFault.Clash 0) }
-    ensures local_link { fault_of_last ((name (codes "x.local."), true) ∷ []) ≡ Some HomeFault.Local }
+    ensures nested_zone { fault_of_last (zone (codes "com.") ∷ zone (codes "example.com.") ∷ []) ≡ None }
+    ensures same_zone { fault_of_last (zone (codes "com.") ∷ zone (codes "example.com.") ∷ zone (codes "Example.com.") ∷ []) ≡ Some (HomeFault.Clash 1) }
+    ensures link_under_link { fault_of_last (link (codes "a.com.") ∷ link (codes "b.a.com.") ∷ []) ≡ Some (HomeFault.Clash 0) }
+    ensures local_link { fault_of_last (link (codes "x.local.") ∷ []) ≡ Some HomeFault.Local }
     ensures accepted { option_map (λ update. entry.Update update) (result_ok (verdict start (hex (codes "000128000001000000010000076578616d706c6503636f6d00000600010161c00c000100010000003c0004c0000201")))) ≡ Some added_address }
     ensures other_zone { verdict start (hex (codes "000128000001000000000000056f746865720000060001")) ≡ Err 9 }
     ensures no_update { verdict start (hex (codes "000100000001000000000000056f746865720000060001")) ≡ Err 1 }
     ensures shown_by_link { reconfirm_key start (record { owner = name (codes "h.lan.example.com."); class = 1; kind = 1; ttl = 0; rdata = hex (codes "c0000201") })
         ≡ Some (0, record { owner = name (codes "h.local."); class = 1; kind = 1; rdata = hex (codes "c0000201") }) }
     ensures shown_by_zone { reconfirm_key start (record { owner = name (codes "h.example.com."); class = 1; kind = 1; ttl = 0; rdata = hex (codes "c0000201") }) ≡ None }
+    ensures shown_under_reverse { reconfirm_key mapped (record { owner = name (codes "1.2.0.192.in-addr.arpa."); class = 1; kind = 12; ttl = 0; rdata = octets (name (codes "h.lan.example.com.")) })
+        ≡ Some (0, record { owner = name (codes "1.2.0.192.in-addr.arpa."); class = 1; kind = 12; rdata = octets (name (codes "h.local.")) }) }
+    ensures shown_nowhere { reconfirm_key mapped (record { owner = name (codes "1.3.0.192.in-addr.arpa."); class = 1; kind = 12; ttl = 0; rdata = octets (name (codes "h.lan.example.com.")) }) ≡ None }
     ensures sizes { sizes_after (added_address ∷ heard_host 1 ∷ []) ≡ 2 ∷ 3 ∷ 4 ∷ [] }
     ensures heard { accepts start (heard_host 1) ≡ true }
     ensures not_later { accepts start (entry.Moment 0) ≡ false }
 {}
 
-/// The limits of zones (and of links), of the journal and of homes; where no unit is named, in octets.
+/// Examples of faults of reverse domains: one lies under a zone, but nothing under it, and it lies under no link.
+pub fn worked_reverses()
+    ensures under_zone { fault_of_last (zone (codes "192.in-addr.arpa.") ∷ reverse (codes "2.0.192.in-addr.arpa.") ∷ []) ≡ None }
+    ensures over_zone { fault_of_last (reverse (codes "192.in-addr.arpa.") ∷ zone (codes "2.0.192.in-addr.arpa.") ∷ []) ≡ Some (HomeFault.Clash 0) }
+    ensures zone_below { fault_of_last (zone (codes "2.0.192.in-addr.arpa.") ∷ reverse (codes "192.in-addr.arpa.") ∷ []) ≡ Some (HomeFault.Clash 0) }
+    ensures same_as_zone { fault_of_last (zone (codes "com.") ∷ zone (codes "ip6.arpa.") ∷ reverse (codes "IP6.arpa.") ∷ []) ≡ Some (HomeFault.Clash 1) }
+    ensures under_link { fault_of_last (link (codes "lan.ip6.arpa.") ∷ reverse (codes "8.lan.ip6.arpa.") ∷ []) ≡ Some (HomeFault.Clash 0) }
+    ensures over_link { fault_of_last (link (codes "8.lan.ip6.arpa.") ∷ reverse (codes "lan.ip6.arpa.") ∷ []) ≡ Some (HomeFault.Clash 0) }
+    ensures under_reverse { fault_of_last (reverse (codes "192.in-addr.arpa.") ∷ reverse (codes "2.0.192.in-addr.arpa.") ∷ []) ≡ Some (HomeFault.Clash 0) }
+    ensures other_form { fault_of_last (link (codes "lan.example.com.") ∷ reverse (codes "example.org.") ∷ []) ≡ Some HomeFault.Form }
+{}
+
+/// The limits of zones (and of links, and of reverse domains), of the journal and of homes; where no unit is named, in octets.
 pub fn limit_rows()
     ensures zones { max_zones ≡ 16 }
     ensures entries { max_journal_entries ≡ 65536 }

@@ -1,17 +1,19 @@
 //! Links one behind another, in the order in which they were added.
 
-ghost use Rattle.std.specs.Prelude.{◌≡◌, ◌≤◌, ◌<◌, ◌+◌, ◌++◌, ℕ, List, Option, Some, map, fold, take, drop, length, IfOk, IfSome, OnOk, IsTrue, slice_get};
+ghost use Rattle.std.specs.Prelude.{◌≡◌, ◌≤◌, ◌<◌, ◌+◌, ◌∷◌, [], ℕ, List, Option, Some, map, fold, take, drop, length, IfOk, IfSome, OnErr, OnOk, IsTrue, slice_get};
 ghost use Rattle.std.specs.List.{AllByRecursion, AllZip};
 ghost use Rattle.push_base.specs.Cases.{changed_at};
 ghost use Rattle.push_base.specs.Limits.{max_moment};
 ghost use Rattle.dnsname.specs.Names.{Labels, is_name};
 ghost use Rattle.rrset.specs.RecordSet.{matching, union};
 ghost use Rattle.rrset.specs.Records.{rr_of};
-ghost use Rattle.linkcache.specs.Links.{LinkKept};
+ghost use Rattle.reversemap.specs.BothKinds.{IsApart};
+ghost use Rattle.linkcache.specs.Links.{LinkKept, LinkState};
 ghost use Rattle.linkcache.specs.Plans.{IsMomentPlan};
-ghost use Rattle.linkcache.specs.Rows.{shown_rows};
-ghost use Rattle.history.specs.AtHome.{IsHomeAt};
-ghost use Rattle.history.specs.Longest.{IsLongest, place_behind};
+ghost use Rattle.linkcache.specs.Rows.{names_of, shown_rows};
+ghost use Rattle.history.specs.Kept.{HasNoRow};
+ghost use Rattle.history.specs.Longest.{IsHomeBehind, IsLongest, most_octets};
+ghost use Rattle.history.specs.States.{with_reverse};
 ghost use Rattle.history.specs.LinkSteps.{EndsBy, StepsIn, StepsTo, link_rows};
 ghost use Rattle.history.specs.HeldPlans.{IsLinkReady, IsPlanIn, link_changed, links_changed};
 
@@ -23,16 +25,47 @@ use linkcache::{Cache, HearPlan};
 use rrset::{NoMemory, Question, Rrs, Table, put_all};
 use std::alloc::Global;
 
-/// The link with the longest domain that a name ends in, of those of more octets than a number; nothing where there is
-/// none.
+/// How many octets a home has, where a name ends in it and they are more than a number; else that number.
+fn octets_above(home: &Name, name: &Name, least: usize) -> usize
+    ensures { result ≡ most_octets name.now least (home.now ∷ []) }
+{
+    let octets = home.octets().len();
+    if octets > least && name.ends_in(home) {
+        octets
+    } else {
+        least
+    }
+}
+
+/// How many octets the longest of some homes has that a name ends in, and no fewer than a number.
+fn most_octets(homes: &[Name], name: &Name, least: usize) -> usize
+    ensures { result ≡ most_octets name.now least homes.now }
+{
+    let mut most = least;
+    'homes: for home in homes {
+        most = octets_above(home, name, most);
+    }
+    most
+}
+
+/// The same of the names of a link.
+fn most_octets_of(link: &Cache, name: &Name, least: usize) -> usize
+    ensures { result ≡ most_octets name.now least (names_of link.now.state.rules) }
+{
+    let most = octets_above(link.domain(), name, least);
+    most_octets(link.reverses(), name, most)
+}
+
+/// The link with the longest domain or reverse domain that a name ends in, of those of more octets than a number; nothing
+/// where there is none.
 pub(crate) fn longest_link(links: &[Cache], name: &Name, more_than: usize) -> Option<usize>
-    ensures { (before : List Labels) (best : Option ℕ) → IsLongest before name.now best more_than → IsHomeAt (before ++ map (λ l. l.state.rules.domain) links.now) name.now (place_behind before best result) }
+    ensures { (before : List Labels) (best : Option ℕ) → IsLongest before name.now best more_than → IsHomeBehind before links.now name.now best result }
 {
     let mut found = None;
     let mut most = more_than;
     'links: for (index, link) in links.iter().enumerate() {
-        let octets = link.domain().octets().len();
-        if octets > most && name.ends_in(link.domain()) {
+        let octets = most_octets_of(link, name, most);
+        if octets > most {
             found = Some(index);
             most = octets;
         }
@@ -40,13 +73,27 @@ pub(crate) fn longest_link(links: &[Cache], name: &Name, more_than: usize) -> Op
     found
 }
 
-/// Tells that the domains of links are names (RFC 1035, 3.1).
+/// Tells that the domains and reverse domains of links are names (RFC 1035, 3.1).
 pub(crate) fn tell_links(links: &[Cache])
-    ensures { AllByRecursion (λ l. IsTrue (is_name l.state.rules.domain)) links.now }
+    ensures { AllByRecursion (λ l. AllByRecursion (λ n. IsTrue (is_name n)) (names_of l.state.rules)) links.now }
 {
     'links: for link in links {
-        let _ = link.domain().octets();
+        let _ = link.rows();
     }
+}
+
+/// Adds a reverse domain to one of some links, which has heard nothing, and from whose domain it stands apart.
+pub(crate) fn add_reverse_to(
+    links: &mut [Cache],
+    index: usize,
+    domain: Name,
+) -> Result<(), NoMemory>
+    requires rows { HasNoRow (slice_get (map (λ l. l.state) links.old) index) }
+    requires apart { (link : LinkState) → slice_get (map (λ l. l.state) links.old) index ≡ Some link → IsApart link.rules.domain domain }
+    ensures ok { OnOk result (map (λ l. l.state) links.new ≡ changed_at index (with_reverse domain) (map (λ l. l.state) links.old)) }
+    ensures err { OnErr result (links.new ≡ links.old) }
+{
+    links[index].add_reverse(domain)
 }
 
 /// How many rows some links have.

@@ -1,70 +1,101 @@
-//! The names of homes, and why a home is not added (RFC 1034, 4.2; RFC 8766, 5.5).
+//! The names of homes, and why a home is not added (RFC 1034, 4.2; RFC 8766, 5.4 and 5.5).
 
-ghost use Rattle.std.specs.Prelude.{◌≡◌, ◌∷◌, ◌++◌, [], length, filter, not, position, IfOk, OnOk, OnErr, if◌then◌else◌};
+ghost use Rattle.std.specs.Prelude.{◌≡◌, ◌∷◌, ◌++◌, [], length, filter, position, IfOk, OnOk, OnErr};
 ghost use Rattle.dnsname.specs.Names.{same_name};
-ghost use Rattle.history.specs.Homes.{NamedHome, clashes, home_fault};
+ghost use Rattle.history.specs.Homes.{NamedHome, clashes, home_fault, is_of_link, name_fault, same_kind};
 
-use crate::entry::HomeFault;
+use crate::entry::{HomeFault, HomeKind};
 use dnsname::Name;
 use linkmap::ends_in_local;
 use push_base::limits::MAX_HOME_OCTETS;
+use reversemap::is_reverse_domain;
 use rrset::NoMemory;
 use std::alloc::Global;
 
-/// The most zones, and the most links.
+/// The most zones, the most links, and the most reverse domains of all links.
 const MAX_ZONES: usize = 16;
 
-/// A home by its name, and whether it is a link.
-pub(crate) type NamedHome = (Name, bool);
+/// A home by its name, and what it is added as.
+pub(crate) type NamedHome = (Name, HomeKind);
 
-/// Whether a new home has the name of another, or one of the two lies under the other, which is a link.
-fn clashes(new: &Name, is_link: bool, other: &NamedHome) -> bool
-    ensures { result ≡ clashes (new.now, is_link) other.now }
+/// Whether two kinds are one.
+fn same_kind(kind: HomeKind, other: HomeKind) -> bool
+    ensures { result ≡ same_kind kind other }
 {
-    new.same(&other.0) || (other.1 && new.ends_in(&other.0)) || (is_link && other.0.ends_in(new))
+    kind == other
+}
+
+/// Whether a home is a link's domain or a reverse domain.
+fn is_of_link(kind: HomeKind) -> bool
+    ensures { result ≡ is_of_link kind }
+{
+    !matches!(kind, HomeKind::Zone)
+}
+
+/// Whether a new home has the name of another, or one of the two lies under the other, which is no zone.
+fn clashes(new: &Name, kind: HomeKind, other: &NamedHome) -> bool
+    ensures { result ≡ clashes (new.now, kind) other.now }
+{
+    new.same(&other.0)
+        || (is_of_link(other.1) && new.ends_in(&other.0))
+        || (is_of_link(kind) && other.0.ends_in(new))
 }
 
 /// The first of some homes with which a new one clashes.
-fn clash_of(homes: &[NamedHome], new: &Name, is_link: bool) -> Option<usize>
-    ensures { result ≡ position (clashes (new.now, is_link)) homes.now }
+fn clash_of(homes: &[NamedHome], new: &Name, kind: HomeKind) -> Option<usize>
+    ensures { result ≡ position (clashes (new.now, kind)) homes.now }
 {
-    homes.iter().position(|other| clashes(new, is_link, other))
+    homes.iter().position(|other| clashes(new, kind, other))
 }
 
-/// Why a home is not added to others, of which so many are of its kind. It takes no memory.
-pub(crate) fn fault_of(
-    homes: &[NamedHome],
-    alike: usize,
-    new: &Name,
-    is_link: bool,
-) -> Option<HomeFault>
-    requires { alike ≡ length (filter (λ h. if h.1 then is_link else not is_link) homes.now) }
-    ensures { result ≡ home_fault homes.now (new.now, is_link) }
+/// How many of some homes are of a kind.
+fn count_of(homes: &[NamedHome], kind: HomeKind) -> usize
+    ensures { result ≡ length (filter (λ h. same_kind h.1 kind) homes.now) }
 {
-    if alike >= MAX_ZONES {
+    homes.iter().filter(|home| same_kind(home.1, kind)).count()
+}
+
+/// What a home's name by itself may not be.
+fn name_fault(name: &Name, kind: HomeKind) -> Option<HomeFault>
+    ensures { result ≡ name_fault (name.now, kind) }
+{
+    match kind {
+        HomeKind::Zone => None,
+        HomeKind::Link => ends_in_local(name).then_some(HomeFault::Local),
+        HomeKind::Reverse => (!is_reverse_domain(name)).then_some(HomeFault::Form),
+    }
+}
+
+/// Why a home is not added to others. It takes no memory.
+pub(crate) fn fault_of(homes: &[NamedHome], new: &Name, kind: HomeKind) -> Option<HomeFault>
+    ensures { result ≡ home_fault homes.now (new.now, kind) }
+{
+    if count_of(homes, kind) >= MAX_ZONES {
         return Some(HomeFault::Many);
     }
     if new.octets().len() > MAX_HOME_OCTETS {
         return Some(HomeFault::Long);
     }
-    if is_link && ends_in_local(new) {
-        return Some(HomeFault::Local);
+    match name_fault(new, kind) {
+        Some(fault) => Some(fault),
+        None => {
+            let index = clash_of(homes, new, kind)?;
+            Some(HomeFault::Clash(index))
+        }
     }
-    let index = clash_of(homes, new, is_link)?;
-    Some(HomeFault::Clash(index))
 }
 
 /// Puts a home behind others.
 pub(crate) fn put_behind(
     homes: &mut Vec<NamedHome>,
     new: &Name,
-    is_link: bool,
+    kind: HomeKind,
 ) -> Result<(), NoMemory>
-    ensures ok { OnOk result (homes.new.items ≡ homes.old.items ++ (new.now, is_link) ∷ []) }
+    ensures ok { OnOk result (homes.new.items ≡ homes.old.items ++ (new.now, kind) ∷ []) }
     ensures err { OnErr result (homes.new.items ≡ homes.old.items) }
 {
     let name = new.copy()?;
-    homes.push((name, is_link))?;
+    homes.push((name, kind))?;
     Ok(())
 }
 
@@ -73,8 +104,8 @@ pub(crate) fn copies_of(alloc: Global, homes: &[NamedHome]) -> Result<Vec<NamedH
     ensures { IfOk result (λ copy. copy.items ≡ homes.now) }
 {
     let mut copy = Vec::new(alloc);
-    'homes: for (name, is_link) in homes {
-        copy.push((name.copy()?, *is_link))?;
+    'homes: for (name, kind) in homes {
+        copy.push((name.copy()?, *kind))?;
     }
     Ok(copy)
 }

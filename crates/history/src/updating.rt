@@ -1,7 +1,8 @@
 //! Updates of zones (RFC 2136, 3.1.1 and 3.1.2).
 
-ghost use Rattle.std.specs.Prelude.{◌≡◌, ◌<◌, ◌++◌, ℕ, List, map, filter, Some, Ok, Err, slice_get, length, IfOk, OnOk, MatchResult};
+ghost use Rattle.std.specs.Prelude.{◌≡◌, ◌<◌, ◌++◌, ◌∷◌, [], ℕ, List, map, flat_map, filter, Some, Ok, Err, slice_get, length, IfOk, OnOk, MatchResult};
 ghost use Rattle.dnsname.specs.Names.{Labels};
+ghost use Rattle.linkcache.specs.Rows.{names_of};
 ghost use Rattle.zoneupdate.specs.Updates.{judged};
 ghost use Rattle.zoneupdate.specs.KeptZones.{ZoneKept, lies_under, IsUnder, Judges, HasRoom};
 ghost use Rattle.history.specs.States.{zone_asked};
@@ -56,21 +57,38 @@ fn put_zones_under(names: &mut Vec<Name>, zones: &[Zone], apex: &Name) -> Result
     ensures { OnOk result (names.new.items ≡ names.old.items ++ filter (lies_under apex.now) (map (λ z. z.state.apex) zones.now)) }
 {
     'zones: for zone in zones {
-        if lies_under(apex, zone.apex()) {
-            names.push(zone.apex().copy()?)?;
-        }
+        put_under(names, zone.apex(), apex)?;
     }
     Ok(())
 }
 
-/// Appends the domains of the links that lie under an apex.
+/// Appends a name if it lies under an apex.
+fn put_under(names: &mut Vec<Name>, home: &Name, apex: &Name) -> Result<(), NoMemory>
+    ensures { OnOk result (names.new.items ≡ names.old.items ++ filter (lies_under apex.now) (home.now ∷ [])) }
+{
+    if lies_under(apex, home) {
+        names.push(home.copy()?)?;
+    }
+    Ok(())
+}
+
+/// Appends those of some names that lie under an apex.
+fn put_all_under(names: &mut Vec<Name>, homes: &[Name], apex: &Name) -> Result<(), NoMemory>
+    ensures { OnOk result (names.new.items ≡ names.old.items ++ filter (lies_under apex.now) homes.now) }
+{
+    'homes: for home in homes {
+        put_under(names, home, apex)?;
+    }
+    Ok(())
+}
+
+/// Appends the domains and reverse domains of the links that lie under an apex.
 fn put_links_under(names: &mut Vec<Name>, links: &[Cache], apex: &Name) -> Result<(), NoMemory>
-    ensures { OnOk result (names.new.items ≡ names.old.items ++ filter (lies_under apex.now) (map (λ l. l.state.rules.domain) links.now)) }
+    ensures { OnOk result (names.new.items ≡ names.old.items ++ filter (lies_under apex.now) (flat_map (λ l. names_of l.state.rules) links.now)) }
 {
     'links: for link in links {
-        if lies_under(apex, link.domain()) {
-            names.push(link.domain().copy()?)?;
-        }
+        put_under(names, link.domain(), apex)?;
+        put_all_under(names, link.reverses(), apex)?;
     }
     Ok(())
 }
@@ -82,7 +100,7 @@ fn names_under(
     links: &[Cache],
     apex: &Name,
 ) -> Result<Vec<Name>, NoMemory>
-    ensures { IfOk result (λ names. names.items ≡ filter (lies_under apex.now) (map (λ z. z.state.apex) zones.now ++ map (λ l. l.state.rules.domain) links.now)) }
+    ensures { IfOk result (λ names. names.items ≡ filter (lies_under apex.now) (map (λ z. z.state.apex) zones.now ++ flat_map (λ l. names_of l.state.rules) links.now)) }
 {
     let mut names = Vec::new(alloc);
     put_zones_under(&mut names, zones, apex)?;
@@ -93,7 +111,7 @@ fn names_under(
 /// The names of the homes that lie under one of some zones.
 fn under_at(alloc: Global, zones: &[Zone], links: &[Cache], index: usize) -> Result<Under, NoMemory>
     requires { index < length zones.now }
-    ensures { IfOk result (λ under. (zone : ZoneKept) → slice_get zones.now index ≡ Some zone → under ≡ filter (lies_under zone.state.apex) (map (λ z. z.state.apex) zones.now ++ map (λ l. l.state.rules.domain) links.now)) }
+    ensures { IfOk result (λ under. (zone : ZoneKept) → slice_get zones.now index ≡ Some zone → under ≡ filter (lies_under zone.state.apex) (map (λ z. z.state.apex) zones.now ++ flat_map (λ l. names_of l.state.rules) links.now)) }
 {
     let names = names_under(alloc, zones, links, zones[index].apex())?;
     Ok(Under::from_vec(names))

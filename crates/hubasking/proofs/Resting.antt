@@ -5,11 +5,11 @@ use Rattle.std.proofs.Common.{◌≡◌, ◌⊎◌, inl, inr, ℕ, zero, suc, �
 use Rattle.std.specs.Prelude.{slice_get, option_map, flat_map}
 use Rattle.std.specs.List.{AllZip}
 use Rattle.push_base.specs.Limits.{max_moment}
-use Rattle.dnsname.specs.Names.{Labels}
 use Rattle.rrset.specs.declared.record.Changed.{Changed}
 use Rattle.rrset.specs.declared.record.Question.{Question}
 use Rattle.subscr.specs.Asked.{Asked}
 use Rattle.linkcache.specs.Links.{LinkState}
+use Rattle.linkcache.specs.declared.rules.LinkRules.{LinkRules}
 use Rattle.linkask.specs.Reasons.{question_on}
 use Rattle.linkreasons.specs.AllReasons.{AllReasons}
 use Rattle.linkreasons.specs.declared.reason.Reason.{Reason}
@@ -19,7 +19,8 @@ use Rattle.history.specs.States.{State, home_of, after}
 use Rattle.history.specs.declared.entry.Entry.{Entry}
 use Rattle.history.specs.declared.entry.Home.{Home}
 use Rattle.history.specs.declared.entry.Home.TheVariants as homes
-use Rattle.history.proofs.HomesStay.{apexes, domains, home_of-same, same_names-after}
+use Rattle.history.proofs.HomesStay.{apexes, home_of-same, same_names-after}
+use Rattle.history.proofs.StatesAtHome.{rules_of}
 use Rattle.pushsession.specs.Sessions.{ended_where, noted, timed, due}
 use Rattle.pushsession.specs.Kept.{KeptSession, keeping}
 use Rattle.pushserver.specs.Hubs.{Numbered, all_sessions, each_session, behind_at, ended_behind, ends_behind, entered_keeping, entry_changes, keeps_now, newest, now, state_now}
@@ -31,7 +32,7 @@ use Rattle.hubasking.specs.KeptReasons.{AreKept, CanFollow, HasBounds, StillAsks
 
 pub record SameHomes (old later : State) : Type 0 where
   pub zones : apexes later.zones ≡ apexes old.zones
-  pub links : domains later.links ≡ domains old.links
+  pub links : rules_of later.links ≡ rules_of old.links
 
 pub homes-itself : (state : State) → SameHomes state state
 homes-itself state = record { zones = refl; links = refl }
@@ -39,20 +40,20 @@ homes-itself state = record { zones = refl; links = refl }
 pub homes-after : (state : State) (entry : Entry) → SameHomes state (after state entry)
 homes-after state entry = let names = same_names-after state entry in record { zones = names.0; links = names.1 }
 
--- the reasons at a link are told by its domain
-abbrev at-domain : ℕ → Question → ℕ → Option Labels → List Reason
-at-domain id question i o = elim o [ None ↦ [] | Some domain ↦ map (λ (q : Question). record { id = id; link = i; question = q }) (question_on domain question) ]
+-- the reasons at a link are told by what it shows by
+abbrev at-rules : ℕ → Question → ℕ → Option LinkRules → List Reason
+at-rules id question i o = elim o [ None ↦ [] | Some rules ↦ map (λ (q : Question). record { id = id; link = i; question = q }) (question_on rules.domain question) ]
 
-by-domain : (id : ℕ) (question : Question) (i : ℕ) (ls : List LinkState) (place : ℕ)
-    → elim (slice_get ls place) as (λ _. List Reason) [ None ↦ [] | Some l ↦ map (λ (q : Question). record { id = id; link = i; question = q }) (question_on l.rules.domain question) ] ≡ at-domain id question i (slice_get (domains ls) place)
-by-domain id question i [] place = refl
-by-domain id question i (l ∷ ls) zero = refl
-by-domain id question i (l ∷ ls) (suc place) = by-domain id question i ls place
+by-rules : (id : ℕ) (question : Question) (i : ℕ) (ls : List LinkState) (place : ℕ)
+    → elim (slice_get ls place) as (λ _. List Reason) [ None ↦ [] | Some l ↦ map (λ (q : Question). record { id = id; link = i; question = q }) (question_on l.rules.domain question) ] ≡ at-rules id question i (slice_get (rules_of ls) place)
+by-rules id question i [] place = refl
+by-rules id question i (l ∷ ls) zero = refl
+by-rules id question i (l ∷ ls) (suc place) = by-rules id question i ls place
 
-reasons-home : (id : ℕ) (question : Question) (ls ms : List LinkState) → domains ms ≡ domains ls → (h : Option Home) → reasons_at id question ls h ≡ reasons_at id question ms h
+reasons-home : (id : ℕ) (question : Question) (ls ms : List LinkState) → rules_of ms ≡ rules_of ls → (h : Option Home) → reasons_at id question ls h ≡ reasons_at id question ms h
 reasons-home id question ls ms same None = refl
 reasons-home id question ls ms same (Some (homes.Zone i)) = refl
-reasons-home id question ls ms same (Some (homes.Link i)) = by-domain id question i ls i ∙ ap (λ (ds : List Labels). at-domain id question i (slice_get ds i)) (sym same) ∙ sym (by-domain id question i ms i)
+reasons-home id question ls ms same (Some (homes.Link i)) = by-rules id question i ls i ∙ ap (λ (rules : List LinkRules). at-rules id question i (slice_get rules i)) (sym same) ∙ sym (by-rules id question i ms i)
 
 reasons-same : (old later : State) → SameHomes old later → (e : ℕ × Question) → reasons_for old e ≡ reasons_for later e
 reasons-same old later same e = reasons-home e.0 e.1 old.links later.links same.links (home_of old e.1.name) ∙ ap (reasons_at e.0 e.1 later.links) (sym (home_of-same later old same.zones same.links e.1.name))

@@ -11,6 +11,8 @@ mod seating;
 mod translating;
 
 ghost use Rattle.std.specs.Prelude.{◌≡◌, [], ◌∷◌, codes};
+ghost use Rattle.dnsname.specs.Text.{name};
+ghost use Rattle.linkask.specs.Reasons.{question_on};
 ghost use Rattle.hubasking.specs.Worked.{asks, at, leaves, plain, reconfirms, says, sends, sent_after, subscribes, unsubscribes};
 
 pub use hub::Hub;
@@ -28,4 +30,12 @@ pub fn worked_rows()
     ensures silent { sent_after (sends subscribes ∷ asks ∷ at 29999 ∷ asks ∷ at 30000 ∷ asks ∷ []) ≡ (plain ∷ []) ∷ (plain ∷ []) ∷ [] ∷ [] }
     // A row that is reconfirmed is asked for until it goes.
     ensures confirms_a_row { sent_after (says 120 1 ∷ sends subscribes ∷ sends unsubscribes ∷ asks ∷ sends reconfirms ∷ asks ∷ at 1000 ∷ asks ∷ at 10000 ∷ asks ∷ []) ≡ [] ∷ (plain ∷ []) ∷ (plain ∷ []) ∷ [] ∷ [] }
+{}
+
+/// Examples of what a link with the domain `lan.example.com.` is asked for a question.
+pub fn worked_questions()
+    // A name under its domain is one under `local.`
+    ensures translated { question_on (name (codes "lan.example.com.")) (record { name = name (codes "H.LAN.example.com."); kind = 1; class = 255 }) ≡ (record { name = name (codes "h.local."); kind = 1; class = 1 }) ∷ [] }
+    // Any other, as one under a reverse domain, stays.
+    ensures mapped { question_on (name (codes "lan.example.com.")) (record { name = name (codes "1.2.0.192.IN-ADDR.arpa."); kind = 12; class = 1 }) ≡ (record { name = name (codes "1.2.0.192.in-addr.arpa."); kind = 12; class = 1 }) ∷ [] }
 {}

@@ -19,7 +19,7 @@ use Rattle.rrset.proofs.Places.{all_filter}
 use Rattle.rrset.proofs.Sets.{alike}
 use Rattle.linkcache.specs.Rows.{LinkRows, at_moment, ending_by, flushed_by, has_key, heard_at, heard_beside, is_of_set, put_heard, reconfirmation, reconfirmed, row_has_room, second, ttl_of, usable_of}
 use Rattle.linkcache.specs.declared.row.HeardRow.{HeardRow}
-use Rattle.linkmap.specs.Translation.{is_usable}
+use Rattle.reversemap.specs.BothKinds.{is_used}
 use Rattle.linkask.specs.Asking.{pause_after, refreshes, rows_for}
 use Rattle.linkask.specs.Bounds.{Kept, AreBounds, IsBound, all_heard, first_refresh, heard_again, is_asked_for, lowered_due}
 use Rattle.linkask.specs.Laws.{EndingKeepsBounds, HearingKeepsBounds, ReconfirmingKeepsBounds}
@@ -273,4 +273,4 @@ hears rules rows now usable (e ∷ es) low bounds =
 pub hearing_keeps : HearingKeepsBounds
 hearing_keeps rules rows now hearing kept bounds =
     hears rules rows now (usable_of rules hearing) (all_heard now hearing kept)
-    (all_filter (λ h. AllByRecursion (Low now h) (all_heard now hearing kept)) (λ h. is_usable rules.domain h.rr) hearing (low-behind now hearing kept)) (all-lower-keeps rows now hearing kept bounds)
+    (all_filter (λ h. AllByRecursion (Low now h) (all_heard now hearing kept)) (λ h. is_used rules.domain rules.reverses h.rr) hearing (low-behind now hearing kept)) (all-lower-keeps rows now hearing kept bounds)

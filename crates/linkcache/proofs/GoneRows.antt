@@ -1,5 +1,5 @@
 -- A link that goes away: all rows go, and there are some where there are moments at which they end.
-use Rattle.std.proofs.Common.{◌≡◌, ℕ, ◌≤◌, true, false, cond, not, List, [], ◌∷◌, Some, None, option_map, refl, sym, ap, subst, ◌∙◌, arith}
+use Rattle.std.proofs.Common.{◌≡◌, ℕ, true, false, cond, not, [], ◌∷◌, Some, None, option_map, refl, sym, ap, subst, ◌∙◌, arith}
 use Rattle.std.specs.Prelude.{is_none}
 use Rattle.std.specs.List.{find}
 use Rattle.push_base.specs.Cases.{is_empty}
@@ -61,6 +61,6 @@ module _ (rules : LinkRules) (rows : LinkRows) (plan : LinkPlan) (ds : Deadlines
   pub gone-leads : IsLink (record { rules = rules; rows = rows }) → (part work : LinkRows) → is_none (first_moment ds) ≡ false → part ≡ rows → work ≡ [] → plan.usable ≡ true → IsPlanBetween rules part work plan → IsGonePlan rules rows plan
   gone-leads link part work some part-is work-is usable between = record {
     usable = usable ∙ sym (some-row ds rows ends some);
-    leads = leads rules link.name (λ key. true) rows [] part work plan (rises rules rows link) tt link.sound tt (none-within rules)
+    leads = leads rules link.name link.apart (λ key. true) rows [] part work plan (rises rules rows link) tt link.sound tt (none-within rules)
         (none-fails rows) (part-is ∙ all-pass rows) work-is between;
   }

@@ -8,7 +8,7 @@ use Rattle.rrset.specs.declared.record.HeardRr.{HeardRr}
 use Rattle.rrset.specs.Records.{key_of, same_key}
 use Rattle.rrset.specs.Tables.{HasLowerOwner, HaveLowerOwners}
 use Rattle.rrset.specs.KeyedRows.{is_rising, put_row, row_at}
-use Rattle.linkmap.specs.Translation.{is_usable}
+use Rattle.reversemap.specs.BothKinds.{is_used}
 use Rattle.linkcache.specs.declared.row.HeardRow.{HeardRow}
 use Rattle.linkcache.specs.Rows.{LinkRows, ttl_of, second, ending_by, has_key, row_has_room, heard_at, put_heard, is_of_set, flushed_by, usable_of}
 use Rattle.linkcache.specs.Sound.{AreLinkRows}
@@ -32,28 +32,28 @@ has-matched now key rows (Some a) h = sym (ap is_some h) ∙ has-found key rows
 -- ---- the records from a place on
 
 module _ (rules : LinkRules) (hs : List HeardRr) (i : ℕ) (h : HeardRr) (within : i < length hs) (is : h ≡ get_or hs i h) where
-  from : usable_of rules (drop i hs) ≡ cond (is_usable rules.domain h.rr) (h ∷ usable_of rules (drop (i + 1) hs)) (usable_of rules (drop (i + 1) hs))
+  from : usable_of rules (drop i hs) ≡ cond (is_used rules.domain rules.reverses h.rr) (h ∷ usable_of rules (drop (i + 1) hs)) (usable_of rules (drop (i + 1) hs))
   from = ap (usable_of rules) (drop_more hs i h within) ∙ ap (λ x. usable_of rules (x ∷ drop (i + 1) hs)) (sym is)
 
-  pub usable-more : is_usable rules.domain h.rr ≡ true → usable_of rules (drop i hs) ≡ h ∷ usable_of rules (drop (i + 1) hs)
+  pub usable-more : is_used rules.domain rules.reverses h.rr ≡ true → usable_of rules (drop i hs) ≡ h ∷ usable_of rules (drop (i + 1) hs)
   usable-more e = from ∙ ap (λ b. cond b (h ∷ usable_of rules (drop (i + 1) hs)) (usable_of rules (drop (i + 1) hs))) e
 
-  pub usable-skip : is_usable rules.domain h.rr ≡ false → usable_of rules (drop i hs) ≡ usable_of rules (drop (i + 1) hs)
+  pub usable-skip : is_used rules.domain rules.reverses h.rr ≡ false → usable_of rules (drop i hs) ≡ usable_of rules (drop (i + 1) hs)
   usable-skip e = from ∙ ap (λ b. cond b (h ∷ usable_of rules (drop (i + 1) hs)) (usable_of rules (drop (i + 1) hs))) e
 
   abbrev pub flushing : List HeardRr → List HeardRr
   flushing xs = filter (λ h. h.flush) (usable_of rules xs)
 
-  pub flushing-more : (h.flush && is_usable rules.domain h.rr) ≡ true → flushing (drop i hs) ≡ h ∷ flushing (drop (i + 1) hs)
-  flushing-more e = ap (λ (l : List HeardRr). filter (λ h. h.flush) l) from ∙ by h.flush (is_usable rules.domain h.rr) refl e
+  pub flushing-more : (h.flush && is_used rules.domain rules.reverses h.rr) ≡ true → flushing (drop i hs) ≡ h ∷ flushing (drop (i + 1) hs)
+  flushing-more e = ap (λ (l : List HeardRr). filter (λ h. h.flush) l) from ∙ by h.flush (is_used rules.domain rules.reverses h.rr) refl e
     where
       by : (f u : Bool) → h.flush ≡ f → (f && u) ≡ true → filter (λ h. h.flush) (cond u (h ∷ usable_of rules (drop (i + 1) hs)) (usable_of rules (drop (i + 1) hs))) ≡ h ∷ flushing (drop (i + 1) hs)
       by true true f-is both = ap (λ b. cond b (h ∷ flushing (drop (i + 1) hs)) (flushing (drop (i + 1) hs))) f-is
       by true false f-is both = absurd cc
       by false u f-is both = absurd cc
 
-  pub flushing-skip : (h.flush && is_usable rules.domain h.rr) ≡ false → flushing (drop i hs) ≡ flushing (drop (i + 1) hs)
-  flushing-skip e = ap (λ (l : List HeardRr). filter (λ h. h.flush) l) from ∙ by h.flush (is_usable rules.domain h.rr) refl e
+  pub flushing-skip : (h.flush && is_used rules.domain rules.reverses h.rr) ≡ false → flushing (drop i hs) ≡ flushing (drop (i + 1) hs)
+  flushing-skip e = ap (λ (l : List HeardRr). filter (λ h. h.flush) l) from ∙ by h.flush (is_used rules.domain rules.reverses h.rr) refl e
     where
       by : (f u : Bool) → h.flush ≡ f → (f && u) ≡ false → filter (λ h. h.flush) (cond u (h ∷ usable_of rules (drop (i + 1) hs)) (usable_of rules (drop (i + 1) hs))) ≡ flushing (drop (i + 1) hs)
       by true true f-is both = absurd cc
@@ -92,14 +92,14 @@ is_true true h = refl
 is_true false h = absurd h
 
 module _ (rules : LinkRules) (now others : ℕ) (rows : LinkRows) (hs : List HeardRr) (i : ℕ) (h : HeardRr) (within : i < length hs) (is : h ≡ get_or hs i h) where
-  pub put_more : (work later : LinkRows) → is_usable rules.domain h.rr ≡ true → PutSoFar rules now others rows work (drop i hs) hs → later ≡ put_heard rules now others work h → PutSoFar rules now others rows later (drop (i + 1) hs) hs
+  pub put_more : (work later : LinkRows) → is_used rules.domain rules.reverses h.rr ≡ true → PutSoFar rules now others rows work (drop i hs) hs → later ≡ put_heard rules now others work h → PutSoFar rules now others rows later (drop (i + 1) hs) hs
   put_more work later usable so_far later-is = record {
     order = is_true (is_rising later) (subst Rising (sym later-is) (rising-put_heard rules now others work h (subst T (sym so_far.order) tt)));
     sound = subst (AreLinkRows rules) (sym later-is) (sound-put rules now others work h usable so_far.sound);
     rest = ap (λ (l : LinkRows). fold (put_heard rules now others) l (usable_of rules (drop (i + 1) hs))) later-is ∙ ap (fold (put_heard rules now others) work) (sym (usable-more rules hs i h within is usable)) ∙ so_far.rest;
   }
 
-  pub put_skip : (work : LinkRows) → is_usable rules.domain h.rr ≡ false → PutSoFar rules now others rows work (drop i hs) hs → PutSoFar rules now others rows work (drop (i + 1) hs) hs
+  pub put_skip : (work : LinkRows) → is_used rules.domain rules.reverses h.rr ≡ false → PutSoFar rules now others rows work (drop i hs) hs → PutSoFar rules now others rows work (drop (i + 1) hs) hs
   put_skip work usable so_far = record {
     order = so_far.order;
     sound = so_far.sound;

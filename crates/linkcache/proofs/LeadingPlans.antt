@@ -140,7 +140,7 @@ module _ (rules : LinkRules) (rows : LinkRows) (link : IsLink (record { rules = 
       → work ≡ heard_beside others rules part now (usable_of rules hearing) → not (is_empty (usable_of rules hearing)) ≡ true → plan.usable ≡ true → IsPlanBetween rules part work plan → IsHeardPlan rules rows now hearing plan
   heard-leads now others hearing part work part-is count work-is some usable between = let whole = heard-part rules now hearing rows (rises rules rows link) in record {
     usable = usable ∙ sym some;
-    leads = leads rules link.name p rows (heard rules rows now hearing) part work plan (rises rules rows link) whole.rising link.sound (sound-heard rules now hearing rows link.sound) (within-heard rules now hearing rows (rises rules rows link) link.sound link.within) (sym whole.outside) part-is
+    leads = leads rules link.name link.apart p rows (heard rules rows now hearing) part work plan (rises rules rows link) whole.rising link.sound (sound-heard rules now hearing rows link.sound) (within-heard rules now hearing rows (rises rules rows link) link.sound link.within) (sym whole.outside) part-is
         (work-is ∙ (λ i. heard_beside (others-are i) rules (part-is i) now (usable_of rules hearing)) ∙ sym whole.inside) between;
   }
     where
@@ -156,7 +156,7 @@ module _ (rules : LinkRules) (rows : LinkRows) (link : IsLink (record { rules = 
       → IsMomentPlan rules rows now plan
   moment-leads now ds part work are ends part-is work-is usable between = let goes = due-goes now ds rows are (rises rules rows link) ends in record {
     usable = usable;
-    leads = leads rules link.name (is_due now ds) rows (at_moment rows now) part work plan (rises rules rows link) later-rises link.sound (sound-moment rules now rows link.sound) (within-moment rules now rows link.within) goes.1 part-is (work-is ∙ sym goes.0) between;
+    leads = leads rules link.name link.apart (is_due now ds) rows (at_moment rows now) part work plan (rises rules rows link) later-rises link.sound (sound-moment rules now rows link.sound) (within-moment rules now rows link.within) goes.1 part-is (work-is ∙ sym goes.0) between;
   }
     where
       later-rises : Rising (at_moment rows now)
@@ -167,7 +167,7 @@ module _ (rules : LinkRules) (rows : LinkRows) (link : IsLink (record { rules = 
   pub reconfirm-leads : (key : Key) (now : ℕ) (part work : LinkRows) → part ≡ only_rows (of_key key) rows → work ≡ map (ended_soon key now) part → plan.usable ≡ false → IsPlanBetween rules part work plan → IsReconfirmPlan rules rows key now plan
   reconfirm-leads key now part work part-is work-is usable between = record {
     usable = usable;
-    leads = leads rules link.name (of_key key) rows (reconfirmed rows key now) part work plan (rises rules rows link) (rising-map (ended_soon key now) (ended-keeps key now) rows (rises rules rows link)) link.sound
+    leads = leads rules link.name link.apart (of_key key) rows (reconfirmed rows key now) part work plan (rises rules rows link) (rising-map (ended_soon key now) (ended-keeps key now) rows (rises rules rows link)) link.sound
         (sound-reconfirmed rules key now rows link.sound) (within-reconfirmed rules key now rows link.within) (sym (failed-map (of_key key) (ended_soon key now) (ended-keeps key now) other rows)) part-is
         (work-is ∙ ap (λ (l : LinkRows). map (ended_soon key now) l) part-is ∙ sym (only-map (of_key key) (ended_soon key now) (ended-keeps key now) rows)) between;
   }
@@ -190,6 +190,8 @@ pub applied : (rules : LinkRules) (rows later : LinkRows) (cs : List RowChange) 
     → IsLink (record { rules = rules; rows = later })
 applied rules rows later cs plan link later-is cs-is planned = record {
   name = link.name;
+  reverses = link.reverses;
+  apart = link.apart;
   order = ap is_rising later-is ∙ is_true (is_rising (with_row_changes cs rows)) (rising-changes cs rows (rises rules rows link));
   sound = subst (AreLinkRows rules) (sym (later-is ∙ ap (λ (l : List RowChange). with_row_changes l rows) cs-is ∙ planned.1.reached)) planned.1.sound;
   within = subst (IsWithin rules) (sym (later-is ∙ ap (λ (l : List RowChange). with_row_changes l rows) cs-is ∙ planned.1.reached)) planned.1.within;

@@ -1,6 +1,7 @@
 pub mod KeyedParts
 pub mod Touched
 pub mod ShownParts
+pub mod ShownNames
 pub mod Moves
 pub mod SoundSteps
 pub mod WholeRows

@@ -9,6 +9,7 @@ use Rattle.rrset.specs.Tables.{HasLowerOwner}
 use Rattle.rrset.proofs.Places.{all_filter}
 use Rattle.rrset.proofs.SameRows.{same_key-same}
 use Rattle.rrset.proofs.WithChanges.{same_key-turned}
+use Rattle.reversemap.specs.BothKinds.{AreApart}
 use Rattle.linkcache.specs.declared.row.HeardRow.{HeardRow}
 use Rattle.linkcache.specs.declared.plan.RowChange.{RowChange}
 use Rattle.rrset.specs.KeyedRows.{put_row, without_rows, only_rows, row_at}
@@ -122,13 +123,13 @@ lower_moves part work h g =
 
 -- ---- a plan from one part to another
 
-pub leads : (rules : LinkRules) → IsName rules.domain → (p : Key → Bool) (rows later part work : LinkRows) (plan : LinkPlan)
+pub leads : (rules : LinkRules) → IsName rules.domain → AreApart rules.domain rules.reverses → (p : Key → Bool) (rows later part work : LinkRows) (plan : LinkPlan)
     → Rising rows → Rising later → AreLinkRows rules rows → AreLinkRows rules later → IsWithin rules later → only_rows (fails p) rows ≡ only_rows (fails p) later → part ≡ only_rows p rows → work ≡ only_rows p later
     → IsPlanBetween rules part work plan → Leads rules rows plan later
-leads rules name p rows later part work plan h g sound sound_later within agree part-is work-is between = record {
+leads rules name apart p rows later part work plan h g sound sound_later within agree part-is work-is between = record {
   keys = between.keys;
   reached = ap (λ cs. with_row_changes cs rows) (between.moved ∙ (λ i. moves (part-is i) (work-is i))) ∙ reached p rows later h g agree;
-  shown = between.shown ∙ (λ i. changes (shown_rows rules (part-is i)) (shown_rows rules (work-is i))) ∙ sym (changes-part rules name p rows later sound sound_later agree);
+  shown = between.shown ∙ (λ i. changes (shown_rows rules (part-is i)) (shown_rows rules (work-is i))) ∙ sym (changes-part rules name apart p rows later sound sound_later agree);
   sound = sound_later;
   within = within;
 }

@@ -21,7 +21,8 @@ use Rattle.rrset.proofs.KeyOrder.{key_cmp_total, key_cmp-IsAntisymmetric}
 use Rattle.rrset.proofs.LowerNames.{lower-twice}
 use Rattle.rrset.proofs.Places.{and_left, and_right}
 use Rattle.rrset.proofs.SameRows.{same_key-same}
-use Rattle.linkmap.specs.Translation.{local, renamed_rr, is_usable}
+use Rattle.linkmap.specs.Translation.{local, renamed_rr}
+use Rattle.reversemap.specs.BothKinds.{is_used}
 use Rattle.linkmap.proofs.OneSize.{size_as_one}
 use Rattle.linkcache.specs.declared.row.HeardRow.{HeardRow}
 use Rattle.linkcache.specs.Rows.{LinkRows, rr_of_row, ttl_of, second, reconfirmation, max_rows, ending_by, has_key, size_under, row_has_room, heard_at, put_heard, is_of_set, flushed_by, usable_of, heard, at_moment, reconfirmed}
@@ -241,7 +242,7 @@ within-put rules now rows h rising sound within = by (ttl_of h == 0) (has_key k 
     by false false true is has = new has
     by false false false is has = within
 
-within-first : (rules : LinkRules) (now : ℕ) (hs : List HeardRr) (rows : LinkRows) → AllByRecursion (λ h. is_usable rules.domain h.rr ≡ true) hs → Rising rows → AreLinkRows rules rows → IsWithin rules rows → IsWithin rules (fold (put_heard rules now 0) rows hs)
+within-first : (rules : LinkRules) (now : ℕ) (hs : List HeardRr) (rows : LinkRows) → AllByRecursion (λ h. is_used rules.domain rules.reverses h.rr ≡ true) hs → Rising rows → AreLinkRows rules rows → IsWithin rules rows → IsWithin rules (fold (put_heard rules now 0) rows hs)
 within-first rules now [] rows usable rising sound within = within
 within-first rules now (h ∷ hs) rows usable rising sound within =
     within-first rules now hs (put_heard rules now 0 rows h) usable.1 (rising-put_heard rules now 0 rows h rising) (sound-put rules now 0 rows h usable.0 sound) (within-put rules now rows h rising sound within)

@@ -12,8 +12,8 @@ use Rattle.rrset.proofs.InOrder.{InOrder, in_order-put, in_order-only, same_sets
 use Rattle.rrset.proofs.SameRows.{same_key-same}
 use Rattle.rrset.proofs.Apart.{changes-apart}
 use Rattle.rrset.proofs.Selected.{fails as set_fails}
-use Rattle.linkmap.proofs.Shown.{shown_by_itself}
-use Rattle.linkmap.specs.Translation.{shown_as, lessened}
+use Rattle.reversemap.specs.BothKinds.{AreApart, shown_of as shown_by}
+use Rattle.reversemap.proofs.ShownBoth.{each-by-itself}
 use Rattle.linkcache.specs.declared.row.HeardRow.{HeardRow}
 use Rattle.rrset.specs.KeyedRows.{only_rows}
 use Rattle.linkcache.specs.Rows.{LinkRows, rr_of_row, put_shown, shown_rows}
@@ -30,7 +30,7 @@ shows k None = None
 shows k (Some rr) = cond (same_key k (key_of rr)) (Some (shown_of rr)) None
 
 abbrev row_shows : LinkRules → Key → Key × HeardRow → Option Shown
-row_shows rules k row = shows k (shown_as rules.domain (lessened rules.cap (rr_of_row row)))
+row_shows rules k row = shows k (shown_by rules.domain rules.cap (rr_of_row row))
 
 abbrev later : Option Shown → Option Shown → Option Shown
 later None before = before
@@ -41,7 +41,7 @@ last_shown rules k before [] = before
 last_shown rules k before (row ∷ rows) = last_shown rules k (later (row_shows rules k row) before) rows
 
 shown_at-put_shown : (rules : LinkRules) (k : Key) (set : RecordSet) (row : Key × HeardRow) → shown_at k (put_shown rules set row) ≡ later (row_shows rules k row) (shown_at k set)
-shown_at-put_shown rules k set row = by (shown_as rules.domain (lessened rules.cap (rr_of_row row)))
+shown_at-put_shown rules k set row = by (shown_by rules.domain rules.cap (rr_of_row row))
   where
     one : (b : Bool) (s : Shown) (o : Option Shown) → cond b (Some s) o ≡ later (cond b (Some s) None) o
     one true s o = refl
@@ -59,7 +59,7 @@ shown_at-rows : (rules : LinkRules) (k : Key) (rows : LinkRows) → shown_at k (
 shown_at-rows rules k rows = shown_at-fold rules k rows []
 
 in_order-put_shown : (rules : LinkRules) (set : RecordSet) (row : Key × HeardRow) → InOrder set → InOrder (put_shown rules set row)
-in_order-put_shown rules set row h = by (shown_as rules.domain (lessened rules.cap (rr_of_row row)))
+in_order-put_shown rules set row h = by (shown_by rules.domain rules.cap (rr_of_row row))
   where
     by : (o : Option Rr) → InOrder (elim o [ None ↦ set | Some rr ↦ put_rr set rr ])
     by None = h
@@ -153,12 +153,12 @@ shows-some k (Some rr) some = by (same_key k (key_of rr)) refl some
     by true is h = record { rr = rr; is = refl; key = sym (same_key-same k (key_of rr) is) }
     by false is h = absurd cc
 
-module _ (rules : LinkRules) (name : IsName rules.domain) where
+module _ (rules : LinkRules) (name : IsName rules.domain) (apart : AreApart rules.domain rules.reverses) where
   one_key : (k : Key) (a b : Key × HeardRow) → IsLinkRow rules a → IsLinkRow rules b → is_some (row_shows rules k a) ≡ true → is_some (row_shows rules k b) ≡ true → a.0 ≡ b.0
   one_key k a b sound other first second =
-      let x = shows-some k (shown_as rules.domain (lessened rules.cap (rr_of_row a))) first in
-      let y = shows-some k (shown_as rules.domain (lessened rules.cap (rr_of_row b))) second in
-      sym sound.key ∙ shown_by_itself rules.domain (lessened rules.cap (rr_of_row a)) (lessened rules.cap (rr_of_row b)) x.rr y.rr name sound.usable other.usable x.is y.is (x.key ∙ sym y.key) ∙ other.key
+      let x = shows-some k (shown_by rules.domain rules.cap (rr_of_row a)) first in
+      let y = shows-some k (shown_by rules.domain rules.cap (rr_of_row b)) second in
+      sym sound.key ∙ each-by-itself rules.domain rules.reverses rules.cap (rr_of_row a) (rr_of_row b) x.rr y.rr name apart sound.usable other.usable x.is y.is (x.key ∙ sym y.key) ∙ other.key
 
   -- where a row of the part shows the key, no other does
   alone : (p : Key → Bool) (k : Key) → Speaker rules p k → (rows : LinkRows) → AreLinkRows rules rows → Silent rules p k rows

@@ -7,14 +7,14 @@ use Rattle.dnsname.specs.Names.{Labels, lower, same_name}
 use Rattle.dnsname.proofs.Decisions.{same_name-Decides}
 use Rattle.rrset.specs.declared.record.Rr.{Rr}
 use Rattle.rrset.specs.declared.record.Key.{Key}
-use Rattle.rrset.specs.Records.{key_of, shown_of}
+use Rattle.rrset.specs.Records.{key_of, shown_of, rr_size}
 use Rattle.rrset.specs.RecordSet.{RecordSet, put_rr, size_at}
 use Rattle.rrset.proofs.LowerNames.{lower-twice}
 use Rattle.rrset.proofs.Sizes.{size_if, size_of-only-put}
 use Rattle.rrset.proofs.WithChanges.{both_ways}
-use Rattle.linkmap.specs.Translation.{local, renamed, renamed_rr, is_link_local, lessened}
-use Rattle.linkmap.proofs.Shown.{usable-parts}
-use Rattle.linkmap.proofs.Suffixes.{both_renamed}
+use Rattle.linkmap.specs.Translation.{local, renamed}
+use Rattle.reversemap.specs.BothKinds.{AreApart, shown_of as shown_by}
+use Rattle.reversemap.proofs.UsedRecords.{shown-one, owners-alike}
 use Rattle.linkcache.specs.declared.row.HeardRow.{HeardRow}
 use Rattle.linkcache.specs.Rows.{LinkRows, rr_of_row, size_under, put_shown, shown_rows}
 use Rattle.linkcache.specs.Sound.{IsLinkRow, AreLinkRows}
@@ -30,22 +30,24 @@ is_at rules name row = same_name name (renamed local rules.domain row.1.shown.ow
 abbrev adds : LinkRules → Labels → Key × HeardRow → ℕ
 adds rules name row = cond (is_at rules name row) (row_size rules row) 0
 
+-- what a record adds to the octets of a name
+abbrev added : Labels → Rr → ℕ
+added name rr = cond (same_name name rr.owner) (rr_size rr) 0
+
 same_name-lower : (a b : Labels) → same_name a (lower b) ≡ same_name a b
 same_name-lower a b = both_ways (same_name a (lower b)) (same_name a b)
     (λ e. (same_name-Decides a b).1 ((same_name-Decides a (lower b)).0 e ∙ lower-twice b))
     (λ e. (same_name-Decides a (lower b)).1 ((same_name-Decides a b).0 e ∙ sym (lower-twice b)))
 
 one_more : (rules : LinkRules) (name : Labels) (set : RecordSet) (row : Key × HeardRow) → size_at name (put_shown rules set row) ≤ size_at name set + adds rules name row
-one_more rules name set row = by (is_link_local (lessened rules.cap (rr_of_row row)))
+one_more rules name set row = by (shown_by rules.domain rules.cap (rr_of_row row)) refl
   where
-    shown : Rr
-    shown = renamed_rr local rules.domain (lessened rules.cap (rr_of_row row))
-
-    by : (b : Bool) → size_at name (elim (cond {A = Option Rr} b None (Some shown)) [ None ↦ set | Some rr ↦ put_rr set rr ]) ≤ size_at name set + adds rules name row
-    by true = omega arith
-    by false =
-        let put = size_of-only-put (λ key. same_name name key.owner) (key_of shown) (shown_of shown) set in
-        let same : size_if (λ key. same_name name key.owner) (key_of shown) (shown_of shown) ≡ adds rules name row = ap (λ b. cond b (row_size rules row) 0) (same_name-lower name shown.owner) in
+    by : (o : Option Rr) → shown_by rules.domain rules.cap (rr_of_row row) ≡ o → size_at name (elim o [ None ↦ set | Some rr ↦ put_rr set rr ]) ≤ size_at name set + adds rules name row
+    by None is = omega arith
+    by (Some rr) is =
+        let put = size_of-only-put (λ key. same_name name key.owner) (key_of rr) (shown_of rr) set in
+        let same : size_if (λ key. same_name name key.owner) (key_of rr) (shown_of rr) ≡ added name rr = ap (λ b. cond b (rr_size rr) 0) (same_name-lower name rr.owner) in
+        let one : adds rules name row ≡ added name rr = ap (added name) (shown-one rules.domain rules.cap (rr_of_row row) rr is) in
         omega arith
 
 all-more : (rules : LinkRules) (name : Labels) (rows : LinkRows) (set : RecordSet) → size_at name (fold (put_shown rules) set rows) ≤ size_at name set + sum_by (adds rules name) rows
@@ -78,18 +80,16 @@ search_at rules name (row ∷ rows) sound = by (is_at rules name row) refl (sear
         none (sum_by-cons (adds rules name) row rows ∙ (λ i. cond (is i) (row_size rules row) 0 + zero i))
     by false is (some at) = some at
 
-one_owner : (rules : LinkRules) (name : Labels) (a b : Key × HeardRow) → IsLinkRow rules a → IsLinkRow rules b → is_at rules name a ≡ true → is_at rules name b ≡ true → same_name a.1.shown.owner b.0.owner ≡ true
-one_owner rules name a b sound other first second =
-    let mine = (usable-parts rules.domain (rr_of_row a) sound.usable).owner in
-    let its = (usable-parts rules.domain (rr_of_row b) other.usable).owner in
+one_owner : (rules : LinkRules) (name : Labels) (a b : Key × HeardRow) → AreApart rules.domain rules.reverses → IsLinkRow rules a → IsLinkRow rules b → is_at rules name a ≡ true → is_at rules name b ≡ true → same_name a.1.shown.owner b.0.owner ≡ true
+one_owner rules name a b apart sound other first second =
     let alike : lower (renamed local rules.domain a.1.shown.owner) ≡ lower (renamed local rules.domain b.1.shown.owner) =
     sym ((same_name-Decides name (renamed local rules.domain a.1.shown.owner)).0 first) ∙ (same_name-Decides name (renamed local rules.domain b.1.shown.owner)).0 second in
-    let owners = both_renamed local rules.domain a.1.shown.owner b.1.shown.owner mine its alike in
+    let owners = owners-alike rules.domain rules.reverses (rr_of_row a) (rr_of_row b) apart sound.usable other.usable alike in
     (same_name-Decides a.1.shown.owner b.0.owner).1 (owners ∙ sym (lower-twice b.1.shown.owner) ∙ ap (λ (k : Key). lower k.owner) other.key)
 
-bounded : (rules : LinkRules) (name : Labels) → (at : At rules name) → (rows : LinkRows) → AreLinkRows rules rows → sum_by (adds rules name) rows ≤ size_under rules at.row.1.shown.owner rows
-bounded rules name at [] sound = omega arith
-bounded rules name at (row ∷ rows) sound = by (is_at rules name row) refl (bounded rules name at rows sound.1)
+bounded : (rules : LinkRules) (name : Labels) → AreApart rules.domain rules.reverses → (at : At rules name) → (rows : LinkRows) → AreLinkRows rules rows → sum_by (adds rules name) rows ≤ size_under rules at.row.1.shown.owner rows
+bounded rules name apart at [] sound = omega arith
+bounded rules name apart at (row ∷ rows) sound = by (is_at rules name row) refl (bounded rules name apart at rows sound.1)
   where
     owner : Labels
     owner = at.row.1.shown.owner
@@ -99,7 +99,7 @@ bounded rules name at (row ∷ rows) sound = by (is_at rules name row) refl (bou
         let sum = sum_by-cons (adds rules name) row rows in
         let all = size-cons rules owner row rows in
         let mine : adds rules name row ≡ row_size rules row = ap (λ b. cond b (row_size rules row) 0) is in
-        let its : cond (same_name owner row.0.owner) (row_size rules row) 0 ≡ row_size rules row = ap (λ b. cond b (row_size rules row) 0) (one_owner rules name at.row row at.sound sound.0 at.is is) in
+        let its : cond (same_name owner row.0.owner) (row_size rules row) 0 ≡ row_size rules row = ap (λ b. cond b (row_size rules row) 0) (one_owner rules name at.row row apart at.sound sound.0 at.is is) in
         omega arith
     by false is rest =
         let sum = sum_by-cons (adds rules name) row rows in
@@ -107,13 +107,13 @@ bounded rules name at (row ∷ rows) sound = by (is_at rules name row) refl (bou
         let mine : adds rules name row ≡ 0 = ap (λ b. cond b (row_size rules row) 0) is in
         omega arith
 
-pub shown_fits : (rules : LinkRules) (rows : LinkRows) → AreLinkRows rules rows → IsWithin rules rows → (name : Labels) → size_at name (shown_rows rules rows) ≤ max_octets_at_name
-shown_fits rules rows sound within name = by (search_at rules name rows sound)
+pub shown_fits : (rules : LinkRules) (rows : LinkRows) → AreApart rules.domain rules.reverses → AreLinkRows rules rows → IsWithin rules rows → (name : Labels) → size_at name (shown_rows rules rows) ≤ max_octets_at_name
+shown_fits rules rows apart sound within name = by (search_at rules name rows sound)
   where
     by : Search rules name rows → size_at name (shown_rows rules rows) ≤ max_octets_at_name
     by (none zero) = let all = all-more rules name rows [] in omega arith
     by (some at) =
         let all = all-more rules name rows [] in
-        let bound = bounded rules name at rows sound in
+        let bound = bounded rules name apart at rows sound in
         let fits = within.owners at.row.1.shown.owner in
         omega arith

@@ -13,7 +13,7 @@ use Rattle.rrset.specs.declared.record.HeardRr.{HeardRr}
 use Rattle.rrset.specs.Records.{key_of, key_cmp, same_key}
 use Rattle.rrset.proofs.KeyOrder.{key_cmp-IsAntisymmetric}
 use Rattle.rrset.proofs.Places.{all_filter}
-use Rattle.linkmap.specs.Translation.{is_usable}
+use Rattle.reversemap.specs.BothKinds.{is_used}
 use Rattle.linkcache.specs.declared.row.HeardRow.{HeardRow}
 use Rattle.rrset.specs.KeyedRows.{Rows, put_row}
 use Rattle.linkcache.specs.Rows.{LinkRows, ttl_of, second, reconfirmation, ending_by, has_key, row_has_room, heard_at, put_heard, is_of_set, flushed_by, usable_of, heard_beside, heard, at_moment, reconfirmed}
@@ -87,13 +87,13 @@ sound-ends : (rules : LinkRules) → KeepsEnds (IsLinkRow rules)
 sound-ends rules row moment h = record { usable = h.usable; key = h.key }
 
 abbrev AreUsable : LinkRules → List HeardRr → Type 0
-AreUsable rules hs = AllByRecursion (λ h. is_usable rules.domain h.rr ≡ true) hs
+AreUsable rules hs = AllByRecursion (λ h. is_used rules.domain rules.reverses h.rr ≡ true) hs
 
 pub usable-of : (rules : LinkRules) (hearing : List HeardRr) → AreUsable rules (usable_of rules hearing)
 usable-of rules [] = tt
-usable-of rules (h ∷ hs) = by (is_usable rules.domain h.rr) refl (usable-of rules hs)
+usable-of rules (h ∷ hs) = by (is_used rules.domain rules.reverses h.rr) refl (usable-of rules hs)
   where
-    by : (b : Bool) → is_usable rules.domain h.rr ≡ b → AreUsable rules (usable_of rules hs) → AreUsable rules (cond b (h ∷ usable_of rules hs) (usable_of rules hs))
+    by : (b : Bool) → is_used rules.domain rules.reverses h.rr ≡ b → AreUsable rules (usable_of rules hs) → AreUsable rules (cond b (h ∷ usable_of rules hs) (usable_of rules hs))
     by true is rest = (is, rest)
     by false is rest = rest
 
@@ -104,7 +104,7 @@ sound-brings rules now (h ∷ hs) usable = (record { usable = usable.0; key = re
 pub sound-ending : (rules : LinkRules) (test : Key × HeardRow → Bool) (moment : ℕ) (rows : LinkRows) → AreLinkRows rules rows → AreLinkRows rules (map (λ row. cond (test row) (ending_by moment row) row) rows)
 sound-ending rules test moment rows sound = kept-ending (IsLinkRow rules) (sound-ends rules) test moment rows sound
 
-pub sound-put : (rules : LinkRules) (now others : ℕ) (rows : LinkRows) (h : HeardRr) → is_usable rules.domain h.rr ≡ true → AreLinkRows rules rows → AreLinkRows rules (put_heard rules now others rows h)
+pub sound-put : (rules : LinkRules) (now others : ℕ) (rows : LinkRows) (h : HeardRr) → is_used rules.domain rules.reverses h.rr ≡ true → AreLinkRows rules rows → AreLinkRows rules (put_heard rules now others rows h)
 sound-put rules now others rows h usable sound = kept-put (IsLinkRow rules) (sound-ends rules) rules now others rows h (record { usable = usable; key = refl }) sound
 
 pub sound-beside : (rules : LinkRules) (now others : ℕ) (usable : List HeardRr) (rows : LinkRows) → AreUsable rules usable → AreLinkRows rules rows → AreLinkRows rules (heard_beside others rules rows now usable)

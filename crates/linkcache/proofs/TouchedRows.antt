@@ -11,7 +11,7 @@ use Rattle.rrset.specs.declared.record.HeardRr.{HeardRr}
 use Rattle.rrset.specs.Records.{same_key}
 use Rattle.rrset.specs.KeyedRows.{only_rows, row_at, rows_of}
 use Rattle.rrset.proofs.WithChanges.{both_ways}
-use Rattle.linkmap.specs.Translation.{is_usable}
+use Rattle.reversemap.specs.BothKinds.{is_used}
 use Rattle.linkcache.specs.declared.row.HeardRow.{HeardRow}
 use Rattle.linkcache.specs.Rows.{LinkRows, usable_of}
 use Rattle.linkcache.specs.Parts.{copied, is_touched}
@@ -102,7 +102,7 @@ touched_begin rules rows part all none = record { usable = []; is = none ∙ not
     nothing [] = refl
     nothing (e ∷ es) = nothing es
 
-pub touched_more : (rules : LinkRules) (rows part later : LinkRows) (hs : List HeardRr) (i : ℕ) (h : HeardRr) → i < length hs → h ≡ get_or hs i h → is_usable rules.domain h.rr ≡ true
+pub touched_more : (rules : LinkRules) (rows part later : LinkRows) (hs : List HeardRr) (i : ℕ) (h : HeardRr) → i < length hs → h ≡ get_or hs i h → is_used rules.domain rules.reverses h.rr ≡ true
     → TouchedSoFar rules rows part (drop i hs) hs
     → ((usable : List HeardRr) → part ≡ only_rows (is_touched usable) rows → later ≡ only_rows (λ key. same_name h.rr.owner key.owner || is_touched usable key) rows)
     → TouchedSoFar rules rows later (drop (i + 1) hs) hs
@@ -122,7 +122,7 @@ touched_more rules rows part later hs i h within is-h usable so_far touches = re
     step : usable_of rules (drop i hs) ≡ h ∷ usable_of rules (drop (i + 1) hs)
     step = ap (usable_of rules) (drop_more hs i h within) ∙ ap (λ x. usable_of rules (x ∷ drop (i + 1) hs)) (sym is-h) ∙ ap (λ b. cond b (h ∷ usable_of rules (drop (i + 1) hs)) (usable_of rules (drop (i + 1) hs))) usable
 
-pub touched_skip : (rules : LinkRules) (rows part : LinkRows) (hs : List HeardRr) (i : ℕ) (h : HeardRr) → i < length hs → h ≡ get_or hs i h → is_usable rules.domain h.rr ≡ false
+pub touched_skip : (rules : LinkRules) (rows part : LinkRows) (hs : List HeardRr) (i : ℕ) (h : HeardRr) → i < length hs → h ≡ get_or hs i h → is_used rules.domain rules.reverses h.rr ≡ false
     → TouchedSoFar rules rows part (drop i hs) hs → TouchedSoFar rules rows part (drop (i + 1) hs) hs
 touched_skip rules rows part hs i h within is-h usable so_far = record {
   usable = so_far.usable;

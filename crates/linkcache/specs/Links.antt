@@ -5,8 +5,10 @@
 --     IsLink link      what always holds of a link
 --     IsKept link moments      and of the moments at which its rows end
 use Rattle.std.specs.Prelude.{ℕ, ◌≤◌, List, length, IsTrue}
+use Rattle.std.specs.List.{AllByRecursion}
 use Rattle.clockqueue.specs.Deadlines.{Deadlines}
 use Rattle.dnsname.specs.Names.{IsName}
+use Rattle.reversemap.specs.BothKinds.{AreApart}
 use Rattle.rrset.specs.KeyedRows.{is_rising}
 use Rattle.nametable.specs.Nodes.{Nodes, HasRoomFor}
 use Rattle.rrset.specs.declared.record.Key.{Key}
@@ -34,9 +36,11 @@ pub record HasRoom (cs : List RowChange) (link : LinkKept) : Type 0 where
   pub keys : HasRoomFor (keys_put cs) link.nodes
   pub moments : length cs ≤ link.spare
 
--- keys rise, each row is one of a usable record, and they are few enough and not too large
+-- the domain and the reverse domains are names that stand apart; keys rise, each row is one of a usable record, and they are few enough and not too large
 pub record IsLink (link : LinkState) : Type 0 where
   pub name : IsName link.rules.domain
+  pub reverses : AllByRecursion IsName link.rules.reverses
+  pub apart : AreApart link.rules.domain link.rules.reverses
   pub order : IsTrue (is_rising link.rows)
   pub sound : AreLinkRows link.rules link.rows
   pub within : IsWithin link.rules link.rows

@@ -4,7 +4,9 @@
 --     reconfirmed rows key now      a row that ends soon unless it is heard again
 --     next_end rows      the least moment at which a row ends
 --     shown_rows rules rows      the records that the link shows, no TTL being greater than the cap
-use Rattle.std.specs.Prelude.{ℕ, ◌+◌, ◌*◌, Bool, ◌&&◌, ◌||◌, cond, List, [], map, length, filter, fold, sum_by, min, Option, Some, None, nat_lt, nat_le, ◌==◌, if◌then◌else◌}
+--     names_of rules      the names under which it shows them
+--     heard_by rules rr      the record of the link that would be shown with this key, if there is one
+use Rattle.std.specs.Prelude.{ℕ, ◌+◌, ◌*◌, Bool, ◌&&◌, ◌||◌, cond, List, [], ◌∷◌, map, length, filter, fold, sum_by, min, Option, Some, None, nat_lt, nat_le, ◌==◌, if◌then◌else◌}
 use Rattle.std.specs.List.{list_any}
 use Rattle.std.specs.FinMap.{put as map_put}
 use Rattle.push_base.specs.Limits.{max_octets_at_name}
@@ -17,7 +19,8 @@ use Rattle.rrset.specs.declared.record.HeardRr.{HeardRr}
 use Rattle.linkcache.specs.declared.row.HeardRow.{HeardRow}
 use Rattle.linkcache.specs.declared.row.TheConstants as constants
 use Rattle.linkcache.specs.declared.rules.TheConstants as rules_constants
-use Rattle.linkmap.specs.Translation.{local, is_usable, shown_as, lessened, renamed_rr}
+use Rattle.linkmap.specs.Translation.{local, renamed_rr}
+use Rattle.reversemap.specs.BothKinds.{is_used, shown_of as shown_by, heard_of}
 use Rattle.linkcache.specs.declared.rules.LinkRules.{LinkRules}
 
 abbrev pub ttl_of : HeardRr → ℕ
@@ -70,7 +73,7 @@ abbrev pub flushed_by : ℕ → LinkRows → HeardRr → LinkRows
 flushed_by now rows h = map (λ row. cond (is_of_set h.rr row && nat_lt (row.1.heard + second) now) (ending_by (now + second) row) row) rows
 
 abbrev pub usable_of : LinkRules → List HeardRr → List HeardRr
-usable_of rules hearing = filter (λ h. is_usable rules.domain h.rr) hearing
+usable_of rules hearing = filter (λ h. is_used rules.domain rules.reverses h.rr) hearing
 
 -- both passes, on rows of a link that has so many others
 abbrev pub heard_beside : ℕ → LinkRules → LinkRows → ℕ → List HeardRr → LinkRows
@@ -95,10 +98,17 @@ abbrev pub no_cap : ℕ
 no_cap = rules_constants.NO_CAP
 
 abbrev pub put_shown : LinkRules → RecordSet → Key × HeardRow → RecordSet
-put_shown rules set row = elim (shown_as rules.domain (lessened rules.cap (rr_of_row row))) [ None ↦ set | Some rr ↦ put_rr set rr ]
+put_shown rules set row = elim (shown_by rules.domain rules.cap (rr_of_row row)) [ None ↦ set | Some rr ↦ put_rr set rr ]
 
 abbrev pub shown_rows : LinkRules → LinkRows → RecordSet
 shown_rows rules rows = fold (put_shown rules) [] rows
+
+-- the link's domain, and its reverse domains (RFC 8766, 5.4)
+abbrev pub names_of : LinkRules → List Labels
+names_of rules = rules.domain ∷ rules.reverses
+
+abbrev pub heard_by : LinkRules → Rr → Option Rr
+heard_by rules rr = heard_of rules.domain rules.reverses rr
 
 abbrev pub earlier : Option ℕ → Key × HeardRow → Option ℕ
 earlier None row = Some row.1.ends

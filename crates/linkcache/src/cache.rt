@@ -1,6 +1,6 @@
 //! Caches of links: the records that were heard, and when each ends (RFC 6762, 10).
 
-ghost use Rattle.std.specs.Prelude.{◌≡◌, ◌≤◌, [], length, IfOk, OnOk};
+ghost use Rattle.std.specs.Prelude.{◌≡◌, ◌≤◌, ◌++◌, ◌∷◌, [], length, IfOk, OnErr, OnOk};
 ghost use Rattle.push_base.specs.Limits.{max_moment};
 ghost use Rattle.clockqueue.specs.Deadlines.{AreDeadlines};
 ghost use Rattle.dnsname.specs.Names.{Labels};
@@ -9,19 +9,22 @@ ghost use Rattle.rrset.specs.Records.{key_cmp};
 ghost use Rattle.nametable.specs.Nodes.{room_at};
 ghost use Rattle.linkcache.specs.Links.{HasRoom, IsLink};
 ghost use Rattle.linkcache.specs.Plans.{IsGonePlan, IsHeardPlan, IsMomentPlan, IsPlanOf, IsReconfirmPlan, with_row_changes};
-ghost use Rattle.linkcache.specs.Rows.{has_key, next_end, shown_rows};
+ghost use Rattle.linkcache.specs.Rows.{has_key, heard_by, next_end, shown_rows};
+ghost use Rattle.reversemap.specs.BothKinds.{IsApart};
 
 use crate::apply_plan::make_changes;
 use crate::end_key::EndKey;
+use crate::kinds::heard_back;
 use crate::plan::HearPlan;
 use crate::planning::{gone_plan, has_row, heard_plan, moment_plan, reconfirm_plan};
+use crate::reverses::Reverses;
 use crate::row::HeardRow;
 use crate::rules::LinkRules;
 use crate::showing::shown_blocks;
 use clockqueue::Deadlines;
 use dnsname::Name;
 use nametable::NameTable;
-use rrset::{HeardRr, Key, NoMemory, Table};
+use rrset::{HeardRr, Key, NoMemory, Rr, Table};
 use std::alloc::Global;
 use std::marker::Model;
 
@@ -57,17 +60,32 @@ fn copied_ends(alloc: Global, ends: &Deadlines<EndKey>) -> Result<Vec<(u64, EndK
 }
 
 impl Cache {
-    /// A link of this domain that has heard nothing, and shows no TTL beyond the cap.
+    /// A link of this domain, without reverse domains, that has heard nothing, and shows no TTL beyond the cap.
     pub fn new(alloc: Global, domain: Name, cap: u32) -> Self
-        ensures rules { result.state.rules ≡ record { domain = domain; cap = cap } }
+        ensures rules { result.state.rules ≡ record { domain = domain; reverses = []; cap = cap } }
         ensures rows { result.state.rows ≡ [] }
     {
         let _name = domain.octets();
         Cache {
-            rules: LinkRules { domain, cap },
+            rules: LinkRules {
+                domain,
+                reverses: Reverses::new(alloc),
+                cap,
+            },
             rows: NameTable::new(alloc),
             ends: Deadlines::new(alloc),
         }
+    }
+
+    /// Adds a reverse domain, which stands apart from the link's domain, behind the others, while nothing was heard.
+    pub fn add_reverse(&mut self, domain: Name) -> Result<(), NoMemory>
+        requires rows { self.old.state.rows ≡ [] }
+        requires apart { IsApart self.old.state.rules.domain domain }
+        ensures ok { OnOk result (self.new ≡ record self.old { state = record self.old.state { rules = record self.old.state.rules { reverses = self.old.state.rules.reverses ++ domain ∷ [] } } }) }
+        ensures err { OnErr result (self.new ≡ self.old) }
+    {
+        let _name = domain.octets();
+        self.rules.reverses.add(domain)
     }
 
     /// The domain under which the link is shown.
@@ -75,6 +93,21 @@ impl Cache {
         ensures { result.now ≡ self.now.state.rules.domain }
     {
         &self.rules.domain
+    }
+
+    /// The reverse domains, in the order in which they were added.
+    pub fn reverses(&self) -> &[Name]
+        ensures { result.now ≡ self.now.state.rules.reverses }
+    {
+        self.rules.reverses.as_slice()
+    }
+
+    /// The record of the link that would be shown with the key of this record. Under a reverse domain its owner is this
+    /// record's; elsewhere it is the record of the link's domain heard back. Nothing exactly where there is none.
+    pub fn heard_back(&self, alloc: Global, rr: &Rr) -> Result<Option<Rr>, NoMemory>
+        ensures { IfOk result (λ heard. heard ≡ heard_by self.now.state.rules rr.now) }
+    {
+        heard_back(alloc, &self.rules, rr)
     }
 
     /// What the link has heard, in key order.
@@ -92,7 +125,7 @@ impl Cache {
         self.rows.at(name)
     }
 
-    /// The records that the link shows under its domain.
+    /// The records that the link shows, under its domain and its reverse domains.
     pub fn shown(&self, alloc: Global) -> Result<Table, NoMemory>
         ensures { IfOk result (λ set. set.rows ≡ shown_rows self.now.state.rules self.now.state.rows) }
     {
@@ -201,7 +234,7 @@ impl Cache {
     {
         let ends = copied_ends(alloc, &self.ends)?;
         Ok(Cache {
-            rules: self.rules.copy()?,
+            rules: self.rules.copy(alloc)?,
             rows: self.rows.copy()?,
             ends: Deadlines::from_entries(ends),
         })

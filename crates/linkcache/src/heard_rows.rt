@@ -7,16 +7,17 @@ ghost use Rattle.rrset.specs.KeyedRows.{is_rising};
 ghost use Rattle.rrset.specs.RecordSet.{is_of_rrset};
 ghost use Rattle.rrset.specs.Records.{key_of, rr_size, same_key};
 ghost use Rattle.rrset.specs.Tables.{HasLowerOwner, counted};
-ghost use Rattle.linkmap.specs.Translation.{is_usable, local, renamed_rr};
+ghost use Rattle.linkmap.specs.Translation.{local, renamed_rr};
+ghost use Rattle.reversemap.specs.BothKinds.{is_used};
 ghost use Rattle.linkcache.specs.Rows.{max_rows, second, ending_by, flushed_by, has_key, heard_at, heard_beside, is_of_set, put_heard, row_has_room, rr_of_row, usable_of};
 ghost use Rattle.linkcache.specs.Sound.{AreLinkRows, IsLinkRow};
 ghost use Rattle.linkcache.specs.declared.row.HeardRow.{HeardRow};
 
+use crate::kinds::{translated_size, usable};
 use crate::row::{HeardRow, MAX_ROWS, SECOND, ended_by, record_of};
 use crate::rules::LinkRules;
-use linkmap::{translated, usable};
 use push_base::limits::MAX_OCTETS_AT_NAME;
-use rrset::{Copied, HeardRr, Key, NoMemory, Rr, Table, counted_ttl, rr_size};
+use rrset::{Copied, HeardRr, Key, NoMemory, Rr, Table, counted_ttl};
 use std::alloc::Global;
 
 /// Whether there is a row of a key.
@@ -46,7 +47,7 @@ fn size_of_row(alloc: Global, rules: &LinkRules, key: &Key, row: &HeardRow) -> R
     ensures { IfOk result (λ size. size ≡ rr_size (renamed_rr local rules.now.domain (rr_of_row (key.now, row.now)))) }
 {
     let rr = record_of(key, row)?;
-    Ok(rr_size(&translated(alloc, &rules.domain, &rr)?))
+    translated_size(alloc, rules, &rr)
 }
 
 /// The octets of some rows' records under the domain.
@@ -77,15 +78,15 @@ fn row_has_room(
     rr: &Rr,
 ) -> Result<bool, NoMemory>
     requires rows { AreLinkRows rules.now work.now.rows }
-    requires usable { is_usable rules.now.domain rr.now ≡ true }
+    requires usable { is_used rules.now.domain rules.now.reverses rr.now ≡ true }
     ensures { IfOk result (λ room. room ≡ row_has_room rules.now others work.now.rows rr.now) }
 {
     if !are_few(work.len(), others) {
         return Ok(false);
     }
-    let size = size_under(alloc, rules, work.at(&rr.owner))?;
-    let added = rr_size(&translated(alloc, &rules.domain, rr)?);
-    Ok(size.saturating_add(added) <= MAX_OCTETS_AT_NAME)
+    let taken = size_under(alloc, rules, work.at(&rr.owner))?;
+    let added = translated_size(alloc, rules, rr)?;
+    Ok(taken.saturating_add(added) <= MAX_OCTETS_AT_NAME)
 }
 
 /// Whether a record may stand: there is a row of it, or room for one.
@@ -98,7 +99,7 @@ fn may_stand(
     rr: &Rr,
 ) -> Result<bool, NoMemory>
     requires rows { AreLinkRows rules.now work.now.rows }
-    requires usable { is_usable rules.now.domain rr.now ≡ true }
+    requires usable { is_used rules.now.domain rules.now.reverses rr.now ≡ true }
     ensures { IfOk result (λ may. may ≡ (has_key key.now work.now.rows || row_has_room rules.now others work.now.rows rr.now)) }
 {
     if has(work, key) {
@@ -133,7 +134,7 @@ fn put_heard(
     requires moment { now ≤ max_moment }
     requires order { IsTrue (is_rising work.old.rows) }
     requires rows { AreLinkRows rules.now work.old.rows }
-    requires usable { is_usable rules.now.domain heard.now.rr ≡ true }
+    requires usable { is_used rules.now.domain rules.now.reverses heard.now.rr ≡ true }
     ensures { OnOk result (work.new.rows ≡ put_heard rules.now now others work.old.rows heard.now) }
 {
     let key = heard.rr.key()?;
@@ -161,7 +162,7 @@ fn put_usable(
     ensures { OnOk result (work.new.rows ≡ fold (put_heard rules.now now others) work.old.rows (usable_of rules.now hearing.now)) }
 {
     'hearing: for heard in hearing {
-        if usable(&rules.domain, &heard.rr) {
+        if usable(rules, &heard.rr) {
             put_heard(alloc, rules, now, others, work, heard)?;
         }
     }
@@ -234,9 +235,9 @@ fn flush(
 
 /// Whether a record is usable and has the cache-flush bit.
 fn is_flushing(rules: &LinkRules, heard: &HeardRr) -> bool
-    ensures { result ≡ (heard.now.flush && is_usable rules.now.domain heard.now.rr) }
+    ensures { result ≡ (heard.now.flush && is_used rules.now.domain rules.now.reverses heard.now.rr) }
 {
-    heard.flush && usable(&rules.domain, &heard.rr)
+    heard.flush && usable(rules, &heard.rr)
 }
 
 /// The second pass of a hearing: the cache-flush bit of each usable record.
@@ -282,7 +283,7 @@ pub(crate) fn some_usable(rules: &LinkRules, hearing: &[HeardRr]) -> bool
     ensures { result ≡ not (is_empty (usable_of rules.now hearing.now)) }
 {
     'hearing: for heard in hearing {
-        if usable(&rules.domain, &heard.rr) {
+        if usable(rules, &heard.rr) {
             return true;
         }
     }

@@ -1,7 +1,7 @@
 //! What a part of a link's rows tells of all of them, so that a step need look only at the rows which it changes.
 
 ghost use Rattle.linkcache.specs.Ends.{EndsAreKept, NothingEndsBefore, NextEndIsFirst, DueRowsGo};
-ghost use Rattle.linkcache.specs.Laws.{HearingsKeepToTheirOwners, PartsShowForThemselves, MovesReachTheLaterRows, RowsStaySound, RowsStayWithin, ShownFits};
+ghost use Rattle.linkcache.specs.Laws.{HearingsKeepToTheirOwners, PartsShowForThemselves, MovesReachTheLaterRows, RowsStaySound, RowsStayWithin, ShownFits, ShownIsUnderItsNames};
 
 /// A hearing changes the rows of its owners alone, as if they were all of the link's but for a count of the others.
 pub fn hearings_keep_to_their_owners()
@@ -31,6 +31,11 @@ pub fn rows_stay_within()
 /// What is shown of a name has no more octets than an owner may have.
 pub fn shown_fits()
     ensures { ShownFits }
+{}
+
+/// What is shown lies under the link's domain or one of its reverse domains.
+pub fn shown_is_under_its_names()
+    ensures { ShownIsUnderItsNames }
 {}
 
 /// Moments that are the ends of the rows stay so where both are changed.

@@ -26,7 +26,7 @@ pub(crate) struct PlannedRow {
     pub(crate) again: EndKey,
 }
 
-/// What a step changes in a link: its rows, and the keys that are shown otherwise under its domain.
+/// What a step changes in a link: its rows, and the keys that are shown otherwise.
 #[derive(Debug, Drop)]
 pub struct HearPlan {
     pub(crate) usable: bool,

@@ -1,4 +1,4 @@
-//! What rows of a link show under its domain.
+//! What rows of a link show.
 
 ghost use Rattle.std.specs.Prelude.{◌≡◌, fold, IfOk, OnOk};
 ghost use Rattle.rrset.specs.RecordSet.{put_rr};
@@ -7,9 +7,9 @@ ghost use Rattle.nametable.specs.Blocks.{nodes_in};
 ghost use Rattle.linkcache.specs.Rows.{put_shown, shown_rows};
 ghost use Rattle.linkcache.specs.Sound.{IsLinkRow, AreLinkRows};
 
+use crate::kinds::show;
 use crate::row::{HeardRow, record_of};
 use crate::rules::LinkRules;
-use linkmap::show;
 use nametable::{Block, Node};
 use rrset::{Key, NoMemory, Rr, Shown, Table};
 use std::alloc::Global;
@@ -41,7 +41,7 @@ fn put_shown(
     ensures { OnOk result (set.new.rows ≡ put_shown rules.now set.old.rows (key.now, row.now)) }
 {
     let rr = record_of(key, row)?;
-    match show(alloc, &rules.domain, rules.cap, &rr)? {
+    match show(alloc, rules, &rr)? {
         Some(shown) => put_rr(set, shown),
         None => Ok(()),
     }
@@ -63,7 +63,7 @@ fn put_shown_rows(
     Ok(())
 }
 
-/// The records that rows of a link show under its domain.
+/// The records that rows of a link show.
 pub(crate) fn shown_rows(
     alloc: Global,
     rules: &LinkRules,
@@ -93,7 +93,7 @@ fn put_shown_nodes(
     Ok(())
 }
 
-/// The records that the rows of names in blocks show under a link's domain.
+/// The records that the rows of names in blocks show.
 pub(crate) fn shown_blocks(
     alloc: Global,
     rules: &LinkRules,

@@ -13,11 +13,11 @@ ghost use Rattle.linkcache.specs.Parts.{copied, is_touched};
 ghost use Rattle.linkcache.specs.Rows.{usable_of};
 
 use crate::end_key::EndKey;
+use crate::kinds::usable;
 use crate::row::HeardRow;
 use crate::rules::LinkRules;
 use clockqueue::Deadlines;
 use dnsname::Name;
-use linkmap::usable;
 use nametable::{Block, NameTable, Node};
 use rrset::{Copied, HeardRr, Key, NoMemory, Table};
 use std::alloc::Global;
@@ -85,7 +85,7 @@ pub(crate) fn touched(
 {
     let mut part = Table::new(alloc);
     'hearing: for heard in hearing {
-        if usable(&rules.domain, &heard.rr) {
+        if usable(rules, &heard.rr) {
             touch(&mut part, rows, &heard.rr.owner)?;
         }
     }

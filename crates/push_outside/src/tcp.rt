@@ -21,8 +21,8 @@ const READ_WAIT: u64 = 500;
 /// How long a write waits for a peer that takes nothing, in milliseconds.
 const WRITE_WAIT: u64 = 10_000;
 
-/// How many octets the wire of an accepted connection holds back at most: the answers to 36 updates.
-const MOST_HELD: usize = 512;
+/// How many octets the wire of an accepted connection holds back at most: the answers to 585 updates, or to a hundred queries.
+const MOST_HELD: usize = 8192;
 
 /// The same of a connection that was dialled: whoever dials may not flush.
 const NONE_HELD: usize = 0;

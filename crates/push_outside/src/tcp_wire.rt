@@ -8,16 +8,18 @@ use std::alloc::Global;
 use std::net::{Shutdown, TcpStream};
 
 /// The writing end of a TCP connection, a sink that tells no octets and counts its faults. The first write after a flush
-/// goes out at once; what follows may be held back until the next flush. Where that can't go out then, the connection is
-/// shut down in both directions, as no octet may be left out: its reader comes to its end, and later writes fail.
+/// goes out at once, unless several came before that flush: so a message that comes alone doesn't wait, and a stream of
+/// them goes out together. What follows may be held back until the next flush. Where that can't go out then, the connection
+/// is shut down in both directions, as no octet may be left out: its reader comes to its end, and later writes fail.
 #[derive(Drop)]
 pub struct TcpWire {
     writing: Writing<TcpStream>,
     // The octets that are held back, and how many these may be.
     held: Vec<u8>,
     most: usize,
-    // Whether something was written since the last flush.
-    has_written: bool,
+    // How many writes came since the last flush, and whether several came before it.
+    writes: u64,
+    is_busy: bool,
 }
 
 impl TcpWire {
@@ -29,7 +31,8 @@ impl TcpWire {
             writing: Writing::new(stream),
             held: Vec::new(alloc),
             most,
-            has_written: false,
+            writes: 0,
+            is_busy: false,
         }
     }
 
@@ -40,11 +43,11 @@ impl TcpWire {
         self.writing.faults()
     }
 
-    /// Holds back a piece, where something went out since the last flush and there is room for it. Gives whether it does.
+    /// Holds back a piece, where it isn't to go out at once and there is room for it. Gives whether it does.
     fn hold(&mut self, piece: &[u8]) -> bool
         ensures { self.new.writing ≡ self.old.writing }
     {
-        self.has_written
+        (self.writes > 0 || self.is_busy)
             && piece.len() <= self.most.saturating_sub(self.held.len())
             && self.held.extend_from_slice(piece).is_ok()
     }
@@ -68,11 +71,12 @@ impl Sink for TcpWire {
     ghost faults = { λ s. s.writing.faults };
 
     fn write(&mut self, piece: &[u8]) -> Result<usize, Failed> {
-        if self.hold(piece) {
+        let is_held = self.hold(piece);
+        self.writes = self.writes.saturating_add(1);
+        if is_held {
             return Ok(piece.len());
         }
         self.send();
-        self.has_written = true;
         self.writing.write(piece)
     }
 }
@@ -80,6 +84,7 @@ impl Sink for TcpWire {
 impl Wire for TcpWire {
     fn flush(&mut self) {
         self.send();
-        self.has_written = false;
+        self.is_busy = self.writes > 1;
+        self.writes = 0;
     }
 }

@@ -14,7 +14,6 @@ ghost use Rattle.subscr.specs.Watching.{watching_of};
 
 use crate::given::{Heard, Why};
 use crate::hub_state::HubState;
-use crate::making::make_changes;
 use crate::noting::note;
 use history::entry::Entry;
 use history::{ChangedKeys, Planned};
@@ -114,7 +113,7 @@ impl HubState {
             return Err(NoMemory);
         }
         self.sessions.end_behind(floor, &mut self.watchers);
-        make_changes(&mut self.index, changed.into_vec(), steps);
+        self.index.make_changes(changed.into_vec(), steps);
         Ok(())
     }
 

@@ -27,10 +27,10 @@ use dnswire::Update;
 use dsosession::session::Timers;
 use history::entry::Entry;
 use history::{Homes, Points};
-use nametable::{Index, by_names};
 use push_base::Steps;
 use push_base::limits::MAX_NUMBER;
 use pushsession::{NoMemory, PushSession};
+use recordindex::RecordIndex;
 use rrset::rcodes::FORMERR;
 use rrset::{Hearing, Rr};
 use std::alloc::Global;
@@ -43,7 +43,7 @@ use subscr::Watchers;
 pub(crate) struct HubState {
     pub(crate) points: Points,
     pub(crate) timers: Timers,
-    pub(crate) index: Index,
+    pub(crate) index: RecordIndex,
     pub(crate) sessions: Sessions,
     pub(crate) watchers: Watchers,
     pub(crate) numbers_given: u64,
@@ -62,11 +62,11 @@ impl HubState {
         homes.tell_names();
         let alloc = homes.allocator();
         let points = Points::new(homes)?;
-        let rows = by_names(alloc, points.table(alloc)?)?;
+        let index = RecordIndex::from_table(alloc, points.table(alloc)?)?;
         Ok(HubState {
             points,
             timers,
-            index: Index::from_table(rows),
+            index,
             sessions: Sessions::new(alloc),
             watchers: Watchers::new(alloc),
             numbers_given: 0,

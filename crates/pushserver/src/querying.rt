@@ -13,10 +13,10 @@ ghost use Rattle.pushsession.specs.declared.request.Request.TheVariants as reque
 ghost use Rattle.subscr.specs.Watching.{Watching};
 
 use dnsname::Name;
-use dnsquery::{Lookup, write_reply_to};
+use dnsquery::{Lookup, USUAL_REPLY, write_reply_to};
 use history::{Homes, Points};
-use nametable::Index;
 use pushsession::{NoMemory, PushSession};
+use recordindex::RecordIndex;
 use rrset::{Key, Shown};
 use std::alloc::Global;
 
@@ -24,7 +24,7 @@ use std::alloc::Global;
 #[derive(Clone, Copy)]
 struct Known<'a> {
     homes: &'a Homes,
-    index: &'a Index,
+    index: &'a RecordIndex,
 }
 
 impl Lookup for Known<'_> {
@@ -39,11 +39,11 @@ impl Lookup for Known<'_> {
     }
 
     fn at(&self, name: &Name) -> &[(Key, Shown)] {
-        self.index.table().at(name)
+        self.index.index().table().at(name)
     }
 
     fn below(&self, name: &Name) -> bool {
-        self.index.table().below(name)
+        self.index.below(name)
     }
 }
 
@@ -51,7 +51,7 @@ impl Lookup for Known<'_> {
 fn reply_at(
     alloc: Global,
     points: &Points,
-    index: &Index,
+    index: &RecordIndex,
     message: &[u8],
 ) -> Result<Vec<u8>, NoMemory>
     requires header { header_octets ≤ length message.now }
@@ -64,8 +64,8 @@ fn reply_at(
         index,
     };
     // Its clauses say that all rows are in key order.
-    index.table().blocks();
-    let mut reply = Vec::new(alloc);
+    index.index().table().blocks();
+    let mut reply = Vec::with_capacity(alloc, USUAL_REPLY)?;
     write_reply_to(alloc, message, &known, &mut reply)?;
     Ok(reply)
 }
@@ -75,7 +75,7 @@ pub(crate) fn answer_query(
     session: &mut PushSession,
     alloc: Global,
     points: &Points,
-    index: &Index,
+    index: &RecordIndex,
 ) -> Result<(), NoMemory>
     requires silent { session.old.output ≡ [] }
     requires request { request_of session.old ≡ Some requests.Query }

@@ -20,9 +20,9 @@ use crate::querying::answer_query;
 use dnswire::Update;
 use dsosession::session::Timers;
 use history::Points;
-use nametable::Index;
 use push_base::Steps;
 use pushsession::{NoMemory, PushSession, Request, SessionStatus};
+use recordindex::RecordIndex;
 use rrset::{Question, Rr};
 use std::alloc::Global;
 use std::sync::ledger::Ledger;
@@ -91,7 +91,7 @@ fn work<L: Ledger>(
     session: &mut PushSession,
     alloc: Global,
     points: &Points,
-    index: &Index,
+    index: &RecordIndex,
     timers: Timers,
     watchers: &mut Watchers,
     number: u64,
@@ -108,8 +108,9 @@ fn work<L: Ledger>(
     ensures watched { Rewatches number (watching_of watchers.old) (watching_of watchers.new) session.old session.new }
 {
     let now = points.now();
+    let rows = index.index();
     let Some(request) = session.request(alloc)? else {
-        session.pack(index, now, steps);
+        session.pack(rows, now, steps);
         return Ok(Turn::Did(copy_output(session, buf, Given::Nothing)));
     };
     match request {
@@ -120,7 +121,7 @@ fn work<L: Ledger>(
         Request::Query => answer_query(session, alloc, points, index)?,
         Request::Subscribe(question) => {
             let has_home = has_home(points, &question);
-            session.subscribe(question, has_home, index, now, watchers, number, steps)?;
+            session.subscribe(question, has_home, rows, now, watchers, number, steps)?;
         }
     }
     Ok(Turn::Did(after_reaction(session, buf)))
@@ -132,7 +133,7 @@ pub(crate) fn take_turn<L: Ledger>(
     session: &mut PushSession,
     alloc: Global,
     points: &Points,
-    index: &Index,
+    index: &RecordIndex,
     timers: Timers,
     watchers: &mut Watchers,
     number: u64,

@@ -1,13 +1,15 @@
 -- Any calls keep the telling.
-use Rattle.std.proofs.Common.{◌≡◌, ℕ, List, [], ◌∷◌, ◌++◌, sym, ◌∙◌}
+use Rattle.std.proofs.Common.{◌≡◌, ℕ, List, [], ◌∷◌, ◌++◌, map, sym, ◌∙◌}
 use Rattle.std.specs.Prelude.{IsTrue}
 use Rattle.std.specs.List.{AllByRecursion}
-use Rattle.dnsname.specs.Names.{is_name}
+use Rattle.dnsname.specs.Names.{Labels, is_name}
 use Rattle.rrset.specs.RecordSet.{matching}
 use Rattle.dsosession.specs.declared.session.Timers.{Timers}
 use Rattle.history.proofs.Starts.{start-home}
 use Rattle.history.specs.AtHome.{AreAtHome, named_zones, named_links}
 use Rattle.history.specs.Homes.{NamedHome}
+use Rattle.history.specs.declared.entry.HomeKind.TheVariants as kinds
+use Rattle.linkcache.specs.Rows.{names_of}
 use Rattle.history.specs.States.{State, LinkState, records_at}
 use Rattle.pushserver.specs.Calls.{HubCall, updates, hears, takes, after_calls, BringsOctets}
 use Rattle.pushserver.specs.Hubs.{newest}
@@ -32,10 +34,18 @@ brings-good (hears link datagram) octets = octets
 brings-good (takes number piece) octets = octets
 brings-good _ octets = tt
 
+-- those of reverse domains with others behind them
+reverse-names : (reverses : List Labels) (others : List NamedHome) → AllByRecursion (λ h. IsTrue (is_name h.0)) (map (λ r. (r, kinds.Reverse)) reverses ++ others)
+    → AllByRecursion (λ n. IsTrue (is_name n)) reverses × AllByRecursion (λ h. IsTrue (is_name h.0)) others
+reverse-names [] others all = (tt, all)
+reverse-names (r ∷ rs) others all = let more = reverse-names rs others all.1 in ((all.0, more.0), more.1)
+
 -- the names of the links, which stand behind the zones
-link-names : (zones : List NamedHome) (links : List LinkState) → AllByRecursion (λ h. IsTrue (is_name h.0)) (zones ++ named_links links) → AllByRecursion (λ l. IsTrue (is_name l.rules.domain)) links
+link-names : (zones : List NamedHome) (links : List LinkState) → AllByRecursion (λ h. IsTrue (is_name h.0)) (zones ++ named_links links) → AllByRecursion (λ l. AllByRecursion (λ n. IsTrue (is_name n)) (names_of l.rules)) links
 link-names [] [] all = tt
-link-names [] (l ∷ ls) all = (all.0, link-names [] ls all.1)
+link-names [] (l ∷ ls) all =
+    let more = reverse-names l.rules.reverses (named_links ls) all.1 in
+    ((all.0, more.0), link-names [] ls more.1)
 link-names (z ∷ zs) ls all = link-names zs ls all.1
 
 pub start-at-home : (start : State) → IsStartOfHomes start → AreAtHome start

@@ -22,7 +22,7 @@ one_zone = record { zones = new_zone (name (codes "example.com.")) 1 true ∷ []
 
 -- a link that has heard nothing yet
 abbrev pub one_link : State
-one_link = record { zones = []; links = (record { rules = record { domain = name (codes "lan.example.net."); cap = no_cap }; rows = [] }) ∷ []; now = 0 }
+one_link = record { zones = []; links = (record { rules = record { domain = name (codes "lan.example.net."); reverses = []; cap = no_cap }; rows = [] }) ∷ []; now = 0 }
 
 -- an address for `a.example.com.`
 abbrev pub adds_address : HubCall

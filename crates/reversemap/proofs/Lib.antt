@@ -1,3 +1,4 @@
 pub mod KindsApart
 pub mod RdataKeys
+pub mod UsedRecords
 pub mod ShownBoth

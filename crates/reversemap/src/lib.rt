@@ -12,7 +12,7 @@ ghost use Rattle.reversemap.specs.Reverse.{is_reverse_domain, is_reverse_usable,
 ghost use Rattle.reversemap.specs.BothKinds.{is_used, shown_of};
 ghost use Rattle.reversemap.specs.Worked.{lan, reverses, no_cap, at_address, pointing_to};
 
-pub use reverse::{is_reverse_domain, reverse_back, reverse_show, reverse_usable};
+pub use reverse::{is_reverse_domain, is_under, reverse_back, reverse_show, reverse_usable};
 
 /// Examples of what is shown under a reverse domain, and heard back.
 pub fn worked_rows()

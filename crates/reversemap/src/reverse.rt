@@ -14,8 +14,8 @@ use rrset::kinds::{NSEC, is_meta};
 use rrset::{NoMemory, Rr};
 use std::alloc::Global;
 
-/// Whether a name lies under one of some domains.
-fn is_under(reverses: &[Name], name: &Name) -> bool
+/// Whether a name lies under one of some domains. It takes no memory.
+pub fn is_under(reverses: &[Name], name: &Name) -> bool
     ensures { result ≡ is_under reverses.now name.now }
 {
     reverses.iter().any(|reverse| name.ends_in(reverse))

@@ -13,7 +13,7 @@ use Rattle.dsotlv.specs.Laws.{AreOctets}
 use Rattle.dsotlv.specs.Messages.{max_frame}
 use Rattle.pushclient.specs.ServerMessages.{CanBeGranted}
 use Rattle.inflight.specs.Ends.{is_question}
-use Rattle.scripts.specs.Lines.{Word, is_word_octet, HeadLine, timers, zone, link, ScriptLine, silent, head_line, joining, hub_event, link_event, client_call, client_passing, client_event, session_event}
+use Rattle.scripts.specs.Lines.{Word, is_word_octet, HeadLine, timers, zone, link, reverse, ScriptLine, silent, head_line, joining, hub_event, link_event, client_call, client_passing, client_event, session_event}
 use Rattle.scripts.specs.declared.line.HubEvent.{HubEvent}
 use Rattle.scripts.specs.declared.line.HubEvent.TheVariants as hub_events
 use Rattle.scripts.specs.declared.line.LinkEvent.{LinkEvent}
@@ -42,6 +42,7 @@ abbrev pub IsHeadWithin : HeadLine → Type 0
 IsHeadWithin (timers inactivity keepalive) = CanBeGranted (record { inactivity = inactivity; keepalive = keepalive })
 IsHeadWithin (zone apex serial mode) = IsTrue (is_name apex) × (serial < 2 ^ 32)
 IsHeadWithin (link w domain most) = IsTrue (is_name domain)
+IsHeadWithin (reverse w domain) = IsTrue (is_name domain)
 
 abbrev pub IsHubWithin : HubEvent → Type 0
 IsHubWithin (hub_events.At t) = t ≤ max_moment

@@ -7,7 +7,10 @@ pub mod Readers
 pub mod LineWords
 pub mod Splits
 pub mod Numbers
+pub mod ChangedPlaces
+pub mod NamedLinks
 pub mod MoreLines
+pub mod HeadTaken
 pub mod TakenScripts
 pub mod LineByLine
 pub mod SentOctets

@@ -6,13 +6,14 @@
 --     IsParty clients w party      a party is that of a word
 --     head_taken taken, known_of taken      the head that the lines so far have made, and what is known behind them
 --     may_stand all known line      whether a line may stand there
+--     HasZone, HasLink, HasReverse      homes with a further zone, link, and reverse domain of a link
 --     HeadGrowsBy taken line later, GrowsBy taken line later      the head, and the head and the events with a further line
 --     TakesLine all draft line later taken      the line is taken where it may stand there
 --     HaveMade lines taken      the lines so far have made the head and the events
 --     LinesSoFar, script_line so_far text      the lines so far, and with a further one
 --     HoldsLines draft so_far      a draft holds what they have made
 --     client_in line, is_any_word w words      the client that a line names, and whether a word is among others
-use Rattle.std.specs.Prelude.{◌≡◌, ℕ, Bool, true, false, ◌==◌, List, [], ◌∷◌, ◌++◌, map, length, Option, Some, None, filter_map, is_some, option_map, unwrap_or, string_bytes}
+use Rattle.std.specs.Prelude.{◌≡◌, ℕ, Bool, true, false, ◌==◌, List, [], ◌∷◌, ◌++◌, map, length, Option, Some, None, filter_map, is_some, option_map, position, unwrap_or, string_bytes}
 use Rattle.std.specs.List.{list_any}
 use Rattle.std.specs.Str.{bytes_eq}
 use Rattle.std.specs.declared.alloc.Global.{Global}
@@ -24,11 +25,14 @@ use Rattle.zoneupdate.specs.Zones.{ZoneState, new_zone}
 use Rattle.history.specs.States.{State, LinkState}
 use Rattle.history.specs.Kept.{HomesKept, state_of}
 use Rattle.history.specs.Plans.{IsStart}
+use Rattle.history.specs.declared.entry.HomeKind.TheVariants as of_home
 use Rattle.scripts.specs.Lines.{Word, ScriptLine, line_of}
 use Rattle.scripts.specs.Scripts.{Known, nothing_known, fits, may_follow, client_word, happening, AreDistinct}
-use Rattle.scripts.specs.Heads.{Head, empty_head, head_behind}
+use Rattle.scripts.specs.Heads.{Head, empty_head, head_behind, reversed_at}
+use Rattle.scripts.specs.HeadHomes.{NamedHomes, no_homes}
 use Rattle.scripts.specs.declared.line.ZoneLine.{ZoneLine}
 use Rattle.scripts.specs.declared.line.LinkLine.{LinkLine}
+use Rattle.scripts.specs.declared.line.ReverseLine.{ReverseLine}
 use Rattle.scripts.specs.declared.line.HeadLine.{HeadLine}
 use Rattle.scripts.specs.declared.line.HeadLine.TheVariants as heads
 use Rattle.scripts.specs.declared.line.EventLine.{EventLine}
@@ -71,14 +75,11 @@ pub record Taken : Type 0 where
   pub events : List Event
   pub clients : List (Word × Bool)
 
-abbrev pub no_homes : HomesKept
-no_homes = record { zones = []; links = []; names = [] }
-
 abbrev pub nothing_taken : Taken
 nothing_taken = record { timers = None; homes = no_homes; links = []; events = []; clients = [] }
 
 abbrev pub taken_of : Draft → Taken
-taken_of draft = record { timers = draft.timers; homes = draft.homes; links = words_of draft.links.items; events = draft.events.items; clients = known_clients draft.clients.items }
+taken_of draft = record { timers = draft.timers; homes = draft.homes.homes; links = draft.homes.words; events = draft.events.items; clients = known_clients draft.clients.items }
 
 -- the head that the lines so far have made
 abbrev pub head_of : Option Timers → State → List Word → Head
@@ -103,21 +104,31 @@ with_zone state zone = record state { zones = state.zones ++ zone ∷ [] }
 -- a further zone
 pub record HasZone (homes : HomesKept) (line : ZoneLine) (homes_then : HomesKept) : Type 0 where
   pub state : state_of homes_then ≡ with_zone (state_of homes) (new_zone line.apex line.serial line.writable)
-  pub named : homes_then.names ≡ homes.names ++ (line.apex, false) ∷ []
+  pub named : homes_then.names ≡ homes.names ++ (line.apex, of_home.Zone) ∷ []
 
 abbrev pub with_link : State → LinkState → State
 with_link state link = record state { links = state.links ++ link ∷ [] }
 
 -- a further link, which has heard nothing
 pub record HasLink (homes : HomesKept) (line : LinkLine) (homes_then : HomesKept) : Type 0 where
-  pub state : state_of homes_then ≡ with_link (state_of homes) (record { rules = record { domain = line.domain; cap = line.cap }; rows = [] })
-  pub named : homes_then.names ≡ homes.names ++ (line.domain, true) ∷ []
+  pub state : state_of homes_then ≡ with_link (state_of homes) (record { rules = record { domain = line.domain; reverses = []; cap = line.cap }; rows = [] })
+  pub named : homes_then.names ≡ homes.names ++ (line.domain, of_home.Link) ∷ []
+
+-- a further reverse domain of the link of a word
+pub record HasReverse (homes : HomesKept) (links : List Word) (line : ReverseLine) (homes_then : HomesKept) : Type 0 where
+  pub state : state_of homes_then ≡ reversed_at (position (bytes_eq (string_bytes line.word)) links) line.domain (state_of homes)
+  pub named : homes_then.names ≡ homes.names ++ (line.domain, of_home.Reverse) ∷ []
+
+-- what is known by these alone
+abbrev pub homes_known : NamedHomes → Known
+homes_known named = record nothing_known { homes = named.homes.names; links = named.words }
 
 -- the head with a further line of its own
 abbrev pub HeadGrowsBy : Taken → HeadLine → Taken → Type 0
 HeadGrowsBy taken (heads.Timers t) later = later ≡ record taken { timers = Some t }
 HeadGrowsBy taken (heads.Zone z) later = HasZone taken.homes z later.homes × (later ≡ record taken { homes = later.homes })
 HeadGrowsBy taken (heads.Link l) later = HasLink taken.homes l later.homes × (later ≡ record taken { homes = later.homes; links = taken.links ++ string_bytes l.word ∷ [] })
+HeadGrowsBy taken (heads.Reverse r) later = HasReverse taken.homes taken.links r later.homes × (later ≡ record taken { homes = later.homes })
 
 -- the head and the events with a further line
 abbrev pub GrowsBy : Taken → Line → Taken → Type 0

@@ -24,6 +24,7 @@ abbrev pub head_said : HeadLine → plain.HeadLine
 head_said (heads.Timers t) = plain.timers t.inactivity t.keepalive
 head_said (heads.Zone z) = plain.zone z.apex z.serial z.writable
 head_said (heads.Link l) = plain.link (string_bytes l.word) l.domain l.cap
+head_said (heads.Reverse r) = plain.reverse (string_bytes r.word) r.domain
 
 -- what a line says that happens
 abbrev pub happening_said : EventLine → ScriptLine

@@ -2,6 +2,7 @@ pub mod Lines
 pub mod Scripts
 pub mod TextLines
 pub mod Heads
+pub mod HeadHomes
 pub mod Words
 pub mod Outcomes
 pub mod Reply

@@ -41,6 +41,8 @@ pub data HeadLine : Type 0 where
   zone : Labels → ℕ → Bool → HeadLine
   -- its word, its domain, and its cap
   link : Word → Labels → ℕ → HeadLine
+  -- the word of its link, and the domain
+  reverse : Word → Labels → HeadLine
 
 pub data ScriptLine : Type 0 where
   -- an empty line or one that begins with #
@@ -203,6 +205,11 @@ link_line (w ∷ n ∷ []) = link_named w n (Some no_cap)
 link_line (w ∷ n ∷ c ∷ []) = link_named w n (cap_written c)
 link_line _ = None
 
+-- a reverse domain of the link of that word
+abbrev pub reverse_line : List Word → Option ScriptLine
+reverse_line (w ∷ n ∷ []) = word w >>= λ l. name_of_text n >>= λ domain. Some (head_line (reverse l domain))
+reverse_line _ = None
+
 abbrev pub at_line : List Word → Option ScriptLine
 at_line (t ∷ []) = option_map (λ n. hub_event (hub_events.At n)) (number max_moment t)
 at_line _ = None
@@ -226,6 +233,7 @@ head_kinds w =
     (is w (codes "timers"), kinds.Timers)
     ∷ (is w (codes "zone"), kinds.Zone)
     ∷ (is w (codes "link"), kinds.Link)
+    ∷ (is w (codes "reverse"), kinds.Reverse)
     ∷ []
 
 abbrev pub hub_kinds : Word → List (Bool × Kind)
@@ -290,6 +298,7 @@ abbrev pub line_behind : Kind → List Word → Option ScriptLine
 line_behind kinds.Timers ws = timers_line ws
 line_behind kinds.Zone ws = zone_line ws
 line_behind kinds.Link ws = link_line ws
+line_behind kinds.Reverse ws = reverse_line ws
 line_behind kinds.At ws = at_line ws
 line_behind kinds.Update ws = of_octets (λ o. hub_event (hub_events.Update o)) ws
 line_behind kinds.Point ws = alone (hub_event hub_events.Point) ws

@@ -10,8 +10,9 @@ use Rattle.std.specs.List.{list_any, onto_first, IsDistinct}
 use Rattle.std.specs.Str.{bytes_eq}
 use Rattle.push_base.specs.Optional.{◌>>=◌}
 use Rattle.history.specs.Homes.{NamedHome, home_fault}
+use Rattle.history.specs.declared.entry.HomeKind.TheVariants as of_home
 use Rattle.scripts.specs.declared.read.TheConstants as read
-use Rattle.scripts.specs.Lines.{Word, HeadLine, timers, zone, link, ScriptLine, silent, head_line, joining, hub_event, link_event, client_call, client_passing, client_event, session_event, line_of}
+use Rattle.scripts.specs.Lines.{Word, HeadLine, timers, zone, link, reverse, ScriptLine, silent, head_line, joining, hub_event, link_event, client_call, client_passing, client_event, session_event, line_of}
 use Rattle.scripts.specs.declared.line.ClientEvent.{ClientEvent}
 use Rattle.scripts.specs.declared.line.ClientEvent.TheVariants as client_events
 use Rattle.scripts.specs.declared.line.SessionEvent.{SessionEvent}
@@ -103,8 +104,9 @@ with_client w is_lone known = record known { in_head = false; clients = known.cl
 -- whether a further line of the head may stand there
 abbrev pub may_head : Known → HeadLine → Bool
 may_head known (timers i k) = not known.has_timers
-may_head known (zone apex serial mode) = is_none (home_fault known.homes (apex, false))
-may_head known (link w domain most) = not (is_among known.links w) && is_none (home_fault known.homes (domain, true))
+may_head known (zone apex serial mode) = is_none (home_fault known.homes (apex, of_home.Zone))
+may_head known (link w domain most) = not (is_among known.links w) && is_none (home_fault known.homes (domain, of_home.Link))
+may_head known (reverse w domain) = is_among known.links w && is_none (home_fault known.homes (domain, of_home.Reverse))
 
 -- octets come to lone clients alone
 abbrev pub may_happen_to : List (Word × Bool) → Word → ClientEvent → Bool
@@ -133,8 +135,9 @@ may_follow all known (session_event w event) = may_meet all known.clients w even
 -- what is known behind a line of the head
 abbrev pub known_in_head : Known → HeadLine → Known
 known_in_head known (timers i k) = record known { has_timers = true }
-known_in_head known (zone apex serial mode) = with_home (apex, false) known
-known_in_head known (link w domain most) = with_home (domain, true) (record known { links = known.links ++ w ∷ [] })
+known_in_head known (zone apex serial mode) = with_home (apex, of_home.Zone) known
+known_in_head known (link w domain most) = with_home (domain, of_home.Link) (record known { links = known.links ++ w ∷ [] })
+known_in_head known (reverse w domain) = with_home (domain, of_home.Reverse) known
 
 -- what is known behind it
 abbrev pub known_behind : Known → ScriptLine → Known

@@ -4,6 +4,7 @@
 mod client_readers;
 mod clients;
 pub mod event;
+mod head_homes;
 mod last_text;
 pub mod line;
 pub mod line_words;

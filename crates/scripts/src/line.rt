@@ -1,7 +1,7 @@
 //! The lines of a script.
 
 ghost use Rattle.std.specs.Prelude.{◌≡◌, false, ◌∷◌, [], IfOk, IfSome, IfNone, None, position, ◌==◌, ◌<◌, option_map, length, string_bytes, List, ℕ};
-ghost use Rattle.scripts.specs.Lines.{words_in, Word, ScriptLine, hub_event, link_event, session_event, timers_line, zone_line, link_line, at_line, stop_line, of_word, of_octets, of_word_and_octets, line_of, kind_of, client_kind, line_behind, link_named};
+ghost use Rattle.scripts.specs.Lines.{words_in, Word, ScriptLine, hub_event, link_event, session_event, timers_line, zone_line, link_line, reverse_line, at_line, stop_line, of_word, of_octets, of_word_and_octets, line_of, kind_of, client_kind, line_behind, link_named};
 ghost use Rattle.scripts.specs.KeptLines.{said, one_in, two_in, three_in, four_in, five_in, begins_silent};
 
 use crate::client_readers::{
@@ -42,6 +42,16 @@ pub struct LinkLine {
     pub cap: u32,
 }
 
+/// A reverse line: the word of a link that a line before it names, and the domain under which the link maps addresses back
+/// to names.
+#[derive(Debug, Drop)]
+pub struct ReverseLine {
+    /// The link's word.
+    pub word: String,
+    /// The reverse domain (RFC 8766, 5.4; RFC 1035, 3.5).
+    pub domain: Name,
+}
+
 /// What a line before all events says of the server.
 #[derive(Debug, Drop)]
 pub enum HeadLine {
@@ -51,6 +61,8 @@ pub enum HeadLine {
     Zone(ZoneLine),
     /// A link.
     Link(LinkLine),
+    /// A reverse domain of a link.
+    Reverse(ReverseLine),
 }
 
 /// What happens at the hub.
@@ -163,6 +175,7 @@ enum Kind {
     Timers,
     Zone,
     Link,
+    Reverse,
     At,
     Update,
     Point,
@@ -230,6 +243,8 @@ fn kind_of(word: &[u8]) -> Kind
         Kind::Zone
     } else if word == b"link".as_slice() {
         Kind::Link
+    } else if word == b"reverse".as_slice() {
+        Kind::Reverse
     } else if word == b"at".as_slice() {
         Kind::At
     } else if word == b"update".as_slice() {
@@ -294,8 +309,8 @@ fn single_word(kind: Kind) -> Option<Line>
 {
     match kind {
         Kind::Point => Some(Line::Event(EventLine::Hub(HubEvent::Point))),
-        Kind::Timers | Kind::Zone | Kind::Link | Kind::At | Kind::Update => None,
-        Kind::Hear | Kind::Gone | Kind::Asks => None,
+        Kind::Timers | Kind::Zone | Kind::Link | Kind::Reverse => None,
+        Kind::At | Kind::Update | Kind::Hear | Kind::Gone | Kind::Asks => None,
         Kind::Send | Kind::Stop | Kind::Cut => None,
         Kind::Client | Kind::Lone | Kind::Open | Kind::Ask | Kind::Drop | Kind::Reconfirm => None,
         Kind::Say | Kind::Up | Kind::Emit | Kind::Down | Kind::Settle => None,
@@ -311,6 +326,7 @@ fn longer_line(alloc: Global, kind: Kind, text: &[u8]) -> Result<Option<Line>, N
         Kind::Timers => Ok(timers_line(text)),
         Kind::Zone => zone_line(alloc, text),
         Kind::Link => link_line(alloc, text),
+        Kind::Reverse => reverse_line(alloc, text),
         Kind::At => Ok(at_line(text)),
         Kind::Update => update_line(alloc, text),
         Kind::Hear => hear_line(alloc, text),
@@ -408,6 +424,22 @@ fn link_named(
         return Ok(None);
     };
     Ok(Some(Line::Head(HeadLine::Link(LinkLine { word, domain, cap }))))
+}
+
+// What follows the first word of a reverse line: a link's word, and the domain.
+fn reverse_line(alloc: Global, text: &[u8]) -> Result<Option<Line>, NoMemory>
+    ensures exact { IfOk result (λ found. option_map (λ l. said l) found ≡ reverse_line (words_in text.now)) }
+{
+    let Some((word, domain)) = two_words(text) else {
+        return Ok(None);
+    };
+    let Some(word) = plain_word(alloc, word)? else {
+        return Ok(None);
+    };
+    let Some(domain) = name_of_word(alloc, domain)? else {
+        return Ok(None);
+    };
+    Ok(Some(Line::Head(HeadLine::Reverse(ReverseLine { word, domain }))))
 }
 
 // What follows the first word of a line with a moment: the moment, in milliseconds.

@@ -10,17 +10,16 @@ ghost use Rattle.scripts.specs.KeptScripts.{ReadsAs};
 ghost use Rattle.scripts.specs.KeptLines.{words_of};
 ghost use Rattle.scripts.specs.Drafts.{TakesLine, taken_of, nothing_taken, LinesSoFar, HoldsLines, script_line};
 
-use crate::clients::{KnownClient, client_words, is_among, is_known, place_among};
+use crate::clients::{KnownClient, client_words, is_known, place_among};
 use crate::event::{Event, event_of};
-use crate::line::{EventLine, HeadLine, Line, LinkLine, ZoneLine, read_line};
+use crate::head_homes::HeadHomes;
+use crate::line::{EventLine, HeadLine, Line, read_line};
 use crate::text_lines::{TakeLines, TakenLines, take_lines};
 use dsosession::session::Timers;
 use dsosession::times::DEFAULT_TIMER;
 use history::Homes;
-use history::entry::HomeFault;
 use push_base::NoMemory;
 use std::alloc::Global;
-use zoneupdate::{Zone, ZoneFault};
 
 /// A script: the timers of the server, its zones and links, and then what happens.
 #[derive(Debug, Drop)]
@@ -52,8 +51,7 @@ pub enum ReadScript {
 #[derive(Drop)]
 pub struct Draft {
     timers: Option<Timers>,
-    homes: Homes,
-    links: Vec<String>,
+    homes: HeadHomes,
     events: Vec<Event>,
     clients: Vec<KnownClient>,
 }
@@ -105,8 +103,7 @@ impl Draft {
     {
         Draft {
             timers: None,
-            homes: Homes::new(alloc),
-            links: Vec::new(alloc),
+            homes: HeadHomes::new(alloc),
             events: Vec::new(alloc),
             clients: Vec::new(alloc),
         }
@@ -133,8 +130,9 @@ impl Draft {
         }
         match line {
             HeadLine::Timers(timers) => Ok(self.take_timers(timers)),
-            HeadLine::Zone(zone) => self.take_zone(alloc, zone),
-            HeadLine::Link(link) => self.take_link(link),
+            HeadLine::Zone(zone) => self.homes.take_zone(alloc, zone),
+            HeadLine::Link(link) => self.homes.take_link(link),
+            HeadLine::Reverse(reverse) => self.homes.take_reverse(reverse),
         }
     }
 
@@ -148,44 +146,6 @@ impl Draft {
         }
         self.timers = Some(timers);
         true
-    }
-
-    // Takes a further zone, where it may stand beside the homes before it.
-    fn take_zone(&mut self, alloc: Global, line: ZoneLine) -> Result<bool, NoMemory>
-        requires { length self.old.events.items ≡ 0 }
-        ensures { (all : List Word) → IfOk result (λ taken. TakesLine all self.old (lines.Head (heads.Zone line)) self.new taken) }
-    {
-        let zone = match Zone::new(alloc, line.apex, line.serial, line.writable) {
-            Ok(zone) => zone,
-            Err(ZoneFault::TooLong) => return Ok(false),
-            Err(ZoneFault::NoMemory) => return Err(NoMemory),
-        };
-        match self.homes.add_zone(zone) {
-            Ok(()) => Ok(true),
-            Err(HomeFault::NoMemory) => Err(NoMemory),
-            Err(HomeFault::Clash(_)) => Ok(false),
-            Err(HomeFault::Many | HomeFault::Long | HomeFault::Local) => Ok(false),
-        }
-    }
-
-    // Takes a further link, with a word that no link has, where it may stand beside the homes before it.
-    fn take_link(&mut self, line: LinkLine) -> Result<bool, NoMemory>
-        requires { length self.old.events.items ≡ 0 }
-        ensures { (all : List Word) → IfOk result (λ taken. TakesLine all self.old (lines.Head (heads.Link line)) self.new taken) }
-    {
-        let LinkLine { word, domain, cap } = line;
-        if is_among(&self.links, word.as_bytes()) {
-            return Ok(false);
-        }
-        match self.homes.add_link(domain, cap) {
-            Ok(()) => {
-                push_word(&mut self.links, word)?;
-                Ok(true)
-            }
-            Err(HomeFault::NoMemory) => Err(NoMemory),
-            Err(HomeFault::Clash(_)) => Ok(false),
-            Err(HomeFault::Many | HomeFault::Long | HomeFault::Local) => Ok(false),
-        }
     }
 
     // Whether no event came before.
@@ -212,7 +172,7 @@ impl Draft {
     fn take_event(&mut self, line: EventLine, clients: &[String]) -> Result<bool, NoMemory>
         ensures { IfOk result (λ taken. TakesLine (map (λ w. string_bytes w) clients.now) self.old (lines.Event line) self.new taken) }
     {
-        match event_of(clients, &self.links, &self.clients, line) {
+        match event_of(clients, self.homes.words(), &self.clients, line) {
             None => Ok(false),
             Some(event) => {
                 self.events.push(event)?;
@@ -225,25 +185,25 @@ impl Draft {
     pub fn link_of(&self, word: &[u8]) -> Option<usize>
         ensures { result ≡ position (bytes_eq word.now) (taken_of self.now).links }
     {
-        place_among(&self.links, word)
+        place_among(self.homes.words(), word)
     }
 
     /// The script whose lines, so many, were all taken.
     pub fn finish(self, lines: usize) -> Script
         ensures lines { result.lines ≡ lines }
         ensures timers { result.timers ≡ unwrap_or self.timers default_timers }
-        ensures homes { result.homes ≡ self.homes }
-        ensures links { result.links.items ≡ self.links.items }
+        ensures homes { result.homes ≡ self.homes.homes }
+        ensures links { words_of result.links.items ≡ self.homes.words }
         ensures clients { result.clients.items ≡ self.clients.items }
         ensures events { result.events.items ≡ self.events.items }
     {
         let Draft {
             timers,
             homes,
-            links,
             events,
             clients,
         } = self;
+        let (homes, links) = homes.into_parts();
         Script {
             lines,
             timers: timers_or_default(timers),
@@ -253,14 +213,6 @@ impl Draft {
             events,
         }
     }
-}
-
-// One word more.
-fn push_word(words: &mut Vec<String>, word: String) -> Result<(), NoMemory>
-    ensures { OnOk result (words_of words.new.items ≡ words_of words.old.items ++ string_bytes word ∷ []) }
-{
-    words.push(word)?;
-    Ok(())
 }
 
 fn timers_or_default(timers: Option<Timers>) -> Timers

@@ -13,7 +13,7 @@ use Rattle.std.proofs.lemmas.List.Elements.{recursion_from_All}
 use Rattle.push_base.specs.Cases.{changed_at}
 use Rattle.dnsname.specs.Names.{Labels, is_name, ends_in}
 use Rattle.dnsname.proofs.Decisions.{is_name-Decides}
-use Rattle.rrset.specs.Kinds.{in_class, nsec_kind, is_meta}
+use Rattle.rrset.specs.Kinds.{in_class}
 use Rattle.rrset.specs.Rdata.{shape, shape_fits}
 use Rattle.rrset.specs.Records.{key_of}
 use Rattle.rrset.specs.RecordSet.{RecordSet}
@@ -31,7 +31,9 @@ use Rattle.dsotlv.specs.Laws.{AreOctets}
 use Rattle.dsotlv.specs.Notices.{last_ttl}
 use Rattle.dsotlv.proofs.Numbers.{two_below}
 use Rattle.zoneupdate.proofs.Filters.{and-left, and-right, and-both}
-use Rattle.linkmap.specs.Translation.{is_of_link, is_translatable, is_usable, local}
+use Rattle.reversemap.specs.BothKinds.{is_used}
+use Rattle.reversemap.proofs.UsedRecords.{used-fits}
+use Rattle.linkcache.specs.declared.rules.LinkRules.{LinkRules}
 use Rattle.linkcache.specs.declared.row.HeardRow.{HeardRow}
 use Rattle.linkcache.specs.Links.{LinkState, IsLink}
 use Rattle.linkcache.specs.Rows.{LinkRows, heard_at, usable_of, at_moment, shown_rows}
@@ -133,21 +135,14 @@ all-rows (row ∷ rows) h = and-both (is_heard_so row) (list_all is_heard_so row
 
 -- ---- what a hearing brings
 
-usable-class : (domain : Labels) (rr : Rr) → is_usable domain rr ≡ true → (rr.class == in_class) ≡ true
-usable-class domain rr e =
-    let of_link = and-left (is_of_link rr) (is_translatable local domain rr) e in
-    let kinds = and-left (rr.class == in_class && not (rr.kind == nsec_kind) && not (is_meta rr.kind)) (ends_in rr.owner local) of_link in
-    let kind = and-left (rr.class == in_class && not (rr.kind == nsec_kind)) (not (is_meta rr.kind)) kinds in
-    and-left (rr.class == in_class) (not (rr.kind == nsec_kind)) kind
-
-row-brought : (domain : Labels) (now : ℕ) (h : HeardRr) → is_usable domain h.rr ≡ true → IsHeardRr h → IsHeardSo (key_of h.rr, heard_at now h)
-row-brought domain now h usable is =
-    let rdata = is.rdata (usable-class domain h.rr usable) in
+row-brought : (rules : LinkRules) (now : ℕ) (h : HeardRr) → is_used rules.domain rules.reverses h.rr ≡ true → IsHeardRr h → IsHeardSo (key_of h.rr, heard_at now h)
+row-brought rules now h used is =
+    let rdata = is.rdata (used-fits rules.domain rules.reverses h.rr used).class in
     heard_so-from (key_of h.rr, heard_at now h) (record { owner = is.owner; kind = is.kind; shape = rdata.0; short = lt-ltb _ _ rdata.1; ttl = counted h.rr.ttl })
 
-all-brought : (domain : Labels) (now : ℕ) (hs : List HeardRr) → AllByRecursion (λ h. is_usable domain h.rr ≡ true) hs → AllByRecursion IsHeardRr hs → Brings IsHeardSo now hs
-all-brought domain now [] usable are = tt
-all-brought domain now (h ∷ hs) usable are = (row-brought domain now h usable.0 are.0, all-brought domain now hs usable.1 are.1)
+all-brought : (rules : LinkRules) (now : ℕ) (hs : List HeardRr) → AllByRecursion (λ h. is_used rules.domain rules.reverses h.rr ≡ true) hs → AllByRecursion IsHeardRr hs → Brings IsHeardSo now hs
+all-brought rules now [] used are = tt
+all-brought rules now (h ∷ hs) used are = (row-brought rules now h used.0 are.0, all-brought rules now hs used.1 are.1)
 
 -- ---- what an entry brings to a link
 
@@ -165,7 +160,7 @@ rows-so entry now l brings h =
     let usable : List HeardRr = usable_of l.rules (brought entry) in
     all-rows (rows_after entry now l)
     (kept-after IsHeardSo ends-alike entry now l
-    (all-brought l.rules.domain now usable (usable-of l.rules (brought entry)) (all_filter IsHeardRr (λ h. is_usable l.rules.domain h.rr) (brought entry) (are_read (brought entry) brings)))
+    (all-brought l.rules now usable (usable-of l.rules (brought entry)) (all_filter IsHeardRr (λ h. is_used l.rules.domain l.rules.reverses h.rr) (brought entry) (are_read (brought entry) brings)))
     (each-row l.rows h))
 
 -- ---- all links

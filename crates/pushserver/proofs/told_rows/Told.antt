@@ -108,7 +108,7 @@ link-tells [] are heard zero l e = absurd cc
 link-tells [] are heard (suc i) l e = absurd cc
 link-tells (k ∷ links) are heard zero l e =
     let same : k ≡ l = cc in
-    subst LinkTells same (record { tellable = link-shows k are.0 heard.0; room = shown_fits k.rules k.rows are.0.sound are.0.within })
+    subst LinkTells same (record { tellable = link-shows k are.0 heard.0; room = shown_fits k.rules k.rows are.0.apart are.0.sound are.0.within })
 link-tells (k ∷ links) are heard (suc i) l e = link-tells links are.1 heard.1 i l e
 
 -- ---- each home

@@ -13,9 +13,9 @@ unfolding IsDistinct
 returns-clause-start c = record {
   begins = record {
     zones = All-nil (λ (z : ZoneState). (serial : ℕ) × (z ≡ new_zone z.apex serial z.writable));
-    links = All-cons (λ (l : LinkState). l.rows ≡ []) (record { rules = record { domain = name (codes "lan.example.net."); cap = no_cap }; rows = [] }) [] refl (All-nil (λ (l : LinkState). l.rows ≡ []));
+    links = All-cons (λ (l : LinkState). l.rows ≡ []) (record { rules = record { domain = name (codes "lan.example.net."); reverses = []; cap = no_cap }; rows = [] }) [] refl (All-nil (λ (l : LinkState). l.rows ≡ []));
     now = refl;
   };
-  apart = record { apart = (tt, tt); short = ((let few : length (octets (name (codes "lan.example.net."))) ≡ 17 = refl in omega (arith, few)), tt) };
+  apart = record { apart = (tt, tt); short = ((let few : length (octets (name (codes "lan.example.net."))) ≡ 17 = refl in omega (arith, few)), tt); fit = (refl, tt) };
   names = (refl, tt);
 }

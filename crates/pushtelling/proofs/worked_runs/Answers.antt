@@ -16,6 +16,6 @@ returns-clause-start c = record {
     links = All-nil (λ (l : LinkState). l.rows ≡ []);
     now = refl;
   };
-  apart = record { apart = (tt, tt); short = ((let few : length (octets (name (codes "example.com."))) ≡ 13 = refl in omega (arith, few)), tt) };
+  apart = record { apart = (tt, tt); short = ((let few : length (octets (name (codes "example.com."))) ≡ 13 = refl in omega (arith, few)), tt); fit = (refl, tt) };
   names = (refl, tt);
 }

@@ -1,7 +1,7 @@
 -- How large the records of one name are in a state: at most 60,000 octets for each zone and each link.
 --     IsSmall, IsBounded, bounded-after      the bound, and that every entry keeps it
 --     records-size      the records of a name in such a state
-use Rattle.std.proofs.Common.{◌≡◌, ◌⊎◌, inl, inr, ℕ, zero, suc, ◌+◌, ◌*◌, ◌≤◌, Bool, true, false, cond, List, [], ◌∷◌, ◌++◌, map, fold, length, length-append, Option, Some, None, Result, Ok, Err, nat_le, nat_lt, refl, sym, ap, subst, arith, take_all, le_refl}
+use Rattle.std.proofs.Common.{◌≡◌, ◌⊎◌, inl, inr, ℕ, ◌+◌, ◌*◌, ◌≤◌, Bool, true, false, cond, List, [], ◌∷◌, ◌++◌, map, fold, length, length-append, Option, Some, None, Result, Ok, Err, nat_le, nat_lt, refl, sym, ap, subst, arith, take_all, le_refl}
 use Rattle.std.proofs.lemmas.List.{length-map}
 use Rattle.std.specs.List.{AllByRecursion, list_all}
 use Rattle.std.proofs.lemmas.Bool.Decides.{nat_tests}
@@ -15,6 +15,7 @@ use Rattle.rrset.proofs.Sizes.{size_of-only-union}
 use Rattle.dnswire.specs.declared.message.Update.{Update}
 use Rattle.zoneupdate.specs.Zones.{ZoneState}
 use Rattle.zoneupdate.specs.Updates.{judged, refused_first, accepted_or, is_within_limits, with_counted_ttl, rows_after}
+use Rattle.reversemap.specs.BothKinds.{AreApart}
 use Rattle.linkcache.specs.Rows.{shown_rows}
 use Rattle.linkcache.proofs.ShownSizes.{shown_fits}
 use Rattle.coalesce.proofs.ReadBack.{each-append}
@@ -24,6 +25,7 @@ use Rattle.history.specs.States.{State, LinkState, LinkRules, home_names, with_r
 use Rattle.history.specs.declared.entry.Entry.{Entry}
 use Rattle.history.proofs.OneLink.{AreRows, rows-after, rows-moment}
 use Rattle.pushserver.proofs.Queues.{same_name-octets}
+use Rattle.scripts.proofs.lines.ChangedPlaces.{length-changed, changed-each}
 
 -- ---- one zone
 
@@ -88,17 +90,22 @@ judged-small homes zone update =
 
 -- ---- one link
 
-small-shown : (link : LinkState) → AreRows link → IsSmall (shown_rows link.rules link.rows)
-small-shown link are name = shown_fits link.rules link.rows are.sound are.within name
+-- rows such as a link has, and reverse domains that stand apart from its domain
+pub record IsBoundedLink (link : LinkState) : Type 0 where
+  pub rows : AreRows link
+  pub apart : AreApart link.rules.domain link.rules.reverses
 
-pub small-silent : (rules : LinkRules) → AreRows (record { rules = rules; rows = [] })
-small-silent rules = record { order = tt; sound = tt; within = record { few = omega arith; owners = λ owner. omega arith } }
+small-shown : (link : LinkState) → IsBoundedLink link → IsSmall (shown_rows link.rules link.rows)
+small-shown link is name = shown_fits link.rules link.rows is.apart is.rows.sound is.rows.within name
+
+pub small-silent : (rules : LinkRules) → AreApart rules.domain rules.reverses → IsBoundedLink (record { rules = rules; rows = [] })
+small-silent rules apart = record { rows = record { order = tt; sound = tt; within = record { few = omega arith; owners = λ owner. omega arith } }; apart = apart }
 
 -- ---- all homes
 
 pub record IsBounded (state : State) : Type 0 where
   pub few_links : length state.links ≤ 16
-  pub links : AllByRecursion AreRows state.links
+  pub links : AllByRecursion IsBoundedLink state.links
   pub few : length state.zones ≤ 16
   pub small : AllByRecursion (λ z. IsSmall z.rows) state.zones
 
@@ -141,29 +148,19 @@ bounded-updated state update b = by (zone_for state update.zones)
     by (Ok zone) = bounded-given state zone (judged (home_names state) zone update) b (judged-small (home_names state) zone update)
 
 -- other links, as many
-bounded-links : (state : State) (links : List LinkState) (t : ℕ) → length links ≡ length state.links → AllByRecursion AreRows links → IsBounded state → IsBounded (record state { links = links; now = t })
+bounded-links : (state : State) (links : List LinkState) (t : ℕ) → length links ≡ length state.links → AllByRecursion IsBoundedLink links → IsBounded state → IsBounded (record state { links = links; now = t })
 bounded-links state links t same all b = record { few_links = subst (λ n. n ≤ 16) (sym same) b.few_links; links = all; few = b.few; small = b.small }
-
-length-changed : {X : Type 0} (i : ℕ) (f : X → X) (xs : List X) → length (changed_at i f xs) ≡ length xs
-length-changed i f [] = refl
-length-changed zero f (x ∷ xs) = refl
-length-changed (suc i) f (x ∷ xs) = ap (λ n. suc n) (length-changed i f xs)
-
-changed-each : {X : Type 0} (P : X → Type 0) (f : X → X) → ((x : X) → P x → P (f x)) → (i : ℕ) (xs : List X) → AllByRecursion P xs → AllByRecursion P (changed_at i f xs)
-changed-each P f keeps i [] all = tt
-changed-each P f keeps zero (x ∷ xs) all = (keeps x all.0, all.1)
-changed-each P f keeps (suc i) (x ∷ xs) all = (all.0, changed-each P f keeps i xs all.1)
 
 -- every entry keeps the bound, whatever homes it concerns
 bounded-by : (entry : Entry) (state : State) (homes : Concern) → IsBounded state → IsBounded (after_by entry state homes)
 bounded-by entry state (a_zone update) b = bounded-updated state update b
 bounded-by entry state (a_link link) b =
     bounded-links state (changed_at link (link_after entry state.now) state.links) state.now (length-changed link (link_after entry state.now) state.links)
-    (changed-each AreRows (link_after entry state.now) (rows-after entry state.now) link state.links b.links) b
+    (changed-each IsBoundedLink (link_after entry state.now) (λ l is. record { rows = rows-after entry state.now l is.rows; apart = is.apart }) link state.links b.links) b
 bounded-by entry state (all_links t) b = by (nat_lt state.now t)
   where
     by : (c : Bool) → IsBounded (cond c (record state { now = t; links = map (link_at_moment t) state.links }) state)
-    by true = bounded-links state (map (link_at_moment t) state.links) t (length-map state.links (link_at_moment t)) (all_map AreRows AreRows (link_at_moment t) (rows-moment t) state.links b.links) b
+    by true = bounded-links state (map (link_at_moment t) state.links) t (length-map state.links (link_at_moment t)) (all_map IsBoundedLink IsBoundedLink (link_at_moment t) (λ l is. record { rows = rows-moment t l is.rows; apart = is.apart }) state.links b.links) b
     by false = b
 
 pub bounded-after : (state : State) (entry : Entry) → IsBounded state → IsBounded (after state entry)
@@ -192,7 +189,7 @@ records-size state name b =
     let zones = map (λ (z : ZoneState). z.rows) state.zones in
     let links = map (λ (l : LinkState). shown_rows l.rules l.rows) state.links in
     let all = each-append IsSmall zones links (all_map (λ (z : ZoneState). IsSmall z.rows) IsSmall (λ (z : ZoneState). z.rows) (λ z h. h) state.zones b.small)
-    (all_map AreRows IsSmall (λ (l : LinkState). shown_rows l.rules l.rows) small-shown state.links b.links) in
+    (all_map IsBoundedLink IsSmall (λ (l : LinkState). shown_rows l.rules l.rows) small-shown state.links b.links) in
     sum _ (length (zones ++ links)) (length zones) (length links) (sets-size name [] (zones ++ links) all) (length-append zones links)
     (subst (λ n. n ≤ 16) (sym (length-map state.zones (λ (z : ZoneState). z.rows))) b.few) (subst (λ n. n ≤ 16) (sym (length-map state.links (λ (l : LinkState). shown_rows l.rules l.rows))) b.few_links)
   where

@@ -18,7 +18,7 @@ use Rattle.scripts.specs.declared.line.HubEvent.TheVariants as hub_events
 use Rattle.scripts.specs.declared.line.LinkEvent.TheVariants as link_events
 use Rattle.scripts.specs.declared.line.Call.TheVariants as calls
 use Rattle.scripts.specs.declared.line.SessionEvent.TheVariants as session_events
-use Rattle.scripts.proofs.lines.Readers.{OnEach, alone_reads, word_reads, octets_reads, word_octets_reads, word_question_reads, timers_reads, zone_reads, link_reads, at_reads, reconfirm_reads, stop_reads, show_reads, way_reads, line-reads}
+use Rattle.scripts.proofs.lines.Readers.{OnEach, alone_reads, word_reads, octets_reads, word_octets_reads, word_question_reads, timers_reads, zone_reads, link_reads, reverse_reads, at_reads, reconfirm_reads, stop_reads, show_reads, way_reads, line-reads}
 use Rattle.replay.proofs.worlds.ClientOutputs.{all_octets}
 use Rattle.replay.proofs.worlds.InputOctets.{written_octets}
 use Rattle.replay.proofs.turns.SendSizes.{le_is, written_few}
@@ -114,7 +114,10 @@ each_within : (w : Word) (ws : List Word) → OnEach AreWithin w ws
 each_within w ws = record {
   on_head = (
     timers_reads AreWithin (λ v i is x k at long. (below_max i (number_at_most max_u32 v i is), le_from least_keepalive k long, below_max k (number_at_most max_u32 x k at))) ws,
-    (zone_reads AreWithin (λ v apex is x serial at mode. (name_is_name v apex is, below_max serial (number_at_most max_u32 x serial at))) ws, (link_reads AreWithin (λ v u is x domain at most. name_is_name x domain at) ws, tt)),
+    (
+      zone_reads AreWithin (λ v apex is x serial at mode. (name_is_name v apex is, below_max serial (number_at_most max_u32 x serial at))) ws,
+      (link_reads AreWithin (λ v u is x domain at most. name_is_name x domain at) ws, (reverse_reads AreWithin (λ v u is x domain at. name_is_name x domain at) ws, tt)),
+    ),
   );
   on_hub = (
     at_reads AreWithin (λ v t is. number_at_most max_moment v t is) ws,

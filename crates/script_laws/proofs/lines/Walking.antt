@@ -11,7 +11,7 @@ use Rattle.coalesce.proofs.ReadBack.{each-append}
 use Rattle.rrset.specs.declared.record.Question.{Question}
 use Rattle.pushserver.specs.PlainHubs.{Hub}
 use Rattle.pushserver.specs.Hubs.{newest}
-use Rattle.scripts.specs.Lines.{Word, HeadLine, timers, zone, link, ScriptLine, silent, head_line, joining, hub_event, link_event, client_call, client_passing, client_event, session_event}
+use Rattle.scripts.specs.Lines.{Word, HeadLine, timers, zone, link, reverse, ScriptLine, silent, head_line, joining, hub_event, link_event, client_call, client_passing, client_event, session_event}
 use Rattle.scripts.specs.declared.line.HubEvent.{HubEvent}
 use Rattle.scripts.specs.declared.line.HubEvent.TheVariants as hub_events
 use Rattle.scripts.specs.declared.line.ClientEvent.{ClientEvent}
@@ -210,6 +210,7 @@ module _ (laws : LineLaws) (all : List Word) (known next : Known) (shown : Shown
   head-clients (timers i k) = refl
   head-clients (zone apex serial mode) = refl
   head-clients (link w domain most) = refl
+  head-clients (reverse w domain) = refl
 
   pub walked-line : (line : ScriptLine) → IsRead all line → fits all known line ≡ Some next → Walked all next shown (line_does by_history line world).0
   walked-line silent is e = by-test all known next shown world h true known world e refl (λ may. nothing)

@@ -2,29 +2,31 @@
 --     no_lines      before the first line
 --     adds      what a line that may stand there makes of them
 use Rattle.std.proofs.Common.{◌≡◌, ℕ, ◌+◌, Bool, true, false, cond, not, ◌||◌, ◌==◌, Option, Some, None, List, [], ◌∷◌, ◌++◌, map, find, length, zero, suc, refl, sym, ◌∙◌, ap, subst, arith, length-append, append_assoc}
-use Rattle.std.specs.Prelude.{is_some, option_map, option_to_list, string_bytes, All, filter_map}
+use Rattle.std.specs.Prelude.{is_some, option_map, option_to_list, string_bytes, All, filter_map, position}
 use Rattle.std.specs.List.{list_any}
 use Rattle.std.specs.declared.alloc.Global.{Global}
 use Rattle.std.specs.declared.string.String.{String}
 use Rattle.std.specs.Str.{bytes_eq}
 use Rattle.std.proofs.lemmas.Bool.Decides.{nat_tests}
 use Rattle.std.proofs.lemmas.List.{append-nil, map-append}
-use Rattle.std.proofs.lemmas.List.Elements.{All-append, filter-append, filter_map-append}
+use Rattle.std.proofs.lemmas.List.Elements.{All-append, filter-append, filter_map-append, All-from_recursion, recursion_from_All}
 use Rattle.std.proofs.lemmas.List.Sums.{fold-append}
 use Rattle.rrset.proofs.Distinct.{distinct_push, distinct_none}
 use Rattle.dsosession.specs.declared.session.Timers.{Timers}
+use Rattle.push_base.specs.Cases.{changed_at}
 use Rattle.dnsname.specs.Names.{Labels}
 use Rattle.dnsname.proofs.Decisions.{and_true}
 use Rattle.zoneupdate.specs.Zones.{ZoneState, new_zone}
 use Rattle.history.specs.Homes.{NamedHome}
-use Rattle.history.specs.States.{LinkRules, State, LinkState}
+use Rattle.history.specs.States.{LinkRules, State, LinkState, with_reverse}
 use Rattle.history.specs.Plans.{IsStart}
 use Rattle.history.specs.Kept.{HomesKept, state_of}
 use Rattle.scripts.specs.Lines.{Word, ScriptLine, head_line, joining}
 use Rattle.scripts.specs.Scripts.{Known, fits, may_follow, may_head, known_in_head, allowed, client_word, lone_in, is_head, happening, AreDistinct}
-use Rattle.scripts.specs.Heads.{Head, empty_head, with_head, with_head_line, head_behind}
+use Rattle.scripts.specs.Heads.{Head, empty_head, reversed_at, with_head, with_head_line, head_behind}
 use Rattle.scripts.specs.declared.line.ZoneLine.{ZoneLine}
 use Rattle.scripts.specs.declared.line.LinkLine.{LinkLine}
+use Rattle.scripts.specs.declared.line.ReverseLine.{ReverseLine}
 use Rattle.scripts.specs.declared.line.HeadLine.{HeadLine}
 use Rattle.scripts.specs.declared.line.HeadLine.TheVariants as heads
 use Rattle.scripts.specs.declared.line.EventLine.{EventLine}
@@ -35,7 +37,9 @@ use Rattle.scripts.specs.declared.line.Line.{Line}
 use Rattle.scripts.specs.declared.line.Line.TheVariants as lines
 use Rattle.scripts.specs.KeptLines.{head_said, happening_said, said}
 use Rattle.scripts.specs.Events.{words_known, client_at, event_said, each_said, IsNamed, Follow}
-use Rattle.scripts.specs.Drafts.{Taken, no_homes, nothing_taken, head_of, head_taken, known_of, known_by, may_stand, StandsFor, with_zone, HasZone, with_link, HasLink, HeadGrowsBy, GrowsBy, AreEvents, HaveMade}
+use Rattle.scripts.specs.HeadHomes.{no_homes}
+use Rattle.scripts.specs.Drafts.{Taken, nothing_taken, head_of, head_taken, known_of, known_by, may_stand, StandsFor, with_zone, HasZone, with_link, HasLink, HasReverse, HeadGrowsBy, GrowsBy, AreEvents, HaveMade}
+use Rattle.scripts.proofs.lines.ChangedPlaces.{changed-each}
 use Rattle.scripts.proofs.lines.Numbers.{onto_words, named-more, follow-more, client-here, few-here}
 use Rattle.scripts.proofs.lines.SameWords.{same_word, word_itself, other_way}
 
@@ -65,7 +69,7 @@ allowed_some false known h = absurd cc
 head-then : (front : List ScriptLine) (taken : Taken) (line : ScriptLine) → HaveMade front taken → head_behind empty_head (front ++ line ∷ []) ≡ with_head_line (head_taken taken) line
 head-then front taken line are = head-more empty_head front line ∙ ap (λ (h : Head). with_head_line h line) are.head
 
-some-allowed : (b : Bool) (known : Known) → is_some (allowed b known) ≡ b
+pub some-allowed : (b : Bool) (known : Known) → is_some (allowed b known) ≡ b
 some-allowed true known = refl
 some-allowed false known = refl
 
@@ -170,7 +174,21 @@ link_added : (taken : Taken) (homes : HomesKept) (l : LinkLine) → HasLink take
 link_added taken homes l has = record {
   known = ap (λ (names : List NamedHome). record (known_of taken) { homes = names; links = taken.links ++ string_bytes l.word ∷ [] }) (sym has.named);
   head = ap (λ (s : State). head_of taken.timers s (taken.links ++ string_bytes l.word ∷ [])) (sym has.state);
-  start = λ is. subst IsStart (sym has.state) (start_linked (state_of taken.homes) (record { domain = l.domain; cap = l.cap }) is);
+  start = λ is. subst IsStart (sym has.state) (start_linked (state_of taken.homes) (record { domain = l.domain; reverses = []; cap = l.cap }) is);
+}
+
+-- ---- a reverse domain
+
+-- a start with a further reverse domain of a link
+pub start_reversed : (start : State) (link : Option ℕ) (domain : Labels) → IsStart start → IsStart (reversed_at link domain start)
+start_reversed start None domain is = is
+start_reversed start (Some link) domain is = record { zones = is.zones; links = All-from_recursion IsSilent (changed_at link (with_reverse domain) start.links) (changed-each IsSilent (with_reverse domain) (λ l silent. silent) link start.links (recursion_from_All IsSilent start.links is.links)); now = is.now }
+
+reverse_added : (taken : Taken) (homes : HomesKept) (r : ReverseLine) → HasReverse taken.homes taken.links r homes → AddsHead taken (heads.Reverse r) taken.timers homes taken.links
+reverse_added taken homes r has = record {
+  known = ap (λ (names : List NamedHome). record (known_of taken) { homes = names }) (sym has.named);
+  head = ap (λ (s : State). head_of taken.timers s taken.links) (sym has.state);
+  start = λ is. subst IsStart (sym has.state) (start_reversed (state_of taken.homes) (position (bytes_eq (string_bytes r.word)) taken.links) r.domain is);
 }
 
 -- ---- an event
@@ -328,5 +346,6 @@ adds all taken later (lines.Head line) h grows = by line h grows
     by (heads.Timers t) h grows = moved all taken _ later (lines.Head (heads.Timers t)) grows (head_adds all taken (heads.Timers t) _ _ _ h (timers_added taken t))
     by (heads.Zone z) h grows = moved all taken _ later (lines.Head (heads.Zone z)) grows.1 (head_adds all taken (heads.Zone z) _ _ _ h (zone_added taken later.homes z grows.0))
     by (heads.Link l) h grows = moved all taken _ later (lines.Head (heads.Link l)) grows.1 (head_adds all taken (heads.Link l) _ _ _ h (link_added taken later.homes l grows.0))
+    by (heads.Reverse r) h grows = moved all taken _ later (lines.Head (heads.Reverse r)) grows.1 (head_adds all taken (heads.Reverse r) _ _ _ h (reverse_added taken later.homes r grows.0))
 adds all taken later (lines.Joining word is_lone) h grows = moved all taken _ later (lines.Joining word is_lone) grows (joining_adds all taken word is_lone h)
 adds all taken later (lines.Event e) h grows = moved all taken _ later (lines.Event e) grows.2 (event_adds all taken e grows.0 h grows.1)

@@ -111,7 +111,7 @@ module _ {X : Type 0} (p : X → Bool) where
   missing : (xs : List X) → position p xs ≡ None → find p xs ≡ None
   missing xs none = find-none p xs (none_from p xs none)
 
-  any-found : (xs : List X) (n : ℕ) → position p xs ≡ Some n → list_any p xs ≡ true
+  pub any-found : (xs : List X) (n : ℕ) → position p xs ≡ Some n → list_any p xs ≡ true
   any-found [] n at = absurd cc
   any-found (x ∷ xs) n at = by (p x) (position p xs) (any-found xs) (sym (position-cons p x xs) ∙ at)
     where
@@ -120,7 +120,7 @@ module _ {X : Type 0} (p : X → Bool) where
       by false None rest e = absurd cc
       by false (Some i) rest e = rest i refl
 
-  none-any : (xs : List X) → position p xs ≡ None → list_any p xs ≡ false
+  pub none-any : (xs : List X) → position p xs ≡ None → list_any p xs ≡ false
   none-any [] none = refl
   none-any (x ∷ xs) none = by (p x) (position p xs) (none-any xs) (sym (position-cons p x xs) ∙ none)
     where

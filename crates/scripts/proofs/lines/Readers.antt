@@ -17,7 +17,7 @@ use Rattle.dnsname.specs.Names.{Labels}
 use Rattle.dnsname.specs.Text.{name_of_text}
 use Rattle.rrset.specs.declared.record.Question.{Question}
 use Rattle.rrset.specs.declared.record.Rr.{Rr}
-use Rattle.scripts.specs.Lines.{words_in, Word, HeadLine, timers, zone, link, ScriptLine, silent, head_line, joining, hub_event, link_event, client_call, client_passing, client_event, session_event, ask, open_connection, feed, show, settle, send, number32, number, max_octets_passed, max_rcode, cap_written, word, octets_written, writable_of, question, alone, of_word, of_octets, of_word_and_octets, of_word_and_number, of_word_and_question, timers_line, zone_line, link_line, at_line, reconfirm_line, stop_line, show_line, head_kinds, hub_kinds, link_kinds, session_kinds, joining_kinds, call_kinds, way_kinds, client_kinds, kind_of, line_behind, of_words, line_of}
+use Rattle.scripts.specs.Lines.{words_in, Word, HeadLine, timers, zone, link, reverse, ScriptLine, silent, head_line, joining, hub_event, link_event, client_call, client_passing, client_event, session_event, ask, open_connection, feed, show, settle, send, number32, number, max_octets_passed, max_rcode, cap_written, word, octets_written, writable_of, question, alone, of_word, of_octets, of_word_and_octets, of_word_and_number, of_word_and_question, timers_line, zone_line, link_line, reverse_line, at_line, reconfirm_line, stop_line, show_line, head_kinds, hub_kinds, link_kinds, session_kinds, joining_kinds, call_kinds, way_kinds, client_kinds, kind_of, line_behind, of_words, line_of}
 use Rattle.scripts.specs.declared.line.HubEvent.{HubEvent}
 use Rattle.scripts.specs.declared.line.HubEvent.TheVariants as hub_events
 use Rattle.scripts.specs.declared.line.LinkEvent.{LinkEvent}
@@ -106,6 +106,12 @@ module _ (P : ScriptLine → Type 0) where
   link_reads h (v ∷ x ∷ y ∷ []) = bind_reads P (word v) _ (λ w is. bind_reads P (name_of_text x) _ (λ domain at. map_reads P (cap_written y) (λ most. head_line (link w domain most)) (λ most e. h v w is x domain at most)))
   link_reads h (v ∷ x ∷ y ∷ z ∷ ws) = tt
 
+  pub reverse_reads : ((v w : Word) → word v ≡ Some w → (x : Word) (domain : Labels) → name_of_text x ≡ Some domain → P (head_line (reverse w domain))) → (ws : List Word) → IfSome (reverse_line ws) P
+  reverse_reads h [] = tt
+  reverse_reads h (v ∷ []) = tt
+  reverse_reads h (v ∷ x ∷ []) = bind_reads P (word v) _ (λ w is. bind_reads P (name_of_text x) _ (λ domain at. h v w is x domain at))
+  reverse_reads h (v ∷ x ∷ y ∷ ws) = tt
+
   pub at_reads : ((v : Word) (t : ℕ) → number max_moment v ≡ Some t → P (hub_event (hub_events.At t))) → (ws : List Word) → IfSome (at_line ws) P
   at_reads h [] = tt
   at_reads h (v ∷ []) = map_reads P (number max_moment v) (λ t. hub_event (hub_events.At t)) (h v)
@@ -175,7 +181,7 @@ pub record OnEach (P : ScriptLine → Type 0) (w : Word) (ws : List Word) : Type
 
 module _ (P : ScriptLine → Type 0) where
   pub head_reads : ((line : HeadLine) → P (head_line line)) → (w : Word) (ws : List Word) → EachReads P ws (head_kinds w)
-  head_reads h w ws = (timers_reads P (λ v i is x k at long. h (timers i k)) ws, (zone_reads P (λ v apex is x serial at mode. h (zone apex serial mode)) ws, (link_reads P (λ v u is x domain at most. h (link u domain most)) ws, tt)))
+  head_reads h w ws = (timers_reads P (λ v i is x k at long. h (timers i k)) ws, (zone_reads P (λ v apex is x serial at mode. h (zone apex serial mode)) ws, (link_reads P (λ v u is x domain at most. h (link u domain most)) ws, (reverse_reads P (λ v u is x domain at. h (reverse u domain)) ws, tt))))
 
   pub hub_reads : ((event : HubEvent) → P (hub_event event)) → (w : Word) (ws : List Word) → EachReads P ws (hub_kinds w)
   hub_reads h w ws = (at_reads P (λ v t is. h (hub_events.At t)) ws, (octets_reads P (λ o. hub_event (hub_events.Update o)) (λ v o is. h (hub_events.Update o)) ws, (alone_reads P (hub_event hub_events.Point) (h hub_events.Point) ws, tt)))

@@ -1,7 +1,6 @@
--- Each domain is a name.
-use Rattle.linkcache.specs.Links.{LinkKept}
-use Rattle.history.proofs.TellingNames.{named-turn}
+-- One link more tells its names.
+use Rattle.history.proofs.TellingNames.{links-turn}
 use Rattle.history.proofs.link_lists.tell_links.Goals as goal
 
 pub links-preserved : goal.links-preserved
-links-preserved c = named-turn (λ (l : LinkKept). l.state.rules.domain) c.args.links.now c.links.link-index c.link-item.result c.domain.result.now c.links-test.true c.link-item.is c.domain.ensures c.octets.ensures.name c.links.invariant
+links-preserved c = links-turn c.args.links.now c.links.link-index c.link-item.result c.links-test.true c.link-item.is c.rows.ensures.link c.links.invariant

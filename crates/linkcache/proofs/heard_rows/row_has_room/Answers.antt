@@ -15,7 +15,7 @@ size_under-requires c = subst (AreLinkRows c.args.rules.now) (sym c.at.ensures) 
 
 pub returns : goal.returns
 returns c =
-    room_is (nat_lt (length c.args.work.now.rows + c.args.others) max_rows) c.saturating_add.result c.in_ok-size.size _ c.rr_size-added.result _
+    room_is (nat_lt (length c.args.work.now.rows + c.args.others) max_rows) c.saturating_add.result c.in_ok-taken.taken _ c.in_ok-added.added _
     (ap (λ n. nat_lt (n + c.args.others) max_rows) (sym c.len.ensures) ∙ sym c.are_few.ensures ∙ c.if-not-are_few.false) c.saturating_add.ensures
-    (c.in_ok-size.ensures ∙ ap (λ (l : LinkRows). counted (sum_by (λ row. rr_size (renamed_rr local c.args.rules.now.domain (rr_of_row row))) l)) c.at.ensures)
-    (c.rr_size-added.ensures ∙ ap rr_size c.in_ok-translated.ensures)
+    (c.in_ok-taken.ensures ∙ ap (λ (l : LinkRows). counted (sum_by (λ row. rr_size (renamed_rr local c.args.rules.now.domain (rr_of_row row))) l)) c.at.ensures)
+    c.in_ok-added.ensures

@@ -13,10 +13,10 @@ use Rattle.pushserver.proofs.querying.reply_at.Goals as goal
 
 pub write_reply_to-requires-clause-records : goal.write_reply_to-requires-clause-records
 write_reply_to-requires-clause-records c =
-    let same = c.blocks-2.ensures.rows ∙ ap (λ (t : NodesState Shown). t.rows) c.table.ensures in
+    let same = c.blocks-2.ensures.rows ∙ ap (λ (t : NodesState Shown). t.rows) c.table.ensures ∙ c.index.ensures in
     let order = subst (λ (rows : RecordSet). Rising rows) same (rising-all_rows (nodes_in c.blocks-2.result.now) c.blocks-2.ensures.nodes) in
     told-replied c.args.index.now.rows (is_true (is_in_order c.args.index.now.rows) order) c.requires.told
 
 pub returns-clause-octets : goal.returns-clause-octets
 returns-clause-octets c = λ same.
-    reply-is (past_state c.args.points.now.past) (state_of c.homes.result.now) c.args.index.now.rows c.args.message.now c.new-reply.result.items _ c.new-reply.ensures.items c.in_ok-write_reply_to.ensures.octets c.homes.ensures same
+    reply-is (past_state c.args.points.now.past) (state_of c.homes.result.now) c.args.index.now.rows c.args.message.now c.in_ok-reply.reply.items _ c.in_ok-reply.ensures.items c.in_ok-write_reply_to.ensures.octets c.homes.ensures same

@@ -1,11 +1,12 @@
 -- A session that goes on: it reacts to its first message, or packs a PUSH.
-use Rattle.std.proofs.Common.{Option, Some, length, sym, ap, ◌∙◌}
+use Rattle.std.proofs.Common.{Option, Some, length, sym, ap, subst, ◌∙◌}
 use Rattle.rrset.specs.declared.record.Rr.{Rr}
 use Rattle.history.specs.Kept.{state_now as past_state}
 use Rattle.history.specs.States.{records}
 use Rattle.pushsession.specs.declared.request.Request.{Request}
 use Rattle.pushsession.specs.declared.request.Request.TheVariants as requests
 use Rattle.pushserver.specs.Giving.{given_after}
+use Rattle.pushserver.specs.Rows.{AreTold}
 use Rattle.subscr.specs.Watching.{watching_of}
 use Rattle.pushserver.proofs.Replying.{watches-so}
 use Rattle.pushserver.proofs.SessionTurns.{HandsOn, moment-is, can_be_told, packed-gave, itself-gave, subscribe-gave, query-gave, no_record-gave}
@@ -14,12 +15,12 @@ use Rattle.pushserver.proofs.turning.work.Goals.{in-Itself, in-Reconfirm-None, i
 
 pub returns-in_default-clause-ok : goal.returns-in_default-clause-ok
 returns-in_default-clause-ok g c = λ kept number seat.
-    packed-gave number kept c.args.session.now seat.there seat.apart c.requires.live c.requires.silent c.args.index.now.rows c.now-now.result c.copy_output.result c.args.buf.now c.copy_output.new.buf c.pack.new.self c.copy_output.new.session
-    (sym c.in_ok-request.ensures.request ∙ c.in_default.is) seat.rows_is (moment-is kept (past_state c.args.points.now.past) c.now-now.result seat.state_is c.now-now.ensures) c.pack.ensures
+    packed-gave number kept c.args.session.now seat.there seat.apart c.requires.live c.requires.silent c.index-rows.result.now.rows c.now-now.result c.copy_output.result c.args.buf.now c.copy_output.new.buf c.pack.new.self c.copy_output.new.session
+    (sym c.in_ok-request.ensures.request ∙ c.in_default.is) (c.index-rows.ensures ∙ seat.rows_is) (moment-is kept (past_state c.args.points.now.past) c.now-now.result seat.state_is c.now-now.ensures) c.pack.ensures
     (record { given_is = c.copy_output.ensures.given; octets = c.copy_output.ensures.octets; session = c.copy_output.ensures.session })
 
 pub subscribe-requires-clause-told : goal.subscribe-requires-clause-told
-subscribe-requires-clause-told g c = can_be_told c.in-Subscribe.question c.has_home-has_home.result c.args.index.now.rows c.requires.told
+subscribe-requires-clause-told g c = can_be_told c.in-Subscribe.question c.has_home-has_home.result c.index-rows.result.now.rows (subst AreTold (sym c.index-rows.ensures) c.requires.told)
 
 pub returns-clause-ok : goal.returns-clause-ok
 returns-clause-ok g c = λ kept number seat.
@@ -36,8 +37,8 @@ returns-clause-ok g c = λ kept number seat.
           query-gave number kept c.args.session.now seat.there seat.apart c.requires.live c.requires.silent (past_state c.args.points.now.past) c.after_reaction.result c.args.buf.now c.after_reaction.new.buf c.match-request.session c.after_reaction.new.session
           (sym c.in_ok-request.ensures.request ∙ c.in-Some.is ∙ ap (λ (r : Request). Some r) w.in-Query.is) seat.state_is (w.session-is ∙ w.in_ok-answer_query-in-Query.ensures.ok (seat.rows_is ∙ ap records seat.state_is)) on
       | in-Subscribe+in_ok-subscribe-in-Subscribe w ↦
-          subscribe-gave number kept c.args.session.now seat.there seat.apart c.requires.live c.requires.silent w.in-Subscribe.question w.has_home-has_home.result c.args.index.now.rows c.now-now.result c.after_reaction.result c.args.buf.now c.after_reaction.new.buf c.match-request.session c.after_reaction.new.session
-          (sym c.in_ok-request.ensures.request ∙ c.in-Some.is ∙ ap (λ (r : Request). Some r) w.in-Subscribe.is) (w.has_home-has_home.ensures kept seat.state_is) seat.rows_is moment (w.session-is ∙ w.in_ok-subscribe-in-Subscribe.ensures.ok) on
+          subscribe-gave number kept c.args.session.now seat.there seat.apart c.requires.live c.requires.silent w.in-Subscribe.question w.has_home-has_home.result c.index-rows.result.now.rows c.now-now.result c.after_reaction.result c.args.buf.now c.after_reaction.new.buf c.match-request.session c.after_reaction.new.session
+          (sym c.in_ok-request.ensures.request ∙ c.in-Some.is ∙ ap (λ (r : Request). Some r) w.in-Subscribe.is) (w.has_home-has_home.ensures kept seat.state_is) (c.index-rows.ensures ∙ seat.rows_is) moment (w.session-is ∙ w.in_ok-subscribe-in-Subscribe.ensures.ok) on
     ]
 
 pub returns-clause-watched : goal.returns-clause-watched

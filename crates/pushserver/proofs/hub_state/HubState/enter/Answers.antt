@@ -2,9 +2,10 @@
 use Rattle.std.proofs.Common.{ℕ, ◌+◌, List, length, refl, sym, ap, subst, ◌∙◌}
 use Rattle.rrset.specs.RecordSet.{with_changes}
 use Rattle.rrset.specs.declared.record.Changed.{Changed}
-use Rattle.nametable.specs.Nodes.{HasRoomFor, HaveRisingKeys, keys_put}
+use Rattle.nametable.specs.Nodes.{HaveRisingKeys}
+use Rattle.recordindex.specs.Owners.{HasRoomForChanges}
 use Rattle.zoneupdate.proofs.Plans.{HaveLowerKeys}
-use Rattle.history.specs.Kept.{Appends, PointsKept, state_now}
+use Rattle.history.specs.Kept.{PointsKept, state_now}
 use Rattle.history.specs.States.{records, entry_size}
 use Rattle.pushsession.specs.Kept.{KeptSession, keeping, taken_back}
 use Rattle.pushserver.specs.Behind.{ended_from}
@@ -70,7 +71,7 @@ reserve_for-requires-clause-order g c = subst HaveRisingKeys (sym (c.as_slice.en
 
 pub make_changes-requires-clause-room : goal.make_changes-requires-clause-room
 make_changes-requires-clause-room g c =
-    subst (λ (changed : List Changed). HasRoomFor (keys_put changed) c.reserve_for.new.self.nodes) (c.as_slice.ensures ∙ sym c.into_vec.ensures) c.in_ok-reserve_for.ensures.room
+    subst (λ (changed : List Changed). HasRoomForChanges changed c.reserve_for.new.self) (c.as_slice.ensures ∙ sym c.into_vec.ensures) c.in_ok-reserve_for.ensures.room
 
 pub make_changes-requires-clause-lower : goal.make_changes-requires-clause-lower
 make_changes-requires-clause-lower g c = subst HaveLowerKeys (sym (c.into_vec.ensures ∙ c.requires.changes)) (entry-lower (state_now c.args.self.now.points.past) c.args.entry c.requires.sound.home)

@@ -1,0 +1,26 @@
+use Rattle.std.proofs.Common.{List, [], subst, sym}
+use Rattle.rrset.specs.declared.record.Key.{Key}
+use Rattle.nametable.specs.Nodes.{HasRoomFor, keys_put}
+use Rattle.nametable.proofs.KeyRoom.{keys_put-some, keys_put-none, room-first, room-left, room-more}
+use Rattle.recordindex.specs.Owners.{AreOwners}
+use Rattle.recordindex.proofs.OwnerChanges.{owners-put}
+use Rattle.recordindex.proofs.changing.make_change.Goals as goal
+
+pub put_in_room-requires-clause-room : goal.put_in_room-requires-clause-room
+put_in_room-requires-clause-room g c =
+    room-first c.args.change.key [] c.args.index.now.nodes (subst (λ (ks : List Key). HasRoomFor ks c.args.index.now.nodes) (keys_put-some c.args.change [] c.in-Some.shown c.in-Some.is) c.requires.room)
+
+pub returns-in-Some-clause-left : goal.returns-in-Some-clause-left
+returns-in-Some-clause-left g c = λ others room.
+    room-left c.args.change.key (keys_put others) c.args.index.now.nodes c.put_in_room.new.index.nodes
+    (subst (λ (ks : List Key). HasRoomFor ks c.args.index.now.nodes) (keys_put-some c.args.change others c.in-Some.shown c.in-Some.is) room) c.put_in_room.ensures.here c.put_in_room.ensures.others
+
+pub returns-in-Some-clause-owners : goal.returns-in-Some-clause-owners
+returns-in-Some-clause-owners g c =
+    subst (AreOwners c.put.new.self.owners) (sym c.put_in_room.ensures.rows)
+    (owners-put c.args.suffixes.now.owners c.put.new.self.owners c.args.change.key c.in-Some.shown c.args.index.now.rows c.requires.owners c.put.ensures.owners)
+
+pub returns-clause-left : goal.returns-clause-left
+returns-clause-left g c = λ others room.
+    room-more (keys_put others) c.args.index.now.nodes c.take_out.new.index.nodes c.take_out.ensures.room
+    (subst (λ (ks : List Key). HasRoomFor ks c.args.index.now.nodes) (keys_put-none c.args.change others c.in-None.is) room)

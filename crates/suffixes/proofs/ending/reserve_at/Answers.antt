@@ -1,0 +1,33 @@
+use Rattle.std.proofs.Common.{◌≡◌, ℕ, true, List, None, refl, sym, ap, subst, ◌∙◌}
+use Rattle.suffixes.specs.Endings.{IsLowerName, Reserves, ending_at, is_among, room_of}
+use Rattle.suffixes.proofs.Changes.{among-some}
+use Rattle.suffixes.proofs.Keeping.{inserted, none-there, place-inserted, reserves-same}
+use Rattle.suffixes.proofs.ending.reserve_at.Goals as goal
+
+pub returns-then-contains_key-clause-kept : goal.returns-then-contains_key-clause-kept
+returns-then-contains_key-clause-kept c = reserves-same c.args.endings.now.entries
+
+pub returns-then-contains_key-clause-room : goal.returns-then-contains_key-clause-room
+returns-then-contains_key-clause-room c = among-some c.args.name.now c.args.endings.now.entries ∙ sym c.contains_key.ensures ∙ c.if-contains_key.true
+
+pub returns-in_err-octets-clause-kept : goal.returns-in_err-octets-clause-kept
+returns-in_err-octets-clause-kept c = reserves-same c.args.endings.now.entries
+
+pub returns-in_err-insert-clause-kept : goal.returns-in_err-insert-clause-kept
+returns-in_err-insert-clause-kept c = subst (Reserves c.args.endings.now.entries) (sym c.in_err-insert.ensures.err) (reserves-same c.args.endings.now.entries)
+
+pub returns-clause-kept : goal.returns-clause-kept
+returns-clause-kept c =
+    let spelled : c.in_ok-octets.octets.items ≡ c.args.name.now = c.in_ok-octets.ensures.items in
+    let none : ending_at c.in_ok-octets.octets.items c.args.endings.now.entries ≡ None =
+    ap (λ (os : List ℕ). ending_at os c.args.endings.now.entries) spelled ∙ none-there (ending_at c.args.name.now c.args.endings.now.entries) (sym c.contains_key.ensures ∙ c.if-contains_key.false) in
+    subst (Reserves c.args.endings.now.entries) (sym c.in_ok-insert.ensures.entries)
+    (inserted c.in_ok-octets.octets _ refl refl c.args.endings.now.entries none (subst IsLowerName (sym spelled) c.requires))
+
+pub returns-clause-room : goal.returns-clause-room
+returns-clause-room c =
+    let spelled : c.in_ok-octets.octets.items ≡ c.args.name.now = c.in_ok-octets.ensures.items in
+    let none : ending_at c.in_ok-octets.octets.items c.args.endings.now.entries ≡ None =
+    ap (λ (os : List ℕ). ending_at os c.args.endings.now.entries) spelled ∙ none-there (ending_at c.args.name.now c.args.endings.now.entries) (sym c.contains_key.ensures ∙ c.if-contains_key.false) in
+    subst (λ (os : List ℕ). is_among os (room_of c.insert.new.self.entries) ≡ true) spelled
+    (subst (λ kept. is_among c.in_ok-octets.octets.items (room_of kept) ≡ true) (sym c.in_ok-insert.ensures.entries) (place-inserted c.in_ok-octets.octets _ c.args.endings.now.entries none))

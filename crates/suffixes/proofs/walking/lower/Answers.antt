@@ -1,0 +1,23 @@
+use Rattle.std.proofs.Common.{◌≡◌, ◌<◌, length, sym, subst, arith}
+use Rattle.suffixes.specs.Endings.{Kept}
+use Rattle.suffixes.proofs.Walks.{Lowered, lowered-end, lowered-first, lowered-more}
+use Rattle.suffixes.proofs.walking.lower.Goals as goal
+
+pub ends-init : goal.ends-init
+ends-init c = subst (Lowered c.args.endings.now.entries c.args.endings.now.entries c.args.owner.now) (sym c.octets-rest.ensures.octets) (lowered-first c.args.endings.now.entries c.args.owner.now c.requires)
+
+pub split_at-requires : goal.split_at-requires
+split_at-requires c =
+    let some : 0 < length c.ends.rest.now = grind arith in
+    (lowered-more c.args.endings.now.entries c.ends.endings.entries c.args.owner.now c.ends.rest.now c.ends.invariant (omega arith)).1
+
+pub ends-preserved : goal.ends-preserved
+ends-preserved c =
+    let some : 0 < length c.ends.rest.now = grind arith in
+    let more = (lowered-more c.args.endings.now.entries c.ends.endings.entries c.args.owner.now c.ends.rest.now c.ends.invariant (omega arith)).0 in
+    subst (λ (kept : Kept). Lowered c.args.endings.now.entries kept c.args.owner.now c.split_at.result.1.now) (sym c.lower_at.ensures) (rw c.split_at.ensures.back more)
+
+pub returns-clause-counts : goal.returns-clause-counts
+returns-clause-counts c =
+    let none : length c.ends.rest.now ≡ 0 = grind arith in
+    lowered-end c.args.endings.now.entries c.ends.endings.entries c.args.owner.now c.ends.rest.now c.ends.invariant none

@@ -1,0 +1,32 @@
+use Rattle.std.proofs.Common.{◌≡◌, ◌<◌, length, sym, subst, arith}
+use Rattle.suffixes.proofs.Walks.{Reserved, reserved-end, reserved-first, reserved-more, reserved-name, reserves-twice}
+use Rattle.suffixes.proofs.walking.reserve.Goals as goal
+
+pub ends-init : goal.ends-init
+ends-init c = subst (Reserved c.args.endings.now.entries c.args.endings.now.entries c.args.owner.now) (sym c.octets-rest.ensures.octets) (reserved-first c.args.endings.now.entries c.args.owner.now (c.octets-rest.ensures.name, c.requires))
+
+pub reserve_at-requires : goal.reserve_at-requires
+reserve_at-requires c =
+    let some : 0 < length c.ends.rest.now = grind arith in
+    reserved-name c.args.endings.now.entries c.ends.endings.entries c.args.owner.now c.ends.rest.now c.ends.invariant (omega arith)
+
+pub returns-in_err-reserve_at-clause-kept : goal.returns-in_err-reserve_at-clause-kept
+returns-in_err-reserve_at-clause-kept c = reserves-twice c.args.endings.now.entries c.ends.endings.entries c.reserve_at.new.endings.entries c.ends.invariant.stays c.reserve_at.ensures.kept
+
+pub split_at-requires : goal.split_at-requires
+split_at-requires c =
+    let some : 0 < length c.ends.rest.now = grind arith in
+    (reserved-more c.args.endings.now.entries c.ends.endings.entries c.reserve_at.new.endings.entries c.args.owner.now c.ends.rest.now c.ends.invariant (omega arith) c.reserve_at.ensures.kept c.in_ok-reserve_at.ensures.room).1
+
+pub ends-preserved : goal.ends-preserved
+ends-preserved c =
+    let some : 0 < length c.ends.rest.now = grind arith in
+    rw c.split_at.ensures.back (reserved-more c.args.endings.now.entries c.ends.endings.entries c.reserve_at.new.endings.entries c.args.owner.now c.ends.rest.now c.ends.invariant (omega arith) c.reserve_at.ensures.kept c.in_ok-reserve_at.ensures.room).0
+
+pub returns-clause-kept : goal.returns-clause-kept
+returns-clause-kept c = c.ends.invariant.stays
+
+pub returns-clause-room : goal.returns-clause-room
+returns-clause-room c =
+    let none : length c.ends.rest.now ≡ 0 = grind arith in
+    reserved-end c.args.endings.now.entries c.ends.endings.entries c.args.owner.now c.ends.rest.now c.ends.invariant none
