@@ -36,7 +36,7 @@ use Rattle.configurations.specs.declared.server_config.ServeConfiguration.{Serve
 use Rattle.serving.specs.declared.serve_end.ServeEnd.{ServeEnd}
 use Rattle.serving.specs.declared.serve_end.ServeEnd.TheVariants as ends
 use Rattle.hublock.specs.Registers.{Ending}
-use Rattle.hublock.specs.declared.loop_end.LoopEnd.{LoopEnd}
+use Rattle.hubloops.specs.declared.loop_end.LoopEnd.{LoopEnd}
 use Rattle.serving.specs.Ends.{EndsFor, IsRegistered}
 use Rattle.serving.specs.Jobs.{jobs_of}
 use Rattle.serving.specs.Serving.{Accepts, CountsBy, CountsFault, Starts, has_fault, is_full_run}

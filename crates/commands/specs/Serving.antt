@@ -17,7 +17,7 @@ use Rattle.push_base.specs.declared.role.Role.{Role}
 use Rattle.push_outside.specs.Outside.{Telling, Used, Adds, AddsTold, AddsSome}
 use Rattle.hubasking.specs.AskingHubs.{AskingHub, new_asking}
 use Rattle.hublock.specs.Registers.{Ending, entered}
-use Rattle.hublock.specs.declared.loop_end.LoopEnd.{LoopEnd}
+use Rattle.hubloops.specs.declared.loop_end.LoopEnd.{LoopEnd}
 use Rattle.scripts.specs.Heads.{Head}
 use Rattle.scripts.specs.Lines.{Word}
 use Rattle.scripts.specs.Sources.{front_read}

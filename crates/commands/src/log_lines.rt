@@ -1,7 +1,7 @@
 //! What is logged of a server as a whole.
 
 use configurations::{FedLink, ServeConfiguration};
-use log::{Log, error, info};
+use log::{Level, Log, info, log};
 use serving::ServeEnd;
 
 /// The links that a server is to hear.
@@ -25,9 +25,23 @@ pub(crate) fn tell_listening<R: Log>(rt: &R, address: &String) {
 
 /// How a server ended.
 pub(crate) fn tell_server_end<R: Log>(rt: &R, end: ServeEnd) {
+    let words = words_of(end);
+    log!(rt; level_of(end), "{words}");
+}
+
+// A server that serves no more is an error.
+fn level_of(end: ServeEnd) -> Level {
     match end {
-        ServeEnd::Served(_) => info!(rt; "all sessions are over"),
-        ServeEnd::OutsideFault => error!(rt; "the server ends for a fault of the system"),
-        ServeEnd::NoMemory => error!(rt; "the server ends for want of memory"),
+        ServeEnd::Served(_) => Level::Info,
+        ServeEnd::OutsideFault | ServeEnd::NoMemory => Level::Error,
+    }
+}
+
+// A server's end in words.
+fn words_of(end: ServeEnd) -> &'static str {
+    match end {
+        ServeEnd::Served(_) => "all sessions are over",
+        ServeEnd::OutsideFault => "the server ends for a fault of the system",
+        ServeEnd::NoMemory => "the server ends for want of memory",
     }
 }

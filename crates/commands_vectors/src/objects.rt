@@ -1,6 +1,6 @@
 //! The objects of a run in memory, and which of their calls fail.
 
-ghost use Rattle.std.specs.Prelude.{◌<◌, length, All, IfOk};
+ghost use Rattle.std.specs.Prelude.{◌<◌, length, All, IfOk, OnOk};
 ghost use Rattle.push_base.specs.Items.{HasOctets};
 ghost use Rattle.push_outside.specs.MemOutside.{AreNewLinks, IsNewClock, IsNewDoors, IsNewPair, IsNewSource, IsNewStarter};
 
@@ -162,9 +162,8 @@ fn listeners(
     if !is_there(fault, matches!(fault.call, Call::Listen)) {
         return Ok(Vec::new(alloc));
     }
-    let sessions = sessions(alloc, run, fault)?;
     let fails = times(alloc, fault, matches!(fault.call, Call::Accept))?;
-    Ok(vec![in alloc; MemDoors::new(sessions, fails)]?)
+    Ok(vec![in alloc; MemDoors::new(sessions(alloc, run, fault)?, fails)]?)
 }
 
 fn connections(
@@ -205,47 +204,27 @@ fn starters(alloc: Global, fault: &Fault<'_>) -> Result<Vec<MemStarter>, AllocEr
     Ok(vec![in alloc; MemStarter::new(alloc, fails)]?)
 }
 
-// What any command reaches beside what it opens, accepts and dials.
-fn with_connections(
-    alloc: Global,
-    fault: &Fault<'_>,
-    files: Vec<MemSource>,
-    listeners: Vec<MemDoors<MemLine, MemSink>>,
-    connections: Vec<(MemLine, MemSink)>,
-) -> Result<MemOutside, AllocError>
-    requires files { All IsNewSource files.items }
-    requires listeners { All IsNewDoors listeners.items }
-    requires connections { All IsNewPair connections.items }
-{
-    let clocks = clocks(alloc)?;
-    let starters = starters(alloc, fault)?;
-    let feeds = feeds(alloc, fault)?;
-    Ok(MemOutside::new(
-        alloc,
-        MemObjects {
-            files,
-            listeners,
-            connections,
-            feeds,
-            clocks,
-            starters,
-        },
-    ))
-}
-
-// What it reaches beside what it opens and accepts.
-fn with_listeners(
+// All that any command reaches.
+fn fill(
     alloc: Global,
     run: &Run,
     fault: &Fault<'_>,
-    files: Vec<MemSource>,
-    listeners: Vec<MemDoors<MemLine, MemSink>>,
-) -> Result<MemOutside, AllocError>
-    requires files { All IsNewSource files.items }
-    requires listeners { All IsNewDoors listeners.items }
+    objects: &mut MemObjects,
+) -> Result<(), AllocError>
+    ensures files { OnOk result (All IsNewSource objects.new.files.items) }
+    ensures listeners { OnOk result (All IsNewDoors objects.new.listeners.items) }
+    ensures connections { OnOk result (All IsNewPair objects.new.connections.items) }
+    ensures feeds { OnOk result (All AreNewLinks objects.new.feeds.items) }
+    ensures clocks { OnOk result (All IsNewClock objects.new.clocks.items) }
+    ensures starters { OnOk result (All IsNewStarter objects.new.starters.items) }
 {
-    let connections = connections(alloc, run, fault)?;
-    with_connections(alloc, fault, files, listeners, connections)
+    objects.files = files(alloc, run, fault)?;
+    objects.listeners = listeners(alloc, run, fault)?;
+    objects.connections = connections(alloc, run, fault)?;
+    objects.feeds = feeds(alloc, fault)?;
+    objects.clocks = clocks(alloc)?;
+    objects.starters = starters(alloc, fault)?;
+    Ok(())
 }
 
 /// An outside with all that any command reaches.
@@ -254,7 +233,7 @@ pub(crate) fn outside(
     run: &Run,
     fault: &Fault<'_>,
 ) -> Result<MemOutside, AllocError> {
-    let files = files(alloc, run, fault)?;
-    let listeners = listeners(alloc, run, fault)?;
-    with_listeners(alloc, run, fault, files, listeners)
+    let mut objects = MemObjects::none(alloc);
+    fill(alloc, run, fault, &mut objects)?;
+    Ok(MemOutside::new(alloc, objects))
 }

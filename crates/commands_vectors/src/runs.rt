@@ -185,6 +185,22 @@ const NONE: Fault<'_> = Fault {
     time: 0,
 };
 
+// Whether a run over these objects ends as is wanted.
+fn runs_over<R: Log + Threads + Wait + Copy + Send + 'static>(
+    rt: R,
+    alloc: Global,
+    run: &Run,
+    time: u64,
+    wanted: &Wanted,
+    input: &mut MemSource,
+    out: &mut MemSink,
+    outside: &mut MemOutside,
+) -> Result<(), Fail> {
+    let status = status_of(rt, alloc, run.words, input, out, outside)?;
+    let is_met = is_met(input, out, outside);
+    shows(run, time, wanted, is_met, status, out.taken())
+}
+
 // Whether a run over this outside ends as is wanted.
 fn runs_so<R: Log + Threads + Wait + Copy + Send + 'static>(
     rt: R,
@@ -196,9 +212,8 @@ fn runs_so<R: Log + Threads + Wait + Copy + Send + 'static>(
 ) -> Result<(), Fail> {
     let mut input = source(alloc, run, fault)?;
     let mut out = printed(alloc, fault)?;
-    let status = status_of(rt, alloc, run.words, &mut input, &mut out, outside)?;
-    let is_met = is_met(&input, &out, outside);
-    shows(run, fault.time, wanted, is_met, status, out.taken())
+    let time = fault.time;
+    runs_over(rt, alloc, run, time, wanted, &mut input, &mut out, outside)
 }
 
 /// Whether a run of which this fails ends as is wanted.

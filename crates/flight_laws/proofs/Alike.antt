@@ -19,7 +19,7 @@ use Rattle.pushserver.specs.ToldMessages.{records_noted}
 use Rattle.rrset.proofs.Sets.{both_true}
 use Rattle.std.proofs.lemmas.List.Elements.{filter_agree}
 use Rattle.pushserver.proofs.Queues.{point_in-same, same_name-octets}
-use Rattle.pushserver.proofs.SessionLists.{same-number}
+use Rattle.livesessions.proofs.SessionLists.{same-number}
 use Rattle.pushserver.proofs.session_steps.Names.{at_name-alike}
 
 module _ (a b : Question) (same : same_question a b ≡ true) where

@@ -27,7 +27,7 @@ use Rattle.pushserver.specs.Calls.{after_calls}
 use Rattle.pushserver.specs.Giving.{has_home, known_at}
 use Rattle.pushserver.specs.Hubs.{newest, now, state_now, keeps_now, tells_now, in_session, update}
 use Rattle.pushserver.specs.PlainHubs.{Hub, Session, Subscription, Queue, Made, frame_of, size_of_made, plain_keeps, new_hub}
-use Rattle.pushserver.proofs.SessionLists.{each-changed}
+use Rattle.livesessions.proofs.SessionLists.{each-changed}
 use Rattle.pushserver.proofs.Subscribing.{verdict-holds}
 use Rattle.pushserver.proofs.Walks.{AnyMessage, bring_any, Step, restarts, reacts, answers_subscribe, answers_update, answers_query, packs_names, comes_to_stop, ends_with, copies_front, IsKept, keeps-calls}
 use Rattle.pushserver.proofs.hub_steps.Cases.{itself_as}

@@ -24,7 +24,7 @@ use Rattle.pushserver.specs.declared.given.Given.TheVariants.{Worked}
 use Rattle.pushserver.specs.Hubs.{newest, now, state_now, keeps_now, session_of, in_session, entry_changes, behind_at, ended_behind, ends_behind, entered_keeping, can_enter}
 use Rattle.pushserver.specs.Giving.{is_served_at, reacted, did, bytes_of, given_of, copies, copies_or, given_after, after_reaction, by_standing, give}
 use Rattle.pushserver.specs.PlainHubs.{Session, Subscription, Hub, Giving, leaves_queue, note_of, first_answer}
-use Rattle.pushserver.proofs.SessionLists.{found-all, found-in, found-elsewhere}
+use Rattle.livesessions.proofs.SessionLists.{found-all, found-in, found-elsewhere}
 use Rattle.pushserver.proofs.hub_steps.Cases.{found_as, works_as, output_as, give_as, key_as}
 use Rattle.pushclient.specs.ServerMessages.{accepts as accepting, refuses, grants}
 use Rattle.inflight.specs.Messages.{ClientMessage, subscribes, unsubscribes, reconfirms, requests_keepalive, message_octets, Flying, made_of, flying_octets}

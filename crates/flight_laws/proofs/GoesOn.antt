@@ -16,7 +16,7 @@ use Rattle.pushserver.specs.declared.given.Given.TheVariants.{Worked, Nothing, E
 use Rattle.pushserver.specs.Giving.{did, bytes_of, given_of, given_after, copies, copies_or, by_standing, give}
 use Rattle.pushserver.specs.Hubs.{now, keeps_now, tells_now, session_of, in_session}
 use Rattle.pushserver.specs.PlainHubs.{Session, Hub, Giving}
-use Rattle.pushserver.proofs.SessionLists.{found-in}
+use Rattle.livesessions.proofs.SessionLists.{found-in}
 use Rattle.pushserver.proofs.hub_steps.Cases.{found_as, works_as, output_as, give_as}
 use Rattle.pushclient.specs.Clients.{Client, Connection, closed_as}
 use Rattle.pushclient.specs.ServerMessages.{ServerMessage, accepts, refuses, grants, tells, delays}

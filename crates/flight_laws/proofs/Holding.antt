@@ -12,7 +12,7 @@ use Rattle.dsosession.specs.declared.session.Timers.{Timers}
 use Rattle.dsotlv.specs.Notices.{applied_all}
 use Rattle.pushserver.specs.PlainHubs.{Hub, Subscription, Made, frame_of, size_of_made}
 use Rattle.pushserver.specs.ToldMessages.{IsRightAfter, set_after, notices_since, records_noted}
-use Rattle.pushserver.proofs.SessionLists.{same-number}
+use Rattle.livesessions.proofs.SessionLists.{same-number}
 use Rattle.pushserver.proofs.hub_steps.Pairs.{all-weaken}
 use Rattle.pushserver.proofs.session_steps.Lists.{each-both}
 use Rattle.pushtelling.proofs.Joining.{tells-taken}

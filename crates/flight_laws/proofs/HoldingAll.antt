@@ -10,7 +10,7 @@ use Rattle.rrset.specs.Records.{same_question}
 use Rattle.dsotlv.specs.Notices.{applied_all}
 use Rattle.pushserver.specs.PlainHubs.{Hub, Session, Subscription, sent}
 use Rattle.pushserver.specs.ToldMessages.{set_after, notices_since}
-use Rattle.pushserver.proofs.SessionLists.{same-number, number-itself}
+use Rattle.livesessions.proofs.SessionLists.{same-number, number-itself}
 use Rattle.pushserver.proofs.hub_steps.Pairs.{all-weaken}
 use Rattle.pushserver.proofs.session_steps.Lists.{each-both}
 use Rattle.pushclient.specs.Clients.{Wish, RequestState, not_asked, unanswered, refused, answered}

@@ -6,7 +6,7 @@ use Rattle.std.proofs.lemmas.List.{take_min}
 use Rattle.pushsession.specs.Sessions.{room_of as session_room, with_piece}
 use Rattle.pushserver.specs.Hubs.{session_of, taken_by, take_octets}
 use Rattle.pushserver.specs.PlainHubs.{Session}
-use Rattle.pushserver.proofs.SessionLists.{found-in}
+use Rattle.livesessions.proofs.SessionLists.{found-in}
 use Rattle.pushclient.specs.Clients.{Connection, room_of, take_octets as client_takes, give_octets as client_gives}
 use Rattle.inflight.specs.Flight.{IsUnderWay}
 use Rattle.flight_laws.specs.GoesOn.{AreTheSame, SessionsTakeOctets, ClientsTakeOctets, ClientsGiveOctets}

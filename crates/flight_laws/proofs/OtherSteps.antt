@@ -20,7 +20,7 @@ use Rattle.pushserver.specs.Laws.{LeavesSession}
 use Rattle.pushserver.specs.PlainHubs.{Session, Hub, plain_keeps}
 use Rattle.pushserver.proofs.OtherSessions.{give_changes_one_session}
 use Rattle.pushserver.proofs.Walks.{AnyMessage, timed-kept, holds-update, holds-hear, holds-going, holds-moment}
-use Rattle.pushserver.proofs.SessionLists.{found-all, found-elsewhere, found-in, found-last, found-left}
+use Rattle.livesessions.proofs.SessionLists.{found-all, found-elsewhere, found-in, found-last, found-left}
 use Rattle.pushclient.specs.Clients.{Client, Connection}
 use Rattle.inflight.specs.Ends.{ends_of, going_up, going_down}
 use Rattle.inflight.specs.Flight.{InFlight, IsUnderWay}

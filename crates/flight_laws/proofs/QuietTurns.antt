@@ -22,7 +22,7 @@ use Rattle.pushserver.specs.declared.given.Given.TheVariants.{Nothing, Worked, E
 use Rattle.pushserver.specs.Hubs.{newest, now, keeps_now, tells_now, session_of, in_session}
 use Rattle.pushserver.specs.Giving.{give, did, copies, copies_or, given_after, after_reaction, after_packing, works, by_standing, reacted}
 use Rattle.pushserver.specs.PlainHubs.{Session, Subscription, Queue, Hub, Giving, asks_for, sent_of, shown_of, nets_of, told, note_of}
-use Rattle.pushserver.proofs.SessionLists.{found-in}
+use Rattle.livesessions.proofs.SessionLists.{found-in}
 use Rattle.pushclient.specs.Clients.{Client, Connection}
 use Rattle.pushclient.specs.ServerMessages.{tells, delays, server_octets}
 use Rattle.inflight.specs.Messages.{Flying, made_of, flying_octets}

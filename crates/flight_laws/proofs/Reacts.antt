@@ -31,7 +31,7 @@ use Rattle.pushsession.specs.declared.request.Request.TheVariants as requests
 use Rattle.pushserver.specs.PlainHubs.{Session, Subscription, Hub, plain_keeps, subscription_of, subscription_for, asked_of}
 use Rattle.pushserver.specs.Hubs.{newest, now, state_now, keeps_now, tells_now, session_of, in_session}
 use Rattle.pushserver.specs.Giving.{has_home, is_served_at, reconfirms as reconfirms_record, by_request, reacted}
-use Rattle.pushserver.proofs.SessionLists.{found-in, found-elsewhere, other-number}
+use Rattle.livesessions.proofs.SessionLists.{found-in, found-elsewhere, other-number}
 use Rattle.pushserver.proofs.hub_steps.Cases.{request_as, clocks_as, itself_as, session_as}
 use Rattle.inflight.specs.Messages.{ClientMessage, subscribes, unsubscribes, reconfirms, requests_keepalive, message_octets}
 use Rattle.inflight.specs.Ends.{is_id, is_question, taken_up}

@@ -7,7 +7,7 @@ use Rattle.std.proofs.lemmas.List.{append_assoc, append-nil, length-append}
 use Rattle.pushserver.specs.Calls.{HubCall, updates, hears, goes, moves, connects, takes, gives, stops, ends, called}
 use Rattle.pushserver.specs.Giving.{give}
 use Rattle.pushserver.specs.PlainHubs.{Session, Hub, Made, frame_of, size_of_made}
-use Rattle.pushserver.proofs.SessionLists.{number-itself}
+use Rattle.livesessions.proofs.SessionLists.{number-itself}
 use Rattle.pushtelling.specs.Runs.{hands_out, handed_out, WentOut}
 use Rattle.pushtelling.proofs.Running.{made_goes_out}
 use Rattle.pushclient.specs.Clients.{Client, Connection}

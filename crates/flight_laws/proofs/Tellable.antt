@@ -9,7 +9,7 @@ use Rattle.dsotlv.specs.declared.message.Notice.{Notice}
 use Rattle.pushserver.specs.Hubs.{newest, session_of}
 use Rattle.pushserver.specs.PlainHubs.{Session, Hub, first_answer}
 use Rattle.pushserver.specs.SoundHubs.{IsSoundHub, IsSoundSession}
-use Rattle.pushserver.proofs.SessionLists.{found-one}
+use Rattle.livesessions.proofs.SessionLists.{found-one}
 use Rattle.pushserver.proofs.hub_steps.Pairs.{all-weaken}
 use Rattle.pushtelling.proofs.Leading.{first_can_be_read}
 use Rattle.pushtelling.proofs.Pushing.{pack_can_be_read}

@@ -36,7 +36,7 @@ use Rattle.pushserver.specs.Hubs.{can_enter, each_session, entered_keeping, hear
 use Rattle.pushserver.specs.KeptHubs.{KeptHub, Forgets}
 use Rattle.pushserver.specs.declared.given.Heard.{Heard}
 use Rattle.pushserver.specs.declared.given.Heard.TheVariants.{Entered, Ignored}
-use Rattle.pushserver.proofs.SessionLists.{number-itself, same-number}
+use Rattle.livesessions.proofs.SessionLists.{number-itself, same-number}
 use Rattle.pushserver.proofs.hub_steps.Pairs.{zip-all}
 use Rattle.pushserver.proofs.hub_steps.Cases.{enters_hearing, hear_as, enters_going, enters_update, update_as, moment_as}
 use Rattle.hubasking.specs.KeptReasons.{HasBounds, HearingIs, Lowers, LowersFor, MatchesLink}

@@ -15,11 +15,11 @@ use Rattle.linkreasons.specs.AllReasons.{AllReasons, ReasonsOfLink, AreBoundsAt,
 use Rattle.linkreasons.specs.Laws.{AreAmong, FewerThenFewer}
 use Rattle.linkreasons.specs.declared.reason.Reason.{Reason}
 use Rattle.pushsession.specs.Kept.{KeptSession}
-use Rattle.pushserver.specs.Hubs.{Numbered, session_in, session_of, state_now}
-use Rattle.pushserver.specs.NumberedSessions.{AreApart}
+use Rattle.livesessions.specs.NumberedSessions.{Numbered, session_in, AreApart}
+use Rattle.pushserver.specs.Hubs.{session_of, state_now}
 use Rattle.pushserver.specs.PlainHubs.{Hub, Session}
 use Rattle.pushserver.specs.KeptHubs.{KeptHub, SessionStandsFor, StandsFor}
-use Rattle.pushserver.proofs.SessionLists.{same-number, number-itself}
+use Rattle.livesessions.proofs.SessionLists.{same-number, number-itself}
 use Rattle.hubasking.specs.KeptReasons.{CanFollow, HasBounds, StillAsks, reasons_of, rests, session_reasons}
 use Rattle.hubasking.specs.Following.{Clears, ClearsFound, LeadFrom, Rested}
 use Rattle.hubasking.proofs.Leading.{Sessions, AskFewer, among-append, lead-itself, lead-only}

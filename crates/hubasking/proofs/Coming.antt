@@ -21,7 +21,7 @@ use Rattle.linkreasons.specs.Laws.{AreAmong, AreSpelledAs, FollowsReasons, IsPla
 use Rattle.linkreasons.proofs.Spelling.{spelled-reasons}
 use Rattle.pushserver.specs.Hubs.{state_now}
 use Rattle.pushserver.specs.KeptHubs.{KeptHub}
-use Rattle.pushserver.proofs.SessionLists.{number-itself, other-number}
+use Rattle.livesessions.proofs.SessionLists.{number-itself, other-number}
 use Rattle.hubasking.specs.KeptReasons.{followed_from, session_reasons}
 use Rattle.hubasking.specs.LinkAskings.{confirmed_on, kept_questions, links_behind, questions_at, questions_in}
 use Rattle.hubasking.proofs.Leading.{AskFewer, Sessions, WantFrom, among-append, among-both, among-filter}

@@ -20,7 +20,7 @@ use Rattle.linkreasons.proofs.PlainQuestions.{all_append}
 use Rattle.linkreasons.proofs.Spelling.{all-among, spelled-doubted}
 use Rattle.pushserver.specs.Hubs.{state_now}
 use Rattle.pushserver.specs.KeptHubs.{KeptHub}
-use Rattle.pushserver.proofs.SessionLists.{number-itself, other-number}
+use Rattle.livesessions.proofs.SessionLists.{number-itself, other-number}
 use Rattle.hubasking.specs.KeptReasons.{followed_from, session_reasons}
 use Rattle.hubasking.specs.LinkAskings.{confirmed_on, kept_questions, links_behind, questions_at, questions_in}
 use Rattle.hubasking.proofs.Leading.{AskFewer, Sessions, WantFrom, among-filter, asked_with}

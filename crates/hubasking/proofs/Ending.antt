@@ -12,8 +12,9 @@ use Rattle.linkreasons.specs.AllReasons.{AllReasons, AreFollowed, KeepsBounds, a
 use Rattle.linkreasons.specs.Laws.{AreAmong, FewerThenFewer, FollowsReasons}
 use Rattle.linkreasons.specs.declared.reason.Reason.{Reason}
 use Rattle.pushsession.specs.Kept.{KeptSession}
-use Rattle.pushserver.specs.Hubs.{Numbered, disconnect, now, state_now}
-use Rattle.pushserver.specs.Hubs as hubs
+use Rattle.livesessions.specs.NumberedSessions.{Numbered}
+use Rattle.pushserver.specs.Hubs.{disconnect, now, state_now}
+use Rattle.livesessions.specs.NumberedSessions as numbered
 use Rattle.pushserver.specs.KeptHubs.{KeptHub, StandsFor}
 use Rattle.pushserver.specs.PlainHubs.{Hub}
 use Rattle.pushserver.proofs.hub_steps.Pairs.{zip-filter}
@@ -49,13 +50,13 @@ others-fewer number (e ∷ es) link question h = by (e.0 == number) (others-fewe
 
 module _ (k later : KeptHub) (number : ℕ) (r new : AllReasons) (kept : AreKept k r) (is : later ≡ disconnect k number) (ends : EndsWith number r new) where
   -- those of the others
-  left-ask : AllZip (StillAsks (disconnect k number)) (without_session number r.sessions) (hubs.without_session number k.sessions)
-  left-ask = subst (λ (s : Sessions). AllZip (StillAsks (disconnect k number)) (without_session number s) (hubs.without_session number k.sessions)) (sym kept.sessions)
+  left-ask : AllZip (StillAsks (disconnect k number)) (without_session number r.sessions) (numbered.without_session number k.sessions)
+  left-ask = subst (λ (s : Sessions). AllZip (StillAsks (disconnect k number)) (without_session number s) (numbered.without_session number k.sessions)) (sym kept.sessions)
       (zip-filter (StillAsks (disconnect k number)) (λ (e : ℕ × List Reason). not (e.0 == number)) (λ (e : ℕ × KeptSession). not (e.0 == number)) (λ x y both. ap (λ (n : ℕ). not (n == number)) both.0) (session_reasons (state_now k) k.sessions) k.sessions
       (still-ask (disconnect k number) (state_now k) (homes-itself (state_now k)) k.sessions k.sessions (asks-itself k.sessions)))
 
   asks : AllZip (StillAsks later) new.sessions later.sessions
-  asks = subst (λ (h : KeptHub). AllZip (StillAsks h) new.sessions h.sessions) (sym is) (subst (λ (s : Sessions). AllZip (StillAsks (disconnect k number)) s (hubs.without_session number k.sessions)) (sym ends.sessions) left-ask)
+  asks = subst (λ (h : KeptHub). AllZip (StillAsks h) new.sessions h.sessions) (sym is) (subst (λ (s : Sessions). AllZip (StillAsks (disconnect k number)) s (numbered.without_session number k.sessions)) (sym ends.sessions) left-ask)
 
   bound : AllZip HasBounds (state_now later).links r.links
   bound = subst (λ (h : KeptHub). AllZip HasBounds (state_now h).links r.links) (sym is) (matched (state_now k).links r.links kept.links)

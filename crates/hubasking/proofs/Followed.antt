@@ -13,7 +13,8 @@ use Rattle.linkreasons.specs.AllReasons.{AllReasons, ReasonsOfLink, AreFollowed,
 use Rattle.linkreasons.specs.Laws.{FollowsReasons}
 use Rattle.history.specs.States.{State}
 use Rattle.pushsession.specs.Kept.{KeptSession}
-use Rattle.pushserver.specs.Hubs.{Numbered, state_now}
+use Rattle.livesessions.specs.NumberedSessions.{Numbered}
+use Rattle.pushserver.specs.Hubs.{state_now}
 use Rattle.pushserver.specs.KeptHubs.{KeptHub}
 use Rattle.hubasking.specs.KeptReasons.{CanFollow, HasBounds, followed, followed_from, session_reasons}
 use Rattle.hubasking.specs.Following.{LeadFrom, LeadsAt}

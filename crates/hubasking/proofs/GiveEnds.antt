@@ -17,10 +17,11 @@ use Rattle.linkreasons.specs.Laws.{AreAmong, FewerThenFewer, FollowsReasons}
 use Rattle.linkreasons.specs.declared.reason.Reason.{Reason}
 use Rattle.pushsession.specs.Kept.{KeptSession}
 use Rattle.pushserver.specs.Giving.{give}
-use Rattle.pushserver.specs.Hubs.{Numbered, session_in, session_of, state_now}
+use Rattle.livesessions.specs.NumberedSessions.{Numbered, session_in}
+use Rattle.pushserver.specs.Hubs.{session_of, state_now}
 use Rattle.pushserver.specs.KeptHubs.{KeptHub, Forgets, StandsFor}
 use Rattle.pushserver.specs.PlainHubs.{Hub}
-use Rattle.pushserver.proofs.SessionLists.{same-number}
+use Rattle.livesessions.proofs.SessionLists.{same-number}
 use Rattle.hubasking.specs.Following.{LeadFrom}
 use Rattle.hubasking.specs.KeptReasons.{AreKept, CanFollow, HasBounds, StillAsks, followed, session_reasons}
 use Rattle.hubasking.specs.LinkAskings.{behind, kept_questions}

@@ -31,10 +31,11 @@ use Rattle.pushsession.specs.Kept.{KeptSession}
 use Rattle.pushsession.specs.declared.request.Request.{Request}
 use Rattle.pushsession.specs.declared.request.Request.TheVariants as requests
 use Rattle.pushserver.specs.Giving.{give}
-use Rattle.pushserver.specs.Hubs.{Numbered, newest, session_of, state_now}
+use Rattle.livesessions.specs.NumberedSessions.{Numbered}
+use Rattle.pushserver.specs.Hubs.{newest, session_of, state_now}
 use Rattle.pushserver.specs.KeptHubs.{KeptHub, Forgets, StandsFor}
 use Rattle.pushserver.specs.PlainHubs.{Hub}
-use Rattle.pushserver.proofs.SessionLists.{number-itself, other-number, same-number}
+use Rattle.livesessions.proofs.SessionLists.{number-itself, other-number, same-number}
 use Rattle.hubasking.specs.Following.{LeadFrom}
 use Rattle.hubasking.specs.KeptReasons.{AreKept, CanFollow, HasBounds, StillAsks, followed, reasons_at, reasons_of, session_reasons}
 use Rattle.hubasking.specs.LinkAskings.{behind, confirms, confirms_key, kept_questions}

@@ -15,7 +15,8 @@ use Rattle.pushsession.specs.Kept.{KeptSession}
 use Rattle.pushsession.specs.declared.request.Request.{Request}
 use Rattle.pushsession.specs.declared.request.Request.TheVariants as requests
 use Rattle.pushserver.specs.Giving.{give}
-use Rattle.pushserver.specs.Hubs.{Numbered, can_enter, newest, session_in, session_of, state_now}
+use Rattle.livesessions.specs.NumberedSessions.{Numbered, session_in}
+use Rattle.pushserver.specs.Hubs.{can_enter, newest, session_of, state_now}
 use Rattle.pushserver.specs.KeptHubs.{KeptHub, Forgets, StandsFor}
 use Rattle.pushserver.specs.PlainHubs.{Hub}
 use Rattle.hubasking.specs.KeptReasons.{AreKept, CanFollow, followed}

@@ -25,9 +25,10 @@ use Rattle.pushsession.specs.Reactions.{request_in}
 use Rattle.pushsession.specs.declared.request.Request.{Request}
 use Rattle.pushsession.specs.declared.request.Request.TheVariants as requests
 use Rattle.pushserver.specs.Giving.{give}
-use Rattle.pushserver.specs.Hubs.{Numbered, newest, now, session_in, session_of, state_now}
+use Rattle.livesessions.specs.NumberedSessions.{Numbered, session_in}
+use Rattle.pushserver.specs.Hubs.{newest, now, session_of, state_now}
 use Rattle.pushserver.specs.KeptHubs.{KeptHub, Forgets, forgetting}
-use Rattle.pushserver.proofs.SessionLists.{same-number}
+use Rattle.livesessions.proofs.SessionLists.{same-number}
 use Rattle.pushserver.proofs.hub_steps.Cases.{request_as}
 use Rattle.pushserver.proofs.hub_steps.Pairs.{zip-all}
 use Rattle.hubasking.specs.KeptReasons.{HasBounds}

@@ -13,7 +13,7 @@ use Rattle.linkreasons.specs.declared.reason.Reason.{Reason}
 use Rattle.history.specs.States.{State, home_of}
 use Rattle.history.specs.declared.entry.Home.{Home}
 use Rattle.history.specs.declared.entry.Home.TheVariants as homes
-use Rattle.pushserver.proofs.SessionLists.{same-number, number-itself}
+use Rattle.livesessions.proofs.SessionLists.{same-number, number-itself}
 use Rattle.hubasking.specs.KeptReasons.{reasons_at, reasons_for, reasons_of}
 
 -- an ID is there afterwards where it was there and didn't go

@@ -14,8 +14,8 @@ use Rattle.history.specs.States.{State, home_of}
 use Rattle.history.specs.declared.entry.Home.{Home}
 use Rattle.history.specs.declared.entry.Home.TheVariants as homes
 use Rattle.pushsession.specs.Kept.{KeptSession}
-use Rattle.pushserver.specs.Hubs.{Numbered}
-use Rattle.pushserver.proofs.SessionLists.{same-number}
+use Rattle.livesessions.specs.NumberedSessions.{Numbered}
+use Rattle.livesessions.proofs.SessionLists.{same-number}
 use Rattle.hubasking.specs.KeptReasons.{reasons_at, reasons_for, reasons_of, session_reasons}
 use Rattle.hubasking.specs.LinkAskings.{is_link, kept_questions, questions_at}
 

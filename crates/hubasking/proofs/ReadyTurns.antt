@@ -29,7 +29,8 @@ use Rattle.pushsession.specs.declared.request.Request.{Request}
 use Rattle.pushsession.specs.declared.request.Request.TheVariants as requests
 use Rattle.pushsession.specs.declared.session_status.SessionStatus.{SessionStatus}
 use Rattle.pushsession.specs.declared.session_status.SessionStatus.TheVariants.{Live}
-use Rattle.pushserver.specs.Hubs.{Numbered, can_enter, session_in, session_of, state_now}
+use Rattle.livesessions.specs.NumberedSessions.{Numbered, session_in}
+use Rattle.pushserver.specs.Hubs.{can_enter, session_of, state_now}
 use Rattle.pushserver.specs.KeptHubs.{KeptHub}
 use Rattle.pushserver.specs.Laws.{MayWantMemory}
 use Rattle.hubasking.specs.KeptReasons.{AreKept, MatchesLink, reasons_at, session_reasons}

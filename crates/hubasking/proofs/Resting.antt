@@ -23,7 +23,8 @@ use Rattle.history.proofs.HomesStay.{apexes, home_of-same, same_names-after}
 use Rattle.history.proofs.StatesAtHome.{rules_of}
 use Rattle.pushsession.specs.Sessions.{ended_where, noted, timed, due}
 use Rattle.pushsession.specs.Kept.{KeptSession, keeping}
-use Rattle.pushserver.specs.Hubs.{Numbered, all_sessions, each_session, behind_at, ended_behind, ends_behind, entered_keeping, entry_changes, keeps_now, newest, now, state_now}
+use Rattle.livesessions.specs.NumberedSessions.{Numbered, all_sessions}
+use Rattle.pushserver.specs.Hubs.{each_session, behind_at, ended_behind, ends_behind, entered_keeping, entry_changes, keeps_now, newest, now, state_now}
 use Rattle.pushserver.specs.PlainHubs.{Hub}
 use Rattle.pushserver.specs.KeptHubs.{KeptHub, StandsFor}
 use Rattle.hubasking.specs.KeptReasons.{AreKept, CanFollow, HasBounds, StillAsks, reasons_at, reasons_for, reasons_of, session_reasons}

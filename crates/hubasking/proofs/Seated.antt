@@ -18,11 +18,12 @@ use Rattle.linkreasons.specs.Laws.{FewerThenFewer, FollowsReasons, NoneGoes}
 use Rattle.linkreasons.specs.declared.reason.Reason.{Reason}
 use Rattle.pushsession.specs.Sessions.{new_session}
 use Rattle.pushsession.specs.Kept.{KeptSession, keeping}
-use Rattle.pushserver.specs.Hubs.{Numbered, connect, max_sessions, state_now}
+use Rattle.livesessions.specs.NumberedSessions.{Numbered}
+use Rattle.pushserver.specs.Hubs.{connect, max_sessions, state_now}
 use Rattle.pushserver.specs.KeptHubs.{KeptHub, SessionStandsFor, StandsFor}
 use Rattle.pushserver.specs.PlainHubs.{Hub, Session}
 use Rattle.pushserver.specs.SoundHubs.{IsSoundSession}
-use Rattle.pushserver.proofs.SessionLists.{number-itself, other-number}
+use Rattle.livesessions.proofs.SessionLists.{number-itself, other-number}
 use Rattle.hubasking.specs.KeptReasons.{AreKept, HasBounds, MatchesLink, reasons_of, session_reasons}
 use Rattle.hubasking.specs.Seats.{HasPlace, IsPlaced}
 use Rattle.hubasking.proofs.Calls.{matched}

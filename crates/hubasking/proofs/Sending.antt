@@ -20,7 +20,7 @@ use Rattle.history.specs.Kept.{HomesKept, state_of}
 use Rattle.history.specs.States.{State}
 use Rattle.pushserver.specs.Hubs.{state_now}
 use Rattle.pushserver.specs.KeptHubs.{KeptHub}
-use Rattle.pushserver.proofs.SessionLists.{same-number}
+use Rattle.livesessions.proofs.SessionLists.{same-number}
 use Rattle.hubasking.specs.KeptReasons.{AreKept, HasBounds, MatchesLink}
 use Rattle.hubasking.specs.LinkAskings.{Askings, ask}
 use Rattle.hubasking.proofs.Calls.{matched}

@@ -16,9 +16,10 @@ use Rattle.history.specs.States.{State}
 use Rattle.pushsession.specs.Kept.{KeptSession}
 use Rattle.pushsession.specs.declared.request.Request.{Request}
 use Rattle.pushsession.specs.declared.request.Request.TheVariants as requests
-use Rattle.pushserver.specs.Hubs.{Numbered, session_in, state_now}
+use Rattle.livesessions.specs.NumberedSessions.{Numbered, session_in}
+use Rattle.pushserver.specs.Hubs.{state_now}
 use Rattle.pushserver.specs.KeptHubs.{KeptHub}
-use Rattle.pushserver.proofs.SessionLists.{same-number}
+use Rattle.livesessions.proofs.SessionLists.{same-number}
 use Rattle.hubasking.specs.KeptReasons.{StillAsks, reasons_for, reasons_of, session_reasons}
 use Rattle.hubasking.specs.Turns.{coming_with}
 use Rattle.hubasking.proofs.Leading.{Sessions}

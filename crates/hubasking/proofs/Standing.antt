@@ -16,7 +16,8 @@ use Rattle.pushsession.specs.Reactions.{request_in}
 use Rattle.pushsession.specs.declared.request.Request.{Request}
 use Rattle.pushsession.specs.declared.request.Request.TheVariants as requests
 use Rattle.pushserver.specs.Calls.{HubCall, updates, hears, goes, moves, connects, takes, gives, stops, ends, called}
-use Rattle.pushserver.specs.Hubs.{Numbered, session_of, state_now}
+use Rattle.livesessions.specs.NumberedSessions.{Numbered}
+use Rattle.pushserver.specs.Hubs.{session_of, state_now}
 use Rattle.pushserver.specs.PlainHubs.{Hub, Session, Subscription, asked_of}
 use Rattle.pushserver.specs.KeptHubs.{KeptHub, Forgets, StandsFor, SessionStandsFor}
 use Rattle.pushserver.proofs.hub_steps.Standing.{FoundBoth, both_found, fitting}

@@ -10,7 +10,8 @@ use Rattle.history.specs.States.{State}
 use Rattle.pushsession.specs.Kept.{KeptSession}
 use Rattle.pushsession.specs.Sessions.{asked_to_stop, is_open}
 use Rattle.pushsession.specs.declared.session_status.SessionStatus.TheVariants.{AskedToStop}
-use Rattle.pushserver.specs.Hubs.{Numbered, in_session, in_sessions, now, state_now}
+use Rattle.livesessions.specs.NumberedSessions.{Numbered, in_sessions}
+use Rattle.pushserver.specs.Hubs.{in_session, now, state_now}
 use Rattle.pushserver.specs.KeptHubs.{KeptHub, StandsFor}
 use Rattle.pushserver.specs.PlainHubs.{Hub}
 use Rattle.hubasking.specs.KeptReasons.{AreKept, reasons_of, session_reasons}

@@ -36,10 +36,11 @@ use Rattle.pushsession.specs.declared.session_status.SessionStatus.{SessionStatu
 use Rattle.pushsession.specs.declared.session_status.SessionStatus.TheVariants.{Live, AskedToStop, Stopped, Ended}
 use Rattle.pushserver.specs.declared.given.Given.{Given}
 use Rattle.pushserver.specs.declared.given.Given.TheVariants.{Worked, Nothing}
-use Rattle.pushserver.specs.Hubs.{Numbered, all_sessions, can_enter, ended_behind, entered_keeping, in_session, in_sessions, keeps_now, newest, now, session_of, state_now, tells_now, update}
+use Rattle.livesessions.specs.NumberedSessions.{Numbered, all_sessions, in_sessions}
+use Rattle.pushserver.specs.Hubs.{can_enter, ended_behind, entered_keeping, in_session, keeps_now, newest, now, session_of, state_now, tells_now, update}
 use Rattle.pushserver.specs.Giving.{after_reaction, by_request, by_standing, give, given_after, has_home, known_at, reacted, reconfirms}
 use Rattle.pushserver.specs.KeptHubs.{KeptHub}
-use Rattle.pushserver.proofs.SessionLists.{found-in}
+use Rattle.livesessions.proofs.SessionLists.{found-in}
 use Rattle.pushserver.proofs.Subscribing.{verdict-holds}
 use Rattle.pushserver.proofs.hub_steps.Cases.{copies_as, enters_update, found_as, give_as, itself_as, key_as, output_as, session_as, update_as, works_as}
 use Rattle.hubasking.specs.LinkAskings.{confirms, confirms_key, is_live}

@@ -24,7 +24,8 @@ use Rattle.history.specs.States.{State, home_of}
 use Rattle.history.specs.declared.entry.Home.{Home}
 use Rattle.history.specs.declared.entry.Home.TheVariants as homes
 use Rattle.pushsession.specs.Kept.{KeptSession}
-use Rattle.pushserver.specs.Hubs.{Numbered, now, session_of, state_now}
+use Rattle.livesessions.specs.NumberedSessions.{Numbered}
+use Rattle.pushserver.specs.Hubs.{now, session_of, state_now}
 use Rattle.pushserver.specs.KeptHubs.{KeptHub, StandsFor}
 use Rattle.pushserver.specs.PlainHubs.{Hub}
 use Rattle.pushserver.specs.declared.given.Heard.{Heard}

@@ -9,7 +9,7 @@ use Rattle.pushserver.specs.declared.fault.HubFault.{HubFault}
 use Rattle.hubasking.specs.AskingHubs.{AskingHub}
 use Rattle.hublock.specs.Feeds.{IsBelow}
 use Rattle.hublock.specs.Inside.{Holds, counted}
-use Rattle.hublock.proofs.Answering.{StandsForOne}
+use Rattle.hubloops.proofs.Answering.{StandsForOne}
 
 -- no session is made, and no count falls
 pub record Adds (old new : KeptHub) : Type 0 where

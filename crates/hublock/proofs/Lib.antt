@@ -1,11 +1,2 @@
-pub mod Answering
 pub mod Holding
-pub mod Turning
-pub mod Leading
-pub mod Ticks
-pub mod Writes
-pub mod LineReads
-pub mod Receipts
 pub mod Marking
-pub mod Leaving
-pub mod Working

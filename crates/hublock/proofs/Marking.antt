@@ -10,11 +10,12 @@ use Rattle.std.proofs.lemmas.List.Folds.{list_any-append}
 use Rattle.std.proofs.lemmas.Map.Made.{is_member-filter, length-le_from_is_member}
 use Rattle.std.proofs.lemmas.Slice.Zip.{AllZip-long}
 use Rattle.rrset.proofs.Distinct.{distinct_filter, distinct_push}
-use Rattle.pushserver.specs.Hubs.{Numbered, session_in, max_sessions}
+use Rattle.livesessions.specs.NumberedSessions.{Numbered, session_in}
+use Rattle.pushserver.specs.Hubs.{max_sessions}
 use Rattle.pushserver.specs.KeptHubs.{SessionStandsFor}
 use Rattle.hubasking.specs.AskingHubs.{AskingHub}
 use Rattle.hublock.specs.Inside.{AreMarks, has_mark, is_live}
-use Rattle.hublock.proofs.Answering.{StandsForOne}
+use Rattle.hubloops.proofs.Answering.{StandsForOne}
 
 abbrev numbers : {S : Type 0} → Numbered S → List ℕ
 numbers sessions = map (λ e. e.0) sessions

@@ -1,16 +1,5 @@
 pub mod Feeds
 pub mod Ledgers
-pub mod Calls
-pub mod Gates
 pub mod Inside
 pub mod Sharing
-pub mod Loops
-pub mod Reader
-pub mod Writer
-pub mod Rounds
-pub mod LinkReader
-pub mod Ticker
-pub mod Worked
-pub mod Runs
-pub mod Jobs
 pub mod Registers

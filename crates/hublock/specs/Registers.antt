@@ -4,7 +4,7 @@
 use Rattle.std.specs.Prelude.{None, Some, List, [], ◌∷◌, ◌++◌}
 use Rattle.std.specs.declared.option.Option.{Option}
 use Rattle.history.specs.declared.entry.Totals.{Totals}
-use Rattle.hublock.specs.declared.loop_end.LoopEnd.{LoopEnd}
+use Rattle.hubloops.specs.declared.loop_end.LoopEnd.{LoopEnd}
 
 pub record Ending : Type 0 where
   pub loops : List LoopEnd

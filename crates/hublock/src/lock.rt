@@ -12,9 +12,10 @@ ghost use Rattle.hublock.specs.Registers.{entered};
 use crate::books::{Books, Changes, Hearings, Moments, Sessions};
 use crate::marks::Marks;
 use crate::wakeups::{LastSeen, Wakeups};
-use crate::{Blanks, Ended, Feed, Locked, Register, Seats, Signal};
+use crate::{Blanks, Feed, Locked, Register, Seats, Signal};
 use history::entry::Totals;
 use hubasking::Hub;
+use hubloops::Ended;
 use push_base::{NoMemory, Role};
 use pushserver::ConnectFault;
 use std::alloc::Global;
@@ -98,8 +99,27 @@ impl<B: Books> HubLock<B> {
         ensures seats { IfOk result (λ made. made.2 ≡ whole_seats) }
     {
         register.enter(&hub);
-        let over = Marks::new(alloc)?;
-        let (locked, feed, seats) = opened(hub, blanks, over);
+        match Marks::new(alloc) {
+            Ok(over) => {
+                let (locked, feed, seats) = opened(hub, blanks, over);
+                HubLock::behind(alloc, locked, feed, seats)
+            }
+            Err(fault) => Err(fault),
+        }
+    }
+
+    /// This goes behind the lock. The tokens stay with whoever gets the first hold.
+    fn behind(
+        alloc: Global,
+        locked: Locked<B>,
+        feed: Feed<B>,
+        seats: Seats<B>,
+    ) -> Result<(HubLock<B>, Feed<B>, Seats<B>), NoMemory>
+        requires feed { feed ≡ all_parts }
+        requires seats { seats ≡ whole_seats }
+        ensures feed { IfOk result (λ made. made.1 ≡ all_parts) }
+        ensures seats { IfOk result (λ made. made.2 ≡ whole_seats) }
+    {
         let lock = HubLock::first(alloc, locked)?;
         Ok((lock, feed, seats))
     }

@@ -9,7 +9,7 @@ ghost use Rattle.pushserver.specs.Hubs.{max_sessions};
 ghost use Rattle.pushserver.specs.KeptHubs.{StandsFor};
 ghost use Rattle.pushserver.specs.Counting.{octets_of};
 ghost use Rattle.pushserver.specs.Observing.{SaysWhy};
-ghost use Rattle.hublock.specs.Calls.{Asked, Connected, Does, Gave, Left, Passed, Received, Took, Went, fault_of};
+ghost use Rattle.hubloops.specs.Calls.{Asked, Connected, Does, Gave, Left, Passed, Received, Took, Went, fault_of};
 ghost use Rattle.hublock.specs.Feeds.{IsBelow, each, parts_each};
 ghost use Rattle.hublock.specs.Inside.{AcceptsAsGone, AcceptsAsHeard, AcceptsNone, MayAcceptChange, MayAcceptMoment, counted, is_done, signalled, with_hub, without_mark};
 

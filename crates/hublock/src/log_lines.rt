@@ -2,10 +2,72 @@
 
 use crate::wakeups::Wakes;
 use dsosession::session::EndReason;
-use log::{Log, debug, info};
+use log::{Level, Log, log};
 use pushserver::{Given, Heard, HubFault, Why};
 use std::fmt;
 use std::fmt::{Display, Formatter};
+
+/// What is told of a session or of a link, in one line.
+#[derive(Clone, Copy)]
+enum Told {
+    /// A session has ended, for the hub's reason, or because its connection is over.
+    End {
+        session: u64,
+        reason: Option<EndReason>,
+    },
+    /// A message of a session's client made a change.
+    Change {
+        session: u64,
+    },
+    /// A datagram of a link has so many octets, and this became of it.
+    Hearing {
+        link: usize,
+        octets: usize,
+        words: &'static str,
+    },
+    /// A link is asked with a datagram of so many octets.
+    Asking {
+        link: usize,
+        octets: usize,
+    },
+    /// What became of a link's records, or that it couldn't be asked.
+    Link {
+        link: usize,
+        words: &'static str,
+    },
+}
+
+impl Told {
+    // What comes with each message or datagram is for whoever looks for a fault.
+    fn level(self) -> Level {
+        match self {
+            Told::End { .. } | Told::Link { .. } => Level::Info,
+            Told::Change { .. } | Told::Hearing { .. } | Told::Asking { .. } => Level::Debug,
+        }
+    }
+}
+
+impl Display for Told {
+    fn fmt<W: fmt::Write>(&self, f: &mut Formatter<W>) -> fmt::Result {
+        match *self {
+            Told::End { session, reason } => {
+                write!(f, "session {session} ended: {}", InWords(reason))
+            }
+            Told::Change { session } => write!(f, "session {session}: a change was entered"),
+            Told::Hearing {
+                link,
+                octets,
+                words,
+            } => write!(f, "link {link}: {octets} octets, {words}"),
+            Told::Asking { link, octets } => write!(f, "link {link}: asked with {octets} octets"),
+            Told::Link { link, words } => write!(f, "link {link}: {words}"),
+        }
+    }
+}
+
+fn tell<R: Log>(rt: &R, told: Told) {
+    log!(rt; told.level(), "{told}");
+}
 
 /// Why the hub ended a session, as this answer tells, or else as was told before.
 pub(crate) fn reason_in(
@@ -20,16 +82,13 @@ pub(crate) fn reason_in(
 
 /// A session's end, for the hub's reason, or because its connection is over.
 pub(crate) fn tell_end<R: Log>(rt: &R, session: u64, reason: Option<EndReason>) {
-    match reason {
-        Some(reason) => info!(rt; "session {session} ended: {}", InWords(reason)),
-        None => info!(rt; "session {session} ended: its connection is over"),
-    }
+    tell(rt, Told::End { session, reason });
 }
 
 /// A change that a message of a session's client made, which is what wakes all then.
 pub(crate) fn tell_change<R: Log>(rt: &R, session: u64, wakes: Wakes) {
     if let Wakes::All = wakes {
-        debug!(rt; "session {session}: a change was entered");
+        tell(rt, Told::Change { session });
     }
 }
 
@@ -40,24 +99,44 @@ pub(crate) fn tell_hearing<R: Log>(
     octets: usize,
     answer: &Result<Heard, HubFault>,
 ) {
-    debug!(rt; "link {link}: {octets} octets, {}", hearing_words(answer));
+    let words = hearing_words(answer);
+    tell(
+        rt,
+        Told::Hearing {
+            link,
+            octets,
+            words,
+        },
+    );
 }
 
 /// What a link is asked.
 pub(crate) fn tell_asking<R: Log>(rt: &R, link: usize, answer: &Result<Option<usize>, HubFault>) {
     match answer {
-        Ok(Some(octets)) => debug!(rt; "link {link}: asked with {octets} octets"),
+        Ok(Some(count)) => {
+            let octets = *count;
+            tell(rt, Told::Asking { link, octets });
+        }
         Ok(None) => {}
-        Err(HubFault::NoMemory) => info!(rt; "link {link}: not asked: no memory"),
+        Err(HubFault::NoMemory) => {
+            let words = "not asked: no memory";
+            tell(rt, Told::Link { link, words });
+        }
     }
 }
 
 /// A link that has gone away.
 pub(crate) fn tell_going<R: Log>(rt: &R, link: usize, answer: &Result<bool, HubFault>) {
+    let words = going_words(answer);
+    tell(rt, Told::Link { link, words });
+}
+
+// What became of the records of a link that has gone away.
+fn going_words(answer: &Result<bool, HubFault>) -> &'static str {
     match answer {
-        Ok(true) => info!(rt; "link {link}: its records are gone"),
-        Ok(false) => info!(rt; "link {link}: no records went"),
-        Err(HubFault::NoMemory) => info!(rt; "link {link}: its records stay: no memory"),
+        Ok(true) => "its records are gone",
+        Ok(false) => "no records went",
+        Err(HubFault::NoMemory) => "its records stay: no memory",
     }
 }
 
@@ -85,18 +164,23 @@ fn ignored_words(why: Why) -> &'static str {
 
 // Why a session ended, in words.
 #[derive(Drop)]
-struct InWords(EndReason);
+struct InWords(Option<EndReason>);
 
 impl Display for InWords {
     fn fmt<W: fmt::Write>(&self, f: &mut Formatter<W>) -> fmt::Result {
         match self.0 {
-            EndReason::Misuse(kind) => write!(f, "a TLV of type {kind} where it may not be"),
-            EndReason::BadData(kind) => write!(f, "a TLV of type {kind} whose data are malformed"),
-            EndReason::Unknown(kind) => write!(f, "a TLV of unknown type {kind}"),
-            EndReason::IdInUse(id) => write!(f, "a second SUBSCRIBE with the ID {id}"),
-            EndReason::Twice(id) => write!(f, "a second SUBSCRIBE for what {id} asks"),
-            EndReason::Behind(point) => write!(f, "it fell behind at point {point}"),
-            reason => f.write_str(plain_words(reason)),
+            Some(EndReason::Misuse(kind)) => {
+                write!(f, "a TLV of type {kind} where it may not be")
+            }
+            Some(EndReason::BadData(kind)) => {
+                write!(f, "a TLV of type {kind} whose data are malformed")
+            }
+            Some(EndReason::Unknown(kind)) => write!(f, "a TLV of unknown type {kind}"),
+            Some(EndReason::IdInUse(id)) => write!(f, "a second SUBSCRIBE with the ID {id}"),
+            Some(EndReason::Twice(id)) => write!(f, "a second SUBSCRIBE for what {id} asks"),
+            Some(EndReason::Behind(point)) => write!(f, "it fell behind at point {point}"),
+            Some(reason) => f.write_str(plain_words(reason)),
+            None => f.write_str("its connection is over"),
         }
     }
 }

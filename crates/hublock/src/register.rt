@@ -4,9 +4,9 @@ ghost use Rattle.std.specs.Prelude.{◌≡◌, None, Option, List};
 ghost use Rattle.hubasking.specs.AskingHubs.{AskingHub};
 ghost use Rattle.hublock.specs.Registers.{Ending, entered};
 
-use crate::Ended;
 use history::entry::Totals;
 use hubasking::Hub;
+use hubloops::Ended;
 
 /// Is told of each hub that goes behind a lock, and of each server that finishes, so that what runs a server can say which hub
 /// its jobs share, and what its counts are.

@@ -33,6 +33,9 @@ pub(crate) const HOST: &str =
 pub(crate) const OTHER_HOST: &str =
     "0000840000000001000000000168056c6f63616c0000010001000000780004c0000202";
 
+/// A query for addresses of `h.local.` (RFC 6762, 5.2; RFC 1035, 4.1).
+pub(crate) const ASKED: &str = "0000000000010000000000000168056c6f63616c0000010001";
+
 /// A SUBSCRIBE with the ID 2, for addresses of `h.lan.example.com.`.
 pub(crate) const OF_THE_HOST: &str =
     "0027000230000000000000000000004000170168036c616e076578616d706c6503636f6d0000010001";
@@ -42,30 +45,32 @@ pub(crate) const OF_THE_HOST_TOLD: &str =
     "000c0002b00000000000000000000031000030000000000000000000004100210168036c616e076578616d706c6503636f6d0000010001000000780004c0000201";
 
 /// What a Keepalive is granted: 15 s each (RFC 8490, 6.2).
-pub(crate) const TIMERS: Timers = Timers {
+const TIMERS: Timers = Timers {
     inactivity: 15_000,
     keepalive: 15_000,
 };
 
-/// One zone, and the links `lan.example.com.` and `wlan.example.com.`.
-fn homes_of(zone: Zone, alloc: Global) -> Result<Homes, Fail>
+/// One zone, and two links with these domains.
+fn homes_of(zone: Zone, lan: Name, wlan: Name, alloc: Global) -> Result<Homes, Fail>
     requires { (serial : ℕ) × (zone.state ≡ new_zone zone.state.apex serial zone.state.writable) }
     ensures { IfOk result (λ homes. IsStart (state_of homes)) }
 {
     let mut homes = Homes::new(alloc);
     homes.add_zone(zone)?;
-    homes.add_link(Name::from_text(alloc, "lan.example.com.")?, NO_CAP)?;
-    homes.add_link(Name::from_text(alloc, "wlan.example.com.")?, NO_CAP)?;
+    homes.add_link(lan, NO_CAP)?;
+    homes.add_link(wlan, NO_CAP)?;
     Ok(homes)
 }
 
-/// The zone `example.com.`, which may be written, and the links.
-pub(crate) fn example_homes(alloc: Global) -> Result<Homes, Fail>
+/// The zone `example.com.`, which may be written, and the links `lan.example.com.` and `wlan.example.com.`.
+fn example_homes(alloc: Global) -> Result<Homes, Fail>
     ensures { IfOk result (λ homes. IsStart (state_of homes)) }
 {
     let apex = Name::from_text(alloc, "example.com.")?;
+    let lan = Name::from_text(alloc, "lan.example.com.")?;
+    let wlan = Name::from_text(alloc, "wlan.example.com.")?;
     let zone = Zone::new(alloc, apex, 1, true)?;
-    homes_of(zone, alloc)
+    homes_of(zone, lan, wlan, alloc)
 }
 
 /// A hub of these.
@@ -75,12 +80,5 @@ pub(crate) fn example_hub(alloc: Global) -> Result<Hub, Fail>
 {
     let homes = example_homes(alloc)?;
     let hub = Hub::new(homes, TIMERS)?;
-    Ok(hub)
-}
-
-/// The same with one session.
-pub(crate) fn connected_hub(alloc: Global) -> Result<Hub, Fail> {
-    let mut hub = example_hub(alloc)?;
-    hub.connect()?;
     Ok(hub)
 }

@@ -1,14 +1,14 @@
 //! Jobs over objects that keep one log, so that it is seen which call came first.
 
-ghost use Rattle.std.specs.Prelude.{None, length, ◌≤◌};
+ghost use Rattle.std.specs.Prelude.{None, ◌≤◌};
+ghost use Rattle.pushserver.specs.Counting.{octets_of};
 
-use crate::hubs::{HOST, connected_hub};
+use crate::rows::holds;
 use dsosession::session::EndReason;
-use hublock::{Alone, Gate, Job, JobEnd, LoopEnd};
-use push_base::{Clock, Datagrams, Failed, Got, Line, Sink, Task, Wire, hex_octets};
-use pushserver::{Given, Heard, HubFault};
+use hublock::{Gate, Job, JobEnd, LoopEnd};
+use push_base::{Clock, Datagrams, Failed, Got, Line, NoMemory, Sink, Task, Wire};
+use pushserver::{Given, Heard, HubFault, Why};
 use std::alloc::Global;
-use std::collections::VecDeque;
 use std::sync::{Arc, Mutex, Wait};
 use std::test::Fail;
 
@@ -21,13 +21,13 @@ struct Log<R: Wait + Copy> {
 
 impl<R: Wait + Copy> Log<R> {
     /// Nothing was done so far.
-    fn new(rt: R, alloc: Global) -> Result<Log<R>, Fail> {
+    fn new(rt: R, alloc: Global) -> Result<Log<R>, NoMemory> {
         let letters = Arc::new(alloc, Mutex::new(Vec::new(alloc)))?;
         Ok(Log { rt, letters })
     }
 
     /// Another hold.
-    fn again(&self) -> Result<Log<R>, Fail> {
+    fn again(&self) -> Result<Log<R>, NoMemory> {
         let letters = Arc::try_clone(&self.letters)?;
         Ok(Log {
             rt: self.rt,
@@ -40,41 +40,69 @@ impl<R: Wait + Copy> Log<R> {
         let _ = self.letters.lock(&self.rt).push(letter).is_err();
     }
 
-    /// Fails where something else was done.
-    fn is_so(&self, row: usize, wanted: &str) -> Result<(), Fail> {
-        let letters = self.letters.lock(&self.rt);
-        if letters.as_slice() == wanted.as_bytes() {
-            return Ok(());
+    /// Whether this was done, and nothing else.
+    fn is_so(&self, wanted: &str) -> bool {
+        self.letters.lock(&self.rt).as_slice() == wanted.as_bytes()
+    }
+}
+
+/// What a gate does: it takes so many octets of a session, or asks a link with datagrams of these sizes; it gives this; and it
+/// is to stop, or not.
+#[derive(Clone, Copy)]
+struct Plan {
+    numbers: &'static [usize],
+    gives: &'static [Given],
+    is_over: bool,
+}
+
+impl Plan {
+    /// The number at a place, and 0 behind the last.
+    fn number_at(&self, place: usize) -> usize {
+        match self.numbers.get(place) {
+            Some(number) => *number,
+            None => 0,
         }
-        Err(Fail::new(format_args!("row {row}: {:?}", letters.as_slice())))
+    }
+
+    /// What is given at a place, of which so many octets fit, and the end behind the last.
+    fn given_at(&self, place: usize, room: usize) -> Given
+        ensures { octets_of result ≤ room }
+    {
+        match self.gives.get(place) {
+            Some(Given::Bytes(count)) => Given::Bytes((*count).min(room)),
+            Some(Given::Worked) => Given::Worked,
+            Some(Given::Nothing) => Given::Nothing,
+            Some(Given::Ending) => Given::Ending,
+            Some(Given::End(reason)) => Given::End(*reason),
+            None => Given::End(EndReason::Short),
+        }
     }
 }
 
-/// The next of these numbers, and 0 behind the last.
-fn next_of(numbers: &mut VecDeque<usize>) -> usize {
-    numbers.pop_front().unwrap_or(0)
-}
-
-/// These numbers, to be taken one by one.
-fn queue_of(alloc: Global, numbers: &[usize]) -> Result<VecDeque<usize>, Fail> {
-    let mut queue = VecDeque::new(alloc);
-    'numbers: for number in numbers {
-        queue.push_back(*number)?;
-    }
-    Ok(queue)
-}
-
-/// A gate that takes and gives as many octets as it is told to: `t` where it took some, `n` none; `g` for each piece of work,
-/// `h` for a datagram, `k` where a link is asked, which it is with datagrams of these sizes, and with none where the size is 0
-/// and behind the last; `l` where a link is gone, `m` for a moment, `p` where it is waited for, `x` for a connection that is gone, `o` for a line that is
-/// over, `s` for a session that is.
+/// A gate that does what is planned: `t` where it took some octets, `n` none; `g` for each piece of work, `h` for a datagram,
+/// which has no octets, `k` where a link is asked, which it isn't where the size is 0; `l` where a link is gone, `m` for a
+/// moment, `p` where it is waited for, `x` for a connection that is gone, `o` for a line that is over, `s` for a session that
+/// is.
 #[derive(Drop)]
 struct Told<R: Wait + Copy> {
     log: Log<R>,
-    alone: Alone,
-    takes: VecDeque<usize>,
-    gives: VecDeque<Given>,
-    asks: VecDeque<usize>,
+    plan: Plan,
+    // How many numbers or answers it has used.
+    used: usize,
+}
+
+impl<R: Wait + Copy> Told<R> {
+    /// It has done nothing so far.
+    fn new(log: Log<R>, plan: Plan) -> Told<R> {
+        Told { log, plan, used: 0 }
+    }
+
+    /// One number or answer more is used. Gives how many were before.
+    fn use_one(&mut self) -> usize {
+        let place = self.used;
+        self.used = place.saturating_add(1);
+        place
+    }
 }
 
 impl<R: Wait + Copy> Gate for Told<R> {
@@ -87,31 +115,30 @@ impl<R: Wait + Copy> Gate for Told<R> {
     ghost role = { λ _. None };
 
     fn take(&mut self, _session: u64, piece: &[u8]) -> usize {
-        let count = next_of(&mut self.takes).min(piece.len());
+        let place = self.use_one();
+        let count = self.plan.number_at(place).min(piece.len());
         self.log.add(if count == 0 { b'n' } else { b't' });
         count
     }
 
     fn give(&mut self, _session: u64, buf: &mut [u8]) -> Result<Given, HubFault> {
         self.log.add(b'g');
-        match self.gives.pop_front() {
-            Some(Given::Bytes(count)) => Ok(Given::Bytes(count.min(buf.len()))),
-            Some(Given::Worked) => Ok(Given::Worked),
-            Some(Given::Nothing) => Ok(Given::Nothing),
-            Some(Given::Ending) => Ok(Given::Ending),
-            Some(Given::End(reason)) => Ok(Given::End(reason)),
-            None => Ok(Given::End(EndReason::Short)),
-        }
+        let place = self.use_one();
+        Ok(self.plan.given_at(place, buf.len()))
     }
 
-    fn hear(&mut self, link: usize, datagram: &[u8]) -> Result<Heard, HubFault> {
+    fn hear(&mut self, _link: usize, datagram: &[u8]) -> Result<Heard, HubFault> {
         self.log.add(b'h');
-        self.alone.hear(link, datagram)
+        if datagram.len() == 0 {
+            return Ok(Heard::Ignored(Why::Short));
+        }
+        Err(HubFault::NoMemory)
     }
 
     fn ask(&mut self, _link: usize, buf: &mut [u8]) -> Result<Option<usize>, HubFault> {
         self.log.add(b'k');
-        match next_of(&mut self.asks) {
+        let place = self.use_one();
+        match self.plan.number_at(place) {
             0 => Ok(None),
             count => Ok(Some(count.min(buf.len()))),
         }
@@ -144,7 +171,7 @@ impl<R: Wait + Copy> Gate for Told<R> {
     }
 
     fn done(&mut self) -> bool {
-        false
+        self.plan.is_over
     }
 
     fn leave(self) {}
@@ -154,7 +181,8 @@ impl<R: Wait + Copy> Gate for Told<R> {
 #[derive(Drop)]
 struct LoggedLine<R: Wait + Copy> {
     log: Log<R>,
-    sizes: VecDeque<usize>,
+    sizes: &'static [usize],
+    used: usize,
 }
 
 impl<R: Wait + Copy> Line for LoggedLine<R> {
@@ -169,7 +197,9 @@ impl<R: Wait + Copy> Line for LoggedLine<R> {
     ghost faults = { λ _. 0 };
 
     fn recv(&mut self, buf: &mut [u8]) -> Result<Got, Failed> {
-        match self.sizes.pop_front() {
+        let place = self.used;
+        self.used = place.saturating_add(1);
+        match self.sizes.get(place) {
             None => {
                 self.log.add(b'e');
                 Ok(Got::End)
@@ -179,32 +209,29 @@ impl<R: Wait + Copy> Line for LoggedLine<R> {
                 Ok(Got::Quiet)
             }
             Some(size) => {
+                let count = (*size).max(1).min(buf.len());
                 self.log.add(b'r');
-                Ok(Got::Bytes(size.max(1).min(buf.len())))
+                Ok(Got::Bytes(count))
             }
         }
     }
 }
 
-/// Datagrams, each the same: `r` for each, and behind them `b` where they break, `e` for the end; `a` for one that is sent, or
+/// Datagrams without octets: `r` for each, and behind them `b` where they break, `e` for the end; `a` for one that is sent, or
 /// that wasn't, where sending is broken.
 #[derive(Drop)]
 struct LoggedLinks<R: Wait + Copy> {
     log: Log<R>,
-    left: u64,
-    datagram: Vec<u8>,
-    breaks: bool,
-    is_mute: bool,
+    links: Links,
     faults: u64,
 }
 
-/// Puts a datagram at the front of the buffer, as much of it as fits. Gives the number of its octets.
-fn put_datagram(datagram: &[u8], buf: &mut [u8]) -> usize
-    ensures { result ≤ length buf.new }
-{
-    let count = datagram.len().min(buf.len());
-    buf[..count].copy_from_slice(&datagram[..count]);
-    count
+/// How many datagrams of a link come, whether they break behind these, and whether none can be sent.
+#[derive(Clone, Copy)]
+struct Links {
+    left: u64,
+    breaks: bool,
+    is_mute: bool,
 }
 
 impl<R: Wait + Copy> Datagrams for LoggedLinks<R> {
@@ -218,13 +245,13 @@ impl<R: Wait + Copy> Datagrams for LoggedLinks<R> {
 
     ghost faults = { λ l. l.faults };
 
-    fn recv(&mut self, buf: &mut [u8]) -> Result<Got, Failed> {
-        if self.left > 0 {
-            self.left -= 1;
+    fn recv(&mut self, _buf: &mut [u8]) -> Result<Got, Failed> {
+        if self.links.left > 0 {
+            self.links.left -= 1;
             self.log.add(b'r');
-            return Ok(Got::Bytes(put_datagram(self.datagram.as_slice(), buf)));
+            return Ok(Got::Bytes(0));
         }
-        if self.breaks {
+        if self.links.breaks {
             self.log.add(b'b');
             self.faults = self.faults.saturating_add(1);
             return Err(Failed);
@@ -235,7 +262,7 @@ impl<R: Wait + Copy> Datagrams for LoggedLinks<R> {
 
     fn send(&mut self, _piece: &[u8]) -> Result<(), Failed> {
         self.log.add(b'a');
-        if self.is_mute {
+        if self.links.is_mute {
             self.faults = self.faults.saturating_add(1);
             return Err(Failed);
         }
@@ -304,146 +331,17 @@ impl<R: Wait + Copy> Clock for LoggedClock<R> {
     }
 
     fn tick(&mut self) -> u64 {
-        self.log.add(b'c');
-        0
+        self.now()
     }
 }
 
 /// A job over these.
 type LoggedJob<R> = Job<Told<R>, LoggedLine<R>, LoggedWire<R>, LoggedLinks<R>, LoggedClock<R>>;
 
-/// What a gate gives.
-fn gives_of(alloc: Global, gives: &[Given]) -> Result<VecDeque<Given>, Fail> {
-    let mut queue = VecDeque::new(alloc);
-    'gives: for given in gives {
-        queue.push_back(*given)?;
-    }
-    Ok(queue)
-}
-
-/// A gate that takes and gives so.
-fn gate_of<R: Wait + Copy>(
-    alloc: Global,
-    log: &Log<R>,
-    takes: &[usize],
-    gives: &[Given],
-    asks: &[usize],
-) -> Result<Told<R>, Fail> {
-    let log = log.again()?;
-    let takes = queue_of(alloc, takes)?;
-    let gives = gives_of(alloc, gives)?;
-    let asks = queue_of(alloc, asks)?;
-    let hub = connected_hub(alloc)?;
-    Ok(Told {
-        log,
-        alone: Alone::new(hub, false),
-        takes,
-        gives,
-        asks,
-    })
-}
-
-/// The datagrams of a link.
-fn links_of<R: Wait + Copy>(
-    alloc: Global,
-    log: &Log<R>,
-    left: u64,
-    breaks: bool,
-    is_mute: bool,
-) -> Result<LoggedLinks<R>, Fail> {
-    let log = log.again()?;
-    let mut datagram = Vec::new(alloc);
-    datagram.extend_from_slice(hex_octets(alloc, HOST)?.as_slice())?;
-    Ok(LoggedLinks {
-        log,
-        left,
-        datagram,
-        breaks,
-        is_mute,
-        faults: 0,
-    })
-}
-
 /// Runs a job. Gives how its loop ended.
 fn run<R: Wait + Copy + Send + 'static>(job: LoggedJob<R>) -> LoopEnd {
     let JobEnd { end, .. } = job.run();
     end.end()
-}
-
-/// A session's octets come in pieces of these sizes, of which so many are taken at once.
-fn read<R: Wait + Copy + Send + 'static>(
-    alloc: Global,
-    log: &Log<R>,
-    sizes: &[usize],
-    takes: &[usize],
-    turns: u64,
-) -> Result<LoopEnd, Fail> {
-    let sizes = queue_of(alloc, sizes)?;
-    let line = LoggedLine {
-        log: log.again()?,
-        sizes,
-    };
-    let gate = gate_of(alloc, log, takes, &[], &[])?;
-    Ok(run(Job::reader(alloc, gate, 0, line, turns)))
-}
-
-/// This is given, and the wire takes so many octets at once.
-fn write<R: Wait + Copy + Send + 'static>(
-    alloc: Global,
-    log: &Log<R>,
-    gives: &[Given],
-    most: usize,
-    turns: u64,
-) -> Result<LoopEnd, Fail> {
-    let gate = gate_of(alloc, log, &[], gives, &[])?;
-    let log = log.again()?;
-    let wire = LoggedWire {
-        log,
-        most,
-        faults: 0,
-    };
-    Ok(run(Job::writer(alloc, gate, 0, wire, turns)))
-}
-
-/// So many datagrams come, behind which they end or break; the link is asked with some, which are sent, or can't be.
-fn hear<R: Wait + Copy + Send + 'static>(
-    alloc: Global,
-    log: &Log<R>,
-    links: Links,
-    asks: &[usize],
-    turns: u64,
-) -> Result<LoopEnd, Fail> {
-    let links = links_of(alloc, log, links.left, links.breaks, links.is_mute)?;
-    let gate = gate_of(alloc, log, &[], &[], asks)?;
-    Ok(run(Job::link(alloc, gate, 0, links, turns)))
-}
-
-/// The clock is asked.
-fn tick<R: Wait + Copy + Send + 'static>(
-    alloc: Global,
-    log: &Log<R>,
-    turns: u64,
-) -> Result<LoopEnd, Fail> {
-    let clock = LoggedClock { log: log.again()? };
-    let gate = gate_of(alloc, log, &[], &[], &[])?;
-    Ok(run(Job::clock(alloc, gate, clock, turns)))
-}
-
-/// How many datagrams of a link come, whether they break behind these, and whether none can be sent.
-#[derive(Clone, Copy)]
-struct Links {
-    left: u64,
-    breaks: bool,
-    is_mute: bool,
-}
-
-/// These.
-fn links_with(left: u64, breaks: bool, is_mute: bool) -> Links {
-    Links {
-        left,
-        breaks,
-        is_mute,
-    }
 }
 
 /// The work of a job.
@@ -599,20 +497,110 @@ const CASES: &[Case] = &[
     },
 ];
 
-/// Does the work of a job. Gives how its loop ended.
+/// What they do where all is to stop: a writer gives what its session still has to say, others nothing.
+const STOPPED: &[Case] = &[
+    Case {
+        work: Work::Read(&[3], &[3]),
+        turns: 100,
+        log: "o",
+        end: LoopEnd::Finished,
+    },
+    Case {
+        work: Work::Write(&[Given::Bytes(2), Given::Nothing], 9),
+        turns: 100,
+        log: "gwgffxsd",
+        end: LoopEnd::Finished,
+    },
+    Case {
+        work: Work::Hear(2, &[3]),
+        turns: 100,
+        log: "",
+        end: LoopEnd::Finished,
+    },
+    Case {
+        work: Work::Tick,
+        turns: 100,
+        log: "",
+        end: LoopEnd::Finished,
+    },
+];
+
+const NO_NUMBERS: &[usize] = &[];
+
+const NO_GIVES: &[Given] = &[];
+
+impl Work {
+    /// What its gate takes, or asks with.
+    fn numbers(self) -> &'static [usize] {
+        match self {
+            Work::Read(_, numbers) | Work::Hear(_, numbers) | Work::Mute(_, numbers) => numbers,
+            Work::Write(_, _) | Work::Break(_) | Work::Tick => NO_NUMBERS,
+        }
+    }
+
+    /// What its gate gives.
+    fn gives(self) -> &'static [Given] {
+        match self {
+            Work::Write(gives, _) => gives,
+            _ => NO_GIVES,
+        }
+    }
+}
+
+/// So many datagrams, of a link that breaks behind them or not, and is mute or not.
+fn links_with(left: u64, breaks: bool, is_mute: bool) -> Links {
+    Links {
+        left,
+        breaks,
+        is_mute,
+    }
+}
+
+/// Hears the datagrams of a link. Gives how the loop ended.
+fn hear<R: Wait + Copy + Send + 'static>(
+    alloc: Global,
+    gate: Told<R>,
+    log: Log<R>,
+    links: Links,
+    turns: u64,
+) -> LoopEnd {
+    let links = LoggedLinks {
+        log,
+        links,
+        faults: 0,
+    };
+    run(Job::link(alloc, gate, 0, links, turns))
+}
+
+/// Does the work of a job over this gate and another object with this log. Gives how its loop ended.
 fn end_of<R: Wait + Copy + Send + 'static>(
     alloc: Global,
-    log: &Log<R>,
+    gate: Told<R>,
+    log: Log<R>,
     work: Work,
     turns: u64,
-) -> Result<LoopEnd, Fail> {
+) -> LoopEnd {
     match work {
-        Work::Read(sizes, takes) => read(alloc, log, sizes, takes, turns),
-        Work::Write(gives, most) => write(alloc, log, gives, most, turns),
-        Work::Hear(left, asks) => hear(alloc, log, links_with(left, false, false), asks, turns),
-        Work::Break(left) => hear(alloc, log, links_with(left, true, false), &[], turns),
-        Work::Mute(left, asks) => hear(alloc, log, links_with(left, false, true), asks, turns),
-        Work::Tick => tick(alloc, log, turns),
+        Work::Read(sizes, _) => {
+            let line = LoggedLine {
+                log,
+                sizes,
+                used: 0,
+            };
+            run(Job::reader(alloc, gate, 0, line, turns))
+        }
+        Work::Write(_, most) => {
+            let wire = LoggedWire {
+                log,
+                most,
+                faults: 0,
+            };
+            run(Job::writer(alloc, gate, 0, wire, turns))
+        }
+        Work::Hear(left, _) => hear(alloc, gate, log, links_with(left, false, false), turns),
+        Work::Break(left) => hear(alloc, gate, log, links_with(left, true, false), turns),
+        Work::Mute(left, _) => hear(alloc, gate, log, links_with(left, false, true), turns),
+        Work::Tick => run(Job::clock(alloc, gate, LoggedClock { log }, turns)),
     }
 }
 
@@ -622,19 +610,29 @@ fn is_done_so<R: Wait + Copy + Send + 'static>(
     alloc: Global,
     row: usize,
     case: &Case,
+    is_over: bool,
 ) -> Result<(), Fail> {
     let log = Log::new(rt, alloc)?;
-    let end = end_of(alloc, &log, case.work, case.turns)?;
-    if end != case.end {
-        return Err(Fail::new(format_args!("row {row}: {end:?}")));
-    }
-    log.is_so(row, case.log)
+    let of_gate = log.again()?;
+    let of_object = log.again()?;
+    let plan = Plan {
+        numbers: case.work.numbers(),
+        gives: case.work.gives(),
+        is_over,
+    };
+    let gate = Told::new(of_gate, plan);
+    let end = end_of(alloc, gate, of_object, case.work, case.turns);
+    holds(end == case.end, row, "its end")?;
+    holds(log.is_so(case.log), row, "its calls")
 }
 
 #[test]
 fn jobs_do_one_thing_behind_the_other(rt: HostRuntime) -> Result<(), Fail> {
     'rows: for (row, case) in CASES.iter().enumerate() {
-        is_done_so(rt, rt.alloc(), row, case)?;
+        is_done_so(rt, rt.alloc(), row, case, false)?;
+    }
+    'stopped: for (row, case) in STOPPED.iter().enumerate() {
+        is_done_so(rt, rt.alloc(), row, case, true)?;
     }
     Ok(())
 }

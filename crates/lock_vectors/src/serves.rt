@@ -8,16 +8,15 @@ ghost use Rattle.hublock.specs.Inside.{counted};
 ghost use Rattle.hublock.specs.Ledgers.{AreNamed};
 
 use crate::hubs::{
-    HOST, OF_THE_HOST, OF_THE_HOST_TOLD, OTHER_HOST, SUBSCRIBE, SUBSCRIBED, example_hub,
+    ASKED, HOST, OF_THE_HOST, OF_THE_HOST_TOLD, OTHER_HOST, SUBSCRIBE, SUBSCRIBED, example_hub,
 };
-use crate::loops::{ASKED, Drip, heard};
-use crate::rows::are_octets;
+use crate::rows::holds;
 use crate::threads::{Apart, List, Listed, new_list};
-use crate::watched::{Hearings, Porter, Still, Until, Watch, Watched};
+use crate::watched::{Drip, Hearings, Porter, Still, Until, Watch, Watched};
 use history::entry::Totals;
 use hublock::{Blanks, Books, NoRegister};
 use log::Log;
-use push_base::{Surroundings, hex_octets, hex_text};
+use push_base::{MemDatagrams, MemItem, Surroundings, hex_octets};
 use serving::{Fed, ServeEnd, Served, Setup, serve};
 use std::alloc::Global;
 use std::marker::Brand;
@@ -95,106 +94,8 @@ const TWO: Case = Case {
     sessions: 2,
     come: 2,
     answered: 2,
-    numbered: false,
-    line: Until::Now,
-    stays: false,
     first_wire: Until::Written(115),
-    last_session: Until::Now,
-    request: SUBSCRIBE,
-    answer: SUBSCRIBED,
-    link: Until::Now,
-    hears: &[],
-    asks: "",
-    moment: 0,
-    end: ServeEnd::Served(NOTHING),
-};
-
-/// One session, which is quiet while the link is heard and time passes.
-const HEARING: Case = Case {
-    sessions: 1,
-    come: 1,
-    answered: 1,
-    numbered: false,
-    line: Until::HeardAndAsked(1),
-    stays: false,
-    first_wire: Until::Now,
-    last_session: Until::Now,
-    request: SUBSCRIBE,
-    answer: SUBSCRIBED,
-    link: Until::Now,
-    hears: &[HOST],
-    asks: "",
-    moment: 1,
-    end: ServeEnd::Served(Totals {
-        changes: 0,
-        heard: 1,
-        moments: 1,
-    }),
-};
-
-/// One session, which asks for the host of the first of two links when both have told theirs.
-const HEARING_TWO: Case = Case {
-    sessions: 1,
-    come: 1,
-    answered: 1,
-    numbered: false,
-    line: Until::HeardAndAsked(2),
-    stays: false,
-    first_wire: Until::Now,
-    last_session: Until::Now,
-    request: OF_THE_HOST,
-    answer: OF_THE_HOST_TOLD,
-    link: Until::Now,
-    hears: &[HOST, OTHER_HOST],
-    asks: "",
-    moment: 1,
-    end: ServeEnd::Served(Totals {
-        changes: 0,
-        heard: 2,
-        moments: 1,
-    }),
-};
-
-/// One session, which asks for the host of a link when nothing of it was heard. The link is asked, and answers.
-const ASKING: Case = Case {
-    sessions: 2,
-    come: 1,
-    answered: 1,
-    numbered: false,
-    line: Until::Now,
-    stays: true,
-    first_wire: Until::Now,
-    last_session: Until::Written(65),
-    request: OF_THE_HOST,
-    answer: OF_THE_HOST_TOLD,
-    link: Until::Written(14),
-    hears: &[HOST],
-    asks: ASKED,
-    moment: 0,
-    end: ServeEnd::OutsideFault,
-};
-
-/// Two sessions. The link is quiet until the first has ended, and the second comes once it was heard.
-const HEARING_LATER: Case = Case {
-    sessions: 2,
-    come: 2,
-    answered: 2,
-    numbered: false,
-    line: Until::Now,
-    stays: false,
-    first_wire: Until::Now,
-    last_session: Until::HeardAndAsked(1),
-    request: SUBSCRIBE,
-    answer: SUBSCRIBED,
-    link: Until::Dropped(1),
-    hears: &[HOST],
-    asks: "",
-    moment: 1,
-    end: ServeEnd::Served(Totals {
-        changes: 0,
-        heard: 1,
-        moments: 1,
-    }),
+    ..ONE
 };
 
 /// One session more than there are seats. It comes once the wires of all others were dropped, so a seat is given again.
@@ -203,36 +104,16 @@ const ONE_MORE: Case = Case {
     come: 65,
     answered: 65,
     numbered: true,
-    line: Until::Now,
-    stays: false,
-    first_wire: Until::Now,
     last_session: Until::Dropped(64),
-    request: SUBSCRIBE,
-    answer: SUBSCRIBED,
-    link: Until::Now,
-    hears: &[],
-    asks: "",
-    moment: 0,
-    end: ServeEnd::Served(NOTHING),
+    ..ONE
 };
 
 /// The same, but no line begins before the wire of the last was dropped, which got no seat.
 const ONE_TOO_MANY: Case = Case {
-    sessions: 65,
-    come: 65,
     answered: 64,
-    numbered: true,
     line: Until::Dropped(1),
-    stays: false,
-    first_wire: Until::Now,
     last_session: Until::Now,
-    request: SUBSCRIBE,
-    answer: SUBSCRIBED,
-    link: Until::Now,
-    hears: &[],
-    asks: "",
-    moment: 0,
-    end: ServeEnd::Served(NOTHING),
+    ..ONE_MORE
 };
 
 /// Two sessions of three, which were answered and go on when the doors fail.
@@ -240,19 +121,67 @@ const GIVEN_UP: Case = Case {
     sessions: 3,
     come: 2,
     answered: 2,
-    numbered: false,
-    line: Until::Now,
     stays: true,
-    first_wire: Until::Now,
     last_session: Until::Written(230),
-    request: SUBSCRIBE,
-    answer: SUBSCRIBED,
-    link: Until::Now,
-    hears: &[],
-    asks: "",
-    moment: 0,
     end: ServeEnd::OutsideFault,
+    ..ONE
 };
+
+const SESSIONS: &[&Case] = &[&ONE, &TWO, &ONE_MORE, &ONE_TOO_MANY, &GIVEN_UP];
+
+/// One session, which is quiet while the link is heard and time passes.
+const HEARING: Case = Case {
+    line: Until::HeardAndAsked(1),
+    hears: &[HOST],
+    moment: 1,
+    end: ServeEnd::Served(Totals {
+        changes: 0,
+        heard: 1,
+        moments: 1,
+    }),
+    ..ONE
+};
+
+/// One session, which asks for the host of the first of two links when both have told theirs.
+const HEARING_TWO: Case = Case {
+    line: Until::HeardAndAsked(2),
+    request: OF_THE_HOST,
+    answer: OF_THE_HOST_TOLD,
+    hears: &[HOST, OTHER_HOST],
+    end: ServeEnd::Served(Totals {
+        changes: 0,
+        heard: 2,
+        moments: 1,
+    }),
+    ..HEARING
+};
+
+/// Two sessions. The link is quiet until the first has ended, and the second comes once it was heard.
+const HEARING_LATER: Case = Case {
+    sessions: 2,
+    come: 2,
+    answered: 2,
+    line: Until::Now,
+    last_session: Until::HeardAndAsked(1),
+    link: Until::Dropped(1),
+    ..HEARING
+};
+
+/// One session, which asks for the host of a link when nothing of it was heard. The link is asked, and answers.
+const ASKING: Case = Case {
+    sessions: 2,
+    stays: true,
+    last_session: Until::Written(65),
+    request: OF_THE_HOST,
+    answer: OF_THE_HOST_TOLD,
+    link: Until::Written(14),
+    hears: &[HOST],
+    asks: ASKED,
+    end: ServeEnd::OutsideFault,
+    ..ONE
+};
+
+const LINKS: &[&Case] = &[&HEARING, &HEARING_TWO, &HEARING_LATER, &ASKING];
 
 impl Case {
     /// The ID of the request of a session.
@@ -289,20 +218,8 @@ fn with_id(alloc: Global, text: &str, id: u16) -> Result<Vec<u8>, Fail> {
     Ok(octets)
 }
 
-/// The line of a session is to come.
-fn add_line<R: Wait + Copy>(
-    alloc: Global,
-    doors: &mut Porter<R>,
-    case: &Case,
-    place: u16,
-) -> Result<(), Fail> {
-    let octets = with_id(alloc, case.request, case.id(place))?;
-    doors.add_line(Drip::new(octets, PIECE), case.line, case.stays)?;
-    Ok(())
-}
-
-/// The wire of a session is to come. Its octets go to a list behind others.
-fn add_wire<R: Wait + Copy>(
+/// A session is to come. The octets of its wire go to a list behind others.
+fn add_session<R: Wait + Copy>(
     rt: R,
     alloc: Global,
     doors: &mut Porter<R>,
@@ -310,8 +227,10 @@ fn add_wire<R: Wait + Copy>(
     place: u16,
     lists: &mut Vec<List>,
 ) -> Result<(), Fail> {
+    let octets = with_id(alloc, case.request, case.id(place))?;
     let list = new_list(alloc)?;
     lists.push(Arc::try_clone(&list)?)?;
+    doors.add_line(Drip::new(octets, PIECE), case.line, case.stays)?;
     doors.add_wire(Listed::new(rt, list), case.wire(place))?;
     Ok(())
 }
@@ -325,39 +244,27 @@ fn add_sessions<R: Wait + Copy>(
     lists: &mut Vec<List>,
 ) -> Result<(), Fail> {
     'sessions: for place in 0..case.come {
-        add_line(alloc, doors, case, place)?;
-        add_wire(rt, alloc, doors, case, place, lists)?;
+        add_session(rt, alloc, doors, case, place, lists)?;
     }
     Ok(())
 }
 
-/// A link is fed.
-fn add_hearing<R: Wait + Copy>(
-    alloc: Global,
-    links: &mut Vec<Fed<Hearings<R>>>,
-    watch: &Watch<R>,
-    until: Until,
-    sent: &List,
-    link: usize,
-    text: &str,
-) -> Result<(), Fail> {
-    let watch = watch.again()?;
-    let sent = Arc::try_clone(sent)?;
-    let datagrams = Hearings::new(watch, until, heard(alloc, text)?, sent);
-    links.push(Fed { link, datagrams })?;
-    Ok(())
+/// One datagram.
+fn heard(alloc: Global, text: &str) -> Result<MemDatagrams, Fail> {
+    let items = vec![in alloc; MemItem::Bytes(hex_octets(alloc, text)?)]?;
+    Ok(MemDatagrams::new(alloc, items, Vec::new(alloc), 0)?)
 }
 
-/// The links are fed that are. What is sent goes to one list.
+/// The links are fed that are.
 fn add_hearings<R: Wait + Copy>(
     alloc: Global,
     links: &mut Vec<Fed<Hearings<R>>>,
     watch: &Watch<R>,
     case: &Case,
-    sent: &List,
 ) -> Result<(), Fail> {
     'links: for (link, text) in case.hears.iter().enumerate() {
-        add_hearing(alloc, links, watch, case.link, sent, link, text)?;
+        let datagrams = Hearings::new(watch, case.link, heard(alloc, text)?)?;
+        links.push(Fed { link, datagrams })?;
     }
     Ok(())
 }
@@ -412,14 +319,6 @@ fn end_over_hub<R: Log + Threads + Wait + Copy + Send + 'static, O: Surroundings
     Ok(end_of::<R, O, Brand>(rt, alloc, doors, setup, Blanks::new()))
 }
 
-/// Fails where a server ended otherwise.
-fn is_end(end: ServeEnd, wanted: ServeEnd) -> Result<(), Fail> {
-    if end == wanted {
-        return Ok(());
-    }
-    Err(Fail::new(format_args!("{end:?}")))
-}
-
 /// What a session is answered.
 fn answer_of(alloc: Global, case: &Case, place: u16) -> Result<Vec<u8>, Fail> {
     if place < case.answered {
@@ -437,14 +336,9 @@ fn is_answered<R: Wait>(
     place: u16,
     list: &List,
 ) -> Result<(), Fail> {
-    let octets = answer_of(alloc, case, place)?;
-    let wanted = hex_text(alloc, octets.as_slice())?;
-    are_octets(
-        alloc,
-        usize::from(place),
-        list.lock(rt).as_slice(),
-        wanted.as_str(),
-    )
+    let answer = answer_of(alloc, case, place)?;
+    let is_so = list.lock(rt).as_slice() == answer.as_slice();
+    holds(is_so, usize::from(place), "its answer")
 }
 
 /// Fails where any of the sessions did.
@@ -455,27 +349,21 @@ fn are_answered<R: Wait>(rt: &R, alloc: Global, case: &Case, lists: &[List]) -> 
     Ok(())
 }
 
-/// Fails where a server ends otherwise, or asks its links something else.
-fn ends_so<R: Log + Threads + Wait + Copy + Send + 'static>(
+/// How a server over these doors ends.
+fn end_over<R: Log + Threads + Wait + Copy + Send + 'static>(
     rt: R,
     alloc: Global,
     watch: &Watch<R>,
     case: &Case,
     doors: &mut Porter<R>,
-) -> Result<(), Fail> {
-    let clock = Still {
-        watch: watch.again()?,
-        moment: case.moment,
-    };
-    let sent = new_list(alloc)?;
+) -> Result<ServeEnd, Fail> {
     let mut links = Vec::new(alloc);
-    add_hearings(alloc, &mut links, watch, case, &sent)?;
-    let end = end_over_hub::<R, Watched<R>>(rt, alloc, doors, links, clock, case.sessions)?;
-    is_end(end, case.end)?;
-    are_octets(alloc, 0, sent.lock(&rt).as_slice(), case.asks)
+    add_hearings(alloc, &mut links, watch, case)?;
+    let clock = Still::new(watch, case.moment)?;
+    end_over_hub::<R, Watched<R>>(rt, alloc, doors, links, clock, case.sessions)
 }
 
-/// Fails where sessions aren't served so by these doors.
+/// Fails where sessions aren't served so by these doors, or their links are asked something else.
 fn are_served_by<R: Log + Threads + Wait + Copy + Send + 'static>(
     rt: R,
     alloc: Global,
@@ -485,7 +373,13 @@ fn are_served_by<R: Log + Threads + Wait + Copy + Send + 'static>(
     lists: &mut Vec<List>,
 ) -> Result<(), Fail> {
     add_sessions(rt, alloc, doors, case, lists)?;
-    ends_so(rt, alloc, watch, case, doors)?;
+    let end = end_over(rt, alloc, watch, case, doors)?;
+    holds(end == case.end, 0, "its end")?;
+    holds(
+        watch.has_sent(hex_octets(alloc, case.asks)?.as_slice()),
+        0,
+        "what is asked",
+    )?;
     are_answered(&rt, alloc, case, lists.as_slice())
 }
 
@@ -502,46 +396,17 @@ fn are_served<R: Log + Threads + Wait + Copy + Send + 'static>(
 }
 
 #[test]
-fn a_session_is_served(rt: HostRuntime) -> Result<(), Fail> {
-    are_served(rt, rt.alloc(), &ONE)
+fn sessions_are_served(rt: HostRuntime) -> Result<(), Fail> {
+    'cases: for case in SESSIONS {
+        are_served(rt, rt.alloc(), case)?;
+    }
+    Ok(())
 }
 
 #[test]
-fn a_held_wire_holds_no_other_session(rt: HostRuntime) -> Result<(), Fail> {
-    are_served(rt, rt.alloc(), &TWO)
-}
-
-#[test]
-fn a_link_is_heard_beside_a_session(rt: HostRuntime) -> Result<(), Fail> {
-    are_served(rt, rt.alloc(), &HEARING)
-}
-
-#[test]
-fn a_link_is_heard_when_a_session_has_ended(rt: HostRuntime) -> Result<(), Fail> {
-    are_served(rt, rt.alloc(), &HEARING_LATER)
-}
-
-#[test]
-fn links_are_heard_as_they_are_numbered(rt: HostRuntime) -> Result<(), Fail> {
-    are_served(rt, rt.alloc(), &HEARING_TWO)
-}
-
-#[test]
-fn a_link_is_asked_and_its_answer_told(rt: HostRuntime) -> Result<(), Fail> {
-    are_served(rt, rt.alloc(), &ASKING)
-}
-
-#[test]
-fn a_freed_seat_is_given_again(rt: HostRuntime) -> Result<(), Fail> {
-    are_served(rt, rt.alloc(), &ONE_MORE)
-}
-
-#[test]
-fn a_session_without_a_seat_is_over_at_once(rt: HostRuntime) -> Result<(), Fail> {
-    are_served(rt, rt.alloc(), &ONE_TOO_MANY)
-}
-
-#[test]
-fn all_jobs_stop_where_the_doors_fail(rt: HostRuntime) -> Result<(), Fail> {
-    are_served(rt, rt.alloc(), &GIVEN_UP)
+fn links_are_heard_and_asked(rt: HostRuntime) -> Result<(), Fail> {
+    'cases: for case in LINKS {
+        are_served(rt, rt.alloc(), case)?;
+    }
+    Ok(())
 }

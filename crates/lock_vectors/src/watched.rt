@@ -1,9 +1,8 @@
 //! An outside that tells what it did, and waits for what was done elsewhere.
 
-ghost use Rattle.std.specs.Prelude.{None};
+ghost use Rattle.std.specs.Prelude.{◌≤◌, None, length};
 
-use crate::loops::Drip;
-use crate::threads::{Apart, List, Listed};
+use crate::threads::{Apart, Listed};
 use push_base::{
     Clock, Datagrams, Doors, Failed, Got, Line, MemDatagrams, NoMemory, Sink, Surroundings, Wire,
 };
@@ -76,11 +75,12 @@ impl Done {
     }
 }
 
-/// What was done so far, behind a lock.
+/// What was done so far, behind a lock, and all that links were sent, behind another.
 #[derive(Drop)]
 struct Board {
     done: Mutex<Done>,
     changed: Condvar,
+    sent: Mutex<Vec<u8>>,
 }
 
 /// One hold of it.
@@ -102,6 +102,7 @@ impl<R: Wait + Copy> Watch<R> {
         let board = Board {
             done: Mutex::new(done),
             changed: Condvar::new(),
+            sent: Mutex::new(Vec::new(alloc)),
         };
         Ok(Watch {
             rt,
@@ -123,6 +124,11 @@ impl<R: Wait + Copy> Watch<R> {
         self.board.changed.notify_all();
     }
 
+    /// Whether links were sent this, and nothing else.
+    pub(crate) fn has_sent(&self, octets: &[u8]) -> bool {
+        self.board.sent.lock(&self.rt).as_slice() == octets
+    }
+
     /// Waits for what is done elsewhere.
     fn wait(&self, until: Until) {
         let done = self.board.done.lock(&self.rt);
@@ -130,6 +136,58 @@ impl<R: Wait + Copy> Watch<R> {
             .board
             .changed
             .wait_while(&self.rt, done, |done| !done.has(until));
+    }
+}
+
+/// A line that gives its octets in pieces of one size, the last of which may be shorter, and then ends. It tells nothing.
+#[derive(Drop)]
+pub(crate) struct Drip {
+    octets: Vec<u8>,
+    next: usize,
+    size: usize,
+}
+
+impl Drip {
+    /// It has given no piece.
+    pub(crate) fn new(octets: Vec<u8>, size: usize) -> Drip {
+        Drip {
+            octets,
+            next: 0,
+            size,
+        }
+    }
+}
+
+/// Puts the octets from a place on at the front of the buffer, but no more than so many. Gives their number.
+fn put_piece(octets: &[u8], place: usize, size: usize, buf: &mut [u8]) -> usize
+    ensures { result ≤ length buf.new }
+{
+    let Some((_, rest)) = octets.split_at_checked(place) else {
+        return 0;
+    };
+    let count = rest.len().min(size).min(buf.len());
+    buf[..count].copy_from_slice(&rest[..count]);
+    count
+}
+
+impl Line for Drip {
+    ghost given = { λ _. None };
+
+    ghost left = { λ _. None };
+
+    ghost reads = { λ _. None };
+
+    ghost calls = { λ _. None };
+
+    ghost faults = { λ _. 0 };
+
+    fn recv(&mut self, buf: &mut [u8]) -> Result<Got, Failed> {
+        let count = put_piece(&self.octets, self.next, self.size, buf);
+        if count == 0 {
+            return Ok(Got::End);
+        }
+        self.next = self.next.saturating_add(count);
+        Ok(Got::Bytes(count))
     }
 }
 
@@ -205,31 +263,28 @@ impl<R: Wait + Copy> Drop for Held<R> {
     }
 }
 
-/// Datagrams that are quiet until something was done elsewhere, and tell their end. What is sent goes to a list.
+/// Datagrams that are quiet until something was done elsewhere, and tell their end.
 #[derive(Drop)]
 pub(crate) struct Hearings<R: Wait + Copy> {
     watch: Watch<R>,
     until: Until,
     datagrams: MemDatagrams,
-    sent: List,
     faults: u64,
 }
 
 impl<R: Wait + Copy> Hearings<R> {
     /// Nothing was received so far.
     pub(crate) fn new(
-        watch: Watch<R>,
+        watch: &Watch<R>,
         until: Until,
         datagrams: MemDatagrams,
-        sent: List,
-    ) -> Hearings<R> {
-        Hearings {
-            watch,
+    ) -> Result<Hearings<R>, NoMemory> {
+        Ok(Hearings {
+            watch: watch.again()?,
             until,
             datagrams,
-            sent,
             faults: 0,
-        }
+        })
     }
 }
 
@@ -262,12 +317,8 @@ impl<R: Wait + Copy> Datagrams for Hearings<R> {
     }
 
     fn send(&mut self, piece: &[u8]) -> Result<(), Failed> {
-        if self
-            .sent
-            .lock(&self.watch.rt)
-            .extend_from_slice(piece)
-            .is_err()
-        {
+        let mut sent = self.watch.board.sent.lock(&self.watch.rt);
+        if sent.extend_from_slice(piece).is_err() {
             self.faults = self.faults.saturating_add(1);
             return Err(Failed);
         }
@@ -278,8 +329,18 @@ impl<R: Wait + Copy> Datagrams for Hearings<R> {
 /// A clock that stands still, and tells that it was asked.
 #[derive(Drop)]
 pub(crate) struct Still<R: Wait + Copy> {
-    pub(crate) watch: Watch<R>,
-    pub(crate) moment: u64,
+    watch: Watch<R>,
+    moment: u64,
+}
+
+impl<R: Wait + Copy> Still<R> {
+    /// It stands at this moment.
+    pub(crate) fn new(watch: &Watch<R>, moment: u64) -> Result<Still<R>, NoMemory> {
+        Ok(Still {
+            watch: watch.again()?,
+            moment,
+        })
+    }
 }
 
 impl<R: Wait + Copy> Clock for Still<R> {

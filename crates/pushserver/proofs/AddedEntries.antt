@@ -29,15 +29,15 @@ use Rattle.pushsession.specs.declared.session_status.SessionStatus.TheVariants.{
 use Rattle.pushserver.specs.Observing.{SaysWhy}
 use Rattle.pushserver.specs.Counting.{AddsGoing, AddsHearing, MayAddChange, MayAddMoment, octets_of}
 use Rattle.pushserver.specs.Giving.{reconfirms, by_request, reacted, after_reaction, by_standing, given_after, give}
-use Rattle.pushserver.specs.Hubs.{Numbered, state_now, session_of, each_session, entered_keeping, can_enter, update, hear, link_gone, moment, connect, max_sessions}
+use Rattle.livesessions.specs.NumberedSessions.{Numbered, AreApart, AreBelow}
+use Rattle.pushserver.specs.Hubs.{state_now, session_of, each_session, entered_keeping, can_enter, update, hear, link_gone, moment, connect, max_sessions}
 use Rattle.pushserver.specs.KeptHubs.{KeptHub, Forgets}
-use Rattle.pushserver.specs.NumberedSessions.{AreApart, AreBelow}
 use Rattle.pushserver.specs.declared.given.Given.{Given}
 use Rattle.pushserver.specs.declared.given.Given.TheVariants.{Worked, Nothing}
 use Rattle.pushserver.specs.declared.fault.HubFault.{HubFault}
 use Rattle.pushserver.specs.declared.given.Heard.{Heard}
 use Rattle.pushserver.specs.declared.given.Heard.TheVariants.{Entered, Ignored}
-use Rattle.pushserver.proofs.SessionLists.{same-number}
+use Rattle.livesessions.proofs.SessionLists.{same-number}
 use Rattle.pushserver.proofs.Walks.{with_new}
 use Rattle.pushserver.proofs.hub_steps.Cases.{enters_update, update_as, enters_hearing, hear_as, enters_going, key_as, session_as, copies_as, found_as, works_as, output_as, give_as}
 

@@ -16,13 +16,14 @@ use Rattle.history.specs.declared.entry.Entry.{Entry}
 use Rattle.pushsession.specs.Kept.{KeptSession, keeping}
 use Rattle.dsosession.specs.declared.session.EndReason.{EndReason}
 use Rattle.pushsession.specs.Sessions.{ended_where, due, timed, noted}
-use Rattle.pushserver.specs.Behind.{ended_from, needed_by}
-use Rattle.pushserver.specs.Hubs.{Numbered, session_in, in_sessions, all_sessions, each_session, in_session, can_enter, entry_changes, entered_keeping}
+use Rattle.livesessions.specs.Behind.{ended_from, needed_by}
+use Rattle.livesessions.specs.NumberedSessions.{Numbered, session_in, in_sessions, all_sessions}
+use Rattle.pushserver.specs.Hubs.{each_session, in_session, can_enter, entry_changes, entered_keeping}
 use Rattle.pushserver.specs.HubState.{IsSound, kept_of, seen_of}
 use Rattle.pushserver.specs.KeptHubs.{KeptHub, Forgets, forgetting}
 use Rattle.pushserver.specs.declared.hub_state.HubState.{HubState}
 use Rattle.pushserver.proofs.Needed.{IsFloor, is-within, all_ended-noted, all_kept-since, needed-floor, needed-newest}
-use Rattle.pushserver.proofs.SessionLists.{found-one, each-changed}
+use Rattle.livesessions.proofs.SessionLists.{found-one, each-changed}
 
 -- ---- none is
 

@@ -1,8 +1,7 @@
 -- A session that is lent to one turn, and given back.
-use Rattle.std.proofs.Common.{◌≡◌, ℕ, Bool, true, false, cond, min, List, [], ◌∷◌, length, Option, Some, None, Result, Ok, Err, refl, sym, ap, subst, ◌∙◌}
+use Rattle.std.proofs.Common.{◌≡◌, ℕ, min, List, length, Option, Some, None, Result, Ok, Err, refl, sym, ap, subst, ◌∙◌}
 use Rattle.std.specs.List.{AllByRecursion}
-use Rattle.std.specs.Option.{OnSome}
-use Rattle.std.specs.Prelude.{◌==◌, find, option_map, IfOk, OnErr}
+use Rattle.std.specs.Prelude.{IfOk, OnErr}
 use Rattle.rrset.specs.declared.record.Rr.{Rr}
 use Rattle.dnswire.specs.declared.message.Update.{Update}
 use Rattle.history.specs.AtHome.{AreAtHome}
@@ -12,22 +11,18 @@ use Rattle.pushsession.specs.Kept.{KeptSession}
 use Rattle.pushsession.specs.Sessions.{room_of}
 use Rattle.pushsession.specs.Reactions.{TakesMemory}
 use Rattle.pushserver.specs.Laws.{WantsMemoryFor, MayWantMemory}
-use Rattle.pushserver.specs.Hubs.{Numbered, session_in, in_sessions, taken_by}
+use Rattle.livesessions.specs.NumberedSessions.{Numbered, session_in, in_sessions, AreApart, WaitBefore}
+use Rattle.pushserver.specs.Hubs.{taken_by}
 use Rattle.pushserver.specs.Giving.{give}
 use Rattle.pushserver.specs.KeptHubs.{KeptHub, WaitSince}
 use Rattle.pushserver.specs.HubState.{kept_of, IsSound, IsSeated, IsToJudge, IsToReconfirm, Gave, Turns}
-use Rattle.pushserver.specs.NumberedSessions.{AreApart, WaitBefore}
 use Rattle.pushserver.specs.declared.given.Given.{Given}
 use Rattle.pushserver.specs.declared.hub_state.HubState.{HubState}
 use Rattle.pushserver.specs.declared.turning.Turn.{Turn}
 use Rattle.pushserver.specs.declared.turning.Turn.TheVariants as turnings
 use Rattle.subscr.specs.Watching.{KeptWatching, watching_of}
-use Rattle.pushserver.specs.Watched.{Watches}
-use Rattle.pushserver.proofs.NumberedSessions.{alike, itself}
-
-pub on_some : {A : Type 0} {P : Type 0} (r : Option A) (x : A) → r ≡ Some x → OnSome r P → P
-on_some None x is p = cc
-on_some (Some y) x is p = p
+use Rattle.livesessions.specs.Watched.{Watches}
+use Rattle.livesessions.proofs.LentSessions.{as_before}
 
 pub on_each_err : {A E : Type 0} {P : Type 0} (r : Result A E) → P → OnErr r P
 on_each_err (Ok x) p = tt
@@ -62,10 +57,6 @@ sound-planned keeping points same s = record {
   packable = s.packable;
   watched = s.watched;
 }
-
--- a session that is as it was stands as before
-pub as_before : (number : ℕ) (xs ys : Numbered KeptSession) (s t : KeptSession) → session_in number xs ≡ Some s → AreApart xs → t ≡ s → ys ≡ in_sessions number (λ _. t) xs → ys ≡ xs
-as_before number xs ys s t there apart same lent = lent ∙ ap (λ (x : KeptSession). in_sessions number (λ _. x) xs) same ∙ alike number (λ _. s) (λ x. x) xs s apart there refl ∙ itself number xs
 
 -- ---- what the turn came to
 
@@ -107,18 +98,6 @@ pub reconfirm-wants : (k : KeptHub) (number : ℕ) (rr : Rr) → IsToReconfirm n
 reconfirm-wants k number rr ready = turn-wants k number ready.session ready.there (record { live = ready.live; silent = ready.silent; reads = subst TakesMemory (sym ready.request) tt })
 
 -- ---- a session that was changed, and one that isn't there
-
-pub lent-changed : (number : ℕ) (xs ys : Numbered KeptSession) (f : KeptSession → KeptSession) (s t : KeptSession) → session_in number xs ≡ Some s → AreApart xs → t ≡ f s → ys ≡ in_sessions number (λ _. t) xs → ys ≡ in_sessions number f xs
-lent-changed number xs ys f s t there apart step lent = lent ∙ alike number (λ _. t) f xs s apart there step
-
-pub absent : (number : ℕ) (xs : Numbered KeptSession) (f : KeptSession → KeptSession) → session_in number xs ≡ None → xs ≡ in_sessions number f xs
-absent number [] f none = refl
-absent number (x ∷ xs) f none = by (x.0 == number) none (absent number xs f)
-  where
-    by : (b : Bool) → option_map (λ (e : ℕ × KeptSession). e.1) (cond b (Some x) (find (λ (e : ℕ × KeptSession). e.0 == number) xs)) ≡ None → (session_in number xs ≡ None → xs ≡ in_sessions number f xs)
-        → x ∷ xs ≡ (x.0, cond b (f x.1) x.1) ∷ in_sessions number f xs
-    by true e rest = cc
-    by false e rest = ap (λ l. x ∷ l) (rest e)
 
 abbrev taken_as : List ℕ → Option KeptSession → ℕ
 taken_as piece None = 0

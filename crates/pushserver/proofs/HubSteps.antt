@@ -12,7 +12,7 @@ use Rattle.pushserver.specs.KeptHubs.{KeptHub, Forgets, StandsFor}
 use Rattle.dsotlv.specs.Laws.{AreOctets}
 use Rattle.pushserver.specs.Simulation.{BothAnswer}
 use Rattle.pushserver.specs.HubState.{Gave, IsHub, kept_of}
-use Rattle.pushserver.specs.Watched.{Watches}
+use Rattle.livesessions.specs.Watched.{Watches}
 use Rattle.subscr.specs.Watching.{watching_of}
 use Rattle.pushserver.proofs.ForgottenEntries.{forgets-same}
 use Rattle.pushserver.proofs.hub_steps.Calls.{updates_stand, hears_stand, goings_stand, moments_stand, connects_stand, takes_stand, stops_stand, ends_stand}

@@ -23,13 +23,13 @@ use Rattle.pushsession.specs.Reactions.{restarted_by}
 use Rattle.pushsession.specs.declared.request.Request.TheVariants as requests
 use Rattle.pushsession.specs.declared.session_status.SessionStatus.{SessionStatus}
 use Rattle.pushsession.specs.declared.session_status.SessionStatus.TheVariants.{Live}
-use Rattle.pushserver.specs.Hubs.{Numbered, session_in, in_sessions, all_sessions, newest, now, state_now, in_session, entry_changes, behind_at, ended_behind, entered_keeping, can_enter, update}
+use Rattle.livesessions.specs.NumberedSessions.{Numbered, session_in, in_sessions, all_sessions, AreApart}
+use Rattle.pushserver.specs.Hubs.{newest, now, state_now, in_session, entry_changes, behind_at, ended_behind, entered_keeping, can_enter, update}
 use Rattle.pushserver.specs.Giving.{given_after, after_reaction, copies_or, updates, give}
 use Rattle.pushserver.specs.KeptHubs.{KeptHub, Forgets}
 use Rattle.pushserver.specs.HubState.{Gave}
-use Rattle.pushserver.specs.NumberedSessions.{AreApart}
 use Rattle.pushserver.specs.declared.given.Given.{Given}
-use Rattle.pushserver.proofs.SessionLists.{found-all, in-fused}
+use Rattle.livesessions.proofs.SessionLists.{found-all, in-fused}
 use Rattle.pushserver.proofs.hub_steps.Cases.{enters_update, update_as, clocks_as}
 use Rattle.pushserver.proofs.SessionTurns as turns
 use Rattle.pushserver.proofs.SessionTurns.{HandsOn, gave-forgets}

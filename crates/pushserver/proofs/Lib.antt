@@ -1,4 +1,3 @@
-pub mod SessionLists
 pub mod session_steps
 pub mod hub_steps
 pub mod told_rows
@@ -13,8 +12,6 @@ pub mod Wanting
 pub mod Walks
 pub mod WaitingNames
 pub mod Bounds
-pub mod NumberedSessions
-pub mod NotedSessions
 pub mod SessionTurns
 pub mod JudgedTurns
 pub mod ReconfirmTurns
@@ -26,5 +23,4 @@ pub mod GiveSteps
 pub mod Soundness
 pub mod HubSteps
 pub mod AddedEntries
-pub mod Watched
 pub mod Stepping

@@ -17,8 +17,10 @@ use Rattle.history.specs.declared.entry.Entry.{Entry}
 use Rattle.pushsession.specs.Sessions.{least_of, is_open, ended_where, noted, touched}
 use Rattle.pushsession.specs.Kept.{KeptSession, keeping}
 use Rattle.pushsession.specs.declared.session_status.SessionStatus.TheVariants.{Ended}
-use Rattle.pushserver.specs.Behind.{behind_from, ended_from, needed_with, needed_by, RisesWaiting, RestsClosed}
-use Rattle.pushserver.specs.Hubs.{Numbered, all_sessions, behind_at, ended_behind}
+use Rattle.livesessions.specs.Behind.{behind_from, ended_from, needed_with, needed_by}
+use Rattle.pushserver.specs.HubState.{RisesWaiting, RestsClosed}
+use Rattle.livesessions.specs.NumberedSessions.{Numbered, all_sessions}
+use Rattle.pushserver.specs.Hubs.{behind_at, ended_behind}
 use Rattle.pushserver.specs.KeptHubs.{KeptHub, WaitSince, past_of}
 use Rattle.pushserver.specs.SoundHubs.{PointsRise}
 

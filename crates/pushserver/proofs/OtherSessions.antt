@@ -8,7 +8,7 @@ use Rattle.history.specs.declared.entry.Entry.{Entry}
 use Rattle.pushserver.specs.PlainHubs.{Session, Hub}
 use Rattle.pushserver.specs.Hubs.{newest, keeps_now, session_of, in_session, entry_changes, ended_behind, ends_behind, entered_keeping}
 use Rattle.pushserver.specs.Laws.{LeavesSession, GiveChangesOneSession}
-use Rattle.pushserver.proofs.SessionLists.{found-all, found-elsewhere}
+use Rattle.livesessions.proofs.SessionLists.{found-all, found-elsewhere}
 use Rattle.pushserver.proofs.Walks.{AnyMessage, Walks, walks-give}
 
 module _ (other number : ℕ) (apart : other ≡ number → ⊥) where

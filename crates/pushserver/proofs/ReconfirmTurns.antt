@@ -16,11 +16,11 @@ use Rattle.pushsession.specs.Requests.{request_of, reconfirmed, taken_up}
 use Rattle.pushsession.specs.Reactions.{restarted_by}
 use Rattle.pushsession.specs.declared.request.Request.TheVariants as requests
 use Rattle.pushsession.specs.declared.session_status.SessionStatus.TheVariants.{Live}
-use Rattle.pushserver.specs.Hubs.{Numbered, session_in, in_sessions, now, state_now, in_session, entered_keeping, can_enter}
+use Rattle.livesessions.specs.NumberedSessions.{Numbered, session_in, in_sessions, AreApart}
+use Rattle.pushserver.specs.Hubs.{now, state_now, in_session, entered_keeping, can_enter}
 use Rattle.pushserver.specs.Giving.{given_after, after_reaction, copies_or, reconfirm, give}
 use Rattle.pushserver.specs.KeptHubs.{KeptHub, Forgets}
 use Rattle.pushserver.specs.HubState.{Gave}
-use Rattle.pushserver.specs.NumberedSessions.{AreApart}
 use Rattle.pushserver.specs.declared.given.Given.{Given}
 use Rattle.pushserver.proofs.hub_steps.Cases.{key_as}
 use Rattle.pushserver.proofs.ForgottenEntries.{forgets-seat}

@@ -24,7 +24,7 @@ use Rattle.pushserver.specs.PlainHubs.{Hub, Session}
 use Rattle.pushserver.specs.Hubs.{newest, now, state_now, keeps_now, session_of, in_session}
 use Rattle.pushserver.specs.Giving.{known_at, by_request, reacted}
 use Rattle.pushserver.specs.Laws.{RepliesAlone, QueryIsAnswered}
-use Rattle.pushserver.proofs.SessionLists.{found-in, found-elsewhere}
+use Rattle.livesessions.proofs.SessionLists.{found-in, found-elsewhere}
 use Rattle.pushserver.proofs.hub_steps.Cases.{request_as, session_as}
 
 -- ---- its header

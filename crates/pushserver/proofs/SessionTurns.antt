@@ -27,18 +27,18 @@ use Rattle.pushsession.specs.declared.request.Request.{Request}
 use Rattle.pushsession.specs.declared.request.Request.TheVariants as requests
 use Rattle.pushsession.specs.declared.session_status.SessionStatus.{SessionStatus}
 use Rattle.pushsession.specs.declared.session_status.SessionStatus.TheVariants.{Live, AskedToStop, Stopped, Ended}
-use Rattle.pushserver.specs.Hubs.{Numbered, session_in, state_now, now, records_now, in_session}
+use Rattle.livesessions.specs.NumberedSessions.{Numbered, session_in, AreApart}
+use Rattle.pushserver.specs.Hubs.{state_now, now, records_now, in_session}
 use Rattle.pushserver.specs.Giving as giving
 use Rattle.pushserver.specs.Giving.{has_home, known_at, by_request, bytes_of, given_of, did, copies, copies_or, given_after, after_reaction, after_packing, give}
 use Rattle.pushserver.specs.KeptHubs.{KeptHub, KeptGiving, Forgets}
 use Rattle.pushserver.specs.HubState.{Gave}
 use Rattle.pushserver.specs.Rows.{AreTold}
-use Rattle.pushserver.specs.NumberedSessions.{AreApart}
 use Rattle.pushserver.specs.declared.given.Given.{Given}
 use Rattle.pushserver.specs.declared.given.Given.TheVariants.{Bytes, Worked, Nothing, Ending, End}
 use Rattle.pushserver.proofs.ForgottenEntries.{forgets-same}
-use Rattle.pushserver.proofs.SessionLists.{found-in, in-fused}
-use Rattle.pushserver.proofs.NumberedSessions.{alike, itself}
+use Rattle.livesessions.proofs.SessionLists.{found-in, in-fused}
+use Rattle.livesessions.proofs.NumberedSessions.{alike, itself}
 use Rattle.pushserver.proofs.hub_steps.Cases.{session_as, found_as, works_as, output_as, give_as}
 
 nothing_in : (xs : List ℕ) → is_empty xs ≡ true → xs ≡ []

@@ -11,12 +11,12 @@ use Rattle.history.specs.declared.entry.Entry.{Entry}
 use Rattle.pushsession.specs.Kept.{KeptSession}
 use Rattle.pushsession.specs.Sessions.{is_open}
 use Rattle.pushserver.specs.PlainHubs.{Hub, Session, Subscription, Queue}
-use Rattle.pushserver.specs.Behind.{RisesWaiting, RestsClosed}
-use Rattle.pushserver.specs.Hubs.{Numbered, newest}
+use Rattle.pushserver.specs.HubState.{RisesWaiting, RestsClosed}
+use Rattle.livesessions.specs.NumberedSessions.{Numbered, AreApart, AreBelow, WaitBefore}
+use Rattle.pushserver.specs.Hubs.{newest}
 use Rattle.pushserver.specs.Rows.{AreTold}
 use Rattle.subscr.specs.Asked.{Asked}
 use Rattle.pushserver.specs.KeptHubs.{KeepsSent, queue_of}
-use Rattle.pushserver.specs.NumberedSessions.{AreApart, AreBelow, WaitBefore}
 use Rattle.pushserver.specs.HubState.{IsHub, IsSound, kept_of}
 use Rattle.pushserver.specs.declared.hub_state.HubState.{HubState}
 use Rattle.pushserver.specs.SoundHubs.{ArePast, AreWatched, PointsRise}

@@ -22,10 +22,11 @@ use Rattle.pushserver.specs.HubState.{kept_of}
 use Rattle.pushserver.specs.declared.hub_state.HubState.{HubState}
 use Rattle.pushserver.specs.KeptHubs.{KeptHub}
 use Rattle.pushserver.specs.Offering.{changes_by, offered_changes}
-use Rattle.pushserver.specs.Watched.{allowed, noting_steps, update_changes, hear_changes, gone_changes}
+use Rattle.livesessions.specs.Watched.{noting_steps}
+use Rattle.pushserver.specs.Watched.{allowed, update_changes, hear_changes, gone_changes}
 use Rattle.history.proofs.ToldPlans.{changes-told}
 use Rattle.pushserver.proofs.EntrySteps.{same_past, with_past}
-use Rattle.pushserver.proofs.NotedSessions.{all-within}
+use Rattle.livesessions.proofs.NotedSessions.{all-within}
 use Rattle.pushserver.proofs.Offering.{plan-changes}
 
 module _ (k : KeptHub) (changed : List Changed) where

@@ -25,7 +25,7 @@ use Rattle.pushserver.specs.PlainHubs.{Hub, Session, first_answer}
 use Rattle.pushserver.specs.Hubs.{now, keeps_now, tells_now, session_of, in_session}
 use Rattle.pushserver.specs.Giving.{has_home, by_request, reacted}
 use Rattle.pushserver.specs.Laws.{IsAcceptable, SubscribeIsAnswered}
-use Rattle.pushserver.proofs.SessionLists.{found-in}
+use Rattle.livesessions.proofs.SessionLists.{found-in}
 use Rattle.pushserver.proofs.hub_steps.Cases.{session_as}
 
 -- ---- the tests

@@ -1,11 +1,12 @@
 -- The hub as it is kept, and what its private calls rest on.
 --     seen_of past, kept_of keeping      what is known of all entries; the hub that its parts are
+--     RisesWaiting sessions, RestsClosed sessions      of each the points rise since which its names wait; none waits of one that is stopped or ended
 --     IsSound keeping, IsHub keeping      what holds of them between calls; they stand for a plain hub
 --     Gave giving given before after kept      what a call of `give` answered and left
 --     IsSeated kept number session state timers rows      the session stands in a hub of such parts
 --     IsToJudge number found sessions, IsToReconfirm number rr sessions      an update is to be judged, a record to be reconfirmed
 --     Turns      what a session's turn came to
-use Rattle.std.specs.Prelude.{◌≡◌, ℕ, ◌≤◌, List, [], ◌++◌, drop, length, Option, Some, IfSome, ok_or}
+use Rattle.std.specs.Prelude.{◌≡◌, ℕ, ◌≤◌, false, List, [], ◌++◌, drop, map, length, Option, Some, IfSome, ok_or}
 use Rattle.std.specs.List.{AllByRecursion}
 use Rattle.rrset.specs.RecordSet.{RecordSet}
 use Rattle.rrset.specs.Rcodes.{formerr}
@@ -19,17 +20,18 @@ use Rattle.history.specs.AtHome.{AreAtHome}
 use Rattle.history.specs.States.{State, entry_size, max_journal_octets, update_in}
 use Rattle.history.specs.declared.entry.Entry.TheVariants as entries
 use Rattle.pushsession.specs.Kept.{KeptSession}
+use Rattle.pushsession.specs.Sessions.{is_open}
 use Rattle.pushsession.specs.Requests.{message_of, request_of}
 use Rattle.pushsession.specs.declared.request.Request.TheVariants as requests
 use Rattle.pushsession.specs.declared.session_status.SessionStatus.TheVariants.{Live}
-use Rattle.pushserver.specs.Hubs.{Numbered, session_in, newest, state_now, records_now, in_session}
+use Rattle.livesessions.specs.NumberedSessions.{Numbered, session_in, AreApart, AreBelow, WaitBefore}
+use Rattle.pushserver.specs.Hubs.{newest, state_now, records_now, in_session}
 use Rattle.pushserver.specs.Giving.{give}
 use Rattle.pushserver.specs.PlainHubs.{Hub}
 use Rattle.pushserver.specs.KeptHubs.{KeptHub, KeptGiving, Forgets, Seen, StandsFor, WaitSince}
 use Rattle.pushserver.specs.Rows.{AreTold}
-use Rattle.pushserver.specs.Behind.{RisesWaiting, RestsClosed}
-use Rattle.pushserver.specs.NumberedSessions.{AreApart, AreBelow, WaitBefore}
-use Rattle.pushserver.specs.Watched.{Watches}
+use Rattle.pushserver.specs.SoundHubs.{PointsRise}
+use Rattle.livesessions.specs.Watched.{Watches}
 use Rattle.subscr.specs.Watching.{watching_of}
 use Rattle.pushserver.specs.declared.given.Given.{Given}
 use Rattle.pushserver.specs.declared.hub_state.HubState.{HubState}
@@ -49,6 +51,12 @@ kept_of keeping = record {
   sessions = keeping.sessions;
   numbers_given = keeping.numbers_given;
 }
+
+abbrev pub RisesWaiting : Numbered KeptSession → Type 0
+RisesWaiting sessions = AllByRecursion (λ e. PointsRise (map (λ w. w.point) e.1.queue)) sessions
+
+abbrev pub RestsClosed : Numbered KeptSession → Type 0
+RestsClosed sessions = AllByRecursion (λ e. is_open e.1.standing ≡ false → e.1.queue ≡ []) sessions
 
 -- no number twice, and all were given out; the table has all records, each at home; names wait since points that are kept, each behind
 -- those that wait longer, and can be told; none waits of a session that is stopped or has ended; each session watches the names that it

@@ -1,12 +1,11 @@
 -- A hub: one history, and the sessions that are told of it (RFC 8765), whatever a session keeps.
 --     SessionKind      what the sessions of a hub keep, and what is told to them
 --     HubOf, empty_hub      a hub; one in which nothing has changed and nobody asks
---     Numbered, session_in, in_sessions, all_sessions      sessions with their numbers
 --     newest, state_now, now, records_now      the newest point, and the state and the records there
 --     entry_changes entry hub, entered entry hub      the keys that an entry changes; the hub after it
 --     behind_at hub entry session, entered_keeping entry hub      why a session falls behind by an entry; such ones end, and then it is made
 --     update, hear, link_gone, moment, connect, take_octets, stop, disconnect      the calls beside `give`
-use Rattle.std.specs.Prelude.{ℕ, ◌+◌, Bool, true, false, not, ◌&&◌, cond, List, [], ◌∷◌, ◌++◌, map, length, filter, find, min, Option, Some, None, Ok, Err, nat_lt, ◌==◌, option_map, if◌then◌else◌}
+use Rattle.std.specs.Prelude.{ℕ, ◌+◌, Bool, true, false, not, ◌&&◌, cond, List, [], ◌∷◌, ◌++◌, length, min, Option, Some, None, Ok, Err, nat_lt, option_map, if◌then◌else◌}
 use Rattle.push_base.specs.Limits.{max_number}
 use Rattle.dnsname.specs.Reading.{place_of}
 use Rattle.rrset.specs.RecordSet.{RecordSet, changes}
@@ -24,7 +23,8 @@ use Rattle.history.specs.declared.entry.Entry.{Entry}
 use Rattle.history.specs.declared.entry.Entry.TheVariants as entries
 use Rattle.pushsession.specs.Sessions.{SessionOf, Keeps, new_session, is_open, room_of, with_piece, asked_to_stop, ended_where, timed, noted}
 use Rattle.pushsession.specs.Subscribing.{Tells}
-use Rattle.pushserver.specs.declared.numbered_sessions.TheConstants as sessions
+use Rattle.livesessions.specs.NumberedSessions.{session_in, in_sessions, all_sessions, without_session}
+use Rattle.livesessions.specs.declared.numbered_sessions.TheConstants as sessions
 use Rattle.pushserver.specs.declared.given.Why.{Why}
 use Rattle.pushserver.specs.declared.given.Why.TheVariants as whys
 use Rattle.pushserver.specs.declared.given.Heard.{Heard}
@@ -52,23 +52,6 @@ pub record HubOf {A Q M S : Type 0} (kind : SessionKind A Q M S) : Type 0 where
 
 abbrev pub empty_hub : {A Q M S : Type 0} (kind : SessionKind A Q M S) → S → State → Timers → HubOf kind
 empty_hub kind seen start timers = record { start = start; timers = timers; history = []; seen = seen; sessions = []; numbers_given = 0 }
-
--- ---- sessions with their numbers
-
-abbrev pub Numbered : Type 0 → Type 0
-Numbered S = List (ℕ × S)
-
-abbrev pub session_in : {S : Type 0} → ℕ → Numbered S → Option S
-session_in number sessions = option_map (λ e. e.1) (find (λ e. e.0 == number) sessions)
-
-abbrev pub in_sessions : {S : Type 0} → ℕ → (S → S) → Numbered S → Numbered S
-in_sessions number f sessions = map (λ e. (e.0, cond (e.0 == number) (f e.1) e.1)) sessions
-
-abbrev pub all_sessions : {S : Type 0} → (S → S) → Numbered S → Numbered S
-all_sessions f sessions = map (λ e. (e.0, f e.1)) sessions
-
-abbrev pub without_session : {S : Type 0} → ℕ → Numbered S → Numbered S
-without_session number sessions = filter (λ e. not (e.0 == number)) sessions
 
 -- ---- what a hub has now
 

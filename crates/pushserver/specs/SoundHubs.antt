@@ -16,7 +16,7 @@ use Rattle.pushserver.specs.Hubs.{newest, state_now, max_sessions}
 use Rattle.pushserver.specs.Rows.{IsTellable}
 use Rattle.pushserver.specs.Giving.{is_served_at}
 use Rattle.pushserver.specs.PlainHubs.{Hub, Session, Subscription, Queue, asked_of}
-use Rattle.pushserver.specs.NumberedSessions.{AreApart}
+use Rattle.livesessions.specs.NumberedSessions.{AreApart}
 
 -- the points of names that wait are of the past
 abbrev pub ArePast : ℕ → Queue → Type 0

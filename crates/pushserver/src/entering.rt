@@ -8,15 +8,16 @@ ghost use Rattle.pushserver.specs.Hubs.{can_enter, entered_keeping, entry_change
 ghost use Rattle.pushserver.specs.HubState.{IsSound, kept_of};
 ghost use Rattle.pushserver.specs.KeptHubs.{Forgets};
 ghost use Rattle.pushserver.specs.Offering.{code_of, heard_of, is_made, offered, offered_changes};
-ghost use Rattle.pushserver.specs.Watched.{Watches, allowed};
+ghost use Rattle.livesessions.specs.Watched.{Watches};
+ghost use Rattle.pushserver.specs.Watched.{allowed};
 ghost use Rattle.push_base.specs.Counted.{CountsUpTo};
 ghost use Rattle.subscr.specs.Watching.{watching_of};
 
 use crate::given::{Heard, Why};
 use crate::hub_state::HubState;
-use crate::noting::note;
 use history::entry::Entry;
 use history::{ChangedKeys, Planned};
+use livesessions::note;
 use push_base::Steps;
 use push_base::limits::MAX_NUMBER;
 use pushsession::NoMemory;

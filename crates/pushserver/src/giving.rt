@@ -5,7 +5,7 @@ ghost use Rattle.pushserver.specs.Hubs.{records_now};
 ghost use Rattle.pushserver.specs.Giving.{give};
 ghost use Rattle.pushserver.specs.HubState.{Gave, IsSound, IsToJudge, IsToReconfirm, kept_of};
 ghost use Rattle.pushserver.specs.Laws.{MayWantMemory};
-ghost use Rattle.pushserver.specs.Watched.{Watches};
+ghost use Rattle.livesessions.specs.Watched.{Watches};
 ghost use Rattle.subscr.specs.Watching.{watching_of};
 
 use crate::given::Given;

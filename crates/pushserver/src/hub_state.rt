@@ -15,18 +15,19 @@ ghost use Rattle.pushserver.specs.Hubs.{can_enter, connect, disconnect, hear, li
 ghost use Rattle.pushserver.specs.Giving.{reconfirm};
 ghost use Rattle.pushserver.specs.KeptHubs.{Forgets, new_kept};
 ghost use Rattle.pushserver.specs.HubState.{IsSound, kept_of};
-ghost use Rattle.pushserver.specs.Watched.{Watches, allowed, gone_changes, hear_changes, update_changes};
+ghost use Rattle.livesessions.specs.Watched.{Watches};
+ghost use Rattle.pushserver.specs.Watched.{allowed, gone_changes, hear_changes, update_changes};
 ghost use Rattle.push_base.specs.Counted.{CountsUpTo};
 ghost use Rattle.subscr.specs.Watching.{watching_of};
 
 use crate::decode::{read_datagram, read_message};
 use crate::entering::{code_of, heard_of, is_made};
 use crate::given::Heard;
-use crate::numbered_sessions::{MAX_SESSIONS, Sessions};
 use dnswire::Update;
 use dsosession::session::Timers;
 use history::entry::Entry;
 use history::{Homes, Points};
+use livesessions::{MAX_SESSIONS, Sessions};
 use push_base::Steps;
 use push_base::limits::MAX_NUMBER;
 use pushsession::{NoMemory, PushSession};

@@ -30,7 +30,8 @@ use Rattle.pushserver.specs.ToldMessages.{IsNoEarlier}
 use Rattle.pushserver.proofs.Subscribing.{verdict-holds}
 use Rattle.pushserver.proofs.Walks.{AnyMessage, bring_any, Step, restarts, reacts, answers_subscribe, answers_update, answers_query, packs_names, comes_to_stop, ends_with, copies_front, IsKept, keeps-calls}
 use Rattle.pushserver.proofs.hub_steps.Cases.{itself_as}
-use Rattle.pushserver.proofs.hub_steps.Pairs.{all-map, all-weaken}
+use Rattle.pushserver.proofs.hub_steps.Pairs.{all-weaken}
+use Rattle.livesessions.proofs.SessionLists.{all-map}
 use Rattle.pushserver.proofs.hub_steps.Queued.{points-fold}
 use Rattle.pushsession.specs.Reactions.{reacts_itself, by_itself}
 use Rattle.pushsession.specs.Sessions.{with_piece, is_open, asked_to_stop, ended_with, ended_where, with_frame, answers, says_stop, touched, without_first}

@@ -12,7 +12,7 @@ use Rattle.pushsession.specs.declared.session_status.SessionStatus.TheVariants.{
 use Rattle.pushserver.specs.Calls.{HubCall, updates, hears, goes, moves, connects, takes as taking, gives, stops, ends as ending, called}
 use Rattle.pushserver.specs.Hubs.{session_of, in_session, taken_by}
 use Rattle.pushserver.specs.PlainHubs.{Hub, Session, plain_keeps}
-use Rattle.pushserver.proofs.SessionLists.{same-number}
+use Rattle.livesessions.proofs.SessionLists.{same-number}
 use Rattle.pushserver.proofs.Walks.{AnyMessage, bring_any, Step, IsKept, keeps-called}
 use Rattle.pushtelling.specs.Runs.{takes_in, is_live, first_of, message_up, reacts_to, taken_in, reacted_to, ClosedOnesRest}
 use Rattle.pushtelling.proofs.Standings.{has-step, has-ended_where}

@@ -8,8 +8,9 @@ use Rattle.std.proofs.lemmas.List.{append-nil, append_assoc}
 use Rattle.history.specs.declared.entry.Entry.{Entry}
 use Rattle.pushsession.specs.Sessions.{new_session, with_piece, copied, asked_to_stop, ended_where, without_first}
 use Rattle.pushserver.specs.PlainHubs.{Hub, Session, plain_keeps}
-use Rattle.pushserver.specs.Hubs.{session_in, now, keeps_now, session_of, each_session, in_session, disconnect}
-use Rattle.pushserver.proofs.SessionLists.{found-changed, found-last, found-left, other-number}
+use Rattle.livesessions.specs.NumberedSessions.{session_in}
+use Rattle.pushserver.specs.Hubs.{now, keeps_now, session_of, each_session, in_session, disconnect}
+use Rattle.livesessions.proofs.SessionLists.{found-changed, found-last, found-left, other-number}
 use Rattle.pushserver.proofs.Walks.{AnyMessage, Step, restarts, reacts, answers_subscribe, answers_update, answers_query, packs_names, comes_to_stop, ends_with, copies_front, IsKept, with_new}
 use Rattle.pushtelling.specs.Laws.{Grows}
 use Rattle.pushtelling.proofs.Tells.{by_entry}

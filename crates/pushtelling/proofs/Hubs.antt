@@ -11,7 +11,7 @@ use Rattle.pushsession.specs.Sessions.{new_session, room_of, with_piece, is_open
 use Rattle.pushsession.specs.declared.session_status.SessionStatus.TheVariants.{AskedToStop}
 use Rattle.pushserver.specs.PlainHubs.{Hub, Session, plain_keeps}
 use Rattle.pushserver.specs.Hubs.{newest, now, keeps_now, session_of, each_session, in_session, entered, stop}
-use Rattle.pushserver.proofs.SessionLists.{found-one, each-changed}
+use Rattle.livesessions.proofs.SessionLists.{found-one, each-changed}
 use Rattle.pushserver.proofs.Walks.{Entering, by_update, by_moment, by_link, IsKept}
 use Rattle.rrset.proofs.Places.{all_filter}
 use Rattle.dsotlv.specs.Laws.{AreOctets}

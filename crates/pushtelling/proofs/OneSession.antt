@@ -5,8 +5,8 @@
 use Rattle.std.proofs.Common.{◌≡◌, ℕ, Bool, true, false, cond, [], ◌∷◌, ◌++◌, map, Option, Some, None, sym, ◌∙◌, subst, refl}
 use Rattle.std.specs.Prelude.{option_map, ◌==◌}
 use Rattle.std.specs.Option.{option_or}
-use Rattle.pushserver.specs.Hubs.{Numbered, session_in, in_sessions, without_session}
-use Rattle.pushserver.proofs.SessionLists.{found-changed, found-in, found-last, found-left}
+use Rattle.livesessions.specs.NumberedSessions.{Numbered, session_in, in_sessions, without_session}
+use Rattle.livesessions.proofs.SessionLists.{found-changed, found-in, found-last, found-left}
 
 abbrev pub OfOne : {S : Type 0} → ℕ → (S → Type 0) → Numbered S → Type 0
 OfOne {S} number Q xs = (s : S) → session_in number xs ≡ Some s → Q s

@@ -23,7 +23,7 @@ use Rattle.pushserver.specs.PlainHubs.{Hub, Giving, Session, Made, frame_of, pla
 use Rattle.pushserver.specs.Hubs.{now, keeps_now, session_of, in_session, entered, entered_keeping, taken_by, take_octets, disconnect}
 use Rattle.pushserver.specs.Giving.{by_standing, give, reacted, after_reaction}
 use Rattle.pushserver.specs.Calls.{HubCall, updates, hears, goes, moves, connects, takes as taking, gives, stops, ends as ending, called, after_calls, BringsOctets}
-use Rattle.pushserver.proofs.SessionLists.{same-number, found-changed, found-in, found-last, found-left}
+use Rattle.livesessions.proofs.SessionLists.{same-number, found-changed, found-in, found-last, found-left}
 use Rattle.pushserver.proofs.hub_steps.Cases.{works_as, output_as, give_as}
 use Rattle.pushserver.proofs.session_steps.Octets.{rest_octets}
 use Rattle.pushserver.proofs.Walks.{AnyMessage, Entering, EndsSome, entering-kept, timed-kept, holds-update, holds-hear, holds-going, holds-moment, holds-connect, with_new, Reacts, Gives, hands_nothing, hands_front, TakesUp, reacts-give, Walks, walks-give}

@@ -7,8 +7,8 @@ use Rattle.std.proofs.lemmas.List.Folds.{list_any-append}
 use Rattle.history.specs.declared.entry.Totals.{Totals}
 use Rattle.push_base.specs.Starter.{Jobs}
 use Rattle.hublock.specs.Feeds.{FeedState, added, each, parts_each}
-use Rattle.hublock.specs.declared.loop_end.LoopEnd.{LoopEnd}
-use Rattle.hublock.specs.declared.loop_end.LoopEnd.TheVariants as loops
+use Rattle.hubloops.specs.declared.loop_end.LoopEnd.{LoopEnd}
+use Rattle.hubloops.specs.declared.loop_end.LoopEnd.TheVariants as loops
 use Rattle.serving.specs.declared.setup.Fed.{Fed}
 use Rattle.serving.specs.declared.serve_end.Cause.{Cause}
 use Rattle.serving.specs.declared.serve_end.Cause.TheVariants as causes

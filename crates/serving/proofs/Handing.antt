@@ -6,7 +6,7 @@ use Rattle.push_base.specs.Starter.{Jobs}
 use Rattle.push_base.specs.Told.{TellsMore}
 use Rattle.push_base.specs.declared.role.Role.{Role}
 use Rattle.push_base.specs.declared.role.Role.TheVariants as roles
-use Rattle.hublock.proofs.Leading.{tells_none, tells_join}
+use Rattle.hubloops.proofs.Leading.{tells_none, tells_join}
 use Rattle.serving.specs.Jobs.{HandsFront, HandsOver, jobs_of, link_jobs, pair_of, session_jobs}
 use Rattle.serving.specs.Servers.{SeatsAll, ServerState}
 use Rattle.serving.specs.Serving.{Starts, StartsAll}

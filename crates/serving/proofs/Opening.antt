@@ -11,7 +11,7 @@ use Rattle.push_base.specs.declared.role.Role.TheVariants as roles
 use Rattle.pushserver.specs.Hubs.{max_sessions}
 use Rattle.hublock.specs.Feeds.{parts_each}
 use Rattle.push_base.specs.Causes.{CountsOne}
-use Rattle.hublock.proofs.Leading.{tells_none, tells_join}
+use Rattle.hubloops.proofs.Leading.{tells_none, tells_join}
 use Rattle.serving.specs.Jobs.{HandsFront, HandsOver, link_jobs, pair_of, session_jobs}
 use Rattle.serving.specs.Servers.{ServerState, IsWhole, SeatsAll, SeatsOne, StartsFirst, new_server, with_job, with_jobs, with_link, with_part_less, with_session}
 use Rattle.serving.specs.Serving.{Accepts, CountsBy, Returns}

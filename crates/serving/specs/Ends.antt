@@ -13,8 +13,8 @@ use Rattle.std.specs.List.{list_any}
 use Rattle.history.specs.declared.entry.Totals.{Totals}
 use Rattle.hublock.specs.Feeds.{FeedState}
 use Rattle.hublock.specs.Registers.{Ending, entered}
-use Rattle.hublock.specs.declared.loop_end.LoopEnd.{LoopEnd}
-use Rattle.hublock.specs.declared.loop_end.LoopEnd.TheVariants as loops
+use Rattle.hubloops.specs.declared.loop_end.LoopEnd.{LoopEnd}
+use Rattle.hubloops.specs.declared.loop_end.LoopEnd.TheVariants as loops
 use Rattle.serving.specs.declared.serve_end.ServeEnd.{ServeEnd}
 use Rattle.serving.specs.declared.serve_end.ServeEnd.TheVariants as ends
 use Rattle.serving.specs.declared.serve_end.Fault.{Fault}

@@ -3,7 +3,7 @@
 ghost use Rattle.std.specs.Prelude.{◌≡◌, true};
 ghost use Rattle.push_base.specs.declared.role.Role.TheVariants as roles;
 ghost use Rattle.hublock.specs.Feeds.{each};
-ghost use Rattle.hublock.specs.Jobs.{role_in};
+ghost use Rattle.hubloops.specs.Jobs.{role_in};
 ghost use Rattle.serving.specs.Ends.{tells_fault};
 
 use crate::log_lines::tell_loop_end;

@@ -1,34 +1,72 @@
 //! What is logged of a server and of its jobs.
 
 use hublock::LoopEnd;
-use log::{Level, Log, error, info, log, warn};
+use log::{Level, Log, log};
 use push_base::Role;
+use std::fmt;
+use std::fmt::{Display, Formatter};
+
+/// What is told of a server or of its jobs, in one line.
+#[derive(Clone, Copy)]
+enum Told {
+    /// A session got a seat.
+    Seat { session: u64 },
+    /// Something of the whole server.
+    Whole { words: &'static str },
+    /// How the loop of a job ended.
+    End { role: Role, words: &'static str },
+}
+
+impl Display for Told {
+    fn fmt<W: fmt::Write>(&self, f: &mut Formatter<W>) -> fmt::Result {
+        match *self {
+            Told::Seat { session } => write!(f, "session {session} accepted"),
+            Told::Whole { words } => f.write_str(words),
+            Told::End { role, words } => write!(f, "{}: {words}", InWords(role)),
+        }
+    }
+}
+
+// Whose loop it is, in words.
+#[derive(Clone, Copy)]
+struct InWords(Role);
+
+impl Display for InWords {
+    fn fmt<W: fmt::Write>(&self, f: &mut Formatter<W>) -> fmt::Result {
+        match self.0 {
+            Role::Reader(session) => write!(f, "session {session}, reading"),
+            Role::Writer(session) => write!(f, "session {session}, writing"),
+            Role::Link(link) => write!(f, "link {link}"),
+            Role::Clock => f.write_str("clock"),
+        }
+    }
+}
+
+fn tell<R: Log>(rt: &R, level: Level, told: Told) {
+    log!(rt; level, "{told}");
+}
 
 /// A session got a seat.
 pub(crate) fn tell_session<R: Log>(rt: &R, session: u64) {
-    info!(rt; "session {session} accepted");
+    tell(rt, Level::Info, Told::Seat { session });
 }
 
 /// A client got none.
 pub(crate) fn tell_no_seat<R: Log>(rt: &R) {
-    warn!(rt; "a client was turned away: all seats are taken");
+    let words = "a client was turned away: all seats are taken";
+    tell(rt, Level::Warn, Told::Whole { words });
 }
 
 /// The server is given up, and all its jobs are to stop.
 pub(crate) fn tell_stop<R: Log>(rt: &R) {
-    error!(rt; "the server stops all sessions and links");
+    let words = "the server stops all sessions and links";
+    tell(rt, Level::Error, Told::Whole { words });
 }
 
 /// How the loop of a job ended.
 pub(crate) fn tell_loop_end<R: Log>(rt: &R, role: Role, end: LoopEnd) {
-    let level = level_of(end);
     let words = words_of(end);
-    match role {
-        Role::Reader(session) => log!(rt; level, "session {session}, reading: {words}"),
-        Role::Writer(session) => log!(rt; level, "session {session}, writing: {words}"),
-        Role::Link(link) => log!(rt; level, "link {link}: {words}"),
-        Role::Clock => log!(rt; level, "clock: {words}"),
-    }
+    tell(rt, level_of(end), Told::End { role, words });
 }
 
 // A loop's end is an error where the server works on without what it did.

@@ -2,7 +2,7 @@
 
 ghost use Rattle.std.specs.Prelude.{◌≡◌, false};
 ghost use Rattle.hublock.specs.Feeds.{each};
-ghost use Rattle.hublock.specs.Jobs.{role_in};
+ghost use Rattle.hubloops.specs.Jobs.{role_in};
 ghost use Rattle.serving.specs.Ends.{is_link_fault};
 ghost use Rattle.serving.specs.Jobs.{is_link};
 

@@ -1,6 +1,6 @@
 //! Jobs that were started and aren't links', and those of them that are over.
 
-ghost use Rattle.std.specs.Prelude.{◌≡◌, ◌≤◌, ◌<◌, ◌+◌, false, vec_len};
+ghost use Rattle.std.specs.Prelude.{◌≡◌, ◌≤◌, ◌<◌, ◌+◌, false, vec_len, vec_capacity, OnOk};
 ghost use Rattle.std.specs.List.{list_any};
 ghost use Rattle.hublock.specs.Feeds.{each};
 ghost use Rattle.serving.specs.Ends.{is_link_fault};
@@ -22,8 +22,15 @@ pub(crate) struct Running<R: Log + Wait + Copy + 'static, O: Surroundings, B: Bo
     pub(crate) over: Arc<AtomicBool>,
 }
 
-/// Two ends of a place where a job tells that it is over.
-pub(crate) fn flags(alloc: Global) -> Result<(Arc<AtomicBool>, Arc<AtomicBool>), NoMemory> {
+/// Two ends of a place where a job tells that it is over. There is room in a list of jobs for one more then.
+pub(crate) fn flags<J: Drop>(
+    alloc: Global,
+    jobs: &mut Vec<J>,
+) -> Result<(Arc<AtomicBool>, Arc<AtomicBool>), NoMemory>
+    ensures len { vec_len jobs.new ≡ vec_len jobs.old }
+    ensures room { OnOk result (vec_len jobs.new < vec_capacity jobs.new) }
+{
+    jobs.reserve(1)?;
     let ours = Arc::new(alloc, AtomicBool::new(false))?;
     let theirs = Arc::try_clone(&ours)?;
     Ok((ours, theirs))

@@ -4,7 +4,7 @@ ghost use Rattle.std.specs.Prelude.{◌≡◌, ◌⊎◌, ◌<◌, ◌≤◌, �
 ghost use Rattle.push_base.specs.Causes.{Rose};
 ghost use Rattle.push_base.specs.declared.role.Role.TheVariants as roles;
 ghost use Rattle.hublock.specs.Feeds.{all_parts, each, parts_each, whole_seats};
-ghost use Rattle.hublock.specs.Jobs.{role_in};
+ghost use Rattle.hubloops.specs.Jobs.{role_in};
 ghost use Rattle.serving.specs.Jobs.{HandsOver, is_link, link_jobs, pair_of};
 ghost use Rattle.serving.specs.Servers.{IsWhole, SeatsAll, SeatsOne, StartsFirst, new_server, with_job, with_jobs, with_part_less};
 ghost use Rattle.serving.specs.Serving.{Accepts, Returns, Starts, StartsAll, numbers_of};
@@ -152,8 +152,7 @@ impl<
         ensures later { O.Starter.faults starter.old ≤ O.Starter.faults starter.new }
         ensures cause { IsErrOf result Fault.Outside → Rose (O.Starter.faults starter.old) (O.Starter.faults starter.new) }
     {
-        let (over, tells) = flags(self.alloc)?;
-        self.jobs.reserve(1)?;
+        let (over, tells) = flags(self.alloc, &mut self.jobs)?;
         let job = hand(
             self.rt,
             self.alloc,

@@ -21,7 +21,8 @@ use Rattle.history.specs.declared.entry.Entry.TheVariants as entries
 use Rattle.pushsession.specs.Kept.{KeptSession, keeping}
 use Rattle.pushsession.specs.Sessions.{is_open, room_of, new_session, with_piece, asked_to_stop, due, timed}
 use Rattle.pushserver.specs.PlainHubs.{Hub, Session, plain_keeps}
-use Rattle.pushserver.specs.Hubs.{Numbered, session_in, without_session, newest, now, state_now, each_session, entered, entered_keeping, can_enter, update, hear, link_gone, moment, connect, take_octets, stop, disconnect, max_sessions}
+use Rattle.livesessions.specs.NumberedSessions.{Numbered, session_in, without_session}
+use Rattle.pushserver.specs.Hubs.{newest, now, state_now, each_session, entered, entered_keeping, can_enter, update, hear, link_gone, moment, connect, take_octets, stop, disconnect, max_sessions}
 use Rattle.pushserver.specs.Offering.{offered_by, offered, heard_of, is_made}
 use Rattle.pushserver.specs.Rows.{IsTellable}
 use Rattle.pushserver.specs.KeptHubs.{KeptHub, StandsFor, WaitSince}

@@ -26,7 +26,8 @@ use Rattle.pushsession.specs.Sessions.{touched, noted}
 use Rattle.pushsession.specs.Subscribing.{is_served}
 use Rattle.zoneupdate.proofs.Filters.{and-left, and-right, and-both}
 use Rattle.pushserver.specs.PlainHubs.{Hub, Session, plain_keeps}
-use Rattle.pushserver.specs.Hubs.{newest, state_now, records_now, entered, behind_at, ended_behind, ends_behind, entered_keeping, all_sessions, max_sessions}
+use Rattle.livesessions.specs.NumberedSessions.{all_sessions}
+use Rattle.pushserver.specs.Hubs.{newest, state_now, records_now, entered, behind_at, ended_behind, ends_behind, entered_keeping, max_sessions}
 use Rattle.pushserver.specs.Giving.{is_served_at}
 use Rattle.pushserver.specs.Rows.{IsTellable}
 use Rattle.pushserver.specs.KeptHubs.{KeptHub, StandsFor, KeepsSent, WaitSince, queue_of}
@@ -39,7 +40,9 @@ use Rattle.pushserver.proofs.session_steps.Parts.{SessionFits, Asks, Waits, read
 use Rattle.pushserver.proofs.WaitingNames.{watched-entered}
 use Rattle.pushserver.proofs.told_rows.Histories.{state_at-last, states-more}
 use Rattle.pushserver.proofs.told_rows.Told.{tellable-told}
-use Rattle.pushserver.proofs.hub_steps.Pairs.{zip-map, all-map, all-weaken, distinct-map}
+use Rattle.livesessions.proofs.SessionLists.{distinct-map}
+use Rattle.pushserver.proofs.hub_steps.Pairs.{zip-map, all-weaken}
+use Rattle.livesessions.proofs.SessionLists.{all-map}
 use Rattle.pushserver.proofs.hub_steps.Pasts.{past-from}
 use Rattle.pushserver.proofs.hub_steps.Falling.{behind-keeps}
 use Rattle.pushserver.proofs.session_steps.Since.{ended_where-since}

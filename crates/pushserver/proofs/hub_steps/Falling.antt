@@ -14,7 +14,7 @@ use Rattle.pushsession.specs.declared.session_status.SessionStatus.{SessionStatu
 use Rattle.pushserver.specs.PlainHubs.{Hub, Session, plain_keeps}
 use Rattle.pushserver.specs.Hubs.{newest, behind_at, ended_behind}
 use Rattle.pushserver.specs.KeptHubs.{WaitSince, queue_of}
-use Rattle.pushserver.proofs.hub_steps.Pairs.{all-map}
+use Rattle.livesessions.proofs.SessionLists.{all-map}
 use Rattle.pushserver.proofs.hub_steps.Standing.{kept_of}
 use Rattle.pushserver.proofs.session_steps.Parts.{SessionFits}
 use Rattle.pushserver.proofs.session_steps.Rising.{points_of}

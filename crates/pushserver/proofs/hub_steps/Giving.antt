@@ -12,11 +12,12 @@ use Rattle.pushsession.specs.declared.session_status.SessionStatus.TheVariants.{
 use Rattle.pushserver.specs.declared.given.Given.{Given}
 use Rattle.pushserver.specs.declared.given.Given.TheVariants.{Bytes, Worked, Nothing}
 use Rattle.pushserver.specs.PlainHubs.{Hub, Session, plain_keeps, plain_tells}
-use Rattle.pushserver.specs.Hubs.{Numbered, session_in, in_sessions, newest, now, records_now, session_of, in_session}
+use Rattle.livesessions.specs.NumberedSessions.{Numbered, session_in, in_sessions}
+use Rattle.pushserver.specs.Hubs.{newest, now, records_now, session_of, in_session}
 use Rattle.pushserver.specs.Giving.{reacted, copies, copies_or, given_after, after_reaction, after_packing, works, by_standing, give}
 use Rattle.pushserver.specs.KeptHubs.{KeptHub, StandsFor}
 use Rattle.pushserver.specs.Simulation.{BothGive, GivesStand}
-use Rattle.pushserver.proofs.SessionLists.{found-in}
+use Rattle.livesessions.proofs.SessionLists.{found-in}
 use Rattle.pushserver.proofs.session_steps.Standing.{copied-keeps}
 use Rattle.pushserver.proofs.session_steps.Saying.{stops-keeps, without_first-keeps}
 use Rattle.pushserver.proofs.session_steps.Parts.{SessionFits}

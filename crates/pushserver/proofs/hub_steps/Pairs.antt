@@ -4,11 +4,10 @@
 --     zip-in      the elements of a number change
 use Rattle.std.proofs.Common.{◌≡◌, ℕ, Bool, true, false, cond, List, [], ◌∷◌, ◌++◌, map, Option, Some, None, sym, ◌∙◌, ap, refl}
 use Rattle.std.specs.Prelude.{find, filter, option_map, ◌==◌}
-use Rattle.std.specs.List.{AllZip, AllByRecursion, IsDistinct, list_any}
+use Rattle.std.specs.List.{AllZip, AllByRecursion, list_any}
 use Rattle.rrset.proofs.Distinct.{IsLone, lone, none_found}
-use Rattle.pushserver.specs.Hubs.{Numbered, session_in, in_sessions}
-use Rattle.pushserver.specs.NumberedSessions.{AreApart}
-use Rattle.pushserver.proofs.SessionLists.{same-number, number-itself}
+use Rattle.livesessions.specs.NumberedSessions.{Numbered, session_in, in_sessions, AreApart}
+use Rattle.livesessions.proofs.SessionLists.{same-number, number-itself}
 
 -- ---- two lists
 
@@ -58,21 +57,11 @@ zip-filter R p q same (x ∷ xs) (y ∷ ys) h = by (p x) (q y) (same x y h.0) h.
 
 -- ---- one list
 
-pub all-map : {A B : Type 0} (f : A → B) (P : B → Type 0) (xs : List A) → AllByRecursion (λ x. P (f x)) xs → AllByRecursion P (map f xs)
-all-map f P [] all = tt
-all-map f P (x ∷ xs) all = (all.0, all-map f P xs all.1)
-
 pub all-weaken : {A : Type 0} (P Q : A → Type 0) → ((x : A) → P x → Q x) → (xs : List A) → AllByRecursion P xs → AllByRecursion Q xs
 all-weaken P Q step [] all = tt
 all-weaken P Q step (x ∷ xs) all = (step x all.0, all-weaken P Q step xs all.1)
 
 -- ---- lists with numbers
-
--- numbers differ still when what they number changes
-pub distinct-map : {S : Type 0} (f : ℕ × S → S) (xs : Numbered S) → AreApart xs → AreApart (map (λ e. (e.0, f e)) xs)
-unfolding IsDistinct
-distinct-map f [] once = tt
-distinct-map {S} f (x ∷ xs) once = (all-map (λ e. (e.0, f e)) (λ (g : ℕ × S). (x.0 == g.0) ≡ false) xs once.0, distinct-map f xs once.1)
 
 -- one element at most has a number
 pub lone-number : {S : Type 0} (number : ℕ) (xs : Numbered S) → AreApart xs → IsLone (λ (e : ℕ × S). e.0 == number) xs

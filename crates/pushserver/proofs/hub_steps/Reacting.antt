@@ -28,13 +28,14 @@ use Rattle.pushsession.specs.Subscribing.{answered}
 use Rattle.pushsession.specs.Reactions.{restarted_by, request_in, request_for, reacts_itself, answers_query}
 use Rattle.pushsession.specs.declared.request.Request.TheVariants as requests
 use Rattle.pushserver.specs.PlainHubs.{Hub, Session, plain_keeps, plain_tells}
-use Rattle.pushserver.specs.Hubs.{Numbered, session_in, in_sessions, newest, now, state_now, records_now, session_of, in_session, entered, behind_at, ended_behind, ends_behind, entered_keeping, can_enter, update}
+use Rattle.livesessions.specs.NumberedSessions.{Numbered, session_in, in_sessions}
+use Rattle.pushserver.specs.Hubs.{newest, now, state_now, records_now, session_of, in_session, entered, behind_at, ended_behind, ends_behind, entered_keeping, can_enter, update}
 use Rattle.pushserver.specs.Offering.{offered}
 use Rattle.pushserver.specs.Giving.{has_home, subscribes, reconfirms, updates, known_at, queries, by_request, reacted}
 use Rattle.pushserver.specs.KeptHubs.{KeptHub, StandsFor}
 use Rattle.dsotlv.specs.Laws.{AreOctets}
 use Rattle.pushserver.specs.Simulation.{BothAnswer}
-use Rattle.pushserver.proofs.SessionLists.{found-all, found-in}
+use Rattle.livesessions.proofs.SessionLists.{found-all, found-in}
 use Rattle.pushserver.proofs.session_steps.Standing.{ended-keeps}
 use Rattle.pushserver.proofs.session_steps.Saying.{answers-keeps, restarts-keeps}
 use Rattle.pushserver.proofs.session_steps.Reactions.{itself-keeps}

@@ -13,14 +13,15 @@ use Rattle.pushsession.specs.Kept.{KeptSession}
 use Rattle.pushserver.specs.PlainHubs.{Hub, Session}
 use Rattle.history.specs.States.{state_at}
 use Rattle.history.specs.Totals.{totals}
-use Rattle.pushserver.specs.Hubs.{newest, state_now, session_in, in_sessions, all_sessions, session_of, each_session, in_session, max_sessions}
+use Rattle.livesessions.specs.NumberedSessions.{session_in, in_sessions, all_sessions, AreApart}
+use Rattle.pushserver.specs.Hubs.{newest, state_now, session_of, each_session, in_session, max_sessions}
 use Rattle.pushserver.specs.KeptHubs.{KeptHub, SessionStandsFor, StandsFor, WaitSince}
 use Rattle.pushserver.specs.SoundHubs.{IsSoundSession}
-use Rattle.pushserver.proofs.SessionLists.{same-number}
+use Rattle.livesessions.proofs.SessionLists.{same-number, distinct-map}
 use Rattle.pushserver.proofs.session_steps.Parts.{SessionFits, SessionKeeps, asks, waits, reads, writes, of_parts}
-use Rattle.pushserver.specs.NumberedSessions.{AreApart}
 use Rattle.pushserver.proofs.session_steps.Since.{KeepsSince}
-use Rattle.pushserver.proofs.hub_steps.Pairs.{zip-map, zip-all, zip-second, zip-first, zip-in, all-map, all-weaken, distinct-map, lone-number}
+use Rattle.pushserver.proofs.hub_steps.Pairs.{zip-map, zip-all, zip-second, zip-first, zip-in, all-weaken, lone-number}
+use Rattle.livesessions.proofs.SessionLists.{all-map}
 use Rattle.pushserver.proofs.hub_steps.Pasts.{past-from}
 
 abbrev pub kept_of : Hub → ℕ → List (ℕ × KeptSession) → KeptHub

@@ -20,7 +20,7 @@ use Rattle.pushsession.specs.Subscribing.{says_notices, with_next_push}
 use Rattle.pushserver.specs.PlainHubs.{Hub, Session, Giving, nets_of, stays_queued}
 use Rattle.pushserver.specs.Hubs.{now, keeps_now, tells_now, session_of, in_session}
 use Rattle.pushserver.specs.Giving.{copies_or, given_after, after_reaction, after_packing, reacted, by_standing, give}
-use Rattle.pushserver.proofs.SessionLists.{found-in}
+use Rattle.livesessions.proofs.SessionLists.{found-in}
 use Rattle.pushserver.proofs.hub_steps.Cases.{copies_as, found_as, works_as, output_as, give_as}
 
 -- ---- what a message that is taken up gives

@@ -10,9 +10,10 @@ use Rattle.rrset.specs.RecordSet.{changes}
 use Rattle.pushsession.specs.Sessions.{SessionOf, Keeps, new_session, noted, ended_where, timed, with_piece, is_open, asked_to_stop}
 use Rattle.pushsession.specs.declared.session_status.SessionStatus.TheVariants.{AskedToStop}
 use Rattle.pushserver.specs.PlainHubs.{Session, Hub, plain_keeps}
-use Rattle.pushserver.specs.Hubs.{Numbered, session_in, newest, now, keeps_now, records_now, session_of, each_session, in_session, entered, entered_keeping}
+use Rattle.livesessions.specs.NumberedSessions.{Numbered, session_in}
+use Rattle.pushserver.specs.Hubs.{newest, now, keeps_now, records_now, session_of, each_session, in_session, entered, entered_keeping}
 use Rattle.pushserver.specs.Laws.{OtherCallsKeepOutputs}
-use Rattle.pushserver.proofs.SessionLists.{found-changed, found-last, found-left, other-number}
+use Rattle.livesessions.proofs.SessionLists.{found-changed, found-last, found-left, other-number}
 use Rattle.pushserver.proofs.Walks.{AnyMessage, EndsSome, Entering, entering-kept, timed-kept, with_new, holds-update, holds-hear, holds-going, holds-moment, holds-connect}
 
 -- ---- what leaves the output of a session

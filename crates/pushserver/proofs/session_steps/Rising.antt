@@ -10,7 +10,7 @@ use Rattle.coalesce.proofs.ReadBack.{each-append}
 use Rattle.pushserver.specs.PlainHubs.{Queue, point_in}
 use Rattle.pushserver.specs.SoundHubs.{PointsRise}
 use Rattle.pushserver.proofs.session_steps.Lists.{each-map}
-use Rattle.pushserver.proofs.hub_steps.Pairs.{all-map}
+use Rattle.livesessions.proofs.SessionLists.{all-map}
 
 -- the points since which names wait
 abbrev pub points_of : Queue → List ℕ

@@ -12,7 +12,7 @@ use Rattle.rrset.proofs.Places.{all_filter}
 use Rattle.pushserver.specs.PlainHubs.{Session, Hub}
 use Rattle.pushserver.specs.Hubs.{now, keeps_now, session_of, in_session, disconnect}
 use Rattle.pushsession.specs.Sessions.{new_session, with_piece, asked_to_stop, without_first}
-use Rattle.pushserver.proofs.SessionLists.{same-number}
+use Rattle.livesessions.proofs.SessionLists.{same-number}
 use Rattle.pushserver.proofs.Walks.{AnyMessage, IsKept}
 use Rattle.scripts.specs.Lines.{Word, ScriptLine}
 use Rattle.replay.specs.World.{World, number_in, session_number, hub_without, cut_peer, without}

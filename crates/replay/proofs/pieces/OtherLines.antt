@@ -17,7 +17,7 @@ use Rattle.pushsession.specs.Sessions.{new_session, with_piece, asked_to_stop}
 use Rattle.pushserver.specs.Giving.{give}
 use Rattle.pushserver.specs.Laws.{LeavesSession}
 use Rattle.pushserver.proofs.OtherSessions.{stays, in_session-stays, give_changes_one_session}
-use Rattle.pushserver.proofs.SessionLists.{other-number, found-left}
+use Rattle.livesessions.proofs.SessionLists.{other-number, found-left}
 use Rattle.pushserver.proofs.hub_steps.Cases.{moment_as}
 use Rattle.pushserver.proofs.Walks.{AnyMessage, holds-update, holds-hear, holds-going, with_new}
 use Rattle.scripts.specs.Lines.{Word, ScriptLine, silent, head_line, joining, hub_event, link_event, client_call, client_passing, client_event, session_event}

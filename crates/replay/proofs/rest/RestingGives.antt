@@ -17,7 +17,7 @@ use Rattle.pushserver.specs.Hubs.{now, state_now, keeps_now, tells_now, session_
 use Rattle.pushsession.specs.Subscribing.{with_next_push}
 use Rattle.pushsession.specs.Sessions.{without_first}
 use Rattle.pushserver.specs.Giving.{give, did, reacted, after_reaction, given_after}
-use Rattle.pushserver.proofs.SessionLists.{found-in}
+use Rattle.livesessions.proofs.SessionLists.{found-in}
 use Rattle.pushserver.proofs.hub_steps.Cases.{copies_as, found_as, works_as, give_as}
 use Rattle.replay.specs.PassedOctets.{Emitted, emitted, nothing_emitted, with_giving, enough}
 use Rattle.replay.proofs.turns.ZoneSizes.{IsBounded}

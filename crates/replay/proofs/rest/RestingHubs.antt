@@ -13,7 +13,7 @@ use Rattle.pushserver.specs.PlainHubs.{Session, Hub}
 use Rattle.pushserver.specs.Hubs.{in_session, taken_by, take_octets}
 use Rattle.pushsession.specs.Sessions.{is_open, room_of, with_piece}
 use Rattle.pushserver.specs.Giving.{did, by_standing, give}
-use Rattle.pushserver.proofs.SessionLists.{found-in}
+use Rattle.livesessions.proofs.SessionLists.{found-in}
 use Rattle.pushserver.proofs.hub_steps.Cases.{output_as, give_as}
 use Rattle.replay.specs.SessionPieces.{IsAtRest}
 use Rattle.replay.proofs.rest.AtRest.{Core, core_of, resting, At, IsOver}

@@ -41,7 +41,7 @@ use Rattle.pushserver.specs.Hubs.{now, state_now, newest, keeps_now, tells_now, 
 use Rattle.pushserver.specs.Giving.{has_home, known_at, copies_or, given_after, reconfirm, reconfirms, by_request, give, reacted, after_reaction}
 use Rattle.pushserver.specs.Calls.{HubCall, updates, hears, goes, moves, connects, takes, gives, stops, ends as ending, called, after_calls}
 use Rattle.pushserver.specs.Laws.{IsAcceptable}
-use Rattle.pushserver.proofs.SessionLists.{same-number, found-in, found-all}
+use Rattle.livesessions.proofs.SessionLists.{same-number, found-in, found-all}
 use Rattle.pushserver.proofs.hub_steps.Cases.{enters_update, update_as, key_as, session_as, request_as, copies_as, found_as}
 use Rattle.pushtelling.specs.Runs.{is_live, first_of, message_up, reacts_to, reacted_to}
 use Rattle.pushtelling.proofs.Running.{give_reacts}

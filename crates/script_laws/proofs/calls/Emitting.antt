@@ -13,7 +13,7 @@ use Rattle.pushserver.specs.PlainHubs.{Hub, Giving}
 use Rattle.pushserver.specs.Hubs.{taken_by, take_octets}
 use Rattle.pushserver.specs.Giving.{give}
 use Rattle.pushserver.specs.Calls.{HubCall, takes, gives, called, after_calls}
-use Rattle.pushserver.proofs.SessionLists.{number-itself}
+use Rattle.livesessions.proofs.SessionLists.{number-itself}
 use Rattle.pushtelling.specs.Runs.{hands_out, in_calls, handed_out}
 use Rattle.replay.specs.PassedOctets.{Emitted, Exchanged, emitted, nothing_emitted, with_giving, exchanged, enough}
 use Rattle.replay.proofs.worlds.Keeping.{InParts}

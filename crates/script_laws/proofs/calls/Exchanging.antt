@@ -23,7 +23,7 @@ use Rattle.pushserver.specs.Giving.{did, by_standing, give}
 use Rattle.pushserver.proofs.hub_steps.Cases.{output_as, give_as}
 use Rattle.replay.proofs.turns.Turns.{emitted-turn}
 use Rattle.pushserver.specs.Calls.{HubCall, updates, hears, goes, moves, connects, takes as taking, gives, stops, ends, after_calls}
-use Rattle.pushserver.proofs.SessionLists.{found-in, number-itself}
+use Rattle.livesessions.proofs.SessionLists.{found-in, number-itself}
 use Rattle.pushtelling.specs.Runs.{takes_in, handed_out, taken_in}
 use Rattle.replay.specs.PassedOctets.{Emitted, Exchanged, emitted, nothing_emitted, with_giving, exchanged, enough}
 use Rattle.replay.proofs.worlds.InputOctets.{octets-parts}

@@ -7,7 +7,7 @@ use Rattle.pushsession.specs.Sessions.{new_session, with_piece, room_of}
 use Rattle.pushserver.specs.PlainHubs.{Hub, Session, plain_keeps}
 use Rattle.pushserver.specs.Hubs.{now, session_of, connect, taken_by, take_octets}
 use Rattle.pushserver.specs.Calls.{HubCall, takes as taking, after_calls}
-use Rattle.pushserver.proofs.SessionLists.{found-in}
+use Rattle.livesessions.proofs.SessionLists.{found-in}
 use Rattle.pushtelling.specs.Runs.{first_of, message_up}
 use Rattle.pushtelling.proofs.Running.{give_reacts}
 use Rattle.scripts.specs.Lines.{send}

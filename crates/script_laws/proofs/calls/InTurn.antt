@@ -23,7 +23,7 @@ use Rattle.pushserver.specs.PlainHubs.{Hub, Session, Made, Giving, plain_keeps, 
 use Rattle.pushserver.specs.Hubs.{now, keeps_now, tells_now, session_of, in_session, entered, entered_keeping, disconnect}
 use Rattle.pushserver.specs.Giving.{give, did, after_reaction, after_packing, by_standing}
 use Rattle.pushserver.specs.Calls.{HubCall, updates, hears, goes, moves, connects, takes as taking, gives, stops, ends as ending, called, after_calls}
-use Rattle.pushserver.proofs.SessionLists.{same-number, other-number, found-changed, found-last, found-left}
+use Rattle.livesessions.proofs.SessionLists.{same-number, other-number, found-changed, found-last, found-left}
 use Rattle.pushserver.proofs.Walks.{AnyMessage, EndsSome, Entering, Walks, entering-kept, timed-kept, walks-give, holds-update, holds-hear, holds-going, holds-moment, holds-connect, with_new}
 use Rattle.pushserver.proofs.hub_steps.Cases.{found_as, works_as, output_as, give_as}
 use Rattle.pushtelling.specs.Runs.{is_live, first_of}

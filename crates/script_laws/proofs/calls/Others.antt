@@ -10,7 +10,7 @@ use Rattle.pushsession.specs.declared.session_status.SessionStatus.TheVariants.{
 use Rattle.pushserver.specs.PlainHubs.{Hub, Session, plain_keeps}
 use Rattle.pushserver.specs.Hubs.{now, keeps_now, in_session, entered, entered_keeping}
 use Rattle.pushserver.specs.Calls.{HubCall, updates, hears, goes, moves, connects, takes as taking, gives, stops, ends, called, after_calls}
-use Rattle.pushserver.proofs.SessionLists.{other-number}
+use Rattle.livesessions.proofs.SessionLists.{other-number}
 use Rattle.pushserver.proofs.Walks.{AnyMessage, Entering, EndsSome, entering-kept, timed-kept, holds-update, holds-hear, holds-going, holds-moment, holds-connect, with_new, Walks, walks-give}
 use Rattle.history.specs.declared.entry.Entry.{Entry}
 use Rattle.pushtelling.proofs.OneSession.{OfOne, one-changed, one-last, one-left}

@@ -17,10 +17,11 @@ use Rattle.dsotlv.proofs.Results.{same_found}
 use Rattle.dsosession.specs.declared.session.EndReason.{EndReason}
 use Rattle.pushserver.specs.PlainHubs.{Hub, Session, Made, Giving, frame_of}
 use Rattle.pushsession.specs.Sessions.{new_session}
-use Rattle.pushserver.specs.Hubs.{now, keeps_now, session_in, session_of, connect}
+use Rattle.livesessions.specs.NumberedSessions.{session_in}
+use Rattle.pushserver.specs.Hubs.{now, keeps_now, session_of, connect}
 use Rattle.pushserver.specs.Giving.{give}
 use Rattle.pushserver.specs.Calls.{HubCall, connects, gives, ends, after_calls}
-use Rattle.pushserver.proofs.SessionLists.{same-number, number-itself}
+use Rattle.livesessions.proofs.SessionLists.{same-number, number-itself}
 use Rattle.pushserver.proofs.hub_steps.Pairs.{all-weaken}
 use Rattle.pushclient.specs.SoundClients.{count_of}
 use Rattle.flight_laws.proofs.Counting.{count-append}

@@ -13,7 +13,7 @@ use Rattle.pushsession.specs.Sessions.{new_session}
 use Rattle.pushserver.specs.PlainHubs.{Hub, Session, new_hub, size_of_made}
 use Rattle.pushserver.specs.Hubs.{newest, now, keeps_now, session_of, max_sessions, connect}
 use Rattle.pushserver.specs.Calls.{connects}
-use Rattle.pushserver.proofs.SessionLists.{found-last, number-itself}
+use Rattle.livesessions.proofs.SessionLists.{found-last, number-itself}
 use Rattle.pushserver.proofs.Walks.{AnyMessage, IsKept, bring_any, keeps-calls, with_new}
 use Rattle.pushclient.specs.Clients.{Client, connected, wanted_questions}
 use Rattle.pushclient.specs.ServerMessages.{CanBeGranted}

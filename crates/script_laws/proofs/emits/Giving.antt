@@ -15,7 +15,7 @@ use Rattle.pushserver.specs.declared.given.Given.TheVariants.{Worked, Ending, En
 use Rattle.pushserver.specs.PlainHubs.{Session, Hub, Giving}
 use Rattle.pushserver.specs.Hubs.{now, keeps_now, session_of, in_session}
 use Rattle.pushserver.specs.Giving.{did, copies, copies_or, given_after, by_standing, give}
-use Rattle.pushserver.proofs.SessionLists.{found-in}
+use Rattle.livesessions.proofs.SessionLists.{found-in}
 use Rattle.pushserver.proofs.hub_steps.Cases.{found_as, output_as, give_as}
 use Rattle.flight_laws.specs.GoesOn.{GoesOn, GivesOn, gives_on}
 use Rattle.replay.specs.Promises.{EndedByItself, is_end_by_itself}

@@ -8,7 +8,7 @@ use Rattle.std.specs.List.{AllByRecursion, cons_option}
 use Rattle.std.proofs.lemmas.Bool.{ltb-true, ltb-false}
 use Rattle.std.proofs.lemmas.List.Sums.{sum_by-cons}
 use Rattle.pushclient.specs.SoundClients.{count_of}
-use Rattle.pushserver.proofs.SessionLists.{same-number, number-itself, other-number}
+use Rattle.livesessions.proofs.SessionLists.{same-number, number-itself, other-number}
 
 -- one where both are the same
 abbrev pub one_where : ℕ → ℕ → ℕ

@@ -11,7 +11,7 @@ use Rattle.pushsession.specs.Sessions.{new_session, with_piece, asked_to_stop, e
 use Rattle.pushserver.specs.Calls.{HubCall, updates, hears, goes, moves, connects, takes, gives, stops, ends, called, after_calls}
 use Rattle.pushserver.specs.Hubs.{now, keeps_now, session_of, in_session, connect, max_sessions}
 use Rattle.pushserver.specs.PlainHubs.{Hub, Session, plain_keeps}
-use Rattle.pushserver.proofs.SessionLists.{found-last, number-itself}
+use Rattle.livesessions.proofs.SessionLists.{found-last, number-itself}
 use Rattle.pushserver.proofs.Walks.{with_new}
 use Rattle.script_laws.specs.Reached.{IsReached}
 use Rattle.script_laws.specs.Numbers.{numbers_in, KeepsNumbers, KeepNumbers, CallsKeepNumbers, NewOnesAreFound, FullHubsStay}

@@ -14,7 +14,7 @@ use Rattle.pushserver.specs.Hubs.{now, keeps_now, session_of, newest, each_sessi
 use Rattle.pushserver.specs.Laws.{LeavesSession}
 use Rattle.pushserver.specs.PlainHubs.{Hub, Session, Queue, plain_keeps}
 use Rattle.pushserver.proofs.OtherSessions.{give_changes_one_session}
-use Rattle.pushserver.proofs.SessionLists.{found-all, found-changed, found-elsewhere, found-last, found-left}
+use Rattle.livesessions.proofs.SessionLists.{found-all, found-changed, found-elsewhere, found-last, found-left}
 use Rattle.pushserver.proofs.Walks.{AnyMessage, holds-update, holds-hear, holds-going, holds-moment, holds-connect, with_new}
 use Rattle.pushtelling.proofs.Tells.{by_entry}
 use Rattle.flight_laws.specs.OtherCalls.{IsOfOthers}

@@ -10,7 +10,7 @@ use Rattle.pushserver.specs.Hubs.{newest, session_of}
 use Rattle.pushserver.specs.PlainHubs.{Hub, Session, Note, told, new_hub}
 use Rattle.pushserver.specs.SoundHubs.{IsSoundSession}
 use Rattle.pushserver.specs.ToldMessages.{TellsHistory}
-use Rattle.pushserver.proofs.SessionLists.{same-number, found-one}
+use Rattle.livesessions.proofs.SessionLists.{same-number, found-one}
 use Rattle.pushserver.proofs.hub_steps.Pairs.{all-weaken}
 use Rattle.pushserver.proofs.session_steps.Lists.{found-each}
 use Rattle.pushtelling.specs.Runs.{LiesBetween, notes_of}

@@ -10,7 +10,7 @@ use Rattle.pushsession.specs.declared.session_status.SessionStatus.TheVariants.{
 use Rattle.pushserver.specs.Calls.{HubCall, updates, hears, goes, moves, connects, takes, gives, stops, ends, called, after_calls}
 use Rattle.pushserver.specs.Hubs.{now, keeps_now, in_session}
 use Rattle.pushserver.specs.PlainHubs.{Hub, Session, plain_keeps}
-use Rattle.pushserver.proofs.SessionLists.{each-changed}
+use Rattle.livesessions.proofs.SessionLists.{each-changed}
 use Rattle.pushserver.proofs.Walks.{holds-connect}
 use Rattle.pushtelling.proofs.Standings.{has-step, has-ended_where}
 use Rattle.pushtelling.proofs.Tells.{by_entry}

@@ -13,7 +13,7 @@ use Rattle.pushclient.specs.SoundClients.{count_of}
 use Rattle.pushserver.specs.Calls.{after_calls}
 use Rattle.pushserver.specs.Hubs.{connect, disconnect}
 use Rattle.pushserver.specs.PlainHubs.{Hub}
-use Rattle.pushserver.proofs.SessionLists.{same-number}
+use Rattle.livesessions.proofs.SessionLists.{same-number}
 use Rattle.pushserver.proofs.hub_steps.Pairs.{all-weaken}
 use Rattle.flight_laws.proofs.Counting.{count-append}
 use Rattle.scripts.specs.Lines.{Word}

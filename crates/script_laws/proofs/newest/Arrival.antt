@@ -18,7 +18,7 @@ use Rattle.pushserver.specs.Hubs.{state_now, records_now}
 use Rattle.pushserver.specs.PlainHubs.{Hub, Session, Subscription, size_of_made, written}
 use Rattle.pushserver.specs.SoundHubs.{IsSoundHub}
 use Rattle.pushserver.specs.ToldMessages.{set_after, notices_since}
-use Rattle.pushserver.proofs.SessionLists.{same-number}
+use Rattle.livesessions.proofs.SessionLists.{same-number}
 use Rattle.pushserver.proofs.promises.AllTold.{nothing_where_all_is_told}
 use Rattle.pushserver.proofs.promises.Shown.{nothing_means_all_is_shown}
 use Rattle.pushserver.proofs.session_steps.Lists.{each-both}

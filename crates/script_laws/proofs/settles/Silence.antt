@@ -22,7 +22,7 @@ use Rattle.pushserver.specs.declared.given.Given.TheVariants.{Bytes, Worked, Not
 use Rattle.pushserver.specs.PlainHubs.{Session, Hub, Giving, Queue, nets_of, stays_queued}
 use Rattle.pushserver.specs.Hubs.{now, keeps_now, tells_now, session_of, in_session}
 use Rattle.pushserver.specs.Giving.{did, copies_or, given_after, after_reaction, after_packing, by_standing, reacted, give}
-use Rattle.pushserver.proofs.SessionLists.{found-in}
+use Rattle.livesessions.proofs.SessionLists.{found-in}
 use Rattle.pushserver.proofs.hub_steps.Cases.{copies_as, found_as, works_as, output_as, give_as}
 use Rattle.pushserver.proofs.promises.Answers.{quiet-given, given-quiet}
 use Rattle.replay.specs.PassedOctets.{Emitted, with_giving, emitted}

@@ -20,7 +20,7 @@ use Rattle.pushserver.specs.declared.given.Given.TheVariants.{Nothing, Ending}
 use Rattle.pushserver.specs.PlainHubs.{Session, Hub, Giving, Made, asked_of}
 use Rattle.pushserver.specs.Hubs.{session_of}
 use Rattle.pushserver.specs.Giving.{give}
-use Rattle.pushserver.proofs.SessionLists.{found-in}
+use Rattle.livesessions.proofs.SessionLists.{found-in}
 use Rattle.pushserver.proofs.hub_steps.Pairs.{all-weaken}
 use Rattle.pushclient.specs.Clients as clients
 use Rattle.pushclient.specs.Clients.{Client, Connection, with_connection, closed_as, open_connection, room_of, give_octets, output_of}

@@ -22,7 +22,7 @@ use Rattle.pushsession.specs.declared.session_status.SessionStatus.TheVariants.{
 use Rattle.pushserver.specs.Giving.{has_home}
 use Rattle.pushserver.specs.Hubs.{now, keeps_now, tells_now, in_session}
 use Rattle.pushserver.specs.PlainHubs.{Hub, Session, Queue, Made, plain_keeps, new_hub}
-use Rattle.pushserver.proofs.SessionLists.{each-changed, found-one}
+use Rattle.livesessions.proofs.SessionLists.{each-changed, found-one}
 use Rattle.pushserver.proofs.Subscribing.{verdict-holds}
 use Rattle.pushserver.proofs.Walks.{AnyMessage, Step, restarts, reacts, answers_subscribe, answers_update, answers_query, packs_names, comes_to_stop, ends_with, copies_front, IsKept, keeps-calls, bring_any}
 use Rattle.pushserver.proofs.hub_steps.Cases.{itself_as}

@@ -23,7 +23,7 @@ use Rattle.pushserver.specs.Hubs.{now, keeps_now, tells_now, session_of, in_sess
 use Rattle.pushserver.specs.Giving.{did, copies, copies_or, given_after, by_standing, give}
 use Rattle.pushserver.specs.SoundHubs.{IsSoundHub, IsSoundSession}
 use Rattle.pushserver.specs.Calls.{gives}
-use Rattle.pushserver.proofs.SessionLists.{found-in}
+use Rattle.livesessions.proofs.SessionLists.{found-in}
 use Rattle.pushserver.proofs.session_steps.Lists.{found-each}
 use Rattle.pushserver.proofs.hub_steps.Cases.{found_as, works_as, output_as, give_as}
 use Rattle.pushclient.specs.Clients.{Client, Connection}

@@ -7,7 +7,7 @@ use Rattle.std.proofs.lemmas.Bool.{ltb-true}
 use Rattle.pushsession.specs.Sessions.{room_of, with_piece}
 use Rattle.pushserver.specs.PlainHubs.{Session}
 use Rattle.pushserver.specs.Hubs.{session_of, taken_by, take_octets}
-use Rattle.pushserver.proofs.SessionLists.{found-in}
+use Rattle.livesessions.proofs.SessionLists.{found-in}
 use Rattle.pushclient.specs.Clients.{Connection, output_of, give_octets}
 use Rattle.replay.specs.World.{World, Seat}
 use Rattle.replay.specs.PassedOctets.{Passed, Emitted, Delivered, max_wire, enough, delivered, say, up, emit, down, and_then, round}

@@ -4,7 +4,7 @@ use Rattle.std.specs.declared.option.Option.{Option}
 use Rattle.std.specs.List.{list_any}
 use Rattle.std.proofs.lemmas.List.{length-map}
 use Rattle.hublock.specs.Feeds.{each, parts_each}
-use Rattle.hublock.specs.declared.loop_end.LoopEnd.{LoopEnd}
+use Rattle.hubloops.specs.declared.loop_end.LoopEnd.{LoopEnd}
 use Rattle.serving.specs.declared.serve_end.Cause.{Cause}
 use Rattle.serving.specs.declared.serve_end.Fault.TheVariants as faults
 use Rattle.serving.specs.declared.serve_end.ServeEnd.{ServeEnd}

@@ -1,4 +1,4 @@
-use Rattle.hublock.proofs.Answering.{does_ask, does_not_ask}
+use Rattle.hubloops.proofs.Answering.{does_ask, does_not_ask}
 use Rattle.hublock.proofs.locked.Locked.ask.Goals as goal
 
 pub returns-clause-call : goal.returns-clause-call

@@ -1,4 +1,4 @@
-use Rattle.hublock.proofs.Answering.{does_connect}
+use Rattle.hubloops.proofs.Answering.{does_connect}
 use Rattle.hublock.proofs.locked.Locked.connect.Goals as goal
 
 pub returns-then-is_ok-clause-call : goal.returns-then-is_ok-clause-call

@@ -1,4 +1,4 @@
-use Rattle.hublock.proofs.Answering.{does_leave}
+use Rattle.hubloops.proofs.Answering.{does_leave}
 use Rattle.hublock.proofs.locked.Locked.end.Goals as goal
 
 pub returns-clause-call : goal.returns-clause-call

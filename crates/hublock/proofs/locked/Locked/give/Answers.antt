@@ -1,5 +1,5 @@
-use Rattle.hublock.specs.Calls.{Gave}
-use Rattle.hublock.proofs.Answering.{does_give, stands_after}
+use Rattle.hubloops.specs.Calls.{Gave}
+use Rattle.hubloops.proofs.Answering.{does_give, stands_after}
 use Rattle.hublock.proofs.Holding.{adds_change, holds_behind}
 use Rattle.hublock.proofs.locked.Locked.give.Goals as goal
 

@@ -1,5 +1,5 @@
-use Rattle.hublock.specs.Calls.{Went}
-use Rattle.hublock.proofs.Answering.{does_go, stands_after}
+use Rattle.hubloops.specs.Calls.{Went}
+use Rattle.hubloops.proofs.Answering.{does_go, stands_after}
 use Rattle.hublock.proofs.Holding.{adds_going, holds_behind}
 use Rattle.hublock.proofs.locked.Locked.gone.Goals as goal
 

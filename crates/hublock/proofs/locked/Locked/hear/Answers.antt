@@ -1,5 +1,5 @@
-use Rattle.hublock.specs.Calls.{Received}
-use Rattle.hublock.proofs.Answering.{does_hear, stands_after}
+use Rattle.hubloops.specs.Calls.{Received}
+use Rattle.hubloops.proofs.Answering.{does_hear, stands_after}
 use Rattle.hublock.proofs.Holding.{adds_hearing, holds_behind}
 use Rattle.hublock.proofs.locked.Locked.hear.Goals as goal
 

@@ -1,4 +1,4 @@
-use Rattle.hublock.proofs.Answering.{does_pass}
+use Rattle.hubloops.proofs.Answering.{does_pass}
 use Rattle.hublock.proofs.locked.Locked.moment.Goals as goal
 
 pub returns-clause-call : goal.returns-clause-call

@@ -1,4 +1,4 @@
-use Rattle.hublock.proofs.Answering.{does_take}
+use Rattle.hubloops.proofs.Answering.{does_take}
 use Rattle.hublock.proofs.locked.Locked.take.Goals as goal
 
 pub returns-clause-call : goal.returns-clause-call

@@ -1,6 +1,6 @@
 -- The plain hub has it, too.
 use Rattle.std.proofs.Common.{◌∙◌}
-use Rattle.pushserver.specs.Hubs.{session_in}
+use Rattle.livesessions.specs.NumberedSessions.{session_in}
 use Rattle.pushserver.specs.HubState.{kept_of}
 use Rattle.pushserver.proofs.Observed.{live-seen, live-is}
 use Rattle.pushserver.proofs.HubSteps.{seen}

@@ -3,12 +3,12 @@ use Rattle.pushsession.specs.Requests.{message_of}
 use Rattle.std.proofs.Common.{sym, ap, subst, ◌∙◌}
 use Rattle.subscr.specs.Watching.{watching_of}
 use Rattle.pushsession.specs.Kept.{KeptSession}
-use Rattle.pushserver.specs.Hubs.{Numbered}
+use Rattle.livesessions.specs.NumberedSessions.{Numbered}
 use Rattle.pushserver.specs.HubState.{kept_of}
-use Rattle.pushserver.specs.Watched.{Watches}
-use Rattle.pushserver.proofs.Watched.{watched-same}
+use Rattle.livesessions.specs.Watched.{Watches}
+use Rattle.livesessions.proofs.Watched.{watched-same}
 use Rattle.pushserver.proofs.JudgedTurns.{ready-output, ready-request, ready-found, update-gave}
-use Rattle.pushserver.proofs.GiveSteps.{on_some}
+use Rattle.livesessions.proofs.LentSessions.{on_some}
 use Rattle.pushserver.proofs.hub_state.HubState.answer_update.Goals as goal
 
 pub answer_update-requires-clause-output : goal.answer_update-requires-clause-output

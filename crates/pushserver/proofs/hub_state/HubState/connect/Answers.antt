@@ -2,10 +2,10 @@
 use Rattle.std.proofs.Common.{ap, sym, subst}
 use Rattle.subscr.specs.Watching.{watching_of}
 use Rattle.pushsession.specs.Kept.{KeptSession}
-use Rattle.pushserver.specs.Hubs.{Numbered}
-use Rattle.pushserver.specs.Watched.{Watches}
-use Rattle.pushserver.proofs.NumberedSessions.{below-new}
-use Rattle.pushserver.proofs.Watched.{watched-last}
+use Rattle.livesessions.specs.NumberedSessions.{Numbered}
+use Rattle.livesessions.specs.Watched.{Watches}
+use Rattle.livesessions.proofs.NumberedSessions.{below-new}
+use Rattle.livesessions.proofs.Watched.{watched-last}
 use Rattle.pushserver.proofs.hub_state.HubState.connect.Goals as goal
 
 pub push-requires : goal.push-requires

@@ -2,8 +2,8 @@
 use Rattle.std.proofs.Common.{sym, subst}
 use Rattle.subscr.specs.Watching.{watching_of}
 use Rattle.pushsession.specs.Kept.{KeptSession}
-use Rattle.pushserver.specs.Hubs.{Numbered}
-use Rattle.pushserver.specs.Watched.{Watches}
+use Rattle.livesessions.specs.NumberedSessions.{Numbered}
+use Rattle.livesessions.specs.Watched.{Watches}
 use Rattle.pushserver.proofs.hub_state.HubState.end.Goals as goal
 
 pub returns-clause-watched : goal.returns-clause-watched

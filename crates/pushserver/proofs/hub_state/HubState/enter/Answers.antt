@@ -8,19 +8,19 @@ use Rattle.zoneupdate.proofs.Plans.{HaveLowerKeys}
 use Rattle.history.specs.Kept.{PointsKept, state_now}
 use Rattle.history.specs.States.{records, entry_size}
 use Rattle.pushsession.specs.Kept.{KeptSession, keeping, taken_back}
-use Rattle.pushserver.specs.Behind.{ended_from}
-use Rattle.pushserver.specs.Hubs.{Numbered, all_sessions, entry_changes}
+use Rattle.livesessions.specs.Behind.{ended_from}
+use Rattle.livesessions.specs.NumberedSessions.{Numbered, all_sessions, WaitBefore}
+use Rattle.pushserver.specs.Hubs.{entry_changes}
 use Rattle.pushserver.specs.HubState.{kept_of, seen_of}
 use Rattle.subscr.specs.Watching.{watching_of}
 use Rattle.pushsession.specs.Sessions.{noted}
-use Rattle.pushserver.specs.NumberedSessions.{WaitBefore}
 use Rattle.push_base.specs.Counted.{CountsUpTo}
-use Rattle.pushserver.specs.Watched.{Watches, noting_steps}
-use Rattle.pushserver.proofs.Watched.{watched-all}
+use Rattle.livesessions.specs.Watched.{Watches, noting_steps}
+use Rattle.livesessions.proofs.Watched.{watched-all}
 use Rattle.pushserver.proofs.Stepping.{within-reserved, within-noted, within-made}
 use Rattle.pushserver.proofs.EntrySteps.{entry-lower, entry-rising, entry-rows, on_is_err, on_not_err}
 use Rattle.pushserver.proofs.ForgottenEntries.{enters, size-fits, not-last, keep-since, keep-within, keep-room, forgets-entered}
-use Rattle.pushserver.proofs.NotedSessions.{all_back-noted, all_back-kept}
+use Rattle.livesessions.proofs.NotedSessions.{all_back-noted, all_back-kept}
 use Rattle.pushserver.proofs.hub_state.HubState.enter.Goals as goal
 
 pub floor-floor-requires : goal.floor-floor-requires

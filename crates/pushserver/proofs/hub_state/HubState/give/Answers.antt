@@ -2,14 +2,15 @@
 use Rattle.std.proofs.Common.{List, ℕ, ◌≡◌, length, sym, ap, subst}
 use Rattle.std.specs.Prelude.{IfOk, OnErr}
 use Rattle.pushsession.specs.Kept.{KeptSession}
-use Rattle.pushserver.specs.Hubs.{Numbered}
+use Rattle.livesessions.specs.NumberedSessions.{Numbered}
 use Rattle.subscr.specs.Watching.{watching_of}
-use Rattle.pushserver.specs.Watched.{Watches}
-use Rattle.pushserver.proofs.Watched.{turn-watched}
+use Rattle.livesessions.specs.Watched.{Watches}
+use Rattle.livesessions.proofs.Watched.{turn-watched}
 use Rattle.pushserver.specs.Giving.{give}
 use Rattle.pushserver.specs.HubState.{kept_of, Gave, IsToJudge, IsToReconfirm}
 use Rattle.pushserver.proofs.SessionTurns.{gone-gave}
-use Rattle.pushserver.proofs.GiveSteps.{sound-later, on_some, on_each_err, seat-of, as_before, did-gave, to-judge, to-reconfirm, turn-wants, judge-wants, reconfirm-wants}
+use Rattle.livesessions.proofs.LentSessions.{on_some, as_before}
+use Rattle.pushserver.proofs.GiveSteps.{sound-later, on_each_err, seat-of, did-gave, to-judge, to-reconfirm, turn-wants, judge-wants, reconfirm-wants}
 use Rattle.pushserver.proofs.hub_state.HubState.give.Goals as goal
 
 pub returns-in_err-given-clause-err : goal.returns-in_err-given-clause-err

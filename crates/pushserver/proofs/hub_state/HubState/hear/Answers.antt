@@ -6,7 +6,7 @@ use Rattle.pushserver.specs.KeptHubs.{KeptHub, Forgets}
 use Rattle.pushserver.specs.HubState.{kept_of}
 use Rattle.pushserver.specs.Watched.{allowed, hear_changes}
 use Rattle.pushserver.proofs.GiveSteps.{on_each_ok}
-use Rattle.pushserver.proofs.NotedSessions.{counts-nothing}
+use Rattle.livesessions.proofs.NotedSessions.{counts-nothing}
 use Rattle.rrset.specs.declared.record.Hearing.{Hearing}
 use Rattle.history.specs.States.{entry_size, max_journal_octets}
 use Rattle.history.specs.declared.entry.Entry.TheVariants as entries

@@ -3,7 +3,7 @@ use Rattle.std.proofs.Common.{List, Option, ℕ, ◌≤◌, sym, ap, subst, ◌�
 use Rattle.push_base.specs.Counted.{CountsUpTo}
 use Rattle.rrset.specs.declared.record.Changed.{Changed}
 use Rattle.pushserver.specs.Watched.{allowed, update_changes}
-use Rattle.pushserver.proofs.NotedSessions.{counts-nothing}
+use Rattle.livesessions.proofs.NotedSessions.{counts-nothing}
 use Rattle.pushserver.proofs.Stepping.{update-changes}
 use Rattle.std.specs.Prelude.{ok_or, IfSome}
 use Rattle.history.specs.States.{entry_size, max_journal_octets}

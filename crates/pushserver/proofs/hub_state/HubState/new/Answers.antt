@@ -1,5 +1,5 @@
 -- Nobody is there, and nobody watches.
-use Rattle.pushserver.proofs.Watched.{watched-new}
+use Rattle.livesessions.proofs.Watched.{watched-new}
 use Rattle.pushserver.proofs.hub_state.HubState.new.Goals as goal
 
 pub returns-clause-watched : goal.returns-clause-watched

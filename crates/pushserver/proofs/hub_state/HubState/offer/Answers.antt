@@ -9,7 +9,7 @@ use Rattle.pushserver.specs.Watched.{allowed}
 use Rattle.pushserver.proofs.EntrySteps.{same_past}
 use Rattle.pushserver.proofs.ForgottenEntries.{forgets-same}
 use Rattle.pushserver.proofs.GiveSteps.{sound-planned}
-use Rattle.pushserver.proofs.NotedSessions.{counts-nothing}
+use Rattle.livesessions.proofs.NotedSessions.{counts-nothing}
 use Rattle.pushserver.proofs.Stepping.{offer-steps}
 use Rattle.pushserver.proofs.Offering.{by_room, offered-refused, offered-idle, offered-room, plan-changes, plan-held}
 use Rattle.pushserver.proofs.hub_state.HubState.offer.Goals as goal

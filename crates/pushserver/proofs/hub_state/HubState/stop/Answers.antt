@@ -1,13 +1,13 @@
 -- The session of the number alone is changed.
 use Rattle.std.proofs.Common.{ap, sym, subst, ◌∙◌}
 use Rattle.subscr.specs.Watching.{watching_of}
-use Rattle.pushserver.specs.Watched.{Watches}
-use Rattle.pushserver.proofs.Watched.{watched-same, stop-asks}
+use Rattle.livesessions.specs.Watched.{Watches}
+use Rattle.livesessions.proofs.Watched.{watched-same, stop-asks}
 use Rattle.pushsession.specs.Kept.{KeptSession}
 use Rattle.pushsession.specs.Sessions.{asked_to_stop}
-use Rattle.pushserver.specs.Hubs.{Numbered}
+use Rattle.livesessions.specs.NumberedSessions.{Numbered}
 use Rattle.pushserver.specs.HubState.{kept_of}
-use Rattle.pushserver.proofs.GiveSteps.{on_some, lent-changed, absent}
+use Rattle.livesessions.proofs.LentSessions.{on_some, lent-changed, absent}
 use Rattle.pushserver.proofs.hub_state.HubState.stop.Goals as goal
 
 pub returns-in-Some-clause-hub : goal.returns-in-Some-clause-hub

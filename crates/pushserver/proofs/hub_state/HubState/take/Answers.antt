@@ -1,13 +1,14 @@
 -- The session of the number alone takes octets.
 use Rattle.std.proofs.Common.{ap, sym, subst, ◌∙◌}
 use Rattle.subscr.specs.Watching.{watching_of}
-use Rattle.pushserver.specs.Watched.{Watches}
-use Rattle.pushserver.proofs.Watched.{watched-same}
+use Rattle.livesessions.specs.Watched.{Watches}
+use Rattle.livesessions.proofs.Watched.{watched-same}
 use Rattle.pushsession.specs.Kept.{KeptSession}
 use Rattle.pushsession.specs.Sessions.{with_piece}
-use Rattle.pushserver.specs.Hubs.{Numbered}
+use Rattle.livesessions.specs.NumberedSessions.{Numbered}
 use Rattle.pushserver.specs.HubState.{kept_of}
-use Rattle.pushserver.proofs.GiveSteps.{on_some, lent-changed, absent, taken-some, taken-none}
+use Rattle.livesessions.proofs.LentSessions.{on_some, lent-changed, absent}
+use Rattle.pushserver.proofs.GiveSteps.{taken-some, taken-none}
 use Rattle.pushserver.proofs.hub_state.HubState.take.Goals as goal
 
 pub returns-in-Some-clause-count : goal.returns-in-Some-clause-count

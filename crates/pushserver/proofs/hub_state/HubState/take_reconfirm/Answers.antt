@@ -2,12 +2,12 @@
 use Rattle.std.proofs.Common.{sym, ap, subst}
 use Rattle.subscr.specs.Watching.{watching_of}
 use Rattle.pushsession.specs.Kept.{KeptSession}
-use Rattle.pushserver.specs.Hubs.{Numbered}
+use Rattle.livesessions.specs.NumberedSessions.{Numbered}
 use Rattle.pushserver.specs.HubState.{kept_of}
-use Rattle.pushserver.specs.Watched.{Watches}
-use Rattle.pushserver.proofs.Watched.{watched-moved, moves-on}
+use Rattle.livesessions.specs.Watched.{Watches}
+use Rattle.livesessions.proofs.Watched.{watched-moved, moves-on}
 use Rattle.pushserver.proofs.ReconfirmTurns.{ready-request, ready-found, reconfirm-gave}
-use Rattle.pushserver.proofs.GiveSteps.{on_some}
+use Rattle.livesessions.proofs.LentSessions.{on_some}
 use Rattle.pushserver.proofs.hub_state.HubState.take_reconfirm.Goals as goal
 
 pub reconfirm-requires-in-Some : goal.reconfirm-requires-in-Some

@@ -2,7 +2,7 @@ use Rattle.std.proofs.Common.{◌≡◌, ◌-◌, ◌+◌, ℕ, List, [], ◌∷
 use Rattle.std.proofs.lemmas.List.{map-append}
 use Rattle.std.proofs.lemmas.Result.{err_from_is_err_and}
 use Rattle.push_base.specs.declared.role.Role.TheVariants as roles
-use Rattle.hublock.specs.Jobs.{role_in}
+use Rattle.hubloops.specs.Jobs.{role_in}
 use Rattle.serving.specs.declared.setup.Fed.{Fed}
 use Rattle.serving.specs.Servers.{ServerState}
 use Rattle.serving.specs.Serving.{numbers_of}

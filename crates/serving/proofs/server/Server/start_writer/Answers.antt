@@ -1,7 +1,7 @@
 use Rattle.std.proofs.Common.{◌≡◌, ◌≤◌, [], ◌∷◌, ap, ◌∙◌}
 use Rattle.std.proofs.lemmas.Result.{err_from_is_err_and}
 use Rattle.push_base.specs.declared.role.Role.TheVariants as roles
-use Rattle.hublock.specs.Jobs.{role_in}
+use Rattle.hubloops.specs.Jobs.{role_in}
 use Rattle.serving.specs.Servers.{ServerState}
 use Rattle.serving.proofs.Handing.{front_none, over_as, over_err}
 use Rattle.serving.proofs.Opening.{on_ok}

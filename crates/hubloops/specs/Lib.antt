@@ -1,0 +1,11 @@
+pub mod Calls
+pub mod Gates
+pub mod Loops
+pub mod Reader
+pub mod Writer
+pub mod Rounds
+pub mod LinkReader
+pub mod Ticker
+pub mod Worked
+pub mod Runs
+pub mod Jobs

@@ -1,0 +1,4 @@
+pub mod NumberedSessions
+pub mod Lending
+pub mod Behind
+pub mod Watched

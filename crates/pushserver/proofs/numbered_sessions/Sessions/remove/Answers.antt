@@ -1,8 +1,0 @@
--- Numbers stay apart.
-use Rattle.std.proofs.Common.{sym, subst}
-use Rattle.pushserver.specs.NumberedSessions.{AreApart}
-use Rattle.pushserver.proofs.NumberedSessions.{apart-left}
-use Rattle.pushserver.proofs.numbered_sessions.Sessions.remove.Goals as goal
-
-pub invariant_of-self : goal.invariant_of-self
-invariant_of-self c = subst AreApart (sym c.without.ensures) (apart-left c.args.number c.self.inside.numbered.items c.self.invariant)
