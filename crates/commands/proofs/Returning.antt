@@ -4,7 +4,7 @@
 --     source_back, source_failed, source_starved, source_later, source_one      the source at a path
 --     back_more, back_all, links_given, opened_many, links_all, links_failed      the datagrams of links
 --     gives_nothing, gives_failed, gives_all, less_back, back-by-later      all that a server opens
-use Rattle.std.proofs.Common.{◌≡◌, ◌⊎◌, inl, inr, ℕ, ◌+◌, ◌-◌, ◌≤◌, Bool, true, false, Option, Some, None, Result, Ok, Err, List, [], ◌∷◌, ◌++◌, length, map, string_bytes, refl, sym, ◌∙◌, ap, subst, arith, append_assoc, append-nil, length-append, suc}
+use Rattle.std.proofs.Common.{◌≡◌, ◌⊎◌, inl, inr, ℕ, ◌+◌, ◌-◌, Bool, true, false, Option, Some, None, Result, Ok, Err, List, [], ◌∷◌, ◌++◌, length, map, string_bytes, refl, sym, ◌∙◌, ap, subst, arith, append_assoc, append-nil, length-append, suc}
 use Rattle.std.specs.Prelude.{OnOk}
 use Rattle.push_base.specs.Causes.{Rose}
 use Rattle.push_outside.specs.Outside.{Telling, Used, Adds, AddsTold, AddsUse, AddsSome, use_told}

@@ -14,6 +14,7 @@ use Rattle.scripts.specs.Reply.{Answers, In_full}
 use Rattle.scripts.specs.Words.{line}
 use Rattle.scripts.proofs.Written.{Replied, answers_with_cause}
 use Rattle.script_laws.specs.Replies.{RepliesAreOne}
+use Rattle.two_hubs.specs.WholeReplies.{WholeRepliesAreOne}
 use Rattle.big_scripts.specs.Scripts.{script_octets, rounds_of}
 use Rattle.big_scripts.specs.Sums.{sums_of_text, no_sums, added}
 use Rattle.big_scripts.specs.Replies.{reply_to_number, summary_of}
@@ -121,12 +122,12 @@ usage_answered input_rose outside_rose request octets taken taken_now result cod
     )
 
 -- told from the notices it is what is told from the history
-as_history : RepliesAreOne → (task : ScriptCommand) (cause : Type 0) (taken taken_now : Option (List ℕ)) (octets : List ℕ) (result : Outcome)
+as_history : WholeRepliesAreOne → (task : ScriptCommand) (cause : Type 0) (taken taken_now : Option (List ℕ)) (octets : List ℕ) (result : Outcome)
     → RepliedTo task cause taken taken_now result octets → Took taken taken_now (Answers cause (task_reply by_history task (front_read octets)) (status_of result))
 as_history one Replay cause taken taken_now octets result h = subst (λ r. Took taken taken_now (Answers cause r (status_of result))) (one (front_read octets)) h
 as_history one Check cause taken taken_now octets result h = h
 
-pub input_answered : RepliesAreOne → (input_rose outside_rose : Type 0) (request : Option Request) (task : ScriptCommand) (input taken taken_now : Option (List ℕ)) (before now : Option (List Used)) (octets : List ℕ) (result : Outcome) (code : ℕ)
+pub input_answered : WholeRepliesAreOne → (input_rose outside_rose : Type 0) (request : Option Request) (task : ScriptCommand) (input taken taken_now : Option (List ℕ)) (before now : Option (List Used)) (octets : List ℕ) (result : Outcome) (code : ℕ)
     → Some (On_input task) ≡ request → code ≡ status_of result → Replied (task_reply by_notices task) input_rose input taken taken_now result → MayBeOctets request input before now octets
     → Took taken taken_now (Answers (SourceRose request input_rose outside_rose) (reply_to request octets) code)
 input_answered one input_rose outside_rose request task input taken taken_now before now octets result code is code_is replied may =
@@ -134,7 +135,7 @@ input_answered one input_rose outside_rose request task input taken taken_now be
     answers_by (λ r. SourceRose r input_rose outside_rose) request (Some (On_input task)) octets taken taken_now result code is code_is
     (as_history one task input_rose taken taken_now octets result (subst (λ i. Replied (task_reply by_notices task) input_rose i taken taken_now result) told replied))
 
-pub path_answered : RepliesAreOne → (input_rose outside_rose : Type 0) (request : Option Request) (task : ScriptCommand) (path : List ℕ) (input taken taken_now : Option (List ℕ)) (before now : Option (List Used)) (octets : List ℕ) (result : Outcome) (code : ℕ)
+pub path_answered : WholeRepliesAreOne → (input_rose outside_rose : Type 0) (request : Option Request) (task : ScriptCommand) (path : List ℕ) (input taken taken_now : Option (List ℕ)) (before now : Option (List Used)) (octets : List ℕ) (result : Outcome) (code : ℕ)
     → Some (At_path task path) ≡ request → code ≡ status_of result → (MayHaveGiven before now octets → RepliedTo task outside_rose taken taken_now result octets) → MayBeOctets request input before now octets
     → Took taken taken_now (Answers (SourceRose request input_rose outside_rose) (reply_to request octets) code)
 path_answered one input_rose outside_rose request task path input taken taken_now before now octets result code is code_is replied may =

@@ -2,7 +2,7 @@
 --     begins_one, begins_none, begins_told      one went behind a lock, or none
 --     gives_up, told_not      a status that tells of no full run
 --     shares_nothing, shares_read, shares_so, not-shared      what a run says of that
-use Rattle.std.proofs.Common.{◌≡◌, ◌⊎◌, inl, inr, ℕ, Bool, true, false, Option, Some, None, Result, Ok, Err, List, refl, sym, subst}
+use Rattle.std.proofs.Common.{◌≡◌, ◌⊎◌, inl, inr, ℕ, Bool, true, false, Option, Some, Result, Ok, Err, List, refl, sym, subst}
 use Rattle.push_outside.specs.Outside.{Used}
 use Rattle.hubasking.specs.AskingHubs.{AskingHub}
 use Rattle.hublock.specs.Registers.{entered}

@@ -1,7 +1,7 @@
 -- What a run does for what its words ask.
 --     reply_to request octets      what is answered, given the octets of the source that the request names
 --     AsksReplay request      a script is to be run
---     AsksAccepted request script asked, AsksInPieces request script sent, AsksFed request script fed, AsksFor request octets script      the script that is to be run is one of which a promise speaks
+--     AsksAccepted request script asked, AsksInPieces request script sent, AsksFed request script fed, AsksFor request octets script, AsksForWhole request octets script      the script that is to be run is one of which a promise speaks
 --     WritesReplies request written      each reply that is promised is written, where `written octets reply` says that this one is, for these octets of the source
 --     IsAnswered request .. octets reply      where these may be the octets of the source, this reply was written, or what a fault leaves of it
 --     LeavesRest, TakesBack, TakesAtMost, OpensPath, Reaches, InputStays      what becomes of the source, the path, all else that the outside tells, and the input
@@ -11,6 +11,8 @@ use Rattle.push_base.specs.Causes.{Rose}
 use Rattle.scripts.specs.Lines.{ScriptLine}
 use Rattle.scripts.specs.Scripts.{max_script, script_of}
 use Rattle.scripts.specs.Reply.{Reply, Answers}
+use Rattle.scripts.specs.WholeLines.{WholeLine}
+use Rattle.scripts.specs.WholeScripts.{whole_script_of}
 use Rattle.push_base.specs.Written.{Took}
 use Rattle.replay.specs.TextWords.{by_history}
 use Rattle.scripts.specs.Sources.{front_read, left_behind, LeftBehind}
@@ -54,6 +56,10 @@ AsksFed request script fed = AsksReplay request × FeedsLone script fed
 -- a script is to be run, and these are its lines
 abbrev pub AsksFor : Option Request → List ℕ → List ScriptLine → Type 0
 AsksFor request octets script = AsksReplay request × (script_of octets ≡ Ok script)
+
+-- so of a script that may have a second hub
+abbrev pub AsksForWhole : Option Request → List ℕ → List WholeLine → Type 0
+AsksForWhole request octets script = AsksReplay request × (whole_script_of octets ≡ Ok script)
 
 -- What is written, where `written octets reply` says that this reply is, for these octets of the source.
 pub record WritesReplies (request : Option Request) (written : List ℕ → Reply → Type 0) : Type 0 where

@@ -5,9 +5,11 @@ ghost use Rattle.push_base.specs.Causes.{Rose};
 ghost use Rattle.scripts.specs.Lines.{ScriptLine};
 ghost use Rattle.scripts.specs.Scripts.{max_script};
 ghost use Rattle.scripts.specs.Sources.{front_read, LostAtMost};
+ghost use Rattle.scripts.specs.WholeLines.{WholeLine};
 ghost use Rattle.push_base.specs.Written.{IsFrontOf, Took};
 ghost use Rattle.script_laws.specs.Throughout.{HoldsThroughout};
-ghost use Rattle.commands.specs.Runs.{AsksFor, InputStays, IsAnswered, LeavesRest, OpensPath, ReachRose, Reaches, SinkRose, SourceRose, TakesAtMost, TakesBack, WritesReplies};
+ghost use Rattle.two_hubs.specs.Relaying.{RelaysTruly};
+ghost use Rattle.commands.specs.Runs.{AsksFor, AsksForWhole, InputStays, IsAnswered, LeavesRest, OpensPath, ReachRose, Reaches, SinkRose, SourceRose, TakesAtMost, TakesBack, WritesReplies};
 ghost use Rattle.commands.specs.Serving.{CountsAsTold, IsServed, IsShared};
 ghost use Rattle.commands.specs.Status.{code_of};
 ghost use Rattle.commands.specs.Subscribing.{IsFollowed};
@@ -28,6 +30,7 @@ use script_laws::{replies_are_one, scripts_hold_throughout, sends_are_answered};
 use std::alloc::Global;
 use std::sync::Wait;
 use std::thread::Threads;
+use two_hubs::{scripts_relay_truly, whole_replies_are_one};
 
 /// What is written where the words aren't as they should be: a line that names all commands.
 pub const USAGE: &[u8] =
@@ -55,6 +58,11 @@ pub fn run<R: Log + Threads + Wait + Copy + Send + 'static, O: Outside, W: Regis
     // clients hold is the history; no message ends a session, unless it falls behind, or closes its client, but a Retry Delay; and each message
     // that comes to a session has its turn, in which what the server's table tells is done.
     ensures promises { (octets : List ℕ) (script : List ScriptLine) → AsksFor (request_in words.now) (front_read octets) script → HoldsThroughout script }
+
+    // In every script that may have a second hub all of this holds of what the lines are to either hub. A carry is answered 0, and the second
+    // zone has its set, or 5, where it would have too many records. What a far client shows of a name was carried: the records of the first hub at
+    // the point of the last carry before its own point. It never goes back, and right after a settle it is what was carried last.
+    ensures relays { (octets : List ℕ) (script : List WholeLine) → AsksForWhole (request_in words.now) (front_read octets) script → RelaysTruly script }
 
     // A subscriber dials the server of its configuration, says what it reads, and sends what is to be sent for that.
     ensures followed { (octets : List ℕ) → IsFollowed (request_in words.now) (record { told = O.told outside.old; printed = O.Out.taken out.old; reads = O.reads outside.old; others = O.others outside.old })
@@ -96,6 +104,8 @@ pub fn run<R: Log + Threads + Wait + Copy + Send + 'static, O: Outside, W: Regis
     sends_are_answered();
     lone_clients_react_to_each_message();
     scripts_hold_throughout();
+    whole_replies_are_one();
+    scripts_relay_truly();
     match read_words(words) {
         None => tell_status(out, Status::Usage, USAGE).code(),
         Some(Command::OnInput(task)) => Status::Ended(on_source(alloc, task, input, out)).code(),

@@ -62,6 +62,9 @@ impl Ord for Name {
     ghost matches_eq = { λ a b. texts_ties (caseless_octets a) (caseless_octets b) };
 
     fn cmp(&self, other: &Name) -> Ordering {
+        if self.is_lower() {
+            return self.compare_with_lower(other);
+        }
         compare_in_lower_case(self.octets(), other.octets())
     }
 }

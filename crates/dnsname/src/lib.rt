@@ -2,6 +2,7 @@
 #![tactic(auto)]
 
 mod as_key;
+mod comparing;
 pub mod laws;
 mod message;
 pub mod name;
@@ -11,6 +12,7 @@ mod print;
 mod suffix;
 mod text;
 
+pub use comparing::{compare_octets, compare_with_lower};
 pub use name::{Name, NameFault, TextFault};
 pub use part::MAX_NAME;
 pub use plain::plain_name_end;

@@ -1,18 +1,23 @@
 //! Domain names, and why one could not be read.
 
-ghost use Rattle.std.specs.Prelude.{◌≡◌, ◌+◌, ◌++◌, ◌↔◌, ◌<◌, ◌≤◌, take, ℕ, List, length, map, string_bytes, IsNone, IfSome, IsTrue, IfOk, IfErr, OnOk, OnErr, MatchResult, Err};
-ghost use Rattle.std.specs.Char.{to_ascii_lowercase};
+ghost use Rattle.std.specs.Prelude.{◌≡◌, ◌+◌, ◌++◌, ◌↔◌, ◌<◌, ◌≤◌, true, take, ℕ, List, length, map, string_bytes, IsNone, IfSome, IsTrue, IfOk, IfErr, OnOk, OnErr, MatchResult, Err};
+ghost use Rattle.std.specs.Char.{is_ascii_uppercase, to_ascii_lowercase};
+ghost use Rattle.std.specs.List.{list_any};
+ghost use Rattle.std.specs.Cmp.Lexicographic.{slice_cmp};
+ghost use Rattle.std.specs.Ordering.{nat_cmp};
 ghost use Rattle.push_base.specs.Counted.{CountsUpTo};
 ghost use Rattle.dnsname.specs.declared.name.NameFault.{NameFault};
 ghost use Rattle.dnsname.specs.declared.name.NameFault.TheVariants as names;
 ghost use Rattle.dnsname.specs.declared.name.TextFault.TheVariants as texts;
-ghost use Rattle.dnsname.specs.Names.{Labels, IsName, IsSame, EndsIn, octets, lower, same_name, ends_in, swapped_suffix};
+ghost use Rattle.dnsname.specs.Names.{Labels, IsName, SpellsName, IsSame, EndsIn, octets, lower, same_name, ends_in, swapped_suffix};
+ghost use Rattle.dnsname.specs.Octets.{labels_of};
 ghost use Rattle.dnsname.specs.Spelling.{SpellsNameAt, SpellsNameIn, FaultAt, FaultIn, SpellsPlainNameAt, PlainFaultAt};
 ghost use Rattle.dnsname.specs.Reading.{IsMemoryOr, Gives, name_at, name_up_to, plain_name_at};
 ghost use Rattle.dnsname.specs.NameSteps.{steps_in, name_steps, steps_up_to, CountsAll};
 ghost use Rattle.dnsname.specs.Text.{SpellsText, GivesName, name_text, name_of_text};
 
 use crate::NoMemory;
+use crate::comparing::{compare_octets, compare_with_lower};
 use crate::message::name_octets;
 use crate::part::MAX_NAME;
 use crate::plain::plain_end;
@@ -22,6 +27,7 @@ use crate::text::text_octets;
 pub use push_base::Octets;
 use push_base::Steps;
 use std::alloc::{AllocError, AllocFailed, Global};
+use std::cmp::Ordering;
 use std::marker::Model;
 use std::sync::Arc;
 use std::sync::ledger::Ledger;
@@ -90,22 +96,46 @@ impl<T: Drop> From<AllocFailed<T>> for TextFault {
     }
 }
 
+/// The octets of a name, and whether no letter among them is a capital.
+#[derive(Debug, Drop)]
+struct Spelling {
+    octets: Octets,
+    is_lower: bool,
+}
+
 /// A domain name, as the list of its labels. Copies of a name share its octets.
 #[derive(Debug, Drop)]
 pub struct Name {
-    octets: Arc<Vec<u8>>,
+    spelling: Arc<Spelling>,
 }
 
 impl Model for Name {
     ghost use Rattle.std.specs.Arc.{arc_value};
-    ghost use Rattle.dnsname.specs.Names.{Labels, SpellsName};
-    ghost use Rattle.dnsname.specs.Octets.{labels_of};
+    ghost use Rattle.dnsname.specs.Names.{Labels};
+    ghost use Rattle.dnsname.specs.Octets.{labels_of, IsSpelling};
 
     ghost Value = { Labels };
 
-    ghost view = { λ n. labels_of (arc_value n.octets).items };
+    ghost view = { λ n. labels_of (arc_value n.spelling).octets };
 
-    ghost invariant = { λ n. SpellsName (arc_value n.octets).items (labels_of (arc_value n.octets).items) };
+    ghost invariant = { λ n. IsSpelling (arc_value n.spelling).octets (arc_value n.spelling).is_lower };
+}
+
+/// Whether a letter among octets is a capital.
+fn has_capital(octets: &[u8]) -> bool
+    ensures { result ≡ list_any is_ascii_uppercase octets.now }
+{
+    octets.iter().any(|octet| octet.is_ascii_uppercase())
+}
+
+/// The name that octets spell.
+fn name_of(octets: Octets) -> Result<Name, NoMemory>
+    requires { SpellsName octets (labels_of octets) }
+    ensures { IfOk result (λ name. name ≡ labels_of octets) }
+{
+    let is_lower = !has_capital(octets.as_slice());
+    let spelling = Arc::new(octets.allocator(), Spelling { octets, is_lower })?;
+    Ok(Name { spelling })
 }
 
 /// The name without pointers at a place, and the place after it.
@@ -115,8 +145,8 @@ fn plain_name(alloc: Global, octets: &[u8], at: usize) -> Result<(Name, usize), 
 {
     let after = plain_end(octets, at)?;
     let spelled = Vec::from_slice(alloc, &octets[at..after])?;
-    let octets = Arc::new(alloc, spelled)?;
-    Ok((Name { octets }, after))
+    let name = name_of(Octets::from_vec(spelled))?;
+    Ok((name, after))
 }
 
 /// The octets with ASCII letters in lower case.
@@ -152,8 +182,8 @@ fn pointed_name<L: Ledger>(
     ensures cost { CountsUpTo (at + 128) steps.old steps.new }
 {
     let (spelled, after) = name_octets(alloc, first, message, at, steps)?;
-    let octets = Arc::new(alloc, spelled)?;
-    Ok((Name { octets }, after))
+    let name = name_of(Octets::from_vec(spelled))?;
+    Ok((name, after))
 }
 
 /// The name that a text is.
@@ -164,8 +194,7 @@ fn text_name(alloc: Global, text: &str) -> Result<Name, TextFault>
         → MatchResult result (λ read. read ≡ name) (λ e. e ≡ TextFault.NoMemory) }
 {
     let spelled = text_octets(alloc, text.as_bytes())?;
-    let octets = Arc::new(alloc, spelled)?;
-    Ok(Name { octets })
+    Ok(name_of(Octets::from_vec(spelled))?)
 }
 
 impl Name {
@@ -249,12 +278,19 @@ impl Name {
         ensures octets { result.now ≡ octets self.now }
         ensures name { IsName self.now }
     {
-        self.octets.as_slice()
+        self.spelling.as_ref().octets.as_slice()
+    }
+
+    /// Whether no letter of the name is a capital.
+    pub(crate) fn is_lower(&self) -> bool
+        ensures { result ≡ true → lower self.now ≡ self.now }
+    {
+        self.spelling.as_ref().is_lower
     }
 
     /// The allocator that the octets came with.
     fn allocator(&self) -> Global {
-        *self.octets.allocator()
+        self.spelling.as_ref().octets.allocator()
     }
 
     /// Appends the name's octets.
@@ -271,7 +307,12 @@ impl Name {
         // The same as a test of the names.
         ensures exact { result ≡ same_name self.now other.now }
     {
-        self.octets().eq_ignore_ascii_case(other.octets())
+        let mine = self.octets();
+        let others = other.octets();
+        if self.is_lower() && other.is_lower() {
+            return mine == others;
+        }
+        mine.eq_ignore_ascii_case(others)
     }
 
     /// Whether the last labels of the name are those of the suffix, but for upper and lower case.
@@ -281,6 +322,18 @@ impl Name {
         ensures exact { result ≡ ends_in self.now suffix.now }
     {
         spelled_ends_in(self.octets(), suffix.octets())
+    }
+
+    /// The order of a name's octets and of another's in lower case.
+    pub fn compare_with_lower(&self, other: &Name) -> Ordering
+        ensures { result ≡ slice_cmp nat_cmp (octets self.now) (octets (lower other.now)) }
+    {
+        let mine = self.octets();
+        let others = other.octets();
+        if other.is_lower() {
+            return compare_octets(mine, others);
+        }
+        compare_with_lower(mine, others)
     }
 
     /// The name's text: its labels, each with a dot after it, or a dot alone.
@@ -294,21 +347,19 @@ impl Name {
     pub fn copy(&self) -> Result<Name, NoMemory>
         ensures { IfOk result (λ copy. copy ≡ self.now) }
     {
-        let octets = Arc::try_clone(&self.octets)?;
-        Ok(Name { octets })
+        let spelling = Arc::try_clone(&self.spelling)?;
+        Ok(Name { spelling })
     }
 
-    /// The name in lower case: a copy, where it is so already. It takes memory in either case.
+    /// The name in lower case: a copy, where it is so already.
     pub fn lower(&self) -> Result<Name, NoMemory>
         ensures { IfOk result (λ low. low ≡ lower self.now) }
     {
-        let alloc = self.allocator();
-        let low = in_lower_case(alloc, self.octets())?;
-        if low.as_slice() == self.octets() {
+        if self.is_lower() {
             return self.copy();
         }
-        let octets = Arc::new(alloc, low)?;
-        Ok(Name { octets })
+        let low = in_lower_case(self.allocator(), self.octets())?;
+        name_of(Octets::from_vec(low))
     }
 
     /// The name with its last labels, which are `old` but for case, replaced by `new`. Nothing
@@ -328,7 +379,6 @@ impl Name {
         let (kept, _) = mine.split_at(front);
         let alloc = self.allocator();
         let spelled = joined(alloc, kept, next)?;
-        let octets = Arc::new(alloc, spelled)?;
-        Ok(Some(Name { octets }))
+        Ok(Some(name_of(Octets::from_vec(spelled))?))
     }
 }

@@ -1,5 +1,6 @@
 pub mod Standing
 pub mod Leading
+pub mod Places
 pub mod Clearing
 pub mod Refreshing
 pub mod Questions

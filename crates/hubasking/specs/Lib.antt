@@ -3,6 +3,7 @@ pub mod AskingHubs
 pub mod KeptReasons
 pub mod Following
 pub mod Seats
+pub mod Idle
 pub mod Turns
 pub mod Laws
 pub mod Worked

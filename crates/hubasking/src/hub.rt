@@ -15,12 +15,14 @@ ghost use Rattle.pushserver.specs.Observing.{SaysWhy, all_filled_in, filled_in, 
 ghost use Rattle.pushserver.specs.KeptHubs.{Forgets, StandsFor, new_kept};
 ghost use Rattle.pushserver.specs.PlainHubs.{Hub as Plain, new_hub};
 ghost use Rattle.hubasking.specs.AskingHubs.{given_by, new_asking, untouched_by};
+ghost use Rattle.hubasking.specs.Idle.{session_at};
 ghost use Rattle.hubasking.specs.LinkAskings.{ask, asking_after, kept_questions, plain_questions};
 
 use crate::asking::ask_link;
 use crate::following::follow;
 use crate::giving::{count_of, make_ready, settle, undo};
 use crate::hearing::{hearing_in, lower};
+use crate::idle::session_at;
 use crate::seating::seated;
 use dnsname::Name;
 use dsosession::session::Timers;
@@ -35,10 +37,17 @@ use std::marker::Model;
 /// One history of all homes, and the sessions, each told of what it asks for (RFC 8765), and what each link is asked for them
 /// (RFC 8766, 5.6). It stands for a plain hub as `pushserver`'s does, and each call but `ask` does to that what the call of the
 /// same name does there; beside it stands what is asked. All moments are milliseconds of one clock.
-#[derive(Debug, Drop)]
+#[derive(Debug)]
 pub struct Hub {
     hub: pushserver::Hub,
     reasons: LinkReasons,
+}
+
+// By hand, so that crates above needn't prove that each part of a hub can be dropped.
+impl Drop for Hub {
+    fn drop(self) {
+        let Hub { hub: _, reasons: _ } = self;
+    }
 }
 
 impl Model for Hub {
@@ -283,6 +292,14 @@ impl Hub {
         ensures kept { result ≡ self.now.hub.numbers_given }
     {
         self.hub.made()
+    }
+
+    /// The number of the session in a place, counted from 0 in the order in which they came, and whether nothing waits for it:
+    /// it goes on, and no octets, no whole message and no name wait.
+    pub fn session(&self, place: usize) -> Option<(u64, bool)>
+        ensures { result ≡ session_at self.now.hub place }
+    {
+        session_at(&self.hub, &self.reasons, place)
     }
 
     /// Whether there is a session of a number.

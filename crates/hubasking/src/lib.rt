@@ -6,6 +6,7 @@ mod following;
 mod giving;
 mod hearing;
 pub mod hub;
+mod idle;
 pub mod laws;
 mod seating;
 mod translating;

@@ -121,7 +121,7 @@ impl<B: Books> Locked<B> {
             after,
         );
         let has_entered = after.changes > before.changes;
-        self.wakes = wakes_at_give(session, &answer, has_entered);
+        self.wakes = wakes_at_give(&self.hub, session, &answer, has_entered);
         answer
     }
 
@@ -147,7 +147,7 @@ impl<B: Books> Locked<B> {
             before,
             after,
         );
-        self.wakes = wakes_at_entry(after.heard > before.heard);
+        self.wakes = wakes_at_entry(&self.hub, after.heard > before.heard);
         answer
     }
 
@@ -179,7 +179,7 @@ impl<B: Books> Locked<B> {
             before,
             after,
         );
-        self.wakes = wakes_at_entry(after.heard > before.heard);
+        self.wakes = wakes_at_entry(&self.hub, after.heard > before.heard);
         answer
     }
 
@@ -202,7 +202,7 @@ impl<B: Books> Locked<B> {
             after,
         );
         let has_entered = after.moments > before.moments;
-        self.wakes = wakes_at_entry(has_entered);
+        self.wakes = wakes_at_entry(&self.hub, has_entered);
         answer
     }
 

@@ -85,9 +85,9 @@ pub(crate) fn tell_end<R: Log>(rt: &R, session: u64, reason: Option<EndReason>) 
     tell(rt, Told::End { session, reason });
 }
 
-/// A change that a message of a session's client made, which is what wakes all then.
+/// A change that a message of a session's client made, as whom it wakes tells.
 pub(crate) fn tell_change<R: Log>(rt: &R, session: u64, wakes: Wakes) {
-    if let Wakes::All = wakes {
+    if let Wakes::Places(_) = wakes {
         tell(rt, Told::Change { session });
     }
 }

@@ -4,6 +4,7 @@ ghost use Rattle.std.specs.Prelude.{◌<◌};
 ghost use Rattle.pushserver.specs.Hubs.{max_sessions};
 
 use crate::Signal;
+use hubasking::Hub;
 use push_base::Role;
 use pushserver::{Given, HubFault, MAX_SESSIONS};
 use std::array;
@@ -21,6 +22,8 @@ pub(crate) enum Wakes {
     Nobody,
     /// The loops of this session.
     Session(u64),
+    /// The loops of the sessions at these places, one bit for each.
+    Places(u64),
     /// All loops.
     All,
 }
@@ -51,14 +54,31 @@ fn place_of(session: u64) -> usize
     (session % MAX_SESSIONS as u64) as usize
 }
 
+/// The bit of a session's place.
+fn bit_of(session: u64) -> u64 {
+    1 << place_of(session)
+}
+
+/// The places of the sessions for which something waits.
+fn busy_places(hub: &Hub) -> u64 {
+    let mut busy = 0;
+    'sessions: for place in 0..MAX_SESSIONS {
+        if let Some((number, false)) = hub.session(place) {
+            busy |= bit_of(number);
+        }
+    }
+    busy
+}
+
 /// Who may wait for what is so after an answer for a session, where an entry was made or not.
 pub(crate) fn wakes_at_give(
+    hub: &Hub,
     session: u64,
     answer: &Result<Given, HubFault>,
     has_entered: bool,
 ) -> Wakes {
     if has_entered {
-        return Wakes::All;
+        return Wakes::Places(busy_places(hub) | bit_of(session));
     }
     match answer {
         Ok(Given::Bytes(_) | Given::Worked | Given::End(_)) => Wakes::Session(session),
@@ -75,10 +95,10 @@ pub(crate) fn wakes_at_take(session: u64, count: usize) -> Wakes {
     }
 }
 
-/// All loops, where an entry was made.
-pub(crate) fn wakes_at_entry(has_entered: bool) -> Wakes {
+/// The loops of those for whom something waits, where an entry was made.
+pub(crate) fn wakes_at_entry(hub: &Hub, has_entered: bool) -> Wakes {
     if has_entered {
-        Wakes::All
+        Wakes::Places(busy_places(hub))
     } else {
         Wakes::Nobody
     }
@@ -107,6 +127,7 @@ fn notifications_at(role: Role, wakes: Wakes) -> u64 {
     match wakes {
         Wakes::Nobody => 0,
         Wakes::Session(session) => u64::from(place_of(session) == place_of(waits_with(role))),
+        Wakes::Places(busy) => u64::from(busy & bit_of(waits_with(role)) != 0),
         Wakes::All => 1,
     }
 }
@@ -184,10 +205,16 @@ impl Wakeups {
         match wakes {
             Wakes::Nobody => {}
             Wakes::Session(session) => self.places[place_of(session)].notify_all(),
-            Wakes::All => {
-                'places: for place in &self.places {
-                    place.notify_all();
-                }
+            Wakes::Places(busy) => self.wake_places(busy),
+            Wakes::All => self.wake_places(u64::MAX),
+        }
+    }
+
+    /// Wakes those at these places, one bit for each.
+    fn wake_places(&self, places: u64) {
+        'places: for place in 0..MAX_SESSIONS {
+            if places >> place & 1 != 0 {
+                self.places[place].notify_all();
             }
         }
     }

@@ -8,8 +8,11 @@ use Rattle.std.proofs.lemmas.Cmp.{ranked}
 use Rattle.std.specs.Char.{to_ascii_lowercase}
 use Rattle.std.specs.Int.{w64, from_be_bytes}
 use Rattle.dnsname.specs.Names.{Labels, IsLabel, IsName, octets, lower}
+use Rattle.dnsname.specs.Eights.{spelled}
+use Rattle.dnsname.proofs.Eights.{spelled-less}
 use Rattle.dnsname.proofs.Octets.{octets-cons}
 use Rattle.dnsname.proofs.Spellings.{octets-lower, IsName-lower}
+use Rattle.dnsname.proofs.Standing.{below-take}
 use Rattle.rrset.specs.Records.{octets_cmp}
 use Rattle.nametable.specs.FirstOctets.{first_octets, HasFirst}
 use Rattle.nametable.specs.Nodes.{name_cmp}
@@ -17,41 +20,6 @@ use Rattle.nametable.proofs.AllRows.{name_cmp_total}
 
 abbrev AreBelow : List ℕ → Type 0
 AreBelow os = AllByRecursion (λ o. o < 256) os
-
--- the number that so many octets spell behind another
-abbrev spelled : ℕ → ℕ → List ℕ → ℕ
-spelled a zero os = a
-spelled a (suc n) [] = spelled (a * 256) n []
-spelled a (suc n) (o ∷ os) = spelled (a * 256 + o) n os
-
--- ---- the octets behind decide nothing where what is before them differs
-
-apart : (n a b : ℕ) (xs ys : List ℕ) → AreBelow xs → a < b → spelled a n xs < spelled b n ys
-apart zero a b xs ys below less = less
-apart (suc n) a b [] [] below less = apart n (a * 256) (b * 256) [] [] tt (omega arith)
-apart (suc n) a b [] (y ∷ ys) below less = apart n (a * 256) (b * 256 + y) [] ys tt (omega arith)
-apart (suc n) a b (x ∷ xs) [] below less = let small = below.0 in apart n (a * 256 + x) (b * 256) xs [] below.1 (omega (arith, small))
-apart (suc n) a b (x ∷ xs) (y ∷ ys) below less = let small = below.0 in apart n (a * 256 + x) (b * 256 + y) xs ys below.1 (omega (arith, small))
-
--- no octets at all come after none
-never_below : (n a : ℕ) (xs : List ℕ) → spelled a n [] ≤ spelled a n xs
-never_below zero a xs = omega arith
-never_below (suc n) a [] = omega arith
-never_below (suc n) a (zero ∷ xs) = let same : a * 256 ≡ a * 256 + 0 = omega arith in subst (λ (b : ℕ). spelled (a * 256) n [] ≤ spelled b n xs) same (never_below n (a * 256) xs)
-never_below (suc n) a (suc x ∷ xs) = let more = apart n (a * 256) (a * 256 + suc x) [] xs tt (omega arith) in omega (arith, more)
-
-spelled-less : (n a : ℕ) (xs ys : List ℕ) → AreBelow ys → spelled a n xs < spelled a n ys → octets_cmp xs ys ≡ Less
-spelled-less zero a xs ys below less = absurd (omega (arith, less))
-spelled-less (suc n) a [] [] below less = absurd (omega (arith, less))
-spelled-less (suc n) a [] (y ∷ ys) below less = refl
-spelled-less (suc n) a (x ∷ xs) [] below less = absurd (let least = never_below (suc n) a (x ∷ xs) in omega (arith, less, least))
-spelled-less (suc n) a (x ∷ xs) (y ∷ ys) below less =
-    by (nat_cmp x y) refl (ranked x y (nat_cmp x y) refl) (λ same. spelled-less n (a * 256 + x) xs ys below.1 (subst (λ (z : ℕ). spelled (a * 256 + x) n xs < spelled (a * 256 + z) n ys) (sym same) less))
-  where
-    by : (r : Ordering) → nat_cmp x y ≡ r → MatchOrdering r (x < y) (x ≡ y) (y < x) → (x ≡ y → octets_cmp xs ys ≡ Less) → ordering_then r (octets_cmp xs ys) ≡ Less
-    by Less e is rest = refl
-    by Equal e is rest = rest is
-    by Greater e is rest = absurd (let more = apart n (a * 256 + y) (a * 256 + x) ys xs below.1 (omega (arith, is)) in omega (arith, less, more))
 
 -- ---- the first eight octets
 
@@ -81,7 +49,7 @@ name_less : (m n : ℕ) (a b : Labels) → HasFirst m a → HasFirst n b → m <
 name_less m n a b first other less =
     let left : m ≡ spelled 0 8 (octets a) = first.is ∙ first-spelled (octets a) in
     let right : n ≡ spelled 0 8 (octets b) = other.is ∙ first-spelled (octets b) in
-    spelled-less 8 0 (octets a) (octets b) (octets_below b other.is_name.labels) (subst (λ (k : ℕ). k < spelled 0 8 (octets b)) left (subst (λ (k : ℕ). m < k) right less))
+    spelled-less 8 0 (octets a) (octets b) (below-take 8 (octets b) (octets_below b other.is_name.labels)) (subst (λ (k : ℕ). k < spelled 0 8 (octets b)) left (subst (λ (k : ℕ). m < k) right less))
 
 -- the numbers decide, or the names are to be compared
 pub by_first : (m n : ℕ) (a b : Labels) → HasFirst m a → HasFirst n b → (r : Ordering) → r ≡ nat_cmp m n → MatchOrdering r (name_cmp a b ≡ Less) (Unit {0}) (name_cmp a b ≡ Greater)

@@ -1,21 +1,35 @@
 //! Octets, seen as their list.
 
-ghost use Rattle.std.specs.Prelude.{◌≡◌, ℕ, List, [], ◌∷◌, ◌++◌, length, IfOk, OnOk, OnErr};
+ghost use Rattle.std.specs.Prelude.{◌≡◌, [], length, IfOk};
 
 use crate::NoMemory;
+use crate::kept::{Kept, copied, few, handed_over, kept_octets, same};
 use std::alloc::Global;
 use std::marker::Model;
 
-/// Octets, seen as their list.
-#[derive(Debug, Drop)]
+/// Octets, seen as their list. Few stand in the value itself, and copies share many.
+#[derive(Debug)]
 pub struct Octets {
-    bytes: Vec<u8>,
+    alloc: Global,
+    kept: Kept,
+}
+
+// By hand, so that no proof of a crate above sees in how many ways octets are kept.
+impl Drop for Octets {
+    fn drop(self) {
+        let Octets { alloc: _, kept: _ } = self;
+    }
 }
 
 impl Model for Octets {
+    ghost use Rattle.std.specs.Prelude.{ℕ, List};
+    ghost use Rattle.push_base.specs.OctetsInside.{FitsIn, kept_octets};
+
     ghost Value = { List ℕ };
 
-    ghost view = { λ octets. octets.bytes.items };
+    ghost view = { λ octets. kept_octets octets.kept };
+
+    ghost invariant = { λ octets. FitsIn octets.kept };
 }
 
 impl Octets {
@@ -24,7 +38,8 @@ impl Octets {
         ensures { result ≡ [] }
     {
         Octets {
-            bytes: Vec::new(alloc),
+            alloc,
+            kept: few(&[]),
         }
     }
 
@@ -32,42 +47,45 @@ impl Octets {
     pub fn from_vec(bytes: Vec<u8>) -> Self
         ensures { result ≡ bytes.items }
     {
-        Octets { bytes }
-    }
-
-    /// The octets as a vector. No memory is taken.
-    pub fn into_vec(self) -> Vec<u8>
-        ensures { result.items ≡ self }
-    {
-        let Octets { bytes } = self;
-        bytes
+        Octets {
+            alloc: *bytes.allocator(),
+            kept: handed_over(bytes),
+        }
     }
 
     /// A copy of octets.
     pub fn from_slice(alloc: Global, octets: &[u8]) -> Result<Self, NoMemory>
         ensures { IfOk result (λ copy. copy ≡ octets.now) }
     {
-        Ok(Octets {
-            bytes: octets.to_vec(alloc)?,
-        })
+        let kept = copied(alloc, octets)?;
+        Ok(Octets { alloc, kept })
+    }
+
+    /// The same octets.
+    pub fn copy(&self) -> Result<Self, NoMemory>
+        ensures { IfOk result (λ copy. copy ≡ self.now) }
+    {
+        let alloc = self.alloc;
+        let kept = same(alloc, &self.kept)?;
+        Ok(Octets { alloc, kept })
     }
 
     /// The allocator that the octets came with.
     pub fn allocator(&self) -> Global {
-        *self.bytes.allocator()
+        self.alloc
     }
 
     /// The octets.
     pub fn as_slice(&self) -> &[u8]
         ensures { result.now ≡ self.now }
     {
-        &self.bytes
+        kept_octets(&self.kept)
     }
 
     /// How many octets there are.
     pub fn len(&self) -> usize
         ensures { result ≡ length self.now }
     {
-        self.bytes.len()
+        self.as_slice().len()
     }
 }

@@ -1,3 +1,4 @@
 pub mod Adding
 pub mod Messages
 pub mod Accepting
+pub mod Counts

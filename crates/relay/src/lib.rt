@@ -18,7 +18,7 @@ ghost use Rattle.relay.specs.Relay.{unfit_kind, carrying, relayed, carried};
 ghost use Rattle.relay.specs.Laws.{but_soa};
 ghost use Rattle.relay.specs.Worked.{zone_name, host, zone, record_of, addresses};
 
-pub use relay::{Relayed, relay_update};
+pub use relay::{Relayed, fits_message, relay_update};
 
 /// Examples of what becomes of a set.
 pub fn worked_rows()

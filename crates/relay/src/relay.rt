@@ -1,6 +1,7 @@
 //! A set of one name as an update of a zone (RFC 2136, 2.5).
 
-ghost use Rattle.std.specs.Prelude.{◌≡◌, ◌++◌, ◌<◌, ◌≤◌, ◌^◌, map, IfOk, OnOk};
+ghost use Rattle.std.specs.Prelude.{◌≡◌, ◌+◌, ◌++◌, ◌<◌, ◌≤◌, ◌^◌, length, map, nat_le, IfOk, OnOk};
+ghost use Rattle.dnsname.specs.Names.{octets};
 ghost use Rattle.std.specs.List.{flat_map};
 ghost use Rattle.push_base.specs.Limits.{max_octets_at_name};
 ghost use Rattle.rrset.specs.RecordSet.{size_of};
@@ -10,12 +11,13 @@ ghost use Rattle.relay.specs.Relay.{carrying, relayed, unfit_kind};
 
 use dnsname::Name;
 use dnswire::writing::{message_header, write_question, write_record, write_shown};
+use push_base::limits::MAX_OCTETS_AT_NAME;
 use push_base::{NoMemory, Octets};
-use rrset::Table;
 use rrset::classes::{ANY, IN};
 use rrset::header::UPDATE_OPCODE;
 use rrset::kinds::{self, CNAME, SOA, is_meta};
 use rrset::record::{Key, Shown};
+use rrset::{FIXED_FIELDS, Table};
 use std::alloc::Global;
 
 /// The flags of an update (RFC 2136, 2.2).
@@ -77,6 +79,26 @@ fn message(
     write_record(name, ANY, kinds::ANY, 0, &[], &mut out)?;
     write_records(entries, &mut out)?;
     Ok(Octets::from_vec(out))
+}
+
+/// Whether a set fits a message: it has at most 60,000 octets.
+pub fn fits_message(set: &Table) -> bool
+    ensures { result ≡ nat_le (size_of set.now.rows) max_octets_at_name }
+{
+    let mut size: u64 = 0;
+    'entries: for entry in set.entries() {
+        size = size.saturating_add(record_size(&entry.1));
+    }
+    size <= MAX_OCTETS_AT_NAME
+}
+
+// The octets of a record (RFC 1035, 3.2.1).
+fn record_size(shown: &Shown) -> u64
+    ensures { result ≡ length (octets shown.now.owner) + 10 + length shown.now.rdata }
+{
+    let owner = shown.owner.octets().len() as u64;
+    let rdata = shown.rdata.as_slice().len() as u64;
+    owner + FIXED_FIELDS + rdata
 }
 
 /// What becomes of a set of a name that is to be carried into a zone: the message that gives the zone this set in place of

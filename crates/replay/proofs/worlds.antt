@@ -24,4 +24,3 @@ pub mod HearDoing
 pub mod SeatsDoing
 pub mod FedDoing
 pub mod Naming
-pub mod ScriptTurns

@@ -5,8 +5,8 @@
 --     Answers, HasCut, HasFinished, HasTimed      what such calls answer, and the hub behind them
 --     TellsConnected seats place answer      whether the client at a place has a connection
 --     closing_text w closing      the line of a client that has closed, if it has
---     Times t kept before kept_later later told, TimesWorld kept known later known_later told      the clients at a moment, one after the other
-use Rattle.std.specs.Prelude.{◌≡◌, ℕ, Bool, cond, List, [], Option, None, fold, flat_map, set, get_or}
+--     Times t kept before kept_later later told, TimesWorld kept known later known_later told      the clients at a moment, one after the other, and of each what it tells
+use Rattle.std.specs.Prelude.{◌≡◌, ℕ, Bool, cond, List, [], Option, None, fold, map, flat_map, set, get_or}
 use Rattle.std.specs.Str.{bytes_eq}
 use Rattle.dsosession.specs.declared.session.CloseReason.{CloseReason}
 use Rattle.dsosession.specs.declared.session.EndReason.{EndReason}
@@ -18,7 +18,7 @@ use Rattle.pushclient.specs.Clients.{Client, closed_as, is_connected}
 use Rattle.pushclient.specs.Steps.{moment}
 use Rattle.scripts.specs.Lines.{Word}
 use Rattle.replay.specs.World.{World, Seat, with_client, is_over, cut_if, hub_without, hub_cut_if}
-use Rattle.replay.specs.Text.{quietly, close_lines, timed}
+use Rattle.replay.specs.Text.{quietly, close_lines, closes_of, timed}
 use Rattle.scripts.specs.Words.{ended_lines}
 use Rattle.replay.specs.LineCalls.{end_calls, timed_calls}
 use Rattle.replay.specs.KeptAskings.{StandsFor, AsksAfter}
@@ -75,18 +75,18 @@ pub record HasTimed (t : ℕ) (closing : Option CloseReason) (before later : Ask
 abbrev pub closing_text : Word → Option CloseReason → List ℕ
 closing_text w closing = ended_lines (close_lines w closing)
 
--- In every world that is stood for, the clients print at a moment what was told.
-pub record IsTimed (t : ℕ) (before : Askings) (kept : AskingHub) (later : Seated) (told : List ℕ) (world : World) : Type 0 where
-  pub text : told ≡ ended_lines (fold (timed t) (quietly world) world.seats).1
+-- In every world that is stood for, each client tells at a moment what was told of it.
+pub record IsTimed (t : ℕ) (before : Askings) (kept : AskingHub) (later : Seated) (told : List (List ℕ)) (world : World) : Type 0 where
+  pub closes : told ≡ map ended_lines (closes_of t world.seats)
   pub hub : StandsFor kept (fold (timed t) (quietly world) world.seats).0.hub
   pub stands : StandForSeats later (fold (timed t) (quietly world) world.seats).0.seats
   pub asks : AsksAfter (flat_map (timed_calls t) world.seats) world.hub before kept.askings
 
-unfoldable pub Times : ℕ → AskingHub → Seated → AskingHub → Seated → List ℕ → Type 0
+unfoldable pub Times : ℕ → AskingHub → Seated → AskingHub → Seated → List (List ℕ) → Type 0
 Times t kept before kept_later later told = (world : World) → StandsFor kept world.hub → StandForSeats before world.seats → AreDistinct (words_in world) → IsTimed t kept.askings kept_later later told world
 
 -- so at the hub's moment; the links and the peers are the same
-pub record TimesWorld (kept : AskingHub) (known : Parties) (later : AskingHub) (known_later : Parties) (told : List ℕ) : Type 0 where
+pub record TimesWorld (kept : AskingHub) (known : Parties) (later : AskingHub) (known_later : Parties) (told : List (List ℕ)) : Type 0 where
   pub at : ℕ
   pub links : known_later.links ≡ known.links
   pub peers : known_later.peers ≡ known.peers

@@ -3,9 +3,10 @@
 --     passing_of way, passes_way way      the passing of a way, with a session and without
 --     link_calls event w, link_lines event w      the calls of the hub that an event on a link is, and what is printed of it; what a link is asked is printed apart (Askings)
 --     hub_does event, link_does event w, client_does records event w, session_does event w      what happens at the hub, on a link, to a client and to a session
+--     closes_of t seats      of each client the line of its close at a moment, if it closes
 --     line_does records line world      the world after a line, and the lines that it prints
 --     world_after lines world      the world after lines
-use Rattle.std.specs.Prelude.{ℕ, Bool, cond, List, [], ◌∷◌, ◌++◌, fold, position, Option, Some, None, option_map, codes, decimal, unwrap_or, if◌then◌else◌}
+use Rattle.std.specs.Prelude.{ℕ, Bool, cond, List, [], ◌∷◌, ◌++◌, map, fold, position, Option, Some, None, option_map, codes, decimal, unwrap_or, if◌then◌else◌}
 use Rattle.std.specs.Str.{bytes_eq}
 use Rattle.rrset.specs.declared.record.Question.{Question}
 use Rattle.rrset.specs.declared.record.Rr.{Rr}
@@ -157,6 +158,10 @@ timed t so_far seat =
     let later = with_client (λ c. steps.moment c t) seat in
     let closing = closed_as later.client in
     (world_cut_if (is_over None closing) later (with_seat later so_far.0), so_far.1 ++ close_lines seat.word closing)
+
+-- of each client the line of its close at a moment, if it closes
+abbrev pub closes_of : ℕ → List Seat → List (List (List ℕ))
+closes_of t seats = map (λ (seat : Seat). close_lines seat.word (closed_as (steps.moment seat.client t))) seats
 
 abbrev pub moments : ℕ → World → Printed
 moments t world =

@@ -1,6 +1,6 @@
 //! The lines that events of clients print.
 
-ghost use Rattle.std.specs.Prelude.{[], ◌≡◌, ◌<◌, length, position, Some, IfOk, string_bytes};
+ghost use Rattle.std.specs.Prelude.{[], ◌≡◌, ◌<◌, length, map, position, Some, IfOk, string_bytes};
 ghost use Rattle.replay.specs.World.{new_seat};
 ghost use Rattle.replay.specs.Text.{asks, opens, opens_hub, opens_lone, seated as takes_seat, by_seat};
 ghost use Rattle.replay.specs.LineCalls.{connect_calls, of_seat, open_calls};
@@ -109,20 +109,20 @@ fn open_hub(alloc: Global, world: &mut World, place: usize, word: &str) -> Resul
     }
 }
 
-/// It is a moment for each client, in order.
+/// It is a moment for each client, in order: of each the line of its close, if it closes.
 pub(crate) fn timed_lines(
     alloc: Global,
     hub: &mut Hub,
     seats: &mut [Seat],
     now: u64,
-) -> Result<String, NoMemory>
-    ensures { IfOk result (λ text. Times now hub.old (seated seats.old) hub.new (seated seats.new) (string_bytes text)) }
+) -> Result<Vec<String>, NoMemory>
+    ensures { IfOk result (λ lines. Times now hub.old (seated seats.old) hub.new (seated seats.new) (map (λ t. string_bytes t) lines.items)) }
 {
-    let mut text = String::new(alloc);
+    let mut lines = Vec::new(alloc);
     'seats: for place in 0..seats.len() {
         let closing = moment_at(hub, seats, place, now)?;
         let line = closing_line(alloc, seats[place].word.as_str(), closing)?;
-        text.push_str(line.as_str())?;
+        lines.push(line)?;
     }
-    Ok(text)
+    Ok(lines)
 }

@@ -1,7 +1,7 @@
 //! The lines that events print.
 
 ghost use Rattle.push_base.specs.Limits.{max_moment};
-ghost use Rattle.std.specs.Prelude.{◌≡◌, ◌≤◌, ◌<◌, ◌++◌, ◌∷◌, [], Some, codes, decimal, length, position, IfOk, IfSome, string_bytes};
+ghost use Rattle.std.specs.Prelude.{◌≡◌, ◌≤◌, ◌<◌, ◌++◌, ◌∷◌, [], Some, codes, decimal, flat_map, length, map, position, IfOk, IfSome, string_bytes};
 ghost use Rattle.std.specs.Str.{bytes_eq};
 ghost use Rattle.replay.specs.TextWords.{by_notices, end_words};
 ghost use Rattle.replay.specs.Text.{client_does, cuts, exchanges, hub_does, moments, printing, sends, seated as takes_seat, session_does, session_of_word, stops, updates};
@@ -14,6 +14,7 @@ ghost use Rattle.replay.specs.LineCalls.{client_calls, exchanges_calls, hub_call
 ghost use Rattle.replay.specs.KeptAskings.{AsksAfter, StandsFor};
 ghost use Rattle.replay.specs.KeptWorlds.{Does, IsWorld, RunsLine, parties_of, seated, words_seated};
 ghost use Rattle.replay.specs.KeptSeats.{TimesWorld, has_word};
+ghost use Rattle.replay.specs.KeptTwoWorlds.{ClosesSo, UpdatesSo};
 ghost use Rattle.replay.specs.World.{World as Plain, stopped_hub};
 
 use crate::client_lines::{call_line, joining_line, open_line, timed_lines};
@@ -62,8 +63,8 @@ pub fn event_line(
     }
 }
 
-// The word of the client of a number.
-fn word_of(clients: &[KnownClient], client: usize) -> &str
+/// The word of the client of a number.
+pub(crate) fn word_of(clients: &[KnownClient], client: usize) -> &str
     requires { client < length clients.now }
     ensures { result.now ≡ (client_at (known_clients clients.now) client).0 }
 {
@@ -174,8 +175,16 @@ fn session_line(
 fn update_line(alloc: Global, world: &mut World, message: &[u8]) -> Result<String, NoMemory>
     ensures { IfOk result (λ text. Does (updates message.now) (hub_calls (HubEvent.Update message.now)) world.old (string_bytes text) world.new) }
 {
+    let code = update_code(world, message)?;
+    update_text(alloc, code)
+}
+
+/// An update message comes: its RCODE.
+pub(crate) fn update_code(world: &mut World, message: &[u8]) -> Result<u8, NoMemory>
+    ensures { IfOk result (λ code. UpdatesSo message.now world.old.hub (parties_of world.old) code world.new.hub (parties_of world.new)) }
+{
     match world.hub.update_uncounted(message) {
-        Ok(code) => update_text(alloc, code),
+        Ok(code) => Ok(code),
         Err(HubFault::NoMemory) => Err(NoMemory),
     }
 }
@@ -192,6 +201,20 @@ fn moment_lines(alloc: Global, world: &mut World, moment: u64) -> Result<String,
     requires { moment ≤ max_moment }
     ensures { IfOk result (λ text. Does (moments moment) (hub_calls (HubEvent.At moment)) world.old (string_bytes text) world.new) }
 {
+    let closes = moment_closes(alloc, world, moment)?;
+    joined_lines(alloc, &closes)
+}
+
+/// A moment comes: for the hub, and then for each client at the hub's moment; of each client the line of its close, if it
+/// closes.
+pub(crate) fn moment_closes(
+    alloc: Global,
+    world: &mut World,
+    moment: u64,
+) -> Result<Vec<String>, NoMemory>
+    requires { moment ≤ max_moment }
+    ensures { IfOk result (λ closes. ClosesSo moment world.old.hub (parties_of world.old) (map (λ t. string_bytes t) closes.items) world.new.hub (parties_of world.new)) }
+{
     match world.hub.moment_uncounted(moment) {
         Ok(()) => clients_timed(alloc, world),
         Err(HubFault::NoMemory) => Err(NoMemory),
@@ -199,11 +222,22 @@ fn moment_lines(alloc: Global, world: &mut World, moment: u64) -> Result<String,
 }
 
 // It is the hub's moment for each client.
-fn clients_timed(alloc: Global, world: &mut World) -> Result<String, NoMemory>
-    ensures { IfOk result (λ text. TimesWorld world.old.hub (parties_of world.old) world.new.hub (parties_of world.new) (string_bytes text)) }
+fn clients_timed(alloc: Global, world: &mut World) -> Result<Vec<String>, NoMemory>
+    ensures { IfOk result (λ lines. TimesWorld world.old.hub (parties_of world.old) world.new.hub (parties_of world.new) (map (λ t. string_bytes t) lines.items)) }
 {
     let now = world.hub.now();
-    let text = timed_lines(alloc, &mut world.hub, &mut world.seats, now)?;
+    let lines = timed_lines(alloc, &mut world.hub, &mut world.seats, now)?;
+    Ok(lines)
+}
+
+/// Texts one behind another.
+pub(crate) fn joined_lines(alloc: Global, lines: &[String]) -> Result<String, NoMemory>
+    ensures { IfOk result (λ text. string_bytes text ≡ flat_map (λ t. string_bytes t) lines.now) }
+{
+    let mut text = String::new(alloc);
+    'lines: for line in lines {
+        text.push_str(line.as_str())?;
+    }
     Ok(text)
 }
 

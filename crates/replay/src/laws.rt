@@ -4,6 +4,7 @@ ghost use Rattle.std.specs.Prelude.{ℕ, List};
 ghost use Rattle.replay.specs.SessionPieces.{AnswersEveryCutIn};
 ghost use Rattle.replay.specs.ClientPieces.{DeliversPieces, FeedsPieces};
 ghost use Rattle.replay.specs.FedLines.{FeedsAsMessages};
+ghost use Rattle.replay.specs.OneHub.{OneHubIsAnswered, OneHubIsChecked, OneHubLeaves};
 ghost use Rattle.replay.specs.ScriptPieces.{OneTextForEveryCut, PiecesLeavePeers};
 
 /// Between any two lines of a script, a session at rest answers the whole messages in its octets one after
@@ -31,4 +32,11 @@ pub fn clients_take_pieces()
 /// to each whole message in its input and the octets, one after the other, and that it has closed, if it has.
 pub fn lone_clients_react_to_each_message()
     ensures { FeedsAsMessages }
+{}
+
+/// A script of one hub is answered what the world of one hub tells, where it is run and where it is only read, and leaves that world.
+pub fn one_hub_is_as_ever()
+    ensures answered { OneHubIsAnswered }
+    ensures checked { OneHubIsChecked }
+    ensures leaves { OneHubLeaves }
 {}

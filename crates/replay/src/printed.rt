@@ -22,6 +22,42 @@ pub(crate) fn update_text(alloc: Global, code: u8) -> Result<String, NoMemory>
     format!(in alloc; "update {code}\n")
 }
 
+/// The line of a carry, with what became of it.
+pub(crate) fn carry_text(
+    alloc: Global,
+    word: &str,
+    written: &str,
+    what: &str,
+) -> Result<String, NoMemory>
+    ensures { IfOk result (λ text. string_bytes text ≡ codes "carry " ++ (word.now ++ 32 ∷ (written.now ++ 32 ∷ (what.now ++ 10 ∷ [])))) }
+{
+    format!(in alloc; "carry {word} {written} {what}\n")
+}
+
+/// The line of a carry whose set has a record of a kind that can't be carried.
+pub(crate) fn unfit_text(
+    alloc: Global,
+    word: &str,
+    written: &str,
+    kind: u16,
+) -> Result<String, NoMemory>
+    ensures { IfOk result (λ text. string_bytes text ≡ codes "carry " ++ (word.now ++ 32 ∷ (written.now ++ (codes " unfit " ++ (decimal kind ++ 10 ∷ []))))) }
+{
+    format!(in alloc; "carry {word} {written} unfit {kind}\n")
+}
+
+/// The line of a carry that was an update of the second hub, with its RCODE.
+pub(crate) fn carried_text(
+    alloc: Global,
+    word: &str,
+    written: &str,
+    code: u8,
+) -> Result<String, NoMemory>
+    ensures { IfOk result (λ text. string_bytes text ≡ codes "carry " ++ (word.now ++ 32 ∷ (written.now ++ 32 ∷ (decimal code ++ 10 ∷ [])))) }
+{
+    format!(in alloc; "carry {word} {written} {code}\n")
+}
+
 /// The line of a point, with the newest one and the moment.
 pub(crate) fn point_text(alloc: Global, point: u64, moment: u64) -> Result<String, NoMemory>
     ensures { IfOk result (λ text. string_bytes text ≡ codes "point " ++ (decimal point ++ 32 ∷ (decimal moment ++ 10 ∷ []))) }

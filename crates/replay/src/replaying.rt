@@ -8,7 +8,7 @@ ghost use Rattle.push_base.specs.Written.{Took};
 ghost use Rattle.scripts.specs.Sources.{Gave, LeftBehind, LostAtMost, front_read};
 ghost use Rattle.scripts.specs.Outcomes.{HasRead, status_of};
 ghost use Rattle.replay.specs.TextWords.{by_notices};
-ghost use Rattle.replay.specs.ScriptReplies.{reply_to_script};
+ghost use Rattle.replay.specs.WholeTexts.{whole_reply};
 ghost use Rattle.replay.specs.KeptEnds.{AreEnds, EndsWhenDone, ends_with};
 
 use crate::ends::Ends;
@@ -29,7 +29,7 @@ pub struct Replayed {
 /// Reads a script and writes what it is answered, and hands back the hub and the clients that ran it.
 pub fn replay<S: Source, K: Sink>(alloc: Global, source: &mut S, sink: &mut K) -> Replayed
     ensures replied { IfSome (S.left source.old) (λ octets. Took (K.taken sink.old) (K.taken sink.new)
-        (Answers (Rose (S.faults source.old) (S.faults source.new)) (reply_to_script by_notices (front_read octets)) (status_of result.outcome))) }
+        (Answers (Rose (S.faults source.old) (S.faults source.new)) (whole_reply by_notices (front_read octets)) (status_of result.outcome))) }
     // What is left of the run, exactly with status 0.
     ensures there { EndsWhenDone result.outcome result.ends }
     ensures ends { IfSome (S.left source.old) (λ octets. IfSome result.ends (AreEnds (front_read octets))) }

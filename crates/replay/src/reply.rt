@@ -3,13 +3,14 @@
 ghost use Rattle.std.specs.Prelude.{◌≡◌, ◌⊎◌, IfOk, IfSome, string_bytes};
 ghost use Rattle.replay.specs.ScriptTexts.{outside_text};
 ghost use Rattle.replay.specs.TextWords.{by_notices};
-ghost use Rattle.replay.specs.ScriptReplies.{reply_to_script, reply_of};
+ghost use Rattle.replay.specs.ScriptReplies.{reply_of};
+ghost use Rattle.replay.specs.WholeTexts.{whole_reply};
 ghost use Rattle.replay.specs.KeptEnds.{AreEnds, EndsWhenDone};
 
 use crate::ends::{Ends, ends_of};
 use crate::script_text::{Played, script_text};
 use push_base::NoMemory;
-use scripts::{Outcome, ReadScript, read_script_lines};
+use scripts::{Outcome, ReadWhole, read_whole_script};
 use std::alloc::Global;
 
 /// How a replay ends if all goes well, the text that is then written, and what the script leaves.
@@ -19,28 +20,28 @@ pub struct Reply {
     pub outcome: Outcome,
     /// What is written.
     pub text: String,
-    /// The hub and the clients, where the script was run.
+    /// The hubs and the clients, where the script was run.
     pub ends: Option<Ends>,
 }
 
 /// The text of the script, or the number of the first line outside.
 pub fn reply_to(alloc: Global, octets: &[u8]) -> Result<Reply, NoMemory>
-    ensures exact { IfOk result (λ reply. reply_of reply ≡ reply_to_script by_notices octets.now) }
+    ensures exact { IfOk result (λ reply. reply_of reply ≡ whole_reply by_notices octets.now) }
     ensures outcome { IfOk result (λ reply. (reply.outcome ≡ Outcome.Done) ⊎ (reply.outcome ≡ Outcome.Outside)) }
     ensures there { IfOk result (λ reply. EndsWhenDone reply.outcome reply.ends) }
     ensures ends { IfOk result (λ reply. IfSome reply.ends (AreEnds octets.now)) }
 {
-    match read_script_lines(alloc, octets)? {
-        ReadScript::Whole(script) => {
-            let Played { text, world } = script_text(alloc, script)?;
-            let ends = ends_of(alloc, world)?;
+    match read_whole_script(alloc, octets)? {
+        ReadWhole::Whole(script) => {
+            let Played { text, worlds } = script_text(alloc, script)?;
+            let ends = ends_of(alloc, worlds)?;
             Ok(Reply {
                 outcome: Outcome::Done,
                 text,
                 ends: Some(ends),
             })
         }
-        ReadScript::Outside(number) => {
+        ReadWhole::Outside(number) => {
             let text = line_text(alloc, number)?;
             Ok(Reply {
                 outcome: Outcome::Outside,

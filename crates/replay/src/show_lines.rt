@@ -1,12 +1,13 @@
 //! The lines that show what a client knows of a question.
 
-ghost use Rattle.std.specs.Prelude.{◌≡◌, ◌<◌, ◌++◌, ◌∷◌, [], Some, codes, decimal, length, position, IfOk, string_bytes};
+ghost use Rattle.std.specs.Prelude.{◌≡◌, ◌<◌, ◌++◌, ◌∷◌, [], Some, None, codes, cond, decimal, length, option_map, position, IfOk, string_bytes};
 ghost use Rattle.inflight.specs.Ends.{told_end};
 ghost use Rattle.replay.specs.TextWords.{by_notices, with_records};
 ghost use Rattle.scripts.specs.Words.{spaced};
 ghost use Rattle.replay.specs.Text.{shows};
 ghost use Rattle.replay.specs.KeptWorlds.{Does, seat_kept, seated};
 ghost use Rattle.replay.specs.KeptSeats.{has_word};
+ghost use Rattle.replay.specs.KeptTwoWorlds.{HoldsSet, IsShownHeld};
 ghost use Rattle.replay.specs.KeptShows.{IsFilling, ShowsSeat, ShowsSet, record_lines, showing_of, showing_text};
 
 use crate::seats::Seat;
@@ -33,6 +34,42 @@ pub(crate) fn show_lines(
     ensures { IfOk result (λ text. Does (shows by_notices word.now question.now written.now) (λ plain. []) world.now (string_bytes text) world.now) }
 {
     seat_lines(alloc, &world.seats[client], word, question, written)
+}
+
+/// The set that the client of a number holds of a question, where it is shown as held: it is no lone one, and the first
+/// answer has arrived whole.
+pub(crate) fn held_set<'a>(
+    world: &'a World,
+    client: usize,
+    question: &Question,
+) -> Option<&'a Table>
+    requires { client < length world.now.seats.items }
+    ensures { HoldsSet world.now client question.now (option_map (λ t. t.now.rows) result) }
+{
+    let seat = &world.seats[client];
+    match seat.client.mirror(question) {
+        Held::Answered(set) => set_where(is_held(seat, question), set),
+        Held::Off => None,
+        Held::Asked => None,
+        Held::Refused(_) => None,
+    }
+}
+
+// A set, where a test holds.
+fn set_where(test: bool, set: &Table) -> Option<&Table>
+    ensures { option_map (λ t. t.now) result ≡ cond test (Some set.now) None }
+{
+    if test { Some(set) } else { None }
+}
+
+// Whether a client is no lone one, and the first answer to a question has arrived whole.
+fn is_held(seat: &Seat, question: &Question) -> bool
+    ensures { IsShownHeld (seat_kept seat.now) question.now result }
+{
+    if seat.is_lone {
+        return false;
+    }
+    !is_filling(seat, question)
 }
 
 // What a client knows of a question.

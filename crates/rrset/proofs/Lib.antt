@@ -12,7 +12,6 @@ pub mod Shapes
 pub mod ChangedNames
 pub mod Expanding
 pub mod Places
-pub mod LowerOrder
 pub mod Owners
 pub mod Rows
 pub mod Retaining

@@ -7,7 +7,6 @@ ghost use Rattle.rrset.specs.Tables.{HaveLowerOwners};
 
 use crate::record::{Changed, Key, NoMemory, Question, Shown};
 use crate::table::Table;
-use dnsname::name::Octets;
 use std::alloc::Global;
 
 /// Whether two runs of octets are one.
@@ -132,13 +131,6 @@ pub fn same_rows(first: &[(Key, Shown)], second: &[(Key, Shown)]) -> bool
     true
 }
 
-/// The same octets.
-pub(crate) fn copied(octets: &Octets) -> Result<Octets, NoMemory>
-    ensures { IfOk result (λ copy. copy ≡ octets.now) }
-{
-    Octets::from_slice(octets.allocator(), octets.as_slice())
-}
-
 impl Key {
     /// The same key.
     pub fn copy(&self) -> Result<Key, NoMemory>
@@ -148,7 +140,7 @@ impl Key {
             owner: self.owner.copy()?,
             class: self.class,
             kind: self.kind,
-            rdata: copied(&self.rdata)?,
+            rdata: self.rdata.copy()?,
         })
     }
 }
@@ -161,7 +153,7 @@ impl Shown {
         Ok(Shown {
             owner: self.owner.copy()?,
             ttl: self.ttl,
-            rdata: copied(&self.rdata)?,
+            rdata: self.rdata.copy()?,
         })
     }
 }

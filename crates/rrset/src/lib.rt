@@ -26,8 +26,9 @@ ghost use Rattle.rrset.specs.RecordSet.{RecordSet, put, shown_at, at_name, size_
 
 pub use comparing::{changes, put_all, same_key, same_keys, same_rows, same_shown};
 pub use copying::Copied;
+pub use dnsname::compare_with_lower;
 pub use matching::{FIXED_FIELDS, matches, rr_size, same_question};
-pub use order::{compare_keys, compare_with_lower};
+pub use order::compare_keys;
 pub use rdata_reader::{RdataFault, read_rdata};
 pub use record::{
     Changed, HeardRr, HeardRrs, Hearing, Key, NoMemory, Question, Questions, Rr, Rrs, Shown,

@@ -1,7 +1,6 @@
 //! The order of keys, and of their owners and names.
 
-ghost use Rattle.std.specs.Prelude.{◌≡◌, map, refl};
-ghost use Rattle.std.specs.Char.{to_ascii_lowercase};
+ghost use Rattle.std.specs.Prelude.{◌≡◌, refl};
 ghost use Rattle.std.specs.Cmp.{eq_by_cmp_equiv, partial_equiv_from_equiv, partial_order_from_total};
 ghost use Rattle.std.specs.Ordering.{as_partial_cmp, nat_cmp, ordering_then};
 ghost use Rattle.dnsname.specs.Names.{octets, lower};
@@ -10,14 +9,14 @@ ghost use Rattle.rrset.specs.Records.{key_cmp, octets_cmp, same_key};
 
 use crate::comparing::same_key;
 use crate::record::Key;
-use dnsname::Name;
+use dnsname::{Name, compare_octets};
 use std::cmp::Ordering;
 
 /// The order of keys: by owner, kind, rdata and class. Rdata are compared only where owner and kind are equal.
 pub fn compare_keys(first: &Key, second: &Key) -> Ordering
     ensures { result ≡ key_cmp first.now second.now }
 {
-    match first.owner.octets().cmp(second.owner.octets()) {
+    match compare_octets(first.owner.octets(), second.owner.octets()) {
         Ordering::Less => Ordering::Less,
         Ordering::Equal => compare_kinds(first, second),
         Ordering::Greater => Ordering::Greater,
@@ -39,12 +38,11 @@ fn compare_kinds(first: &Key, second: &Key) -> Ordering
 fn compare_data(first: &Key, second: &Key) -> Ordering
     ensures { result ≡ ordering_then (octets_cmp first.now.rdata second.now.rdata) (nat_cmp first.now.class second.now.class) }
 {
-    let classes = first.class.cmp(&second.class);
-    first
-        .rdata
-        .as_slice()
-        .cmp(second.rdata.as_slice())
-        .then(classes)
+    match compare_octets(first.rdata.as_slice(), second.rdata.as_slice()) {
+        Ordering::Less => Ordering::Less,
+        Ordering::Equal => first.class.cmp(&second.class),
+        Ordering::Greater => Ordering::Greater,
+    }
 }
 
 impl PartialEq for Key {
@@ -85,23 +83,9 @@ impl Ord for Key {
     }
 }
 
-/// The order of octets and of others in lower case.
-pub fn compare_with_lower(octets: &[u8], other: &[u8]) -> Ordering
-    ensures { result ≡ octets_cmp octets.now (map to_ascii_lowercase other.now) }
-{
-    let shared = octets.len().min(other.len());
-    'octets: for index in 0..shared {
-        let order = octets[index].cmp(&other[index].to_ascii_lowercase());
-        if order.is_ne() {
-            return order;
-        }
-    }
-    octets.len().cmp(&other.len())
-}
-
 /// The order of a key's owner and of a name in lower case.
 pub(crate) fn compare_owner(key: &Key, name: &Name) -> Ordering
     ensures { result ≡ octets_cmp (octets key.now.owner) (octets (lower name.now)) }
 {
-    compare_with_lower(key.owner.octets(), name.octets())
+    key.owner.compare_with_lower(name)
 }

@@ -3,7 +3,6 @@
 ghost use Rattle.std.specs.Prelude.{◌≡◌, IfOk};
 ghost use Rattle.rrset.specs.Records.{counted_ttl, shown_of};
 
-use crate::comparing::copied;
 use crate::record::{NoMemory, Rr, Shown};
 
 /// The first TTL with its top bit set (RFC 2181, 8).
@@ -24,7 +23,7 @@ impl Rr {
         Ok(Shown {
             owner: self.owner.copy()?,
             ttl: counted_ttl(self.ttl),
-            rdata: copied(&self.rdata)?,
+            rdata: self.rdata.copy()?,
         })
     }
 }

@@ -2,7 +2,7 @@
 --     IsDone standing session over      a session that has nothing to hand out and no message to react to, or has come to its end
 --     ExchangeSo number octets hub x before      what an exchange of octets with a session is
 --     ArePeersServed world      of each peer's session nothing waits between two lines
---     SendsAreAnswered      the line that a script prints where a peer sends octets
+--     AnswersSendsIn script, SendsAreAnswered      the line that a script prints where a peer sends octets
 --     Asks, AsksAnywhere, AsksAreAnswered      an acceptable SUBSCRIBE among the messages that a line brings up
 --     EachIsBroughtUp      each of these messages has its turn, and its effect
 --     FirstOnesAskAnywhere      a peer's first octets are a case of this, and its reply is the one that `replay` tells of them
@@ -96,6 +96,12 @@ pub record SendIsAnswered (records : HeldRecords) (w : Word) (octets : List ℕ)
   pub so : ExchangeSo number octets there.hub (exchanged enough number octets there.hub []) before
   pub in_turn : made_messages so.more ≡ made_in number (exchange_calls enough number octets there.hub) there.hub
   pub printed : (line_does records (send w octets) world).1 ≡ bytes_line w (flat_map frame_of so.more) ∷ end_lines w (exchanged enough number octets there.hub []).over
+
+-- of each peer's line of a script
+abbrev pub AnswersSendsIn : List ScriptLine → Type 0
+AnswersSendsIn script = (records : HeldRecords) (before behind : List ScriptLine) (w : Word) (octets : List ℕ) (number : ℕ) (there : World) → script ≡ before ++ send w octets ∷ behind
+    → let world = world_after before (start_world script) in
+    placed w world ≡ Some (number, there) → SendIsAnswered records w octets world number there
 
 abbrev pub SendsAreAnswered : Type 0
 SendsAreAnswered = (records : HeldRecords) (text : List ℕ) (before behind : List ScriptLine) (w : Word) (octets : List ℕ) (number : ℕ) (there : World) → script_of text ≡ Ok (before ++ send w octets ∷ behind)

@@ -2,7 +2,7 @@
 --     HoldsHistoryIn script      what a client holds after a line is the history
 --     AreMirrorsOfHistory script, ReplaysMirrorHistory      the sets of the clients that ran it are the history's; so are those that `replay` hands back
 --     SessionReacts number calls hub session, SessionsReactIn script      each message that came to a session has its turn, and what was made is what the turns make
---     HoldsThroughout script, EveryScriptHolds      all of it, and what `show` lines promise
+--     HoldsThroughout script, LinesHoldThroughout, EveryScriptHolds      all of it, and what `show` lines promise; of lines, and of every text
 use Rattle.std.specs.Prelude.{◌≡◌, ℕ, List, ◌∷◌, ◌++◌, Some, Ok}
 use Rattle.pushserver.specs.PlainHubs.{Hub, Session}
 use Rattle.pushserver.specs.Hubs.{session_of}
@@ -22,6 +22,8 @@ use Rattle.replay.specs.declared.ends.Ends.{Ends}
 use Rattle.replay.specs.LineCalls.{AreFirst}
 use Rattle.script_laws.specs.EachMessage.{IsReactedTo, HasItsTurn, TurnHasEffect, messages_of}
 use Rattle.script_laws.specs.InTurn.{made_in}
+use Rattle.script_laws.specs.Lines.{AreLines}
+use Rattle.script_laws.specs.Sending.{AnswersSendsIn}
 use Rattle.script_laws.specs.Settling.{TurnsSufficeIn, SettlesEmptyIn}
 use Rattle.script_laws.specs.Whole.{FitsAfterEachLine, NoMessageEndsIn}
 
@@ -67,9 +69,15 @@ pub record HoldsThroughout (script : List ScriptLine) : Type 0 where
   pub ends : NoMessageEndsIn script
   -- each message that comes to a session has its turn
   pub sessions : SessionsReactIn script
+  -- what a peer sends in a line is answered in it
+  pub sends : AnswersSendsIn script
   -- each settle comes to its end, and where it prints its line alone nothing is left under way
   pub turns : TurnsSufficeIn script
   pub settles : SettlesEmptyIn script
+
+-- of lines that were read, each of which may stand where it stands
+abbrev pub LinesHoldThroughout : Type 0
+LinesHoldThroughout = (script : List ScriptLine) → AreLines script → HoldsThroughout script
 
 -- of every text that is a script
 abbrev pub EveryScriptHolds : Type 0

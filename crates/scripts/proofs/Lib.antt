@@ -1,3 +1,4 @@
 pub mod ReadPieces
 pub mod Written
 pub mod lines
+pub mod wholes

@@ -11,6 +11,5 @@ pub mod ChangedPlaces
 pub mod NamedLinks
 pub mod MoreLines
 pub mod HeadTaken
-pub mod TakenScripts
 pub mod LineByLine
 pub mod SentOctets

@@ -10,10 +10,8 @@
 --     HeadGrowsBy taken line later, GrowsBy taken line later      the head, and the head and the events with a further line
 --     TakesLine all draft line later taken      the line is taken where it may stand there
 --     HaveMade lines taken      the lines so far have made the head and the events
---     LinesSoFar, script_line so_far text      the lines so far, and with a further one
---     HoldsLines draft so_far      a draft holds what they have made
 --     client_in line, is_any_word w words      the client that a line names, and whether a word is among others
-use Rattle.std.specs.Prelude.{◌≡◌, ℕ, Bool, true, false, ◌==◌, List, [], ◌∷◌, ◌++◌, map, length, Option, Some, None, filter_map, is_some, option_map, position, unwrap_or, string_bytes}
+use Rattle.std.specs.Prelude.{◌≡◌, ℕ, Bool, true, false, ◌==◌, List, [], ◌∷◌, ◌++◌, length, Option, Some, None, filter_map, is_some, position, unwrap_or, string_bytes}
 use Rattle.std.specs.List.{list_any}
 use Rattle.std.specs.Str.{bytes_eq}
 use Rattle.std.specs.declared.alloc.Global.{Global}
@@ -42,8 +40,7 @@ use Rattle.scripts.specs.declared.event.Party.{Party}
 use Rattle.scripts.specs.declared.line.Line.{Line}
 use Rattle.scripts.specs.declared.line.Line.TheVariants as lines
 use Rattle.scripts.specs.declared.script.Draft.{Draft}
-use Rattle.scripts.specs.declared.script.ScriptDraft.{ScriptDraft}
-use Rattle.scripts.specs.KeptLines.{happening_said, said, words_of}
+use Rattle.scripts.specs.KeptLines.{happening_said, said}
 use Rattle.scripts.specs.Events.{known_clients, words_known, event_said, each_said, party_word, IsNamed, IsNamedParty, Follow}
 
 -- what lines that made these links and clients alone have made
@@ -156,26 +153,6 @@ pub record HaveMade (lines : List ScriptLine) (taken : Taken) : Type 0 where
   pub head : head_behind empty_head lines ≡ head_taken taken
   pub start : IsStart (state_of taken.homes)
   pub distinct : AreDistinct (words_known taken.clients)
-
--- the words of all clients of a script, the lines so far, and what is known behind them
-pub record LinesSoFar : Type 0 where
-  pub all : List Word
-  pub known : Known
-  pub lines : List ScriptLine
-
--- before the first line
-abbrev pub nothing_so_far : List Word → LinesSoFar
-nothing_so_far all = record { all = all; known = nothing_known; lines = [] }
-
--- a further line, where it may stand there
-abbrev pub script_line : LinesSoFar → List ℕ → Option LinesSoFar
-script_line so_far text = line_of text >>= λ line. option_map (λ known. record so_far { known = known; lines = so_far.lines ++ line ∷ [] }) (fits so_far.all so_far.known line)
-
--- a draft holds what the lines so far have made
-pub record HoldsLines (draft : ScriptDraft) (so_far : LinesSoFar) : Type 0 where
-  pub all : so_far.all ≡ words_of draft.clients.items
-  pub known : so_far.known ≡ known_of (taken_of draft.draft)
-  pub lines : HaveMade so_far.lines (taken_of draft.draft)
 
 -- ---- words
 

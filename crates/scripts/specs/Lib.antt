@@ -11,3 +11,6 @@ pub mod KeptLines
 pub mod Events
 pub mod Drafts
 pub mod KeptScripts
+pub mod WholeLines
+pub mod WholeScripts
+pub mod KeptWhole

@@ -1,15 +1,14 @@
 //! The words of a script's clients, which its peers do not have, and of its links.
 
-ghost use Rattle.std.specs.Prelude.{◌≡◌, ◌++◌, ◌∷◌, [], ◌||◌, Some, false, map, option_map, option_to_list, position, IfOk, OnOk, string_bytes};
+ghost use Rattle.std.specs.Prelude.{◌≡◌, ◌||◌, Some, false, map, option_map, position, IfOk, string_bytes};
 ghost use Rattle.std.specs.Str.{bytes_eq};
-ghost use Rattle.scripts.specs.Scripts.{client_words, lines_read, is_among, is_peer, lone_in, is_client_in, is_hub_client_in, is_lone_client_in, may_happen_to, may_meet};
+ghost use Rattle.scripts.specs.Scripts.{is_among, is_peer, lone_in, is_client_in, is_hub_client_in, is_lone_client_in, may_happen_to, may_meet};
 ghost use Rattle.scripts.specs.KeptLines.{words_of};
 ghost use Rattle.scripts.specs.Events.{known_clients, words_known};
 ghost use Rattle.scripts.specs.Drafts.{client_in, is_any_word, is_word};
 
 use crate::line::{ClientEvent, SessionEvent};
 use crate::line_words::plain_word;
-use crate::text_lines::{is_outside, is_too_long, split_line};
 use push_base::NoMemory;
 use std::alloc::Global;
 
@@ -22,40 +21,9 @@ pub struct KnownClient {
     pub is_lone: bool,
 }
 
-/// The words of all clients that a script has, in the order of their lines.
-pub(crate) fn client_words(alloc: Global, octets: &[u8]) -> Result<Vec<String>, NoMemory>
-    ensures { IfOk result (λ words. map (λ w. string_bytes w) words.items ≡ client_words (lines_read octets.now)) }
-{
-    let too_long = is_too_long(octets);
-    let mut words = Vec::new(alloc);
-    let mut rest = octets;
-    'lines: while !rest.is_empty() {
-        let (line, after) = split_line(rest);
-        if is_outside(after, too_long) {
-            return Ok(words);
-        }
-        add_client(alloc, line, &mut words)?;
-        rest = after;
-    }
-    Ok(words)
-}
-
-// Adds the word of the client that a line names, if it names one.
-fn add_client(alloc: Global, line: &[u8], words: &mut Vec<String>) -> Result<(), NoMemory>
-    ensures { OnOk result (map (λ w. string_bytes w) words.new.items ≡ map (λ w. string_bytes w) words.old.items ++ option_to_list (client_in line.now)) }
-{
-    match client_in(alloc, line)? {
-        Some(word) => {
-            words.push(word)?;
-            Ok(())
-        }
-        None => Ok(()),
-    }
-}
-
-// The word of the client, or of the lone one, that a line names. It goes by the line's front, so that no line's octets
-// are read here and once more with the line.
-fn client_in(alloc: Global, line: &[u8]) -> Result<Option<String>, NoMemory>
+/// The word of the client, or of the lone one, that a line names. It goes by the line's front, so that no line's octets are
+/// read here and once more with the line.
+pub(crate) fn client_in(alloc: Global, line: &[u8]) -> Result<Option<String>, NoMemory>
     ensures { IfOk result (λ found. option_map (λ w. string_bytes w) found ≡ client_in line.now) }
 {
     match line.strip_prefix(b"client ".as_slice()) {
@@ -115,8 +83,8 @@ pub(crate) fn is_known(clients: &[KnownClient], word: &[u8]) -> bool
     lone_of(clients, word).is_some()
 }
 
-// Whether a word is that of a client of the hub.
-fn is_hub_client(clients: &[KnownClient], word: &[u8]) -> bool
+/// Whether a word is that of a client of the hub.
+pub(crate) fn is_hub_client(clients: &[KnownClient], word: &[u8]) -> bool
     ensures { result ≡ is_hub_client_in (known_clients clients.now) word.now }
 {
     match lone_of(clients, word) {

@@ -167,6 +167,15 @@ impl Moment {
     {
         self.millis
     }
+
+    /// The same moment.
+    pub(crate) fn copied(&self) -> Moment
+        ensures { result ≡ self.now }
+    {
+        Moment {
+            millis: self.millis,
+        }
+    }
 }
 
 /// The number of octets that a word is, at most as many as a wire holds.

@@ -6,15 +6,14 @@ ghost use Rattle.dsosession.specs.Timing.{default_timers};
 ghost use Rattle.scripts.specs.Lines.{Word};
 ghost use Rattle.scripts.specs.declared.line.HeadLine.TheVariants as heads;
 ghost use Rattle.scripts.specs.declared.line.Line.TheVariants as lines;
-ghost use Rattle.scripts.specs.KeptScripts.{ReadsAs};
+ghost use Rattle.scripts.specs.Scripts.{is_client_in, is_hub_client_in};
 ghost use Rattle.scripts.specs.KeptLines.{words_of};
-ghost use Rattle.scripts.specs.Drafts.{TakesLine, taken_of, nothing_taken, LinesSoFar, HoldsLines, script_line};
+ghost use Rattle.scripts.specs.Drafts.{TakesLine, taken_of, nothing_taken};
 
-use crate::clients::{KnownClient, client_words, is_known, place_among};
+use crate::clients::{KnownClient, is_hub_client, is_known, place_among};
 use crate::event::{Event, event_of};
 use crate::head_homes::HeadHomes;
-use crate::line::{EventLine, HeadLine, Line, read_line};
-use crate::text_lines::{TakeLines, TakenLines, take_lines};
+use crate::line::{EventLine, HeadLine, Line};
 use dsosession::session::Timers;
 use dsosession::times::DEFAULT_TIMER;
 use history::Homes;
@@ -38,15 +37,6 @@ pub struct Script {
     pub events: Vec<Event>,
 }
 
-/// What was read of a script: all of it, or the number of the first line outside.
-#[derive(Debug, Drop)]
-pub enum ReadScript {
-    /// Each line is in the grammar, and stands where it may.
-    Whole(Script),
-    /// The first line that is outside the grammar, or may not stand where it does, counted from 1.
-    Outside(usize),
-}
-
 /// What was read of a script so far, with the clients that there are; no timers where no line has said them.
 #[derive(Drop)]
 pub struct Draft {
@@ -54,46 +44,6 @@ pub struct Draft {
     homes: HeadHomes,
     events: Vec<Event>,
     clients: Vec<KnownClient>,
-}
-
-// What was read of a script so far, and the words of all clients that it has.
-#[derive(Drop)]
-struct ScriptDraft {
-    draft: Draft,
-    clients: Vec<String>,
-}
-
-/// Reads a script: all of it, or the number of the first line that is outside the grammar, or may not stand where it
-/// does, counted from 1. The zones and links may then stand side by side, no peer has the word of a
-/// client, and no two clients have one word.
-pub fn read_script_lines(alloc: Global, octets: &[u8]) -> Result<ReadScript, NoMemory>
-    ensures { IfOk result (λ read. ReadsAs octets.now read) }
-{
-    let clients = client_words(alloc, octets)?;
-    let mut draft = ScriptDraft {
-        draft: Draft::new(alloc),
-        clients,
-    };
-    let taken = take_lines(alloc, octets, &mut draft)?;
-    match taken {
-        TakenLines::All(behind) => Ok(ReadScript::Whole(draft.draft.finish(behind - 1))),
-        TakenLines::Outside(number) => Ok(ReadScript::Outside(number)),
-    }
-}
-
-impl TakeLines for ScriptDraft {
-    ghost Made = { LinesSoFar };
-
-    ghost Holds = { HoldsLines };
-
-    ghost line = { script_line };
-
-    fn take(&mut self, alloc: Global, text: &[u8]) -> Result<bool, NoMemory> {
-        let Some(line) = read_line(alloc, text)? else {
-            return Ok(false);
-        };
-        self.draft.take(alloc, line, &self.clients)
-    }
 }
 
 impl Draft {
@@ -179,6 +129,20 @@ impl Draft {
                 Ok(true)
             }
         }
+    }
+
+    /// Whether a word is that of a client that there is.
+    pub(crate) fn has_client(&self, word: &[u8]) -> bool
+        ensures { result ≡ is_client_in (taken_of self.now).clients word.now }
+    {
+        is_known(&self.clients, word)
+    }
+
+    /// Whether a word is that of a client of the hub.
+    pub(crate) fn has_hub_client(&self, word: &[u8]) -> bool
+        ensures { result ≡ is_hub_client_in (taken_of self.now).clients word.now }
+    {
+        is_hub_client(&self.clients, word)
     }
 
     /// The number of the link of a word, counted from 0.

@@ -344,6 +344,11 @@ fn notices_are_read_and_written(rt: HostRuntime) -> Result<(), Fail> {
         is_read_so(rt.alloc(), case)?;
         is_written_so(rt.alloc(), case)?;
     }
+    Ok(())
+}
+
+#[test]
+fn data_of_notices_are_read(rt: HostRuntime) -> Result<(), Fail> {
     'data: for case in DATA {
         is_read_so(rt.alloc(), case)?;
     }

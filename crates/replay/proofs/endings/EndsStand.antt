@@ -1,37 +1,43 @@
 -- The hub and the clients behind a script stand for those of the plain world.
 --     set-stands      the set that is kept of a question is the one that is held
 --     ends-stand      the hub and the clients of a world
---     ends-are      those behind the last line of a script
-use Rattle.std.proofs.Common.{◌≡◌, ℕ, Bool, true, false, cond, not, ◌&&◌, List, [], ◌∷◌, map, Option, Some, None, IsTrue, refl, sym, ◌∙◌, ap, subst, codes}
+--     near-after      the first world behind lines is that of the first half
+--     ends-are      the hubs and the clients behind the last line of a script
+use Rattle.std.proofs.Common.{◌≡◌, ℕ, Bool, true, false, cond, not, ◌&&◌, List, [], ◌∷◌, map, Option, Some, None, Result, Ok, Err, IfSome, IsTrue, refl, sym, ◌∙◌, ap, subst, codes}
 use Rattle.std.specs.Prelude.{find, is_some}
 use Rattle.std.specs.List.{AllZip}
 use Rattle.rrset.specs.Records.{same_question}
 use Rattle.rrset.specs.RecordSet.{RecordSet}
 use Rattle.rrset.specs.declared.record.Question.{Question}
 use Rattle.mirror.specs.Held.{set_of}
-use Rattle.pushserver.specs.KeptHubs.{KeptHub}
 use Rattle.hubasking.specs.AskingHubs.{AskingHub}
 use Rattle.pushclient.specs.Clients.{Client, Wish, RequestState, not_asked, unanswered, refused, answered, Held, off, asked_only, refused_with, set_held, held}
 use Rattle.pushclient.specs.Rule.{KeptClient, StandsFor}
 use Rattle.pushclient.specs.Kept.{kept_held, kept_held_as}
 use Rattle.pushclient.proofs.Dropping.{held_stands}
-use Rattle.scripts.specs.Lines.{ScriptLine}
 use Rattle.replay.specs.World.{World, Seat, start_world}
 use Rattle.replay.specs.TextWords.{ShowTold, with_records, by_notices, is_filling, told_of}
 use Rattle.replay.specs.Text.{world_after}
 use Rattle.replay.specs.Askings.{lines_asks, start_askings}
 use Rattle.replay.specs.Promises.{ClientStandsFor, EndsStandFor, shows_records}
 use Rattle.replay.specs.declared.world.World as program
-use Rattle.scripts.specs.declared.script.Script.{Script}
 use Rattle.replay.specs.declared.ends.Ends.{Ends}
+use Rattle.pushserver.specs.KeptHubs as hubs
+use Rattle.dnsname.specs.Names.{Labels}
+use Rattle.scripts.specs.WholeLines.{WholeLine, fars_behind}
+use Rattle.scripts.specs.WholeScripts.{whole_script_of, apex_in, near_lines, near_lines_from}
+use Rattle.replay.specs.TwoWorlds.{Worlds, start_worlds, near_line_at, lines_do, worlds_after, woven}
+use Rattle.replay.specs.declared.two_worlds.Worlds as two_worlds
+use Rattle.replay.specs.KeptEnds.{AreEnds, AreEndsOf}
+use Rattle.replay.specs.KeptTwoWorlds.{AreWorlds}
+use Rattle.replay.proofs.worlds.OneWorld.{one-world}
 use Rattle.replay.specs.KeptWorlds.{KeptSeat, Seated, seated, StandsForSeat, StandForSeats, IsWorld}
-use Rattle.scripts.specs.KeptScripts.{events_said, IsWhole}
-use Rattle.replay.specs.KeptScripts.{askings_at_start, world_at_start}
-use Rattle.replay.specs.KeptEnds.{AreEnds}
-use Rattle.scripts.proofs.lines.SentOctets.{lines_or}
-use Rattle.replay.proofs.worlds.Happening.{starts-so, leaves-so, asked-so}
 
 -- ---- a client
+
+abbrev lines_or : List WholeLine → Result (List WholeLine) ℕ → List WholeLine
+lines_or default (Ok lines) = lines
+lines_or default (Err n) = default
 
 abbrev set_in : Held → Option RecordSet
 set_in (set_held id set) = Some set
@@ -97,20 +103,56 @@ module _ (world : World) where
 
 -- ---- all of it
 
-pub ends-stand : (kept : program.World) (hub : KeptHub) (clients : List KeptClient) (world : World) → IsWorld kept world → hub ≡ kept.hub.hub → clients ≡ map (λ (k : KeptSeat). k.client) (seated kept.seats.items) → EndsStandFor by_notices hub clients world
-ends-stand kept hub clients world stands hub_is clients_are =
-    subst (λ (h : KeptHub). EndsStandFor by_notices h clients world) (sym hub_is)
-    (subst (λ (cs : List KeptClient). EndsStandFor by_notices kept.hub.hub cs world) (sym clients_are)
-    (record { hub = stands.hub; seats = all-stand world (seated kept.seats.items) world.seats stands.seats }))
+-- the hub and the clients of one world
+pub ends-stand : (kept : program.World) (world : World) → IsWorld kept world → EndsStandFor by_notices kept.hub.hub (map (λ (k : KeptSeat). k.client) (seated kept.seats.items)) world
+ends-stand kept world stands = record { hub = stands.hub; seats = all-stand world (seated kept.seats.items) world.seats stands.seats }
 
-pub ends-are : (octets : List ℕ) (script : Script) (kept : program.World) (ends : Ends) → IsWhole octets script → IsWorld kept (world_after (events_said script) (world_at_start script))
-    → kept.hub.askings ≡ lines_asks (events_said script) (world_at_start script) (askings_at_start script)
-    → ends.hub ≡ kept.hub → ends.clients.items ≡ map (λ (k : KeptSeat). k.client) (seated kept.seats.items) → AreEnds octets ends
+-- the first world behind lines is that of the first half
+pub near-after : (lines : List WholeLine) (worlds : Worlds) → (worlds_after by_notices lines worlds).near ≡ world_after (near_lines_from worlds.fars lines) worlds.near
+near-after [] worlds = refl
+near-after (line ∷ lines) worlds =
+    near-after lines (lines_do by_notices line worlds).0
+    ∙ ap (world_after (near_lines_from (fars_behind worlds.fars line) lines)) (one-world by_notices (near_line_at worlds line) worlds.near)
+
+apex-after : (lines : List WholeLine) (worlds : Worlds) → (worlds_after by_notices lines worlds).apex ≡ worlds.apex
+apex-after [] worlds = refl
+apex-after (line ∷ lines) worlds = apex-after lines (lines_do by_notices line worlds).0
+
+abbrev clients_in : program.World → List KeptClient
+clients_in kept = map (λ (k : KeptSeat). k.client) (seated kept.seats.items)
+
+some-where : (apex : Option Labels) (hub : AskingHub) → is_some (cond {A = Option AskingHub} (is_some apex) (Some hub) None) ≡ is_some apex
+some-where None hub = refl
+some-where (Some name) hub = refl
+
+there-where : (apex : Option Labels) (hub : AskingHub) (P : AskingHub → Type 0) → P hub → IfSome (cond {A = Option AskingHub} (is_some apex) (Some hub) None) P
+there-where None hub P h = tt
+there-where (Some name) hub P h = h
+
+pub ends-are : (octets : List ℕ) (lines : List WholeLine) (kept : two_worlds.Worlds) (ends : Ends) → whole_script_of octets ≡ Ok lines → AreWorlds kept (worlds_after by_notices lines (start_worlds lines))
+    → kept.near.hub.askings ≡ lines_asks (near_lines lines) (start_world (near_lines lines)) (start_askings (near_lines lines))
+    → ends.hub ≡ kept.near.hub → ends.far ≡ cond (is_some kept.apex) (Some kept.far.hub) None → ends.clients.items ≡ woven kept.order.items (clients_in kept.near) (clients_in kept.far) → AreEnds octets ends
 unfolding AreEnds
-ends-are octets script kept ends whole stands asked hub_is clients_are lines read =
-    let same : whole.lines ≡ lines = ap (lines_or []) (sym whole.read ∙ read) in
-    let last : world_after whole.lines (start_world whole.lines) ≡ world_after (events_said script) (world_at_start script) = leaves-so octets script whole ∙ ap (world_after (events_said script)) (sym (starts-so octets script whole)) in (
-      subst (λ (ls : List ScriptLine). EndsStandFor by_notices ends.hub.hub ends.clients.items (world_after ls (start_world ls))) same
-          (subst (EndsStandFor by_notices ends.hub.hub ends.clients.items) (sym last) (ends-stand kept ends.hub.hub ends.clients.items (world_after (events_said script) (world_at_start script)) stands (ap (λ (h : AskingHub). h.hub) hub_is) clients_are)),
-      ap (λ (h : AskingHub). h.askings) hub_is ∙ asked ∙ sym (asked-so octets script whole) ∙ ap (λ (ls : List ScriptLine). lines_asks ls (start_world ls) (start_askings ls)) same,
-    )
+ends-are octets lines kept ends read stands asked hub_is far_is clients_are script read_too =
+    subst (λ (ls : List WholeLine). AreEndsOf ls (worlds_after by_notices ls (start_worlds ls)) ends × (ends.hub.askings ≡ lines_asks (near_lines ls) (start_world (near_lines ls)) (start_askings (near_lines ls)))) same (are, ap (λ (h : AskingHub). h.askings) hub_is ∙ asked)
+  where
+    same : lines ≡ script
+    same = ap (lines_or []) (sym read ∙ read_too)
+
+    worlds : Worlds
+    worlds = worlds_after by_notices lines (start_worlds lines)
+
+    named : kept.apex ≡ apex_in lines
+    named = stands.apex ∙ apex-after lines (start_worlds lines)
+
+    are : AreEndsOf lines worlds ends
+    are = record {
+      near = clients_in kept.near;
+      far = clients_in kept.far;
+      clients = clients_are ∙ ap (λ (order : List Bool). woven order (clients_in kept.near) (clients_in kept.far)) stands.order;
+      first = subst (λ (h : AskingHub). EndsStandFor by_notices h.hub (clients_in kept.near) (world_after (near_lines lines) (start_world (near_lines lines)))) (sym hub_is)
+          (ends-stand kept.near (world_after (near_lines lines) (start_world (near_lines lines))) (subst (IsWorld kept.near) (near-after lines (start_worlds lines)) stands.near));
+      there = ap (λ (o : Option AskingHub). is_some o) far_is ∙ some-where kept.apex kept.far.hub ∙ ap (λ (o : Option Labels). is_some o) named;
+      second = subst (λ (o : Option AskingHub). IfSome o (λ (h : AskingHub). hubs.StandsFor h.hub worlds.far.hub)) (sym far_is) (there-where kept.apex kept.far.hub (λ (h : AskingHub). hubs.StandsFor h.hub worlds.far.hub) stands.far.hub);
+      others = all-stand worlds.far (seated kept.far.seats.items) worlds.far.seats stands.far.seats;
+    }

@@ -1,6 +1,7 @@
 -- What a client knows of a question, by what is kept of it.
 --     end-told      where a first answer was told to end
 --     filling-unasked, filling-untold, filling-told      whether the first answer hasn't arrived whole
+--     held-asked      the question of a set that is held is asked
 --     shows-lone, shows-filling, shows-held      a set that is held
 --     shows-known, shows-set      what is known of the question
 --     shows-act      the line
@@ -85,7 +86,7 @@ abbrev id-held : Held → Option ℕ
 id-held (set_held id set) = Some id
 id-held _ = None
 
-held-asked : (client : Client) (question : Question) (id : ℕ) (set : RecordSet) → held client question ≡ set_held id set → id_of client question ≡ Some id
+pub held-asked : (client : Client) (question : Question) (id : ℕ) (set : RecordSet) → held client question ≡ set_held id set → id_of client question ≡ Some id
 held-asked client question id set e = by (wish_for client question) e
   where
     by_standing : (s : RequestState) (w : Wish) → held_as s w ≡ set_held id set → id_asked s ≡ Some id

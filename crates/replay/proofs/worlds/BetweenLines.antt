@@ -4,7 +4,7 @@
 --     from-between, bounded-between      between two lines: the hub's start and its sessions' numbers, and the bounds of its state
 --     bounded-connected      a session more leaves the state
 --     reply-is, between-replied      the reply of a script, and by some of its lines
-use Rattle.std.proofs.Common.{◌≡◌, ℕ, Bool, true, false, cond, ◌&&◌, List, [], ◌∷◌, ◌++◌, length, Option, Some, None, Ok, ◌∙◌, ap, sym, subst, refl, append_assoc}
+use Rattle.std.proofs.Common.{◌≡◌, ℕ, Bool, true, false, cond, ◌&&◌, List, [], ◌∷◌, ◌++◌, length, Option, Some, None, Result, Ok, Err, ◌∙◌, ap, sym, subst, refl, append_assoc}
 use Rattle.std.specs.Prelude.{nat_lt}
 use Rattle.std.specs.List.{AllByRecursion}
 use Rattle.push_base.specs.Limits.{max_number}
@@ -18,14 +18,13 @@ use Rattle.replay.specs.TextWords.{HeldRecords, by_history}
 use Rattle.replay.specs.Text.{line_does, world_after}
 use Rattle.hubasking.specs.LinkAskings.{Askings}
 use Rattle.replay.specs.Askings.{asked_lines, line_asks, lines_asks}
-use Rattle.replay.specs.ScriptTexts.{printed_by, text_by}
+use Rattle.replay.specs.ScriptTexts.{printed_by, text_by, outside_text}
 use Rattle.scripts.specs.Words.{ended_lines}
 use Rattle.replay.specs.ScriptReplies.{reply_to_script}
 use Rattle.replay.specs.Between.{Between, lines_of, world_start, world_then, world_behind, askings_start, askings_then, askings_behind, reply_between}
 use Rattle.replay.proofs.worlds.OneWorld.{one-world}
 use Rattle.replay.proofs.worlds.BoundedHeads.{bounded-script}
 use Rattle.replay.proofs.worlds.Numbers.{IsFrom, from-lines}
-use Rattle.replay.proofs.replies.ScriptReplies.{told}
 use Rattle.replay.proofs.turns.ZoneSizes.{IsBounded, bounded-state}
 
 -- ---- parts of a text
@@ -85,10 +84,15 @@ bounded-connected hub bounded = by (nat_lt (length hub.sessions) max_sessions &&
 
 -- ---- the reply
 
+-- the status and the text, by the lines
+abbrev told_with : HeldRecords → Result (List ScriptLine) ℕ → ℕ × List ℕ
+told_with records (Ok lines) = (0, text_by records lines)
+told_with records (Err n) = (2, outside_text n)
+
 pub reply-is : (records : HeldRecords) (script : List ℕ) (lines : List ScriptLine) (text : List ℕ) → script_of script ≡ Ok lines → text_by records lines ≡ text → reply_to_script records script ≡ record { status = 0; text = text }
 unfolding reply_to_script
 reply-is records script lines text read is =
-    ap (λ (p : ℕ × List ℕ). record { status = p.0; text = p.1 }) (ap (told records) read)
+    ap (λ (p : ℕ × List ℕ). record { status = p.0; text = p.1 }) (ap (told_with records) read)
     ∙ ap (λ (t : List ℕ). record { status = 0; text = t }) is
 
 -- so it is with the lines before, some lines, and the lines behind

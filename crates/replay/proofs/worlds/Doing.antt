@@ -1,15 +1,15 @@
 -- What each event prints, and the world behind it.
-use Rattle.std.proofs.Common.{◌≡◌, ℕ, Bool, true, false, cond, List, [], ◌∷◌, ◌++◌, fold, Option, Some, None, sym, ◌∙◌, ap, subst, refl, append_assoc, append-nil, codes, decimal, string_bytes, IfOk, Result, Ok, Err, Global}
+use Rattle.std.proofs.Common.{◌≡◌, ℕ, Bool, true, false, cond, List, [], ◌∷◌, ◌++◌, Option, Some, None, sym, ◌∙◌, ap, subst, refl, append_assoc, append-nil, codes, decimal, string_bytes, IfOk, Result, Ok, Err, Global}
 use Rattle.std.specs.Result.{IsErrOf}
 use Rattle.std.specs.declared.string.String.{String}
-use Rattle.std.specs.Prelude.{find, flat_map, get_or, position, nat_lt, option_map, ◌&&◌, length}
+use Rattle.std.specs.Prelude.{find, get_or, position, nat_lt, option_map, ◌&&◌, length}
 use Rattle.push_base.specs.Limits.{max_number}
 use Rattle.std.specs.Str.{bytes_eq}
 use Rattle.dsosession.specs.declared.session.EndReason.{EndReason}
 use Rattle.pushserver.specs.Hubs as hubs
 use Rattle.pushserver.specs.PlainHubs.{Hub}
 use Rattle.pushserver.specs.Hubs.{newest, now}
-use Rattle.pushserver.specs.Calls.{HubCall, updates as updating, moves, connects as seating}
+use Rattle.pushserver.specs.Calls.{HubCall, connects as seating}
 use Rattle.hubasking.specs.AskingHubs.{AskingHub}
 use Rattle.hubasking.specs.LinkAskings.{Askings}
 use Rattle.pushserver.proofs.Walks.{with_new}
@@ -18,20 +18,17 @@ use Rattle.replay.specs.World.{World, Seat, cut_peer, cut_connection, number_in,
 use Rattle.replay.specs.PassedOctets.{exchanged, enough}
 use Rattle.scripts.specs.Words.{spaced, octets_text, ended_lines}
 use Rattle.replay.specs.TextWords.{end_words}
-use Rattle.replay.specs.Text.{Printed, printing, updates, moments, timed, asked_to_stop, session_of_word, stops, cuts, exchanges, sends, end_lines}
-use Rattle.scripts.specs.declared.line.HubEvent.TheVariants as hub_events
+use Rattle.replay.specs.Text.{Printed, printing, asked_to_stop, session_of_word, stops, cuts, exchanges, sends, end_lines}
 use Rattle.scripts.specs.declared.line.SessionEvent.TheVariants as session_events
 use Rattle.replay.specs.Askings.{calls_asks}
-use Rattle.replay.specs.LineCalls.{timed_calls, hub_calls, stop_calls, session_calls, end_calls, exchange_calls, exchanges_calls, send_calls}
+use Rattle.replay.specs.LineCalls.{stop_calls, session_calls, end_calls, exchange_calls, exchanges_calls, send_calls}
 use Rattle.replay.specs.KeptAskings.{StandsFor, AsksAfter}
 use Rattle.replay.specs.KeptExchanges.{Exchanges}
 use Rattle.replay.specs.KeptWorlds.{KeptSeat, Parties, StandsForWorld, HasPrinted, Acts}
-use Rattle.replay.specs.KeptSeats.{has_word, IsTimed, Times, TimesWorld}
-use Rattle.replay.proofs.calls.Behind.{AsksOnce, asks-on}
+use Rattle.replay.specs.KeptSeats.{has_word}
+use Rattle.replay.proofs.calls.Behind.{asks-on}
 use Rattle.replay.proofs.calls.Emitted.{exchanges-by}
 use Rattle.replay.proofs.worlds.Seats.{absent, IsSeated, is-seated}
-use Rattle.replay.proofs.worlds.TimedSeats.{peers-timed, links-timed}
-use Rattle.replay.proofs.worlds.LinesDoing.{hub_timed}
 
 -- ---- lines
 
@@ -43,19 +40,7 @@ one_line l = sym (append-nil (l ++ 10 ∷ []))
 pub with_hub : (later : AskingHub) (hub : Hub) (kept : AskingHub) (known : Parties) (world : World) → StandsForWorld kept known world → StandsFor later hub → StandsForWorld later known (record world { hub = hub })
 with_hub later hub kept known world w stands = record { hub = stands; peers = w.peers; seats = w.seats; links = w.links }
 
--- ---- updates, points and moments
-
-pub updates-act : (kept later : AskingHub) (known : Parties) (message written : List ℕ) (code : ℕ)
-    → ((hub : Hub) → StandsFor kept hub → (code ≡ (hubs.update hub message).0) × StandsFor later (hubs.update hub message).1)
-    → AsksOnce (updating message) kept later → written ≡ codes "update " ++ (decimal code ++ 10 ∷ []) → Acts (updates message) (hub_calls (hub_events.Update message)) kept known written later known
-unfolding Acts
-updates-act kept later known message written code does asks is world w d =
-    let r = does world.hub w.hub in
-    record {
-      text = is ∙ one_line (codes "update " ++ decimal code) ∙ ap (λ c. ended_lines (spaced (codes "update" ∷ decimal c ∷ []) ∷ [])) r.0;
-      stands = with_hub later (hubs.update world.hub message).1 kept known world w r.1;
-      asks = asks world.hub w.hub;
-    }
+-- ---- points
 
 pub points-act : (kept : AskingHub) (known : Parties) (written : List ℕ) (point moment : ℕ)
     → ((hub : Hub) → StandsFor kept hub → point ≡ newest hub) → ((hub : Hub) → StandsFor kept hub → moment ≡ now hub)
@@ -69,28 +54,6 @@ points-act kept known written point moment tells_point tells_moment is world w d
   stands = w;
   asks = refl;
 }
-
-pub moments-act : (kept between later : AskingHub) (known known_later : Parties) (t : ℕ) (written : List ℕ)
-    → ((hub : Hub) → StandsFor kept hub → StandsFor between (hubs.moment hub t)) → AsksOnce (moves t) kept between → TimesWorld between known later known_later written → Acts (moments t) (hub_calls (hub_events.At t)) kept known written later known_later
-unfolding Acts Times
-moments-act kept between later known known_later t written does asks timed_so world w d =
-    let at = timed_so.at in
-    let stands = does world.hub w.hub in
-    let after = hubs.moment world.hub t in
-    let first = hub_timed world t in
-    let same : at ≡ now after = timed_so.moment after stands in
-    let told : IsTimed at between.askings later known_later.seats written first.0 = timed_so.times first.0 stands w.seats d in
-    let asked : ℕ → Askings = λ n. calls_asks (moves t ∷ flat_map (timed_calls n) world.seats) world.hub kept.askings in
-    subst (λ (n : ℕ). HasPrinted (asked n) later known_later written (fold (timed n) first world.seats)) same (record {
-      text = told.text;
-      stands = record {
-        hub = told.hub;
-        peers = timed_so.peers ∙ w.peers ∙ sym (peers-timed at world.seats first);
-        seats = told.stands;
-        links = timed_so.links ∙ w.links ∙ sym (links-timed at world.seats first);
-      };
-      asks = told.asks ∙ ap (λ (a : Askings). calls_asks (flat_map (timed_calls at) world.seats) after a) (asks world.hub w.hub);
-    })
 
 -- ---- stops and cuts
 

@@ -2,7 +2,7 @@
 --     peers-timed, links-timed      at a moment they leave the peers and the links
 --     Timing      the first clients have had their moment
 --     timing-begins, timing-more, timing-ends      one more has it
-use Rattle.std.proofs.Common.{◌≡◌, Bool, true, false, ℕ, suc, ◌+◌, ◌<◌, ◌≤◌, List, [], ◌∷◌, ◌++◌, fold, cond, length, set, get_or, Option, Some, None, refl, sym, ◌∙◌, ap, subst, arith, append_assoc, append-nil, length-append}
+use Rattle.std.proofs.Common.{◌≡◌, Bool, true, false, ℕ, suc, ◌+◌, ◌<◌, ◌≤◌, List, [], ◌∷◌, ◌++◌, map, fold, cond, length, set, get_or, Option, Some, None, refl, sym, ◌∙◌, ap, subst, arith, append_assoc, append-nil, length-append}
 use Rattle.std.specs.Prelude.{flat_map}
 use Rattle.std.proofs.lemmas.List.{get_or-set_same}
 use Rattle.dsosession.specs.declared.session.CloseReason.{CloseReason}
@@ -14,7 +14,7 @@ use Rattle.pushclient.specs.Clients.{closed_as}
 use Rattle.pushclient.specs.Steps as steps
 use Rattle.scripts.specs.Lines.{Word}
 use Rattle.replay.specs.World.{Seat, World, with_seat, cut_seat, is_over, hub_cut_if, world_cut_if}
-use Rattle.replay.specs.Text.{Printed, quietly, close_lines, timed}
+use Rattle.replay.specs.Text.{Printed, quietly, close_lines, closes_of, timed}
 use Rattle.scripts.specs.Words.{ended_lines}
 use Rattle.replay.specs.Askings.{calls_asks}
 use Rattle.replay.specs.LineCalls.{end_calls, timed_calls}
@@ -68,7 +68,7 @@ hub-then t p s (Some reason) = refl
 -- ---- the clients so far
 
 -- what the first clients printed and made, and what is left to do
-pub record TimedSoFar (t : ℕ) (asked : Askings) (kept : AskingHub) (now : Seated) (text : List ℕ) (place : ℕ) (whole : Printed) : Type 0 where
+pub record TimedSoFar (t : ℕ) (asked : Askings) (kept : AskingHub) (now : Seated) (told : List (List ℕ)) (place : ℕ) (whole : Printed) (all : List (List ℕ)) : Type 0 where
   pub done : Printed
   pub front : List Seat
   pub back : List Seat
@@ -77,18 +77,18 @@ pub record TimedSoFar (t : ℕ) (asked : Askings) (kept : AskingHub) (now : Seat
   pub distinct : AreDistinct (words_of (front ++ back))
   pub hub : hubs.StandsFor kept done.0.hub
   pub stand : StandForSeats now (front ++ back)
-  pub said : text ≡ ended_lines done.1
+  pub said : told ++ map ended_lines (closes_of t back) ≡ all
   pub left : fold (timed t) done back ≡ whole
   pub asks : calls_asks (flat_map (timed_calls t) back) done.0.hub kept.askings ≡ asked
 
-unfoldable pub Timing : ℕ → AskingHub → Seated → AskingHub → Seated → List ℕ → ℕ → Type 0
+unfoldable pub Timing : ℕ → AskingHub → Seated → AskingHub → Seated → List (List ℕ) → ℕ → Type 0
 Timing t kept before kept_now now so_far place = (world : World) → hubs.StandsFor kept world.hub → StandForSeats before world.seats → AreDistinct (words_in world)
-    → TimedSoFar t (calls_asks (flat_map (timed_calls t) world.seats) world.hub kept.askings) kept_now now so_far place (fold (timed t) (quietly world) world.seats)
+    → TimedSoFar t (calls_asks (flat_map (timed_calls t) world.seats) world.hub kept.askings) kept_now now so_far place (fold (timed t) (quietly world) world.seats) (map ended_lines (closes_of t world.seats))
 
-pub timing-begins : (t : ℕ) (kept : AskingHub) (before : Seated) (text : List ℕ) → text ≡ [] → Timing t kept before kept before text 0
+pub timing-begins : (t : ℕ) (kept : AskingHub) (before : Seated) (told : List (List ℕ)) → told ≡ [] → Timing t kept before kept before told 0
 unfolding Timing
-timing-begins t kept before text none world stands h distinct =
-    record { done = quietly world; front = []; back = world.seats; seats = refl; count = refl; distinct = distinct; hub = stands; stand = h; said = none; left = refl; asks = refl }
+timing-begins t kept before told none world stands h distinct =
+    record { done = quietly world; front = []; back = world.seats; seats = refl; count = refl; distinct = distinct; hub = stands; stand = h; said = ap (λ (l : List (List ℕ)). l ++ map ended_lines (closes_of t world.seats)) none; left = refl; asks = refl }
 
 pub lines-append : (xs ys : List (List ℕ)) → ended_lines (xs ++ ys) ≡ ended_lines xs ++ ended_lines ys
 lines-append [] ys = refl
@@ -108,11 +108,11 @@ words-same : (front back : List Seat) (s x : Seat) → x.word ≡ s.word → wor
 words-same [] back s x e = ap (λ (w : Word). w ∷ words_of back) e
 words-same (f ∷ front) back s x e = ap (λ (ws : List Word). f.word ∷ ws) (words-same front back s x e)
 
-one-more : (t : ℕ) (asked : Askings) (kept kept_later : AskingHub) (now later : Seated) (so_far line text : List ℕ) (word : Word) (place : ℕ) (closing : Option CloseReason) (whole : Printed) → place < length now
+one-more : (t : ℕ) (asked : Askings) (kept kept_later : AskingHub) (now later : Seated) (so_far : List (List ℕ)) (line : List ℕ) (next : List (List ℕ)) (word : Word) (place : ℕ) (closing : Option CloseReason) (whole : Printed) (closes : List (List ℕ)) → place < length now
     → Calls (HasTimed t closing kept kept_later) (timed_seat t closing) now place later
-    → ((k : KeptSeat) → k ≡ get_or later place k → word ≡ k.word) → line ≡ closing_text word closing → text ≡ so_far ++ line
-    → TimedSoFar t asked kept now so_far place whole → TimedSoFar t asked kept_later later text (place + 1) whole
-one-more t asked kept kept_later now later so_far line text word place closing whole within c names line_is is r = by r.back refl
+    → ((k : KeptSeat) → k ≡ get_or later place k → word ≡ k.word) → line ≡ closing_text word closing → next ≡ so_far ++ line ∷ []
+    → TimedSoFar t asked kept now so_far place whole closes → TimedSoFar t asked kept_later later next (place + 1) whole closes
+one-more t asked kept kept_later now later so_far line next word place closing whole closes within c names line_is is r = by r.back refl
   where
     some_left : r.back ≡ [] → ⊥
     some_left e =
@@ -120,7 +120,7 @@ one-more t asked kept kept_later now later so_far line text word place closing w
         let whole_front : length (r.front ++ []) ≡ length r.front = ap length (append-nil r.front) in
         omega (arith, within, size, whole_front, r.count)
 
-    by : (back : List Seat) → r.back ≡ back → TimedSoFar t asked kept_later later text (place + 1) whole
+    by : (back : List Seat) → r.back ≡ back → TimedSoFar t asked kept_later later next (place + 1) whole closes
     by [] e = absurd (some_left e)
     by (s ∷ back) e =
         let here : r.front ++ r.back ≡ r.front ++ s ∷ back = ap (λ (b : List Seat). r.front ++ b) e in
@@ -148,34 +148,37 @@ one-more t asked kept kept_later now later so_far line text word place closing w
           distinct = subst (λ (ss : List Seat). AreDistinct (words_of ss)) (sym grouped) (subst AreDistinct (sym (words-same r.front back s x (word-then t s closing))) distinct);
           hub = subst (hubs.StandsFor kept_later) (sym (hub-then t r.done s closing)) done.0;
           stand = subst (StandForSeats later) (sym grouped) (subst (λ (l : Seated). StandForSeats l (r.front ++ x ∷ back)) (sym kept_is) (set-at r.front back s x now c.after all (c.makes.stands s stands)));
-          said = is ∙ (λ i. r.said i ++ line_is i) ∙ ap (λ (w : Word). ended_lines r.done.1 ++ closing_text w closing) named ∙ sym (lines-append r.done.1 (close_lines s.word closing));
+          said =
+              ap (λ (l : List (List ℕ)). l ++ map ended_lines (closes_of t back)) is ∙ append_assoc so_far (line ∷ []) (map ended_lines (closes_of t back))
+              ∙ ap (λ (l : List ℕ). so_far ++ l ∷ map ended_lines (closes_of t back)) (line_is ∙ (λ i. closing_text (named i) (told.closes i)))
+              ∙ ap (λ (b : List Seat). so_far ++ map ended_lines (closes_of t b)) (sym e) ∙ r.said;
           left = ap (λ (p : Printed). fold (timed t) p back) (sym step) ∙ ap (fold (timed t) r.done) (sym e) ∙ r.left;
           asks =
               (λ i. calls_asks (flat_map (timed_calls t) back) (hub_then i) (asked_then i)) ∙ sym (asks-append gone (flat_map (timed_calls t) back) r.done.0.hub kept.askings)
               ∙ ap (λ (b : List Seat). calls_asks (flat_map (timed_calls t) b) r.done.0.hub kept.askings) (sym e) ∙ r.asks;
         }
 
-pub timing-more : (t : ℕ) (kept kept_now kept_later : AskingHub) (before now later : Seated) (so_far line next : List ℕ) (word : Word) (place : ℕ) (closing : Option CloseReason) → place < length now
+pub timing-more : (t : ℕ) (kept kept_now kept_later : AskingHub) (before now later : Seated) (so_far : List (List ℕ)) (line : List ℕ) (next : List (List ℕ)) (word : Word) (place : ℕ) (closing : Option CloseReason) → place < length now
     → Calls (HasTimed t closing kept_now kept_later) (timed_seat t closing) now place later
-    → ((k : KeptSeat) → k ≡ get_or later place k → word ≡ k.word) → line ≡ closing_text word closing → next ≡ so_far ++ line
+    → ((k : KeptSeat) → k ≡ get_or later place k → word ≡ k.word) → line ≡ closing_text word closing → next ≡ so_far ++ line ∷ []
     → Timing t kept before kept_now now so_far place → Timing t kept before kept_later later next (place + 1)
 unfolding Timing
 timing-more t kept kept_now kept_later before now later so_far line next word place closing within c names line_is is timing world stands h distinct =
-    one-more t (calls_asks (flat_map (timed_calls t) world.seats) world.hub kept.askings) kept_now kept_later now later so_far line next word place closing (fold (timed t) (quietly world) world.seats) within c names line_is is (timing world stands h distinct)
+    one-more t (calls_asks (flat_map (timed_calls t) world.seats) world.hub kept.askings) kept_now kept_later now later so_far line next word place closing (fold (timed t) (quietly world) world.seats) (map ended_lines (closes_of t world.seats)) within c names line_is is (timing world stands h distinct)
 
-pub timing-ends : (t : ℕ) (kept kept_now : AskingHub) (before now : Seated) (so_far : List ℕ) (place : ℕ) → length now ≤ place → Timing t kept before kept_now now so_far place → Times t kept before kept_now now so_far
+pub timing-ends : (t : ℕ) (kept kept_now : AskingHub) (before now : Seated) (so_far : List (List ℕ)) (place : ℕ) → length now ≤ place → Timing t kept before kept_now now so_far place → Times t kept before kept_now now so_far
 unfolding Timing Times
 timing-ends t kept kept_now before now so_far place all timing world stands h distinct = by r.back refl
   where
     whole : Printed
     whole = fold (timed t) (quietly world) world.seats
 
-    r : TimedSoFar t (calls_asks (flat_map (timed_calls t) world.seats) world.hub kept.askings) kept_now now so_far place whole
+    r : TimedSoFar t (calls_asks (flat_map (timed_calls t) world.seats) world.hub kept.askings) kept_now now so_far place whole (map ended_lines (closes_of t world.seats))
     r = timing world stands h distinct
 
     ended : r.done ≡ whole → r.back ≡ [] → IsTimed t kept.askings kept_now now so_far world
     ended same none = record {
-      text = r.said ∙ ap (λ (p : Printed). ended_lines p.1) same;
+      closes = sym (append-nil so_far) ∙ ap (λ (b : List Seat). so_far ++ map ended_lines (closes_of t b)) (sym none) ∙ r.said;
       hub = subst (λ (p : Printed). hubs.StandsFor kept_now p.0.hub) same r.hub;
       stands = subst (λ (p : Printed). StandForSeats now p.0.seats) same (subst (StandForSeats now) (sym r.seats) r.stand);
       asks = sym (ap (λ (b : List Seat). calls_asks (flat_map (timed_calls t) b) r.done.0.hub kept_now.askings) none) ∙ r.asks;

@@ -1,6 +1,7 @@
 -- What the calls of a script bring are octets, and the numbers of its stops fit.
 --     line-brings      what each line brings are octets
---     script-calls-fit      the law
+--     are-within, lines-within      what is read of the lines of a script is within bounds
+--     lines-calls-fit, script-calls-fit      the law, of lines within bounds, and of a text
 use Rattle.std.proofs.Common.{◌≡◌, ℕ, Bool, true, false, ◌&&◌, List, [], ◌∷◌, Ok, refl, subst}
 use Rattle.std.specs.Prelude.{nat_le, IsTrue}
 use Rattle.std.specs.List.{AllByRecursion}
@@ -30,7 +31,7 @@ use Rattle.replay.proofs.worlds.ClientOutputs.{SaysOctets}
 use Rattle.replay.proofs.worlds.InputOctets.{HoldsOctets, octets-kept, octets-parts, octets-clients}
 use Rattle.replay.proofs.worlds.KeptByLines.{IsReady, Has, keeps-line}
 use Rattle.script_laws.specs.Reached.{FitsCall, FitCalls}
-use Rattle.script_laws.specs.Lines.{IsHubWithin, IsLinkWithin, IsCallWithin, IsClientWithin, IsSessionWithin, AreWithin, IsRead}
+use Rattle.script_laws.specs.Lines.{IsHubWithin, IsLinkWithin, IsCallWithin, IsClientWithin, IsSessionWithin, AreWithin, IsRead, AreLines}
 use Rattle.replay.specs.LineCalls.{line_calls, script_calls}
 use Rattle.script_laws.specs.EachMessage.{ScriptCallsFit}
 use Rattle.script_laws.proofs.downs.Octets.{name-octets}
@@ -118,8 +119,14 @@ lines-fit (line ∷ lines) world within h =
     each-append FitsCall (line_calls line world) (script_calls lines later) (line-fits line world within.0 h.seats)
     (lines-fit lines later within.1 (keeps-line AreOctets HoldsOctets octets-kept octets-parts SaysOctets octets-clients line world (line-brings line within.0) h))
 
+pub are-within : (script : List ScriptLine) → AreLines script → AllByRecursion AreWithin script
+are-within script are = all-weaken (IsRead are.all) AreWithin (λ line is. is.within) script are.read
+
 pub lines-within : (text : List ℕ) (script : List ScriptLine) → script_of text ≡ Ok script → AllByRecursion AreWithin script
 lines-within text script read = all-weaken (IsRead (client_words (lines_read text))) AreWithin (λ line is. is.within) script (read-script text script read).1
 
+pub lines-calls-fit : (script : List ScriptLine) → AllByRecursion AreWithin script → FitCalls (script_calls script (start_world script))
+lines-calls-fit script within = lines-fit script (start_world script) within (record { hub = tt; seats = tt })
+
 pub script-calls-fit : ScriptCallsFit
-script-calls-fit text script read = lines-fit script (start_world script) (lines-within text script read) (record { hub = tt; seats = tt })
+script-calls-fit text script read = lines-calls-fit script (lines-within text script read)

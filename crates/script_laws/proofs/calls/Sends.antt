@@ -2,8 +2,8 @@
 --     peer-there      the session of a peer
 --     PeerStands, peer-stands      it is served when octets come, a new one too
 --     peers-served      each peer's session is served between two lines
---     sends-answered, asks-answered, each-brought-up      the laws
-use Rattle.std.proofs.Common.{◌≡◌, ℕ, ◌+◌, ◌≤◌, Bool, true, false, cond, not, List, [], ◌∷◌, ◌++◌, map, find, length, Option, Some, None, Ok, option_map, refl, sym, ◌∙◌, ap, subst, arith, append_assoc, append-nil}
+--     lines-sends-answered, sends-answered, asks-answered, each-brought-up      the laws
+use Rattle.std.proofs.Common.{◌≡◌, ℕ, ◌+◌, ◌≤◌, Bool, true, false, cond, not, List, [], ◌∷◌, ◌++◌, map, find, length, Option, Some, None, option_map, refl, sym, ◌∙◌, ap, subst, arith, append_assoc, append-nil}
 use Rattle.std.specs.Prelude.{◌==◌, flat_map, filter_map}
 use Rattle.std.specs.List.{AllByRecursion}
 use Rattle.std.specs.Str.{bytes_eq}
@@ -29,7 +29,6 @@ use Rattle.pushtelling.specs.Runs.{handed_out, WentOut}
 use Rattle.pushtelling.proofs.Running.{made_goes_out}
 use Rattle.scripts.specs.Lines.{Word, ScriptLine, silent, head_line, joining, hub_event, link_event, client_call, client_passing, client_event, session_event, send}
 use Rattle.scripts.specs.declared.line.SessionEvent.TheVariants as session_events
-use Rattle.scripts.specs.Scripts.{script_of}
 use Rattle.replay.specs.World.{World, start_world, number_in, session_number, hub_without, cut_peer}
 use Rattle.replay.specs.PassedOctets.{Exchanged, exchanged, enough}
 use Rattle.replay.specs.Promises.{NumbersFit}
@@ -41,12 +40,12 @@ use Rattle.scripts.specs.Words.{ended_lines}
 use Rattle.replay.proofs.pieces.ApartWorlds.{IsApart, apart-start, apart-lines, number-all}
 use Rattle.replay.proofs.worlds.BetweenLines.{printed-append, lines-append, after-append, each-behind, reply-is}
 use Rattle.script_laws.specs.Reached.{FitsCall, FitCalls, IsReached}
-use Rattle.script_laws.specs.Lines.{AreWithin}
+use Rattle.script_laws.specs.Lines.{AreWithin, AreLines}
 use Rattle.script_laws.specs.Whole.{StandsAfterEachLine}
 use Rattle.replay.specs.LineCalls.{exchange_calls}
 use Rattle.script_laws.specs.EachMessage.{HasItsTurn, IsAnswered, messages_of}
 use Rattle.script_laws.specs.InTurn.{made_in}
-use Rattle.script_laws.specs.Sending.{askings_behind, IsServed, ArePeersServed, made_messages, ExchangeSo, SendIsAnswered, SendsAreAnswered, Asks, lines_asked, world_asked, calls_asked, AsksAnywhere, octets_asked, lines_told, AskIsAnswered, AsksAreAnswered, EachIsBroughtUp}
+use Rattle.script_laws.specs.Sending.{askings_behind, IsServed, ArePeersServed, made_messages, ExchangeSo, SendIsAnswered, AnswersSendsIn, SendsAreAnswered, Asks, lines_asked, world_asked, calls_asked, AsksAnywhere, octets_asked, lines_told, AskIsAnswered, AsksAreAnswered, EachIsBroughtUp}
 use Rattle.script_laws.proofs.Reading.{are-lines}
 use Rattle.script_laws.proofs.hubs.Counting.{one_where, counted-cons, one-itself}
 use Rattle.script_laws.proofs.hubs.HubNumbers.{new-ones-are-found}
@@ -57,7 +56,7 @@ use Rattle.script_laws.proofs.calls.EachTurn.{each-has-its-turn, subscribes-are-
 use Rattle.script_laws.proofs.calls.InTurn.{made-in-turn}
 use Rattle.script_laws.proofs.calls.Exchanging.{done-served}
 use Rattle.script_laws.proofs.calls.Exchanges.{exchange-so}
-use Rattle.script_laws.proofs.calls.Fits.{lines-within}
+use Rattle.script_laws.proofs.calls.Fits.{are-within}
 use Rattle.script_laws.proofs.calls.Others.{NotFor, ServedAt, others-serve}
 use Rattle.script_laws.proofs.calls.Served.{served-line}
 use Rattle.replay.proofs.worlds.InputOctets.{octets-parts}
@@ -237,7 +236,7 @@ line-served (client_call w call) world within reached fits apart served = served
 line-served (client_passing w way) world within reached fits apart served = served-line (client_passing w way) world tt within apart served
 line-served (client_event w event) world within reached fits apart served = served-line (client_event w event) world tt within apart served
 
-module _ (stands : StandsAfterEachLine) (text : List ℕ) (script : List ScriptLine) (read : script_of text ≡ Ok script) where
+module _ (stands : StandsAfterEachLine) (script : List ScriptLine) (are : AreLines script) where
   abbrev start : World
   start = start_world script
 
@@ -245,7 +244,7 @@ module _ (stands : StandsAfterEachLine) (text : List ℕ) (script : List ScriptL
   lines-served [] done rest split within served = served
   lines-served (line ∷ lines) done rest split within served =
       let world : World = world_after done start in
-      let all = stands script done (line ∷ (lines ++ rest)) (are-lines text script read) split in
+      let all = stands script done (line ∷ (lines ++ rest)) are split in
       let next : ArePeersServed (line_does by_history line world).0 = line-served line world within.0 all.reached all.numbers (apart-lines done start (apart-start script)) served in
       let moved : world_after (done ++ line ∷ []) start ≡ (line_does by_history line world).0 = after-append done (line ∷ []) start in
       subst (λ (x : World). ArePeersServed (world_after lines x)) moved
@@ -253,7 +252,7 @@ module _ (stands : StandsAfterEachLine) (text : List ℕ) (script : List ScriptL
 
   pub peers-served : (before behind : List ScriptLine) → script ≡ before ++ behind → ArePeersServed (world_after before start)
   peers-served before behind split =
-      lines-served before [] behind split (each-front AreWithin before behind (subst (AllByRecursion AreWithin) split (lines-within text script read))) tt
+      lines-served before [] behind split (each-front AreWithin before behind (subst (AllByRecursion AreWithin) split (are-within script are))) tt
 
 -- ---- what is made in turn
 
@@ -273,17 +272,17 @@ more-in-turn hub calls number before after more reached was there made =
 
 -- ---- a peer's line
 
-module _ (stands : StandsAfterEachLine) (text : List ℕ) (before behind : List ScriptLine) (w : Word) (octets : List ℕ) (read : script_of text ≡ Ok (before ++ send w octets ∷ behind)) where
+module _ (stands : StandsAfterEachLine) (before behind : List ScriptLine) (w : Word) (octets : List ℕ) (are : AreLines (before ++ send w octets ∷ behind)) where
   abbrev world : World
   world = world_after before (start_world (before ++ send w octets ∷ behind))
 
   written : AreWithin (send w octets)
-  written = (each-behind AreWithin before (send w octets ∷ behind) (lines-within text (before ++ send w octets ∷ behind) read)).0
+  written = (each-behind AreWithin before (send w octets ∷ behind) (are-within (before ++ send w octets ∷ behind) are)).0
 
   pub stands-there : (number : ℕ) (there : World) → placed w world ≡ Some (number, there) → PeerStands number there
   stands-there number there place =
-      let all = stands (before ++ send w octets ∷ behind) before (send w octets ∷ behind) (are-lines text (before ++ send w octets ∷ behind) read) refl in
-      peer-stands w world all.reached all.numbers (peers-served stands text (before ++ send w octets ∷ behind) read before (send w octets ∷ behind) refl) number there place
+      let all = stands (before ++ send w octets ∷ behind) before (send w octets ∷ behind) are refl in
+      peer-stands w world all.reached all.numbers (peers-served stands (before ++ send w octets ∷ behind) are before (send w octets ∷ behind) refl) number there place
 
   pub send-is-answered : (records : HeldRecords) (number : ℕ) (there : World) → placed w world ≡ Some (number, there) → SendIsAnswered records w octets world number there
   send-is-answered records number there place =
@@ -303,8 +302,14 @@ module _ (stands : StandsAfterEachLine) (text : List ℕ) (before behind : List 
         ]).1) place ∙ ap (λ (os : List ℕ). bytes_line w os ∷ end_lines w x.over) so.octets_are;
       }
 
+-- of lines, and of a text
+pub lines-sends-answered : StandsAfterEachLine → (script : List ScriptLine) → AreLines script → AnswersSendsIn script
+lines-sends-answered stands script are records before behind w octets number there split place =
+    subst (λ (s : List ScriptLine). AreLines s → placed w (world_after before (start_world s)) ≡ Some (number, there) → SendIsAnswered records w octets (world_after before (start_world s)) number there)
+    (sym split) (λ all at. send-is-answered stands before behind w octets all records number there at) are place
+
 pub sends-answered : StandsAfterEachLine → SendsAreAnswered
-sends-answered stands records text before behind w octets number there read place = send-is-answered stands text before behind w octets read records number there place
+sends-answered stands records text before behind w octets number there read place = send-is-answered stands before behind w octets (are-lines text (before ++ send w octets ∷ behind) read) records number there place
 
 -- ---- a SUBSCRIBE anywhere
 
@@ -326,14 +331,17 @@ module _ (stands : StandsAfterEachLine) (records : HeldRecords) (text : List ℕ
   abbrev given : Giving
   given = give hub_at_turn asked.number turn.room
 
+  are : AreLines (lines_asked asked)
+  are = are-lines text (lines_asked asked) asks.read
+
   sent : SendIsAnswered records asked.word asked.octets (world_asked asked) asked.number asked.world
-  sent = send-is-answered stands text asked.before asked.behind asked.word asked.octets asks.read records asked.number asked.world asks.place
+  sent = send-is-answered stands asked.before asked.behind asked.word asked.octets are records asked.number asked.world asks.place
 
   reached : IsReached hub
-  reached = (stands-there stands text asked.before asked.behind asked.word asked.octets asks.read asked.number asked.world asks.place).reached
+  reached = (stands-there stands asked.before asked.behind asked.word asked.octets are asked.number asked.world asks.place).reached
 
   good : AreOctets asked.octets
-  good = (written stands text asked.before asked.behind asked.word asked.octets asks.read).1.0
+  good = (written stands asked.before asked.behind asked.word asked.octets are).1.0
 
   fit : FitCalls (turn.first ++ gives asked.number turn.room ∷ turn.last)
   fit = subst FitCalls turn.calls_are (all-exchanged FitsCall asked.number (λ room. (tt, tt)) AreOctets octets-parts (λ piece good. (good, tt)) enough asked.octets hub good)

@@ -1,4 +1,5 @@
 -- What is read of each line is within bounds.
+--     number_at_most, name_is_name, word_gives      what words give
 --     line_within      of a line by itself
 use Rattle.std.proofs.Common.{◌≡◌, ℕ, ◌+◌, ◌-◌, ◌*◌, ◌≤◌, ◌<◌, ◌^◌, Bool, true, false, cond, ◌&&◌, List, [], ◌∷◌, fold, length, Option, Some, None, IfSome, option_and_then, nat_le, refl, subst, arith}
 use Rattle.std.specs.Prelude.{◌==◌, IsTrue}
@@ -53,21 +54,21 @@ if_gives P false x y h k = k refl
 le_from : (n m : ℕ) → nat_le n m ≡ true → n ≤ m
 le_from n m h = grind (arith, nat_tests)
 
-number_at_most : (greatest : ℕ) (w : Word) → Gives (λ n. n ≤ greatest) (number greatest w)
+pub number_at_most : (greatest : ℕ) (w : Word) → Gives (λ n. n ≤ greatest) (number greatest w)
 number_at_most greatest [] = none_gives (λ n. n ≤ greatest)
 number_at_most greatest (c ∷ cs) = by (has_form (c ∷ cs)) (fold (λ n d. 10 * n + (d - 48)) 0 (c ∷ cs))
   where
     by : (b : Bool) (m : ℕ) → Gives (λ n. n ≤ greatest) (cond (b && nat_le m greatest) (Some m) None)
     by b m = if_gives (λ n. n ≤ greatest) (b && nat_le m greatest) (Some m) None (λ is. some_gives (λ n. n ≤ greatest) m (le_from m greatest (and_true b (nat_le m greatest) is).1)) (λ is. none_gives (λ n. n ≤ greatest))
 
-name_is_name : (w : Word) → Gives (λ name. IsTrue (is_name name)) (name_of_text w)
+pub name_is_name : (w : Word) → Gives (λ name. IsTrue (is_name name)) (name_of_text w)
 name_is_name [] = none_gives (λ name. IsTrue (is_name name))
 name_is_name (c ∷ []) = if_gives (λ name. IsTrue (is_name name)) (c == 46) (Some []) None (λ is. some_gives (λ name. IsTrue (is_name name)) [] refl) (λ is. none_gives (λ name. IsTrue (is_name name)))
 name_is_name (c ∷ d ∷ rest) =
     then_gives (λ name. IsTrue (is_name name)) (λ name. cond (is_name name) (Some name) None) (labels_in_text 128 (c ∷ d ∷ rest))
     (λ labels found. if_gives (λ name. IsTrue (is_name name)) (is_name labels) (Some labels) None (λ is. some_gives (λ name. IsTrue (is_name name)) labels is) (λ is. none_gives (λ name. IsTrue (is_name name))))
 
-word_gives : (w : Word) → Gives IsWord (word w)
+pub word_gives : (w : Word) → Gives IsWord (word w)
 word_gives w =
     if_gives IsWord (nat_le 1 (length w) && nat_le (length w) 32 && list_all is_word_octet w) (Some w) None
     (λ is. some_gives IsWord w (last (nat_le 1 (length w)) (nat_le (length w) 32) (list_all is_word_octet w) is)) (λ is. none_gives IsWord)
@@ -99,7 +100,7 @@ question_gives n k c =
 
 -- ---- lines by their words
 
-below_max : (n : ℕ) → n ≤ max_u32 → n < 2 ^ 32
+pub below_max : (n : ℕ) → n ≤ max_u32 → n < 2 ^ 32
 below_max n h = omega arith
 
 small_rcode : (n : ℕ) → n ≤ max_rcode → n < 16

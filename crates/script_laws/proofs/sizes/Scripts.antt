@@ -1,4 +1,5 @@
 -- A script has no more lines than its text has octets.
+--     few-lines      a text has no more lines than octets
 --     scripts-are-short
 use Rattle.std.proofs.Common.{◌≡◌, ℕ, suc, ◌+◌, ◌≤◌, ◌==◌, Bool, true, false, cond, List, [], ◌∷◌, map, length, Option, Some, None, Result, Ok, Err, nat_lt, refl, sym, ◌∙◌, ap, subst, arith}
 use Rattle.std.specs.List.{onto_first}
@@ -22,7 +23,7 @@ line-longer octet lines = by (octet == 10)
     by true = omega arith
     by false = first-longer octet lines
 
-few-lines : (text : List ℕ) → length (lines_in text) ≤ length text
+pub few-lines : (text : List ℕ) → length (lines_in text) ≤ length text
 few-lines [] = omega arith
 few-lines (o ∷ os) = let rest = few-lines os in let one = line-longer o (lines_in os) in omega (arith, rest, one)
 

@@ -1,4 +1,5 @@
 -- What a script prints, line by line.
+--     line-alike      what a line does and prints is one, where the world stands
 --     one-text      what is held is what the notices taken lead to
 use Rattle.std.proofs.Common.{◌≡◌, ℕ, List, [], ◌∷◌, ◌++◌, Option, Some, None, refl, ap, sym, ◌∙◌, append_assoc}
 use Rattle.std.specs.Prelude.{map, codes, decimal}
@@ -45,7 +46,7 @@ module _ (sessions : ReachedSessions) where
   client-alike shown world w (client_events.Feed octets) stands = refl
   client-alike shown world w (client_events.Show question written) stands = show-alike shown world w question written stands
 
-  line-alike : (shown : ShownToEach) (line : ScriptLine) (world : World) → WorldStands shown world → line_does by_history line world ≡ line_does by_notices line world
+  pub line-alike : (shown : ShownToEach) (line : ScriptLine) (world : World) → WorldStands shown world → line_does by_history line world ≡ line_does by_notices line world
   line-alike shown silent world stands = refl
   line-alike shown (head_line line) world stands = refl
   line-alike shown (joining w is_lone) world stands = refl

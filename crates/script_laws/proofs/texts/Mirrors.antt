@@ -1,4 +1,5 @@
 -- The sets of the clients that ran a script are the history's records.
+--     all-as-history      of clients that stand for those of a world that stands
 --     mirrors-of-history      of a hub and clients that stand for those behind the last line
 --     replays-mirror      of what a replay hands back
 use Rattle.std.proofs.Common.{List, [], ◌∷◌, Some, sym, ◌∙◌, ap, append-nil}
@@ -9,7 +10,7 @@ use Rattle.replay.specs.World.{World, Seat, start_world}
 use Rattle.replay.specs.TextWords.{ShowTold, by_history, by_notices}
 use Rattle.replay.specs.Text.{world_after}
 use Rattle.replay.specs.Promises.{ClientStandsFor}
-use Rattle.replay.specs.KeptEnds.{AreEnds}
+use Rattle.replay.proofs.OneHub.{one-leaves}
 use Rattle.script_laws.specs.Lines.{AreLines}
 use Rattle.script_laws.specs.Reached.{ReachedSessions}
 use Rattle.script_laws.specs.Joined.{ShownToEach, SeatStands, WorldStands}
@@ -28,7 +29,7 @@ module _ (sessions : ReachedSessions) where
       sets = λ question is. h.sets question is ∙ ap (λ (t : ShowTold). Some t.1) (sym (shows-alike sessions world (shown seat.word) seat question stands.reached holds));
     }
 
-    all-as-history : (clients : List KeptClient) (seats : List Seat) → AllByRecursion (λ s. SeatStands world.hub (shown s.word) s) seats → AllZip (ClientStandsFor by_notices world) clients seats
+    pub all-as-history : (clients : List KeptClient) (seats : List Seat) → AllByRecursion (λ s. SeatStands world.hub (shown s.word) s) seats → AllZip (ClientStandsFor by_notices world) clients seats
         → AllZip (ClientStandsFor by_history world) clients seats
     all-as-history [] [] holds h = tt
     all-as-history [] (s ∷ ss) holds h = absurd h
@@ -44,5 +45,4 @@ module _ (sessions : ReachedSessions) where
         record { hub = h.hub; seats = all-as-history (shown_by script start) world stands clients world.seats stands.seats h.seats }
 
     pub replays-mirror : ReplaysMirrorHistory
-    unfolding AreEnds
-    replays-mirror octets ends script are read = mirrors-of-history script (are-lines octets script read) ends.hub.hub ends.clients.items (are script read).0
+    replays-mirror octets ends script are read = mirrors-of-history script (are-lines octets script read) ends.hub.hub ends.clients.items (one-leaves octets ends script are read).1

@@ -1,24 +1,23 @@
--- Which lines are those of a client, the words of the clients, and the lines that are left.
-use Rattle.std.proofs.Common.{◌≡◌, ℕ, ◌<◌, ◌⊎◌, Bool, true, false, cond, eqb, ◌&&◌, ◌||◌, Option, Some, None, IfSome, List, [], ◌∷◌, ◌++◌, length, map, refl, sym, ◌∙◌, ap, subst, inl, inr, arith, append_assoc, ⊎_elim}
-use Rattle.std.specs.Prelude.{find, drop, get_or, ◌+◌, option_map, option_to_list, codes, string_bytes, position}
+-- Which lines are those of a client, the words of the clients, and that a line is left.
+use Rattle.std.proofs.Common.{◌≡◌, ℕ, ◌<◌, ◌⊎◌, Bool, true, false, cond, eqb, ◌||◌, Option, Some, None, IfSome, List, [], ◌∷◌, ◌++◌, length, map, refl, sym, ◌∙◌, ap, subst, inl, inr, arith, ⊎_elim}
+use Rattle.std.specs.Prelude.{find, drop, get_or, ◌+◌, option_map, codes, string_bytes, position}
 use Rattle.std.specs.declared.alloc.Global.{Global}
 use Rattle.std.specs.declared.string.String.{String}
-use Rattle.std.specs.List.{cons_option, onto_first, list_all, join_with_byte}
+use Rattle.std.specs.List.{onto_first, list_all, join_with_byte}
 use Rattle.std.specs.Str.{is_utf8, bytes_eq}
 use Rattle.std.proofs.lemmas.Bool.{cases_Bool}
 use Rattle.std.proofs.lemmas.Bool.Decides.{nat_tests}
 use Rattle.std.proofs.lemmas.Option.{cond_some}
-use Rattle.std.proofs.lemmas.List.{append-nil, at_drop_more}
+use Rattle.std.proofs.lemmas.List.{at_drop_more}
 use Rattle.std.proofs.lemmas.List.Splits.{join_with_byte-slice_split}
-use Rattle.push_base.specs.Cases.{is_empty}
 use Rattle.push_base.specs.Optional.{◌>>=◌}
 use Rattle.dnsname.proofs.Decisions.{and_true}
-use Rattle.scripts.specs.Lines.{words_in, Word, ScriptLine, silent, joining, word, of_word, of_words, line_of, is_word_octet, is, head_kinds, hub_kinds, link_kinds, session_kinds, joining_kinds, call_kinds, way_kinds, client_kinds, kind_of, line_behind}
+use Rattle.scripts.specs.Lines.{words_in, Word, ScriptLine, silent, joining, word, of_word, of_words, is_word_octet, is, head_kinds, hub_kinds, link_kinds, session_kinds, joining_kinds, call_kinds, way_kinds, client_kinds, kind_of, line_behind}
 use Rattle.scripts.specs.declared.line.Kind.{Kind}
 use Rattle.scripts.specs.declared.line.Kind.TheVariants as kinds
 use Rattle.history.proofs.Positions.{position-map}
 use Rattle.scripts.specs.KeptLines.{words_of}
-use Rattle.scripts.specs.Scripts.{onto_line, lines_in, client_word, client_words, is_among, last_is_outside, lone_in, lines_left}
+use Rattle.scripts.specs.Scripts.{onto_line, client_word, is_among, lone_in}
 use Rattle.scripts.specs.Events.{known_clients, words_known}
 use Rattle.scripts.specs.Drafts.{client_in, is_any_word, is_word}
 use Rattle.scripts.specs.declared.clients.KnownClient.{KnownClient}
@@ -27,7 +26,7 @@ use Rattle.scripts.proofs.lines.SameWords.{same_word}
 
 -- ---- a line that names a client is that text
 
-word_is : (x v : Word) → word x ≡ Some v → x ≡ v
+pub word_is : (x v : Word) → word x ≡ Some v → x ≡ v
 word_is x v h = (cond_some _ x v h).1
 
 of_client : (line : Word → ScriptLine) → ((w : Word) → client_word (line w) ≡ Some w) → (o : Option Word) (v : Word) → (option_map line o >>= client_word) ≡ Some v → o ≡ Some v
@@ -39,7 +38,7 @@ client_behind line says [] v h = absurd cc
 client_behind line says (x ∷ []) v h = ap (λ (w : Word). w ∷ []) (word_is x v (of_client line says (word x) v h))
 client_behind line says (x ∷ y ∷ ws) v h = absurd cc
 
-abbrev NamesClient : List Word → Word → Type 0
+abbrev pub NamesClient : List Word → Word → Type 0
 NamesClient parts v = (parts ≡ codes "client" ∷ v ∷ []) ⊎ (parts ≡ codes "lone" ∷ v ∷ [])
 
 -- a line by its words, if it names a client
@@ -96,7 +95,7 @@ comment_client : (utf8 : Bool) → (cond utf8 (Some silent) None >>= client_word
 comment_client true = refl
 comment_client false = refl
 
-line_parts : (line : List ℕ) (v : Word) → client_in line ≡ Some v → NamesClient (words_in line) v
+pub line_parts : (line : List ℕ) (v : Word) → client_in line ≡ Some v → NamesClient (words_in line) v
 line_parts [] v h = absurd cc
 line_parts (c ∷ cs) v h = elim (cases_Bool (eqb c 35)) [
   | inl hash ↦
@@ -121,13 +120,13 @@ client_line line v h = by_parts (line_parts line v h)
 no_space : (c : ℕ) → is_word_octet c ≡ true → eqb c 32 ≡ false
 no_space c h = grind (arith, nat_tests)
 
-word_whole : (w : Word) → list_all is_word_octet w ≡ true → words_in w ≡ w ∷ []
+pub word_whole : (w : Word) → list_all is_word_octet w ≡ true → words_in w ≡ w ∷ []
 word_whole [] h = refl
 word_whole (c ∷ cs) h =
     let both = and_true (is_word_octet c) (list_all is_word_octet cs) h in
     ap (λ (b : Bool). cond b ([] ∷ words_in cs) (onto_first c (words_in cs))) (no_space c both.0) ∙ ap (onto_first c) (word_whole cs both.1)
 
-word_octets : (w : Word) → word w ≡ Some w → list_all is_word_octet w ≡ true
+pub word_octets : (w : Word) → word w ≡ Some w → list_all is_word_octet w ≡ true
 word_octets w h = let test = (cond_some _ w w h).0 in (and_true _ (list_all is_word_octet w) test).1
 
 -- what is said by the words behind the first
@@ -175,14 +174,6 @@ names_none line no_client no_lone = by_client (client_in line) refl
 
 -- ---- the words of the clients
 
-words_more : (o : Option ScriptLine) (lines : List (Option ScriptLine)) → client_words (o ∷ lines) ≡ option_to_list (o >>= client_word) ++ client_words lines
-words_more None lines = refl
-words_more (Some line) lines = by_word (client_word line)
-  where
-    by_word : (r : Option Word) → cons_option r (client_words lines) ≡ option_to_list r ++ client_words lines
-    by_word None = refl
-    by_word (Some v) = refl
-
 -- a word is one of these
 pub any_word : (words : List (String Global)) (w : Word) → is_any_word w words ≡ is_among (map (λ c. string_bytes c) words) w
 any_word [] w = refl
@@ -215,9 +206,10 @@ pub known_found : (clients : List KnownClient) (i : ℕ) (c : KnownClient) (w : 
     → known_from w (drop i clients) ≡ whole → Some c.is_lone ≡ whole
 known_found clients i c w whole within is same so_far = sym (at_known clients i c w within is ∙ ap (known_by w c (drop (i + 1) clients)) same) ∙ so_far
 
--- ---- the lines that are left
+-- ---- lines that are left
 
-onto_line_some : (octet : ℕ) (lines : List (List ℕ)) → 0 < length (onto_line octet lines)
+-- there is one
+pub onto_line_some : (octet : ℕ) (lines : List (List ℕ)) → 0 < length (onto_line octet lines)
 onto_line_some octet lines = elim (cases_Bool (eqb octet 10)) [
   | inl end ↦ subst (λ (b : Bool). 0 < length (cond b ([] ∷ lines) (onto_first octet lines))) (sym end) (omega arith)
   | inr on ↦ subst (λ (b : Bool). 0 < length (cond b ([] ∷ lines) (onto_first octet lines))) (sym on) (first_some octet lines)
@@ -226,63 +218,3 @@ onto_line_some octet lines = elim (cases_Bool (eqb octet 10)) [
     first_some : (octet : ℕ) (lines : List (List ℕ)) → 0 < length (onto_first octet lines)
     first_some octet [] = omega arith
     first_some octet (l ∷ ls) = omega arith
-
-outside_behind : (o : Option ScriptLine) (lines : List (List ℕ)) → 0 < length lines → last_is_outside (o ∷ map line_of lines) ≡ o ∷ last_is_outside (map line_of lines)
-outside_behind o [] some = absurd (omega arith)
-outside_behind o (l ∷ ls) some = refl
-
--- the first line, which is outside where it is the last of a script that is too long
-abbrev pub line_here : Bool → List ℕ → List ℕ → Option ScriptLine
-line_here too_long line after = cond (too_long && is_empty after) None (line_of line)
-
-long_more : (rest line after : List ℕ) → lines_in rest ≡ line ∷ lines_in after → last_is_outside (map line_of (lines_in rest)) ≡ line_here true line after ∷ last_is_outside (map line_of (lines_in after))
-long_more rest line [] e = ap (λ (ls : List (List ℕ)). last_is_outside (map line_of ls)) e
-long_more rest line (x ∷ xs) e = ap (λ (ls : List (List ℕ)). last_is_outside (map line_of ls)) e ∙ outside_behind (line_of line) (lines_in (x ∷ xs)) (onto_line_some x (lines_in xs))
-
-pub left_more : (too_long : Bool) (rest line after : List ℕ) → lines_in rest ≡ line ∷ lines_in after → lines_left too_long rest ≡ line_here too_long line after ∷ lines_left too_long after
-left_more false rest line after e = ap (map line_of) e
-left_more true rest line after e = long_more rest line after e
-
-pub left_none : (too_long : Bool) (rest : List ℕ) → length rest ≡ 0 → lines_left too_long rest ≡ []
-left_none false [] e = refl
-left_none true [] e = refl
-left_none too_long (x ∷ xs) e = absurd (omega arith)
-
--- ---- the scan for the clients
-
-empty_length : (after : List ℕ) → is_empty after ≡ true → length after ≡ 0
-empty_length [] h = refl
-empty_length (x ∷ xs) h = absurd cc
-
--- the line that is outside is the last one
-pub outside_last : (too_long : Bool) (rest line after : List ℕ) → lines_in rest ≡ line ∷ lines_in after → (too_long && is_empty after) ≡ true → lines_left too_long rest ≡ None ∷ []
-outside_last too_long rest line after e outside =
-    let both = and_true too_long (is_empty after) outside in
-    left_more too_long rest line after e
-    ∙ ap (λ (b : Bool). cond b None (line_of line) ∷ lines_left too_long after) outside
-    ∙ ap (λ (ls : List (Option ScriptLine)). None ∷ ls) (left_none too_long after (empty_length after both.1))
-
--- the words of the clients in what is left
-abbrev pub clients_left : Bool → List ℕ → List Word
-clients_left too_long rest = client_words (lines_left too_long rest)
-
-pub clients_more : (too_long : Bool) (rest line after : List ℕ) (words then whole : List Word) → lines_in rest ≡ line ∷ lines_in after → (too_long && is_empty after) ≡ false → then ≡ words ++ option_to_list (client_in line)
-    → words ++ clients_left too_long rest ≡ whole → then ++ clients_left too_long after ≡ whole
-clients_more too_long rest line after words then whole e inside added so =
-    ap (λ (ws : List Word). ws ++ clients_left too_long after) added
-    ∙ append_assoc words (option_to_list (client_in line)) (clients_left too_long after)
-    ∙ ap (λ (ws : List Word). words ++ ws) (sym (here too_long rest line after e inside))
-    ∙ so
-  where
-    here : (too_long : Bool) (rest line after : List ℕ) → lines_in rest ≡ line ∷ lines_in after → (too_long && is_empty after) ≡ false → clients_left too_long rest ≡ option_to_list (client_in line) ++ clients_left too_long after
-    here too_long rest line after e inside =
-        ap (λ (ls : List (Option ScriptLine)). client_words ls) (left_more too_long rest line after e)
-        ∙ ap (λ (b : Bool). client_words (cond b None (line_of line) ∷ lines_left too_long after)) inside
-        ∙ words_more (line_of line) (lines_left too_long after)
-
-pub clients_outside : (too_long : Bool) (rest line after : List ℕ) (words whole : List Word) → lines_in rest ≡ line ∷ lines_in after → (too_long && is_empty after) ≡ true → words ++ clients_left too_long rest ≡ whole → words ≡ whole
-clients_outside too_long rest line after words whole e outside so =
-    sym (append-nil words) ∙ ap (λ (ls : List (Option ScriptLine)). words ++ client_words ls) (sym (outside_last too_long rest line after e outside)) ∙ so
-
-pub clients_none : (too_long : Bool) (rest : List ℕ) (words whole : List Word) → length rest ≡ 0 → words ++ clients_left too_long rest ≡ whole → words ≡ whole
-clients_none too_long rest words whole e so = sym (append-nil words) ∙ ap (λ (ls : List (Option ScriptLine)). words ++ client_words ls) (sym (left_none too_long rest e)) ∙ so

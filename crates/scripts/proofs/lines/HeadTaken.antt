@@ -2,11 +2,10 @@
 --     unknown-word, known-word      whether it may stand there, by where its word stands among those of links
 --     takes_home      the draft takes it where they do
 --     grows_zone, grows_link, grows_reverse      the head with a further line of its own
-use Rattle.std.proofs.Common.{◌≡◌, ℕ, Bool, true, false, ◌&&◌, ◌==◌, Option, Some, None, Result, Ok, Err, List, [], ◌∷◌, ◌++◌, length, refl, sym, ◌∙◌, ap}
+use Rattle.std.proofs.Common.{◌≡◌, ℕ, Bool, true, false, ◌&&◌, ◌==◌, Some, None, Result, Ok, Err, List, [], ◌∷◌, ◌++◌, length, refl, sym, ◌∙◌, ap}
 use Rattle.std.specs.Prelude.{IfOk, is_none, position, string_bytes}
 use Rattle.std.specs.Str.{bytes_eq}
 use Rattle.history.specs.Homes.{NamedHome, home_fault}
-use Rattle.history.specs.declared.entry.HomeFault.{HomeFault}
 use Rattle.scripts.specs.Lines.{Word}
 use Rattle.scripts.specs.Scripts.{is_among, may_head}
 use Rattle.scripts.specs.declared.line.ZoneLine.{ZoneLine}
@@ -18,7 +17,7 @@ use Rattle.scripts.specs.declared.line.Line.TheVariants as lines
 use Rattle.scripts.specs.declared.script.Draft.{Draft}
 use Rattle.scripts.specs.HeadHomes.{NamedHomes}
 use Rattle.scripts.specs.KeptLines.{head_said}
-use Rattle.scripts.specs.Drafts.{Taken, HasLink, HasReverse, HasZone, HeadGrowsBy, TakesLine, known_of, taken_of}
+use Rattle.scripts.specs.Drafts.{HasLink, HasReverse, HasZone, HeadGrowsBy, TakesLine, known_of, taken_of}
 use Rattle.scripts.proofs.lines.MoreLines.{some-allowed}
 use Rattle.scripts.proofs.lines.Numbers.{any-found, none-any}
 

@@ -1,7 +1,7 @@
 -- A further line behind others.
 --     no_lines      before the first line
 --     adds      what a line that may stand there makes of them
-use Rattle.std.proofs.Common.{◌≡◌, ℕ, ◌+◌, Bool, true, false, cond, not, ◌||◌, ◌==◌, Option, Some, None, List, [], ◌∷◌, ◌++◌, map, find, length, zero, suc, refl, sym, ◌∙◌, ap, subst, arith, length-append, append_assoc}
+use Rattle.std.proofs.Common.{◌≡◌, ℕ, ◌+◌, Bool, true, false, cond, not, ◌||◌, ◌==◌, Option, Some, None, List, [], ◌∷◌, ◌++◌, find, length, zero, suc, refl, sym, ◌∙◌, ap, subst, arith, length-append, append_assoc}
 use Rattle.std.specs.Prelude.{is_some, option_map, option_to_list, string_bytes, All, filter_map, position}
 use Rattle.std.specs.List.{list_any}
 use Rattle.std.specs.declared.alloc.Global.{Global}
@@ -36,7 +36,7 @@ use Rattle.scripts.specs.declared.event.Event.TheVariants as events
 use Rattle.scripts.specs.declared.line.Line.{Line}
 use Rattle.scripts.specs.declared.line.Line.TheVariants as lines
 use Rattle.scripts.specs.KeptLines.{head_said, happening_said, said}
-use Rattle.scripts.specs.Events.{words_known, client_at, event_said, each_said, IsNamed, Follow}
+use Rattle.scripts.specs.Events.{words_known, client_at, event_said, each_said, IsNamed}
 use Rattle.scripts.specs.HeadHomes.{no_homes}
 use Rattle.scripts.specs.Drafts.{Taken, nothing_taken, head_of, head_taken, known_of, known_by, may_stand, StandsFor, with_zone, HasZone, with_link, HasLink, HasReverse, HeadGrowsBy, GrowsBy, AreEvents, HaveMade}
 use Rattle.scripts.proofs.lines.ChangedPlaces.{changed-each}
@@ -241,7 +241,7 @@ event_heads head (event_lines.Passing word way) = refl
 event_heads head (event_lines.Client word event) = refl
 event_heads head (event_lines.Session word event) = refl
 
-none-joins : (e : EventLine) → client_word (happening_said e) ≡ None
+pub none-joins : (e : EventLine) → client_word (happening_said e) ≡ None
 none-joins (event_lines.Hub event) = refl
 none-joins (event_lines.Link word event) = refl
 none-joins (event_lines.Call word call) = refl

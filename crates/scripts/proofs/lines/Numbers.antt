@@ -4,7 +4,7 @@
 --     client-here, few-here      the client that joins, and its number
 --     seen, unseen, client-party      whether a client of a word has joined, by its number
 --     numbered-link, unnumbered-link, .., unnumbered-client      the event of a line
-use Rattle.std.proofs.Common.{◌≡◌, ℕ, zero, suc, ◌+◌, ◌<◌, Bool, true, false, cond, ◌||◌, Option, Some, None, List, [], ◌∷◌, ◌++◌, length, map, refl, sym, ◌∙◌, ap, subst, arith, append_assoc}
+use Rattle.std.proofs.Common.{◌≡◌, ℕ, zero, suc, ◌<◌, Bool, true, false, cond, ◌||◌, Option, Some, None, List, [], ◌∷◌, ◌++◌, length, map, refl, sym, ◌∙◌, ap, subst, arith, append_assoc}
 use Rattle.std.specs.Prelude.{find, get_or, position, is_some, option_map, option_to_list, filter_map, string_bytes}
 use Rattle.std.specs.List.{cons_option, list_any}
 use Rattle.std.specs.declared.alloc.Global.{Global}

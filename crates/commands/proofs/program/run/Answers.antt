@@ -2,7 +2,7 @@ use Rattle.std.proofs.Common.{Some, None, refl, sym, ◌∙◌, ap}
 use Rattle.scripts.proofs.ReadPieces.{lost_none}
 use Rattle.commands.specs.Command.{asked}
 use Rattle.commands.proofs.Running.{usage_answered, input_answered, path_answered, number_answered}
-use Rattle.commands.proofs.Promises.{replies_written, promises_kept}
+use Rattle.commands.proofs.Promises.{replies_written, promises_kept, relayed_truly}
 use Rattle.commands.proofs.Following.{followed, not-followed, none-known}
 use Rattle.commands.proofs.Serving.{serves_so, not-served, none-known as none-known-served}
 use Rattle.commands.specs.Words.{On_input, At_path, Big, Serve, Subscribe}
@@ -18,13 +18,13 @@ pub returns-in-Some-OnInput-clause-replied : goal.returns-in-Some-OnInput-clause
 returns-in-Some-OnInput-clause-replied g c =
     let is = ap (λ x. Some (asked x)) (sym c.in-Some-OnInput.field-0-is) ∙ c.in-Some-OnInput.ensures in
     replies_written c.sends_are_answered.ensures.asks c.lone_clients_react_to_each_message.ensures _ _
-    (λ octets may. input_answered c.replies_are_one.ensures.one _ _ _ c.in-Some-OnInput.task _ _ _ _ _ octets _ _ is c.code-in-Some-OnInput.ensures c.on_source.ensures.replied may)
+    (λ octets may. input_answered c.whole_replies_are_one.ensures.one _ _ _ c.in-Some-OnInput.task _ _ _ _ _ octets _ _ is c.code-in-Some-OnInput.ensures c.on_source.ensures.replied may)
 
 pub returns-in-Some-AtPath-clause-replied : goal.returns-in-Some-AtPath-clause-replied
 returns-in-Some-AtPath-clause-replied g c =
     let is = ap (λ x. Some (asked x)) (sym c.in-Some-AtPath.field-0-is) ∙ c.in-Some-AtPath.ensures in
     replies_written c.sends_are_answered.ensures.asks c.lone_clients_react_to_each_message.ensures _ _
-    (λ octets may. path_answered c.replies_are_one.ensures.one _ _ _ c.in-Some-AtPath.task c.in-Some-AtPath.path.now _ _ _ _ _ octets _ _ is c.code-in-Some-AtPath.ensures (c.at_path-outcome.ensures.replied octets) may)
+    (λ octets may. path_answered c.whole_replies_are_one.ensures.one _ _ _ c.in-Some-AtPath.task c.in-Some-AtPath.path.now _ _ _ _ _ octets _ _ is c.code-in-Some-AtPath.ensures (c.at_path-outcome.ensures.replied octets) may)
 
 pub returns-in-None-clause-promises : goal.returns-in-None-clause-promises
 returns-in-None-clause-promises g c = λ octets script asks. promises_kept c.scripts_hold_throughout.ensures.throughout _ octets script asks
@@ -148,3 +148,21 @@ pub returns-in-Some-Serve-clause-shared : goal.returns-in-Some-Serve-clause-shar
 returns-in-Some-Serve-clause-shared g c = λ octets.
     let is = ap (λ x. Some (asked x)) (sym c.in-Some-Serve.field-0-is) ∙ c.in-Some-Serve.ensures in
     shares_so _ c.in-Some-Serve.path.now _ _ _ _ _ _ octets is c.code-in-Some-Serve.ensures (c.serve_at.ensures.shared octets)
+
+pub returns-in-None-clause-relays : goal.returns-in-None-clause-relays
+returns-in-None-clause-relays g c = λ octets script asks. relayed_truly c.scripts_relay_truly.ensures.relays _ octets script asks
+
+pub returns-in-Some-OnInput-clause-relays : goal.returns-in-Some-OnInput-clause-relays
+returns-in-Some-OnInput-clause-relays g c = λ octets script asks. relayed_truly c.scripts_relay_truly.ensures.relays _ octets script asks
+
+pub returns-in-Some-AtPath-clause-relays : goal.returns-in-Some-AtPath-clause-relays
+returns-in-Some-AtPath-clause-relays g c = λ octets script asks. relayed_truly c.scripts_relay_truly.ensures.relays _ octets script asks
+
+pub returns-in-Some-Big-clause-relays : goal.returns-in-Some-Big-clause-relays
+returns-in-Some-Big-clause-relays g c = λ octets script asks. relayed_truly c.scripts_relay_truly.ensures.relays _ octets script asks
+
+pub returns-in-Some-Subscribe-clause-relays : goal.returns-in-Some-Subscribe-clause-relays
+returns-in-Some-Subscribe-clause-relays g c = λ octets script asks. relayed_truly c.scripts_relay_truly.ensures.relays _ octets script asks
+
+pub returns-in-Some-Serve-clause-relays : goal.returns-in-Some-Serve-clause-relays
+returns-in-Some-Serve-clause-relays g c = λ octets script asks. relayed_truly c.scripts_relay_truly.ensures.relays _ octets script asks

@@ -3,11 +3,17 @@ use Rattle.replay.specs.Text.{updates}
 use Rattle.scripts.specs.declared.line.HubEvent.TheVariants as hub_events
 use Rattle.replay.specs.LineCalls.{hub_calls}
 use Rattle.replay.specs.KeptWorlds.{parties_of}
-use Rattle.replay.proofs.worlds.Doing.{if_acts, updates-act}
+use Rattle.replay.proofs.worlds.Doing.{if_acts}
+use Rattle.replay.proofs.halves.Closing.{updates-print}
 use Rattle.replay.proofs.event_lines.update_line.Goals as goal
 
-pub returns-in-Ok : goal.returns-in-Ok
-returns-in-Ok c =
+pub returns : goal.returns
+returns c =
+    let hub = c.args.world.now.hub in
     let known = parties_of c.args.world.now in
-    if_acts (updates c.args.message.now) (hub_calls (hub_events.Update c.args.message.now)) c.args.world.now.hub c.update_uncounted.new.self known known (codes "update " ++ (decimal c.in-Ok.code ++ 10 ∷ [])) c.update_text.result
-    (λ written is. updates-act c.args.world.now.hub c.update_uncounted.new.self known c.args.message.now written c.in-Ok.code c.in-Ok.ensures.ok c.in-Ok.ensures.asks is) c.update_text.ensures
+    let later = c.update_code.new.world.hub in
+    let known_later = parties_of c.update_code.new.world in
+    let message = c.args.message.now in
+    let code = c.in_ok-code.code in
+    if_acts (updates message) (hub_calls (hub_events.Update message)) hub later known known_later (codes "update " ++ (decimal code ++ 10 ∷ [])) c.update_text.result
+    (λ written is. updates-print hub later known known_later message written code c.in_ok-code.ensures is) c.update_text.ensures

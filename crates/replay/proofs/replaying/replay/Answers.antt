@@ -1,7 +1,7 @@
 use Rattle.std.proofs.Common.{◌≡◌, List, ℕ, Err, IfSome, ◌∙◌, ap, refl, subst}
 use Rattle.replay.specs.TextWords.{by_notices}
 use Rattle.scripts.specs.Sources.{front_read}
-use Rattle.replay.specs.ScriptReplies.{reply_to_script}
+use Rattle.replay.specs.WholeTexts.{whole_reply}
 use Rattle.replay.specs.KeptEnds.{AreEnds, ends_with}
 use Rattle.scripts.specs.Outcomes.{status_of}
 use Rattle.scripts.proofs.Written.{answered, always, unread_is, starved_is, replied, replied_as}
@@ -12,26 +12,26 @@ use Rattle.replay.proofs.replaying.replay.Goals as goal
 
 pub returns-in-Err-Failed-clause-replied : goal.returns-in-Err-Failed-clause-replied
 returns-in-Err-Failed-clause-replied g c =
-    replied_as (reply_to_script by_notices) _ _ _ _ _ _ c.without_ends.ensures.outcome
-    (always _ _ (λ octets. let reply = reply_to_script by_notices (front_read octets) in answered _ reply _ _ _ _ _ (unread_is _ reply (c.in-Err-Failed.ensures.failed (ap Err c.in-Err-Failed.field-0-is))) c.tell.ensures.told))
+    replied_as (whole_reply by_notices) _ _ _ _ _ _ c.without_ends.ensures.outcome
+    (always _ _ (λ octets. let reply = whole_reply by_notices (front_read octets) in answered _ reply _ _ _ _ _ (unread_is _ reply (c.in-Err-Failed.ensures.failed (ap Err c.in-Err-Failed.field-0-is))) c.tell.ensures.told))
 
 pub returns-in-Err-NoMemory-clause-replied : goal.returns-in-Err-NoMemory-clause-replied
 returns-in-Err-NoMemory-clause-replied g c =
-    replied_as (reply_to_script by_notices) _ _ _ _ _ _ c.without_ends-in-Err-NoMemory.ensures.outcome
-    (always _ _ (λ octets. let reply = reply_to_script by_notices (front_read octets) in answered _ reply _ _ _ _ _ (starved_is _ reply) c.tell-in-Err-NoMemory.ensures.told))
+    replied_as (whole_reply by_notices) _ _ _ _ _ _ c.without_ends-in-Err-NoMemory.ensures.outcome
+    (always _ _ (λ octets. let reply = whole_reply by_notices (front_read octets) in answered _ reply _ _ _ _ _ (starved_is _ reply) c.tell-in-Err-NoMemory.ensures.told))
 
 pub returns-in-Ok-reply_to-clause-replied : goal.returns-in-Ok-reply_to-clause-replied
 returns-in-Ok-reply_to-clause-replied g c =
     let told = c.in-Ok-reply_to.field-0.outcome in
-    replied_as (reply_to_script by_notices) _ _ _ _ _ _ c.with_ends.ensures.outcome
-    (replied (reply_to_script by_notices) _ _ _ _ c.in-Ok.script.items _ _ told _ c.in-Ok.ensures.octets
-    (ap (λ t. record { status = status_of told; text = t }) c.as_bytes.ensures.value ∙ c.in-Ok-reply_to.ensures.exact ∙ ap (reply_to_script by_notices) c.deref.ensures.value)
+    replied_as (whole_reply by_notices) _ _ _ _ _ _ c.with_ends.ensures.outcome
+    (replied (whole_reply by_notices) _ _ _ _ c.in-Ok.script.items _ _ told _ c.in-Ok.ensures.octets
+    (ap (λ t. record { status = status_of told; text = t }) c.as_bytes.ensures.value ∙ c.in-Ok-reply_to.ensures.exact ∙ ap (whole_reply by_notices) c.deref.ensures.value)
     refl c.tell-in-Ok-reply_to.ensures.told)
 
 pub returns-clause-replied : goal.returns-clause-replied
 returns-clause-replied g c =
-    replied_as (reply_to_script by_notices) _ _ _ _ _ _ c.without_ends-in-Err.ensures.outcome
-    (always _ _ (λ octets. let reply = reply_to_script by_notices (front_read octets) in answered _ reply _ _ _ _ _ (starved_is _ reply) c.tell-in-Err.ensures.told))
+    replied_as (whole_reply by_notices) _ _ _ _ _ _ c.without_ends-in-Err.ensures.outcome
+    (always _ _ (λ octets. let reply = whole_reply by_notices (front_read octets) in answered _ reply _ _ _ _ _ (starved_is _ reply) c.tell-in-Err.ensures.told))
 
 -- ---- what is left
 

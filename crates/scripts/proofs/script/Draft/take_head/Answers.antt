@@ -1,4 +1,4 @@
-use Rattle.std.proofs.Common.{◌≡◌, true, ◌==◌, IfOk, length, sym, ◌∙◌, subst}
+use Rattle.std.proofs.Common.{IfOk, sym, ◌∙◌, subst}
 use Rattle.scripts.specs.declared.line.HeadLine.{HeadLine}
 use Rattle.scripts.specs.declared.line.HeadLine.TheVariants as heads
 use Rattle.scripts.specs.declared.line.Line.TheVariants as lines

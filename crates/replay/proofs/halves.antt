@@ -1,0 +1,9 @@
+pub mod TurnClasses
+pub mod HalfLines
+pub mod Played
+pub mod TurnsDone
+pub mod Starting
+pub mod FirstEvents
+pub mod Weaving
+pub mod Closing
+pub mod HeldSets

@@ -1,6 +1,0 @@
-use Rattle.std.proofs.Common.{◌∙◌, arith}
-use Rattle.rrset.proofs.LowerOrder.{lower_end}
-use Rattle.rrset.proofs.order.compare_with_lower.Goals as goal
-
-pub returns : goal.returns
-returns c = c.cmp.ensures ∙ lower_end c.args.octets.now c.args.other.now c.octets.index _ (omega arith) c.octets.invariant.1
