@@ -65,15 +65,15 @@ AsksForWhole request octets script = AsksReplay request × (whole_script_of octe
 pub record WritesReplies (request : Option Request) (written : List ℕ → Reply → Type 0) : Type 0 where
   -- what is answered, given these octets
   pub reply : (octets : List ℕ) → written octets (reply_to request octets)
-  -- In every script, at any line, on any session, after any messages, a peer's SUBSCRIBE that meets none of the refusing tests is answered
+  -- In every script of one hub, at any line, on any session, after any messages, a peer's SUBSCRIBE that meets none of the refusing tests is answered
   -- NOERROR, and the PUSH of the first answer follows, where it has notices; what the line tells before and behind it is what was made in
   -- turn. Where the SUBSCRIBE is a peer's first octets, nothing stands before or behind it (`FirstOnesAskAnywhere` of `script_laws`).
   pub asked : (octets : List ℕ) (asked : Asks) (asks : AsksAccepted request (front_read octets) asked) → (answer : AskIsAnswered by_history (front_read octets) asked asks.1)
       × written octets (asked_reply by_history (front_read octets) asked asks.1 answer.front answer.back answer.over)
-  -- In every script, as long as no entry is made, what is told of the pieces in which a peer sends its octets answers the whole messages that
+  -- In every script of one hub, as long as no entry is made, what is told of the pieces in which a peer sends its octets answers the whole messages that
   -- they complete; where the last piece ends its session, the line of the end stands behind it.
   pub pieces : (octets : List ℕ) (sent : SentInPieces) → AsksInPieces request (front_read octets) sent → (told : List (List ℕ)) × TellsInTurn sent told × written octets (pieces_reply by_history sent told)
-  -- in every script a lone client reacts to each whole message that it is fed, one after the other
+  -- in every script of one hub a lone client reacts to each whole message that it is fed, one after the other
   pub fed : (octets : List ℕ) (fed : Fed) → AsksFed request (front_read octets) fed → written octets (fed_reply by_history fed)
 
 -- these may be the octets of the one source that was taken back, if any was

@@ -47,21 +47,22 @@ pub fn run<R: Log + Threads + Wait + Copy + Send + 'static, O: Outside, W: Regis
     outside: &mut O,
     register: &mut W,
 ) -> u8
-    // What is written, for the octets that the source had, as far as they are told: the reply to these; and in scripts what is promised of a
-    // peer's SUBSCRIBE, of octets that come in pieces, and of a lone client that is fed.
+    // What is written, for the octets that the source had, as far as they are told: the reply to these; and in scripts of one hub what is
+    // promised of a peer's SUBSCRIBE, of octets that come in pieces, and of a lone client that is fed.
     ensures replied { WritesReplies (request_in words.now)
         (IsAnswered (request_in words.now) (O.In.left input.old) (O.told outside.old).used (O.told outside.new).used (O.Out.taken out.old) (O.Out.taken out.new)
         (O.In.faults input.old) (O.In.faults input.new) (O.reads outside.old) (O.reads outside.new) result) }
 
-    // In every script no `held` line shows an earlier point than one before it of that client and question, and right after a settle each
+    // In every script of one hub no `held` line shows an earlier point than one before it of that client and question, and right after a settle each
     // question that a client wants, and that is served, is held with the newest records. After each line what is under way fits, and what
     // clients hold is the history; no message ends a session, unless it falls behind, or closes its client, but a Retry Delay; and each message
     // that comes to a session has its turn, in which what the server's table tells is done.
     ensures promises { (octets : List ℕ) (script : List ScriptLine) → AsksFor (request_in words.now) (front_read octets) script → HoldsThroughout script }
 
     // In every script that may have a second hub all of this holds of what the lines are to either hub. A carry is answered 0, and the second
-    // zone has its set, or 5, where it would have too many records. What a far client shows of a name was carried: the records of the first hub at
-    // the point of the last carry before its own point. It never goes back, and right after a settle it is what was carried last.
+    // zone has its set, or 5, where it would have too many records. What a far client shows of a name, but for the second zone's own, was carried: the
+    // records of the first hub at the point of the last carry answered 0 before its own point, or nothing, where there was none. It never goes
+    // back, and right after a settle it is what was carried last.
     ensures relays { (octets : List ℕ) (script : List WholeLine) → AsksForWhole (request_in words.now) (front_read octets) script → RelaysTruly script }
 
     // A subscriber dials the server of its configuration, says what it reads, and sends what is to be sent for that.

@@ -1,4 +1,5 @@
 pub mod Adding
 pub mod Messages
+pub mod Taken
 pub mod Accepting
 pub mod Counts

@@ -8,6 +8,7 @@ ghost use Rattle.rrset.specs.RecordSet.{size_of};
 ghost use Rattle.rrset.specs.Records.{rr_of};
 ghost use Rattle.dnswire.specs.Writing.{record_octets, update_octets};
 ghost use Rattle.relay.specs.Relay.{carrying, relayed, unfit_kind};
+ghost use Rattle.relay.specs.Laws.{IsShort, IsTaken};
 
 use dnsname::Name;
 use dnswire::writing::{message_header, write_question, write_record, write_shown};
@@ -102,7 +103,8 @@ fn record_size(shown: &Shown) -> u64
 }
 
 /// What becomes of a set of a name that is to be carried into a zone: the message that gives the zone this set in place of
-/// what it has at the name, of at most 60,481 octets, or why there is none.
+/// what it has at the name, or why there is none. Of what a client holds, and under a zone whose name has at most 200 octets, the
+/// message has at most 60,481 octets, and such a zone takes it, unless it would have too many records (RFC 2136, 3.4.2).
 pub fn relay_update(
     alloc: Global,
     zone: &Name,
@@ -111,7 +113,9 @@ pub fn relay_update(
     id: u16,
 ) -> Result<Relayed, NoMemory>
     requires { size_of set.now.rows ≤ max_octets_at_name }
-    ensures { IfOk result (λ what. what ≡ relayed zone.now name.now set.now.rows id) }
+    ensures exact { IfOk result (λ what. what ≡ relayed zone.now name.now set.now.rows id) }
+    ensures short { IfOk result (IsShort zone.now name.now set.now.rows) }
+    ensures taken { IfOk result (IsTaken zone.now name.now set.now.rows) }
 {
     if name.same(zone) {
         return Ok(Relayed::Apex);

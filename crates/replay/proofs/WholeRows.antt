@@ -95,7 +95,7 @@ pub far_behind_an_event : Refuses (codes "client c" ∷ codes "far example.com. 
 unfolding digits
 far_behind_an_event = refl
 
--- a line that neither is about a second hub nor of a head may stand anywhere, and names of clients are those of both hubs
+-- the words of clients are those of both hubs
 pub two_of_one_word : Refuses (codes "far example.com. 1" ∷ codes "farclient d" ∷ codes "client d" ∷ []) (codes "line 3" ∷ [])
 unfolding digits
 two_of_one_word = refl

@@ -58,7 +58,7 @@ abbrev pub left_fed : Fed → Option CloseReason → Seat
 left_fed fed None = record fed.seat { client = with_input (messages_fed fed).1 (without_output (reacted_to fed).client) }
 left_fed fed (Some reason) = cut_seat (record fed.seat { client = (reacted_to fed).client })
 
--- so it is in every script
+-- so it is in every script of one hub
 abbrev pub FeedsAsMessages : Type 0
 FeedsAsMessages = (script : List ℕ) (fed : Fed) → FeedsLone script fed
     → ((records : HeldRecords) → reply_to_script records script ≡ fed_reply records fed) × (seat_of (world_behind (fed_between fed)) fed.word ≡ Some (left_fed fed (closed_as (reacted_to fed).client)))

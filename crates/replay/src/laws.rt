@@ -28,7 +28,7 @@ pub fn clients_take_pieces()
     ensures fed { FeedsPieces }
 {}
 
-/// In every script a line that feeds a lone client that is connected prints all that the client has to send once it has reacted
+/// In every script of one hub a line that feeds a lone client that is connected prints all that the client has to send once it has reacted
 /// to each whole message in its input and the octets, one after the other, and that it has closed, if it has.
 pub fn lone_clients_react_to_each_message()
     ensures { FeedsAsMessages }

@@ -22,11 +22,11 @@ use std::alloc::Global;
 pub struct Replayed {
     /// How it ended.
     pub outcome: Outcome,
-    /// The hub and the clients, where the text of the script was written.
+    /// The hubs and the clients, where the text of the script was written.
     pub ends: Option<Ends>,
 }
 
-/// Reads a script and writes what it is answered, and hands back the hub and the clients that ran it.
+/// Reads a script and writes what it is answered, and hands back the hubs and the clients that ran it.
 pub fn replay<S: Source, K: Sink>(alloc: Global, source: &mut S, sink: &mut K) -> Replayed
     ensures replied { IfSome (S.left source.old) (λ octets. Took (K.taken sink.old) (K.taken sink.new)
         (Answers (Rose (S.faults source.old) (S.faults source.new)) (whole_reply by_notices (front_read octets)) (status_of result.outcome))) }

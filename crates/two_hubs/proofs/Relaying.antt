@@ -3,9 +3,11 @@
 --     relays-truly      all of it
 --     whole-replays-mirror      what a replay hands back
 use Rattle.std.proofs.Common.{◌≡◌, ℕ, List, [], ◌∷◌, refl, ap, sym, subst, ◌∙◌, append-nil}
+use Rattle.std.specs.Prelude.{IfSome}
 use Rattle.std.specs.List.{AllZip}
 use Rattle.scripts.specs.WholeLines.{WholeLine}
 use Rattle.scripts.specs.WholeScripts.{near_lines, near_lines_from}
+use Rattle.pushserver.specs.KeptHubs.{StandsFor}
 use Rattle.replay.specs.KeptEnds.{AreEnds}
 use Rattle.replay.specs.Promises.{ClientStandsFor, EndsStandFor}
 use Rattle.replay.specs.Text.{world_after}
@@ -74,5 +76,6 @@ whole-replays-mirror octets ends script leaves read =
       far = all.far;
       clients = all.clients ∙ ap (λ (w : Worlds). woven w.order all.near all.far) same;
       first = subst (EndsStandFor by_history ends.hub.hub all.near) (sym h.0) first;
+      second = subst (λ (w : Worlds). IfSome ends.far (λ hub. StandsFor hub.hub w.far.hub)) same all.second;
       others = all-as-history reached-sessions standing.0 behind.far standing.1 all.far behind.far.seats standing.1.seats others;
     }

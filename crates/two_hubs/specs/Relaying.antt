@@ -3,8 +3,9 @@
 --     AreHalves script      behind some of its lines each world is that of what they are to its hub
 --     RelaysTruly script, EveryScriptRelays      all of it, of a script and of every text that is one
 --     AreMirrors script ends, WholeReplaysMirror      the sets of the clients that ran it are the histories'
-use Rattle.std.specs.Prelude.{◌≡◌, ℕ, List, ◌++◌, Ok}
+use Rattle.std.specs.Prelude.{◌≡◌, ℕ, List, ◌++◌, Ok, IfSome}
 use Rattle.std.specs.List.{AllZip}
+use Rattle.pushserver.specs.KeptHubs.{StandsFor}
 use Rattle.pushclient.specs.Rule.{KeptClient}
 use Rattle.scripts.specs.Lines.{ScriptLine}
 use Rattle.scripts.specs.WholeLines.{WholeLine}
@@ -56,6 +57,7 @@ pub record AreMirrors (script : List WholeLine) (ends : Ends) : Type 0 where
   pub far : List KeptClient
   pub clients : ends.clients.items ≡ woven (worlds_after by_history script (start_worlds script)).order near far
   pub first : EndsStandFor by_history ends.hub.hub near (worlds_after by_history script (start_worlds script)).near
+  pub second : IfSome ends.far (λ hub. StandsFor hub.hub (worlds_after by_history script (start_worlds script)).far.hub)
   pub others : AllZip (ClientStandsFor by_history (worlds_after by_history script (start_worlds script)).far) far (worlds_after by_history script (start_worlds script)).far.seats
 
 abbrev pub WholeReplaysMirror : Type 0

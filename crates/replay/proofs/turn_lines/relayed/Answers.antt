@@ -17,4 +17,4 @@ relay_update-requires c = fits-is (size_of c.in-Some-held_set.set.now.rows) c.if
 pub returns : goal.returns
 returns c =
     let rows = c.in-Some-held_set.set.now.rows in
-    relays-set c.args.worlds.now c.args.client c.args.question.now (Some rows) c.in-Some.apex rows c.in_ok-relay_update.field-0 c.in-Some-held_set.ensures refl c.in-Some.is c.in_ok-relay_update.ensures
+    relays-set c.args.worlds.now c.args.client c.args.question.now (Some rows) c.in-Some.apex rows c.in_ok-relay_update.field-0 c.in-Some-held_set.ensures refl c.in-Some.is c.in_ok-relay_update.ensures.exact
