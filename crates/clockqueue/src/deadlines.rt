@@ -42,6 +42,22 @@ fn compare<K: Ord>(deadline: &(u64, K), moment: u64, key: &K) -> Ordering
     }
 }
 
+/// Which deadline from `low` up to `high` a search looks at: the last of all first, and then the first of all, as most
+/// come to the end, and go from the front.
+fn look_at(low: usize, high: usize, len: usize) -> usize
+    requires { low < high }
+    ensures first { low ≤ result }
+    ensures last { result < high }
+{
+    if high == len {
+        return high - 1;
+    }
+    if low == 0 {
+        return low;
+    }
+    low + (high - low) / 2
+}
+
 /// Where a deadline is, or where it would go.
 fn search<K: Ord + Drop>(entries: &Tier<(u64, K)>, moment: u64, key: &K) -> Result<usize, usize>
     requires { AreDeadlines K.cmp entries.now.items }
@@ -51,7 +67,7 @@ fn search<K: Ord + Drop>(entries: &Tier<(u64, K)>, moment: u64, key: &K) -> Resu
     let mut low = 0;
     let mut high = entries.len();
     'halves: while low < high {
-        let middle = low + (high - low) / 2;
+        let middle = look_at(low, high, entries.len());
         match compare(entries.at(middle), moment, key) {
             Ordering::Less => low = middle + 1,
             Ordering::Greater => high = middle,

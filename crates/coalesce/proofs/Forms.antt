@@ -8,7 +8,7 @@ use Rattle.std.proofs.lemmas.Cmp.{nat_list_cmp_total}
 use Rattle.std.specs.Ordering.{nat_cmp, ordering_then, is_lt}
 use Rattle.std.specs.declared.cmp.Ordering.TheVariants.{Less, Equal, Greater}
 use Rattle.std.specs.List.{list_all, dedup_from}
-use Rattle.std.proofs.lemmas.Bool.{and_parts, leb-true, ltb-true, eqb-true, le-ltb, lt-ltb}
+use Rattle.std.proofs.lemmas.Bool.{and_parts, leb-true, ltb-true, ltb-false, eqb-true, le-ltb, lt-ltb}
 use Rattle.std.proofs.lemmas.List.{length-append}
 use Rattle.std.proofs.lemmas.Grind.{flat_map-append}
 use Rattle.push_base.specs.Cases.{is_empty}
@@ -78,7 +78,7 @@ kinds_rise name e (f ∷ fs) is =
       kinds_rise name f fs (record { order = and_right (below_all key_cmp e.0 (f ∷ fs)) (is_in_order (f ∷ fs)) is.order; own = own.1; sent = all.1 }),
     )
 
-rise : (rows : RecordSet) → IsOneSide rows → RiseFrom 0 rows
+pub rise : (rows : RecordSet) → IsOneSide rows → RiseFrom 0 rows
 rise [] one = tt
 rise (e ∷ es) one = (omega arith, kinds_rise one.0 e es (side one.0 (e ∷ es) one.1))
 
@@ -105,33 +105,33 @@ gone_form-several k x xs other = ap (λ (b : Bool). gone_form (cond b (dedup_fro
 counted_sum : (single r a s : ℕ) → s ≡ r + a → single ≡ min (min r (2 ^ 64 - 1) + min a (2 ^ 64 - 1)) (2 ^ 64 - 1) → single ≡ min s (2 ^ 64 - 1)
 counted_sum single r a s parts is = omega arith
 
-exact_sum : (anew first a t : ℕ) → t ≡ first + a → t < 2 ^ 64 - 1 → anew ≡ min (first + min a (2 ^ 64 - 1)) (2 ^ 64 - 1) → anew ≡ t
-exact_sum anew first a t parts small is = omega arith
-
 -- both forms' sizes, as they are counted
 pub record AreCounted (name : Labels) (old new : RecordSet) (single anew : ℕ) : Type 0 where
   pub singly : single ≡ counted (size_of_notices (single_changes name old new))
   pub newly : anew ≡ size_of_notices (all_anew name new)
   pub small : size_of_notices (all_anew name new) ≤ max_net_size
 
-pub are_counted : (name : Labels) (old new : RecordSet) (removed changed single all first anew : ℕ) → AreOfOneName old new → IsTrue (can_be_sent new) → name ≡ owner_of (old ++ new)
+-- the octets of the single changes, as they are counted
+pub single_counted : (name : Labels) (old new : RecordSet) (removed changed single : ℕ) → IsOneSide old
     → removed ≡ counted (size_of_notices (removals_behind name new None old)) → changed ≡ counted (size_of_notices (additions_to old new)) → single ≡ min (removed + changed) (2 ^ 64 - 1)
-    → first ≡ length (octets name) + 10 + 0 → all ≡ counted (size_of_notices (additions new)) → anew ≡ min (first + all) (2 ^ 64 - 1)
-    → AreCounted name old new single anew
-are_counted name old new removed changed single all first anew (owner, one, two) can named removed-is changed-is single-is first-is all-is anew-is =
+    → single ≡ counted (size_of_notices (single_changes name old new))
+single_counted name old new removed changed single one removed-is changed-is single-is =
+    let split = ap size_of_notices (single_is name old new one) ∙ size_of_notices-append (removals_behind name new None old) (additions_to old new) in
+    counted_sum single (size_of_notices (removals_behind name new None old)) (size_of_notices (additions_to old new)) (size_of_notices (single_changes name old new)) split
+    (single-is ∙ (λ i. min (removed-is i + changed-is i) (2 ^ 64 - 1)))
+
+-- the octets of all anew
+pub record IsAnew (name : Labels) (new : RecordSet) (first : ℕ) : Type 0 where
+  pub split : size_of_notices (all_anew name new) ≡ first + size_of_notices (additions new)
+  pub small : size_of_notices (all_anew name new) ≤ max_net_size
+
+anew_counted : (name : Labels) (old new : RecordSet) (first : ℕ) → AreOfOneName old new → IsTrue (can_be_sent new) → name ≡ owner_of (old ++ new) → first ≡ length (octets name) + 10 + 0 → IsAnew name new first
+anew_counted name old new first (owner, one, two) can named first-is =
     let parts = and_parts (list_all (λ (e : Key × Shown). nat_le e.1.ttl last_ttl) new) (nat_le (size_of new) max_octets_at_name) can in
     let size : size_of new ≤ max_octets_at_name = leb-true (size_of new) max_octets_at_name parts.1 in
     let whole = size_of-all_anew name new in
     let short = (subst IsName (sym named) (owner_has_name owner old new (side owner old one) (side owner new two))).size in
-    let small : size_of_notices (all_anew name new) ≤ max_net_size = omega (arith, size, whole, short) in
-    let split = ap size_of_notices (single_is name old new (owner, one)) ∙ size_of_notices-append (removals_behind name new None old) (additions_to old new) in
-    let split' : size_of_notices (all_anew name new) ≡ first + size_of_notices (additions new) = omega (arith, whole, first-is, size_of-additions new) in
-    record {
-      singly = counted_sum single (size_of_notices (removals_behind name new None old)) (size_of_notices (additions_to old new)) (size_of_notices (single_changes name old new)) split
-          (single-is ∙ (λ i. min (removed-is i + changed-is i) (2 ^ 64 - 1)));
-      newly = exact_sum anew first (size_of_notices (additions new)) (size_of_notices (all_anew name new)) split' (omega arith) (anew-is ∙ ap (λ n. min (first + n) (2 ^ 64 - 1)) all-is);
-      small = small;
-    }
+    record { split = omega (arith, whole, first-is, size_of-additions new); small = omega (arith, size, whole, short) }
 
 -- what is there isn't the same, and isn't empty
 net-shorter : (old new : RecordSet) → same_rows old new ≡ false → is_empty new ≡ false → net old new ≡ shorter (single_changes (owner_of (old ++ new)) old new) (all_anew (owner_of (old ++ new)) new)
@@ -151,25 +151,63 @@ below_counted anew single s t singly newly h = omega arith
 at_most_counted : (anew single s t : ℕ) → single ≡ min s (2 ^ 64 - 1) → anew ≡ t → t ≤ max_net_size → single ≤ anew → (s ≤ t) × (single ≡ s)
 at_most_counted anew single s t singly newly small h = (omega arith, omega arith)
 
+-- both sides aren't the same
+pub same_false : (old new left right : RecordSet) → left ≡ old → right ≡ new → same_rows left right ≡ false → same_rows old new ≡ false
+same_false old new left right old-is new-is differ = sym (λ i. same_rows (old-is i) (new-is i)) ∙ differ
+
 -- the net in a form, and its size
 pub record IsPlanned (old new : RecordSet) (notices : List Notice) (size : ℕ) : Type 0 where
   pub is_net : notices ≡ net old new
   pub is_size : size ≡ size_of_notices (net old new)
 
-pub anew_planned : (name : Labels) (old new : RecordSet) (single anew : ℕ) → name ≡ owner_of (old ++ new) → same_rows old new ≡ false → is_empty new ≡ false
+anew_planned : (name : Labels) (old new : RecordSet) (single anew : ℕ) → name ≡ owner_of (old ++ new) → same_rows old new ≡ false → is_empty new ≡ false
     → AreCounted name old new single anew → anew < single → IsPlanned old new (all_anew name new) anew
 anew_planned name old new single anew named other some counts h =
     let short = shorter-second (single_changes name old new) (all_anew name new) (below_counted anew single (size_of_notices (single_changes name old new)) (size_of_notices (all_anew name new)) counts.singly counts.newly h) in
     let whole : all_anew name new ≡ net old new = sym short ∙ ap (λ n. shorter (single_changes n old new) (all_anew n new)) named ∙ sym (net-shorter old new other some) in
     record { is_net = whole; is_size = counts.newly ∙ ap size_of_notices whole }
 
-pub single_planned : (name : Labels) (old new : RecordSet) (single anew : ℕ) → name ≡ owner_of (old ++ new) → same_rows old new ≡ false → is_empty new ≡ false
+single_planned : (name : Labels) (old new : RecordSet) (single anew : ℕ) → name ≡ owner_of (old ++ new) → same_rows old new ≡ false → is_empty new ≡ false
     → AreCounted name old new single anew → single ≤ anew → IsPlanned old new (single_changes name old new) single
 single_planned name old new single anew named other some counts h =
     let least = at_most_counted anew single (size_of_notices (single_changes name old new)) (size_of_notices (all_anew name new)) counts.singly counts.newly counts.small h in
     let short = shorter-first (single_changes name old new) (all_anew name new) least.0 in
     let whole : single_changes name old new ≡ net old new = sym short ∙ ap (λ n. shorter (single_changes n old new) (all_anew n new)) named ∙ sym (net-shorter old new other some) in
     record { is_net = whole; is_size = least.1 ∙ ap size_of_notices whole }
+
+-- the octets of the records that are there, where they are at most so many, or else a number above that
+pub record IsUpTo (new : RecordSet) (most all : ℕ) : Type 0 where
+  pub within : all ≤ most → all ≡ counted (size_of_notices (additions new))
+  pub beyond : most < all → most < counted (size_of_notices (additions new))
+
+newly_sum : (single s a t first all anew : ℕ) → single ≡ min s (2 ^ 64 - 1) → t ≡ first + a → t ≤ max_net_size → (all ≤ single → all ≡ min a (2 ^ 64 - 1)) → anew ≡ min (first + all) (2 ^ 64 - 1) → anew < single → anew ≡ t
+newly_sum single s a t first all anew single-is split small within anew-is less =
+    let low : all ≤ single = omega (arith, single-is, anew-is, less) in
+    let is = within low in
+    omega (arith, single-is, split, small, is, anew-is, less)
+
+singly_least : (single s a t first all anew : ℕ) → t ≡ first + a → t ≤ max_net_size → (all ≤ single → all ≡ min a (2 ^ 64 - 1)) → (single < all → single < min a (2 ^ 64 - 1)) → anew ≡ min (first + all) (2 ^ 64 - 1) → single ≤ anew → single ≤ t
+singly_least single s a t first all anew split small within beyond anew-is least = by (nat_lt single all) refl
+  where
+    by : (b : Bool) → nat_lt single all ≡ b → single ≤ t
+    by true less = let more = beyond (ltb-true single all less) in omega (arith, split, more)
+    by false more = let is = within (ltb-false single all more) in omega (arith, split, small, is, anew-is, least)
+
+pub newly_planned : (name : Labels) (old new : RecordSet) (single first all anew : ℕ) → AreOfOneName old new → IsTrue (can_be_sent new) → name ≡ owner_of (old ++ new) → same_rows old new ≡ false → is_empty new ≡ false
+    → single ≡ counted (size_of_notices (single_changes name old new)) → first ≡ length (octets name) + 10 + 0 → IsUpTo new single all → anew ≡ min (first + all) (2 ^ 64 - 1)
+    → anew < single → IsPlanned old new (all_anew name new) anew
+newly_planned name old new single first all anew sides can named other some singly first-is up anew-is less =
+    let is = anew_counted name old new first sides can named first-is in
+    let newly = newly_sum single (size_of_notices (single_changes name old new)) (size_of_notices (additions new)) (size_of_notices (all_anew name new)) first all anew singly is.split is.small up.within anew-is less in
+    anew_planned name old new single anew named other some (record { singly = singly; newly = newly; small = is.small }) less
+
+pub singly_planned : (name : Labels) (old new : RecordSet) (single first all anew : ℕ) → AreOfOneName old new → IsTrue (can_be_sent new) → name ≡ owner_of (old ++ new) → same_rows old new ≡ false → is_empty new ≡ false
+    → single ≡ counted (size_of_notices (single_changes name old new)) → first ≡ length (octets name) + 10 + 0 → IsUpTo new single all → anew ≡ min (first + all) (2 ^ 64 - 1)
+    → single ≤ anew → IsPlanned old new (single_changes name old new) single
+singly_planned name old new single first all anew sides can named other some singly first-is up anew-is least =
+    let is = anew_counted name old new first sides can named first-is in
+    let low = singly_least single (size_of_notices (single_changes name old new)) (size_of_notices (additions new)) (size_of_notices (all_anew name new)) first all anew is.split is.small up.within up.beyond anew-is least in
+    single_planned name old new single (size_of_notices (all_anew name new)) named other some (record { singly = singly; newly = refl; small = is.small }) low
 
 -- ---- the frame of a net
 

@@ -1,6 +1,6 @@
 -- One PUSH of the first names of a queue.
 --     IsAhead nets rest size      so many octets are in the message, and what goes in behind them is packed of the rest
-use Rattle.std.proofs.Common.{◌≡◌, ◌⊎◌, inl, inr, ℕ, ◌+◌, ◌-◌, ◌<◌, ◌≤◌, ◌≢◌, Bool, true, false, List, [], ◌∷◌, ◌++◌, map, length, take, append_assoc, sym, subst, ap, refl, ◌∙◌, arith}
+use Rattle.std.proofs.Common.{◌≡◌, ◌⊎◌, inl, inr, ℕ, ◌+◌, ◌-◌, ◌<◌, ◌≤◌, ◌≢◌, Bool, true, false, List, [], ◌∷◌, ◌++◌, map, length, drop, take, append_assoc, append-nil, sym, subst, ap, refl, ◌∙◌, arith}
 use Rattle.std.specs.Prelude.{flat_map, nat_le, ◌||◌, ◌==◌, IsTrue}
 use Rattle.std.specs.Int.{w16, to_be_bytes}
 use Rattle.std.proofs.lemmas.Bool.{leb-true, eqb-true}
@@ -15,7 +15,7 @@ use Rattle.coalesce.specs.Laws.{all_notices, can_be_sent}
 use Rattle.coalesce.specs.Net.{net, packed, packed_behind, max_push, size_of_notices, push_frame, max_net_frame, max_net_size, Nets}
 use Rattle.coalesce.specs.Sides.{AreOfOneName, frame_octets}
 use Rattle.coalesce.specs.Steps.{head_of}
-use Rattle.coalesce.specs.Waiting.{WaitingName, old_side, new_side, IsPackable, asked_net, nets_in, packed_of, records_then}
+use Rattle.coalesce.specs.Waiting.{WaitingName, old_side, new_side, IsPackable, asked_net, left_in, nets_in, packed_of, records_then}
 use Rattle.coalesce.proofs.NetSizes.{size_of_notices-append, net-takes, length-push_message}
 use Rattle.coalesce.proofs.Sides.{parts_stay_sides}
 use Rattle.coalesce.proofs.Forms.{net_small}
@@ -124,6 +124,26 @@ gone_is asked rows queue count is =
     ap (λ n. all_notices (nets_in asked rows (take n queue))) first
     ∙ ap all_notices (first_of (λ (w : WaitingName). (w.name, asked_net asked rows w)) p.gone p.left queue p.split)
     ∙ sym p.whole_nets
+
+-- a name that waits alone goes, with its whole net
+lone_packed : (asked : Asked) (rows : RecordSet) (w : WaitingName) → packed_of asked rows (w ∷ []) ≡ (asked_net asked rows w, [])
+lone_packed asked rows w = by (asked_net asked rows w)
+  where
+    by : (ns : List Notice) → packed_behind 0 ((w.name, ns) ∷ []) ≡ (ns, [])
+    by [] = refl
+    by (n ∷ ns) = ap (λ (l : List Notice). (n ∷ l, [])) (append-nil ns)
+
+pub lone_goes : (asked : Asked) (rows : RecordSet) (queue : List WaitingName) (w : WaitingName) (after : List WaitingName) → queue ≡ w ∷ after → length queue ≡ 1 → packed_of asked rows queue ≡ (asked_net asked rows w, [])
+lone_goes asked rows queue w [] is one = ap (packed_of asked rows) is ∙ lone_packed asked rows w
+lone_goes asked rows queue w (v ∷ vs) is one = let size = ap (λ (l : List WaitingName). length l) is in absurd (omega (arith, size, one))
+
+lone_left-first : (asked : Asked) (rows : RecordSet) (queue whole : List WaitingName) → queue ≡ whole → length queue ≡ 1 → drop 1 queue ≡ left_in asked rows queue
+lone_left-first asked rows [] whole is one = cc
+lone_left-first asked rows (w ∷ []) whole is one = ap (λ (p : List Notice × List Labels). drop (1 - length p.1) (w ∷ [])) (sym (lone_packed asked rows w))
+lone_left-first asked rows (v ∷ w ∷ ws) whole is one = absurd (omega (arith, one))
+
+pub lone_left : (asked : Asked) (rows : RecordSet) (queue : List WaitingName) → length queue ≡ 1 → drop 1 queue ≡ left_in asked rows queue
+lone_left asked rows queue one = lone_left-first asked rows queue queue refl one
 
 -- the frame of the first names
 pub push_frame-is : (ns : List Notice) (size : ℕ) → size ≡ size_of_notices ns → size ≢ 0 → push_frame ns ≡ head_of size ++ flat_map notice_octets ns

@@ -80,7 +80,7 @@ all_removals_of_kind name old new kind = by (is_empty (of_kind kind new))
     by true = refl
     by false = all_removed_ones (filter (is_missing new) (of_kind kind old))
 
-none_of : (k : Key) (kind : ℕ) (set : RecordSet) → is_empty (of_kind kind set) ≡ true → (k.kind == kind) ≡ true → shown_at k set ≡ None
+pub none_of : (k : Key) (kind : ℕ) (set : RecordSet) → is_empty (of_kind kind set) ≡ true → (k.kind == kind) ≡ true → shown_at k set ≡ None
 none_of k kind set none same = sym (shown_at-only (λ key. key.kind == kind) k set ∙ ap (λ b. cond b (shown_at k set) None) same) ∙ empty (of_kind kind set) none
   where
     empty : (s : RecordSet) → is_empty s ≡ true → shown_at k s ≡ None

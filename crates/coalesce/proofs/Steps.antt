@@ -35,7 +35,7 @@ abbrev pub RiseFrom : ℕ → RecordSet → Type 0
 RiseFrom k [] = Unit {0}
 RiseFrom k (e ∷ es) = (k ≤ e.0.kind) × RiseFrom e.0.kind es
 
-rise_lower : (k l : ℕ) (es : RecordSet) → k ≤ l → RiseFrom l es → RiseFrom k es
+pub rise_lower : (k l : ℕ) (es : RecordSet) → k ≤ l → RiseFrom l es → RiseFrom k es
 rise_lower k l [] h r = tt
 rise_lower k l (e ∷ es) h r = (omega arith, r.1)
 

@@ -25,7 +25,7 @@ fn is_shown(old: &Side, key: &Key, shown: &Shown) -> bool
 }
 
 /// Appends the addition of a record.
-fn append_addition(out: &mut Frame, key: &Key, shown: &Shown)
+pub(crate) fn append_addition(out: &mut Frame, key: &Key, shown: &Shown)
     requires rdata { length shown.now.rdata < 2 ^ 16 }
     requires room { length out.old + size_of_notices (added (key.now, shown.now)) ≤ frame_octets }
     ensures { out.new ≡ out.old ++ flat_map notice_octets (added (key.now, shown.now)) }
@@ -73,6 +73,22 @@ pub(crate) fn all_size(new: &Side) -> u64
     let mut rest = new.records();
     'records: while let Some((_, shown)) = rest.next() {
         size = size.saturating_add(record_size(&shown.owner, shown.rdata.as_slice()));
+    }
+    size
+}
+
+/// The octets of the additions of all records where they are at most so many, or else a number above that.
+pub(crate) fn all_size_up_to(new: &Side, most: u64) -> u64
+    ensures within { result ≤ most → result ≡ counted (size_of_notices (additions new.now)) }
+    ensures beyond { most < result → most < counted (size_of_notices (additions new.now)) }
+{
+    let mut size: u64 = 0;
+    let mut rest = new.records();
+    'records: while let Some((_, shown)) = rest.next() {
+        size = size.saturating_add(record_size(&shown.owner, shown.rdata.as_slice()));
+        if size > most {
+            return size;
+        }
     }
     size
 }

@@ -1,15 +1,16 @@
 //! The forms of a net.
 
-ghost use Rattle.std.specs.Prelude.{◌≡◌, ◌+◌, ◌≤◌, ◌++◌, [], length, flat_map, IsTrue, MatchOption};
+ghost use Rattle.std.specs.Prelude.{◌≡◌, ◌+◌, ◌≤◌, ◌++◌, [], false, length, flat_map, IsTrue, MatchOption};
 ghost use Rattle.rrset.specs.RecordSet.{same_rows};
+ghost use Rattle.rrset.specs.Tables.{counted};
 ghost use Rattle.rrset.specs.Kinds.{in_class};
 ghost use Rattle.dsotlv.specs.Notices.{notice_octets, push_record, remove_many_ttl};
 ghost use Rattle.coalesce.specs.Laws.{can_be_sent};
-ghost use Rattle.coalesce.specs.Net.{kinds_of, net, owner_of, size_of_notices};
+ghost use Rattle.coalesce.specs.Net.{kinds_of, net, owner_of, single_changes, size_of_notices};
 ghost use Rattle.coalesce.specs.Sides.{AreOfOneName, IsOneSide, frame_octets};
 ghost use Rattle.coalesce.specs.Steps.{gone_form, notices_as};
 
-use crate::adding::{all_size, append_all, append_changed, changed_size};
+use crate::adding::{all_size_up_to, append_all, append_changed, changed_size};
 use crate::frame::Frame;
 use crate::push_records::{Fields, append_record, record_size};
 use crate::removing::{append_removals, removals_size};
@@ -88,6 +89,38 @@ fn gone(old: &Side) -> Form
     Form::OneKind(first.kind)
 }
 
+/// The form of a net where both sides aren't the same, and the octets of the single changes are known: all anew only
+/// where that is shorter.
+pub(crate) fn shorter_form(name: &Name, old: &Side, new: &Side, single: u64) -> Plan
+    requires sides { AreOfOneName old.now new.now }
+    requires sent { IsTrue (can_be_sent new.now) }
+    requires name { name.now ≡ owner_of (old.now ++ new.now) }
+    requires other { same_rows old.now new.now ≡ false }
+    requires single { single ≡ counted (size_of_notices (single_changes name.now old.now new.now)) }
+    ensures form { notices_as result.form name.now old.now new.now ≡ net old.now new.now }
+    ensures size { result.size ≡ size_of_notices (net old.now new.now) }
+{
+    let all_gone = record_size(name, &[]);
+    if new.is_empty() {
+        return Plan {
+            form: gone(old),
+            size: all_gone,
+        };
+    }
+    let anew = all_gone.saturating_add(all_size_up_to(new, single));
+    if anew < single {
+        Plan {
+            form: Form::Anew,
+            size: anew,
+        }
+    } else {
+        Plan {
+            form: Form::Single,
+            size: single,
+        }
+    }
+}
+
 /// The form of a net: all anew only where that is shorter.
 pub(crate) fn plan_of(name: &Name, old: &Side, new: &Side) -> Plan
     requires sides { AreOfOneName old.now new.now }
@@ -102,26 +135,9 @@ pub(crate) fn plan_of(name: &Name, old: &Side, new: &Side) -> Plan
             size: 0,
         };
     }
-    let all_gone = record_size(name, &[]);
-    if new.is_empty() {
-        return Plan {
-            form: gone(old),
-            size: all_gone,
-        };
-    }
-    let single = removals_size(name, old, new).saturating_add(changed_size(old, new));
-    let anew = all_gone.saturating_add(all_size(new));
-    if anew < single {
-        Plan {
-            form: Form::Anew,
-            size: anew,
-        }
-    } else {
-        Plan {
-            form: Form::Single,
-            size: single,
-        }
-    }
+    let removals = removals_size(name, old.records(), new);
+    let single = removals.saturating_add(changed_size(old, new));
+    shorter_form(name, old, new, single)
 }
 
 /// Appends the removal of a kind, or of all where the kind is ANY.
@@ -148,37 +164,12 @@ pub(crate) fn append_notices(out: &mut Frame, form: Form, name: &Name, old: &Sid
         Form::OneKind(kind) => append_all_gone(out, name, kind),
         Form::AllKinds => append_all_gone(out, name, ANY),
         Form::Single => {
-            append_removals(out, name, old, new);
+            append_removals(out, name, old.records(), new);
             append_changed(out, old, new);
         }
         Form::Anew => {
             append_all_gone(out, name, ANY);
             append_all(out, new);
         }
-    }
-}
-
-/// The octets of a net's records.
-pub(crate) fn net_size(old: &Side, new: &Side) -> u64
-    requires sides { AreOfOneName old.now new.now }
-    requires sent { IsTrue (can_be_sent new.now) }
-    ensures size { result ≡ size_of_notices (net old.now new.now) }
-{
-    match owner(old, new) {
-        Some(name) => plan_of(name, old, new).size,
-        None => 0,
-    }
-}
-
-/// Appends the records of a net.
-pub(crate) fn append_net(out: &mut Frame, old: &Side, new: &Side)
-    requires sides { AreOfOneName old.now new.now }
-    requires sent { IsTrue (can_be_sent new.now) }
-    requires room { length out.old + size_of_notices (net old.now new.now) ≤ frame_octets }
-    ensures { out.new ≡ out.old ++ flat_map notice_octets (net old.now new.now) }
-{
-    if let Some(name) = owner(old, new) {
-        let plan = plan_of(name, old, new);
-        append_notices(out, plan.form, name, old, new);
     }
 }

@@ -120,6 +120,27 @@ pub(crate) fn append_push<L: Ledger>(
     FRAME_HEAD + size
 }
 
+/// Appends the PUSH of a name that waits alone, and gives its octets; where it has nothing to tell, nothing and 0.
+pub(crate) fn append_lone<L: Ledger>(
+    out: &mut Frame,
+    names: Slice<Name, Waiting>,
+    questions: &Subscriptions,
+    index: &Index,
+    steps: &mut Steps<L>,
+) -> usize
+    requires sides { CanBePacked index.now.rows (names_waiting names) }
+    requires lone { length names ≡ 1 }
+    requires room { max_net_frame ≤ frame_octets - length out.old }
+    ensures written { out.new ≡ out.old ++ push_frame (packed_of questions.now index.now.rows (names_waiting names.entry)).0 }
+    ensures size { result ≡ length (push_frame (packed_of questions.now index.now.rows (names_waiting names.entry)).0) }
+    ensures steps { CountsUpTo 1 steps.old steps.new }
+{
+    match names.split_first() {
+        Some(((name, waiting), _)) => waiting.append_push(name, out, questions, index, steps),
+        None => 0,
+    }
+}
+
 /// Takes the first names out.
 pub(crate) fn drop_front(names: &mut IndexMap<Name, Waiting>, count: usize)
     requires { count ≤ length names.old.entries }

@@ -16,7 +16,7 @@ use crate::NoMemory;
 use crate::first::append_first;
 use crate::frame::Frame;
 use crate::old_record::OldRecord;
-use crate::push_front::{append_push, drop_front, front_of};
+use crate::push_front::{append_lone, append_push, drop_front, front_of};
 use crate::waiting::Waiting;
 use dnsname::Name;
 use indexmap::IndexMap;
@@ -236,9 +236,34 @@ impl Queue {
         ensures left { self.new ≡ left_in questions.now index.now.rows self.old }
         ensures steps { CountsUpTo (2 * length self.old) steps.old steps.new }
     {
+        let count = self.names.len();
+        if count == 1 {
+            return self.pack_lone(questions, index, out, steps);
+        }
         let front = front_of(self.names.as_slice(), questions, index, steps);
         let size = append_push(out, self.names.as_slice(), front, questions, index, steps);
         drop_front(&mut self.names, front.names);
+        size
+    }
+
+    /// The same of a name that waits alone.
+    fn pack_lone<L: Ledger>(
+        &mut self,
+        questions: &Subscriptions,
+        index: &Index,
+        out: &mut Frame,
+        steps: &mut Steps<L>,
+    ) -> usize
+        requires sides { CanBePacked index.now.rows self.old }
+        requires lone { length self.old ≡ 1 }
+        requires room { max_net_frame ≤ frame_octets - length out.old }
+        ensures written { out.new ≡ out.old ++ push_frame (packed_of questions.now index.now.rows self.old).0 }
+        ensures size { result ≡ length (push_frame (packed_of questions.now index.now.rows self.old).0) }
+        ensures left { self.new ≡ left_in questions.now index.now.rows self.old }
+        ensures steps { CountsUpTo 1 steps.old steps.new }
+    {
+        let size = append_lone(out, self.names.as_slice(), questions, index, steps);
+        drop_front(&mut self.names, 1);
         size
     }
 }

@@ -4,12 +4,12 @@ ghost use Rattle.std.specs.Prelude.{◌≡◌, ◌+◌, ◌<◌, ◌≤◌, ◌^
 ghost use Rattle.rrset.specs.Tables.{counted};
 ghost use Rattle.dsotlv.specs.Notices.{notice_octets};
 ghost use Rattle.coalesce.specs.Net.{size_of_notices};
-ghost use Rattle.coalesce.specs.Sides.{frame_octets};
+ghost use Rattle.coalesce.specs.Sides.{IsOneSide, frame_octets};
 ghost use Rattle.coalesce.specs.Steps.{removal_of, removal_notices, removals_behind};
 
 use crate::frame::Frame;
 use crate::push_records::{Fields, append_record, record_size};
-use crate::side::Side;
+use crate::side::{Records, Side};
 use dnsname::Name;
 use dsotlv::ttls::{REMOVE_MANY, REMOVE_ONE};
 use rrset::classes::IN;
@@ -81,13 +81,12 @@ fn append_removal(out: &mut Frame, name: &Name, key: &Key, shown: &Shown, remova
     }
 }
 
-/// The octets of what is told of the records that were there, or the greatest number of 64 bits where they are more.
-pub(crate) fn removals_size(name: &Name, old: &Side, new: &Side) -> u64
-    ensures { result ≡ counted (size_of_notices (removals_behind name.now new.now None old.now)) }
+/// The octets of what is told of records that were there, or the greatest number of 64 bits where they are more.
+pub(crate) fn removals_size(name: &Name, mut rest: Records, new: &Side) -> u64
+    ensures { result ≡ counted (size_of_notices (removals_behind name.now new.now None rest.entry)) }
 {
     let mut size: u64 = 0;
     let mut before = None;
-    let mut rest = old.records();
     'records: while let Some((key, shown)) = rest.next() {
         let removal = removal_at(new, before, key);
         size = size.saturating_add(removal_size(name, key, shown, removal));
@@ -96,13 +95,13 @@ pub(crate) fn removals_size(name: &Name, old: &Side, new: &Side) -> u64
     size
 }
 
-/// Appends what is told of the records that were there.
-pub(crate) fn append_removals(out: &mut Frame, name: &Name, old: &Side, new: &Side)
-    requires room { length out.old + size_of_notices (removals_behind name.now new.now None old.now) ≤ frame_octets }
-    ensures { out.new ≡ out.old ++ flat_map notice_octets (removals_behind name.now new.now None old.now) }
+/// Appends what is told of records that were there.
+pub(crate) fn append_removals(out: &mut Frame, name: &Name, mut rest: Records, new: &Side)
+    requires side { IsOneSide rest }
+    requires room { length out.old + size_of_notices (removals_behind name.now new.now None rest) ≤ frame_octets }
+    ensures { out.new ≡ out.old ++ flat_map notice_octets (removals_behind name.now new.now None rest.entry) }
 {
     let mut before = None;
-    let mut rest = old.records();
     'records: while let Some((key, shown)) = rest.next() {
         let removal = removal_at(new, before, key);
         append_removal(out, name, key, shown, removal);

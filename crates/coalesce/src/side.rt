@@ -34,27 +34,15 @@ impl<'a> Model for Records<'a> {
 }
 
 impl<'a> Records<'a> {
-    /// The records that questions ask for.
-    pub(crate) fn asked(rows: &'a [(Key, Shown)], questions: &'a Subscriptions) -> Self
-        requires { IsTrue (is_in_order rows.now) }
-        ensures { result ≡ only (λ key. wants key questions.now) rows.now }
-    {
-        Records::asked_before(rows, &[], questions)
-    }
-
-    /// The records that questions ask for, as they were before the changes of old values.
-    pub(crate) fn asked_before(
-        rows: &'a [(Key, Shown)],
-        old: &'a [OldRecord],
-        questions: &'a Subscriptions,
-    ) -> Self
+    /// The records that are asked for, as they were before the changes of old values.
+    pub(crate) fn before(rows: &'a [(Key, Shown)], old: &'a [OldRecord], asking: Asking<'a>) -> Self
         requires rows { IsTrue (is_in_order rows.now) }
         requires old { IsTrue (is_rising old.now) }
-        ensures { result ≡ only (λ key. wants key questions.now) (with_values (values_of old.now) rows.now) }
+        ensures { result ≡ only (is_asked asking.entry) (with_values (values_of old.now) rows.now) }
     {
         Records {
             merged: Merged::new(rows, old),
-            asking: Asking::Questions(questions),
+            asking,
         }
     }
 
@@ -94,7 +82,7 @@ impl<'a> Model for Side<'a> {
 }
 
 /// What is shown of a key among rows.
-fn shown_in<'a>(rows: &'a [(Key, Shown)], key: &Key) -> Option<&'a Shown>
+pub(crate) fn shown_in<'a>(rows: &'a [(Key, Shown)], key: &Key) -> Option<&'a Shown>
     requires { IsTrue (is_in_order rows.now) }
     ensures { MatchOption result (shown_at key.now rows.now ≡ None) (λ shown. shown_at key.now rows.now ≡ Some shown.now) }
 {
@@ -130,34 +118,17 @@ impl<'a> Side<'a> {
         }
     }
 
-    /// The records that questions ask for.
-    #[tactic(auto, using(crate::proofs::OneSide::one_side_order))]
-    pub(crate) fn asked(rows: &'a [(Key, Shown)], questions: &'a Subscriptions) -> Self
-        requires { IsOneSide rows.now }
-        ensures { result ≡ only (λ key. wants key questions.now) rows.now }
-    {
-        Side {
-            rows,
-            values: &[],
-            asking: Asking::Questions(questions),
-        }
-    }
-
-    /// The records that questions ask for, as they were before the changes of old values.
-    pub(crate) fn asked_before(
-        rows: &'a [(Key, Shown)],
-        old: &'a [OldRecord],
-        questions: &'a Subscriptions,
-    ) -> Self
+    /// The records that are asked for, as they were before the changes of old values.
+    pub(crate) fn before(rows: &'a [(Key, Shown)], old: &'a [OldRecord], asking: Asking<'a>) -> Self
         requires rows { IsTrue (is_in_order rows.now) }
         requires old { IsTrue (is_rising old.now) }
         requires side { IsOneSide (with_values (values_of old.now) rows.now) }
-        ensures { result ≡ only (λ key. wants key questions.now) (with_values (values_of old.now) rows.now) }
+        ensures { result ≡ only (is_asked asking.entry) (with_values (values_of old.now) rows.now) }
     {
         Side {
             rows,
             values: old,
-            asking: Asking::Questions(questions),
+            asking,
         }
     }
 

@@ -1,17 +1,19 @@
 //! What is kept of a name that waits.
 
-ghost use Rattle.std.specs.Prelude.{◌≡◌, ◌+◌, ◌≤◌, ◌++◌, [], ◌∷◌, nat_lt, flat_map, length, IfOk, IsTrue, OnErr, OnOk};
+ghost use Rattle.std.specs.Prelude.{◌≡◌, ◌+◌, ◌-◌, ◌≤◌, ◌++◌, [], ◌∷◌, nat_lt, flat_map, length, IfOk, IsTrue, OnErr, OnOk};
 ghost use Rattle.dsotlv.specs.Notices.{notice_octets};
 ghost use Rattle.rrset.specs.KeyedRows.{is_rising};
-ghost use Rattle.coalesce.specs.Net.{size_of_notices, max_net_size};
+ghost use Rattle.coalesce.specs.Net.{max_net_frame, max_net_size, push_frame, size_of_notices};
 ghost use Rattle.coalesce.specs.Sides.{frame_octets};
-ghost use Rattle.coalesce.specs.Waiting.{IsPackable, and_value, asked_net, is_changed, values_before, waiting_of};
+ghost use Rattle.coalesce.specs.Touched.{AreSides, IsTouched, new_rows, old_rows};
+ghost use Rattle.coalesce.specs.Waiting.{IsPackable, and_value, asked_net, is_changed, new_side, old_side, values_before, waiting_of};
 
 use crate::NoMemory;
-use crate::form::{append_net, net_size, same_records};
+use crate::asking::Asking;
 use crate::frame::Frame;
 use crate::old_record::OldRecord;
-use crate::side::{Records, Side};
+use crate::touched::{Touched, is_same};
+use crate::waiting_net::{append_net, append_push, net_size};
 use dnsname::Name;
 use nametable::Index;
 use push_base::Steps;
@@ -95,6 +97,28 @@ impl Waiting {
         self.point < point
     }
 
+    /// Its records, with what is kept of it.
+    fn sides<'a, L: Ledger>(
+        &'a self,
+        name: &Name,
+        questions: &'a Subscriptions,
+        index: &'a Index,
+        steps: &mut Steps<L>,
+    ) -> Touched<'a>
+        ensures touched { IsTouched result }
+        ensures old { old_rows result ≡ old_side questions.now index.now.rows (waiting_of (name.now, self.now)) }
+        ensures new { new_rows result ≡ new_side questions.now index.now.rows (waiting_of (name.now, self.now)) }
+        ensures sides { IsPackable index.now.rows (waiting_of (name.now, self.now)) → AreSides result }
+        ensures steps { steps.new ≡ steps.old + 1 }
+    {
+        let rows = index.at(name, steps);
+        Touched {
+            rows,
+            values: &self.values,
+            asking: Asking::Questions(questions),
+        }
+    }
+
     /// Whether the records of the name differ from what they were, as questions ask for them.
     pub(crate) fn is_changed<'a, L: Ledger>(
         &'a self,
@@ -106,10 +130,8 @@ impl Waiting {
         ensures changed { result ≡ is_changed questions.now index.now.rows (waiting_of (name.now, self.now)) }
         ensures steps { steps.new ≡ steps.old + 1 }
     {
-        let rows = index.at(name, steps);
-        let old = Records::asked_before(rows, &self.values, questions);
-        let new = Records::asked(rows, questions);
-        !same_records(old, new)
+        let touched = self.sides(name, questions, index, steps);
+        !is_same(&touched)
     }
 
     /// The octets of its net's records, as questions ask for them.
@@ -125,10 +147,8 @@ impl Waiting {
         ensures most { result ≤ max_net_size }
         ensures steps { steps.new ≡ steps.old + 1 }
     {
-        let rows = index.at(name, steps);
-        let old = Side::asked_before(rows, &self.values, questions);
-        let new = Side::asked(rows, questions);
-        net_size(&old, &new)
+        let touched = self.sides(name, questions, index, steps);
+        net_size(&touched)
     }
 
     /// Appends its net's records, as questions ask for them.
@@ -145,9 +165,27 @@ impl Waiting {
         ensures written { out.new ≡ out.old ++ flat_map notice_octets (asked_net questions.now index.now.rows (waiting_of (name.now, self.now))) }
         ensures steps { steps.new ≡ steps.old + 1 }
     {
-        let rows = index.at(name, steps);
-        let old = Side::asked_before(rows, &self.values, questions);
-        let new = Side::asked(rows, questions);
-        append_net(out, &old, &new);
+        let touched = self.sides(name, questions, index, steps);
+        append_net(out, &touched);
+    }
+
+    /// Appends the PUSH of its net, as questions ask for it, and gives its octets; where nothing is to be told, nothing
+    /// and 0.
+    pub(crate) fn append_push<'a, L: Ledger>(
+        &'a self,
+        name: &'a Name,
+        out: &mut Frame,
+        questions: &'a Subscriptions,
+        index: &'a Index,
+        steps: &mut Steps<L>,
+    ) -> usize
+        requires sides { IsPackable index.now.rows (waiting_of (name.now, self.now)) }
+        requires room { max_net_frame ≤ frame_octets - length out.old }
+        ensures written { out.new ≡ out.old ++ push_frame (asked_net questions.now index.now.rows (waiting_of (name.now, self.now))) }
+        ensures size { result ≡ length (push_frame (asked_net questions.now index.now.rows (waiting_of (name.now, self.now)))) }
+        ensures steps { steps.new ≡ steps.old + 1 }
+    {
+        let touched = self.sides(name, questions, index, steps);
+        append_push(out, &touched)
     }
 }

@@ -55,9 +55,15 @@ impl Model for Past {
     ghost invariant = { λ p. IsSoundPast (record { start = at_moment p.start p.moment; number = p.number; history = p.entries.items; counts = p.counts }) p.octets × IfSome p.ahead (IsAhead (at_moment p.start p.moment) p.entries.items) };
 }
 
-/// Whether the journal starts anew where none of so many entries is asked to stay, and there are so many rows.
-fn starts_anew(entries: usize, rows: usize) -> bool {
-    entries >= MANY_ENTRIES && entries >= rows
+/// Whether the journal starts anew where none of so many entries is asked to stay, of which so many must go, and there are so
+/// many rows, each of which is copied then: with two entries for each, or with one where it is full.
+fn starts_anew(entries: usize, over: usize, rows: usize) -> bool {
+    let needed = if over > 0 {
+        rows
+    } else {
+        rows.saturating_mul(2)
+    };
+    entries >= MANY_ENTRIES && entries >= needed
 }
 
 /// Whether so many entries, of so many octets, and one more of a size are within the two numbers.
@@ -145,13 +151,14 @@ fn start_later(
     Ok(Later::Homes(homes, now))
 }
 
-/// A copy of homes behind all of so many entries, of which `most` may go, where the journal starts anew and there is memory.
-fn start_anew(homes: &Homes, entries: usize, most: usize) -> Option<Homes>
+/// A copy of homes behind all of so many entries, of which `over` must and `most` may go, where the journal starts anew and
+/// there is memory.
+fn start_anew(homes: &Homes, entries: usize, over: usize, most: usize) -> Option<Homes>
     ensures state { IfSome result (λ copy. state_of copy ≡ state_of homes.now) }
     ensures all { IfSome result (λ copy. most ≡ entries) }
 {
     if most == entries {
-        if starts_anew(entries, homes.rows()) {
+        if starts_anew(entries, over, homes.rows()) {
             return homes.copy().ok();
         }
     }
@@ -193,7 +200,7 @@ fn going(
     ensures state { state_of start.new ≡ state_of start.old }
     ensures ahead { IfSome ahead.new (IsAhead (at_moment start.old moment) entries.now.items) }
 {
-    if let Some(copy) = start_anew(homes, entries.len(), most) {
+    if let Some(copy) = start_anew(homes, entries.len(), over, most) {
         Ok((most, Later::Homes(copy, now)))
     } else if let Some(taken) = take_ahead(ahead, over, most) {
         Ok((taken.count, Later::Homes(taken.homes, taken.moment)))

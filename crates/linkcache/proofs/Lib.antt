@@ -8,7 +8,6 @@ pub mod WholeRows
 pub mod RowEnds
 pub mod EndedRows
 pub mod Copies
-pub mod TouchedRows
 pub mod DueRows
 pub mod NextEnd
 pub mod Numbers
@@ -21,3 +20,7 @@ pub mod PlanRoom
 pub mod ShownNodes
 pub mod GoneRows
 pub mod RowCopies
+pub mod LaidRows
+pub mod LaidSizes
+pub mod FlushedOver
+pub mod MostSizes

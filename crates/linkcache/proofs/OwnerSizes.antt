@@ -37,7 +37,7 @@ abbrev pub row_size : LinkRules → Key × HeardRow → ℕ
 row_size rules row = rr_size (renamed_rr local rules.domain (rr_of_row row))
 
 -- what a row adds to the octets of an owner
-abbrev size_if : LinkRules → Labels → Key × HeardRow → ℕ
+abbrev pub size_if : LinkRules → Labels → Key × HeardRow → ℕ
 size_if rules owner row = cond (same_name owner row.0.owner) (row_size rules row) 0
 
 pub size-cons : (rules : LinkRules) (owner : Labels) (e : Key × HeardRow) (es : LinkRows) → size_under rules owner (e ∷ es) ≡ size_if rules owner e + size_under rules owner es
@@ -102,7 +102,7 @@ within-moment rules now rows within = record {
 
 -- ---- a row put
 
-size-put : (rules : LinkRules) (owner : Labels) (k : Key) (v : HeardRow) (rows : LinkRows) → size_under rules owner (put_row k v rows) ≤ size_under rules owner rows + size_if rules owner (k, v)
+pub size-put : (rules : LinkRules) (owner : Labels) (k : Key) (v : HeardRow) (rows : LinkRows) → size_under rules owner (put_row k v rows) ≤ size_under rules owner rows + size_if rules owner (k, v)
 size-put rules owner k v [] = let first = size-cons rules owner (k, v) [] in omega arith
 size-put rules owner k v (e ∷ es) = by (key_cmp k e.0) refl (size-put rules owner k v es)
   where
@@ -134,17 +134,17 @@ is_less Less h = refl
 is_less Equal h = absurd h
 is_less Greater h = absurd h
 
-behind_none : (k x : Key) (es : LinkRows) → key_cmp k x ≡ Less → T (below_all key_cmp x es) → row_at k es ≡ None
+pub behind_none : (k x : Key) (es : LinkRows) → key_cmp k x ≡ Less → T (below_all key_cmp x es) → row_at k es ≡ None
 behind_none k x [] less below = refl
 behind_none k x (e ∷ es) less below =
     ap (λ o. cond (is_eq o) (Some e.1) (row_at k es)) (key_cmp_total.trans k x e.0 less (is_less (key_cmp x e.0) (and_left _ _ below))) ∙ behind_none k x es less (and_right _ _ below)
 
 -- a row in place of another with its key
-record Replaces (rules : LinkRules) (owner : Labels) (rows later : LinkRows) : Type 0 where
-  size : size_under rules owner later ≡ size_under rules owner rows
-  count : length later ≡ length rows
+pub record Replaces (rules : LinkRules) (owner : Labels) (rows later : LinkRows) : Type 0 where
+  pub size : size_under rules owner later ≡ size_under rules owner rows
+  pub count : length later ≡ length rows
 
-replaces : (rules : LinkRules) (owner : Labels) (k : Key) (v old : HeardRow) (rows : LinkRows) → Rising rows → row_at k rows ≡ Some old → row_size rules (k, v) ≡ row_size rules (k, old) → Replaces rules owner rows (put_row k v rows)
+pub replaces : (rules : LinkRules) (owner : Labels) (k : Key) (v old : HeardRow) (rows : LinkRows) → Rising rows → row_at k rows ≡ Some old → row_size rules (k, v) ≡ row_size rules (k, old) → Replaces rules owner rows (put_row k v rows)
 replaces rules owner k v old [] h found same = absurd cc
 replaces rules owner k v old (e ∷ es) h found same = by (key_cmp k e.0) refl found (λ there. replaces rules owner k v old es (and_right _ _ h) there same)
   where
@@ -169,7 +169,7 @@ replaces rules owner k v old (e ∷ es) h found same = by (key_cmp k e.0) refl f
 -- ---- a record heard
 
 -- the row of a key is one of a usable record with the key
-found-key : (rules : LinkRules) (k : Key) (old : HeardRow) (rows : LinkRows) → AreLinkRows rules rows → row_at k rows ≡ Some old → key_of (rr_of_row (k, old)) ≡ k
+pub found-key : (rules : LinkRules) (k : Key) (old : HeardRow) (rows : LinkRows) → AreLinkRows rules rows → row_at k rows ≡ Some old → key_of (rr_of_row (k, old)) ≡ k
 found-key rules k old [] sound found = absurd cc
 found-key rules k old (e ∷ es) sound found = by (same_key k e.0) refl found (found-key rules k old es sound.1)
   where

@@ -1,113 +1,26 @@
 //! What a hearing makes of rows (RFC 6762, 10 to 10.2).
 
-ghost use Rattle.std.specs.Prelude.{◌≡◌, ◌≤◌, ◌+◌, ◌&&◌, ◌||◌, true, not, cond, map, filter, fold, sum_by, nat_lt, IfOk, OnOk, IsTrue};
+ghost use Rattle.std.specs.Prelude.{◌≡◌, ◌≤◌, ◌<◌, ◌+◌, ◌^◌, ◌&&◌, ◌==◌, true, not, cond, length, filter, fold, nat_lt, IfOk, OnOk, IsTrue};
+ghost use Rattle.std.specs.List.{list_any};
 ghost use Rattle.push_base.specs.Cases.{is_empty};
 ghost use Rattle.push_base.specs.Limits.{max_moment};
 ghost use Rattle.rrset.specs.KeyedRows.{is_rising};
 ghost use Rattle.rrset.specs.RecordSet.{is_of_rrset};
-ghost use Rattle.rrset.specs.Records.{key_of, rr_size, same_key};
-ghost use Rattle.rrset.specs.Tables.{HasLowerOwner, counted};
-ghost use Rattle.linkmap.specs.Translation.{local, renamed_rr};
+ghost use Rattle.rrset.specs.Tables.{HasLowerOwner, HaveLowerOwners};
 ghost use Rattle.reversemap.specs.BothKinds.{is_used};
-ghost use Rattle.linkcache.specs.Rows.{max_rows, second, ending_by, flushed_by, has_key, heard_at, heard_beside, is_of_set, put_heard, row_has_room, rr_of_row, usable_of};
-ghost use Rattle.linkcache.specs.Sound.{AreLinkRows, IsLinkRow};
+ghost use Rattle.linkcache.specs.Parts.{laid, with_flushed};
+ghost use Rattle.linkcache.specs.Rows.{second, ending_by, flushed_by, has_key, heard, heard_at, is_of_set, put_heard, ttl_of, usable_of};
+ghost use Rattle.linkcache.specs.Sound.{AreLinkRows};
 ghost use Rattle.linkcache.specs.declared.row.HeardRow.{HeardRow};
 
-use crate::kinds::{translated_size, usable};
-use crate::row::{HeardRow, MAX_ROWS, SECOND, ended_by, record_of};
+use crate::kinds::usable;
+use crate::laying::{end_row, is_over, put_over};
+use crate::room::may_stand;
+use crate::row::{HeardRow, SECOND, ended_by};
 use crate::rules::LinkRules;
-use push_base::limits::MAX_OCTETS_AT_NAME;
+use nametable::NameTable;
 use rrset::{Copied, HeardRr, Key, NoMemory, Rr, Table, counted_ttl};
 use std::alloc::Global;
-
-/// Whether there is a row of a key.
-fn has(rows: &Table<HeardRow>, key: &Key) -> bool
-    ensures { result ≡ has_key key.now rows.now.rows }
-{
-    rows.get(key).is_some()
-}
-
-/// Lets the row of a key, if there is one, end by a moment.
-pub(crate) fn end_row(work: &mut Table<HeardRow>, key: &Key, moment: u64) -> Result<(), NoMemory>
-    requires order { IsTrue (is_rising work.old.rows) }
-    requires lower { HasLowerOwner key.now }
-    ensures { OnOk result (work.new.rows ≡ map (λ row. cond (same_key key.now row.0) (ending_by moment row) row) work.old.rows) }
-{
-    let Some(row) = work.get(key) else {
-        return Ok(());
-    };
-    let row = row.copied()?;
-    work.put(key.copy()?, ended_by(row, moment))?;
-    Ok(())
-}
-
-/// The octets of a row's record under the domain.
-fn size_of_row(alloc: Global, rules: &LinkRules, key: &Key, row: &HeardRow) -> Result<u64, NoMemory>
-    requires { IsLinkRow rules.now (key.now, row.now) }
-    ensures { IfOk result (λ size. size ≡ rr_size (renamed_rr local rules.now.domain (rr_of_row (key.now, row.now)))) }
-{
-    let rr = record_of(key, row)?;
-    translated_size(alloc, rules, &rr)
-}
-
-/// The octets of some rows' records under the domain.
-fn size_under(alloc: Global, rules: &LinkRules, rows: &[(Key, HeardRow)]) -> Result<u64, NoMemory>
-    requires { AreLinkRows rules.now rows.now }
-    ensures { IfOk result (λ size. size ≡ counted (sum_by (λ row. rr_size (renamed_rr local rules.now.domain (rr_of_row row))) rows.now)) }
-{
-    let mut size: u64 = 0;
-    'rows: for (key, row) in rows {
-        size = size.saturating_add(size_of_row(alloc, rules, key, row)?);
-    }
-    Ok(size)
-}
-
-/// Whether a link has few enough rows for one more, some here and the others elsewhere.
-fn are_few(rows: usize, others: usize) -> bool
-    ensures { result ≡ nat_lt (rows + others) max_rows }
-{
-    rows < MAX_ROWS && others < MAX_ROWS - rows
-}
-
-/// Whether a record has room beside the rows.
-fn row_has_room(
-    alloc: Global,
-    rules: &LinkRules,
-    others: usize,
-    work: &Table<HeardRow>,
-    rr: &Rr,
-) -> Result<bool, NoMemory>
-    requires rows { AreLinkRows rules.now work.now.rows }
-    requires usable { is_used rules.now.domain rules.now.reverses rr.now ≡ true }
-    ensures { IfOk result (λ room. room ≡ row_has_room rules.now others work.now.rows rr.now) }
-{
-    if !are_few(work.len(), others) {
-        return Ok(false);
-    }
-    let taken = size_under(alloc, rules, work.at(&rr.owner))?;
-    let added = translated_size(alloc, rules, rr)?;
-    Ok(taken.saturating_add(added) <= MAX_OCTETS_AT_NAME)
-}
-
-/// Whether a record may stand: there is a row of it, or room for one.
-fn may_stand(
-    alloc: Global,
-    rules: &LinkRules,
-    others: usize,
-    work: &Table<HeardRow>,
-    key: &Key,
-    rr: &Rr,
-) -> Result<bool, NoMemory>
-    requires rows { AreLinkRows rules.now work.now.rows }
-    requires usable { is_used rules.now.domain rules.now.reverses rr.now ≡ true }
-    ensures { IfOk result (λ may. may ≡ (has_key key.now work.now.rows || row_has_room rules.now others work.now.rows rr.now)) }
-{
-    if has(work, key) {
-        Ok(true)
-    } else {
-        row_has_room(alloc, rules, others, work, rr)
-    }
-}
 
 /// The row of a record that is heard now.
 fn heard_at(now: u64, heard: &HeardRr) -> Result<HeardRow, NoMemory>
@@ -122,28 +35,38 @@ fn heard_at(now: u64, heard: &HeardRr) -> Result<HeardRow, NoMemory>
     })
 }
 
+/// Whether a record is taken back (RFC 6762, 10.1).
+fn is_goodbye(heard: &HeardRr) -> bool
+    ensures { result ≡ (ttl_of heard.now == 0) }
+{
+    counted_ttl(heard.rr.ttl) == 0
+}
+
 /// Puts a record with its TTL, if it may stand, or lets it go after a second where its TTL is 0.
 fn put_heard(
     alloc: Global,
     rules: &LinkRules,
+    rows: &NameTable<HeardRow>,
     now: u64,
-    others: usize,
-    work: &mut Table<HeardRow>,
+    over: &mut Table<HeardRow>,
     heard: &HeardRr,
 ) -> Result<(), NoMemory>
     requires moment { now ≤ max_moment }
-    requires order { IsTrue (is_rising work.old.rows) }
-    requires rows { AreLinkRows rules.now work.old.rows }
+    requires count { length rows.now.rows < 2 ^ 64 }
+    requires order { IsTrue (is_rising rows.now.rows) }
+    requires rows { AreLinkRows rules.now rows.now.rows }
+    requires later { AreLinkRows rules.now (laid over.old.rows rows.now.rows) }
     requires usable { is_used rules.now.domain rules.now.reverses heard.now.rr ≡ true }
-    ensures { OnOk result (work.new.rows ≡ put_heard rules.now now others work.old.rows heard.now) }
+    ensures { OnOk result (laid over.new.rows rows.now.rows ≡ put_heard rules.now now 0 (laid over.old.rows rows.now.rows) heard.now) }
 {
     let key = heard.rr.key()?;
-    if counted_ttl(heard.rr.ttl) == 0 {
-        return end_row(work, &key, now + SECOND);
+    if is_goodbye(heard) {
+        return end_row(rows, over, &key, now + SECOND);
     }
-    if may_stand(alloc, rules, others, work, &key, &heard.rr)? {
-        work.put(key, heard_at(now, heard)?)?;
+    if !may_stand(alloc, rules, rows, over, &key, &heard.rr)? {
+        return Ok(());
     }
+    put_over(over, key, heard_at(now, heard)?)?;
     Ok(())
 }
 
@@ -151,19 +74,21 @@ fn put_heard(
 fn put_usable(
     alloc: Global,
     rules: &LinkRules,
+    rows: &NameTable<HeardRow>,
     now: u64,
-    others: usize,
-    work: &mut Table<HeardRow>,
+    over: &mut Table<HeardRow>,
     hearing: &[HeardRr],
 ) -> Result<(), NoMemory>
     requires moment { now ≤ max_moment }
-    requires order { IsTrue (is_rising work.old.rows) }
-    requires rows { AreLinkRows rules.now work.old.rows }
-    ensures { OnOk result (work.new.rows ≡ fold (put_heard rules.now now others) work.old.rows (usable_of rules.now hearing.now)) }
+    requires count { length rows.now.rows < 2 ^ 64 }
+    requires order { IsTrue (is_rising rows.now.rows) }
+    requires rows { AreLinkRows rules.now rows.now.rows }
+    requires later { AreLinkRows rules.now (laid over.old.rows rows.now.rows) }
+    ensures { OnOk result (laid over.new.rows rows.now.rows ≡ fold (put_heard rules.now now 0) (laid over.old.rows rows.now.rows) (usable_of rules.now hearing.now)) }
 {
     'hearing: for heard in hearing {
         if usable(rules, &heard.rr) {
-            put_heard(alloc, rules, now, others, work, heard)?;
+            put_heard(alloc, rules, rows, now, over, heard)?;
         }
     }
     Ok(())
@@ -187,7 +112,10 @@ fn is_long_ago(moment: u64, now: u64) -> bool
 fn is_old(now: u64, rr: &Rr, key: &Key, row: &HeardRow) -> bool
     ensures { result ≡ (is_of_set rr.now (key.now, row.now) && nat_lt (row.now.heard + second) now) }
 {
-    is_of_set(rr, key) && is_long_ago(row.heard, now)
+    if !is_long_ago(row.heard, now) {
+        return false;
+    }
+    is_of_set(rr, key)
 }
 
 /// A row as the cache-flush bit of a record leaves it: one of its RRset that was heard more than a second ago goes after a
@@ -220,17 +148,105 @@ fn flushed_rows(
 }
 
 /// A table of rows as the cache-flush bit of a record leaves it.
-fn flush(
+fn flushed_table(
     alloc: Global,
     now: u64,
-    work: Table<HeardRow>,
+    over: Table<HeardRow>,
     heard: &HeardRr,
 ) -> Result<Table<HeardRow>, NoMemory>
     requires { now ≤ max_moment }
-    ensures { IfOk result (λ later. later.rows ≡ flushed_by now work.rows heard.now) }
+    ensures { IfOk result (λ later. later.rows ≡ flushed_by now over.rows heard.now) }
 {
-    let rows = flushed_rows(alloc, now, work.into_entries(), heard)?;
+    let rows = flushed_rows(alloc, now, over.into_entries(), heard)?;
     Ok(Table::from_entries(rows))
+}
+
+/// Whether some row is of a record's RRset and was heard more than a second ago.
+fn some_old(now: u64, rr: &Rr, rows: &[(Key, HeardRow)]) -> bool
+    ensures { result ≡ list_any (λ row. is_of_set rr.now row && nat_lt (row.1.heard + second) now) rows.now }
+{
+    'rows: for (key, row) in rows {
+        if is_old(now, rr, key, row) {
+            return true;
+        }
+    }
+    false
+}
+
+/// Rows that a hearing puts as the cache-flush bit of a record leaves them. Nothing is moved where none changes.
+fn flushed_over(
+    alloc: Global,
+    now: u64,
+    over: Table<HeardRow>,
+    heard: &HeardRr,
+) -> Result<Table<HeardRow>, NoMemory>
+    requires { now ≤ max_moment }
+    ensures { IfOk result (λ later. later.rows ≡ flushed_by now over.rows heard.now) }
+{
+    if !some_old(now, &heard.rr, over.at(&heard.rr.owner)) {
+        return Ok(over);
+    }
+    flushed_table(alloc, now, over, heard)
+}
+
+/// Whether a row changes by the cache-flush bit of a record, and none of its key is over it.
+fn is_flushed(now: u64, over: &Table<HeardRow>, heard: &HeardRr, key: &Key, row: &HeardRow) -> bool
+    ensures { result ≡ ((is_of_set heard.now.rr (key.now, row.now) && nat_lt (row.now.heard + second) now) && not (has_key key.now over.now.rows)) }
+{
+    is_old(now, &heard.rr, key, row) && !is_over(over, key)
+}
+
+/// Puts a row as the cache-flush bit of a record leaves it over the others, where it changes and none of its key is there.
+fn flush_row(
+    now: u64,
+    over: &mut Table<HeardRow>,
+    heard: &HeardRr,
+    key: &Key,
+    row: &HeardRow,
+) -> Result<(), NoMemory>
+    requires moment { now ≤ max_moment }
+    requires lower { HasLowerOwner key.now }
+    ensures { OnOk result (over.new.rows ≡ with_flushed now heard.now over.old.rows (key.now, row.now)) }
+{
+    if is_flushed(now, over, heard, key, row) {
+        over.put(key.copy()?, ended_by(row.copied()?, now + SECOND))?;
+    }
+    Ok(())
+}
+
+/// Puts rows as the cache-flush bit of a record leaves them over the others, of those that change and aren't there.
+fn flush_rows(
+    now: u64,
+    over: &mut Table<HeardRow>,
+    heard: &HeardRr,
+    rows: &[(Key, HeardRow)],
+) -> Result<(), NoMemory>
+    requires moment { now ≤ max_moment }
+    requires lower { HaveLowerOwners rows.now }
+    ensures { OnOk result (over.new.rows ≡ fold (with_flushed now heard.now) over.old.rows rows.now) }
+{
+    'rows: for (key, row) in rows {
+        flush_row(now, over, heard, key, row)?;
+    }
+    Ok(())
+}
+
+/// Rows over those of a link, as the cache-flush bit of a record leaves both.
+fn flush(
+    alloc: Global,
+    rows: &NameTable<HeardRow>,
+    now: u64,
+    over: Table<HeardRow>,
+    heard: &HeardRr,
+) -> Result<Table<HeardRow>, NoMemory>
+    requires moment { now ≤ max_moment }
+    requires order { IsTrue (is_rising rows.now.rows) }
+    requires lower { HaveLowerOwners rows.now.rows }
+    ensures { IfOk result (λ later. laid later.rows rows.now.rows ≡ flushed_by now (laid over.rows rows.now.rows) heard.now) }
+{
+    let mut over = flushed_over(alloc, now, over, heard)?;
+    flush_rows(now, &mut over, heard, rows.at(&heard.rr.owner))?;
+    Ok(over)
 }
 
 /// Whether a record is usable and has the cache-flush bit.
@@ -244,38 +260,42 @@ fn is_flushing(rules: &LinkRules, heard: &HeardRr) -> bool
 fn flush_all(
     alloc: Global,
     rules: &LinkRules,
+    rows: &NameTable<HeardRow>,
     now: u64,
-    mut work: Table<HeardRow>,
-    hearing: &[HeardRr],
-) -> Result<Table<HeardRow>, NoMemory>
-    requires { now ≤ max_moment }
-    ensures { IfOk result (λ later. later.rows ≡ fold (flushed_by now) work.rows (filter (λ h. h.flush) (usable_of rules.now hearing.now))) }
-{
-    'hearing: for heard in hearing {
-        if is_flushing(rules, heard) {
-            work = flush(alloc, now, work, heard)?;
-        }
-    }
-    Ok(work)
-}
-
-/// A part of a link's rows after a hearing, in two passes; the link has so many others.
-pub(crate) fn heard(
-    alloc: Global,
-    rules: &LinkRules,
-    now: u64,
-    others: usize,
-    part: &Table<HeardRow>,
+    mut over: Table<HeardRow>,
     hearing: &[HeardRr],
 ) -> Result<Table<HeardRow>, NoMemory>
     requires moment { now ≤ max_moment }
-    requires order { IsTrue (is_rising part.now.rows) }
-    requires rows { AreLinkRows rules.now part.now.rows }
-    ensures { IfOk result (λ later. later.rows ≡ heard_beside others rules.now part.now.rows now (usable_of rules.now hearing.now)) }
+    requires order { IsTrue (is_rising rows.now.rows) }
+    requires lower { HaveLowerOwners rows.now.rows }
+    ensures { IfOk result (λ later. laid later.rows rows.now.rows ≡ fold (flushed_by now) (laid over.rows rows.now.rows) (filter (λ h. h.flush) (usable_of rules.now hearing.now))) }
 {
-    let mut work = part.copy()?;
-    put_usable(alloc, rules, now, others, &mut work, hearing)?;
-    flush_all(alloc, rules, now, work, hearing)
+    'hearing: for heard in hearing {
+        if is_flushing(rules, heard) {
+            over = flush(alloc, rows, now, over, heard)?;
+        }
+    }
+    Ok(over)
+}
+
+/// The rows that a hearing puts over those of a link, in two passes.
+pub(crate) fn heard(
+    alloc: Global,
+    rules: &LinkRules,
+    rows: &NameTable<HeardRow>,
+    now: u64,
+    hearing: &[HeardRr],
+) -> Result<Table<HeardRow>, NoMemory>
+    requires moment { now ≤ max_moment }
+    requires count { length rows.now.rows < 2 ^ 64 }
+    requires order { IsTrue (is_rising rows.now.rows) }
+    requires lower { HaveLowerOwners rows.now.rows }
+    requires rows { AreLinkRows rules.now rows.now.rows }
+    ensures { IfOk result (λ over. laid over.rows rows.now.rows ≡ heard rules.now rows.now.rows now hearing.now) }
+{
+    let mut over = Table::new(alloc);
+    put_usable(alloc, rules, rows, now, &mut over, hearing)?;
+    flush_all(alloc, rules, rows, now, over, hearing)
 }
 
 /// Whether some record can be used.

@@ -1,6 +1,6 @@
 //! What hearings, moments, reconfirmations and a link's going will change.
 
-ghost use Rattle.std.specs.Prelude.{◌≡◌, ◌≤◌, ◌<◌, ◌+◌, ◌^◌, length, is_none, IfOk};
+ghost use Rattle.std.specs.Prelude.{◌≡◌, ◌≤◌, is_none, IfOk};
 ghost use Rattle.clockqueue.specs.Deadlines.{AreDeadlines, first_moment};
 ghost use Rattle.push_base.specs.Limits.{max_moment};
 ghost use Rattle.dnsname.specs.Names.{Labels};
@@ -8,38 +8,48 @@ ghost use Rattle.rrset.specs.Records.{key_cmp};
 ghost use Rattle.nametable.specs.Nodes.{HasRoomFor, room_at};
 ghost use Rattle.linkcache.specs.Ends.{AreEnds, has_come};
 ghost use Rattle.linkcache.specs.Links.{IsLink};
-ghost use Rattle.linkcache.specs.Plans.{IsGonePlan, IsHeardPlan, IsMomentPlan, IsReconfirmPlan, keys_put};
-ghost use Rattle.linkcache.specs.Rows.{has_key};
+ghost use Rattle.linkcache.specs.Parts.{laid};
+ghost use Rattle.linkcache.specs.Plans.{IsGonePlan, IsHeardPlan, IsMomentPlan, IsReconfirmPlan, Leads, keys_put};
+ghost use Rattle.linkcache.specs.Sound.{AreLinkRows};
+ghost use Rattle.linkcache.specs.Within.{IsWithin};
 
 use crate::end_key::EndKey;
-use crate::heard_rows::{end_row, heard, some_usable};
+use crate::heard_rows::{heard, some_usable};
+use crate::laying::{end_row, has_row};
 use crate::moving::plan_between;
 use crate::plan::HearPlan;
 use crate::row::{HeardRow, RECONFIRMATION};
 use crate::rules::LinkRules;
-use crate::touching::{all_rows, copy_row, due_rows, touched};
+use crate::touching::{all_rows, due_rows, rows_under};
 use clockqueue::Deadlines;
 use nametable::NameTable;
 use rrset::{HeardRr, Key, NoMemory, Table};
 use std::alloc::Global;
 
-/// Whether there is a row of a key.
-pub(crate) fn has_row(rows: &NameTable<HeardRow>, key: &Key) -> bool
-    ensures { result ≡ has_key key.now rows.now.rows }
+/// The plan that lays rows over those of a link, with room for them.
+fn plan_over(
+    alloc: Global,
+    rules: &LinkRules,
+    usable: bool,
+    rows: &mut NameTable<HeardRow>,
+    over: &Table<HeardRow>,
+) -> Result<HearPlan, NoMemory>
+    requires link { IsLink (record { rules = rules.now; rows = rows.old.rows }) }
+    requires sound { AreLinkRows rules.now (laid over.now.rows rows.old.rows) }
+    requires within { IsWithin rules.now (laid over.now.rows rows.old.rows) }
+    ensures usable { IfOk result (λ plan. plan.usable ≡ usable) }
+    ensures plan { IfOk result (λ plan. Leads rules.now rows.old.rows plan (laid over.now.rows rows.old.rows)) }
+    ensures rows { rows.new.rows ≡ rows.old.rows }
+    ensures room { IfOk result (λ plan. HasRoomFor (keys_put plan.rows) rows.new.nodes) }
+    ensures kept { (name : Labels) → room_at rows.old.nodes name ≤ room_at rows.new.nodes name }
 {
-    rows.get(key).is_some()
+    let before = rows_under(alloc, rows, over.entries())?;
+    rows.reserve_for_rows(over)?;
+    plan_between(alloc, rules, usable, &before, over)
 }
 
-/// How many rows there are beside a part of them.
-fn rows_beside(part: &Table<HeardRow>, rows: &NameTable<HeardRow>) -> usize
-    requires count { length rows.now.rows < 2 ^ 64 }
-    requires part { length part.now.rows ≤ length rows.now.rows }
-    ensures { result + length part.now.rows ≡ length rows.now.rows }
-{
-    rows.len() - part.len()
-}
-
-/// The plan of a hearing, with room for the rows that it puts. It looks at the records heard and the rows of their owners.
+/// The plan of a hearing, with room for the rows that it puts. It looks at the records heard and the rows of their owners,
+/// and copies none but those that change.
 pub(crate) fn heard_plan(
     alloc: Global,
     rules: &LinkRules,
@@ -57,11 +67,8 @@ pub(crate) fn heard_plan(
     if !some_usable(rules, hearing) {
         return Ok(HearPlan::nothing(alloc));
     }
-    let part = touched(alloc, rules, rows, hearing)?;
-    let others = rows_beside(&part, rows);
-    let work = heard(alloc, rules, now, others, &part, hearing)?;
-    rows.reserve_for_rows(&work)?;
-    plan_between(alloc, rules, true, &part, &work)
+    let over = heard(alloc, rules, rows, now, hearing)?;
+    plan_over(alloc, rules, true, rows, &over)
 }
 
 /// Whether the least moment has come.
@@ -115,12 +122,9 @@ pub(crate) fn reconfirm_plan(
     if !has_row(rows, key) {
         return Ok(HearPlan::nothing(alloc));
     }
-    let mut part = Table::new(alloc);
-    copy_row(&mut part, rows, key)?;
-    let mut work = part.copy()?;
-    end_row(&mut work, key, now + RECONFIRMATION)?;
-    rows.reserve_for_rows(&work)?;
-    plan_between(alloc, rules, false, &part, &work)
+    let mut over = Table::new(alloc);
+    end_row(rows, &mut over, key, now + RECONFIRMATION)?;
+    plan_over(alloc, rules, false, rows, &over)
 }
 
 /// Whether no row ends.

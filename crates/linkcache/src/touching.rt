@@ -23,7 +23,7 @@ use rrset::{Copied, HeardRr, Key, NoMemory, Table};
 use std::alloc::Global;
 
 /// Copies what rows have of a key, if anything, into a part of them.
-pub(crate) fn copy_row(
+fn copy_row(
     part: &mut Table<HeardRow>,
     rows: &NameTable<HeardRow>,
     key: &Key,
@@ -55,40 +55,17 @@ fn copy_all(
     Ok(())
 }
 
-/// Copies the rows of an owner into a part of the rows, where none of them is there yet.
-fn touch(
-    part: &mut Table<HeardRow>,
-    rows: &NameTable<HeardRow>,
-    owner: &Name,
-) -> Result<(), NoMemory>
-    requires order { IsTrue (is_rising rows.now.rows) }
-    requires lower { HaveLowerOwners rows.now.rows }
-    ensures { (usable : List HeardRr) → part.old.rows ≡ only_rows (is_touched usable) rows.now.rows → OnOk result (part.new.rows ≡ only_rows (λ key. same_name owner.now key.owner || is_touched usable key) rows.now.rows) }
-{
-    if !part.at(owner).is_empty() {
-        return Ok(());
-    }
-    copy_all(part, rows, rows.at(owner))?;
-    Ok(())
-}
-
-/// The rows of the owners of usable records.
-pub(crate) fn touched(
+/// What a link has of the keys of some rows.
+pub(crate) fn rows_under(
     alloc: Global,
-    rules: &LinkRules,
     rows: &NameTable<HeardRow>,
-    hearing: &[HeardRr],
+    entries: &[(Key, HeardRow)],
 ) -> Result<Table<HeardRow>, NoMemory>
-    requires order { IsTrue (is_rising rows.now.rows) }
-    requires lower { HaveLowerOwners rows.now.rows }
-    ensures { IfOk result (λ part. part.rows ≡ only_rows (is_touched (usable_of rules.now hearing.now)) rows.now.rows) }
+    requires { HaveLowerOwners rows.now.rows }
+    ensures { IfOk result (λ part. part.rows ≡ fold (λ part e. copied rows.now.rows part e.0) [] entries.now) }
 {
     let mut part = Table::new(alloc);
-    'hearing: for heard in hearing {
-        if usable(rules, &heard.rr) {
-            touch(&mut part, rows, &heard.rr.owner)?;
-        }
-    }
+    copy_all(&mut part, rows, entries)?;
     Ok(part)
 }
 

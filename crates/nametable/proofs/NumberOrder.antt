@@ -1,6 +1,6 @@
 -- Where the numbers of their first octets differ, they order names as their octets do.
-use Rattle.std.proofs.Common.{◌≡◌, ℕ, zero, suc, ◌+◌, ◌*◌, ◌<◌, ◌≤◌, List, [], ◌∷◌, ◌++◌, length, map, get_or, refl, sym, ap, subst, ◌∙◌, arith}
-use Rattle.std.specs.Ordering.{nat_cmp, ordering_reverse, ordering_then, MatchOrdering}
+use Rattle.std.proofs.Common.{◌≡◌, ℕ, zero, suc, ◌<◌, List, [], ◌∷◌, ◌++◌, length, map, get_or, refl, sym, ap, subst, ◌∙◌, arith}
+use Rattle.std.specs.Ordering.{nat_cmp, ordering_reverse, MatchOrdering}
 use Rattle.std.specs.List.{AllByRecursion}
 use Rattle.std.specs.declared.cmp.Ordering.{Ordering}
 use Rattle.std.specs.declared.cmp.Ordering.TheVariants.{Less, Equal, Greater}
@@ -13,7 +13,6 @@ use Rattle.dnsname.proofs.Eights.{spelled-less}
 use Rattle.dnsname.proofs.Octets.{octets-cons}
 use Rattle.dnsname.proofs.Spellings.{octets-lower, IsName-lower}
 use Rattle.dnsname.proofs.Standing.{below-take}
-use Rattle.rrset.specs.Records.{octets_cmp}
 use Rattle.nametable.specs.FirstOctets.{first_octets, HasFirst}
 use Rattle.nametable.specs.Nodes.{name_cmp}
 use Rattle.nametable.proofs.AllRows.{name_cmp_total}

@@ -113,6 +113,21 @@ puts_among-is name (c ∷ cs) =
     by true rest = puts-cons c (filter (λ d. is_eq (name_cmp name d.key.owner)) cs) c.after refl ∙ ap (λ (n : ℕ). cond (is_some c.after) 1 0 + n) rest
     by false rest = rest ∙ omega arith
 
+-- the changes that put a key of an owner, each by both tests
+pub puts_of-is : (name : Labels) (changed : List Changed) → length (filter (λ c. is_some c.after && is_eq (name_cmp name c.key.owner)) changed) ≡ count_at name (keys_put changed)
+puts_of-is name [] = refl
+puts_of-is name (c ∷ cs) =
+    by c.after (is_eq (name_cmp name c.key.owner)) (puts_of-is name cs)
+    ∙ sym (keys-cons name c cs c.after (is_eq (name_cmp name c.key.owner)) refl refl)
+  where
+    by : (o : Option Shown) (b : Bool) → length (filter (λ d. is_some d.after && is_eq (name_cmp name d.key.owner)) cs) ≡ count_at name (keys_put cs)
+        → length (cond (is_some o && b) (c ∷ filter (λ d. is_some d.after && is_eq (name_cmp name d.key.owner)) cs) (filter (λ d. is_some d.after && is_eq (name_cmp name d.key.owner)) cs))
+        ≡ cond b (cond (is_some o) 1 0) 0 + count_at name (keys_put cs)
+    by None true rest = rest ∙ omega arith
+    by None false rest = rest ∙ omega arith
+    by (Some s) true rest = ap (λ (n : ℕ). suc n) rest ∙ omega arith
+    by (Some s) false rest = rest ∙ omega arith
+
 -- ---- counted in turn
 
 puts-push : (some : List Changed) (c : Changed) → puts_among (some ++ c ∷ []) ≡ puts_among some + cond (is_some c.after) 1 0

@@ -7,6 +7,7 @@ ghost use Rattle.dnsname.specs.Names.{Labels, ends_in, lower};
 ghost use Rattle.rrset.specs.Records.{same_key};
 ghost use Rattle.rrset.specs.KeyedRows.{put_row, without_rows, row_at};
 ghost use Rattle.rrset.specs.Tables.{HasLowerOwner};
+ghost use Rattle.nametable.specs.FirstOctets.{HasFirst};
 ghost use Rattle.nametable.specs.Nodes.{AreAlike, all_rows, has_rows, name_cmp, names_in, room_at, table_at};
 ghost use Rattle.nametable.specs.Blocks.{AreBlocks, AreFilled, IsBlockOf, nodes_in};
 
@@ -27,13 +28,13 @@ fn block_of<V: Drop>(blocks: &[Block<V>], name: &Name) -> usize
     count.saturating_sub(1)
 }
 
-/// The block of a name in lower case.
-fn block_of_lower<V: Drop>(blocks: &[Block<V>], name: &Name) -> usize
+/// The block of a name in lower case, whose first octets have this number there.
+fn block_of_lower<V: Drop>(blocks: &[Block<V>], first: u64, name: &Name) -> usize
     requires blocks { AreBlocks blocks.now }
+    requires first { HasFirst first (lower name.now) }
     requires some { 0 < length blocks.now }
     ensures { IsBlockOf (lower name.now) blocks.now result }
 {
-    let first = first_of_lower(name);
     let count = blocks.partition_point(|block| block.begins_by_lower(first, name));
     count.saturating_sub(1)
 }
@@ -64,8 +65,9 @@ pub(crate) fn table_of_in_blocks<'a, V: Drop>(
     if blocks.is_empty() {
         return None;
     }
-    let place = block_of_lower(blocks, name);
-    table_of(blocks[place].nodes(), name)
+    let first = first_of_lower(name);
+    let place = block_of_lower(blocks, first, name);
+    table_of(blocks[place].nodes(), first, name)
 }
 
 /// Gives a key this value in the block of its name, and counts the name where it had no rows.

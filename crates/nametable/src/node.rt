@@ -11,7 +11,7 @@ ghost use Rattle.nametable.specs.Blocks.{AddsNoOther};
 ghost use Rattle.nametable.specs.FirstOctets.{HasFirst};
 ghost use Rattle.nametable.specs.Nodes.{AreNodes, IsNameAt, IsNameGap, all_rows, has_rows, name_cmp, names_in, room_at, table_at};
 
-use crate::order::{compare_names, compare_with_lower_name, first_of, first_of_lower};
+use crate::order::{compare_names, compare_with_lower_name, first_of};
 use dnsname::Name;
 use rrset::{Copied, Key, NoMemory, Table};
 use std::alloc::Global;
@@ -77,22 +77,27 @@ impl<V: Drop> Node<V> {
     pub(crate) fn compare(&self, first: u64, name: &Name) -> Ordering
         ensures { HasFirst first name.now → result ≡ name_cmp self.now.0 name.now }
     {
-        match self.first.cmp(&first) {
-            Ordering::Less => Ordering::Less,
-            Ordering::Equal => compare_names(&self.named.owner, name),
-            Ordering::Greater => Ordering::Greater,
+        // Two tests with a branch each, as most steps of a search end at one of them.
+        if self.first < first {
+            return Ordering::Less;
         }
+        if first < self.first {
+            return Ordering::Greater;
+        }
+        compare_names(&self.named.owner, name)
     }
 
     /// The order of its name and of one in lower case, whose first octets have this number there.
     pub(crate) fn compare_with_lower(&self, first: u64, name: &Name) -> Ordering
         ensures { HasFirst first (lower name.now) → result ≡ name_cmp self.now.0 (lower name.now) }
     {
-        match self.first.cmp(&first) {
-            Ordering::Less => Ordering::Less,
-            Ordering::Equal => compare_with_lower_name(&self.named.owner, name),
-            Ordering::Greater => Ordering::Greater,
+        if self.first < first {
+            return Ordering::Less;
         }
+        if first < self.first {
+            return Ordering::Greater;
+        }
+        compare_with_lower_name(&self.named.owner, name)
     }
 
     /// Its rows.
@@ -176,12 +181,12 @@ fn search<V: Drop>(nodes: &[Node<V>], name: &Name) -> Result<usize, usize>
 }
 
 /// Where a name in lower case is among nodes, or where it would go.
-fn search_lower<V: Drop>(nodes: &[Node<V>], name: &Name) -> Result<usize, usize>
-    requires { AreNodes nodes.now }
+fn search_lower<V: Drop>(nodes: &[Node<V>], first: u64, name: &Name) -> Result<usize, usize>
+    requires nodes { AreNodes nodes.now }
+    requires first { HasFirst first (lower name.now) }
     ensures found { IfOk result (IsNameAt (lower name.now) nodes.now) }
     ensures absent { IfErr result (IsNameGap (lower name.now) nodes.now) }
 {
-    let first = first_of_lower(name);
     nodes.binary_search_by(|node| node.compare_with_lower(first, name))
 }
 
@@ -196,12 +201,17 @@ pub(crate) fn table_for<'a, V: Drop>(nodes: &'a [Node<V>], key: &Key) -> Option<
     }
 }
 
-/// The table of a name.
-pub(crate) fn table_of<'a, V: Drop>(nodes: &'a [Node<V>], name: &Name) -> Option<&'a Table<V>>
-    requires { AreNodes nodes.now }
+/// The table of a name, whose first octets have this number in lower case.
+pub(crate) fn table_of<'a, V: Drop>(
+    nodes: &'a [Node<V>],
+    first: u64,
+    name: &Name,
+) -> Option<&'a Table<V>>
+    requires nodes { AreNodes nodes.now }
+    requires first { HasFirst first (lower name.now) }
     ensures { MatchOption result (table_at (lower name.now) nodes.now ≡ None) (λ table. table_at (lower name.now) nodes.now ≡ Some table.now) }
 {
-    match search_lower(nodes, name) {
+    match search_lower(nodes, first, name) {
         Ok(place) => Some(nodes[place].table()),
         Err(_) => None,
     }

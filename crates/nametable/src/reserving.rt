@@ -1,6 +1,6 @@
 //! Room for the keys of a plan.
 
-ghost use Rattle.std.specs.Prelude.{◌≡◌, ◌≤◌, ◌<◌, true, IsTrue, OnOk, is_some, length};
+ghost use Rattle.std.specs.Prelude.{◌≡◌, ◌≤◌, ◌<◌, ◌&&◌, true, IsTrue, OnOk, is_some, length};
 ghost use Rattle.std.specs.List.{AllByRecursion, filter};
 ghost use Rattle.std.specs.Ordering.{is_eq};
 ghost use Rattle.dnsname.specs.Names.{Labels, lower};
@@ -13,6 +13,9 @@ use crate::blocks::reserve_in_blocks;
 use crate::order::compare_names;
 use dnsname::Name;
 use rrset::{Changed, NoMemory, Table};
+
+/// So many changes are few.
+const FEW: usize = 4;
 
 /// The changes at keys of an owner, which stand together.
 fn changes_of<'a>(changed: &'a [Changed], owner: &Name) -> &'a [Changed]
@@ -39,11 +42,32 @@ fn puts_among(changed: &[Changed]) -> usize
     count
 }
 
+/// Whether a change puts a key of an owner.
+fn puts_at(change: &Changed, owner: &Name) -> bool
+    ensures { result ≡ (is_some change.now.after && is_eq (name_cmp owner.now change.now.key.owner)) }
+{
+    change.after.is_some() && compare_names(owner, &change.key.owner).is_eq()
+}
+
+/// How many changes put a key of an owner, each looked at.
+fn puts_of(changed: &[Changed], owner: &Name) -> usize
+    ensures { result ≡ length (filter (λ c. is_some c.after && is_eq (name_cmp owner.now c.key.owner)) changed.now) }
+{
+    changed
+        .iter()
+        .filter(|change| puts_at(change, owner))
+        .count()
+}
+
 /// How many keys of an owner are put.
 fn keys_of(changed: &[Changed], owner: &Name) -> usize
     requires { HaveRisingKeys changed.now }
     ensures { result ≡ count_at owner.now (keys_put changed.now) }
 {
+    // Few are looked at one by one, which takes less than a search.
+    if changed.len() <= FEW {
+        return puts_of(changed, owner);
+    }
     puts_among(changes_of(changed, owner))
 }
 

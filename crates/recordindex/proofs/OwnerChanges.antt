@@ -1,25 +1,26 @@
 -- The owners of rows, where a row is put or taken out.
-use Rattle.std.proofs.Common.{◌≡◌, ℕ, zero, suc, ◌+◌, ◌<◌, ◌≤◌, Bool, true, false, cond, List, [], ◌∷◌, ◌++◌, length, get_or, take, filter, refl, sym, ap, subst, ◌∙◌, arith}
-use Rattle.std.specs.Prelude.{not, ◌&&◌, ◌||◌}
+use Rattle.std.proofs.Common.{◌≡◌, ℕ, zero, suc, ◌+◌, ◌<◌, ◌≤◌, Bool, true, false, cond, List, [], ◌∷◌, ◌++◌, length, get_or, take, filter, nat_lt, refl, sym, ap, subst, ◌∙◌, arith}
+use Rattle.std.specs.Prelude.{not, ◌&&◌, ◌||◌, Option, Some, None, is_some}
 use Rattle.std.specs.FinMap.Entries.{by_order}
 use Rattle.std.specs.List.{AllByRecursion, list_any}
 use Rattle.std.specs.Ordering.{is_eq}
 use Rattle.std.specs.declared.cmp.Ordering.{Ordering}
 use Rattle.std.specs.declared.cmp.Ordering.TheVariants.{Less, Equal, Greater}
+use Rattle.std.proofs.lemmas.Bool.{ltb-true, ltb-false}
 use Rattle.std.proofs.lemmas.List.{take_more}
 use Rattle.std.proofs.lemmas.List.Folds.{list_any_more}
 use Rattle.dnsname.specs.Names.{Labels, lower, same_name}
 use Rattle.dnsname.proofs.Decisions.{same_name-Decides}
-use Rattle.rrset.specs.KeyedRows.{Rows, put_row, rows_of, without_rows}
+use Rattle.rrset.specs.KeyedRows.{Rows, put_row, row_at, rows_of, without_rows}
 use Rattle.rrset.specs.Records.{key_cmp, same_key}
-use Rattle.rrset.specs.Tables.{HasLowerOwner, HaveLowerOwners}
+use Rattle.rrset.specs.Tables.{HaveLowerOwners}
 use Rattle.rrset.specs.declared.record.Changed.{Changed}
 use Rattle.rrset.specs.declared.record.Key.{Key}
 use Rattle.rrset.specs.declared.record.Shown.{Shown}
 use Rattle.rrset.proofs.KeyOrder.{key_cmp-IsAntisymmetric}
 use Rattle.nametable.specs.Nodes.{IsNode, Nodes, all_rows}
 use Rattle.suffixes.specs.Endings.{HasRoomFor as HasPlacesFor}
-use Rattle.recordindex.specs.Owners.{AreOwners}
+use Rattle.recordindex.specs.Owners.{AreOwners, AreOwnersBut, HasPlacesToPut}
 
 or_swap : (a b r : Bool) → (a || (b || r)) ≡ (b || (a || r))
 or_swap true true r = refl
@@ -111,45 +112,39 @@ module _ (test : Labels → Bool) where
           ∙ ap (λ (r : Bool). test e.0.owner || r) others
           ∙ or_swap (test e.0.owner) (test key.owner) (any es)
 
-  -- no row of the owner is left
-  pub any-gone : (key : Key) (rows : Rows Shown) → length (rows_of key.owner (without_rows (same_key key) rows)) ≡ 0
-      → list_any (λ e. test e.0.owner && not (same_name e.0.owner key.owner)) rows ≡ any (without_rows (same_key key) rows)
-  any-gone key [] none = refl
-  any-gone key (e ∷ es) none = by (same_key key e.0) refl none (any-gone key es)
+  -- the owner is that of the row of a key
+  pub any-at : (key : Key) (rows : Rows Shown) → is_some (row_at key rows) ≡ true → any rows ≡ (test key.owner || any rows)
+  any-at key [] there = absurd cc
+  any-at key (e ∷ es) there = by (same_key key e.0) refl there (any-at key es)
     where
-      here : (t : Bool) → same_name key.owner e.0.owner ≡ t → length (cond t (e ∷ rows_of key.owner (without_rows (same_key key) es)) (rows_of key.owner (without_rows (same_key key) es))) ≡ 0 → (same_name key.owner e.0.owner ≡ false) × (length (rows_of key.owner (without_rows (same_key key) es)) ≡ 0)
-      here true is none = absurd (omega arith)
-      here false is none = (is, none)
+      by : (t : Bool) → same_key key e.0 ≡ t → is_some (cond t (Some e.1) (row_at key es)) ≡ true → (is_some (row_at key es) ≡ true → any es ≡ (test key.owner || any es))
+          → (test e.0.owner || any es) ≡ (test key.owner || (test e.0.owner || any es))
+      by true is there others =
+          or_again (test e.0.owner) (any es)
+          ∙ ap (λ (k : Key). test k.owner || (test e.0.owner || any es)) (sym (same-is key e.0 is))
+      by false is there others = ap (λ (r : Bool). test e.0.owner || r) (others there) ∙ or_swap (test e.0.owner) (test key.owner) (any es)
 
-      by : (t : Bool) → same_key key e.0 ≡ t → length (rows_of key.owner (cond (not t) (e ∷ (without_rows (same_key key) es)) (without_rows (same_key key) es))) ≡ 0
-          → (length (rows_of key.owner (without_rows (same_key key) es)) ≡ 0 → list_any (λ e. test e.0.owner && not (same_name e.0.owner key.owner)) es ≡ any (without_rows (same_key key) es))
-          → ((test e.0.owner && not (same_name e.0.owner key.owner)) || list_any (λ e. test e.0.owner && not (same_name e.0.owner key.owner)) es) ≡ any (cond (not t) (e ∷ (without_rows (same_key key) es)) (without_rows (same_key key) es))
-      by true is none others =
-          let me : same_name e.0.owner key.owner ≡ true = ap (λ (k : Key). same_name e.0.owner k.owner) (same-is key e.0 is) ∙ same_name-refl e.0.owner in
-          ap (λ (t : Bool). (test e.0.owner && not t) || list_any (λ e. test e.0.owner && not (same_name e.0.owner key.owner)) es) me
-          ∙ ap (λ (t : Bool). t || list_any (λ e. test e.0.owner && not (same_name e.0.owner key.owner)) es) (and_false (test e.0.owner))
-          ∙ others none
+  -- no row has the owner
+  any-none : (owner : Labels) (rows : Rows Shown) → length (rows_of owner rows) ≡ 0 → list_any (λ e. test e.0.owner && not (same_name e.0.owner owner)) rows ≡ any rows
+  any-none owner [] none = refl
+  any-none owner (e ∷ es) none = by (same_name owner e.0.owner) refl none (any-none owner es)
+    where
+      by : (t : Bool) → same_name owner e.0.owner ≡ t → length (cond t (e ∷ rows_of owner es) (rows_of owner es)) ≡ 0
+          → (length (rows_of owner es) ≡ 0 → list_any (λ e. test e.0.owner && not (same_name e.0.owner owner)) es ≡ any es)
+          → ((test e.0.owner && not (same_name e.0.owner owner)) || list_any (λ e. test e.0.owner && not (same_name e.0.owner owner)) es) ≡ (test e.0.owner || any es)
+      by true is none others = absurd (omega arith)
       by false is none others =
-          let h = here (same_name key.owner e.0.owner) refl none in
-          ap (λ (t : Bool). (test e.0.owner && not t) || list_any (λ e. test e.0.owner && not (same_name e.0.owner key.owner)) es) (same_name-turned key.owner e.0.owner h.0)
-          ∙ ap (λ (t : Bool). t || list_any (λ e. test e.0.owner && not (same_name e.0.owner key.owner)) es) (and_true (test e.0.owner))
-          ∙ ap (λ (r : Bool). test e.0.owner || r) (others h.1)
+          ap (λ (t : Bool). (test e.0.owner && not t) || list_any (λ e. test e.0.owner && not (same_name e.0.owner owner)) es) (same_name-turned owner e.0.owner is)
+          ∙ ap (λ (t : Bool). t || list_any (λ e. test e.0.owner && not (same_name e.0.owner owner)) es) (and_true (test e.0.owner))
+          ∙ ap (λ (r : Bool). test e.0.owner || r) (others none)
 
-rows_of-without : (key : Key) (rows : Rows Shown) → length (rows_of key.owner (without_rows (same_key key) rows)) ≤ length (rows_of key.owner rows)
-rows_of-without key [] = omega arith
-rows_of-without key (e ∷ es) = by (same_key key e.0) (rows_of-without key es)
-  where
-    more : (t : Bool) → length (rows_of key.owner (without_rows (same_key key) es)) ≤ length (rows_of key.owner es) → length (rows_of key.owner (without_rows (same_key key) es)) ≤ length (cond t (e ∷ rows_of key.owner es) (rows_of key.owner es))
-    more true few = omega arith
-    more false few = few
-
-    both : (t : Bool) → length (rows_of key.owner (without_rows (same_key key) es)) ≤ length (rows_of key.owner es) → length (cond t (e ∷ rows_of key.owner (without_rows (same_key key) es)) (rows_of key.owner (without_rows (same_key key) es))) ≤ length (cond t (e ∷ rows_of key.owner es) (rows_of key.owner es))
-    both true few = omega arith
-    both false few = few
-
-    by : (t : Bool) → length (rows_of key.owner (without_rows (same_key key) es)) ≤ length (rows_of key.owner es) → length (rows_of key.owner (cond (not t) (e ∷ (without_rows (same_key key) es)) (without_rows (same_key key) es))) ≤ length (rows_of key.owner (e ∷ es))
-    by true few = more (same_name key.owner e.0.owner) few
-    by false few = both (same_name key.owner e.0.owner) few
+  -- without the rows of an owner, neither is it among the names
+  but-none : (owner : Labels) (rows : Rows Shown) → length (rows_of owner rows) ≡ 0
+      → ((test owner && not (same_name owner owner)) || list_any (λ e. test e.0.owner && not (same_name e.0.owner owner)) rows) ≡ any rows
+  but-none owner rows none =
+      ap (λ (t : Bool). (test owner && not t) || list_any (λ e. test e.0.owner && not (same_name e.0.owner owner)) rows) (same_name-refl owner)
+      ∙ ap (λ (t : Bool). t || list_any (λ e. test e.0.owner && not (same_name e.0.owner owner)) rows) (and_false (test owner))
+      ∙ any-none owner rows none
 
 any-filter : (test keeps : Labels → Bool) (names : List Labels) → list_any test (filter keeps names) ≡ list_any (λ name. test name && keeps name) names
 any-filter test keeps [] = refl
@@ -162,36 +157,67 @@ any-filter test keeps (name ∷ names) = by (keeps name) (any-filter test keeps 
 
 -- ---- what the changes leave
 
-pub owners-put : (was now : List Labels) (key : Key) (shown : Shown) (rows : Rows Shown) → AreOwners was rows → ((test : Labels → Bool) → list_any test now ≡ (test key.owner || list_any test was)) → AreOwners now (put_row key shown rows)
-owners-put was now key shown rows are puts test = puts test ∙ ap (λ (r : Bool). test key.owner || r) (are test) ∙ sym (any-put test key shown rows)
+pub owners-put : (owners : List Labels) (key : Key) (shown : Shown) (rows now : Rows Shown) → AreOwnersBut (Some key.owner) owners rows → now ≡ put_row key shown rows → AreOwners owners now
+owners-put owners key shown rows now are now-is test = are test ∙ sym (any-put test key shown rows) ∙ ap (any test) (sym now-is)
 
-pub owners-gone : (was later : List Labels) (key : Key) (rows now found : Rows Shown) → AreOwners was rows → later ≡ filter (λ other. not (same_name other key.owner)) was
-    → now ≡ without_rows (same_key key) rows → found ≡ rows_of key.owner now → length found ≡ 0 → AreOwners later now
-owners-gone was later key rows now found are later-is now-is found-is none test =
-    let left : length (rows_of key.owner (without_rows (same_key key) rows)) ≡ 0 = ap (λ (r : Rows Shown). length (rows_of key.owner r)) (sym now-is) ∙ ap (λ (r : Rows Shown). length r) (sym found-is) ∙ none in
+pub owners-counted : (was now : List Labels) (lessened : Option Labels) (owner : Labels) (rows : Rows Shown) → AreOwnersBut lessened was rows → lessened ≡ None
+    → ((test : Labels → Bool) → list_any test now ≡ (test owner || list_any test was)) → AreOwnersBut (Some owner) now rows
+owners-counted was now lessened owner rows are none puts test =
+    puts test ∙ ap (λ (r : Bool). test owner || r) (subst (λ (o : Option Labels). AreOwnersBut o was rows) none are test)
+
+pub owners-gone : (was later : List Labels) (owner : Labels) (rows : Rows Shown) → AreOwnersBut (Some owner) was rows → later ≡ filter (λ other. not (same_name other owner)) was
+    → nat_lt 0 (length (rows_of owner rows)) ≡ false → AreOwners later rows
+owners-gone was later owner rows are later-is none test =
+    let left : length (rows_of owner rows) ≡ 0 = omega (arith, ltb-false 0 (length (rows_of owner rows)) none) in
     ap (list_any test) later-is
-    ∙ any-filter test (λ other. not (same_name other key.owner)) was
-    ∙ are (λ name. test name && not (same_name name key.owner))
-    ∙ any-gone test key rows left
-    ∙ ap (any test) (sym now-is)
+    ∙ any-filter test (λ other. not (same_name other owner)) was
+    ∙ are (λ name. test name && not (same_name name owner))
+    ∙ but-none test owner rows left
 
-pub lows-without : (key : Key) (rows : Rows Shown) → HaveLowerOwners rows → HaveLowerOwners (without_rows (same_key key) rows)
-lows-without key [] lows = tt
-lows-without key (e ∷ es) lows = by (not (same_key key e.0)) (lows-without key es lows.1)
-  where
-    by : (t : Bool) → HaveLowerOwners (without_rows (same_key key) es) → HaveLowerOwners (cond t (e ∷ without_rows (same_key key) es) (without_rows (same_key key) es))
-    by true others = (lows.0, others)
-    by false others = others
+pub owners-left : (owners : List Labels) (owner : Labels) (rows : Rows Shown) → AreOwnersBut (Some owner) owners rows → lower owner ≡ owner → HaveLowerOwners rows
+    → nat_lt 0 (length (rows_of owner rows)) ≡ true → AreOwners owners rows
+owners-left owners owner rows are low lows some test =
+    let left : 1 ≤ length (rows_of owner rows) = omega (arith, ltb-true 0 (length (rows_of owner rows)) some) in
+    are test ∙ sym (any-among test owner rows low lows left)
 
-pub owners-left : (owners : List Labels) (key : Key) (rows now found : Rows Shown) → AreOwners owners rows → HasLowerOwner key → HaveLowerOwners rows
-    → now ≡ without_rows (same_key key) rows → found ≡ rows_of key.owner now → 1 ≤ length found → AreOwners owners now
-owners-left owners key rows now found are low lows now-is found-is some test =
-    let left : length (rows_of key.owner (without_rows (same_key key) rows)) ≡ length found = ap (λ (r : Rows Shown). length (rows_of key.owner r)) (sym now-is) ∙ ap (λ (r : Rows Shown). length r) (sym found-is) in
+-- a key of the owner that lost a record is taken out
+pub owners-less : (owners : List Labels) (last : Labels) (key : Key) (rows now : Rows Shown) → AreOwnersBut (Some last) owners rows → last ≡ key.owner → now ≡ without_rows (same_key key) rows → AreOwnersBut (Some last) owners now
+owners-less owners last key rows now are same now-is test =
     are test
-    ∙ any-among test key.owner rows low lows (omega (arith, rows_of-without key rows))
+    ∙ ap (λ (name : Labels). test name || any test rows) same
     ∙ sym (any-but test key rows)
-    ∙ sym (any-among test key.owner (without_rows (same_key key) rows) low (lows-without key rows lows) (omega arith))
-    ∙ ap (any test) (sym now-is)
+    ∙ ap (λ (name : Labels). test name || any test (without_rows (same_key key) rows)) (sym same)
+    ∙ ap (λ (r : Rows Shown). test last || any test r) (sym now-is)
+
+-- a key that was there is taken out
+pub owners-found : (owners : List Labels) (key : Key) (rows now : Rows Shown) → AreOwners owners rows → is_some (row_at key rows) ≡ true → now ≡ without_rows (same_key key) rows → AreOwnersBut (Some key.owner) owners now
+owners-found owners key rows now are there now-is test =
+    are test
+    ∙ any-at test key rows there
+    ∙ sym (any-but test key rows)
+    ∙ ap (λ (r : Rows Shown). test key.owner || any test r) (sym now-is)
+
+-- one that wasn't there leaves the rows
+nothing_taken : (key : Key) (rows : Rows Shown) → is_some (row_at key rows) ≡ false → without_rows (same_key key) rows ≡ rows
+nothing_taken key [] none = refl
+nothing_taken key (e ∷ es) none = by (same_key key e.0) none (nothing_taken key es)
+  where
+    by : (t : Bool) → is_some (cond t (Some e.1) (row_at key es)) ≡ false → (is_some (row_at key es) ≡ false → without_rows (same_key key) es ≡ es)
+        → cond (not t) (e ∷ without_rows (same_key key) es) (without_rows (same_key key) es) ≡ e ∷ es
+    by true none others = absurd cc
+    by false none others = ap (λ (r : Rows Shown). e ∷ r) (others none)
+
+pub owners-same : (owners : List Labels) (key : Key) (rows now : Rows Shown) → AreOwners owners rows → is_some (row_at key rows) ≡ false → now ≡ without_rows (same_key key) rows → AreOwners owners now
+owners-same owners key rows now are none now-is = subst (AreOwners owners) (sym (now-is ∙ nothing_taken key rows none)) are
+
+-- the owner of a row is among the owners
+pub owner-told : (owners : List Labels) (owner : Labels) (rows : Rows Shown) → AreOwners owners rows → lower owner ≡ owner → HaveLowerOwners rows → nat_lt 0 (length (rows_of owner rows)) ≡ true
+    → list_any (same_name owner) owners ≡ true
+owner-told owners owner rows are low lows some =
+    let left : 1 ≤ length (rows_of owner rows) = omega (arith, ltb-true 0 (length (rows_of owner rows)) some) in
+    are (same_name owner)
+    ∙ any-among (same_name owner) owner rows low lows left
+    ∙ ap (λ (t : Bool). t || any (same_name owner) rows) (same_name-refl owner)
 
 -- ---- owners in lower case
 
@@ -233,14 +259,14 @@ all-kept : {X : Type 0} (P Q : X → Type 0) → ((x : X) → P x → Q x) → (
 all-kept P Q f [] all = tt
 all-kept P Q f (x ∷ xs) all = (f x all.0, all-kept P Q f xs all.1)
 
--- there are places for the owners of changes
+-- there are places for the owners of what changes put
 abbrev pub HavePlaces : List (List ℕ) → List Changed → Type 0
-HavePlaces room changed = AllByRecursion (λ c. HasPlacesFor c.key.owner room) changed
+HavePlaces room changed = AllByRecursion (HasPlacesToPut room) changed
 
 pub places-more : (was now : List (List ℕ)) (changed : List Changed) (i : ℕ) (c : Changed) → i < length changed → c ≡ get_or changed i c
-    → ((name : Labels) → HasPlacesFor name was → HasPlacesFor name now) → HavePlaces was (take i changed) → HasPlacesFor c.key.owner now → HavePlaces now (take (i + 1) changed)
+    → ((name : Labels) → HasPlacesFor name was → HasPlacesFor name now) → HavePlaces was (take i changed) → HasPlacesToPut now c → HavePlaces now (take (i + 1) changed)
 places-more was now changed i c within is kept before here =
     subst (HavePlaces now) (sym (take_more changed i c within))
     (subst (λ (d : Changed). HavePlaces now (take i changed ++ d ∷ [])) is
-    (all-push (λ (d : Changed). HasPlacesFor d.key.owner now) (take i changed) c
-    (all-kept (λ (d : Changed). HasPlacesFor d.key.owner was) (λ (d : Changed). HasPlacesFor d.key.owner now) (λ d there. kept d.key.owner there) (take i changed) before) here))
+    (all-push (HasPlacesToPut now) (take i changed) c
+    (all-kept (HasPlacesToPut was) (HasPlacesToPut now) (λ d there puts. kept d.key.owner (there puts)) (take i changed) before) here))

@@ -77,7 +77,7 @@ impl RecordIndex {
         ensures steps { steps.new ≡ steps.old + length changed.now }
     {
         self.index.reserve_for(changed, steps)?;
-        reserve_owners(&mut self.suffixes, changed)
+        reserve_owners(&self.index, &mut self.suffixes, changed)
     }
 
     /// Makes changes, where there is room for all keys that they put. It takes no memory, and room that was made for other

@@ -50,7 +50,7 @@ pub fn replay<S: Source, K: Sink>(alloc: Global, source: &mut S, sink: &mut K) -
         Err(ReadError::Failed) => return without_ends(tell(sink, Outcome::ReadFault, READ_FAULT)),
         Err(ReadError::NoMemory) => return without_ends(tell(sink, Outcome::NoMemory, NO_MEMORY)),
     };
-    match reply_to(alloc, &script) {
+    match reply_to(alloc, script) {
         Ok(
             Reply {
                 outcome,

@@ -1,6 +1,7 @@
 //! What a script is answered.
 
 ghost use Rattle.std.specs.Prelude.{◌≡◌, ◌⊎◌, IfOk, IfSome, string_bytes};
+ghost use Rattle.scripts.specs.KeptWhole.{ReadsWhole};
 ghost use Rattle.replay.specs.ScriptTexts.{outside_text};
 ghost use Rattle.replay.specs.TextWords.{by_notices};
 ghost use Rattle.replay.specs.ScriptReplies.{reply_of};
@@ -24,14 +25,21 @@ pub struct Reply {
     pub ends: Option<Ends>,
 }
 
+/// The script, which stands by itself: its octets are given back.
+fn read_once(alloc: Global, octets: Vec<u8>) -> Result<ReadWhole, NoMemory>
+    ensures { IfOk result (ReadsWhole octets.items) }
+{
+    read_whole_script(alloc, &octets)
+}
+
 /// The text of the script, or the number of the first line outside.
-pub fn reply_to(alloc: Global, octets: &[u8]) -> Result<Reply, NoMemory>
-    ensures exact { IfOk result (λ reply. reply_of reply ≡ whole_reply by_notices octets.now) }
+pub fn reply_to(alloc: Global, octets: Vec<u8>) -> Result<Reply, NoMemory>
+    ensures exact { IfOk result (λ reply. reply_of reply ≡ whole_reply by_notices octets.items) }
     ensures outcome { IfOk result (λ reply. (reply.outcome ≡ Outcome.Done) ⊎ (reply.outcome ≡ Outcome.Outside)) }
     ensures there { IfOk result (λ reply. EndsWhenDone reply.outcome reply.ends) }
-    ensures ends { IfOk result (λ reply. IfSome reply.ends (AreEnds octets.now)) }
+    ensures ends { IfOk result (λ reply. IfSome reply.ends (AreEnds octets.items)) }
 {
-    match read_whole_script(alloc, octets)? {
+    match read_once(alloc, octets)? {
         ReadWhole::Whole(script) => {
             let Played { text, worlds } = script_text(alloc, script)?;
             let ends = ends_of(alloc, worlds)?;

@@ -13,3 +13,4 @@ pub mod MoreLines
 pub mod HeadTaken
 pub mod LineByLine
 pub mod SentOctets
+pub mod Octets

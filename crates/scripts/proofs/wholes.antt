@@ -5,3 +5,4 @@ pub mod Growing
 pub mod Taken
 pub mod OneHub
 pub mod WholeReaders
+pub mod Carried

@@ -1,27 +1,28 @@
 -- Scripts that may have a second hub, as the program holds them.
 --     whole_said line      what a line that was read says
---     carriers_of carriers, is_kept_alone w name carrier      the clients that carry names, and whether one may beside another
+--     carrier_kept carrier      a client that carries a name
 --     made_in text, carrier_in text      the client that a line makes, and the one that it lets carry a name
 --     turns_from fars lines      for which hub each line is that happens
 --     IsWholeScript octets script      no line is outside; both halves are those of the lines, and the turns are those of the lines that happen
 --     ReadsWhole octets read      what was read of octets
 --     HoldsWhole draft so_far      a draft holds what the lines so far have made
---     known_kept draft      what is known of both hubs
+--     known_kept draft, may_follow_kept alone known line      what is known of both hubs; what is asked of a line, by which clients carry names alone
 --     TakesWhole draft line later taken, TakesFit draft line later taken      a further line was taken, where it may stand there
 --     TakesHalves draft near far turn later taken      each hub's draft took its line
 --     IsOf count script taken      a script with so many lines, and what was taken
-use Rattle.std.specs.Prelude.{◌≡◌, ℕ, Bool, true, false, ◌&&◌, List, [], ◌∷◌, ◌++◌, map, length, ◌==◌, Option, Some, is_some, Ok, Err, if◌then◌else◌, option_to_list, string_bytes, unwrap_or}
+use Rattle.std.specs.Prelude.{◌≡◌, ℕ, Bool, true, false, not, ◌&&◌, List, [], ◌∷◌, ◌++◌, length, ◌==◌, Option, Some, is_some, Ok, Err, if◌then◌else◌, option_to_list, string_bytes, unwrap_or}
 use Rattle.dnsname.specs.Names.{Labels}
 use Rattle.push_base.specs.Optional.{◌>>=◌}
 use Rattle.dsosession.specs.Timing.{default_timers}
 use Rattle.scripts.specs.Lines.{Word, ScriptLine}
-use Rattle.scripts.specs.Scripts.{lines_in, is_head}
+use Rattle.scripts.specs.Scripts.{lines_in, is_client, is_hub_client, is_head}
 use Rattle.scripts.specs.Events.{known_clients, words_known}
 use Rattle.scripts.specs.Drafts.{Taken, taken_of, known_of, may_stand, TakesLine, HaveMade}
 use Rattle.scripts.specs.KeptLines.{said, words_of}
 use Rattle.scripts.specs.KeptScripts.{IsScript}
+use Rattle.scripts.specs.Carrying.{alone_in}
 use Rattle.scripts.specs.WholeLines.{WholeLine, one, far_zone, far_client, carry, names_far, is_of_both, fars_behind, is_far_in, carry_line, whole_line_of}
-use Rattle.scripts.specs.WholeScripts.{BothKnown, Carrier, is_other_or_own, may_follow_both, made_by, carried_by, apex_in, near_lines, far_heads, fars_of, WholeSoFar, whole_next, whole_script_of}
+use Rattle.scripts.specs.WholeScripts.{BothKnown, Carrier, may_follow_one, carries_alone, made_by, carried_by, apex_in, near_lines, far_heads, fars_of, WholeSoFar, whole_next, whole_script_of}
 use Rattle.scripts.specs.TextLines.{TakesHeld}
 use Rattle.scripts.specs.declared.line.HeadLine.TheVariants as heads
 use Rattle.scripts.specs.declared.line.Line.{Line}
@@ -51,13 +52,6 @@ whole_said (lines.Carry line) = carry_said line
 
 abbrev pub carrier_kept : named.Carrier → Carrier
 carrier_kept c = (string_bytes c.word, c.name)
-
-abbrev pub carriers_of : List named.Carrier → List Carrier
-carriers_of carriers = map (λ (c : named.Carrier). carrier_kept c) carriers
-
--- whether that is another name, or the client's own carry
-abbrev pub is_kept_alone : Word → Labels → named.Carrier → Bool
-is_kept_alone w name c = is_other_or_own w name (carrier_kept c)
 
 -- the word of the client that a line makes, and the client that it lets carry a name
 abbrev pub made_in : List ℕ → Option Word
@@ -116,10 +110,17 @@ known_kept draft = record {
   fars = words_known (taken_of draft.far).clients;
 }
 
+-- what is asked of a line, beside what each hub asks of it, where that is known of the clients that carry names
+abbrev pub may_follow_kept : (Word → Labels → Bool) → BothKnown → WholeLine → Bool
+may_follow_kept alone known (one line) = may_follow_one known line
+may_follow_kept alone known (far_zone apex serial) = known.in_head && not known.has_far
+may_follow_kept alone known (far_client w) = known.has_far && not (is_client known.near w)
+may_follow_kept alone known (carry w name written) = known.has_far && is_hub_client known.near w && alone w name
+
 -- a draft holds what the lines so far have made of both hubs, and for which of them each line is that happens
 pub record HoldsWhole (draft : WholeDraft) (so_far : WholeSoFar) : Type 0 where
   pub all : so_far.all ≡ words_of draft.clients.items
-  pub carriers : so_far.carriers ≡ carriers_of draft.carriers.items
+  pub carriers : carries_alone so_far.carriers ≡ alone_in draft.carriers
   pub known : so_far.known ≡ known_kept draft
   pub fars : so_far.known.fars ≡ fars_of [] so_far.lines
   pub near : HaveMade (near_lines so_far.lines) (taken_of draft.near)
@@ -133,7 +134,7 @@ TakesWhole draft line later taken = (so_far : WholeSoFar) → HoldsWhole draft s
 
 -- the same of a line that may stand there by itself, if it may as what it is to each hub
 abbrev pub TakesFit : WholeDraft → WholeLine → WholeDraft → Bool → Type 0
-TakesFit draft line later taken = may_follow_both (carriers_of draft.carriers.items) (known_kept draft) line ≡ true → TakesWhole draft line later taken
+TakesFit draft line later taken = may_follow_kept (alone_in draft.carriers) (known_kept draft) line ≡ true → TakesWhole draft line later taken
 
 abbrev pub with_turn : List Turn → Option Turn → List Turn
 with_turn items turn = items ++ option_to_list turn

@@ -1,3 +1,4 @@
+pub mod Carrying
 pub mod Lines
 pub mod Scripts
 pub mod TextLines

@@ -16,6 +16,7 @@ use dnsname::name::{Name, Octets};
 use dsosession::session::Timers;
 use dsosession::times::LEAST_KEEPALIVE;
 use history::NO_CAP;
+use memchr::memchr;
 use push_base::NoMemory;
 use rrset::record::{Question, Rr};
 use std::alloc::Global;
@@ -645,9 +646,10 @@ pub fn split_word(text: &[u8]) -> Option<(&[u8], &[u8])>
 }
 
 // The place of the first space.
+#[tactic(auto, using(crate::proofs::lines::Octets::first_place, crate::proofs::lines::Octets::within))]
 fn space_in(text: &[u8]) -> Option<usize>
     ensures place { result ≡ position (λ octet. octet == 32) text.now }
     ensures within { IfSome result (λ end. end < length text.now) }
 {
-    text.iter().position(|octet| *octet == b' ')
+    memchr(b' ', text)
 }

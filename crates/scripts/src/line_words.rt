@@ -3,16 +3,15 @@
 ghost use Rattle.std.specs.Prelude.{◌≡◌, ◌≤◌, None, IfOk, IfNone, IfSome, option_map, string_bytes};
 ghost use Rattle.dnsname.specs.Text.{name_of_text};
 ghost use Rattle.std.specs.List.{list_all};
-ghost use Rattle.std.specs.Result.{result_ok};
-ghost use Rattle.push_base.specs.Hexadecimal.{hex_octets};
 ghost use Rattle.push_base.specs.Limits.{max_moment, max_number};
 ghost use Rattle.scripts.specs.Lines.{number, number_from, cap_written, max_octets_passed, max_rcode, max_u16, max_u32, word, octets_written, is_digit, has_form, writable_of, is_word_octet};
 
+use crate::digits::octets_of_digits;
 use dnsname::name::{Name, Octets, TextFault};
 use dsotlv::MAX_FRAME;
 use dsotlv::ttls::LAST_TTL;
+use push_base::NoMemory;
 use push_base::limits::MAX_MOMENT;
-use push_base::{HexFault, NoMemory, hex_octets};
 use std::alloc::Global;
 use std::marker::Model;
 
@@ -92,21 +91,6 @@ pub(crate) fn octets_of_word(alloc: Global, text: &[u8]) -> Result<Option<Octets
         [] => Ok(None),
         _ if text.len() > MOST_DIGITS => Ok(None),
         _ => octets_of_digits(alloc, text),
-    }
-}
-
-// The octets that hexadecimal digits stand for.
-fn octets_of_digits(alloc: Global, text: &[u8]) -> Result<Option<Octets>, NoMemory>
-    ensures { IfOk result (λ octets. octets ≡ result_ok (hex_octets text.now)) }
-{
-    let Ok(text) = str::from_utf8(text) else {
-        return Ok(None);
-    };
-    match hex_octets(alloc, text) {
-        Ok(octets) => Ok(Some(octets)),
-        Err(HexFault::NoMemory) => Err(NoMemory),
-        Err(HexFault::Digit(_)) => Ok(None),
-        Err(HexFault::Odd) => Ok(None),
     }
 }
 

@@ -1,11 +1,11 @@
 //! What a script names anywhere: its clients, whose words no peer has, and which of them carry which names.
 
-ghost use Rattle.std.specs.Prelude.{◌≡◌, ◌++◌, IfOk, OnOk, option_map, option_to_list, string_bytes};
-ghost use Rattle.std.specs.List.{list_all};
+ghost use Rattle.std.specs.Prelude.{◌≡◌, ◌++◌, ◌∷◌, [], List, IfOk, OnOk, option_copied, option_map, option_to_list, string_bytes};
 ghost use Rattle.scripts.specs.Lines.{words_in};
 ghost use Rattle.scripts.specs.KeptLines.{words_of};
-ghost use Rattle.scripts.specs.KeptWhole.{carrier_kept, carriers_of, carrier_in, carrier_named, is_kept_alone, made_in};
-ghost use Rattle.scripts.specs.WholeScripts.{all_made, all_carried, carries_alone};
+ghost use Rattle.scripts.specs.KeptWhole.{carrier_kept, carrier_in, carrier_named, made_in};
+ghost use Rattle.scripts.specs.Carrying.{alone_in, carried_too, is_alone};
+ghost use Rattle.scripts.specs.WholeScripts.{Carrier as Plain, all_made, all_carried, carries_alone};
 
 use crate::clients::client_in;
 use crate::line_words::plain_word;
@@ -14,30 +14,112 @@ use crate::whole_line::{CarryLine, carry_of};
 use dnsname::name::Name;
 use push_base::NoMemory;
 use std::alloc::Global;
+use std::collections::BTreeMap;
 
 /// A client that carries a name to the second hub: its word, and the name.
 #[derive(Drop)]
-pub(crate) struct Carrier {
+struct Carrier {
     word: String,
     name: Name,
 }
 
-/// The words of all clients that a script has, of both hubs and lone ones, in the order of their lines.
-pub(crate) fn all_made(alloc: Global, octets: &[u8]) -> Result<Vec<String>, NoMemory>
-    ensures { IfOk result (λ words. words_of words.items ≡ all_made octets.now) }
+/// Who carries a name: the client of this word alone, or several clients.
+#[derive(Drop)]
+enum Carrying {
+    One(String),
+    Several,
+}
+
+/// Which clients carry which names, names but for case.
+#[derive(Drop)]
+pub(crate) struct Carriers {
+    names: BTreeMap<Name, Carrying>,
+}
+
+impl Carriers {
+    // No client carries any name.
+    fn new(alloc: Global) -> Self
+        ensures { alone_in result ≡ carries_alone [] }
+    {
+        Carriers {
+            names: BTreeMap::new(alloc),
+        }
+    }
+
+    // One more client that carries a name.
+    fn add(&mut self, carrier: Carrier) -> Result<(), NoMemory>
+        ensures { OnOk result ((carriers : List Plain) → alone_in self.old ≡ carries_alone carriers → alone_in self.new ≡ carries_alone (carriers ++ carrier_kept carrier ∷ [])) }
+    {
+        let Carrier { word, name } = carrier;
+        let carrying = carried_too(self.names.get(&name), word);
+        self.names.insert(name, carrying)?;
+        Ok(())
+    }
+
+    /// Whether no other client carries the name.
+    pub(crate) fn is_alone(&self, word: &[u8], name: &Name) -> bool
+        ensures { result ≡ alone_in self.now word.now name.now }
+    {
+        is_carried_alone(self.names.get(name), word)
+    }
+}
+
+// Who carries a name that a client carries, too.
+fn carried_too(carrying: Option<&Carrying>, word: String) -> Carrying
+    ensures { result ≡ carried_too (option_copied carrying.entry) word }
+{
+    match carrying {
+        None => Carrying::One(word),
+        Some(Carrying::One(other)) => {
+            if other.as_bytes() == word.as_bytes() {
+                Carrying::One(word)
+            } else {
+                Carrying::Several
+            }
+        }
+        Some(Carrying::Several) => Carrying::Several,
+    }
+}
+
+// Whether no other client than that of a word does.
+fn is_carried_alone(carrying: Option<&Carrying>, word: &[u8]) -> bool
+    ensures { result ≡ is_alone word.now (option_copied carrying.entry) }
+{
+    match carrying {
+        None => true,
+        Some(Carrying::One(other)) => other.as_bytes() == word,
+        Some(Carrying::Several) => false,
+    }
+}
+
+/// What a script names anywhere.
+#[derive(Drop)]
+pub(crate) struct AllNamed {
+    /// The words of all its clients, of both hubs and lone ones, in the order of their lines.
+    pub clients: Vec<String>,
+    /// The clients that carry names.
+    pub carriers: Carriers,
+}
+
+/// What a script names anywhere, each line by itself.
+pub(crate) fn all_named(alloc: Global, octets: &[u8]) -> Result<AllNamed, NoMemory>
+    ensures clients { IfOk result (λ named. words_of named.clients.items ≡ all_made octets.now) }
+    ensures carriers { IfOk result (λ named. alone_in named.carriers ≡ carries_alone (all_carried octets.now)) }
 {
     let too_long = is_too_long(octets);
-    let mut words = Vec::new(alloc);
+    let mut clients = Vec::new(alloc);
+    let mut carriers = Carriers::new(alloc);
     let mut rest = octets;
     'lines: while !rest.is_empty() {
         let (line, after) = split_line(rest);
         if is_outside(after, too_long) {
-            return Ok(words);
+            return Ok(AllNamed { clients, carriers });
         }
-        add_client(alloc, line, &mut words)?;
+        add_client(alloc, line, &mut clients)?;
+        add_carrier(alloc, line, &mut carriers)?;
         rest = after;
     }
-    Ok(words)
+    Ok(AllNamed { clients, carriers })
 }
 
 // Adds the word of the client that a line names, if it names one.
@@ -63,33 +145,12 @@ fn made_in(alloc: Global, line: &[u8]) -> Result<Option<String>, NoMemory>
     }
 }
 
-/// The clients that a script lets carry names, in the order of their lines.
-pub(crate) fn all_carried(alloc: Global, octets: &[u8]) -> Result<Vec<Carrier>, NoMemory>
-    ensures { IfOk result (λ carriers. carriers_of carriers.items ≡ all_carried octets.now) }
-{
-    let too_long = is_too_long(octets);
-    let mut carriers = Vec::new(alloc);
-    let mut rest = octets;
-    'lines: while !rest.is_empty() {
-        let (line, after) = split_line(rest);
-        if is_outside(after, too_long) {
-            return Ok(carriers);
-        }
-        add_carrier(alloc, line, &mut carriers)?;
-        rest = after;
-    }
-    Ok(carriers)
-}
-
 // Adds the client that a line lets carry a name, if it does.
-fn add_carrier(alloc: Global, line: &[u8], carriers: &mut Vec<Carrier>) -> Result<(), NoMemory>
-    ensures { OnOk result (carriers_of carriers.new.items ≡ carriers_of carriers.old.items ++ option_to_list (carrier_in line.now)) }
+fn add_carrier(alloc: Global, line: &[u8], carriers: &mut Carriers) -> Result<(), NoMemory>
+    ensures { OnOk result ((before : List Plain) → alone_in carriers.old ≡ carries_alone before → alone_in carriers.new ≡ carries_alone (before ++ option_to_list (carrier_in line.now))) }
 {
     match carrier_in(alloc, line)? {
-        Some(carrier) => {
-            carriers.push(carrier)?;
-            Ok(())
-        }
+        Some(carrier) => carriers.add(carrier),
         None => Ok(()),
     }
 }
@@ -120,27 +181,4 @@ fn carrier_of(line: CarryLine) -> Carrier
 {
     let CarryLine { word, name, .. } = line;
     Carrier { word, name }
-}
-
-/// Whether no other client carries the name.
-#[tactic(auto, using(crate::proofs::wholes::Named::alone_among))]
-pub(crate) fn carries_alone(carriers: &[Carrier], word: &[u8], name: &Name) -> bool
-    ensures { result ≡ carries_alone (carriers_of carriers.now) word.now name.now }
-{
-    are_other_or_own(carriers, word, name)
-}
-
-fn are_other_or_own(carriers: &[Carrier], word: &[u8], name: &Name) -> bool
-    ensures { result ≡ list_all (is_kept_alone word.now name.now) carriers.now }
-{
-    carriers
-        .iter()
-        .all(|carrier| is_other_or_own(carrier, word, name))
-}
-
-// Whether that is another name, or the client's own carry.
-fn is_other_or_own(carrier: &Carrier, word: &[u8], name: &Name) -> bool
-    ensures { result ≡ is_kept_alone word.now name.now carrier.now }
-{
-    !carrier.name.same(name) || carrier.word.as_bytes() == word
 }

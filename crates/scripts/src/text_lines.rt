@@ -6,6 +6,7 @@ ghost use Rattle.scripts.specs.Scripts.{lines_in, max_script};
 ghost use Rattle.scripts.specs.TextLines.{TakesHeld, TakesLines, lines_taken};
 
 use crate::read::MOST_OCTETS;
+use memchr::memchr;
 use push_base::NoMemory;
 use std::alloc::Global;
 
@@ -86,9 +87,10 @@ pub fn split_line(text: &[u8]) -> (&[u8], &[u8])
 }
 
 // The place of the first LF.
+#[tactic(auto, using(crate::proofs::lines::Octets::first_place, crate::proofs::lines::Octets::within))]
 fn line_end(text: &[u8]) -> Option<usize>
     ensures place { result ≡ position (λ octet. octet == 10) text.now }
     ensures within { IfSome result (λ end. end < length text.now) }
 {
-    text.iter().position(|octet| *octet == b'\n')
+    memchr(b'\n', text)
 }

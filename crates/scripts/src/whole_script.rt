@@ -4,15 +4,16 @@
 ghost use Rattle.std.specs.Prelude.{◌≡◌, ◌==◌, ◌&&◌, ◌∷◌, [], true, false, not, length, None, is_some, IfOk, IfSome, IfNone, option_to_list, string_bytes, if◌then◌else◌};
 ghost use Rattle.scripts.specs.Lines.{head_line, show};
 ghost use Rattle.scripts.specs.Scripts.{is_client_in, is_hub_client_in, is_head};
+ghost use Rattle.scripts.specs.Carrying.{alone_in};
 ghost use Rattle.scripts.specs.Drafts.{taken_of};
 ghost use Rattle.scripts.specs.KeptLines.{head_said, happening_said, said};
-ghost use Rattle.scripts.specs.KeptWhole.{HoldsWhole, IsOf, ReadsWhole, TakesFit, TakesHalves, TakesWhole, carriers_of, far_zone_line, known_kept, whole_said, with_apex};
+ghost use Rattle.scripts.specs.KeptWhole.{HoldsWhole, IsOf, ReadsWhole, TakesFit, TakesHalves, TakesWhole, far_zone_line, known_kept, may_follow_kept, whole_said, with_apex};
 ghost use Rattle.scripts.specs.WholeLines.{all_at, is_far_in, is_of_both, is_timers, names_far, one};
-ghost use Rattle.scripts.specs.WholeScripts.{WholeSoFar, carries_alone, may_follow_both, may_follow_one, whole_step};
+ghost use Rattle.scripts.specs.WholeScripts.{WholeSoFar, may_follow_one, whole_step};
 ghost use Rattle.scripts.specs.declared.line.Line.TheVariants as lines;
 
 use crate::line::{ClientEvent, EventLine, HeadLine, HubEvent, Line, ZoneLine};
-use crate::named::{Carrier, all_carried, all_made, carries_alone};
+use crate::named::{AllNamed, Carriers, all_named};
 use crate::script::{Draft, Script};
 use crate::text_lines::{TakeLines, TakenLines, take_lines};
 use crate::whole_line::{CarryLine, WholeLine, read_whole_line};
@@ -66,7 +67,7 @@ struct WholeDraft {
     apex: Option<Name>,
     turns: Vec<Turn>,
     clients: Vec<String>,
-    carriers: Vec<Carrier>,
+    carriers: Carriers,
 }
 
 /// Reads a script: all of it, or the number of the first line that is outside the grammar, or may not stand where it
@@ -74,8 +75,8 @@ struct WholeDraft {
 pub fn read_whole_script(alloc: Global, octets: &[u8]) -> Result<ReadWhole, NoMemory>
     ensures { IfOk result (λ read. ReadsWhole octets.now read) }
 {
-    let clients = all_made(alloc, octets)?;
-    let carriers = all_carried(alloc, octets)?;
+    let named = all_named(alloc, octets)?;
+    let AllNamed { clients, carriers } = named;
     let mut draft = WholeDraft {
         near: Draft::new(alloc),
         far: Draft::new(alloc),
@@ -189,7 +190,7 @@ impl WholeDraft {
 
     // Whether a line may stand behind those before it, whatever it is to each hub.
     fn may_follow(&self, line: &WholeLine) -> bool
-        ensures { result ≡ may_follow_both (carriers_of self.now.carriers.items) (known_kept self.now) (whole_said line.now) }
+        ensures { result ≡ may_follow_kept (alone_in self.now.carriers) (known_kept self.now) (whole_said line.now) }
     {
         match line {
             WholeLine::One(line) => self.may_follow_one(line),
@@ -228,10 +229,10 @@ impl WholeDraft {
     // Whether a client may carry a name: where there is a second hub, a client of the first, if no other client carries the
     // name.
     fn may_carry(&self, word: &[u8], name: &Name) -> bool
-        ensures { result ≡ (is_some self.now.apex && is_hub_client_in (taken_of self.now.near).clients word.now && carries_alone (carriers_of self.now.carriers.items) word.now name.now) }
+        ensures { result ≡ (is_some self.now.apex && is_hub_client_in (taken_of self.now.near).clients word.now && alone_in self.now.carriers word.now name.now) }
     {
         let is_of_near = self.near.has_hub_client(word);
-        let is_alone = carries_alone(&self.carriers, word, name);
+        let is_alone = self.carriers.is_alone(word, name);
         self.apex.is_some() && is_of_near && is_alone
     }
 

@@ -6,8 +6,9 @@ use Rattle.std.specs.List.{AllByRecursion, list_any}
 use Rattle.std.proofs.lemmas.Bool.{ltb-true, ltb-false}
 use Rattle.std.proofs.lemmas.List.{length-append}
 use Rattle.std.proofs.lemmas.Str.Ascii.{lowercase-lowercase}
-use Rattle.dnsname.specs.Names.{Labels, IsName, ends_in, lower, octets}
+use Rattle.dnsname.specs.Names.{Labels, IsName, ends_in, lower, octets, same_name}
 use Rattle.dnsname.specs.Octets.{labels_of}
+use Rattle.dnsname.proofs.Decisions.{same_name-Decides}
 use Rattle.dnsname.proofs.Octets.{octets-cons, octets_injective}
 use Rattle.dnsname.proofs.Spellings.{spells, view_of}
 use Rattle.dnsname.proofs.Suffixes.{EndsIn-true, true-EndsIn}
@@ -190,3 +191,47 @@ any-counted name (e ∷ es) names = by e.1.is_owner (any-counted name es names.1
         ∙ ap (λ (t : Bool). t || nat_lt 0 (ending_in (octets (lower name)) (owners_of es))) (counts-end (labels_of e.0.items) name names.0.lower)
         ∙ ap (λ (t : Bool). ends_in (labels_of e.0.items) name || t) others
     by false others = others
+
+-- ---- the ends of an end
+
+times-behind : (os : List ℕ) (front last : Labels) → times os (ends_of last) ≤ times os (ends_of (front ++ last))
+times-behind os [] last = omega arith
+times-behind os (label ∷ front) last = omega (arith, times-behind os front last, one_more (same_octets os (octets (label ∷ (front ++ last)))) (times os (ends_of (front ++ last))))
+
+-- a name that an end of an owner ends in is one in which the owner ends
+ends-twice : (name owner end : Labels) → 1 ≤ times (octets name) (ends_of owner) → 1 ≤ times (octets end) (ends_of name) → 1 ≤ times (octets end) (ends_of owner)
+ends-twice name owner end some there =
+    let f = found_end (octets name) owner some in
+    let last-is : name ≡ f.1 = octets_injective name f.1 f.3 in
+    let behind : 1 ≤ times (octets end) (ends_of f.1) = subst (λ (n : Labels). 1 ≤ times (octets end) (ends_of n)) last-is there in
+    subst (λ (n : Labels). 1 ≤ times (octets end) (ends_of n)) (sym f.2) (omega (arith, behind, times-behind (octets end) f.0 f.1))
+
+pub ending-ends : (name end : Labels) (owners : List Labels) → 1 ≤ ending_in (octets name) owners → 1 ≤ times (octets end) (ends_of name) → 1 ≤ ending_in (octets end) owners
+ending-ends name end [] some there = absurd (omega arith)
+ending-ends name end (owner ∷ owners) some there = by (nat_lt 0 (times (octets name) (ends_of owner))) refl (λ more. ending-ends name end owners more there)
+  where
+    by : (t : Bool) → nat_lt 0 (times (octets name) (ends_of owner)) ≡ t → (1 ≤ ending_in (octets name) owners → 1 ≤ ending_in (octets end) owners) → 1 ≤ times (octets end) (ends_of owner) + ending_in (octets end) owners
+    by true is others =
+        let here : 1 ≤ times (octets name) (ends_of owner) = omega (arith, ltb-true 0 (times (octets name) (ends_of owner)) is) in
+        omega (arith, ends-twice name owner end here there)
+    by false is others =
+        let behind : 1 ≤ ending_in (octets name) owners = omega (arith, some, ltb-false 0 (times (octets name) (ends_of owner)) is) in
+        omega (arith, others behind)
+
+-- an owner in lower case ends in itself
+pub owner-counted : (name : Labels) → lower name ≡ name → (kept : Kept) → AllByRecursion IsLowerName (room_of kept) → list_any (same_name name) (owners_of kept) ≡ true → 1 ≤ ending_in (octets name) (owners_of kept)
+owner-counted name low [] names there = absurd cc
+owner-counted name low (e ∷ es) names there = by e.1.is_owner there (owner-counted name low es names.1)
+  where
+    first : (t : Bool) → same_name name (labels_of e.0.items) ≡ t → (t || list_any (same_name name) (owners_of es)) ≡ true → (list_any (same_name name) (owners_of es) ≡ true → 1 ≤ ending_in (octets name) (owners_of es))
+        → 1 ≤ times (octets name) (ends_of (labels_of e.0.items)) + ending_in (octets name) (owners_of es)
+    first true is there others =
+        let same : name ≡ labels_of e.0.items = sym low ∙ (same_name-Decides name (labels_of e.0.items)).0 is ∙ names.0.lower in
+        let here : 1 ≤ times (octets name) (ends_of (labels_of e.0.items)) = subst (λ (n : Labels). 1 ≤ times (octets name) (ends_of n)) same (times-self name) in
+        omega (arith, here)
+    first false is there others = omega (arith, others there)
+
+    by : (w : Bool) → list_any (same_name name) (cond w (labels_of e.0.items ∷ owners_of es) (owners_of es)) ≡ true → (list_any (same_name name) (owners_of es) ≡ true → 1 ≤ ending_in (octets name) (owners_of es))
+        → 1 ≤ ending_in (octets name) (cond w (labels_of e.0.items ∷ owners_of es) (owners_of es))
+    by true there others = first (same_name name (labels_of e.0.items)) refl there others
+    by false there others = others there

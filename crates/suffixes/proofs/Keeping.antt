@@ -8,7 +8,7 @@ use Rattle.std.specs.Option.{option_map_or}
 use Rattle.std.specs.Ordering.{is_eq, match_ordering, nat_cmp}
 use Rattle.std.specs.declared.cmp.Ordering.{Ordering}
 use Rattle.std.specs.declared.cmp.Ordering.TheVariants.{Less, Equal, Greater}
-use Rattle.dnsname.specs.Names.{Labels, IsName, ends_in, lower, octets}
+use Rattle.dnsname.specs.Names.{Labels, IsName, ends_in, lower, octets, same_name}
 use Rattle.dnsname.specs.Octets.{labels_of}
 use Rattle.dnsname.proofs.Spellings.{view_of}
 use Rattle.suffixes.specs.declared.ending.Ending.{Ending}
@@ -16,7 +16,7 @@ use Rattle.suffixes.specs.Endings.{HasRoomFor, IsKept, IsLowerName, Kept, Reserv
 use Rattle.suffixes.proofs.OctetTests.{false-not-true, same-is, same-refl}
 use Rattle.suffixes.proofs.Changes.{among-some, counted-marked, room-changed}
 use Rattle.suffixes.proofs.Marks.{flag-true, marked-same, any-marked, sum-less, sum-more}
-use Rattle.suffixes.proofs.Ends.{all-map, all-once, any-counted, ending_in-few, owners-few}
+use Rattle.suffixes.proofs.Ends.{all-map, all-once, any-counted, ending-ends, ending_in-few, owner-counted, owners-few}
 
 -- ---- counts
 
@@ -113,19 +113,26 @@ removes-kept owner was mid now is kept flag mid-is counts owners-are room-is =
           omega (arith, counts os);
     }
 
--- an owner that is there has its places
-pub owner-places : (owner : Labels) (kept : Kept) → IsName owner → IsKept kept → flag_at (octets owner) kept ≡ true → HasRoomFor owner (room_of kept)
-owner-places owner kept is sound flag =
+counted-there : (o : Option Ending) → 1 ≤ option_map_or (λ (e : Ending). e.owners) o 0 → is_some o ≡ true
+counted-there None some = absurd (omega arith)
+counted-there (Some e) some = refl
+
+-- a name in which owners end has its places
+pub counted-places : (name : Labels) (kept : Kept) → IsKept kept → 1 ≤ counted_at (octets name) kept → HasRoomFor name (room_of kept)
+counted-places name kept is some =
     all-map
-    {P = λ end. 1 ≤ counted_at (octets end) (changed_at (octets owner) (marked false) kept)}
+    {P = λ end. 1 ≤ times (octets end) (ends_of name)}
     {Q = λ end. is_among (octets end) (room_of kept) ≡ true}
-    (λ end some. among-some (octets end) kept ∙ counted-there (ending_at (octets end) kept) (omega (arith, some, counted-marked (octets end) (octets owner) false kept)))
-    (ends_of owner)
-    (counted-ends owner kept (changed_at (octets owner) (marked false) kept) is sound flag refl)
-  where
-    counted-there : (o : Option Ending) → 1 ≤ option_map_or (λ (e : Ending). e.owners) o 0 → is_some o ≡ true
-    counted-there None some = absurd (omega arith)
-    counted-there (Some e) some = refl
+    (λ end there.
+    let here : 1 ≤ ending_in (octets name) (owners_of kept) = omega (arith, is.counts (octets name)) in
+    let ends : 1 ≤ ending_in (octets end) (owners_of kept) = ending-ends name end (owners_of kept) here there in
+    among-some (octets end) kept ∙ counted-there (ending_at (octets end) kept) (omega (arith, ends, is.counts (octets end))))
+    (ends_of name)
+    (all-once (ends_of name))
+
+-- so has an owner
+pub owner-places : (name : Labels) (kept : Kept) → IsKept kept → lower name ≡ name → list_any (same_name name) (owners_of kept) ≡ true → HasRoomFor name (room_of kept)
+owner-places name kept is low there = counted-places name kept is (omega (arith, is.counts (octets name), owner-counted name low kept is.names there))
 
 -- ---- whether an owner ends in a name
 

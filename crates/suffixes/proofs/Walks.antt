@@ -1,12 +1,14 @@
 -- An owner's ends, one after another, as its octets are walked: what was done at those before, and what is left.
-use Rattle.std.proofs.Common.{◌≡◌, ℕ, suc, ◌+◌, ◌<◌, ◌≤◌, ◌^◌, true, cond, List, [], ◌∷◌, ◌++◌, length, get_or, drop, refl, sym, ap, subst, ◌∙◌, arith}
+use Rattle.std.proofs.Common.{◌≡◌, ℕ, suc, ◌+◌, ◌<◌, ◌≤◌, ◌^◌, true, cond, List, [], ◌∷◌, ◌++◌, length, get_or, drop, nat_lt, refl, sym, ap, subst, ◌∙◌, arith}
 use Rattle.std.specs.Prelude.{is_some}
 use Rattle.std.specs.List.{AllByRecursion}
+use Rattle.std.proofs.lemmas.Bool.{ltb-true}
 use Rattle.std.proofs.lemmas.List.{length-append, drop_at}
 use Rattle.dnsname.specs.Names.{Labels, octets}
 use Rattle.dnsname.proofs.Octets.{length-octets, octets-cons}
-use Rattle.suffixes.specs.Endings.{HasRoomFor, IsLowerName, Kept, Reserves, changed_at, counted_at, ending_at, ends_of, is_among, once_less, once_more, owners_of, room_of, same_octets, times}
+use Rattle.suffixes.specs.Endings.{HasRoomFor, IsKept, IsLowerName, Kept, Reserves, changed_at, counted_at, ending_at, ends_of, is_among, once_less, once_more, owners_of, room_of, same_octets, times}
 use Rattle.suffixes.proofs.Changes.{among-some, counted-less, counted-more, owners-changed, room-changed}
+use Rattle.suffixes.proofs.Keeping.{counted-places}
 use Rattle.suffixes.proofs.Ends.{IsLow, ends-low, octets-low, times-few, times-first}
 
 -- the octets that are left spell the first of the names that are left
@@ -204,6 +206,10 @@ pub reserved-end : (was now : Kept) (owner : Labels) (rest : List ℕ) → Reser
 reserved-end was now owner rest r none =
     r.places (room_of now) (λ os among. among) (subst (AllByRecursion (λ end. is_among (octets end) (room_of now) ≡ true)) (sym (nothing-left rest r.todo r.left none)) tt)
 
+start : (rest : List ℕ) (ends : List Labels) → Left rest ends → 1 ≤ length rest → (name : Labels) × (ends ≡ ends_of name) × (rest ≡ octets name)
+start rest ends none_left some = absurd (omega arith)
+start rest ends (some_left name) some = (name, refl, refl)
+
 -- room that there was for a name is still there
 pub room-kept : (was now : Kept) → Reserves was now → (name : Labels) → HasRoomFor name (room_of was) → HasRoomFor name (room_of now)
 room-kept was now step name room = every (ends_of name) room
@@ -211,3 +217,12 @@ room-kept was now step name room = every (ends_of name) room
     every : (ends : List Labels) → AllByRecursion (λ end. is_among (octets end) (room_of was) ≡ true) ends → AllByRecursion (λ end. is_among (octets end) (room_of now) ≡ true) ends
     every [] h = tt
     every (end ∷ ends) h = (step.kept (octets end) h.0, every ends h.1)
+
+-- where owners are counted at what is left, there are all places already
+pub reserved-stop : (was mid now : Kept) (owner : Labels) (rest : List ℕ) → IsKept was → Reserved was mid owner rest → 1 ≤ length rest → Reserves mid now → true ≡ nat_lt 0 (counted_at rest mid) → HasRoomFor owner (room_of now)
+reserved-stop was mid now owner rest is r some step counted =
+    let s = start rest r.todo r.left some in
+    let here : 1 ≤ counted_at (octets s.0) was = omega (arith, ltb-true 0 (counted_at rest mid) (sym counted), r.stays.counts rest, ap (λ (os : List ℕ). counted_at os was) s.2) in
+    r.places (room_of now) (λ os among. step.kept os among)
+    (subst (AllByRecursion (λ end. is_among (octets end) (room_of now) ≡ true)) (sym s.1)
+    (room-kept was now (reserves-twice was mid now r.stays step) s.0 (counted-places s.0 was is here)))

@@ -1,6 +1,6 @@
 //! What is kept of a name in which owners end, and its changes.
 
-ghost use Rattle.std.specs.Prelude.{◌≡◌, ◌+◌, ◌<◌, ◌^◌, true, OnOk, nat_lt, filter};
+ghost use Rattle.std.specs.Prelude.{◌≡◌, ◌+◌, ◌<◌, ◌^◌, true, IfOk, OnOk, nat_lt, filter};
 ghost use Rattle.suffixes.specs.Endings.{IsLowerName, Reserves, changed_at, counted_at, flag_at, is_among, marked, once_less, once_more, room_of};
 
 use push_base::NoMemory;
@@ -19,14 +19,20 @@ pub(crate) struct Ending {
 /// What is kept of each name, by its octets in lower case.
 pub(crate) type Endings = BTreeMap<Vec<u8>, Ending>;
 
-/// Makes a place for the owners that end in a name.
-pub(crate) fn reserve_at(alloc: Global, endings: &mut Endings, name: &[u8]) -> Result<(), NoMemory>
+/// Makes a place for the owners that end in a name, and says whether there are any.
+pub(crate) fn reserve_at(
+    alloc: Global,
+    endings: &mut Endings,
+    name: &[u8],
+) -> Result<bool, NoMemory>
     requires { IsLowerName name.now }
     ensures kept { Reserves endings.old.entries endings.new.entries }
     ensures room { OnOk result (is_among name.now (room_of endings.new.entries) ≡ true) }
+    ensures counted { IfOk result (λ is. is ≡ nat_lt 0 (counted_at name.now endings.old.entries)) }
 {
-    if endings.contains_key(name) {
-        return Ok(());
+    match endings.get(name) {
+        Some(ending) => return Ok(ending.owners > 0),
+        None => {}
     }
     let octets = Vec::from_slice(alloc, name)?;
     let unused = Ending {
@@ -34,17 +40,7 @@ pub(crate) fn reserve_at(alloc: Global, endings: &mut Endings, name: &[u8]) -> R
         owners: 0,
     };
     endings.insert(octets, unused)?;
-    Ok(())
-}
-
-/// Whether a name is an owner.
-pub(crate) fn is_owner(endings: &Endings, name: &[u8]) -> bool
-    ensures { result ≡ flag_at name.now endings.now.entries }
-{
-    match endings.get(name) {
-        Some(ending) => ending.is_owner,
-        None => false,
-    }
+    Ok(false)
 }
 
 /// Marks whether a name that has a place is an owner, and says whether it was one.
@@ -73,13 +69,16 @@ pub(crate) fn raise_at(endings: &mut Endings, name: &[u8])
     }
 }
 
-/// One owner less ends in a name.
-pub(crate) fn lower_at(endings: &mut Endings, name: &[u8])
+/// One owner less ends in a name. Says whether none does any more.
+pub(crate) fn lower_at(endings: &mut Endings, name: &[u8]) -> bool
     ensures { endings.new.entries ≡ changed_at name.now once_less endings.old.entries }
 {
     match endings.get_mut(name) {
-        Some(ending) => ending.owners = ending.owners.saturating_sub(1),
-        None => {}
+        Some(ending) => {
+            ending.owners = ending.owners.saturating_sub(1);
+            ending.owners == 0
+        }
+        None => false,
     }
 }
 

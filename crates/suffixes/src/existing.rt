@@ -1,12 +1,12 @@
 //! Which owners there are, and in which names they end.
 
-ghost use Rattle.std.specs.Prelude.{◌≡◌, ◌≤◌, ◌||◌, [], Bool, map, take, not, length, filter, OnOk};
+ghost use Rattle.std.specs.Prelude.{◌≡◌, ◌≤◌, ◌||◌, [], Bool, true, map, take, not, length, filter, OnOk};
 ghost use Rattle.std.specs.Char.{to_ascii_lowercase};
 ghost use Rattle.std.specs.List.{list_any};
 ghost use Rattle.dnsname.specs.Names.{Labels, ends_in, lower, same_name};
 ghost use Rattle.suffixes.specs.Endings.{HasRoomFor, IsKept, Reserves, owners_of, room_of};
 
-use crate::ending::{Endings, drop_unused, is_owner, mark};
+use crate::ending::{Endings, drop_unused, mark};
 use crate::walking::{lower, raise, reserve};
 use dnsname::{MAX_NAME, Name};
 use push_base::NoMemory;
@@ -28,16 +28,13 @@ fn write_in_lower_case(octets: &[u8], out: &mut [u8])
     }
 }
 
-/// Makes room for an owner. Where it is one already there is room, since it is counted at each name that it ends in.
+/// Makes room for an owner.
 fn reserve_owner(alloc: Global, endings: &mut Endings, owner: &Name) -> Result<(), NoMemory>
     requires kept { IsKept endings.old.entries }
     requires lower { lower owner.now ≡ owner.now }
     ensures kept { Reserves endings.old.entries endings.new.entries }
     ensures room { OnOk result (HasRoomFor owner.now (room_of endings.new.entries)) }
 {
-    if is_owner(endings, owner.octets()) {
-        return Ok(());
-    }
     reserve(alloc, endings, owner)
 }
 
@@ -58,8 +55,8 @@ fn put_owner(endings: &mut Endings, owner: &Name)
     raise(endings, owner);
 }
 
-/// A name is no owner.
-fn remove_owner(endings: &mut Endings, owner: &Name)
+/// A name is no owner. Says in how many names none ends any more.
+fn remove_owner(endings: &mut Endings, owner: &Name) -> usize
     requires kept { IsKept endings.old.entries }
     requires lower { lower owner.now ≡ owner.now }
     ensures kept { IsKept endings.new.entries }
@@ -69,10 +66,16 @@ fn remove_owner(endings: &mut Endings, owner: &Name)
     // Its clauses say that the places are in the order of their octets.
     endings.len();
     if !mark(endings, owner.octets(), false) {
-        return;
+        return 0;
     }
-    lower(endings, owner);
+    lower(endings, owner)
 }
+
+/// Each owner has places, since it is counted at each name that it ends in.
+fn tell_places(endings: &Endings)
+    requires { IsKept endings.now.entries }
+    ensures { (name : Labels) → lower name ≡ name → list_any (same_name name) (owners_of endings.now.entries) ≡ true → HasRoomFor name (room_of endings.now.entries) }
+{}
 
 /// Gives back the places in which no owner ends.
 fn sweep(endings: &mut Endings)
@@ -132,6 +135,13 @@ impl Suffixes {
         }
     }
 
+    /// There is room for each owner.
+    pub fn tell_room(&self)
+        ensures { (name : Labels) → lower name ≡ name → list_any (same_name name) self.now.owners ≡ true → HasRoomFor name self.now.room }
+    {
+        tell_places(&self.endings);
+    }
+
     /// Makes room for an owner, so that a put of it takes no memory.
     pub fn reserve_for(&mut self, owner: &Name) -> Result<(), NoMemory>
         requires { lower owner.now ≡ owner.now }
@@ -162,8 +172,8 @@ impl Suffixes {
         ensures owners { self.new.owners ≡ filter (λ other. not (same_name other owner.now)) self.old.owners }
         ensures room { self.new.room ≡ self.old.room }
     {
-        self.unswept = self.unswept.saturating_add(owner.octets().len());
-        remove_owner(&mut self.endings, owner)
+        let unused = remove_owner(&mut self.endings, owner);
+        self.unswept = self.unswept.saturating_add(unused);
     }
 
     /// Whether an owner ends in a name, by one look-up (RFC 8020, 2).

@@ -1,16 +1,19 @@
 -- The check of an update by the touched part of a zone, and what it means for the update step.
-use Rattle.std.proofs.Common.{◌≡◌, ℕ, ◌+◌, ◌^◌, ◌<◌, ◌≤◌, Bool, true, cond, ◌&&◌, ◌||◌, List, [], ◌∷◌, map, length, fold, Option, Some, None, Result, Ok, Err, refl, sym, ap, ◌∙◌, subst, arith}
-use Rattle.std.proofs.lemmas.Bool.{leb-true}
+use Rattle.std.proofs.Common.{◌≡◌, ℕ, ◌+◌, ◌^◌, ◌<◌, ◌≤◌, Bool, true, false, cond, ◌&&◌, ◌||◌, List, [], ◌∷◌, map, length, fold, Option, Some, None, Result, Ok, Err, refl, sym, ap, ◌∙◌, subst, arith}
+use Rattle.std.proofs.lemmas.Bool.{leb-true, le-leb}
 use Rattle.std.specs.Prelude.{nat_le}
 use Rattle.std.specs.List.{list_any, list_all}
 use Rattle.push_base.specs.Limits.{max_octets_at_name}
 use Rattle.dnsname.specs.Names.{Labels, same_name}
 use Rattle.rrset.specs.Rcodes.{refused}
-use Rattle.rrset.specs.RecordSet.{RecordSet, only, changes, size_at}
+use Rattle.rrset.specs.Records.{rr_of, rr_size}
+use Rattle.rrset.specs.RecordSet.{RecordSet, only, changes, size_at, size_of}
+use Rattle.rrset.specs.Tables.{counted}
 use Rattle.rrset.specs.declared.record.Changed.{Changed}
 use Rattle.rrset.specs.declared.record.Rr.{Rr}
 use Rattle.rrset.specs.declared.record.Key.{Key}
 use Rattle.rrset.proofs.Selected.{length-parts}
+use Rattle.rrset.proofs.Sizes.{size_of-cons, size_of-only-cons}
 use Rattle.dnswire.specs.declared.message.Update.{Update}
 use Rattle.zoneupdate.specs.declared.plan.Verdict.TheVariants.{Accept}
 use Rattle.zoneupdate.specs.Zones.{ZoneState}
@@ -18,13 +21,38 @@ use Rattle.zoneupdate.specs.Updates.{with_counted_ttl, changed_by, with_risen_se
 use Rattle.zoneupdate.specs.KeptZones.{Judges}
 use Rattle.zoneupdate.specs.Touched.{is_touched, part_of, part_after}
 use Rattle.zoneupdate.specs.Checking.{is_within, Plans}
-use Rattle.zoneupdate.proofs.Filters.{filter_same, and-left}
+use Rattle.zoneupdate.proofs.Filters.{filter_same, and-left, and-both}
 use Rattle.zoneupdate.proofs.RecordSets.{IsSet}
 use Rattle.zoneupdate.proofs.TouchedParts.{after-changes, after-length}
 use Rattle.zoneupdate.proofs.LimitedParts.{after-limits}
 
 pub length-only : (p : Key → Bool) (set : RecordSet) → length (only p set) ≤ length set
 length-only p set = let parts = length-parts p set in omega arith
+
+-- ---- where all records have few octets, those of each name have
+
+light-only : (p : Key → Bool) (set : RecordSet) → size_of (only p set) ≤ size_of set
+light-only p [] = omega arith
+light-only p (e ∷ es) = by (p e.0) (size_of-only-cons p e es) (size_of-cons e es) (light-only p es)
+  where
+    by : (b : Bool) → size_of (only p (e ∷ es)) ≡ cond b (rr_size (rr_of e.0 e.1)) 0 + size_of (only p es) → size_of (e ∷ es) ≡ rr_size (rr_of e.0 e.1) + size_of es → size_of (only p es) ≤ size_of es
+        → size_of (only p (e ∷ es)) ≤ size_of (e ∷ es)
+    by true first whole rest = omega (arith, first, whole, rest)
+    by false first whole rest = omega (arith, first, whole, rest)
+
+light-at : (name : Labels) (work : RecordSet) → size_of work ≤ max_octets_at_name → nat_le (size_at name work) max_octets_at_name ≡ true
+light-at name work light = le-leb (size_at name work) max_octets_at_name (let less = light-only (λ key. same_name name key.owner) work in omega (arith, less, light))
+
+pub light-fits : (apex : Labels) (rrs : List Rr) (work : RecordSet) (n : ℕ) → n ≡ counted (size_of work) → n ≤ max_octets_at_name
+    → (nat_le (size_at apex work) max_octets_at_name && list_all (λ rr. nat_le (size_at rr.owner work) max_octets_at_name) rrs) ≡ true
+light-fits apex rrs work n is few = and-both _ _ (light-at apex work light) (all rrs)
+  where
+    light : size_of work ≤ max_octets_at_name
+    light = omega (arith, is, few)
+
+    all : (rrs : List Rr) → list_all (λ rr. nat_le (size_at rr.owner work) max_octets_at_name) rrs ≡ true
+    all [] = refl
+    all (rr ∷ rrs) = and-both (nat_le (size_at rr.owner work) max_octets_at_name) (list_all (λ rr. nat_le (size_at rr.owner work) max_octets_at_name) rrs) (light-at rr.owner work light) (all rrs)
 
 -- a zone within its limits has so few records that they are counted
 pub few-records : (rows : RecordSet) → is_within_limits rows ≡ true → length rows ≤ max_zone_records

@@ -3,6 +3,7 @@ pub mod Refusals
 pub mod SerialPlace
 pub mod OneName
 pub mod ByClass
+pub mod RisenEntry
 pub mod NextSerial
 pub mod Filters
 pub mod SomeAndAll
@@ -24,3 +25,4 @@ pub mod Unions
 pub mod TouchedSteps
 pub mod Judging
 pub mod Plans
+pub mod SideBySide

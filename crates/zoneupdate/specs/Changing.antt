@@ -35,6 +35,10 @@ serial_at name rows = option_and_then (λ shown. serial_of shown.rdata) (soa_of 
 abbrev pub risen_rdata : List ℕ → List ℕ
 risen_rdata rdata = elim (serial_of rdata) [ None ↦ rdata | Some serial ↦ with_serial ((serial + 1) % 2 ^ 32) rdata ]
 
+-- the key and what is shown of it, with the serial that follows its own in the rdata of both
+abbrev pub risen_entry : Key × Shown → Key × Shown
+risen_entry e = (record e.0 { rdata = risen_rdata e.0.rdata }, record e.1 { rdata = risen_rdata e.1.rdata })
+
 -- the name has records of other kinds
 unfoldable pub has_other_kinds : RecordSet → Labels → ℕ → Bool
 has_other_kinds rows owner kind = not (is_empty (only (λ key. same_name owner key.owner && not (key.kind == kind)) rows))

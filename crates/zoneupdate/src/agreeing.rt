@@ -1,16 +1,19 @@
 //! Whether the sets that prerequisites of class IN name are the zone's (RFC 2136, 3.2.3).
 
-ghost use Rattle.std.specs.Prelude.{◌≡◌, ◌∷◌, [], map, filter, IfOk, MatchOption};
+ghost use Rattle.std.specs.Prelude.{◌≡◌, ◌∷◌, ◌&&◌, [], map, filter, IfOk, MatchOption};
 ghost use Rattle.std.specs.List.{list_all};
-ghost use Rattle.rrset.specs.RecordSet.{only, set_of, same_keys};
+ghost use Rattle.rrset.specs.Records.{same_key, same_shown};
+ghost use Rattle.rrset.specs.RecordSet.{only, set_of, same_keys, same_rows};
 ghost use Rattle.zoneupdate.specs.Zones.{set_at};
 ghost use Rattle.zoneupdate.specs.Checking.{is_in, is_of_kind, has_same_set};
 ghost use Rattle.zoneupdate.specs.Updates.{sets_agree, with_counted_ttl};
 
 use crate::changing::shown_of;
+use crate::sets::is_of_rrset;
+use dnsname::Name;
 use nametable::NameTable;
 use rrset::classes::IN;
-use rrset::{Key, NoMemory, Rr, Rrs, Shown, Table, same_key};
+use rrset::{Key, NoMemory, Rr, Rrs, Shown, Table, same_key, same_shown};
 use std::alloc::Global;
 
 /// Whether a key has class IN and a kind.
@@ -48,6 +51,52 @@ fn have_same_kind(kind: u16, first: &[(Key, Shown)], second: &[(Key, Shown)]) ->
         }
     }
     next_of_kind(kind, others).is_none()
+}
+
+/// Whether two records have one key and are shown the same.
+fn same_row(first: &(Key, Shown), second: &(Key, Shown)) -> bool
+    ensures { result ≡ (same_key first.now.0 second.now.0 && same_shown first.now.1 second.now.1) }
+{
+    same_key(&first.0, &second.0) && same_shown(&first.1, &second.1)
+}
+
+/// The first record of an owner and kind, and the records after it.
+fn next_of_rrset<'a>(
+    owner: &Name,
+    kind: u16,
+    entries: &'a [(Key, Shown)],
+) -> Option<(&'a (Key, Shown), &'a [(Key, Shown)])>
+    ensures { MatchOption result (set_at owner.now kind entries.now ≡ []) (λ found. set_at owner.now kind entries.now ≡ found.0.now ∷ set_at owner.now kind found.1.now) }
+{
+    let mut rest = entries;
+    'entries: while let Some((entry, after)) = rest.split_first() {
+        if is_of_rrset(owner, kind, &entry.0) {
+            return Some((entry, after));
+        }
+        rest = after;
+    }
+    None
+}
+
+/// Whether the records of an owner and kind are the same in two lists.
+pub(crate) fn have_same_rows(
+    owner: &Name,
+    kind: u16,
+    first: &[(Key, Shown)],
+    second: &[(Key, Shown)],
+) -> bool
+    ensures { result ≡ same_rows (set_at owner.now kind first.now) (set_at owner.now kind second.now) }
+{
+    let mut others = second;
+    'entries: for entry in first {
+        if is_of_rrset(owner, kind, &entry.0) {
+            match next_of_rrset(owner, kind, others) {
+                Some((other, rest)) if same_row(entry, other) => others = rest,
+                _ => return false,
+            }
+        }
+    }
+    next_of_rrset(owner, kind, others).is_none()
 }
 
 /// Whether the set of a record's owner and kind has the same keys in two tables.

@@ -13,7 +13,7 @@ use dnsname::name::Octets;
 use nametable::NameTable;
 use rrset::classes::IN;
 use rrset::kinds::{NS, SOA};
-use rrset::{Key, NoMemory, Rr, Shown, Table};
+use rrset::{Key, NoMemory, Rr, Shown};
 use std::alloc::Global;
 
 // The times of a zone's first records, in seconds; they are this project's own (RFC 1035, 3.3.13).
@@ -105,15 +105,6 @@ fn entry_of(rr: Rr) -> Result<(Key, Shown), NoMemory>
         ..
     } = rr;
     Ok((key, Shown { owner, ttl, rdata }))
-}
-
-/// Puts a record into a table.
-pub(crate) fn put_record(table: &mut Table, rr: Rr) -> Result<(), NoMemory>
-    ensures { OnOk result (table.new.rows ≡ put_rr table.old.rows rr) }
-{
-    let entry = entry_of(rr)?;
-    table.put(entry.0, entry.1)?;
-    Ok(())
 }
 
 /// Puts a record of a new zone.

@@ -4,6 +4,7 @@
 mod agreeing;
 mod applying;
 mod changing;
+mod differing;
 mod initial_records;
 mod plan;
 mod planning;

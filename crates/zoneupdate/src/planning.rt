@@ -4,7 +4,10 @@ ghost use Rattle.std.specs.Prelude.{◌≡◌, ◌≤◌, ◌+◌, ℕ, ◌&&◌
 ghost use Rattle.std.specs.List.{list_all};
 ghost use Rattle.push_base.specs.Cases.{is_empty};
 ghost use Rattle.push_base.specs.Limits.{max_octets_at_name};
-ghost use Rattle.rrset.specs.RecordSet.{is_record_set, at_name, size_at, union};
+ghost use Rattle.rrset.specs.Records.{rr_of, rr_size};
+ghost use Rattle.rrset.specs.RecordSet.{is_record_set, at_name, size_at, size_of, union};
+ghost use Rattle.rrset.specs.Tables.{counted};
+ghost use Rattle.rrset.specs.declared.record.Key.{Key};
 ghost use Rattle.zoneupdate.specs.Updates.{max_zone_records};
 ghost use Rattle.zoneupdate.specs.Touched.{part_of};
 ghost use Rattle.zoneupdate.specs.Checking.{is_within};
@@ -12,7 +15,7 @@ ghost use Rattle.zoneupdate.specs.Checking.{is_within};
 use dnsname::Name;
 use nametable::NameTable;
 use push_base::limits::MAX_OCTETS_AT_NAME;
-use rrset::{NoMemory, Rrs, Table, put_all};
+use rrset::{FIXED_FIELDS, Key, NoMemory, Rrs, Shown, Table, put_all};
 use std::alloc::Global;
 
 /// The most records of a zone.
@@ -62,6 +65,26 @@ fn are_few(rows: usize, before: usize, after: usize) -> bool
     after <= before + (MAX_RECORDS - rows)
 }
 
+/// The octets of what is shown, as a record (RFC 1035, 3.2.1).
+fn size_of_shown(shown: &Shown) -> u64
+    ensures { (key : Key) → result ≡ rr_size (rr_of key shown.now) }
+{
+    let owner = shown.owner.octets().len() as u64;
+    let rdata = shown.rdata.as_slice().len() as u64;
+    owner + FIXED_FIELDS + rdata
+}
+
+/// The octets of all records, or the greatest number of 64 bits where they are more.
+fn size_of(entries: &[(Key, Shown)]) -> u64
+    ensures { result ≡ counted (size_of entries.now) }
+{
+    let mut size: u64 = 0;
+    'entries: for entry in entries {
+        size = size.saturating_add(size_of_shown(&entry.1));
+    }
+    size
+}
+
 /// Whether the records of a name have few enough octets.
 fn fits_at(work: &Table, name: &Name) -> bool
     ensures { result ≡ nat_le (size_at name.now work.now.rows) max_octets_at_name }
@@ -81,6 +104,17 @@ fn changes_fit(work: &Table, changes: &Rrs) -> bool
     true
 }
 
+/// Whether the records of the apex, and those of each name that a change names, have few enough octets. Where all of
+/// them together are as few, no name is looked at.
+fn all_fit(work: &Table, apex: &Name, changes: &Rrs) -> bool
+    ensures { result ≡ (nat_le (size_at apex.now work.now.rows) max_octets_at_name && list_all (λ rr. nat_le (size_at rr.owner work.now.rows) max_octets_at_name) changes.now) }
+{
+    if size_of(work.entries()) <= MAX_OCTETS_AT_NAME {
+        return true;
+    }
+    fits_at(work, apex) && changes_fit(work, changes)
+}
+
 /// Whether a zone with so many records stays within its limits, where the touched part of it has changed.
 pub(crate) fn is_within(
     rows: usize,
@@ -93,5 +127,5 @@ pub(crate) fn is_within(
     requires part { length before.now.rows ≤ rows }
     ensures { (all : ℕ) → all + length before.now.rows ≡ rows + length work.now.rows → result ≡ is_within all apex.now changes.now work.now.rows }
 {
-    are_few(rows, before.len(), work.len()) && fits_at(work, apex) && changes_fit(work, changes)
+    are_few(rows, before.len(), work.len()) && all_fit(work, apex, changes)
 }

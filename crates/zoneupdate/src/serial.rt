@@ -1,18 +1,20 @@
 //! The serial of an SOA (RFC 1035, 3.3.13; RFC 1982), which rises with each change (RFC 2136, 3.6).
 
-ghost use Rattle.std.specs.Prelude.{◌≡◌, ◌+◌, ◌++◌, length, fold, map, IfOk, IfSome, OnOk};
-ghost use Rattle.rrset.specs.RecordSet.{put_rr};
-ghost use Rattle.zoneupdate.specs.Zones.{serial_of, with_serial, serial_is_greater};
-ghost use Rattle.zoneupdate.specs.Updates.{risen_soa, with_risen_serial};
-ghost use Rattle.zoneupdate.specs.Changing.{numbers_place, serial_at, risen_rdata};
+ghost use Rattle.std.specs.Prelude.{◌≡◌, ◌+◌, ◌++◌, Some, length, map, IfOk, IfSome, OnOk, IsTrue};
+ghost use Rattle.std.specs.List.{list_all};
+ghost use Rattle.rrset.specs.RecordSet.{shows_its_key, union};
+ghost use Rattle.rrset.specs.Tables.{HaveLowerOwners};
+ghost use Rattle.zoneupdate.specs.Zones.{serial_of, set_at, with_serial, serial_is_greater};
+ghost use Rattle.zoneupdate.specs.Updates.{with_risen_serial};
+ghost use Rattle.zoneupdate.specs.Changing.{numbers_place, serial_at, risen_entry, risen_rdata};
 
-use crate::initial_records::put_record;
-use crate::sets::{copied_rrset, first_of_rrset, take_set};
+use crate::agreeing::have_same_rows;
+use crate::sets::{first_of_rrset, is_of_rrset, take_set};
 use dnsname::name::Octets;
 use dnsname::{Name, plain_name_end};
 use nametable::NameTable;
 use rrset::kinds::SOA;
-use rrset::{Key, NoMemory, Rr, Shown, Table, same_rows};
+use rrset::{Key, NoMemory, Shown, Table, same_rows};
 use std::alloc::Global;
 
 /// The octets of the serial and the four times.
@@ -31,17 +33,25 @@ fn numbers_place(rdata: &[u8]) -> Option<usize>
     Some(place)
 }
 
+/// The serial that stands at the place of the numbers.
+fn number_at(rdata: &[u8], place: usize) -> u32
+    requires { numbers_place rdata.now ≡ Some place }
+    ensures { serial_of rdata.now ≡ Some result }
+{
+    u32::from_be_bytes([
+        rdata[place],
+        rdata[place + 1],
+        rdata[place + 2],
+        rdata[place + 3],
+    ])
+}
+
 /// The serial of SOA rdata.
 pub(crate) fn serial_of(rdata: &[u8]) -> Option<u32>
     ensures { result ≡ serial_of rdata.now }
 {
     let place = numbers_place(rdata)?;
-    Some(u32::from_be_bytes([
-        rdata[place],
-        rdata[place + 1],
-        rdata[place + 2],
-        rdata[place + 3],
-    ]))
+    Some(number_at(rdata, place))
 }
 
 /// The serial of the SOA of a name.
@@ -54,13 +64,11 @@ pub(crate) fn serial_at(rows: &NameTable, name: &Name) -> Option<u32>
     }
 }
 
-/// SOA rdata with another serial. Other rdata is given as it is.
-pub(crate) fn with_serial(alloc: Global, serial: u32, rdata: &[u8]) -> Result<Octets, NoMemory>
+/// SOA rdata with another serial, which stands at the place of the numbers.
+fn with_serial(alloc: Global, serial: u32, rdata: &[u8], place: usize) -> Result<Octets, NoMemory>
+    requires { numbers_place rdata.now ≡ Some place }
     ensures { IfOk result (λ octets. octets ≡ with_serial serial rdata.now) }
 {
-    let Some(place) = numbers_place(rdata) else {
-        return Octets::from_slice(alloc, rdata);
-    };
     let octets = joined(
         alloc,
         &rdata[..place],
@@ -74,7 +82,12 @@ pub(crate) fn with_serial(alloc: Global, serial: u32, rdata: &[u8]) -> Result<Oc
 fn joined(alloc: Global, front: &[u8], middle: &[u8], back: &[u8]) -> Result<Vec<u8>, NoMemory>
     ensures { IfOk result (λ octets. octets.items ≡ front.now ++ middle.now ++ back.now) }
 {
-    let mut octets = front.to_vec(alloc)?;
+    let room = front
+        .len()
+        .saturating_add(middle.len())
+        .saturating_add(back.len());
+    let mut octets = Vec::with_capacity(alloc, room)?;
+    octets.extend_from_slice(front)?;
     octets.extend_from_slice(middle)?;
     octets.extend_from_slice(back)?;
     Ok(octets)
@@ -91,31 +104,77 @@ pub(crate) fn serial_is_greater(serial: u32, other: u32) -> bool
 fn risen_rdata(alloc: Global, rdata: &[u8]) -> Result<Octets, NoMemory>
     ensures { IfOk result (λ octets. octets ≡ risen_rdata rdata.now) }
 {
-    match serial_of(rdata) {
-        Some(serial) => with_serial(alloc, serial.wrapping_add(1), rdata),
+    match numbers_place(rdata) {
+        Some(place) => {
+            let serial = number_at(rdata, place);
+            with_serial(alloc, serial.wrapping_add(1), rdata, place)
+        }
         None => Octets::from_slice(alloc, rdata),
     }
 }
 
-/// An SOA with the serial that follows its own.
-fn risen_soa(alloc: Global, entry: &(Key, Shown)) -> Result<Rr, NoMemory>
-    ensures { IfOk result (λ rr. rr ≡ risen_soa entry.now) }
+/// The rdata that is shown, with the serial that follows its own, where the key's has risen so. Most often both are the
+/// same octets, which are shared then.
+fn risen_shown(
+    alloc: Global,
+    key: &Octets,
+    risen: &Octets,
+    shown: &Octets,
+) -> Result<Octets, NoMemory>
+    requires { risen.now ≡ risen_rdata key.now }
+    ensures { IfOk result (λ octets. octets ≡ risen_rdata shown.now) }
 {
-    Ok(Rr {
-        owner: entry.1.owner.copy()?,
-        class: entry.0.class,
-        kind: entry.0.kind,
-        ttl: entry.1.ttl,
-        rdata: risen_rdata(alloc, entry.1.rdata.as_slice())?,
-    })
+    if key.as_slice() == shown.as_slice() {
+        return risen.copy();
+    }
+    risen_rdata(alloc, shown.as_slice())
 }
 
-/// Puts SOAs, each with the serial that follows its own.
-fn put_risen(alloc: Global, work: &mut Table, soa: &[(Key, Shown)]) -> Result<(), NoMemory>
-    ensures { OnOk result (work.new.rows ≡ fold put_rr work.old.rows (map risen_soa soa.now)) }
+/// An SOA with the serial that follows its own.
+fn risen_entry(alloc: Global, entry: &(Key, Shown)) -> Result<(Key, Shown), NoMemory>
+    ensures { IfOk result (λ risen. risen ≡ risen_entry entry.now) }
 {
-    'entries: for entry in soa {
-        put_record(work, risen_soa(alloc, entry)?)?;
+    let (key, shown) = entry;
+    let key_rdata = risen_rdata(alloc, key.rdata.as_slice())?;
+    let shown_rdata = risen_shown(alloc, &key.rdata, &key_rdata, &shown.rdata)?;
+    let risen_key = Key {
+        owner: key.owner.copy()?,
+        class: key.class,
+        kind: key.kind,
+        rdata: key_rdata,
+    };
+    let risen_shown = Shown {
+        owner: shown.owner.copy()?,
+        ttl: shown.ttl,
+        rdata: shown_rdata,
+    };
+    Ok((risen_key, risen_shown))
+}
+
+/// The SOAs of a name among some records, each with the serial that follows its own.
+fn risen_soas(
+    alloc: Global,
+    name: &Name,
+    entries: &[(Key, Shown)],
+) -> Result<Vec<(Key, Shown)>, NoMemory>
+    ensures { IfOk result (λ soas. soas.items ≡ map risen_entry (set_at name.now 6 entries.now)) }
+{
+    let mut soas = Vec::new(alloc);
+    'entries: for entry in entries {
+        if is_of_rrset(name, SOA, &entry.0) {
+            soas.push(risen_entry(alloc, entry)?)?;
+        }
+    }
+    Ok(soas)
+}
+
+/// Puts records into a table.
+fn put_entries(work: &mut Table, entries: Vec<(Key, Shown)>) -> Result<(), NoMemory>
+    requires { HaveLowerOwners entries.items }
+    ensures { OnOk result (work.new.rows ≡ union work.old.rows entries.items) }
+{
+    'entries: for entry in entries {
+        work.put(entry.0, entry.1)?;
     }
     Ok(())
 }
@@ -128,16 +187,16 @@ pub(crate) fn raise_serial(
     before: &Table,
     work: &mut Table,
 ) -> Result<(), NoMemory>
+    requires { IsTrue (list_all shows_its_key work.old.rows) }
     ensures { OnOk result (work.new.rows ≡ with_risen_serial apex.now before.now.rows work.old.rows) }
 {
     if same_rows(before.entries(), work.entries()) {
         return Ok(());
     }
-    let soa_before = copied_rrset(alloc, before.at(apex), apex, SOA)?;
-    let soa = copied_rrset(alloc, work.at(apex), apex, SOA)?;
-    if !same_rows(&soa_before, &soa) {
+    if !have_same_rows(apex, SOA, before.entries(), work.entries()) {
         return Ok(());
     }
+    let soas = risen_soas(alloc, apex, work.entries())?;
     take_set(work, apex, SOA);
-    put_risen(alloc, work, &soa)
+    put_entries(work, soas)
 }

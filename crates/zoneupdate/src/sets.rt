@@ -1,20 +1,19 @@
 //! The records of one owner and kind, among the records of a name.
 
-ghost use Rattle.std.specs.Prelude.{◌≡◌, ◌==◌, not, Some, None, MatchOption, IfOk, length};
+ghost use Rattle.std.specs.Prelude.{◌≡◌, ◌==◌, not, Some, None, MatchOption, length};
 ghost use Rattle.std.specs.List.{list_any};
 ghost use Rattle.rrset.specs.RecordSet.{only, without, is_of_rrset};
 ghost use Rattle.zoneupdate.specs.Zones.{first_shown};
 
 use dnsname::Name;
 use rrset::classes::IN;
-use rrset::{Key, NoMemory, Shown, Table};
-use std::alloc::Global;
+use rrset::{Key, Shown, Table};
 
 /// Whether a key is of an owner and a kind.
 pub(crate) fn is_of_rrset(owner: &Name, kind: u16, key: &Key) -> bool
     ensures { result ≡ is_of_rrset owner.now 1 kind key.now }
 {
-    owner.same(&key.owner) && key.class == IN && kind == key.kind
+    kind == key.kind && key.class == IN && owner.same(&key.owner)
 }
 
 /// Takes out the records of an owner and a kind.
@@ -64,22 +63,4 @@ pub(crate) fn count_of_rrset(entries: &[(Key, Shown)], owner: &Name, kind: u16) 
         .iter()
         .filter(|entry| is_of_rrset(owner, kind, &entry.0))
         .count()
-}
-
-/// The records of an owner and kind.
-pub(crate) fn copied_rrset(
-    alloc: Global,
-    entries: &[(Key, Shown)],
-    owner: &Name,
-    kind: u16,
-) -> Result<Vec<(Key, Shown)>, NoMemory>
-    ensures { IfOk result (λ set. set.items ≡ only (is_of_rrset owner.now 1 kind) entries.now) }
-{
-    let mut set = Vec::new(alloc);
-    'entries: for entry in entries {
-        if is_of_rrset(owner, kind, &entry.0) {
-            set.push((entry.0.copy()?, entry.1.copy()?))?;
-        }
-    }
-    Ok(set)
 }

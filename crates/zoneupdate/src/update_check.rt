@@ -9,6 +9,7 @@ ghost use Rattle.zoneupdate.specs.KeptZones.{IsUnder};
 
 use crate::agreeing::sets_agree;
 use crate::changing::change_all;
+use crate::differing::differences;
 use crate::plan::{Under, ZonePlan};
 use crate::planning::{is_within, touched};
 use crate::prerequisites::prerequisites_refusal;
@@ -51,6 +52,7 @@ fn changed_part(
     apex: &Name,
     changes: &Rrs,
 ) -> Result<Table, NoMemory>
+    requires { IsTrue (is_record_set before.now.rows) }
     ensures { IfOk result (λ work. work.rows ≡ with_risen_serial apex.now before.now.rows (fold (changed_by apex.now) before.now.rows (map with_counted_ttl changes.now))) }
 {
     let mut work = before.copy()?;
@@ -75,6 +77,6 @@ pub(crate) fn planned(
     if !is_within(rows.len(), &before, &work, apex, changes) {
         return Ok(None);
     }
-    let changed = rrset::changes(alloc, &before, &work)?;
+    let changed = differences(alloc, before.entries(), work.into_entries())?;
     Ok(Some(ZonePlan { changed }))
 }

@@ -1,9 +1,9 @@
 -- Words are ASCII text, and what a number says.
 use Rattle.std.proofs.Common.{◌≡◌, ℕ, ◌+◌, ◌-◌, ◌*◌, ◌/◌, ◌%◌, ◌<◌, ◌≤◌, ◌^◌, Bool, true, false, cond, leb, ◌&&◌, not, ◌⊎◌, Option, Some, None, Result, Ok, Err, List, [], ◌∷◌, length, refl, sym, ap, subst, ◌∙◌, arith, rules, inl, inr}
 use Rattle.std.specs.Prelude.{fold}
-use Rattle.std.specs.List.{list_all, AllByRecursion}
+use Rattle.std.specs.List.{list_all}
 use Rattle.std.specs.Result.{result_ok, OkIff}
-use Rattle.std.specs.Char.{is_ascii_hexdigit, to_ascii_lowercase}
+use Rattle.std.specs.Char.{to_ascii_lowercase}
 use Rattle.std.proofs.lemmas.List.{length-map}
 use Rattle.std.specs.Str.{IsAscii, IsUtf8}
 use Rattle.std.specs.Str.Parse.{ParsesUnsigned}
@@ -13,8 +13,7 @@ use Rattle.std.proofs.lemmas.Str.Parse.{IsDigitsTest, FoldsDigits, IsNumeralMode
 use Rattle.std.proofs.lemmas.Bool.{cases_Bool, leb-true, le-leb}
 use Rattle.std.proofs.lemmas.Bool.Decides.{nat_tests}
 use Rattle.std.proofs.lemmas.Option.{cond_some}
-use Rattle.push_base.specs.Hexadecimal.{SpellsOctets, hex_text, hex_octets, first_other, octets_of_digits, octets_or_fault}
-use Rattle.push_base.proofs.HexLaws.{digits_all}
+use Rattle.push_base.specs.Hexadecimal.{SpellsOctets, hex_text}
 use Rattle.dnsname.specs.Names.{Labels}
 use Rattle.dnsname.specs.Text.{decimal, BeginsWithLabel, AreLabelTexts, SpellsText, name_of_text}
 use Rattle.dnsname.proofs.Decisions.{and_true}
@@ -71,23 +70,6 @@ no_name text not_text = by_result (name_of_text text) refl
     by_result : (r : Option Labels) → name_of_text text ≡ r → None ≡ r
     by_result None e = refl
     by_result (Some name) e = absurd (not_text (IsUtf8-from_ascii text (name_ascii text name (name_found text name e))))
-
--- ---- hexadecimal digits are ASCII
-
-hex_small : (c : ℕ) → is_ascii_hexdigit c ≡ true → c < 128
-hex_small c h = grind (arith, nat_tests)
-
-digits_ascii : (text : List ℕ) → AllByRecursion (λ c. is_ascii_hexdigit c ≡ true) text → IsAscii text
-digits_ascii [] h = IsAscii-nil
-digits_ascii (c ∷ text) h = IsAscii-cons c text (hex_small c h.0) (digits_ascii text h.1)
-
--- what isn't UTF-8 is no text of octets
-pub no_octets : (text : List ℕ) → (IsUtf8 text → ⊥) → None ≡ result_ok (hex_octets text)
-no_octets text not_text = by_place (first_other text) refl
-  where
-    by_place : (place : Option ℕ) → first_other text ≡ place → None ≡ result_ok (octets_or_fault place (octets_of_digits text))
-    by_place (Some place) e = refl
-    by_place None e = absurd (not_text (IsUtf8-from_ascii text (digits_ascii text (digits_all text e))))
 
 -- ---- words and numbers are ASCII
 

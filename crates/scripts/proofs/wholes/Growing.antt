@@ -23,9 +23,10 @@ use Rattle.scripts.specs.KeptLines.{said, words_of}
 use Rattle.scripts.specs.Events.{words_known}
 use Rattle.scripts.specs.Drafts.{Taken, taken_of, known_of, GrowsBy, HaveMade}
 use Rattle.scripts.specs.TextLines.{TakesHeld}
+use Rattle.scripts.specs.Carrying.{alone_in}
 use Rattle.scripts.specs.WholeLines.{WholeLine, one, far_zone, far_client, carry, names_far, is_of_both, near_of, far_of, fars_behind, is_far_in}
-use Rattle.scripts.specs.WholeScripts.{Carrier, BothKnown, may_follow_both, has_far_behind, is_whole_head, both_behind, apex_in, near_lines, far_heads, WholeSoFar, whole_next}
-use Rattle.scripts.specs.KeptWhole.{carriers_of, turns_here, turns_from, known_kept, HoldsWhole, TakesWhole, TakesFit, TakesHalves}
+use Rattle.scripts.specs.WholeScripts.{Carrier, BothKnown, may_follow_both, carries_alone, has_far_behind, is_whole_head, both_behind, apex_in, near_lines, far_heads, WholeSoFar, whole_next}
+use Rattle.scripts.specs.KeptWhole.{turns_here, turns_from, known_kept, may_follow_kept, HoldsWhole, TakesWhole, TakesFit, TakesHalves}
 use Rattle.scripts.proofs.lines.MoreLines.{Adds, adds, none-joins}
 use Rattle.scripts.proofs.wholes.Lines.{near-more, far-more, fars-more, turns-more, apex-kept, apex-new}
 
@@ -129,6 +130,13 @@ apex-then carriers known front (far_zone apex serial) may has = apex-new front a
 apex-then carriers known front (far_client w) may has = apex-kept front (far_client w) refl
 apex-then carriers known front (carry w name written) may has = apex-kept front (carry w name written) refl
 
+-- what is asked of a line, by which clients carry names alone
+may-follow : (carriers : List Carrier) (known : BothKnown) (line : WholeLine) → may_follow_both carriers known line ≡ may_follow_kept (carries_alone carriers) known line
+may-follow carriers known (one l) = refl
+may-follow carriers known (far_zone apex serial) = refl
+may-follow carriers known (far_client w) = refl
+may-follow carriers known (carry w name written) = refl
+
 -- ---- a line
 
 abbrev next : WholeSoFar → WholeLine → BothKnown → WholeSoFar
@@ -146,10 +154,10 @@ module _ (draft : WholeDraft) (line : WholeLine) (so_far : WholeSoFar) (held : H
   fit_by may near far = cond {A = Option BothKnown} (not may) None (near >>= λ n. option_map (both_behind so_far.known line n) far)
 
   abbrev MayFollow : Bool → Type 0
-  MayFollow may = may_follow_both (carriers_of draft.carriers.items) (known_kept draft) line ≡ may
+  MayFollow may = may_follow_kept (alone_in draft.carriers) (known_kept draft) line ≡ may
 
   follows : (may : Bool) → MayFollow may → may_follow_both so_far.carriers so_far.known line ≡ may
-  follows may is = (λ i. may_follow_both (held.carriers i) (held.known i) line) ∙ is
+  follows may is = may-follow so_far.carriers so_far.known line ∙ (λ i. may_follow_kept (held.carriers i) (held.known i) line) ∙ is
 
   fit-is : (may : Bool) (near far : Option Known) → may_follow_both so_far.carriers so_far.known line ≡ may → fits so_far.all so_far.known.near (near_of is_far line) ≡ near → fits so_far.all so_far.known.far (far_of is_far line) ≡ far
       → whole_next so_far line ≡ option_map (next so_far line) (fit_by may near far)
@@ -234,7 +242,7 @@ module _ (draft : WholeDraft) (line : WholeLine) (so_far : WholeSoFar) (held : H
         holds : HoldsWhole later so
         holds = record {
           all = held.all ∙ ap (λ (d : WholeDraft). words_of d.clients.items) (sym took.3);
-          carriers = held.carriers ∙ ap (λ (d : WholeDraft). carriers_of d.carriers.items) (sym took.3);
+          carriers = held.carriers ∙ ap (λ (d : WholeDraft). alone_in d.carriers) (sym took.3);
           known = known-there;
           fars = ap (λ (fs : List Word). fars_behind fs line) held.fars ∙ sym (fars-more [] so_far.lines line);
           near = subst (λ (ls : List ScriptLine). HaveMade ls (taken_of later.near)) near-behind (near-adds.lines (near_lines so_far.lines) held.near);
@@ -253,7 +261,7 @@ module _ (draft : WholeDraft) (line : WholeLine) (so_far : WholeSoFar) (held : H
 abbrev pub IsHalves : WholeDraft → WholeLine → Line → Line → Option Turn → Type 0
 IsHalves draft line near far turn = (said near ≡ near_of (is_far_in (known_kept draft).fars) line) × (said far ≡ far_of (is_far_in (known_kept draft).fars) line) × (option_to_list turn ≡ turns_here (is_far_in (known_kept draft).fars) line)
 
-pub takes_halves : {E : Type 0} (draft later : WholeDraft) (line : WholeLine) (near far : Line) (turn : Option Turn) (result : Result Bool E) → IsHalves draft line near far turn → may_follow_both (carriers_of draft.carriers.items) (known_kept draft) line ≡ true
+pub takes_halves : {E : Type 0} (draft later : WholeDraft) (line : WholeLine) (near far : Line) (turn : Option Turn) (result : Result Bool E) → IsHalves draft line near far turn → may_follow_kept (alone_in draft.carriers) (known_kept draft) line ≡ true
     → IfOk result (λ taken. TakesHalves (at_apex draft line) near far turn later taken) → IfOk result (λ taken. TakesWhole draft line later taken)
 takes_halves draft later line near far turn (Err e) is may took = tt
 takes_halves draft later line near far turn (Ok taken) is may took = λ so_far held.
@@ -265,17 +273,17 @@ takes_halves draft later line near far turn (Ok taken) is may took = λ so_far h
     later taken took
 
 -- where it may stand there by itself
-pub takes_fit : {E : Type 0} (draft later : WholeDraft) (line : WholeLine) (result : Result Bool E) → may_follow_both (carriers_of draft.carriers.items) (known_kept draft) line ≡ true → IfOk result (λ taken. TakesFit draft line later taken) → IfOk result (λ taken. TakesWhole draft line later taken)
+pub takes_fit : {E : Type 0} (draft later : WholeDraft) (line : WholeLine) (result : Result Bool E) → may_follow_kept (alone_in draft.carriers) (known_kept draft) line ≡ true → IfOk result (λ taken. TakesFit draft line later taken) → IfOk result (λ taken. TakesWhole draft line later taken)
 takes_fit draft later line (Err e) may took = tt
 takes_fit draft later line (Ok taken) may took = took may
 
 -- of a line that is told otherwise
-pub takes_as : {E : Type 0} (draft later : WholeDraft) (line other : WholeLine) (result : Result Bool E) → line ≡ other → may_follow_both (carriers_of draft.carriers.items) (known_kept draft) line ≡ true
-    → (may_follow_both (carriers_of draft.carriers.items) (known_kept draft) other ≡ true → IfOk result (λ taken. TakesWhole draft other later taken)) → IfOk result (λ taken. TakesWhole draft line later taken)
+pub takes_as : {E : Type 0} (draft later : WholeDraft) (line other : WholeLine) (result : Result Bool E) → line ≡ other → may_follow_kept (alone_in draft.carriers) (known_kept draft) line ≡ true
+    → (may_follow_kept (alone_in draft.carriers) (known_kept draft) other ≡ true → IfOk result (λ taken. TakesWhole draft other later taken)) → IfOk result (λ taken. TakesWhole draft line later taken)
 takes_as draft later line other result same may took =
-    subst (λ (l : WholeLine). IfOk result (λ taken. TakesWhole draft l later taken)) (sym same) (took (subst (λ (l : WholeLine). may_follow_both (carriers_of draft.carriers.items) (known_kept draft) l ≡ true) same may))
+    subst (λ (l : WholeLine). IfOk result (λ taken. TakesWhole draft l later taken)) (sym same) (took (subst (λ (l : WholeLine). may_follow_kept (alone_in draft.carriers) (known_kept draft) l ≡ true) same may))
 
-pub fits_whole : {E : Type 0} (draft later : WholeDraft) (line : WholeLine) (result : Result Bool E) → (may_follow_both (carriers_of draft.carriers.items) (known_kept draft) line ≡ true → IfOk result (λ taken. TakesWhole draft line later taken)) → IfOk result (λ taken. TakesFit draft line later taken)
+pub fits_whole : {E : Type 0} (draft later : WholeDraft) (line : WholeLine) (result : Result Bool E) → (may_follow_kept (alone_in draft.carriers) (known_kept draft) line ≡ true → IfOk result (λ taken. TakesWhole draft line later taken)) → IfOk result (λ taken. TakesFit draft line later taken)
 fits_whole draft later line (Err e) took = tt
 fits_whole draft later line (Ok taken) took = took
 

@@ -1,11 +1,10 @@
 -- What the lines of a text name, gathered line by line.
 --     named-more, named-outside, named-none      of the lines that are left: a further one, one that is outside, and none
 --     made-behind, made-else      the client that a line makes: by the text behind `farclient`, or as in a script of one hub
---     alone_among      whether no other client carries a name
 --     carried-behind, carried-none      the client that a line lets carry a name, by the text behind `carry`
 use Rattle.std.proofs.Common.{◌≡◌, ℕ, ◌<◌, ◌⊎◌, Bool, true, false, ◌&&◌, Option, Some, None, List, [], ◌∷◌, ◌++◌, length, refl, sym, ◌∙◌, ap, arith, append_assoc, inl, inr}
 use Rattle.std.specs.Prelude.{option_map, option_to_list, filter_map, codes}
-use Rattle.std.specs.List.{cons_option, join_with_byte, list_all}
+use Rattle.std.specs.List.{cons_option, join_with_byte}
 use Rattle.std.proofs.lemmas.List.{append-nil}
 use Rattle.std.proofs.lemmas.List.Splits.{join_with_byte-slice_split}
 use Rattle.push_base.specs.Cases.{chosen, is_empty}
@@ -16,9 +15,8 @@ use Rattle.scripts.specs.Lines.{Word, ScriptLine, word, words_in, line_of, numbe
 use Rattle.scripts.specs.Scripts.{lines_in, client_word}
 use Rattle.scripts.specs.Drafts.{client_in}
 use Rattle.scripts.specs.WholeLines.{WholeLine, one, far_zone, far_client, carry, far_line, far_client_line, carry_line, whole_kind, whole_behind, whole_of_words, whole_line_of}
-use Rattle.scripts.specs.WholeScripts.{carries_alone, but_last, texts_left, named_in, made_by, carried_by}
-use Rattle.scripts.specs.KeptWhole.{carriers_of, is_kept_alone, made_in, carrier_in}
-use Rattle.scripts.specs.declared.named.Carrier as named
+use Rattle.scripts.specs.WholeScripts.{but_last, texts_left, named_in, made_by, carried_by}
+use Rattle.scripts.specs.KeptWhole.{made_in, carrier_in}
 use Rattle.scripts.specs.declared.whole_line.WholeKind.{WholeKind}
 use Rattle.scripts.specs.declared.whole_line.WholeKind.TheVariants as kinds
 use Rattle.scripts.proofs.lines.ClientLines.{onto_line_some, line_parts, word_whole, word_octets, word_is}
@@ -197,11 +195,6 @@ module _ (line : List ℕ) (no_far : (w : Word) → line ≡ codes "farclient " 
       by (Some v) some = made-first v (line_parts line v some)
 
 -- ---- a client that carries
-
--- whether no other client carries a name
-pub alone_among : (carriers : List named.Carrier) (w : Word) (name : Labels) → list_all (is_kept_alone w name) carriers ≡ carries_alone (carriers_of carriers) w name
-alone_among [] w name = refl
-alone_among (c ∷ cs) w name = ap (λ (b : Bool). is_kept_alone w name c && b) (alone_among cs w name)
 
 pub carried-behind : (line rest : List ℕ) → line ≡ codes "carry " ++ rest → (carry_line (words_in rest) >>= carried_by) ≡ carrier_in line
 carried-behind line rest e = sym (ap carrier_in e)

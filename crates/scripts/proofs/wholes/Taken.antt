@@ -22,9 +22,10 @@ use Rattle.scripts.specs.KeptLines.{words_of}
 use Rattle.scripts.specs.Events.{known_clients, words_known, each_said, Follow}
 use Rattle.scripts.specs.KeptScripts.{IsScript, events_said, head_kept}
 use Rattle.scripts.specs.Drafts.{Taken, nothing_taken, taken_of, known_of, head_of, AreEvents, HaveMade}
+use Rattle.scripts.specs.Carrying.{alone_in}
 use Rattle.scripts.specs.WholeLines.{WholeLine, whole_line_of}
-use Rattle.scripts.specs.WholeScripts.{all_made, all_carried, WholeSoFar, none_so_far, whole_next, whole_step, whole_script_of}
-use Rattle.scripts.specs.KeptWhole.{carriers_of, IsOf, IsWholeScript, HoldsWhole, TakesWhole}
+use Rattle.scripts.specs.WholeScripts.{all_made, all_carried, carries_alone, WholeSoFar, none_so_far, whole_next, whole_step, whole_script_of}
+use Rattle.scripts.specs.KeptWhole.{IsOf, IsWholeScript, HoldsWhole, TakesWhole}
 use Rattle.scripts.proofs.lines.LineByLine.{count}
 use Rattle.scripts.proofs.lines.MoreLines.{no_lines}
 
@@ -36,7 +37,7 @@ at_first octets = none_so_far (all_made octets) (all_carried octets)
 -- a draft of no lines
 pub record IsBegun (octets : List ℕ) (draft : WholeDraft) : Type 0 where
   pub clients : words_of draft.clients.items ≡ all_made octets
-  pub carriers : carriers_of draft.carriers.items ≡ all_carried octets
+  pub carriers : alone_in draft.carriers ≡ carries_alone (all_carried octets)
   pub near : taken_of draft.near ≡ nothing_taken
   pub far : taken_of draft.far ≡ nothing_taken
   pub apex : draft.apex ≡ None

@@ -1,32 +1,18 @@
-use Rattle.std.proofs.Common.{◌≡◌, ◌∙◌, sym, false}
-use Rattle.rrset.specs.RecordSet.{RecordSet, same_rows}
-use Rattle.coalesce.proofs.Forms.{are_counted, anew_planned, single_planned}
+use Rattle.std.proofs.Common.{◌∙◌, ap, sym, None}
+use Rattle.rrset.specs.RecordSet.{RecordSet}
+use Rattle.rrset.specs.Tables.{counted}
+use Rattle.coalesce.specs.Net.{size_of_notices}
+use Rattle.coalesce.specs.Steps.{removals_behind}
+use Rattle.coalesce.proofs.Forms.{same_false, single_counted}
 use Rattle.coalesce.proofs.form.plan_of.Goals as goal
 
--- the records of both sides aren't the same
-same_false : (old new left right : RecordSet) → left ≡ old → right ≡ new → same_rows left right ≡ false → same_rows old new ≡ false
-same_false old new left right old-is new-is differ = sym (λ i. same_rows (old-is i) (new-is i)) ∙ differ
+pub shorter_form-requires-clause-other : goal.shorter_form-requires-clause-other
+shorter_form-requires-clause-other c =
+    same_false c.args.old.now c.args.new.now c.records.result c.records-2.result c.records.ensures.rows c.records-2.ensures.rows (sym c.same_records.ensures ∙ c.if-same_records.false)
 
-pub returns-then-anew-single-clause-form : goal.returns-then-anew-single-clause-form
-returns-then-anew-single-clause-form c =
-    let counts = are_counted c.args.name.now c.args.old.now c.args.new.now c.removals_size.result c.changed_size.result c.saturating_add-single.result c.all_size.result c.record_size-all_gone.result c.saturating_add-anew.result
-    c.requires.sides c.requires.sent c.requires.name c.removals_size.ensures c.changed_size.ensures c.saturating_add-single.ensures c.record_size-all_gone.ensures.size c.all_size.ensures c.saturating_add-anew.ensures in
-    (anew_planned c.args.name.now c.args.old.now c.args.new.now c.saturating_add-single.result c.saturating_add-anew.result c.requires.name (same_false c.args.old.now c.args.new.now c.records.result c.records-2.result c.records.ensures.rows c.records-2.ensures.rows (sym c.same_records.ensures ∙ c.if-same_records.false)) (sym c.is_empty.ensures ∙ c.if-is_empty.false) counts c.if-anew-single.true).is_net
-
-pub returns-then-anew-single-clause-size : goal.returns-then-anew-single-clause-size
-returns-then-anew-single-clause-size c =
-    let counts = are_counted c.args.name.now c.args.old.now c.args.new.now c.removals_size.result c.changed_size.result c.saturating_add-single.result c.all_size.result c.record_size-all_gone.result c.saturating_add-anew.result
-    c.requires.sides c.requires.sent c.requires.name c.removals_size.ensures c.changed_size.ensures c.saturating_add-single.ensures c.record_size-all_gone.ensures.size c.all_size.ensures c.saturating_add-anew.ensures in
-    (anew_planned c.args.name.now c.args.old.now c.args.new.now c.saturating_add-single.result c.saturating_add-anew.result c.requires.name (same_false c.args.old.now c.args.new.now c.records.result c.records-2.result c.records.ensures.rows c.records-2.ensures.rows (sym c.same_records.ensures ∙ c.if-same_records.false)) (sym c.is_empty.ensures ∙ c.if-is_empty.false) counts c.if-anew-single.true).is_size
-
-pub returns-else-anew-single-clause-form : goal.returns-else-anew-single-clause-form
-returns-else-anew-single-clause-form c =
-    let counts = are_counted c.args.name.now c.args.old.now c.args.new.now c.removals_size.result c.changed_size.result c.saturating_add-single.result c.all_size.result c.record_size-all_gone.result c.saturating_add-anew.result
-    c.requires.sides c.requires.sent c.requires.name c.removals_size.ensures c.changed_size.ensures c.saturating_add-single.ensures c.record_size-all_gone.ensures.size c.all_size.ensures c.saturating_add-anew.ensures in
-    (single_planned c.args.name.now c.args.old.now c.args.new.now c.saturating_add-single.result c.saturating_add-anew.result c.requires.name (same_false c.args.old.now c.args.new.now c.records.result c.records-2.result c.records.ensures.rows c.records-2.ensures.rows (sym c.same_records.ensures ∙ c.if-same_records.false)) (sym c.is_empty.ensures ∙ c.if-is_empty.false) counts c.if-anew-single.false).is_net
-
-pub returns-else-anew-single-clause-size : goal.returns-else-anew-single-clause-size
-returns-else-anew-single-clause-size c =
-    let counts = are_counted c.args.name.now c.args.old.now c.args.new.now c.removals_size.result c.changed_size.result c.saturating_add-single.result c.all_size.result c.record_size-all_gone.result c.saturating_add-anew.result
-    c.requires.sides c.requires.sent c.requires.name c.removals_size.ensures c.changed_size.ensures c.saturating_add-single.ensures c.record_size-all_gone.ensures.size c.all_size.ensures c.saturating_add-anew.ensures in
-    (single_planned c.args.name.now c.args.old.now c.args.new.now c.saturating_add-single.result c.saturating_add-anew.result c.requires.name (same_false c.args.old.now c.args.new.now c.records.result c.records-2.result c.records.ensures.rows c.records-2.ensures.rows (sym c.same_records.ensures ∙ c.if-same_records.false)) (sym c.is_empty.ensures ∙ c.if-is_empty.false) counts c.if-anew-single.false).is_size
+pub shorter_form-requires-clause-single : goal.shorter_form-requires-clause-single
+shorter_form-requires-clause-single c =
+    single_counted c.args.name.now c.args.old.now c.args.new.now c.removals_size-removals.result c.changed_size.result c.saturating_add-single.result
+    (c.requires.sides.0, c.requires.sides.1)
+    (c.removals_size-removals.ensures ∙ ap (λ (l : RecordSet). counted (size_of_notices (removals_behind c.args.name.now c.args.new.now None l))) c.records-3.ensures.rows)
+    c.changed_size.ensures c.saturating_add-single.ensures

@@ -16,7 +16,7 @@ append_removal-requires-clause-room c =
     let new = c.args.new.now in
     let e = c.in-Some.field-0.now in
     append_room c.records.out c.args.out.now (removal_notices name e c.removal_at-removal.result) (removals_behind name new (Some e.0.kind) c.next.new.self)
-    (removals_behind name new c.records.before c.records.rest) (removals_behind name new None c.args.old.now) frame_octets
+    (removals_behind name new c.records.before c.records.rest) (removals_behind name new None c.args.rest) frame_octets
     (ap (removals_behind name new c.records.before) c.in-Some.ensures.rest
     ∙ ap (λ r. removal_notices name e r ++ removals_behind name new (Some e.0.kind) c.next.new.self) (sym c.removal_at-removal.ensures))
     c.requires.room c.records.invariant.1
@@ -28,7 +28,7 @@ records-preserved c =
     let e = c.in-Some.field-0.now in (
       rest_side c.records.rest e c.next.new.self c.records.invariant.0 c.in-Some.ensures.rest,
       append_more c.records.out c.append_removal.new.out (removal_notices name e c.removal_at-removal.result) (removals_behind name new (Some e.0.kind) c.next.new.self)
-          (removals_behind name new c.records.before c.records.rest) (c.args.out.now ++ flat_map notice_octets (removals_behind name new None c.args.old.now))
+          (removals_behind name new c.records.before c.records.rest) (c.args.out.now ++ flat_map notice_octets (removals_behind name new None c.args.rest))
           c.append_removal.ensures
           (ap (removals_behind name new c.records.before) c.in-Some.ensures.rest
           ∙ ap (λ r. removal_notices name e r ++ removals_behind name new (Some e.0.kind) c.next.new.self) (sym c.removal_at-removal.ensures))

@@ -5,7 +5,7 @@ use Rattle.coalesce.proofs.Turns.{IsSized}
 use Rattle.coalesce.proofs.removing.removals_size.Given as goal
 
 abbrev pub invariant-records : goal.invariant-records
-invariant-records l = IsSized l.size (removals_behind l.fn.name l.fn.new l.before l.rest) (size_of_notices (removals_behind l.fn.name l.fn.new None l.fn.old))
+invariant-records l = IsSized l.size (removals_behind l.fn.name l.fn.new l.before l.rest) (size_of_notices (removals_behind l.fn.name l.fn.new None l.fn.rest))
 
 abbrev pub decreases-records : goal.decreases-records
 decreases-records l = length l.rest

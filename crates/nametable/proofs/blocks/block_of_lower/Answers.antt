@@ -9,5 +9,5 @@ pub returns : goal.returns
 returns g c =
     let name = lower c.args.name.now in
     let blocks = c.args.blocks.now in
-    let parted = IsPartitionPoint-from_clause (begins_by name) _ _ c.partition_point-count.ensures.partitioned (blocks-parted name blocks c.requires.blocks) (λ a r q k. search (rules, of_calls, c.first_of_lower-first.ensures)) in
+    let parted = IsPartitionPoint-from_clause (begins_by name) _ _ c.partition_point-count.ensures.partitioned (blocks-parted name blocks c.requires.blocks) (λ a r q k. search (rules, of_calls, c.requires.first)) in
     place-is name blocks c.partition_point-count.result c.saturating_sub.result c.requires.blocks c.requires.some c.partition_point-count.ensures.bound parted c.saturating_sub.ensures

@@ -5,8 +5,8 @@ use Rattle.nametable.specs.Nodes.{AreNodes, table_at}
 use Rattle.nametable.proofs.BlockPlaces.{block_are, table_here}
 use Rattle.nametable.proofs.blocks.table_of_in_blocks.Goals as goal
 
-pub table_of-requires : goal.table_of-requires
-table_of-requires g c =
+pub table_of-requires-clause-nodes : goal.table_of-requires-clause-nodes
+table_of-requires-clause-nodes g c =
     subst AreNodes (sym (c.nodes.ensures ∙ c.index-blocks-place.is)) (block_are (lower c.args.name.now) c.args.blocks.now c.block_of_lower-place.result c.index-blocks-place.result c.requires c.block_of_lower-place.ensures)
 
 pub returns : goal.returns

@@ -8,7 +8,7 @@ use Rattle.nametable.proofs.node.table_of.Goals as goal
 pub returns-in-Ok : goal.returns-in-Ok
 returns-in-Ok g c =
     let nodes = c.args.nodes.now in
-    (found_at (lower c.args.name.now) nodes c.in-Ok.place c.index-nodes-place.result c.requires c.in-Ok.ensures.found).found
+    (found_at (lower c.args.name.now) nodes c.in-Ok.place c.index-nodes-place.result c.requires.nodes c.in-Ok.ensures.found).found
     ∙ ap (λ (g : Node _). Some g.1) (sym c.index-nodes-place.is)
     ∙ ap (λ (t : TableState _). Some t) (sym c.table.ensures)
 

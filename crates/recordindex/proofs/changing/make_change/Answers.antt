@@ -1,8 +1,7 @@
-use Rattle.std.proofs.Common.{List, [], subst, sym}
+use Rattle.std.proofs.Common.{List, [], subst}
 use Rattle.rrset.specs.declared.record.Key.{Key}
 use Rattle.nametable.specs.Nodes.{HasRoomFor, keys_put}
 use Rattle.nametable.proofs.KeyRoom.{keys_put-some, keys_put-none, room-first, room-left, room-more}
-use Rattle.recordindex.specs.Owners.{AreOwners}
 use Rattle.recordindex.proofs.OwnerChanges.{owners-put}
 use Rattle.recordindex.proofs.changing.make_change.Goals as goal
 
@@ -17,10 +16,12 @@ returns-in-Some-clause-left g c = λ others room.
 
 pub returns-in-Some-clause-owners : goal.returns-in-Some-clause-owners
 returns-in-Some-clause-owners g c =
-    subst (AreOwners c.put.new.self.owners) (sym c.put_in_room.ensures.rows)
-    (owners-put c.args.suffixes.now.owners c.put.new.self.owners c.args.change.key c.in-Some.shown c.args.index.now.rows c.requires.owners c.put.ensures.owners)
+    owners-put c.count_put.new.suffixes.owners c.args.change.key c.in-Some.shown c.args.index.now.rows c.put_in_room.new.index.rows (c.count_put.ensures.owners c.args.index.now.rows c.settle_other-last.ensures.owners) c.put_in_room.ensures.rows
 
 pub returns-clause-left : goal.returns-clause-left
 returns-clause-left g c = λ others room.
     room-more (keys_put others) c.args.index.now.nodes c.take_out.new.index.nodes c.take_out.ensures.room
     (subst (λ (ks : List Key). HasRoomFor ks c.args.index.now.nodes) (keys_put-none c.args.change others c.in-None.is) room)
+
+pub returns-clause-owners : goal.returns-clause-owners
+returns-clause-owners g c = c.take_out.ensures.owners c.settle_other-last.new.suffixes.owners c.settle_other-last.ensures.owners

@@ -1,21 +1,23 @@
-use Rattle.std.proofs.Common.{◌≡◌, ◌<◌, length, ap, subst, ◌∙◌, arith}
-use Rattle.rrset.specs.KeyedRows.{rows_of}
-use Rattle.rrset.specs.Tables.{HaveLowerOwners}
-use Rattle.rrset.specs.declared.record.Shown.{Shown}
-use Rattle.nametable.specs.Blocks.{nodes_in}
-use Rattle.nametable.specs.Nodes.{NodesState}
-use Rattle.recordindex.proofs.OwnerChanges.{lows-nodes, owners-gone, owners-left}
+use Rattle.std.proofs.Common.{◌≡◌, sym, subst, ◌∙◌, Option}
+use Rattle.std.specs.Prelude.{IfSome}
+use Rattle.dnsname.specs.Names.{Labels}
+use Rattle.recordindex.specs.Owners.{AreOwners, AreOwnersBut}
+use Rattle.recordindex.proofs.OwnerChanges.{owners-found, owners-less, owners-same}
 use Rattle.recordindex.proofs.changing.take_out.Goals as goal
 
-pub returns-then-not-is_empty-clause-owners : goal.returns-then-not-is_empty-clause-owners
-returns-then-not-is_empty-clause-owners g c =
-    let found = c.at.ensures ∙ ap (λ (t : NodesState Shown). rows_of c.args.key.now.owner t.rows) c.table-2.ensures in
-    let lows = subst HaveLowerOwners (c.blocks-2.ensures.rows ∙ ap (λ (t : NodesState Shown). t.rows) c.table.ensures) (lows-nodes (nodes_in c.blocks-2.result.now) c.blocks-2.ensures.nodes.1) in
-    let some : 0 < length c.at.result.now = grind arith in
-    owners-left c.args.suffixes.now.owners c.args.key.now c.args.index.now.rows c.remove.new.self.rows c.at.result.now c.requires.owners c.requires.lower lows c.remove.ensures.rows found (omega arith)
+pub returns-in-Some-clause-owners : goal.returns-in-Some-clause-owners
+returns-in-Some-clause-owners g c = λ owners are.
+    owners-less owners c.in-Some.last c.args.key c.args.index.now.rows c.remove_key-found.new.index.rows
+    (subst (λ (o : Option Labels). AreOwnersBut o owners c.args.index.now.rows) c.in-Some.is are)
+    (subst (λ (o : Option Labels). IfSome o (λ last. last ≡ c.args.key.owner)) c.in-Some.is c.requires.same)
+    c.remove_key-found.ensures.rows
 
-pub returns-clause-owners : goal.returns-clause-owners
-returns-clause-owners g c =
-    let found = c.at.ensures ∙ ap (λ (t : NodesState Shown). rows_of c.args.key.now.owner t.rows) c.table-2.ensures in
-    let none : length c.at.result.now ≡ 0 = grind arith in
-    owners-gone c.args.suffixes.now.owners c.remove-2.new.self.owners c.args.key.now c.args.index.now.rows c.remove.new.self.rows c.at.result.now c.requires.owners c.remove-2.ensures.owners c.remove.ensures.rows found none
+pub returns-then-found-clause-owners : goal.returns-then-found-clause-owners
+returns-then-found-clause-owners g c = λ owners are.
+    let here : AreOwners owners c.args.index.now.rows = subst (λ (o : Option Labels). AreOwnersBut o owners c.args.index.now.rows) c.in-None.is are in
+    owners-found owners c.args.key c.args.index.now.rows c.remove_key-found.new.index.rows here (sym c.remove_key-found.ensures.found ∙ c.if-found.true) c.remove_key-found.ensures.rows
+
+pub returns-else-found-clause-owners : goal.returns-else-found-clause-owners
+returns-else-found-clause-owners g c = λ owners are.
+    let here : AreOwners owners c.args.index.now.rows = subst (λ (o : Option Labels). AreOwnersBut o owners c.args.index.now.rows) c.in-None.is are in
+    owners-same owners c.args.key c.args.index.now.rows c.remove_key-found.new.index.rows here (sym c.remove_key-found.ensures.found ∙ c.if-found.false) c.remove_key-found.ensures.rows

@@ -25,11 +25,11 @@ returns-in-Ok-reply_to-clause-replied g c =
     let told = c.in-Ok-reply_to.field-0.outcome in
     replied_as (whole_reply by_notices) _ _ _ _ _ _ c.with_ends.ensures.outcome
     (replied (whole_reply by_notices) _ _ _ _ c.in-Ok.script.items _ _ told _ c.in-Ok.ensures.octets
-    (ap (λ t. record { status = status_of told; text = t }) c.as_bytes.ensures.value ∙ c.in-Ok-reply_to.ensures.exact ∙ ap (whole_reply by_notices) c.deref.ensures.value)
+    (ap (λ t. record { status = status_of told; text = t }) c.as_bytes.ensures.value ∙ c.in-Ok-reply_to.ensures.exact)
     refl c.tell-in-Ok-reply_to.ensures.told)
 
-pub returns-clause-replied : goal.returns-clause-replied
-returns-clause-replied g c =
+pub returns-in-Err-clause-replied : goal.returns-in-Err-clause-replied
+returns-in-Err-clause-replied g c =
     replied_as (whole_reply by_notices) _ _ _ _ _ _ c.without_ends-in-Err.ensures.outcome
     (always _ _ (λ octets. let reply = whole_reply by_notices (front_read octets) in answered _ reply _ _ _ _ _ (starved_is _ reply) c.tell-in-Err.ensures.told))
 
@@ -57,10 +57,10 @@ pub returns-in-Ok-reply_to-clause-ends : goal.returns-in-Ok-reply_to-clause-ends
 returns-in-Ok-reply_to-clause-ends g c =
     let ends = c.in-Ok-reply_to.field-0.ends in
     let left : c.with_ends.result.ends ≡ ends_with c.tell-in-Ok-reply_to.result ends = c.with_ends.ensures.ends in
-    left-are _ c.in-Ok.script.items _ ends _ c.in-Ok.ensures.octets (subst (λ (s : List ℕ). IfSome ends (AreEnds s)) c.deref.ensures.value c.in-Ok-reply_to.ensures.ends) left
+    left-are _ c.in-Ok.script.items _ ends _ c.in-Ok.ensures.octets c.in-Ok-reply_to.ensures.ends left
 
-pub returns-clause-there : goal.returns-clause-there
-returns-clause-there g c = left-none _ _ _ _ _ tt c.tell-in-Err.ensures.cause c.without_ends-in-Err.ensures.outcome c.without_ends-in-Err.ensures.ends
+pub returns-in-Err-clause-there : goal.returns-in-Err-clause-there
+returns-in-Err-clause-there g c = left-none _ _ _ _ _ tt c.tell-in-Err.ensures.cause c.without_ends-in-Err.ensures.outcome c.without_ends-in-Err.ensures.ends
 
-pub returns-clause-ends : goal.returns-clause-ends
-returns-clause-ends g c = none-are _ _ c.without_ends-in-Err.ensures.ends
+pub returns-in-Err-clause-ends : goal.returns-in-Err-clause-ends
+returns-in-Err-clause-ends g c = none-are _ _ c.without_ends-in-Err.ensures.ends

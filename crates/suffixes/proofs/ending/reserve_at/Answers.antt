@@ -1,14 +1,15 @@
-use Rattle.std.proofs.Common.{◌≡◌, ℕ, true, List, None, refl, sym, ap, subst, ◌∙◌}
+use Rattle.std.proofs.Common.{◌≡◌, ◌<◌, ℕ, nat_lt, true, List, None, refl, sym, ap, subst, ◌∙◌}
+use Rattle.std.specs.Prelude.{is_some}
 use Rattle.suffixes.specs.Endings.{IsLowerName, Reserves, ending_at, is_among, room_of}
 use Rattle.suffixes.proofs.Changes.{among-some}
-use Rattle.suffixes.proofs.Keeping.{inserted, none-there, place-inserted, reserves-same}
+use Rattle.suffixes.proofs.Keeping.{inserted, place-inserted, reserves-same}
 use Rattle.suffixes.proofs.ending.reserve_at.Goals as goal
 
-pub returns-then-contains_key-clause-kept : goal.returns-then-contains_key-clause-kept
-returns-then-contains_key-clause-kept c = reserves-same c.args.endings.now.entries
+pub returns-in-Some-clause-kept : goal.returns-in-Some-clause-kept
+returns-in-Some-clause-kept c = reserves-same c.args.endings.now.entries
 
-pub returns-then-contains_key-clause-room : goal.returns-then-contains_key-clause-room
-returns-then-contains_key-clause-room c = among-some c.args.name.now c.args.endings.now.entries ∙ sym c.contains_key.ensures ∙ c.if-contains_key.true
+pub returns-in-Some-clause-room : goal.returns-in-Some-clause-room
+returns-in-Some-clause-room c = among-some c.args.name.now c.args.endings.now.entries ∙ ap is_some (sym c.in-Some.ensures.value)
 
 pub returns-in_err-octets-clause-kept : goal.returns-in_err-octets-clause-kept
 returns-in_err-octets-clause-kept c = reserves-same c.args.endings.now.entries
@@ -20,7 +21,7 @@ pub returns-clause-kept : goal.returns-clause-kept
 returns-clause-kept c =
     let spelled : c.in_ok-octets.octets.items ≡ c.args.name.now = c.in_ok-octets.ensures.items in
     let none : ending_at c.in_ok-octets.octets.items c.args.endings.now.entries ≡ None =
-    ap (λ (os : List ℕ). ending_at os c.args.endings.now.entries) spelled ∙ none-there (ending_at c.args.name.now c.args.endings.now.entries) (sym c.contains_key.ensures ∙ c.if-contains_key.false) in
+    ap (λ (os : List ℕ). ending_at os c.args.endings.now.entries) spelled ∙ sym c.in-None.ensures.value in
     subst (Reserves c.args.endings.now.entries) (sym c.in_ok-insert.ensures.entries)
     (inserted c.in_ok-octets.octets _ refl refl c.args.endings.now.entries none (subst IsLowerName (sym spelled) c.requires))
 
@@ -28,6 +29,6 @@ pub returns-clause-room : goal.returns-clause-room
 returns-clause-room c =
     let spelled : c.in_ok-octets.octets.items ≡ c.args.name.now = c.in_ok-octets.ensures.items in
     let none : ending_at c.in_ok-octets.octets.items c.args.endings.now.entries ≡ None =
-    ap (λ (os : List ℕ). ending_at os c.args.endings.now.entries) spelled ∙ none-there (ending_at c.args.name.now c.args.endings.now.entries) (sym c.contains_key.ensures ∙ c.if-contains_key.false) in
+    ap (λ (os : List ℕ). ending_at os c.args.endings.now.entries) spelled ∙ sym c.in-None.ensures.value in
     subst (λ (os : List ℕ). is_among os (room_of c.insert.new.self.entries) ≡ true) spelled
     (subst (λ kept. is_among c.in_ok-octets.octets.items (room_of kept) ≡ true) (sym c.in_ok-insert.ensures.entries) (place-inserted c.in_ok-octets.octets _ c.args.endings.now.entries none))

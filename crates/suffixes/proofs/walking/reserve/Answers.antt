@@ -1,9 +1,9 @@
-use Rattle.std.proofs.Common.{◌≡◌, ◌<◌, length, sym, subst, arith}
-use Rattle.suffixes.proofs.Walks.{Reserved, reserved-end, reserved-first, reserved-more, reserved-name, reserves-twice}
+use Rattle.std.proofs.Common.{◌≡◌, ◌<◌, length, sym, ◌∙◌, subst, arith}
+use Rattle.suffixes.proofs.Walks.{Reserved, reserved-end, reserved-first, reserved-more, reserved-name, reserved-stop, reserves-twice}
 use Rattle.suffixes.proofs.walking.reserve.Goals as goal
 
 pub ends-init : goal.ends-init
-ends-init c = subst (Reserved c.args.endings.now.entries c.args.endings.now.entries c.args.owner.now) (sym c.octets-rest.ensures.octets) (reserved-first c.args.endings.now.entries c.args.owner.now (c.octets-rest.ensures.name, c.requires))
+ends-init c = subst (Reserved c.args.endings.now.entries c.args.endings.now.entries c.args.owner.now) (sym c.octets-rest.ensures.octets) (reserved-first c.args.endings.now.entries c.args.owner.now (c.octets-rest.ensures.name, c.requires.lower))
 
 pub reserve_at-requires : goal.reserve_at-requires
 reserve_at-requires c =
@@ -30,3 +30,12 @@ pub returns-clause-room : goal.returns-clause-room
 returns-clause-room c =
     let none : length c.ends.rest.now ≡ 0 = grind arith in
     reserved-end c.args.endings.now.entries c.ends.endings.entries c.args.owner.now c.ends.rest.now c.ends.invariant none
+
+pub returns-then-branch-clause-kept : goal.returns-then-branch-clause-kept
+returns-then-branch-clause-kept c = reserves-twice c.args.endings.now.entries c.ends.endings.entries c.reserve_at.new.endings.entries c.ends.invariant.stays c.reserve_at.ensures.kept
+
+pub returns-then-branch-clause-room : goal.returns-then-branch-clause-room
+returns-then-branch-clause-room c =
+    let some : 0 < length c.ends.rest.now = grind arith in
+    reserved-stop c.args.endings.now.entries c.ends.endings.entries c.reserve_at.new.endings.entries c.args.owner.now c.ends.rest.now c.requires.kept c.ends.invariant (omega arith)
+    c.reserve_at.ensures.kept (sym c.if-branch.true ∙ c.in_ok-reserve_at.ensures.counted)

@@ -5,7 +5,7 @@ use Rattle.zoneupdate.proofs.serial.with_serial.Goals as goal
 pub returns : goal.returns
 returns c =
     let rdata = c.args.rdata.now in
-    let bytes : c.from_vec.result ≡ by_place c.args.serial rdata (Some c.in-Some.place) =
-    c.from_vec.ensures ∙ c.in_ok-octets.ensures ∙ joined_parts c.to_be_bytes.result rdata c.in-Some.place
-    ∙ ap (λ s. take c.in-Some.place rdata ++ s ++ drop (c.in-Some.place + 4) rdata) c.to_be_bytes.ensures in
-    bytes ∙ sym (with_serial-place c.args.serial rdata (λ i h. omega (arith, c.type_inv.rdata i)) ∙ ap (by_place c.args.serial rdata) (sym c.numbers_place.ensures.place ∙ c.in-Some.is))
+    let bytes : c.from_vec.result ≡ by_place c.args.serial rdata (Some c.args.place) =
+    c.from_vec.ensures ∙ c.in_ok-octets.ensures ∙ joined_parts c.to_be_bytes.result rdata c.args.place
+    ∙ ap (λ s. take c.args.place rdata ++ s ++ drop (c.args.place + 4) rdata) c.to_be_bytes.ensures in
+    bytes ∙ sym (with_serial-place c.args.serial rdata (λ i h. omega (arith, c.type_inv.rdata i)) ∙ ap (by_place c.args.serial rdata) c.requires)

@@ -1,5 +1,5 @@
-use Rattle.std.proofs.Common.{◌≡◌, ℕ, ◌-◌, List, length, drop, ap, sym, ◌∙◌}
-use Rattle.coalesce.specs.Waiting.{names_waiting, packed_of, left_in}
+use Rattle.std.proofs.Common.{◌≡◌, ℕ, ◌-◌, List, length, drop, ap, sym, ◌∙◌, arith}
+use Rattle.coalesce.specs.Waiting.{WaitingName, names_waiting, packed_of, left_in}
 use Rattle.coalesce.proofs.Entries.{Entry, names-dropped, count-waiting}
 use Rattle.coalesce.proofs.queue.Queue.pack.Goals as goal
 
@@ -16,3 +16,8 @@ returns-clause-left g c =
     ∙ names-dropped c.front_of-front.result.names entries
     ∙ ap (λ (n : ℕ). drop n (names_waiting entries)) count
     ∙ ap (left_in asked rows) c.self.view_is
+
+pub pack_lone-requires-clause-lone : goal.pack_lone-requires-clause-lone
+pack_lone-requires-clause-lone g c =
+    let one = ap (λ (q : List WaitingName). length q) (sym c.self.view_is) ∙ count-waiting c.self.inside.names.entries in
+    omega (arith, one, c.len-count.ensures.len, c.if-count-eq1.true)

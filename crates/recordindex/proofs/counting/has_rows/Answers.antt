@@ -1,0 +1,11 @@
+use Rattle.std.proofs.Common.{subst, ap, ◌∙◌}
+use Rattle.rrset.specs.Tables.{HaveLowerOwners}
+use Rattle.rrset.specs.declared.record.Shown.{Shown}
+use Rattle.nametable.specs.Blocks.{nodes_in}
+use Rattle.nametable.specs.Nodes.{NodesState}
+use Rattle.recordindex.proofs.OwnerChanges.{lows-nodes}
+use Rattle.recordindex.proofs.counting.has_rows.Goals as goal
+
+pub returns-clause-lower : goal.returns-clause-lower
+returns-clause-lower c =
+    subst HaveLowerOwners (c.blocks-2.ensures.rows ∙ ap (λ (t : NodesState Shown). t.rows) c.table.ensures) (lows-nodes (nodes_in c.blocks-2.result.now) c.blocks-2.ensures.nodes.1)
