@@ -9,6 +9,7 @@ pub mod name;
 mod part;
 mod plain;
 mod print;
+mod room;
 mod suffix;
 mod text;
 

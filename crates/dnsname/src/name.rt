@@ -121,11 +121,15 @@ impl Model for Name {
     ghost invariant = { λ n. IsSpelling (arc_value n.spelling).octets (arc_value n.spelling).is_lower };
 }
 
-/// Whether a letter among octets is a capital.
+/// Whether a letter among octets is a capital. The loop ends at none, so that many can be tested at a time.
 fn has_capital(octets: &[u8]) -> bool
     ensures { result ≡ list_any is_ascii_uppercase octets.now }
 {
-    octets.iter().any(|octet| octet.is_ascii_uppercase())
+    let mut found = false;
+    'letters: for index in 0..octets.len() {
+        found |= octets[index].is_ascii_uppercase();
+    }
+    found
 }
 
 /// The name that octets spell.
@@ -144,8 +148,7 @@ fn plain_name(alloc: Global, octets: &[u8], at: usize) -> Result<(Name, usize), 
     ensures fault { IfErr result (IsMemoryOr (PlainFaultAt octets.now at)) }
 {
     let after = plain_end(octets, at)?;
-    let spelled = Vec::from_slice(alloc, &octets[at..after])?;
-    let name = name_of(Octets::from_vec(spelled))?;
+    let name = name_of(Octets::alone(alloc, &octets[at..after])?)?;
     Ok((name, after))
 }
 
@@ -182,7 +185,7 @@ fn pointed_name<L: Ledger>(
     ensures cost { CountsUpTo (at + 128) steps.old steps.new }
 {
     let (spelled, after) = name_octets(alloc, first, message, at, steps)?;
-    let name = name_of(Octets::from_vec(spelled))?;
+    let name = name_of(spelled)?;
     Ok((name, after))
 }
 

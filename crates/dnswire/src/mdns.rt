@@ -53,7 +53,7 @@ fn push_heard(heard: &mut HeardRrs, rrs: Rrs) -> Result<(), NoMemory>
 fn all_heard(alloc: Global, answers: Rrs, additional: Rrs) -> Result<HeardRrs, NoMemory>
     ensures { IfOk result (λ heard. heard ≡ map heard_rr (answers ++ additional)) }
 {
-    let mut heard = HeardRrs::new(alloc);
+    let mut heard = HeardRrs::with_room(alloc, answers.len().saturating_add(additional.len()))?;
     push_heard(&mut heard, answers)?;
     push_heard(&mut heard, additional)?;
     Ok(heard)

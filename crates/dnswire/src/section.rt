@@ -1,6 +1,6 @@
 //! Sections of messages: so many entries, one behind the other (RFC 1035, 4.1).
 
-ghost use Rattle.std.specs.Prelude.{◌+◌, ◌≤◌, length};
+ghost use Rattle.std.specs.Prelude.{◌≡◌, ◌+◌, ◌-◌, ◌/◌, ◌≤◌, ◌<◌, length, min};
 ghost use Rattle.rrset.specs.Header.{two_octets};
 ghost use Rattle.dnswire.specs.Reading.{question_at, record_at, sections_of, several};
 ghost use Rattle.dnswire.specs.Gives.{GivesWire, shape_test};
@@ -28,6 +28,21 @@ pub struct Sections {
     pub end: usize,
 }
 
+/// The octets of the shortest question: the root, a TYPE and a CLASS (RFC 1035, 4.1.2).
+const SHORTEST_QUESTION: usize = 5;
+
+/// The octets of the shortest record: the root, a TYPE, a CLASS, a TTL and a length of 0 (RFC 1035, 4.1.3).
+const SHORTEST_RECORD: usize = 11;
+
+/// For how many entries there is to be room: for all that are counted, but for no more than the octets from a place on
+/// can hold, so that no count takes more memory than the message's own size explains.
+fn room_for(count: u16, shortest: usize, message: &[u8], at: usize) -> usize
+    requires { 0 < shortest }
+    ensures { result ≡ min count ((length message.now - at) / shortest) }
+{
+    usize::from(count).min(message.len().saturating_sub(at) / shortest)
+}
+
 /// So many questions from a place on, and the place after them.
 fn read_questions(
     alloc: Global,
@@ -37,7 +52,10 @@ fn read_questions(
 ) -> Result<(Questions, usize), WireFault>
     ensures { GivesWire result (several question_at count message.now at) }
 {
-    let mut questions = Questions::new(alloc);
+    let mut questions = Questions::with_room(
+        alloc,
+        room_for(count, SHORTEST_QUESTION, message, at),
+    )?;
     let mut place = at;
     'questions: for _done in 0..count {
         let (question, after) = read_question(alloc, message, place)?;
@@ -57,7 +75,7 @@ fn read_records(
 ) -> Result<(Rrs, usize), WireFault>
     ensures { GivesWire result (several (record_at (shape_test shaped)) count message.now at) }
 {
-    let mut rrs = Rrs::new(alloc);
+    let mut rrs = Rrs::with_room(alloc, room_for(count, SHORTEST_RECORD, message, at))?;
     let mut place = at;
     'records: for _done in 0..count {
         let (rr, after) = read_record(alloc, shaped, message, place)?;

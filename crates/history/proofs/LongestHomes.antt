@@ -1,5 +1,5 @@
 -- The longest home of a name, as it is found by going through the homes one by one.
-use Rattle.std.proofs.Common.{◌≡◌, ℕ, zero, suc, ◌+◌, ◌<◌, ◌≤◌, Bool, true, false, cond, ltb, ◌||◌, List, [], ◌∷◌, ◌++◌, length, map, fold, Option, Some, None, refl, sym, ap, subst, ◌∙◌, arith, ltb-true, ltb-false, append_assoc}
+use Rattle.std.proofs.Common.{◌≡◌, ℕ, zero, suc, ◌+◌, ◌<◌, ◌≤◌, Bool, true, false, cond, ltb, ◌||◌, List, [], ◌∷◌, ◌++◌, length, map, fold, Option, Some, None, refl, sym, ap, subst, ◌∙◌, arith, leb-true, ltb-true, ltb-false, append_assoc}
 use Rattle.std.specs.Prelude.{slice_get, max}
 use Rattle.std.specs.List.{list_any}
 use Rattle.std.proofs.lemmas.List.{append-nil, length-append}
@@ -9,8 +9,9 @@ use Rattle.dnsname.proofs.Decisions.{ends_in-Decides}
 use Rattle.dnsname.proofs.Endings.{octets-append, length-same}
 use Rattle.dnsname.proofs.Suffixes.{ends_in-longer, same_length}
 use Rattle.history.specs.Longest.{candidates, most_octets, IsLongest}
-use Rattle.zoneupdate.proofs.Filters.{or-left, or-right}
-use Rattle.zoneupdate.proofs.Homes.{OfSome, longest-all, longer_of, longest-cons}
+use Rattle.zoneupdate.proofs.Filters.{and-left, or-left, or-right}
+use Rattle.zoneupdate.specs.KeptZones.{lies_under}
+use Rattle.zoneupdate.proofs.Homes.{OfSome, longest-all, longer_of, longest-cons, under-longer}
 use Rattle.zoneupdate.proofs.Owners.{same_name-itself}
 use Rattle.zoneupdate.proofs.SomeAndAll.{all_itself}
 
@@ -69,6 +70,18 @@ pub as_many_octets : (name x y : Labels) → ends_in name x ≡ true → ends_in
 as_many_octets name x y e f few =
     let (front, long, size) = suffix_octets y x (ends_in-longer name y x f e few) in
     omega arith
+
+-- what lies under an apex has more octets than that
+pub lies-longer : (apex u : Labels) → length (octets u) ≤ length (octets apex) → lies_under apex u ≡ false
+lies-longer apex u short = by (lies_under apex u) refl
+  where
+    by : (b : Bool) → lies_under apex u ≡ b → lies_under apex u ≡ false
+    by false is = is
+    by true is =
+        let more = leb-true (length apex + 1) (length u) (under-longer apex u is) in
+        let (front, long, size) = suffix_octets u apex (and-left _ _ is) in
+        let some = some_octets front (omega arith) in
+        absurd (omega arith)
 
 -- ---- the homes so far
 

@@ -109,7 +109,7 @@ pub(crate) fn rows_of_links(links: &[Cache]) -> usize {
 pub(crate) fn copies_of_links(alloc: Global, links: &[Cache]) -> Result<Vec<Cache>, NoMemory>
     ensures { IfOk result (λ copy. map (λ l. l.state) copy.items ≡ map (λ l. l.state) links.now) }
 {
-    let mut copy = Vec::new(alloc);
+    let mut copy = Vec::with_capacity(alloc, links.len())?;
     'links: for link in links {
         copy.push(link.copy(alloc)?)?;
     }

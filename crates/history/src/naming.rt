@@ -103,7 +103,7 @@ pub(crate) fn put_behind(
 pub(crate) fn copies_of(alloc: Global, homes: &[NamedHome]) -> Result<Vec<NamedHome>, NoMemory>
     ensures { IfOk result (λ copy. copy.items ≡ homes.now) }
 {
-    let mut copy = Vec::new(alloc);
+    let mut copy = Vec::with_capacity(alloc, homes.len())?;
     'homes: for (name, kind) in homes {
         copy.push((name.copy()?, *kind))?;
     }

@@ -56,12 +56,12 @@ impl Model for Past {
 }
 
 /// Whether the journal starts anew where none of so many entries is asked to stay, of which so many must go, and there are so
-/// many rows, each of which is copied then: with two entries for each, or with one where it is full.
+/// many rows, each of which is copied then: with four entries for each, or with one where it is full.
 fn starts_anew(entries: usize, over: usize, rows: usize) -> bool {
     let needed = if over > 0 {
         rows
     } else {
-        rows.saturating_mul(2)
+        rows.saturating_mul(4)
     };
     entries >= MANY_ENTRIES && entries >= needed
 }

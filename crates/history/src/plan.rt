@@ -46,7 +46,7 @@ pub(crate) fn copy_change(change: &Changed) -> Result<Changed, NoMemory>
 fn copy_changed(alloc: Global, changed: &[Changed]) -> Result<Vec<Changed>, NoMemory>
     ensures { IfOk result (λ copy. copy.items ≡ changed.now) }
 {
-    let mut copy = Vec::new(alloc);
+    let mut copy = Vec::with_capacity(alloc, changed.len())?;
     'changed: for change in changed {
         copy.push(copy_change(change)?)?;
     }

@@ -114,7 +114,7 @@ fn put_changes(table: &mut Table<Changed>, changed: &[Changed]) -> Result<(), No
 fn values_of(alloc: Global, rows: Vec<(Key, Changed)>) -> Result<Vec<Changed>, NoMemory>
     ensures { IfOk result (λ values. values.items ≡ map (λ e. e.1) rows.items) }
 {
-    let mut values = Vec::new(alloc);
+    let mut values = Vec::with_capacity(alloc, rows.len())?;
     'rows: for (_, change) in rows {
         values.push(change)?;
     }

@@ -49,6 +49,10 @@ fn zone_asked(zones: &[Question]) -> Result<&Name, u8>
 fn lies_under(apex: &Name, name: &Name) -> bool
     ensures { result ≡ lies_under apex.now name.now }
 {
+    // What lies under a name is longer, which is seen first.
+    if name.octets().len() <= apex.octets().len() {
+        return false;
+    }
     name.ends_in(apex) && !name.same(apex)
 }
 

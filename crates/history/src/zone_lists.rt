@@ -62,7 +62,7 @@ pub(crate) fn rows_of_zones(zones: &[Zone]) -> usize {
 pub(crate) fn copies_of_zones(alloc: Global, zones: &[Zone]) -> Result<Vec<Zone>, NoMemory>
     ensures { IfOk result (λ copy. map (λ z. z.state) copy.items ≡ map (λ z. z.state) zones.now) }
 {
-    let mut copy = Vec::new(alloc);
+    let mut copy = Vec::with_capacity(alloc, zones.len())?;
     'zones: for zone in zones {
         copy.push(zone.copy()?)?;
     }

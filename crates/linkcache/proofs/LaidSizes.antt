@@ -1,6 +1,7 @@
 -- How many rows there are with others laid over them, and how many octets of an owner.
 use Rattle.std.proofs.Common.{◌≡◌, ℕ, suc, ◌+◌, ◌<◌, ◌≤◌, Bool, true, false, cond, not, T, [], ◌∷◌, ◌++◌, drop, get_or, length, min, nat_lt, Option, Some, None, is_some, refl, sym, ap, ◌∙◌, arith}
 use Rattle.std.specs.Prelude.{sum_by}
+use Rattle.std.proofs.lemmas.Bool.Decides.{nat_tests}
 use Rattle.std.specs.Option.{MatchOption}
 use Rattle.std.proofs.lemmas.List.{append_assoc, drop_more}
 use Rattle.std.specs.Ordering.{is_eq, is_lt}
@@ -167,6 +168,9 @@ few-all rows over n m count n-is m-is few =
 
 pub few-new : (rows over : LinkRows) (n m : ℕ) → length (laid over rows) ≡ length rows + length (new_in rows over) → n ≡ length rows → m ≡ length (new_in rows over) → nat_lt (n + m) max_rows ≡ nat_lt (length (laid over rows) + 0) max_rows
 few-new rows over n m count n-is m-is = let same : n + m ≡ length (laid over rows) + 0 = omega arith in ap (λ k. nat_lt k max_rows) same
+
+pub few-full : (rows over : LinkRows) (n : ℕ) → length (laid over rows) ≡ length rows + length (new_in rows over) → n ≡ length rows → max_rows ≤ n → false ≡ nat_lt (length (laid over rows) + 0) max_rows
+few-full rows over n count n-is full = let most : max_rows ≤ length (laid over rows) + 0 = omega arith in grind (arith, nat_tests)
 
 -- parts by two tests are one in either order
 only-turn : (p q : Key → Bool) (rows : LinkRows) → only_rows p (only_rows q rows) ≡ only_rows q (only_rows p rows)

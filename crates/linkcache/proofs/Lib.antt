@@ -24,3 +24,4 @@ pub mod LaidRows
 pub mod LaidSizes
 pub mod FlushedOver
 pub mod MostSizes
+pub mod FirstKeys

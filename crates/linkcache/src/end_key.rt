@@ -6,23 +6,29 @@ ghost use Rattle.std.specs.Ordering.{as_partial_cmp};
 ghost use Rattle.rrset.specs.KeyOrder.{key_cmp_total};
 ghost use Rattle.rrset.specs.Records.{key_cmp, same_key};
 
+use nametable::first_of;
 use rrset::{Key, NoMemory, compare_keys, same_key};
 use std::alloc::Global;
 use std::cmp::Ordering;
 use std::marker::Model;
 
-/// A key behind a pointer, so that few octets move where a moment comes or goes. In contracts it is the key.
+/// A key behind a pointer, so that few octets move where a moment comes or goes. The number of its owner's first octets
+/// stands beside the pointer, so that most comparisons don't follow it. In contracts it is the key.
 #[derive(Debug, Drop)]
 pub(crate) struct EndKey {
+    first: u64,
     key: Box<Key>,
 }
 
 impl Model for EndKey {
+    ghost use Rattle.nametable.specs.FirstOctets.{HasFirst};
     ghost use Rattle.rrset.specs.declared.record.Key.{Key};
 
     ghost Value = { Key };
 
     ghost view = { λ k. k.key.value };
+
+    ghost invariant = { λ k. HasFirst k.first k.key.value.owner };
 }
 
 impl EndKey {
@@ -30,8 +36,10 @@ impl EndKey {
     pub(crate) fn copied(alloc: Global, key: &Key) -> Result<EndKey, NoMemory>
         ensures { IfOk result (λ copy. copy ≡ key.now) }
     {
-        let key = Box::new(alloc, key.copy()?)?;
-        Ok(EndKey { key })
+        let copy = key.copy()?;
+        let first = first_of(&copy.owner);
+        let key = Box::new(alloc, copy)?;
+        Ok(EndKey { first, key })
     }
 
     /// The key.
@@ -39,6 +47,19 @@ impl EndKey {
         ensures { result.now ≡ self.now }
     {
         &self.key
+    }
+
+    /// The order of the two keys.
+    fn compare(&self, other: &EndKey) -> Ordering
+        ensures { result ≡ key_cmp self.now other.now }
+    {
+        if self.first < other.first {
+            return Ordering::Less;
+        }
+        if other.first < self.first {
+            return Ordering::Greater;
+        }
+        compare_keys(&self.key, &other.key)
     }
 }
 
@@ -62,7 +83,7 @@ impl PartialOrd for EndKey {
     ghost laws = { partial_order_from_total key_cmp_total };
 
     fn partial_cmp(&self, other: &EndKey) -> Option<Ordering> {
-        Some(compare_keys(self.key(), other.key()))
+        Some(self.compare(other))
     }
 }
 
@@ -76,6 +97,6 @@ impl Ord for EndKey {
     ghost matches_eq = { λ x y. refl };
 
     fn cmp(&self, other: &EndKey) -> Ordering {
-        compare_keys(self.key(), other.key())
+        self.compare(other)
     }
 }

@@ -49,7 +49,7 @@ fn plan_over(
 }
 
 /// The plan of a hearing, with room for the rows that it puts. It looks at the records heard and the rows of their owners,
-/// and copies none but those that change.
+/// and plans none but those that are heard or flushed.
 pub(crate) fn heard_plan(
     alloc: Global,
     rules: &LinkRules,

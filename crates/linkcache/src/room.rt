@@ -1,8 +1,8 @@
 //! Room for rows of a link: how many there may be, and how many octets of an owner.
 
-ghost use Rattle.std.specs.Prelude.{◌≡◌, ◌≤◌, ◌<◌, ◌+◌, ◌^◌, ◌||◌, ◌==◌, true, length, sum_by, nat_le, nat_lt, IfOk, IsTrue};
+ghost use Rattle.std.specs.Prelude.{◌≡◌, ◌≤◌, ◌<◌, ◌+◌, ◌^◌, ◌||◌, ◌==◌, true, not, length, sum_by, nat_le, nat_lt, is_some, IfOk, IsTrue};
 ghost use Rattle.push_base.specs.Limits.{max_octets_at_name};
-ghost use Rattle.rrset.specs.KeyedRows.{is_rising};
+ghost use Rattle.rrset.specs.KeyedRows.{is_rising, only_rows, row_at};
 ghost use Rattle.rrset.specs.Kinds.{a_kind, aaaa_kind};
 ghost use Rattle.rrset.specs.Records.{rr_size};
 ghost use Rattle.rrset.specs.Tables.{counted};
@@ -51,22 +51,38 @@ fn are_few(rows: usize, others: usize) -> bool
     rows < MAX_ROWS && others < MAX_ROWS - rows
 }
 
-/// Whether a link has few enough rows for one more, with those over it.
-fn has_few(
-    alloc: Global,
-    rows: &NameTable<HeardRow>,
-    over: &Table<HeardRow>,
-) -> Result<bool, NoMemory>
+/// Whether a link doesn't have the key of a row.
+fn is_new(rows: &NameTable<HeardRow>, entry: &(Key, HeardRow)) -> bool
+    ensures { result ≡ not (is_some (row_at entry.now.0 rows.now.rows)) }
+{
+    match rows.get(&entry.0) {
+        Some(_) => false,
+        None => true,
+    }
+}
+
+/// How many of some rows have keys that a link doesn't have.
+fn count_new(rows: &NameTable<HeardRow>, entries: &[(Key, HeardRow)]) -> usize
+    ensures { result ≡ length (only_rows (λ key. not (is_some (row_at key rows.now.rows))) entries.now) }
+{
+    entries.iter().filter(|entry| is_new(rows, entry)).count()
+}
+
+/// Whether a link has few enough rows for one more, with those over it. Where it is full they aren't looked at.
+fn has_few(rows: &NameTable<HeardRow>, over: &Table<HeardRow>) -> bool
     requires count { length rows.now.rows < 2 ^ 64 }
     requires order { IsTrue (is_rising rows.now.rows) }
-    ensures { IfOk result (λ few. few ≡ nat_lt (length (laid over.now.rows rows.now.rows) + 0) max_rows) }
+    ensures { result ≡ nat_lt (length (laid over.now.rows rows.now.rows) + 0) max_rows }
 {
+    let there = rows.len();
     let entries = over.entries();
-    if are_few(rows.len(), entries.len()) {
-        return Ok(true);
+    if are_few(there, entries.len()) {
+        return true;
     }
-    let new = new_rows(alloc, rows, entries)?;
-    Ok(are_few(rows.len(), new.as_slice().len()))
+    if there >= MAX_ROWS {
+        return false;
+    }
+    are_few(there, count_new(rows, entries))
 }
 
 /// The octets of an owner's records under the domain, of a link's and of those over them.
@@ -168,7 +184,7 @@ fn row_has_room(
     requires usable { is_used rules.now.domain rules.now.reverses rr.now ≡ true }
     ensures { IfOk result (λ room. room ≡ row_has_room rules.now 0 (laid over.now.rows rows.now.rows) rr.now) }
 {
-    if !has_few(alloc, rows, over)? {
+    if !has_few(rows, over) {
         return Ok(false);
     }
     let added = translated_size(alloc, rules, rr)?;

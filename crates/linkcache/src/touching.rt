@@ -1,25 +1,19 @@
 //! The part of a link's rows that a step looks at.
 
-ghost use Rattle.std.specs.Prelude.{◌≡◌, ◌≤◌, Bool, ◌||◌, ◌++◌, List, [], fold, IfOk, OnOk, IsTrue};
-ghost use Rattle.dnsname.specs.Names.{same_name};
+ghost use Rattle.std.specs.Prelude.{◌≡◌, ◌++◌, [], fold, IfOk, OnOk, IsTrue};
 ghost use Rattle.nametable.specs.Blocks.{nodes_in};
 ghost use Rattle.nametable.specs.Nodes.{all_rows};
-ghost use Rattle.rrset.specs.KeyedRows.{is_rising, only_rows};
+ghost use Rattle.rrset.specs.KeyedRows.{is_rising};
 ghost use Rattle.rrset.specs.Tables.{HaveLowerOwners};
-ghost use Rattle.rrset.specs.declared.record.HeardRr.{HeardRr};
 ghost use Rattle.rrset.specs.declared.record.Key.{Key};
 ghost use Rattle.clockqueue.specs.Deadlines.{due};
-ghost use Rattle.linkcache.specs.Parts.{copied, is_touched};
-ghost use Rattle.linkcache.specs.Rows.{usable_of};
+ghost use Rattle.linkcache.specs.Parts.{copied};
 
 use crate::end_key::EndKey;
-use crate::kinds::usable;
 use crate::row::HeardRow;
-use crate::rules::LinkRules;
 use clockqueue::Deadlines;
-use dnsname::Name;
 use nametable::{Block, NameTable, Node};
-use rrset::{Copied, HeardRr, Key, NoMemory, Table};
+use rrset::{Copied, Key, NoMemory, Table};
 use std::alloc::Global;
 
 /// Copies what rows have of a key, if anything, into a part of them.

@@ -1,5 +1,5 @@
 -- Sets after notices: what a test of keys keeps, what leaves a set as it is, and that the questions stay.
-use Rattle.std.proofs.Common.{◌≡◌, Bool, false, List, [], ◌∷◌, refl, sym, ap, ◌∙◌, Bor}
+use Rattle.std.proofs.Common.{◌≡◌, Result, Ok, Err, OnOk, OnErr, Bool, false, List, [], ◌∷◌, refl, sym, ap, ◌∙◌, subst, Bor}
 use Rattle.std.specs.Fn.{ComputesKey}
 use denote.Param.Members.{Mut, Called}
 use Rattle.std.proofs.lemmas.Fn.{always_returns_same}
@@ -9,7 +9,8 @@ use Rattle.rrset.specs.declared.record.Shown.{Shown}
 use Rattle.rrset.specs.declared.record.Key.{Key}
 use Rattle.rrset.specs.declared.record.Question.{Question}
 use Rattle.dsotlv.specs.declared.message.Notice.{Notice}
-use Rattle.mirror.specs.Held.{Held, AreHeld, held_of, applied_to}
+use Rattle.mirror.specs.Held.{Held, AreHeld, AreAsked, held_of, applied_to}
+use Rattle.mirror.proofs.Asked.{asked_after}
 use Rattle.mirror.proofs.Questions.{questions_of, same_questions}
 
 -- from the clause `rows` of `retain`, where each call gives p of the key
@@ -32,6 +33,17 @@ applied_questions : (notices : List Notice) (held : Held) → questions_of (appl
 applied_questions notices [] = refl
 applied_questions notices (e ∷ held) = ap (λ (l : List Question). e.0 ∷ l) (applied_questions notices held)
 
-pub still_held : (notices : List Notice) (entries after : List (Question × TableState Shown)) → held_of after ≡ applied_to notices (held_of entries) → AreHeld entries → AreHeld after
+still_held : (notices : List Notice) (entries after : List (Question × TableState Shown)) → held_of after ≡ applied_to notices (held_of entries) → AreHeld entries → AreHeld after
 still_held notices entries after is =
     same_questions entries after (sym (held_questions entries) ∙ sym (applied_questions notices (held_of entries)) ∙ ap (λ (held : Held). questions_of held) (sym is) ∙ held_questions after)
+
+-- so they do where want of memory left the sets as they were
+pub held_either : {E : Type 0} (r : Result (Unit {0}) E) (notices : List Notice) (entries after : List (Question × TableState Shown))
+    → OnOk r (held_of after ≡ applied_to notices (held_of entries)) → OnErr r (held_of after ≡ held_of entries)
+    → AreHeld entries × AreAsked (held_of entries) → AreHeld after × AreAsked (held_of after)
+held_either (Ok u) notices entries after done same are =
+    (still_held notices entries after done are.0, subst AreAsked (sym done) (asked_after notices (held_of entries) are.1))
+held_either (Err e) notices entries after done same are = (
+  same_questions entries after (sym (held_questions entries) ∙ ap (λ (held : Held). questions_of held) (sym same) ∙ held_questions after) are.0,
+  subst AreAsked (sym same) are.1,
+)

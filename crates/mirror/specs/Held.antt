@@ -1,11 +1,12 @@
 -- What a client holds (RFC 8765, 6.3): questions, each with a record set, in the order in which they began.
 --     AreHeld      no question twice
+--     AreAsked      the keys of each set are ones for which its question asks
 --     has, set_of      whether a question is there, and its set
 --     begun, ended      a question whose set begins empty; one that goes
 --     applied_to      each set after the notices of a message
-use Rattle.std.specs.Prelude.{Bool, not, List, [], ◌∷◌, map, Option, option_map, find, filter, if◌then◌else◌}
-use Rattle.std.specs.List.{list_any, IsDistinct}
-use Rattle.rrset.specs.Records.{same_question}
+use Rattle.std.specs.Prelude.{◌≡◌, Bool, true, not, List, [], ◌∷◌, map, Option, option_map, find, filter, if◌then◌else◌}
+use Rattle.std.specs.List.{list_any, AllByRecursion, IsDistinct}
+use Rattle.rrset.specs.Records.{same_question, matches}
 use Rattle.rrset.specs.RecordSet.{RecordSet}
 use Rattle.rrset.specs.Tables.{TableState}
 use Rattle.rrset.specs.declared.record.Shown.{Shown}
@@ -27,6 +28,13 @@ is_of question e = same_question e.0 question
 -- no question twice
 abbrev pub AreHeld : {S : Type 0} → List (Question × S) → Type 0
 AreHeld held = IsDistinct (λ e f. is_of f.0 e) held
+
+-- the question asks for each key of the set
+abbrev pub AsksFor : Question → RecordSet → Type 0
+AsksFor question set = AllByRecursion (λ e. matches question e.0 ≡ true) set
+
+abbrev pub AreAsked : Held → Type 0
+AreAsked held = AllByRecursion (λ e. AsksFor e.0 e.1) held
 
 abbrev pub has : Question → Held → Bool
 has question held = list_any (is_of question) held

@@ -4,7 +4,7 @@ ghost use Rattle.std.specs.Prelude.{◌≡◌, [], true, None, Some, position, I
 ghost use Rattle.mirror.specs.Held.{applied_to, begun, ended, has, is_of, set_of};
 
 use crate::NoMemory;
-use crate::notices::all_applied;
+use crate::notices::apply_all;
 use dsotlv::Notice;
 use rrset::record::Question;
 use rrset::{Table, same_question};
@@ -12,20 +12,20 @@ use std::alloc::Global;
 use std::marker::Model;
 
 /// Questions, each with a record set, in the order in which they began. No question is there twice (names but for
-/// case).
+/// case), and a set has keys alone for which its question asks.
 #[derive(Debug, Drop)]
 pub struct Mirror {
     entries: Vec<(Question, Table)>,
 }
 
 impl Model for Mirror {
-    ghost use Rattle.mirror.specs.Held.{AreHeld, Held, held_of};
+    ghost use Rattle.mirror.specs.Held.{AreHeld, AreAsked, Held, held_of};
 
     ghost Value = { Held };
 
     ghost view = { λ m. held_of m.entries.items };
 
-    ghost invariant = { λ m. AreHeld m.entries.items };
+    ghost invariant = { λ m. AreHeld m.entries.items × AreAsked (held_of m.entries.items) };
 }
 
 /// Where a question is.
@@ -82,8 +82,7 @@ impl Mirror {
         ensures ok { OnOk result (self.new ≡ applied_to notices.now self.old) }
         ensures err { OnErr result (self.new ≡ self.old) }
     {
-        self.entries = all_applied(*self.entries.allocator(), &self.entries, notices)?;
-        Ok(())
+        apply_all(*self.entries.allocator(), &mut self.entries, notices)
     }
 
     /// The set of a question, or nothing where it is not there.

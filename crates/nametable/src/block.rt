@@ -24,6 +24,8 @@ const MOST_NAMES: usize = 512;
 #[derive(Debug, Drop)]
 pub struct Block<V> {
     nodes: Vec<Node<V>>,
+    // The index of the name that was asked for last, where the next is looked for first. Contracts don't see it.
+    last: usize,
 }
 
 impl<V> Model for Block<V> {
@@ -44,7 +46,7 @@ impl<V: Drop> Block<V> {
     {
         let mut nodes = Vec::new(alloc);
         add_name(&mut nodes, 0, owner, 0)?;
-        Ok(Block { nodes })
+        Ok(Block { nodes, last: 0 })
     }
 
     /// Whether the owner of a row ends in a name.
@@ -60,6 +62,11 @@ impl<V: Drop> Block<V> {
         ensures { result.now ≡ self.now }
     {
         &self.nodes
+    }
+
+    /// The index of the name that was asked for last.
+    pub(crate) fn last(&self) -> usize {
+        self.last
     }
 
     /// Whether its first name is at most one whose first octets have this number.
@@ -107,7 +114,7 @@ impl<V: Drop> Block<V> {
         let half = self.nodes.len() / 2;
         let nodes = self.nodes.split_off(half)?;
         self.nodes.shrink_to_fit();
-        Ok(Block { nodes })
+        Ok(Block { nodes, last: 0 })
     }
 
     /// Gives a key this value, and counts its name where it had no rows.
@@ -129,7 +136,7 @@ impl<V: Drop> Block<V> {
         ensures here { room_at self.old key.owner ≤ room_at self.new key.owner + 1 }
         ensures others { (name : Labels) → is_eq (name_cmp name key.owner) ≡ false → room_at self.old name ≤ room_at self.new name }
     {
-        put_in(&mut self.nodes, key, value, names)
+        put_in(&mut self.nodes, &mut self.last, key, value, names)
     }
 
     /// Takes a key out, and counts its name no longer where it has no rows then.
@@ -142,7 +149,7 @@ impl<V: Drop> Block<V> {
         ensures rows { all_rows self.new ≡ without_rows (same_key key.now) (all_rows self.old) }
         ensures room { (name : Labels) → room_at self.old name ≤ room_at self.new name }
     {
-        remove_in(&mut self.nodes, key, names)
+        remove_in(&mut self.nodes, &mut self.last, key, names)
     }
 
     /// Makes room for so many further keys of a name.
@@ -155,7 +162,7 @@ impl<V: Drop> Block<V> {
         ensures room { OnOk result (keys ≤ room_at self.new owner.now) }
         ensures kept { (name : Labels) → room_at self.old name ≤ room_at self.new name }
     {
-        reserve_in(&mut self.nodes, owner, keys)
+        reserve_in(&mut self.nodes, &mut self.last, owner, keys)
     }
 
     /// Gives back the names without rows, and the room in them.
@@ -185,6 +192,6 @@ impl<V: Copied + Drop> Block<V> {
         ensures { IfOk result (λ copy. AreAlike copy self.now) }
     {
         let nodes = copied_nodes(&self.nodes)?;
-        Ok(Block { nodes })
+        Ok(Block { nodes, last: 0 })
     }
 }

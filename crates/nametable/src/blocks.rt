@@ -51,7 +51,7 @@ pub(crate) fn table_for_in_blocks<'a, V: Drop>(
         return None;
     }
     let place = block_of(blocks, &key.owner);
-    table_for(blocks[place].nodes(), key)
+    table_for(blocks[place].nodes(), blocks[place].last(), key)
 }
 
 /// The table of a name.
@@ -67,7 +67,7 @@ pub(crate) fn table_of_in_blocks<'a, V: Drop>(
     }
     let first = first_of_lower(name);
     let place = block_of_lower(blocks, first, name);
-    table_of(blocks[place].nodes(), first, name)
+    table_of(blocks[place].nodes(), blocks[place].last(), first, name)
 }
 
 /// Gives a key this value in the block of its name, and counts the name where it had no rows.

@@ -14,4 +14,5 @@ pub use block::Block;
 pub use index::Index;
 pub use name_table::NameTable;
 pub use node::Node;
+pub use order::first_of;
 pub use uniting::{by_names, put_all_names};

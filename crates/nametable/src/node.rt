@@ -180,6 +180,49 @@ fn search<V: Drop>(nodes: &[Node<V>], name: &Name) -> Result<usize, usize>
     nodes.binary_search_by(|node| node.compare(first, name))
 }
 
+/// Whether the node at an index is that of a name, whose first octets have this number.
+fn is_at<V: Drop>(nodes: &[Node<V>], index: usize, first: u64, name: &Name) -> bool
+    ensures { IsTrue result → HasFirst first name.now → IsNameAt name.now nodes.now index }
+{
+    match nodes.get(index) {
+        Some(node) => node.compare(first, name).is_eq(),
+        None => false,
+    }
+}
+
+/// The same for a name in lower case, whose first octets have this number there.
+fn is_at_lower<V: Drop>(nodes: &[Node<V>], index: usize, first: u64, name: &Name) -> bool
+    ensures { IsTrue result → HasFirst first (lower name.now) → IsNameAt (lower name.now) nodes.now index }
+{
+    match nodes.get(index) {
+        Some(node) => node.compare_with_lower(first, name).is_eq(),
+        None => false,
+    }
+}
+
+/// Where a name is among nodes, or where it would go. It is looked for where the last one was first, as most names are
+/// that one again.
+fn search_near<V: Drop>(nodes: &[Node<V>], last: &mut usize, name: &Name) -> Result<usize, usize>
+    requires { AreNodes nodes.now }
+    ensures found { IfOk result (IsNameAt name.now nodes.now) }
+    ensures absent { IfErr result (IsNameGap name.now nodes.now) }
+{
+    if is_at(nodes, *last, first_of(name), name) {
+        return Ok(*last);
+    }
+    let found = search(nodes, name);
+    *last = place_of(found);
+    found
+}
+
+/// The index at which a name is or would go.
+fn place_of(found: Result<usize, usize>) -> usize {
+    match found {
+        Ok(index) => index,
+        Err(index) => index,
+    }
+}
+
 /// Where a name in lower case is among nodes, or where it would go.
 fn search_lower<V: Drop>(nodes: &[Node<V>], first: u64, name: &Name) -> Result<usize, usize>
     requires nodes { AreNodes nodes.now }
@@ -191,10 +234,17 @@ fn search_lower<V: Drop>(nodes: &[Node<V>], first: u64, name: &Name) -> Result<u
 }
 
 /// The table of a key's owner.
-pub(crate) fn table_for<'a, V: Drop>(nodes: &'a [Node<V>], key: &Key) -> Option<&'a Table<V>>
+pub(crate) fn table_for<'a, V: Drop>(
+    nodes: &'a [Node<V>],
+    last: usize,
+    key: &Key,
+) -> Option<&'a Table<V>>
     requires { AreNodes nodes.now }
     ensures { MatchOption result (table_at key.now.owner nodes.now ≡ None) (λ table. table_at key.now.owner nodes.now ≡ Some table.now) }
 {
+    if is_at(nodes, last, first_of(&key.owner), &key.owner) {
+        return Some(nodes[last].table());
+    }
     match search(nodes, &key.owner) {
         Ok(index) => Some(nodes[index].table()),
         Err(_) => None,
@@ -204,6 +254,7 @@ pub(crate) fn table_for<'a, V: Drop>(nodes: &'a [Node<V>], key: &Key) -> Option<
 /// The table of a name, whose first octets have this number in lower case.
 pub(crate) fn table_of<'a, V: Drop>(
     nodes: &'a [Node<V>],
+    last: usize,
     first: u64,
     name: &Name,
 ) -> Option<&'a Table<V>>
@@ -211,6 +262,9 @@ pub(crate) fn table_of<'a, V: Drop>(
     requires first { HasFirst first (lower name.now) }
     ensures { MatchOption result (table_at (lower name.now) nodes.now ≡ None) (λ table. table_at (lower name.now) nodes.now ≡ Some table.now) }
 {
+    if is_at_lower(nodes, last, first, name) {
+        return Some(nodes[last].table());
+    }
     match search_lower(nodes, first, name) {
         Ok(place) => Some(nodes[place].table()),
         Err(_) => None,
@@ -322,6 +376,7 @@ fn remove_at<V: Drop>(
 /// Takes a key out, and counts its name no longer where it has no rows then.
 pub(crate) fn remove_in<V: Drop>(
     nodes: &mut Vec<Node<V>>,
+    last: &mut usize,
     key: &Key,
     names: &mut usize,
 ) -> Option<V>
@@ -333,7 +388,7 @@ pub(crate) fn remove_in<V: Drop>(
     ensures rows { all_rows nodes.new.items ≡ without_rows (same_key key.now) (all_rows nodes.old.items) }
     ensures room { (name : Labels) → room_at nodes.old.items name ≤ room_at nodes.new.items name }
 {
-    match search(nodes, &key.owner) {
+    match search_near(nodes, last, &key.owner) {
         Ok(index) => remove_at(nodes, index, key, names),
         Err(_) => None,
     }
@@ -342,6 +397,7 @@ pub(crate) fn remove_in<V: Drop>(
 /// Makes room for so many further keys of a name.
 pub(crate) fn reserve_in<V: Drop>(
     nodes: &mut Vec<Node<V>>,
+    last: &mut usize,
     owner: &Name,
     keys: usize,
 ) -> Result<(), NoMemory>
@@ -353,7 +409,7 @@ pub(crate) fn reserve_in<V: Drop>(
     ensures room { OnOk result (keys ≤ room_at nodes.new.items owner.now) }
     ensures kept { (name : Labels) → room_at nodes.old.items name ≤ room_at nodes.new.items name }
 {
-    match search(nodes, owner) {
+    match search_near(nodes, last, owner) {
         Ok(index) => reserve_at(nodes, index, owner, keys),
         Err(index) => add_name(nodes, index, owner.copy()?, keys),
     }
@@ -362,6 +418,7 @@ pub(crate) fn reserve_in<V: Drop>(
 /// Gives a key this value, and counts its name where it had no rows.
 pub(crate) fn put_in<V: Drop>(
     nodes: &mut Vec<Node<V>>,
+    last: &mut usize,
     key: Key,
     value: V,
     names: &mut usize,
@@ -378,7 +435,7 @@ pub(crate) fn put_in<V: Drop>(
     ensures here { room_at nodes.old.items key.owner ≤ room_at nodes.new.items key.owner + 1 }
     ensures others { (name : Labels) → is_eq (name_cmp name key.owner) ≡ false → room_at nodes.old.items name ≤ room_at nodes.new.items name }
 {
-    match search(nodes, &key.owner) {
+    match search_near(nodes, last, &key.owner) {
         Ok(index) => put_at(nodes, index, key, value, names),
         Err(index) => {
             add_name(nodes, index, key.owner.copy()?, 1)?;

@@ -41,8 +41,8 @@ fn octet_at(octets: &[u8], index: usize) -> u8
     octets[index]
 }
 
-/// The number of a name's first octets.
-pub(crate) fn first_of(name: &Name) -> u64
+/// The number of a name's first octets, by which most names are told apart at once.
+pub fn first_of(name: &Name) -> u64
     ensures { HasFirst result name.now }
 {
     let octets = name.octets();

@@ -45,6 +45,17 @@ pub(crate) fn copied(alloc: Global, octets: &[u8]) -> Result<Kept, NoMemory>
     Ok(Kept::Shared(Arc::new(alloc, octets)?))
 }
 
+/// A copy of octets that is to have no further ones, in a vector alone where they are many.
+pub(crate) fn copied_alone(alloc: Global, octets: &[u8]) -> Result<Kept, NoMemory>
+    ensures octets { IfOk result (λ kept. kept_octets kept ≡ octets.now) }
+    ensures fits { IfOk result FitsIn }
+{
+    if octets.len() <= FEW {
+        return Ok(few(octets));
+    }
+    Ok(Kept::Own(octets.to_vec(alloc)?))
+}
+
 /// The octets of a vector. No memory is taken.
 pub(crate) fn handed_over(octets: Vec<u8>) -> Kept
     ensures octets { kept_octets result ≡ octets.items }
@@ -54,6 +65,17 @@ pub(crate) fn handed_over(octets: Vec<u8>) -> Kept
         return few(&octets);
     }
     Kept::Own(octets)
+}
+
+/// The octets of a vector, which copies share.
+pub(crate) fn shared(alloc: Global, octets: Vec<u8>) -> Result<Kept, NoMemory>
+    ensures octets { IfOk result (λ kept. kept_octets kept ≡ octets.items) }
+    ensures fits { IfOk result FitsIn }
+{
+    if octets.len() <= FEW {
+        return Ok(few(&octets));
+    }
+    Ok(Kept::Shared(Arc::new(alloc, octets)?))
 }
 
 /// The octets.

@@ -3,7 +3,7 @@
 ghost use Rattle.std.specs.Prelude.{◌≡◌, [], length, IfOk};
 
 use crate::NoMemory;
-use crate::kept::{Kept, copied, few, handed_over, kept_octets, same};
+use crate::kept::{Kept, copied, copied_alone, few, handed_over, kept_octets, same, shared};
 use std::alloc::Global;
 use std::marker::Model;
 
@@ -53,6 +53,23 @@ impl Octets {
         }
     }
 
+    /// These octets, which copies share.
+    pub fn shared(bytes: Vec<u8>) -> Result<Self, NoMemory>
+        ensures { IfOk result (λ octets. octets ≡ bytes.items) }
+    {
+        let alloc = *bytes.allocator();
+        let kept = shared(alloc, bytes)?;
+        Ok(Octets { alloc, kept })
+    }
+
+    /// A copy of octets, of which further copies would take as much memory again.
+    pub fn alone(alloc: Global, octets: &[u8]) -> Result<Self, NoMemory>
+        ensures { IfOk result (λ copy. copy ≡ octets.now) }
+    {
+        let kept = copied_alone(alloc, octets)?;
+        Ok(Octets { alloc, kept })
+    }
+
     /// A copy of octets.
     pub fn from_slice(alloc: Global, octets: &[u8]) -> Result<Self, NoMemory>
         ensures { IfOk result (λ copy. copy ≡ octets.now) }
@@ -66,8 +83,11 @@ impl Octets {
         ensures { IfOk result (λ copy. copy ≡ self.now) }
     {
         let alloc = self.alloc;
-        let kept = same(alloc, &self.kept)?;
-        Ok(Octets { alloc, kept })
+        if let Kept::Few(count, places) = &self.kept {
+            let kept = Kept::Few(*count, *places);
+            return Ok(Octets { alloc, kept });
+        }
+        same_of_many(self)
     }
 
     /// The allocator that the octets came with.
@@ -88,4 +108,14 @@ impl Octets {
     {
         self.as_slice().len()
     }
+}
+
+// The same octets, wherever they are kept. It stands apart, so that what many take isn't paid for few.
+#[inline(never)]
+fn same_of_many(octets: &Octets) -> Result<Octets, NoMemory>
+    ensures { IfOk result (λ copy. copy ≡ octets.now) }
+{
+    let alloc = octets.alloc;
+    let kept = same(alloc, &octets.kept)?;
+    Ok(Octets { alloc, kept })
 }

@@ -1,1 +1,2 @@
 pub mod OwnerChanges
+pub mod BelowNames

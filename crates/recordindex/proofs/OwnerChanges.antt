@@ -1,17 +1,14 @@
 -- The owners of rows, where a row is put or taken out.
-use Rattle.std.proofs.Common.{◌≡◌, ℕ, zero, suc, ◌+◌, ◌<◌, ◌≤◌, Bool, true, false, cond, List, [], ◌∷◌, ◌++◌, length, get_or, take, filter, nat_lt, refl, sym, ap, subst, ◌∙◌, arith}
-use Rattle.std.specs.Prelude.{not, ◌&&◌, ◌||◌, Option, Some, None, is_some}
-use Rattle.std.specs.FinMap.Entries.{by_order}
-use Rattle.std.specs.List.{AllByRecursion, list_any}
-use Rattle.std.specs.Ordering.{is_eq}
+use Rattle.std.proofs.Common.{◌≡◌, ℕ, zero, suc, ◌+◌, ◌<◌, Bool, true, false, cond, T, List, [], ◌∷◌, ◌++◌, length, get_or, take, refl, sym, ap, subst, ◌∙◌, arith}
+use Rattle.std.specs.Prelude.{not, ◌&&◌, Option, Some, None, is_some}
+use Rattle.std.specs.FinMap.Entries.{below_all, by_order}
+use Rattle.std.specs.List.{AllByRecursion}
+use Rattle.std.specs.Ordering.{is_eq, is_lt}
 use Rattle.std.specs.declared.cmp.Ordering.{Ordering}
 use Rattle.std.specs.declared.cmp.Ordering.TheVariants.{Less, Equal, Greater}
-use Rattle.std.proofs.lemmas.Bool.{ltb-true, ltb-false}
 use Rattle.std.proofs.lemmas.List.{take_more}
-use Rattle.std.proofs.lemmas.List.Folds.{list_any_more}
-use Rattle.dnsname.specs.Names.{Labels, lower, same_name}
-use Rattle.dnsname.proofs.Decisions.{same_name-Decides}
-use Rattle.rrset.specs.KeyedRows.{Rows, put_row, row_at, rows_of, without_rows}
+use Rattle.dnsname.specs.Names.{Labels, lower}
+use Rattle.rrset.specs.KeyedRows.{Rows, is_rising, put_row, row_at, without_rows}
 use Rattle.rrset.specs.Records.{key_cmp, same_key}
 use Rattle.rrset.specs.Tables.{HaveLowerOwners}
 use Rattle.rrset.specs.declared.record.Changed.{Changed}
@@ -19,32 +16,9 @@ use Rattle.rrset.specs.declared.record.Key.{Key}
 use Rattle.rrset.specs.declared.record.Shown.{Shown}
 use Rattle.rrset.proofs.KeyOrder.{key_cmp-IsAntisymmetric}
 use Rattle.nametable.specs.Nodes.{IsNode, Nodes, all_rows}
-use Rattle.suffixes.specs.Endings.{HasRoomFor as HasPlacesFor}
-use Rattle.recordindex.specs.Owners.{AreOwners, AreOwnersBut, HasPlacesToPut}
-
-or_swap : (a b r : Bool) → (a || (b || r)) ≡ (b || (a || r))
-or_swap true true r = refl
-or_swap true false r = refl
-or_swap false true r = refl
-or_swap false false r = refl
-
-or_again : (a r : Bool) → (a || r) ≡ (a || (a || r))
-or_again true r = refl
-or_again false r = refl
-
-pub or_turned : (a b : Bool) → (a || b) ≡ (b || a)
-or_turned true true = refl
-or_turned true false = refl
-or_turned false true = refl
-or_turned false false = refl
-
-and_true : (a : Bool) → (a && true) ≡ a
-and_true true = refl
-and_true false = refl
-
-and_false : (a : Bool) → (a && false) ≡ false
-and_false true = refl
-and_false false = refl
+use Rattle.nametable.proofs.RisingRows.{rising-put}
+use Rattle.suffixes.specs.Endings.{AreCounted, SuffixesState, above_name, names_above, times, using, HasRoomFor as HasPlacesFor}
+use Rattle.recordindex.specs.Owners.{AreOwners, HasPlacesToPut, owners_in}
 
 tied : (o : Ordering) → is_eq o ≡ true → o ≡ Equal
 tied Less is = absurd cc
@@ -55,147 +29,54 @@ tied Greater is = absurd cc
 same-is : (key other : Key) → same_key key other ≡ true → key ≡ other
 same-is key other is = key_cmp-IsAntisymmetric key other (tied (key_cmp key other) is)
 
-same_name-refl : (name : Labels) → same_name name name ≡ true
-same_name-refl name = (same_name-Decides name name).1 refl
+-- ---- lists of owners that weigh the same
 
-same_name-turned : (a b : Labels) → same_name a b ≡ false → same_name b a ≡ false
-same_name-turned a b apart = by (same_name b a) refl
+abbrev pub weighed : (Labels → ℕ) → List Labels → ℕ
+weighed w [] = 0
+weighed w (owner ∷ owners) = w owner + weighed w owners
+
+abbrev pub Alike : List Labels → List Labels → Type 0
+Alike a b = (w : Labels → ℕ) → weighed w a ≡ weighed w b
+
+counted-above : (os : List ℕ) (owners : List Labels) → times os (names_above owners) ≡ weighed (λ owner. times os (above_name owner [])) owners
+counted-above os [] = refl
+counted-above os ([] ∷ owners) = omega (arith, counted-above os owners)
+counted-above os ((label ∷ name) ∷ owners) = omega (arith, counted-above os owners)
+
+counted-all : (owners : List Labels) → length owners ≡ weighed (λ _. 1) owners
+counted-all [] = refl
+counted-all (owner ∷ owners) = omega (arith, counted-all owners)
+
+pub alike : (a b : List Labels) (s : SuffixesState) → Alike a b → AreCounted a s → AreCounted b s
+alike a b s same are = record {
+  counts = λ os some.
+      are.counts os some
+      ∙ ap (λ (n : ℕ). n + using os s.kept) (counted-above os a ∙ same (λ owner. times os (above_name owner [])) ∙ sym (counted-above os b));
+  total = counted-all b ∙ sym (same (λ _. 1)) ∙ sym (counted-all a) ∙ are.total;
+}
+
+-- ---- rows in order
+
+and_left : (a b : Bool) → T (a && b) → T a
+and_left true b h = tt
+and_left false b h = absurd h
+
+and_right : (a b : Bool) → T (a && b) → T b
+and_right true b h = h
+and_right false b h = absurd h
+
+-- a key below all others has no row
+none-below : (key : Key) (rows : Rows Shown) → T (below_all key_cmp key rows) → row_at key rows ≡ None
+none-below key [] h = refl
+none-below key (e ∷ es) h = by (key_cmp key e.0) (and_left (is_lt (key_cmp key e.0)) (below_all key_cmp key es) h) (none-below key es (and_right (is_lt (key_cmp key e.0)) (below_all key_cmp key es) h))
   where
-    by : (t : Bool) → same_name b a ≡ t → t ≡ false
-    by false is = refl
-    by true is =
-        let same : same_name a b ≡ true = (same_name-Decides a b).1 (sym ((same_name-Decides b a).0 is)) in
-        absurd cc
+    by : (o : Ordering) → T (is_lt o) → row_at key es ≡ None → cond (is_eq o) (Some e.1) (row_at key es) ≡ None
+    by Less less rest = rest
+    by Equal less rest = absurd less
+    by Greater less rest = absurd less
 
-module _ (test : Labels → Bool) where
-  -- whether the test holds of the owner of a row
-  abbrev pub any : Rows Shown → Bool
-  any rows = list_any (λ e. test e.0.owner) rows
-
-  pub any-put : (key : Key) (shown : Shown) (rows : Rows Shown) → any (put_row key shown rows) ≡ (test key.owner || any rows)
-  any-put key shown [] = refl
-  any-put key shown (e ∷ es) = by (key_cmp key e.0) refl (any-put key shown es)
-    where
-      by : (o : Ordering) → key_cmp key e.0 ≡ o → any (put_row key shown es) ≡ (test key.owner || any es)
-          → any (by_order o ((key, shown) ∷ e ∷ es) ((e.0, shown) ∷ es) (e ∷ put_row key shown es)) ≡ (test key.owner || (test e.0.owner || any es))
-      by Less is others = refl
-      by Equal is others =
-          or_again (test e.0.owner) (any es)
-          ∙ ap (λ (k : Key). test k.owner || (test e.0.owner || any es)) (sym (key_cmp-IsAntisymmetric key e.0 is))
-      by Greater is others = ap (λ (r : Bool). test e.0.owner || r) others ∙ or_swap (test e.0.owner) (test key.owner) (any es)
-
-  -- the owner is that of a row
-  any-among : (owner : Labels) (rows : Rows Shown) → lower owner ≡ owner → HaveLowerOwners rows → 1 ≤ length (rows_of owner rows) → any rows ≡ (test owner || any rows)
-  any-among owner [] low lows some = absurd (omega arith)
-  any-among owner (e ∷ es) low lows some = by (same_name owner e.0.owner) refl some (any-among owner es low lows.1)
-    where
-      by : (t : Bool) → same_name owner e.0.owner ≡ t → 1 ≤ length (cond t (e ∷ rows_of owner es) (rows_of owner es)) → (1 ≤ length (rows_of owner es) → any es ≡ (test owner || any es))
-          → (test e.0.owner || any es) ≡ (test owner || (test e.0.owner || any es))
-      by true is some others =
-          or_again (test e.0.owner) (any es)
-          ∙ ap (λ (name : Labels). test name || (test e.0.owner || any es)) (sym (sym low ∙ (same_name-Decides owner e.0.owner).0 is ∙ lows.0))
-      by false is some others = ap (λ (r : Bool). test e.0.owner || r) (others some) ∙ or_swap (test e.0.owner) (test owner) (any es)
-
-  -- but for the owner of the key, the owners without it are those with it
-  any-but : (key : Key) (rows : Rows Shown) → (test key.owner || any (without_rows (same_key key) rows)) ≡ (test key.owner || any rows)
-  any-but key [] = refl
-  any-but key (e ∷ es) = by (same_key key e.0) refl (any-but key es)
-    where
-      by : (t : Bool) → same_key key e.0 ≡ t → (test key.owner || any (without_rows (same_key key) es)) ≡ (test key.owner || any es)
-          → (test key.owner || any (cond (not t) (e ∷ without_rows (same_key key) es) (without_rows (same_key key) es))) ≡ (test key.owner || (test e.0.owner || any es))
-      by true is others =
-          others
-          ∙ or_again (test key.owner) (any es)
-          ∙ ap (λ (k : Key). test key.owner || (test k.owner || any es)) (same-is key e.0 is)
-      by false is others =
-          or_swap (test key.owner) (test e.0.owner) (any (without_rows (same_key key) es))
-          ∙ ap (λ (r : Bool). test e.0.owner || r) others
-          ∙ or_swap (test e.0.owner) (test key.owner) (any es)
-
-  -- the owner is that of the row of a key
-  pub any-at : (key : Key) (rows : Rows Shown) → is_some (row_at key rows) ≡ true → any rows ≡ (test key.owner || any rows)
-  any-at key [] there = absurd cc
-  any-at key (e ∷ es) there = by (same_key key e.0) refl there (any-at key es)
-    where
-      by : (t : Bool) → same_key key e.0 ≡ t → is_some (cond t (Some e.1) (row_at key es)) ≡ true → (is_some (row_at key es) ≡ true → any es ≡ (test key.owner || any es))
-          → (test e.0.owner || any es) ≡ (test key.owner || (test e.0.owner || any es))
-      by true is there others =
-          or_again (test e.0.owner) (any es)
-          ∙ ap (λ (k : Key). test k.owner || (test e.0.owner || any es)) (sym (same-is key e.0 is))
-      by false is there others = ap (λ (r : Bool). test e.0.owner || r) (others there) ∙ or_swap (test e.0.owner) (test key.owner) (any es)
-
-  -- no row has the owner
-  any-none : (owner : Labels) (rows : Rows Shown) → length (rows_of owner rows) ≡ 0 → list_any (λ e. test e.0.owner && not (same_name e.0.owner owner)) rows ≡ any rows
-  any-none owner [] none = refl
-  any-none owner (e ∷ es) none = by (same_name owner e.0.owner) refl none (any-none owner es)
-    where
-      by : (t : Bool) → same_name owner e.0.owner ≡ t → length (cond t (e ∷ rows_of owner es) (rows_of owner es)) ≡ 0
-          → (length (rows_of owner es) ≡ 0 → list_any (λ e. test e.0.owner && not (same_name e.0.owner owner)) es ≡ any es)
-          → ((test e.0.owner && not (same_name e.0.owner owner)) || list_any (λ e. test e.0.owner && not (same_name e.0.owner owner)) es) ≡ (test e.0.owner || any es)
-      by true is none others = absurd (omega arith)
-      by false is none others =
-          ap (λ (t : Bool). (test e.0.owner && not t) || list_any (λ e. test e.0.owner && not (same_name e.0.owner owner)) es) (same_name-turned owner e.0.owner is)
-          ∙ ap (λ (t : Bool). t || list_any (λ e. test e.0.owner && not (same_name e.0.owner owner)) es) (and_true (test e.0.owner))
-          ∙ ap (λ (r : Bool). test e.0.owner || r) (others none)
-
-  -- without the rows of an owner, neither is it among the names
-  but-none : (owner : Labels) (rows : Rows Shown) → length (rows_of owner rows) ≡ 0
-      → ((test owner && not (same_name owner owner)) || list_any (λ e. test e.0.owner && not (same_name e.0.owner owner)) rows) ≡ any rows
-  but-none owner rows none =
-      ap (λ (t : Bool). (test owner && not t) || list_any (λ e. test e.0.owner && not (same_name e.0.owner owner)) rows) (same_name-refl owner)
-      ∙ ap (λ (t : Bool). t || list_any (λ e. test e.0.owner && not (same_name e.0.owner owner)) rows) (and_false (test owner))
-      ∙ any-none owner rows none
-
-any-filter : (test keeps : Labels → Bool) (names : List Labels) → list_any test (filter keeps names) ≡ list_any (λ name. test name && keeps name) names
-any-filter test keeps [] = refl
-any-filter test keeps (name ∷ names) = by (keeps name) (any-filter test keeps names)
-  where
-    by : (t : Bool) → list_any test (filter keeps names) ≡ list_any (λ name. test name && keeps name) names
-        → list_any test (cond t (name ∷ filter keeps names) (filter keeps names)) ≡ ((test name && t) || list_any (λ name. test name && keeps name) names)
-    by true others = ap (λ (t : Bool). t || list_any test (filter keeps names)) (sym (and_true (test name))) ∙ ap (λ (r : Bool). (test name && true) || r) others
-    by false others = others ∙ ap (λ (t : Bool). t || list_any (λ name. test name && keeps name) names) (sym (and_false (test name)))
-
--- ---- what the changes leave
-
-pub owners-put : (owners : List Labels) (key : Key) (shown : Shown) (rows now : Rows Shown) → AreOwnersBut (Some key.owner) owners rows → now ≡ put_row key shown rows → AreOwners owners now
-owners-put owners key shown rows now are now-is test = are test ∙ sym (any-put test key shown rows) ∙ ap (any test) (sym now-is)
-
-pub owners-counted : (was now : List Labels) (lessened : Option Labels) (owner : Labels) (rows : Rows Shown) → AreOwnersBut lessened was rows → lessened ≡ None
-    → ((test : Labels → Bool) → list_any test now ≡ (test owner || list_any test was)) → AreOwnersBut (Some owner) now rows
-owners-counted was now lessened owner rows are none puts test =
-    puts test ∙ ap (λ (r : Bool). test owner || r) (subst (λ (o : Option Labels). AreOwnersBut o was rows) none are test)
-
-pub owners-gone : (was later : List Labels) (owner : Labels) (rows : Rows Shown) → AreOwnersBut (Some owner) was rows → later ≡ filter (λ other. not (same_name other owner)) was
-    → nat_lt 0 (length (rows_of owner rows)) ≡ false → AreOwners later rows
-owners-gone was later owner rows are later-is none test =
-    let left : length (rows_of owner rows) ≡ 0 = omega (arith, ltb-false 0 (length (rows_of owner rows)) none) in
-    ap (list_any test) later-is
-    ∙ any-filter test (λ other. not (same_name other owner)) was
-    ∙ are (λ name. test name && not (same_name name owner))
-    ∙ but-none test owner rows left
-
-pub owners-left : (owners : List Labels) (owner : Labels) (rows : Rows Shown) → AreOwnersBut (Some owner) owners rows → lower owner ≡ owner → HaveLowerOwners rows
-    → nat_lt 0 (length (rows_of owner rows)) ≡ true → AreOwners owners rows
-owners-left owners owner rows are low lows some test =
-    let left : 1 ≤ length (rows_of owner rows) = omega (arith, ltb-true 0 (length (rows_of owner rows)) some) in
-    are test ∙ sym (any-among test owner rows low lows left)
-
--- a key of the owner that lost a record is taken out
-pub owners-less : (owners : List Labels) (last : Labels) (key : Key) (rows now : Rows Shown) → AreOwnersBut (Some last) owners rows → last ≡ key.owner → now ≡ without_rows (same_key key) rows → AreOwnersBut (Some last) owners now
-owners-less owners last key rows now are same now-is test =
-    are test
-    ∙ ap (λ (name : Labels). test name || any test rows) same
-    ∙ sym (any-but test key rows)
-    ∙ ap (λ (name : Labels). test name || any test (without_rows (same_key key) rows)) (sym same)
-    ∙ ap (λ (r : Rows Shown). test last || any test r) (sym now-is)
-
--- a key that was there is taken out
-pub owners-found : (owners : List Labels) (key : Key) (rows now : Rows Shown) → AreOwners owners rows → is_some (row_at key rows) ≡ true → now ≡ without_rows (same_key key) rows → AreOwnersBut (Some key.owner) owners now
-owners-found owners key rows now are there now-is test =
-    are test
-    ∙ any-at test key rows there
-    ∙ sym (any-but test key rows)
-    ∙ ap (λ (r : Rows Shown). test key.owner || any test r) (sym now-is)
+behind : (e : Key × Shown) (es : Rows Shown) → T (is_rising (e ∷ es)) → T (is_rising es)
+behind e es h = and_right (below_all key_cmp e.0 es) (is_rising es) h
 
 -- one that wasn't there leaves the rows
 nothing_taken : (key : Key) (rows : Rows Shown) → is_some (row_at key rows) ≡ false → without_rows (same_key key) rows ≡ rows
@@ -207,19 +88,74 @@ nothing_taken key (e ∷ es) none = by (same_key key e.0) none (nothing_taken ke
     by true none others = absurd cc
     by false none others = ap (λ (r : Rows Shown). e ∷ r) (others none)
 
-pub owners-same : (owners : List Labels) (key : Key) (rows now : Rows Shown) → AreOwners owners rows → is_some (row_at key rows) ≡ false → now ≡ without_rows (same_key key) rows → AreOwners owners now
-owners-same owners key rows now are none now-is = subst (AreOwners owners) (sym (now-is ∙ nothing_taken key rows none)) are
+-- ---- a row is put
 
--- the owner of a row is among the owners
-pub owner-told : (owners : List Labels) (owner : Labels) (rows : Rows Shown) → AreOwners owners rows → lower owner ≡ owner → HaveLowerOwners rows → nat_lt 0 (length (rows_of owner rows)) ≡ true
-    → list_any (same_name owner) owners ≡ true
-owner-told owners owner rows are low lows some =
-    let left : 1 ≤ length (rows_of owner rows) = omega (arith, ltb-true 0 (length (rows_of owner rows)) some) in
-    are (same_name owner)
-    ∙ any-among (same_name owner) owner rows low lows left
-    ∙ ap (λ (t : Bool). t || any (same_name owner) rows) (same_name-refl owner)
+put-new : (w : Labels → ℕ) (key : Key) (shown : Shown) (rows : Rows Shown) → is_some (row_at key rows) ≡ false → weighed w (key.owner ∷ owners_in rows) ≡ weighed w (owners_in (put_row key shown rows))
+put-new w key shown [] none = refl
+put-new w key shown (e ∷ es) none = by (key_cmp key e.0) none (put-new w key shown es)
+  where
+    swapped : (a b c d : ℕ) → a + c ≡ d → a + (b + c) ≡ b + d
+    swapped a b c d is = omega (arith, is)
 
--- ---- owners in lower case
+    by : (o : Ordering) → is_some (cond (is_eq o) (Some e.1) (row_at key es)) ≡ false
+        → (is_some (row_at key es) ≡ false → weighed w (key.owner ∷ owners_in es) ≡ weighed w (owners_in (put_row key shown es)))
+        → weighed w (key.owner ∷ owners_in (e ∷ es)) ≡ weighed w (owners_in (by_order o ((key, shown) ∷ e ∷ es) ((e.0, shown) ∷ es) (e ∷ put_row key shown es)))
+    by Less none rest = refl
+    by Equal none rest = absurd cc
+    by Greater none rest = swapped (w key.owner) (w e.0.owner) (weighed w (owners_in es)) (weighed w (owners_in (put_row key shown es))) (rest none)
+
+put-again : (w : Labels → ℕ) (key : Key) (shown : Shown) (rows : Rows Shown) → T (is_rising rows) → is_some (row_at key rows) ≡ true → weighed w (owners_in rows) ≡ weighed w (owners_in (put_row key shown rows))
+put-again w key shown [] rising there = absurd cc
+put-again w key shown (e ∷ es) rising there = by (key_cmp key e.0) refl there (rising-put key shown (e ∷ es) rising) (put-again w key shown es (behind e es rising))
+  where
+    by : (o : Ordering) → key_cmp key e.0 ≡ o → is_some (cond (is_eq o) (Some e.1) (row_at key es)) ≡ true
+        → T (is_rising (by_order o ((key, shown) ∷ e ∷ es) ((e.0, shown) ∷ es) (e ∷ put_row key shown es)))
+        → (is_some (row_at key es) ≡ true → weighed w (owners_in es) ≡ weighed w (owners_in (put_row key shown es)))
+        → weighed w (owners_in (e ∷ es)) ≡ weighed w (owners_in (by_order o ((key, shown) ∷ e ∷ es) ((e.0, shown) ∷ es) (e ∷ put_row key shown es)))
+    by Less is there put rest =
+        let below = and_left (below_all key_cmp key (e ∷ es)) (is_rising (e ∷ es)) put in
+        let none : row_at key es ≡ None = none-below key es (and_right (is_lt (key_cmp key e.0)) (below_all key_cmp key es) below) in
+        let never : false ≡ true = sym (ap (λ (o : Option Shown). is_some o) none) ∙ there in
+        absurd cc
+    by Equal is there put rest = refl
+    by Greater is there put rest = ap (λ (n : ℕ). w e.0.owner + n) (rest there)
+
+without-one : (w : Labels → ℕ) (key : Key) (rows : Rows Shown) → T (is_rising rows) → is_some (row_at key rows) ≡ true → weighed w (owners_in rows) ≡ weighed w (key.owner ∷ owners_in (without_rows (same_key key) rows))
+without-one w key [] rising there = absurd cc
+without-one w key (e ∷ es) rising there = by (same_key key e.0) refl there (without-one w key es (behind e es rising))
+  where
+    swapped : (a b c d : ℕ) → c ≡ a + d → b + c ≡ a + (b + d)
+    swapped a b c d is = omega (arith, is)
+
+    by : (t : Bool) → same_key key e.0 ≡ t → is_some (cond t (Some e.1) (row_at key es)) ≡ true
+        → (is_some (row_at key es) ≡ true → weighed w (owners_in es) ≡ weighed w (key.owner ∷ owners_in (without_rows (same_key key) es)))
+        → weighed w (owners_in (e ∷ es)) ≡ weighed w (key.owner ∷ owners_in (cond (not t) (e ∷ without_rows (same_key key) es) (without_rows (same_key key) es)))
+    by true is there rest =
+        let key-is : key ≡ e.0 = same-is key e.0 is in
+        let none : row_at key es ≡ None = ap (λ (k : Key). row_at k es) key-is ∙ none-below e.0 es (and_left (below_all key_cmp e.0 es) (is_rising es) rising) in
+        ap (λ (k : Key). w k.owner + weighed w (owners_in es)) (sym key-is)
+        ∙ ap (λ (r : Rows Shown). w key.owner + weighed w (owners_in r)) (sym (nothing_taken key es (ap (λ (o : Option Shown). is_some o) none)))
+    by false is there rest = swapped (w key.owner) (w e.0.owner) (weighed w (owners_in es)) (weighed w (owners_in (without_rows (same_key key) es))) (rest there)
+
+-- ---- what the changes leave
+
+pub owners-new : (s : SuffixesState) (key : Key) (shown : Shown) (rows now : Rows Shown) → is_some (row_at key rows) ≡ false → AreCounted (key.owner ∷ owners_in rows) s → now ≡ put_row key shown rows → AreOwners s now
+owners-new s key shown rows now none are now-is =
+    subst (AreOwners s) (sym now-is) (alike (key.owner ∷ owners_in rows) (owners_in (put_row key shown rows)) s (λ w. put-new w key shown rows none) are)
+
+pub owners-again : (s : SuffixesState) (key : Key) (shown : Shown) (rows now : Rows Shown) → T (is_rising rows) → is_some (row_at key rows) ≡ true → AreOwners s rows → now ≡ put_row key shown rows → AreOwners s now
+owners-again s key shown rows now rising there are now-is =
+    subst (AreOwners s) (sym now-is) (alike (owners_in rows) (owners_in (put_row key shown rows)) s (λ w. put-again w key shown rows rising there) are)
+
+pub owners-less : (s : SuffixesState) (key : Key) (rows now : Rows Shown) → T (is_rising rows) → is_some (row_at key rows) ≡ true → AreOwners s rows → now ≡ without_rows (same_key key) rows → AreCounted (key.owner ∷ owners_in now) s
+owners-less s key rows now rising there are now-is =
+    subst (λ (r : Rows Shown). AreCounted (key.owner ∷ owners_in r) s) (sym now-is)
+    (alike (owners_in rows) (key.owner ∷ owners_in (without_rows (same_key key) rows)) s (λ w. without-one w key rows rising there) are)
+
+pub owners-same : (s : SuffixesState) (key : Key) (rows now : Rows Shown) → AreOwners s rows → is_some (row_at key rows) ≡ false → now ≡ without_rows (same_key key) rows → AreOwners s now
+owners-same s key rows now are none now-is = subst (AreOwners s) (sym (now-is ∙ nothing_taken key rows none)) are
+
+-- ---- rows with lower owners
 
 lows-owner : (name : Labels) (rows : Rows Shown) → lower name ≡ name → AllByRecursion (λ e. e.0.owner ≡ name) rows → HaveLowerOwners rows
 lows-owner name [] low of = tt
@@ -235,14 +171,14 @@ lows-nodes (node ∷ nodes) are = lows-append node.1.rows (all_rows nodes) (lows
 
 -- ---- owners counted one after another
 
-pub owners-more : (was now : List Labels) (rows : Rows Shown) (i : ℕ) (e : Key × Shown) → i < length rows → e ≡ get_or rows i e → AreOwners was (take i rows)
-    → ((test : Labels → Bool) → list_any test now ≡ (test e.0.owner || list_any test was)) → AreOwners now (take (i + 1) rows)
-owners-more was now rows i e within is are puts test =
-    puts test
-    ∙ ap (λ (r : Bool). test e.0.owner || r) (are test)
-    ∙ or_turned (test e.0.owner) (any test (take i rows))
-    ∙ ap (λ (x : Key × Shown). any test (take i rows) || test x.0.owner) is
-    ∙ sym (list_any_more (λ (x : Key × Shown). test x.0.owner) rows i e within)
+last-alike : (w : Labels → ℕ) (e : Key × Shown) (rows : Rows Shown) → weighed w (e.0.owner ∷ owners_in rows) ≡ weighed w (owners_in (rows ++ e ∷ []))
+last-alike w e [] = refl
+last-alike w e (f ∷ fs) = omega (arith, last-alike w e fs)
+
+pub owners-more : (s : SuffixesState) (rows : Rows Shown) (i : ℕ) (e : Key × Shown) → i < length rows → e ≡ get_or rows i e → AreCounted (e.0.owner ∷ owners_in (take i rows)) s → AreOwners s (take (i + 1) rows)
+owners-more s rows i e within is are =
+    let split : take (i + 1) rows ≡ take i rows ++ e ∷ [] = take_more rows i e within ∙ ap (λ (x : Key × Shown). take i rows ++ x ∷ []) (sym is) in
+    subst (AreOwners s) (sym split) (alike (e.0.owner ∷ owners_in (take i rows)) (owners_in (take i rows ++ e ∷ [])) s (λ w. last-alike w e (take i rows)) are)
 
 -- ---- places and owners one after another
 

@@ -1,6 +1,6 @@
 //! All records, found by names, and by the names that their owners end in.
 
-ghost use Rattle.std.specs.Prelude.{◌≡◌, ◌≤◌, ◌+◌, length, IfOk, OnOk};
+ghost use Rattle.std.specs.Prelude.{◌≡◌, ◌+◌, length, IfOk, OnOk};
 ghost use Rattle.std.specs.List.{AllByRecursion, list_any};
 ghost use Rattle.dnsname.specs.Names.{ends_in};
 ghost use Rattle.rrset.specs.RecordSet.{with_changes};
@@ -9,7 +9,7 @@ ghost use Rattle.nametable.specs.Nodes.{HaveRisingKeys};
 ghost use Rattle.recordindex.specs.Owners.{HasRoomForChanges};
 
 use crate::changing::make_all;
-use crate::counting::{count_owners, reserve_owners};
+use crate::counting::{below_in, count_owners, reserve_owners};
 use dnsname::Name;
 use nametable::{Index, by_names};
 use push_base::Steps;
@@ -19,7 +19,8 @@ use std::marker::Model;
 use std::sync::ledger::Ledger;
 use suffixes::Suffixes;
 
-/// All records by names, and their owners. That an owner ends in a name one look-up says, however many names there are.
+/// All records by names, and their owners. Whether one ends in a name two look-ups say at most, however many names
+/// there are.
 #[derive(Debug, Drop)]
 pub struct RecordIndex {
     index: Index,
@@ -27,13 +28,14 @@ pub struct RecordIndex {
 }
 
 impl Model for RecordIndex {
+    ghost use Rattle.suffixes.specs.Endings.{room_of};
     ghost use Rattle.recordindex.specs.Owners.{AreOwners, RecordsState};
 
     ghost Value = { RecordsState };
 
-    ghost view = { λ r. record { rows = r.index.rows; nodes = r.index.nodes; places = r.suffixes.room } };
+    ghost view = { λ r. record { rows = r.index.rows; nodes = r.index.nodes; places = room_of r.suffixes.kept; owners = r.suffixes.total } };
 
-    ghost invariant = { λ r. AreOwners r.suffixes.owners r.index.rows };
+    ghost invariant = { λ r. AreOwners r.suffixes r.index.rows };
 }
 
 impl RecordIndex {
@@ -56,11 +58,11 @@ impl RecordIndex {
         &self.index
     }
 
-    /// Whether the owner of a row ends in a name, by one look-up (RFC 8020, 2).
+    /// Whether the owner of a row ends in a name, by two look-ups at most (RFC 8020, 2).
     pub fn below(&self, name: &Name) -> bool
         ensures { result ≡ list_any (λ e. ends_in e.0.owner name.now) self.now.rows }
     {
-        self.suffixes.below(name)
+        below_in(&self.index, &self.suffixes, name)
     }
 
     /// Makes room for the keys that changes put, in time linear in the changes but for searches. It counts a step for
@@ -77,11 +79,11 @@ impl RecordIndex {
         ensures steps { steps.new ≡ steps.old + length changed.now }
     {
         self.index.reserve_for(changed, steps)?;
-        reserve_owners(&self.index, &mut self.suffixes, changed)
+        reserve_owners(&mut self.suffixes, changed)
     }
 
-    /// Makes changes, where there is room for all keys that they put. It takes no memory, and room that was made for other
-    /// plans may be given back. It counts a step for each.
+    /// Makes changes, where there is room for all keys that they put. It takes no memory, and room that was made for
+    /// other plans may be given back. It counts a step for each.
     pub fn make_changes<L: Ledger>(&mut self, changed: Vec<Changed>, steps: &mut Steps<L>)
         requires lower { AllByRecursion (λ c. HasLowerOwner c.key) changed.items }
         requires room { HasRoomForChanges changed.items self.old }

@@ -3,9 +3,10 @@
 --     turn_of given      what follows a call of give
 --     has_worked given      whether it reacted to a message
 --     has_end told id, not_told told entry      whether the end of an ID is told
+--     noted_if notes told, TellsNoted      ends that are noted, or none; what was noted tells them
 --     Remembers, Gives      one call of give: what it told of first answers, and all
 --     Emits, Exchanges      calls of give until there is no more or so many octets came; an exchange
-use Rattle.std.specs.Prelude.{◌≡◌, ◌≤◌, ◌⊎◌, ◌++◌, ◌==◌, ℕ, Bool, true, false, not, List, [], take, Option, Some, None}
+use Rattle.std.specs.Prelude.{⊤, ◌≡◌, ◌≤◌, ◌⊎◌, ◌++◌, ◌==◌, ℕ, Bool, true, false, not, List, [], take, Option, Some, None}
 use Rattle.std.specs.List.{list_any}
 use Rattle.push_base.specs.Limits.{max_number}
 use Rattle.dsosession.specs.declared.session.EndReason.{EndReason}
@@ -44,9 +45,19 @@ abbrev pub has_worked : Given → Bool
 has_worked Worked = true
 has_worked _ = false
 
+-- the ends that are told, where they are noted
+abbrev pub noted_if : Bool → List (ℕ × ℕ) → Option (List (ℕ × ℕ))
+noted_if true told = Some told
+noted_if false told = None
+
+-- what was noted tells the ends
+abbrev pub TellsNoted : Option (List (ℕ × ℕ)) → List (ℕ × ℕ) → Type 0
+TellsNoted (Some told) plain = TellsEnds told plain
+TellsNoted None plain = ⊤
+
 -- the ends of first answers that were told, where a session has these subscriptions behind a call
-abbrev pub Remembers : Hub → ℕ → List (ℕ × ℕ) → List (ℕ × ℕ) → Type 0
-Remembers hub number before later = (plain : List (ℕ × ℕ)) → TellsEnds before plain → TellsEnds later (remembers (subscriptions_in hub number) plain)
+abbrev pub Remembers : Hub → ℕ → Option (List (ℕ × ℕ)) → Option (List (ℕ × ℕ)) → Type 0
+Remembers hub number before later = (plain : List (ℕ × ℕ)) → TellsNoted before plain → TellsNoted later (remembers (subscriptions_in hub number) plain)
 
 -- whether the end of an ID is told
 abbrev pub has_end : List (ℕ × ℕ) → ℕ → Bool
@@ -57,7 +68,7 @@ abbrev pub not_told : List (ℕ × ℕ) → ℕ × ℕ → Bool
 not_told told entry = not (has_end told entry.0)
 
 -- one call of give was this, behind which links are asked this
-pub record IsGiven (g : Giving) (asked : Askings) (number : ℕ) (before : List ℕ) (told : List (ℕ × ℕ)) (later : AskingHub) (octets : List ℕ) (told_later : List (ℕ × ℕ)) (given : Given) : Type 0 where
+pub record IsGiven (g : Giving) (asked : Askings) (number : ℕ) (before : List ℕ) (told : Option (List (ℕ × ℕ))) (later : AskingHub) (octets : List ℕ) (told_later : Option (List (ℕ × ℕ))) (given : Given) : Type 0 where
   pub answers : given ≡ g.given
   pub written : octets ≡ before ++ g.octets
   pub ends : Remembers g.hub number told told_later
@@ -65,15 +76,15 @@ pub record IsGiven (g : Giving) (asked : Askings) (number : ℕ) (before : List 
   pub asks : later.askings ≡ asked
 
 -- in every hub that is stood for
-unfoldable pub Gives : ℕ → AskingHub → ℕ → List ℕ → List (ℕ × ℕ) → AskingHub → List ℕ → List (ℕ × ℕ) → Given → Type 0
+unfoldable pub Gives : ℕ → AskingHub → ℕ → List ℕ → Option (List (ℕ × ℕ)) → AskingHub → List ℕ → Option (List (ℕ × ℕ)) → Given → Type 0
 Gives room kept number before told later octets told_later given = (hub : Hub) → StandsFor kept hub → IsGiven (give hub number room) (asking_after plain_questions (gives number room) hub kept.askings) number before told later octets told_later given
 
 -- calls of give made these octets behind others, and this end, and links are asked this then
-pub record IsEmitted (e : Emitted) (asked : Askings) (before : List ℕ) (later : AskingHub) (octets : List ℕ) (told : List (ℕ × ℕ)) (emission : Emission) : Type 0 where
+pub record IsEmitted (e : Emitted) (asked : Askings) (before : List ℕ) (later : AskingHub) (octets : List ℕ) (told : Option (List (ℕ × ℕ))) (emission : Emission) : Type 0 where
   pub end_told : emission.over ≡ e.over
   pub reacts : emission.reacted ≡ e.reacted
   pub written : octets ≡ before ++ e.octets
-  pub ends : TellsEnds told e.filled
+  pub ends : TellsNoted told e.filled
   pub stands : StandsFor later e.hub
   pub asks : later.askings ≡ asked
 
@@ -82,8 +93,8 @@ abbrev pub Allows : ℕ → ℕ → Type 0
 Allows count budget = (count ≤ budget) × ((count ≡ budget) ⊎ (count ≡ max_number))
 
 -- in every hub that is stood for, whatever was told of first answers, where so many octets may come
-unfoldable pub Emits : ℕ → AskingHub → ℕ → List ℕ → List (ℕ × ℕ) → AskingHub → List ℕ → List (ℕ × ℕ) → Emission → Type 0
-Emits count kept number before told later octets told_later emission = (budget : ℕ) (hub : Hub) (plain : List (ℕ × ℕ)) → Allows count budget → StandsFor kept hub → TellsEnds told plain
+unfoldable pub Emits : ℕ → AskingHub → ℕ → List ℕ → Option (List (ℕ × ℕ)) → AskingHub → List ℕ → Option (List (ℕ × ℕ)) → Emission → Type 0
+Emits count kept number before told later octets told_later emission = (budget : ℕ) (hub : Hub) (plain : List (ℕ × ℕ)) → Allows count budget → StandsFor kept hub → TellsNoted told plain
     → IsEmitted (emitted enough number budget (nothing_emitted hub plain)) (calls_asks (emit_calls enough number budget hub) hub kept.askings) before later octets told_later emission
 
 -- an exchange made these octets and this end, and links are asked this then

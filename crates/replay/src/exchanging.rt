@@ -5,7 +5,7 @@ ghost use Rattle.coalesce.specs.Sides.{frame_octets};
 ghost use Rattle.pushserver.specs.Counting.{octets_of};
 ghost use Rattle.pushserver.specs.PlainHubs.{Hub as PlainHub};
 ghost use Rattle.replay.specs.KeptAskings.{StandsFor};
-ghost use Rattle.replay.specs.KeptExchanges.{has_worked, turn_of, written, Gives, Emits, Exchanges, Remembers};
+ghost use Rattle.replay.specs.KeptExchanges.{has_worked, noted_if, turn_of, written, Gives, Emits, Exchanges, Remembers};
 
 use crate::told_ends::put_in_front;
 use crate::world::make_room;
@@ -73,9 +73,17 @@ fn exchange_over(
     let mut left = u64::MAX;
     'rounds: loop {
         let count = hub.take(session, rest);
-        // A peer asks nothing of first answers.
+        // A peer asks nothing of first answers, so they aren't noted.
         let mut filled = Vec::new(alloc);
-        let emission = emit(hub, session, u64::MAX, buffer, &mut answer, &mut filled)?;
+        let emission = emit(
+            hub,
+            session,
+            u64::MAX,
+            buffer,
+            &mut answer,
+            false,
+            &mut filled,
+        )?;
         let over = emission.over;
         if is_done(count, rest.len()) {
             return Ok(Exchanged {
@@ -103,17 +111,18 @@ fn is_done(count: usize, size: usize) -> bool
 }
 
 /// What a session has to say, until so many octets came, or it has nothing more to say or has ended. Where the first
-/// answers of its questions end is noted behind each call.
+/// answers of its questions end is noted behind each call, if at all: that costs a step for each of them.
 pub(crate) fn emit(
     hub: &mut Hub,
     session: u64,
     most: u64,
     buffer: &mut [u8],
     octets: &mut Vec<u8>,
+    notes: bool,
     filled: &mut Vec<(u16, u64)>,
 ) -> Result<Emission, NoMemory>
     requires { frame_octets ≤ length buffer.old }
-    ensures { IfOk result (λ emission. Emits most hub.old session octets.old.items filled.old.items hub.new octets.new.items filled.new.items emission) }
+    ensures { IfOk result (λ emission. Emits most hub.old session octets.old.items (noted_if notes filled.old.items) hub.new octets.new.items (noted_if notes filled.new.items) emission) }
 {
     kept_hubs_stand();
     let mut reacted = false;
@@ -127,7 +136,7 @@ pub(crate) fn emit(
             });
         }
         let room = room_for(budget, buffer.len());
-        let given = give(hub, session, &mut buffer[..room], octets, filled)?;
+        let given = give(hub, session, &mut buffer[..room], octets, notes, filled)?;
         reacted = either(reacted, has_worked(given));
         budget = left_of(budget, given);
         if let Turn::Last(over) = turn_of(given) {
@@ -186,9 +195,10 @@ fn give(
     session: u64,
     buffer: &mut [u8],
     octets: &mut Vec<u8>,
+    notes: bool,
     filled: &mut Vec<(u16, u64)>,
 ) -> Result<Given, NoMemory>
-    ensures given { IfOk result (λ given. Gives (length buffer.old) hub.old session octets.old.items filled.old.items hub.new octets.new.items filled.new.items given) }
+    ensures given { IfOk result (λ given. Gives (length buffer.old) hub.old session octets.old.items (noted_if notes filled.old.items) hub.new octets.new.items (noted_if notes filled.new.items) given) }
     ensures short { length octets.new.items < 2 ^ 63 }
     ensures bound { IfOk result (λ given. octets_of given ≤ length buffer.old) }
 {
@@ -197,15 +207,23 @@ fn give(
         Err(HubFault::NoMemory) => return Err(NoMemory),
     };
     octets.extend_from_slice(front_of(buffer, given))?;
-    remember(hub, session, filled)?;
+    remember(hub, session, notes, filled)?;
     Ok(given)
 }
 
-// Where the first answers of a session's questions end is noted, before what was noted earlier.
-fn remember(hub: &Hub, session: u64, filled: &mut Vec<(u16, u64)>) -> Result<(), NoMemory>
-    ensures { (plain : PlainHub) → StandsFor hub.now plain → OnOk result (Remembers plain session filled.old.items filled.new.items) }
+// Where the first answers of a session's questions end is noted, before what was noted earlier, if they are.
+fn remember(
+    hub: &Hub,
+    session: u64,
+    notes: bool,
+    filled: &mut Vec<(u16, u64)>,
+) -> Result<(), NoMemory>
+    ensures { (plain : PlainHub) → StandsFor hub.now plain → OnOk result (Remembers plain session (noted_if notes filled.old.items) (noted_if notes filled.new.items)) }
 {
-    put_in_front(hub.all_filled(session), filled)
+    if notes {
+        return put_in_front(hub.all_filled(session), filled);
+    }
+    Ok(())
 }
 
 // The octets that were copied.

@@ -15,8 +15,18 @@ use scripts::line::{Call, Way};
 use scripts::{close_words, octets_text};
 use std::alloc::Global;
 
-/// The line of an update, with its RCODE.
+/// The line of an update, with its RCODE. That of one that was made is no more than copied.
 pub(crate) fn update_text(alloc: Global, code: u8) -> Result<String, NoMemory>
+    ensures { IfOk result (λ text. string_bytes text ≡ codes "update " ++ (decimal code ++ 10 ∷ [])) }
+{
+    match code {
+        0 => String::from_str(alloc, "update 0\n"),
+        _ => refused_text(alloc, code),
+    }
+}
+
+// The line of an update that was refused, with its RCODE.
+fn refused_text(alloc: Global, code: u8) -> Result<String, NoMemory>
     ensures { IfOk result (λ text. string_bytes text ≡ codes "update " ++ (decimal code ++ 10 ∷ [])) }
 {
     format!(in alloc; "update {code}\n")

@@ -204,6 +204,7 @@ fn emit_down(
         room,
         buffer,
         &mut seat.down_wire,
+        true,
         &mut seat.filled,
     )?;
     Ok((seat.down_wire.len().saturating_sub(before), emission))

@@ -1,6 +1,6 @@
 //! Lists of records and questions.
 
-ghost use Rattle.std.specs.Prelude.{◌≡◌, [], ◌∷◌, ◌++◌, length, OnOk, OnErr};
+ghost use Rattle.std.specs.Prelude.{◌≡◌, [], ◌∷◌, ◌++◌, length, IfOk, OnOk, OnErr};
 
 use crate::record::{HeardRr, HeardRrs, NoMemory, Question, Questions, Rr, Rrs};
 use std::alloc::Global;
@@ -13,6 +13,15 @@ impl Rrs {
         Rrs {
             items: Vec::new(alloc),
         }
+    }
+
+    /// No records, with room for so many.
+    pub fn with_room(alloc: Global, count: usize) -> Result<Self, NoMemory>
+        ensures { IfOk result (λ list. list ≡ []) }
+    {
+        Ok(Rrs {
+            items: Vec::with_capacity(alloc, count)?,
+        })
     }
 
     /// These records.
@@ -64,6 +73,15 @@ impl Questions {
         }
     }
 
+    /// No questions, with room for so many.
+    pub fn with_room(alloc: Global, count: usize) -> Result<Self, NoMemory>
+        ensures { IfOk result (λ list. list ≡ []) }
+    {
+        Ok(Questions {
+            items: Vec::with_capacity(alloc, count)?,
+        })
+    }
+
     /// These questions.
     pub fn from_vec(items: Vec<Question>) -> Self
         ensures { result ≡ items.items }
@@ -111,6 +129,15 @@ impl HeardRrs {
         HeardRrs {
             items: Vec::new(alloc),
         }
+    }
+
+    /// No records, with room for so many.
+    pub fn with_room(alloc: Global, count: usize) -> Result<Self, NoMemory>
+        ensures { IfOk result (λ list. list ≡ []) }
+    {
+        Ok(HeardRrs {
+            items: Vec::with_capacity(alloc, count)?,
+        })
     }
 
     /// These records.

@@ -171,7 +171,29 @@ fn read_parts(
     if place != end {
         return Err(RdataFault::Shape(place));
     }
-    Ok(Octets::from_vec(out))
+    Ok(Octets::shared(out)?)
+}
+
+/// Rdata of these parts from a place up to another, as it stands where it is octets alone.
+fn read_shaped(
+    alloc: Global,
+    parts: &[ShapePart],
+    message: &[u8],
+    at: usize,
+    end: usize,
+) -> Result<Octets, RdataFault>
+    requires end { end ≤ length message.now }
+    requires place { at ≤ end }
+    ensures { GivesRdata result (read_from parts.now message.now end at) }
+{
+    match parts {
+        [ShapePart::Octets(count)] if *count == end - at => {
+            let (front, _) = message.split_at(end);
+            let (_, octets) = front.split_at(at);
+            Ok(Octets::from_slice(alloc, octets)?)
+        }
+        _ => read_parts(alloc, parts, message, at, end),
+    }
 }
 
 /// Reads so many octets of rdata at a place of a message. Its names are written out without
@@ -188,7 +210,7 @@ pub fn read_rdata(
 {
     let end = at + size;
     match shape(kind) {
-        Some(parts) => read_parts(alloc, parts, message, at, end),
+        Some(parts) => read_shaped(alloc, parts, message, at, end),
         None => Ok(Octets::from_slice(alloc, &message[at..end])?),
     }
 }

@@ -1,7 +1,7 @@
 //! Rdata with the names inside it changed: in lower case, as in keys of records (RFC 2136, 1.1.1), or with other last
 //! labels.
 
-ghost use Rattle.std.specs.Prelude.{◌≡◌, ◌≤◌, ◌++◌, length, IfOk, IfSome};
+ghost use Rattle.std.specs.Prelude.{◌≡◌, ◌≤◌, ◌++◌, length, unwrap_or, IfOk, IfSome};
 ghost use Rattle.dnsname.specs.Names.{Labels};
 ghost use Rattle.rrset.specs.Rdata.{with_names, with_suffix};
 ghost use Rattle.rrset.specs.Parts.{changed_name, changed_at, changed_from, appended, with_octets};
@@ -124,7 +124,25 @@ fn changed_parts(
     if place != rdata.len() {
         return Ok(None);
     }
-    Ok(Some(Octets::from_vec(out)))
+    Ok(Some(Octets::shared(out)?))
+}
+
+/// Rdata of these parts with the names inside changed. Octets alone have none, and what doesn't fit is taken as it is.
+fn with_names_of(
+    alloc: Global,
+    change: &NameChange,
+    parts: &[ShapePart],
+    rdata: &[u8],
+) -> Result<Octets, NoMemory>
+    ensures { IfOk result (λ octets. octets ≡ unwrap_or (changed_from (changed_name change.now) parts.now rdata.now 0) rdata.now) }
+{
+    match parts {
+        [ShapePart::Octets(_)] => Octets::from_slice(alloc, rdata),
+        _ => match changed_parts(alloc, change, parts, rdata)? {
+            Some(changed) => Ok(changed),
+            None => Octets::from_slice(alloc, rdata),
+        },
+    }
 }
 
 /// Rdata with the names inside changed. Rdata that doesn't fit its shape is taken as it is.
@@ -136,11 +154,8 @@ pub fn with_names(
 ) -> Result<Octets, NoMemory>
     ensures { IfOk result (λ octets. octets ≡ with_names (changed_name change.now) kind rdata.now) }
 {
-    let Some(parts) = shape(kind) else {
-        return Octets::from_slice(alloc, rdata);
-    };
-    match changed_parts(alloc, change, parts, rdata)? {
-        Some(changed) => Ok(changed),
+    match shape(kind) {
+        Some(parts) => with_names_of(alloc, change, parts, rdata),
         None => Octets::from_slice(alloc, rdata),
     }
 }

@@ -179,7 +179,7 @@ impl<V: Copied + Drop> Table<V> {
     pub fn copy(&self) -> Result<Table<V>, NoMemory>
         ensures { IfOk result (λ table. table.rows ≡ self.now.rows) }
     {
-        let mut entries = Vec::new(*self.entries.allocator());
+        let mut entries = Vec::with_capacity(*self.entries.allocator(), self.entries.len())?;
         'entries: for entry in &self.entries {
             let key = entry.0.copy()?;
             let value = entry.1.copied()?;

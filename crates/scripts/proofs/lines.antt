@@ -14,3 +14,4 @@ pub mod HeadTaken
 pub mod LineByLine
 pub mod SentOctets
 pub mod Octets
+pub mod OneWord

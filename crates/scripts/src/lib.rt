@@ -3,7 +3,6 @@
 
 mod client_readers;
 mod clients;
-mod digits;
 pub mod event;
 mod head_homes;
 mod last_text;

@@ -451,17 +451,15 @@ fn at_line(text: &[u8]) -> Option<Line>
     Some(Line::Event(EventLine::Hub(HubEvent::At(moment))))
 }
 
-// What follows the first word of an update line: the octets of the message.
+// What follows the first word of an update line: the octets of the message, where a space is no digit.
+#[tactic(auto, using(crate::proofs::lines::OneWord::none_alone))]
 fn update_line(alloc: Global, text: &[u8]) -> Result<Option<Line>, NoMemory>
     ensures exact { IfOk result (λ found. option_map (λ l. said l) found ≡ of_octets (λ o. hub_event (HubEvent.Update o)) (words_in text.now)) }
 {
-    let Some(octets) = one_word(text) else {
-        return Ok(None);
-    };
-    let Some(octets) = octets_of_word(alloc, octets)? else {
-        return Ok(None);
-    };
-    Ok(Some(Line::Event(EventLine::Hub(HubEvent::Update(octets)))))
+    match octets_of_word(alloc, text)? {
+        Some(octets) => Ok(Some(Line::Event(EventLine::Hub(HubEvent::Update(octets))))),
+        None => Ok(None),
+    }
 }
 
 /// What follows the first word of a line that names one more word alone.

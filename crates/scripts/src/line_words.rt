@@ -6,12 +6,11 @@ ghost use Rattle.std.specs.List.{list_all};
 ghost use Rattle.push_base.specs.Limits.{max_moment, max_number};
 ghost use Rattle.scripts.specs.Lines.{number, number_from, cap_written, max_octets_passed, max_rcode, max_u16, max_u32, word, octets_written, is_digit, has_form, writable_of, is_word_octet};
 
-use crate::digits::octets_of_digits;
 use dnsname::name::{Name, Octets, TextFault};
 use dsotlv::MAX_FRAME;
 use dsotlv::ttls::LAST_TTL;
-use push_base::NoMemory;
 use push_base::limits::MAX_MOMENT;
+use push_base::{NoMemory, octets_in_hex};
 use std::alloc::Global;
 use std::marker::Model;
 
@@ -90,7 +89,7 @@ pub(crate) fn octets_of_word(alloc: Global, text: &[u8]) -> Result<Option<Octets
         b"-" => Ok(Some(Octets::new(alloc))),
         [] => Ok(None),
         _ if text.len() > MOST_DIGITS => Ok(None),
-        _ => octets_of_digits(alloc, text),
+        _ => octets_in_hex(alloc, text),
     }
 }
 

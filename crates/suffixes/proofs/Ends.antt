@@ -1,18 +1,17 @@
 -- The names that a name ends in: how often one is among them, and that a name ends in these alone.
-use Rattle.std.proofs.Common.{◌≡◌, ℕ, suc, ◌+◌, ◌<◌, ◌≤◌, Bool, true, false, cond, List, [], ◌∷◌, ◌++◌, length, map, nat_lt, refl, sym, ap, subst, ◌∙◌, arith}
+use Rattle.std.proofs.Common.{◌≡◌, ℕ, ◌+◌, ◌<◌, ◌≤◌, Bool, true, false, cond, List, [], ◌∷◌, ◌++◌, length, map, nat_lt, refl, sym, ap, subst, ◌∙◌, arith}
 use Rattle.std.specs.Prelude.{◌||◌}
 use Rattle.std.specs.Char.{to_ascii_lowercase}
 use Rattle.std.specs.List.{AllByRecursion, list_any}
 use Rattle.std.proofs.lemmas.Bool.{ltb-true, ltb-false}
 use Rattle.std.proofs.lemmas.List.{length-append}
 use Rattle.std.proofs.lemmas.Str.Ascii.{lowercase-lowercase}
-use Rattle.dnsname.specs.Names.{Labels, IsName, ends_in, lower, octets, same_name}
+use Rattle.dnsname.specs.Names.{Labels, IsName, ends_in, lower, octets}
 use Rattle.dnsname.specs.Octets.{labels_of}
-use Rattle.dnsname.proofs.Decisions.{same_name-Decides}
 use Rattle.dnsname.proofs.Octets.{octets-cons, octets_injective}
 use Rattle.dnsname.proofs.Spellings.{spells, view_of}
 use Rattle.dnsname.proofs.Suffixes.{EndsIn-true, true-EndsIn}
-use Rattle.suffixes.specs.Endings.{IsLowerName, Kept, ending_in, ends_of, owners_of, room_of, same_octets, times}
+use Rattle.suffixes.specs.Endings.{AreLow, IsLowerName, ending_in, ends_of, same_octets, times}
 use Rattle.suffixes.proofs.OctetTests.{same-is, same-refl}
 
 -- ---- how often
@@ -24,66 +23,12 @@ one_more false n = omega arith
 longer : (label : List ℕ) (name : Labels) → length (octets name) < length (octets (label ∷ name))
 longer label name = omega (arith, ap length (octets-cons label name), length-append label (octets name))
 
--- octets that are longer than a name's are none of its ends
-times-above : (os : List ℕ) (name : Labels) → length (octets name) < length os → times os (ends_of name) ≡ 0
-times-above os [] long = by (same_octets os (octets [])) refl
-  where
-    by : (t : Bool) → same_octets os (octets []) ≡ t → cond t 1 0 + 0 ≡ 0
-    by true is = absurd (omega (arith, ap length (same-is os (octets []) is)))
-    by false is = omega arith
-times-above os (label ∷ name) long = by (same_octets os (octets (label ∷ name))) refl (times-above os name (omega (arith, longer label name)))
-  where
-    by : (t : Bool) → same_octets os (octets (label ∷ name)) ≡ t → times os (ends_of name) ≡ 0 → cond t 1 0 + times os (ends_of name) ≡ 0
-    by true is none = absurd (omega (arith, ap length (same-is os (octets (label ∷ name)) is)))
-    by false is none = omega arith
-
-pub times-few : (os : List ℕ) (name : Labels) → times os (ends_of name) ≤ 1
-times-few os [] = by (same_octets os (octets []))
-  where
-    by : (t : Bool) → cond t 1 0 + 0 ≤ 1
-    by true = omega arith
-    by false = omega arith
-times-few os (label ∷ name) = by (same_octets os (octets (label ∷ name))) refl (times-few os name)
-  where
-    by : (t : Bool) → same_octets os (octets (label ∷ name)) ≡ t → times os (ends_of name) ≤ 1 → cond t 1 0 + times os (ends_of name) ≤ 1
-    by true is few = omega (arith, times-above os name (omega (arith, longer label name, ap length (same-is os (octets (label ∷ name)) is))))
-    by false is few = omega arith
-
-pub all-map : {X : Type 0} {P Q : X → Type 0} → ((x : X) → P x → Q x) → (xs : List X) → AllByRecursion P xs → AllByRecursion Q xs
-all-map f [] h = tt
-all-map f (x ∷ xs) h = (f x h.0, all-map f xs h.1)
-
 pub times-first : (name : Labels) (names : List Labels) → 1 ≤ times (octets name) (name ∷ names)
 times-first name names = omega (arith, ap (λ (t : Bool). cond {A = ℕ} t 1 0) (same-refl (octets name)))
 
 pub times-self : (name : Labels) → 1 ≤ times (octets name) (ends_of name)
 times-self [] = times-first [] []
 times-self (label ∷ name) = times-first (label ∷ name) (ends_of name)
-
--- each of several names is among them
-pub all-once : (names : List Labels) → AllByRecursion (λ name. 1 ≤ times (octets name) names) names
-all-once [] = tt
-all-once (name ∷ names) = (
-  times-first name names,
-  all-map
-      {P = λ other. 1 ≤ times (octets other) names}
-      {Q = λ other. 1 ≤ times (octets other) (name ∷ names)}
-      (λ other some. omega (arith, one_more (same_octets (octets other) (octets name)) (times (octets other) names)))
-      names
-      (all-once names),
-)
-
-pub ending_in-few : (os : List ℕ) (owners : List Labels) → ending_in os owners ≤ length owners
-ending_in-few os [] = omega arith
-ending_in-few os (owner ∷ owners) = omega (arith, times-few os owner, ending_in-few os owners)
-
-pub owners-few : (kept : Kept) → length (owners_of kept) ≤ length kept
-owners-few [] = omega arith
-owners-few (e ∷ es) = by e.1.is_owner (owners-few es)
-  where
-    by : (w : Bool) → length (owners_of es) ≤ length es → length (cond w (labels_of e.0.items ∷ owners_of es) (owners_of es)) ≤ suc (length es)
-    by true few = omega arith
-    by false few = omega arith
 
 -- ---- names in lower case
 
@@ -102,7 +47,7 @@ IsLow name = IsName name × (lower name ≡ name)
 tails : (x y : List ℕ) (a b : Labels) → x ∷ a ≡ y ∷ b → a ≡ b
 tails x y a b e = cc
 
-behind-low : (label : List ℕ) (name : Labels) → IsLow (label ∷ name) → IsLow name
+pub behind-low : (label : List ℕ) (name : Labels) → IsLow (label ∷ name) → IsLow name
 behind-low label name is = (
   record { labels = is.0.labels.1; size = omega (arith, is.0.size, longer label name) },
   tails (map to_ascii_lowercase label) label (lower name) name is.1,
@@ -138,7 +83,7 @@ found_end os (label ∷ name) some = by (same_octets os (octets (label ∷ name)
     by false is some others =
         let o = others (omega arith) in (label ∷ o.0, o.1, ap (λ (n : Labels). label ∷ n) o.2, o.3)
 
-end-found : (front last : Labels) → 1 ≤ times (octets last) (ends_of (front ++ last))
+pub end-found : (front last : Labels) → 1 ≤ times (octets last) (ends_of (front ++ last))
 end-found [] [] = times-first [] []
 end-found [] (label ∷ last) = times-first (label ∷ last) (ends_of last)
 end-found (label ∷ front) last = omega (arith, end-found front last, one_more (same_octets (octets last) (octets (label ∷ (front ++ last)))) (times (octets last) (ends_of (front ++ last))))
@@ -178,19 +123,13 @@ lt-or a b = by (nat_lt 0 a) (nat_lt 0 b) (nat_lt 0 (a + b)) refl refl refl
     by false false true s-is t-is r-is = absurd (omega (arith, ltb-false 0 a s-is, ltb-false 0 b t-is, ltb-true 0 (a + b) r-is))
     by false false false s-is t-is r-is = refl
 
--- an owner ends in a name where one is counted at its octets in lower case
-pub any-counted : (name : Labels) (kept : Kept) → AllByRecursion IsLowerName (room_of kept)
-    → nat_lt 0 (ending_in (octets (lower name)) (owners_of kept)) ≡ list_any (λ owner. ends_in owner name) (owners_of kept)
-any-counted name [] names = refl
-any-counted name (e ∷ es) names = by e.1.is_owner (any-counted name es names.1)
-  where
-    by : (w : Bool) → nat_lt 0 (ending_in (octets (lower name)) (owners_of es)) ≡ list_any (λ owner. ends_in owner name) (owners_of es)
-        → nat_lt 0 (ending_in (octets (lower name)) (cond w (labels_of e.0.items ∷ owners_of es) (owners_of es))) ≡ list_any (λ owner. ends_in owner name) (cond w (labels_of e.0.items ∷ owners_of es) (owners_of es))
-    by true others =
-        lt-or (times (octets (lower name)) (ends_of (labels_of e.0.items))) (ending_in (octets (lower name)) (owners_of es))
-        ∙ ap (λ (t : Bool). t || nat_lt 0 (ending_in (octets (lower name)) (owners_of es))) (counts-end (labels_of e.0.items) name names.0.lower)
-        ∙ ap (λ (t : Bool). ends_in (labels_of e.0.items) name || t) others
-    by false others = others
+-- one of several names ends in a name where one is counted at its octets in lower case
+pub any-counted : (name : Labels) (names : List Labels) → AreLow names → nat_lt 0 (ending_in (octets (lower name)) names) ≡ list_any (λ other. ends_in other name) names
+any-counted name [] low = refl
+any-counted name (other ∷ others) low =
+    lt-or (times (octets (lower name)) (ends_of other)) (ending_in (octets (lower name)) others)
+    ∙ ap (λ (t : Bool). t || nat_lt 0 (ending_in (octets (lower name)) others)) (counts-end other name low.0)
+    ∙ ap (λ (t : Bool). ends_in other name || t) (any-counted name others low.1)
 
 -- ---- the ends of an end
 
@@ -218,20 +157,11 @@ ending-ends name end (owner ∷ owners) some there = by (nat_lt 0 (times (octets
         let behind : 1 ≤ ending_in (octets name) owners = omega (arith, some, ltb-false 0 (times (octets name) (ends_of owner)) is) in
         omega (arith, others behind)
 
--- an owner in lower case ends in itself
-pub owner-counted : (name : Labels) → lower name ≡ name → (kept : Kept) → AllByRecursion IsLowerName (room_of kept) → list_any (same_name name) (owners_of kept) ≡ true → 1 ≤ ending_in (octets name) (owners_of kept)
-owner-counted name low [] names there = absurd cc
-owner-counted name low (e ∷ es) names there = by e.1.is_owner there (owner-counted name low es names.1)
-  where
-    first : (t : Bool) → same_name name (labels_of e.0.items) ≡ t → (t || list_any (same_name name) (owners_of es)) ≡ true → (list_any (same_name name) (owners_of es) ≡ true → 1 ≤ ending_in (octets name) (owners_of es))
-        → 1 ≤ times (octets name) (ends_of (labels_of e.0.items)) + ending_in (octets name) (owners_of es)
-    first true is there others =
-        let same : name ≡ labels_of e.0.items = sym low ∙ (same_name-Decides name (labels_of e.0.items)).0 is ∙ names.0.lower in
-        let here : 1 ≤ times (octets name) (ends_of (labels_of e.0.items)) = subst (λ (n : Labels). 1 ≤ times (octets name) (ends_of n)) same (times-self name) in
-        omega (arith, here)
-    first false is there others = omega (arith, others there)
+-- a name ends in itself
+times-within : (os : List ℕ) (name : Labels) → cond {A = ℕ} (same_octets os (octets name)) 1 0 ≤ times os (ends_of name)
+times-within os [] = omega arith
+times-within os (label ∷ name) = omega arith
 
-    by : (w : Bool) → list_any (same_name name) (cond w (labels_of e.0.items ∷ owners_of es) (owners_of es)) ≡ true → (list_any (same_name name) (owners_of es) ≡ true → 1 ≤ ending_in (octets name) (owners_of es))
-        → 1 ≤ ending_in (octets name) (cond w (labels_of e.0.items ∷ owners_of es) (owners_of es))
-    by true there others = first (same_name name (labels_of e.0.items)) refl there others
-    by false there others = others there
+pub times-ending : (os : List ℕ) (names : List Labels) → times os names ≤ ending_in os names
+times-ending os [] = omega arith
+times-ending os (name ∷ names) = omega (arith, times-within os name, times-ending os names)

@@ -1,7 +1,8 @@
 pub mod OctetTests
 pub mod Changes
-pub mod Marks
+pub mod Using
 pub mod Ends
 pub mod Walks
+pub mod Ended
 pub mod Keeping
 pub mod Sweeping

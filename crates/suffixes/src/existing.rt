@@ -1,12 +1,12 @@
-//! Which owners there are, and in which names they end.
+//! Which names owners end in properly.
 
-ghost use Rattle.std.specs.Prelude.{◌≡◌, ◌≤◌, ◌||◌, [], Bool, true, map, take, not, length, filter, OnOk};
+ghost use Rattle.std.specs.Prelude.{◌≡◌, ◌≤◌, ◌<◌, ◌^◌, [], ◌∷◌, List, get_or, map, take, length, ◌+◌, ◌-◌, OnOk};
 ghost use Rattle.std.specs.Char.{to_ascii_lowercase};
 ghost use Rattle.std.specs.List.{list_any};
-ghost use Rattle.dnsname.specs.Names.{Labels, ends_in, lower, same_name};
-ghost use Rattle.suffixes.specs.Endings.{HasRoomFor, IsKept, Reserves, owners_of, room_of};
+ghost use Rattle.dnsname.specs.Names.{Labels, ends_in, lower};
+ghost use Rattle.suffixes.specs.Endings.{Agrees, AreCounted, AreLow, AreLowerNames, HasRoomFor, Reserves, above_of, names_above, room_of};
 
-use crate::ending::{Endings, drop_unused, mark};
+use crate::ending::{Endings, drop_unused};
 use crate::walking::{lower, raise, reserve};
 use dnsname::{MAX_NAME, Name};
 use push_base::NoMemory;
@@ -14,7 +14,7 @@ use std::alloc::Global;
 use std::collections::BTreeMap;
 use std::marker::Model;
 
-/// Of so many places one may be without owners when they are swept.
+/// Of so many places one may be unused when they are swept.
 const PLACES_PER_UNUSED: usize = 8;
 
 /// The octets with ASCII letters in lower case, at the front of others.
@@ -28,126 +28,122 @@ fn write_in_lower_case(octets: &[u8], out: &mut [u8])
     }
 }
 
-/// Makes room for an owner.
-fn reserve_owner(alloc: Global, endings: &mut Endings, owner: &Name) -> Result<(), NoMemory>
-    requires kept { IsKept endings.old.entries }
-    requires lower { lower owner.now ≡ owner.now }
-    ensures kept { Reserves endings.old.entries endings.new.entries }
-    ensures room { OnOk result (HasRoomFor owner.now (room_of endings.new.entries)) }
+/// What is left of a name's octets behind the first label: none of the root's.
+fn above(spelled: &[u8]) -> &[u8]
+    requires { get_or spelled.now 0 0 + 1 ≤ length spelled.now }
+    ensures { result.now ≡ above_of spelled.now }
 {
-    reserve(alloc, endings, owner)
+    let length = spelled[0] as usize;
+    let (_, rest) = spelled.split_at(length + 1);
+    rest
 }
 
-/// A name is an owner, for which there is room.
+/// Makes room for an owner.
+fn reserve_owner(alloc: Global, endings: &mut Endings, owner: &Name) -> Result<(), NoMemory>
+    requires { lower owner.now ≡ owner.now }
+    ensures kept { Reserves endings.old.entries endings.new.entries }
+    ensures room { OnOk result ((names : List Labels) → Agrees names endings.old.entries → HasRoomFor owner.now (room_of endings.new.entries)) }
+{
+    reserve(alloc, endings, above(owner.octets()))
+}
+
+/// A name, for which there is room, is an owner once more.
 fn put_owner(endings: &mut Endings, owner: &Name)
-    requires kept { IsKept endings.old.entries }
-    requires lower { lower owner.now ≡ owner.now }
     requires room { HasRoomFor owner.now (room_of endings.old.entries) }
-    ensures kept { IsKept endings.new.entries }
-    ensures owners { (test : Labels → Bool) → list_any test (owners_of endings.new.entries) ≡ (test owner.now || list_any test (owners_of endings.old.entries)) }
+    ensures counts { (owners : List Labels) → length owners < 2 ^ 63 → Agrees (names_above owners) endings.old.entries → Agrees (names_above (owner.now ∷ owners)) endings.new.entries }
     ensures room { room_of endings.new.entries ≡ room_of endings.old.entries }
 {
     // Its clauses say that there are fewer than 2^63 places.
     endings.len();
-    if mark(endings, owner.octets(), true) {
-        return;
-    }
-    raise(endings, owner);
+    raise(endings, above(owner.octets()));
 }
 
-/// A name is no owner. Says in how many names none ends any more.
+/// A name is an owner once less. Says in how many names none ends any more.
 fn remove_owner(endings: &mut Endings, owner: &Name) -> usize
-    requires kept { IsKept endings.old.entries }
-    requires lower { lower owner.now ≡ owner.now }
-    ensures kept { IsKept endings.new.entries }
-    ensures owners { owners_of endings.new.entries ≡ filter (λ other. not (same_name other owner.now)) (owners_of endings.old.entries) }
+    ensures counts { (owners : List Labels) → Agrees (names_above (owner.now ∷ owners)) endings.old.entries → Agrees (names_above owners) endings.new.entries }
     ensures room { room_of endings.new.entries ≡ room_of endings.old.entries }
 {
-    // Its clauses say that the places are in the order of their octets.
-    endings.len();
-    if !mark(endings, owner.octets(), false) {
-        return 0;
-    }
-    lower(endings, owner)
+    lower(endings, above(owner.octets()))
 }
-
-/// Each owner has places, since it is counted at each name that it ends in.
-fn tell_places(endings: &Endings)
-    requires { IsKept endings.now.entries }
-    ensures { (name : Labels) → lower name ≡ name → list_any (same_name name) (owners_of endings.now.entries) ≡ true → HasRoomFor name (room_of endings.now.entries) }
-{}
 
 /// Gives back the places in which no owner ends.
 fn sweep(endings: &mut Endings)
-    requires { IsKept endings.old.entries }
-    ensures kept { IsKept endings.new.entries }
-    ensures owners { owners_of endings.new.entries ≡ owners_of endings.old.entries }
+    requires { AreLowerNames endings.old.entries }
+    ensures low { AreLowerNames endings.new.entries }
+    ensures counts { (names : List Labels) → Agrees names endings.old.entries → Agrees names endings.new.entries }
 {
     // Its clauses say that the places are in the order of their octets.
     endings.len();
     drop_unused(endings);
 }
 
-/// Whether an owner ends in a name.
+/// Whether an owner ends properly in a name.
 fn below_in(endings: &Endings, name: &Name) -> bool
-    requires { IsKept endings.now.entries }
-    ensures { result ≡ list_any (λ owner. ends_in owner name.now) (owners_of endings.now.entries) }
+    requires { AreLowerNames endings.now.entries }
+    ensures { (names : List Labels) → AreLow names → Agrees names endings.now.entries → result ≡ list_any (λ above. ends_in above name.now) names }
 {
+    // Its clauses say that the places are in the order of their octets.
+    endings.len();
     let spelled = name.octets();
     let mut octets = [0; MAX_NAME];
     write_in_lower_case(spelled, &mut octets);
     let (lower, _) = octets.split_at(spelled.len());
     match endings.get(lower) {
-        Some(ending) => ending.owners > 0,
+        Some(count) => *count > 0,
         None => false,
     }
 }
 
-/// The owners of records, and how many of them end in each name, so that a call costs as many look-ups as its owner has
-/// labels, and a question one. All owners are in lower case.
+/// The names that owners end in properly. At each are counted the owners with a label more, as often as they were put,
+/// and the names with one in which owners end properly, so that a call walks no further than to a name in which another
+/// owner ends, and a question costs one look-up. An owner itself has no place, so that names without others below them
+/// take none. All owners are in lower case.
 #[derive(Debug, Drop)]
 pub struct Suffixes {
     alloc: Global,
     endings: Endings,
-    // How many places may have come without owners, or lost theirs, since they were swept. Contracts don't see it.
+    owners: usize,
+    // How many places may have come unused, or came out of use, since they were swept. Contracts don't see it.
     unswept: usize,
 }
 
 impl Model for Suffixes {
-    ghost use Rattle.suffixes.specs.Endings.{IsKept, SuffixesState, owners_of, room_of};
+    ghost use Rattle.suffixes.specs.Endings.{AreLowerNames, SuffixesState, room_of};
 
     ghost Value = { SuffixesState };
 
-    ghost view = { λ s. record { owners = owners_of s.endings.entries; room = room_of s.endings.entries } };
+    ghost view = { λ s. record { kept = s.endings.entries; total = s.owners } };
 
-    ghost invariant = { λ s. IsKept s.endings.entries };
+    ghost invariant = { λ s. AreLowerNames s.endings.entries };
 }
 
 impl Suffixes {
     /// No owners.
     pub fn new(alloc: Global) -> Self
-        ensures { result.owners ≡ [] }
+        ensures { AreCounted [] result }
     {
         Suffixes {
             alloc,
             endings: BTreeMap::new(alloc),
+            owners: 0,
             unswept: 0,
         }
     }
 
-    /// There is room for each owner.
-    pub fn tell_room(&self)
-        ensures { (name : Labels) → lower name ≡ name → list_any (same_name name) self.now.owners ≡ true → HasRoomFor name self.now.room }
+    /// How many owners there are, each as often as it was put.
+    pub fn len(&self) -> usize
+        ensures { result ≡ self.now.total }
     {
-        tell_places(&self.endings);
+        self.owners
     }
 
     /// Makes room for an owner, so that a put of it takes no memory.
     pub fn reserve_for(&mut self, owner: &Name) -> Result<(), NoMemory>
         requires { lower owner.now ≡ owner.now }
-        ensures owners { self.new.owners ≡ self.old.owners }
-        ensures room { OnOk result (HasRoomFor owner.now self.new.room) }
-        ensures kept { (name : Labels) → HasRoomFor name self.old.room → HasRoomFor name self.new.room }
+        ensures owners { (owners : List Labels) → AreCounted owners self.old → AreCounted owners self.new }
+        ensures total { self.new.total ≡ self.old.total }
+        ensures room { OnOk result ((owners : List Labels) → AreCounted owners self.old → HasRoomFor owner.now (room_of self.new.kept)) }
+        ensures kept { (name : Labels) → HasRoomFor name (room_of self.old.kept) → HasRoomFor name (room_of self.new.kept) }
     {
         let before = self.endings.len();
         let made = reserve_owner(self.alloc, &mut self.endings, owner);
@@ -156,37 +152,41 @@ impl Suffixes {
         made
     }
 
-    /// A name is an owner from now on, if it wasn't one before. It takes no memory.
+    /// A name is an owner once more. It takes no memory.
     pub fn put(&mut self, owner: &Name)
-        requires lower { lower owner.now ≡ owner.now }
-        requires room { HasRoomFor owner.now self.old.room }
-        ensures owners { (test : Labels → Bool) → list_any test self.new.owners ≡ (test owner.now || list_any test self.old.owners) }
-        ensures room { self.new.room ≡ self.old.room }
+        requires room { HasRoomFor owner.now (room_of self.old.kept) }
+        requires few { self.old.total < 2 ^ 63 }
+        ensures owners { (owners : List Labels) → AreCounted owners self.old → AreCounted (owner.now ∷ owners) self.new }
+        ensures total { self.new.total ≡ self.old.total + 1 }
+        ensures room { room_of self.new.kept ≡ room_of self.old.kept }
     {
-        put_owner(&mut self.endings, owner)
+        put_owner(&mut self.endings, owner);
+        self.owners += 1;
     }
 
-    /// A name is no owner from now on. It takes no memory, and leaves the room for it.
+    /// A name that is an owner is it once less. It takes no memory, and leaves the room for it.
     pub fn remove(&mut self, owner: &Name)
-        requires { lower owner.now ≡ owner.now }
-        ensures owners { self.new.owners ≡ filter (λ other. not (same_name other owner.now)) self.old.owners }
-        ensures room { self.new.room ≡ self.old.room }
+        ensures owners { (owners : List Labels) → AreCounted (owner.now ∷ owners) self.old → AreCounted owners self.new }
+        ensures total { self.new.total ≤ self.old.total }
+        ensures room { room_of self.new.kept ≡ room_of self.old.kept }
     {
         let unused = remove_owner(&mut self.endings, owner);
         self.unswept = self.unswept.saturating_add(unused);
+        self.owners = self.owners.saturating_sub(1);
     }
 
-    /// Whether an owner ends in a name, by one look-up (RFC 8020, 2).
+    /// Whether an owner ends properly in a name, by one look-up (RFC 8020, 2).
     pub fn below(&self, name: &Name) -> bool
-        ensures { result ≡ list_any (λ owner. ends_in owner name.now) self.now.owners }
+        ensures { (owners : List Labels) → AreLow owners → AreCounted owners self.now → result ≡ list_any (λ above. ends_in above name.now) (names_above owners) }
     {
         below_in(&self.endings, name)
     }
 
-    /// Gives back the room of names in which no owner ends, once these may be more than one of eight. To be called where no
-    /// plan is pending, since room that was made may be lost. It takes no memory.
+    /// Gives back the room of names in which no owner ends, once these may be more than one of eight. To be called
+    /// where no plan is pending, since room that was made may be lost. It takes no memory.
     pub fn give_back(&mut self)
-        ensures { self.new.owners ≡ self.old.owners }
+        ensures owners { (owners : List Labels) → AreCounted owners self.old → AreCounted owners self.new }
+        ensures total { self.new.total ≡ self.old.total }
     {
         if self.unswept <= self.endings.len() / PLACES_PER_UNUSED {
             return;

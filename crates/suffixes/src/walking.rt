@@ -1,24 +1,21 @@
-//! An owner, at each name that it ends in (RFC 1034, 3.1).
+//! The names that a name ends in, from one to the root (RFC 1034, 3.1).
 
-ghost use Rattle.std.specs.Prelude.{◌≡◌, ℕ, ◌+◌, ◌≤◌, ◌<◌, ◌^◌, List, OnOk};
-ghost use Rattle.std.specs.List.{AllByRecursion};
-ghost use Rattle.dnsname.specs.Names.{lower, octets};
-ghost use Rattle.suffixes.specs.Endings.{HasRoomFor, IsKept, Reserves, counted_at, ends_of, owners_of, room_of, times};
+ghost use Rattle.std.specs.Prelude.{◌≡◌, ◌≤◌, ◌<◌, ◌^◌, length, List, OnOk};
+ghost use Rattle.dnsname.specs.Names.{Labels};
+ghost use Rattle.suffixes.specs.Endings.{Agrees, Exceeds, HasRoomFrom, IsLeft, IsLowLeft, Lacks, Reserves, room_of};
 
 use crate::ending::{Endings, lower_at, raise_at, reserve_at};
-use dnsname::Name;
 use push_base::NoMemory;
 use std::alloc::Global;
 
-/// Makes a place for an owner, at each name that it ends in. In the first in which owners end these are there already, at
+/// Makes a place for a name, and for each name that it ends in. At the first that is in use these are there already, at
 /// it and at all that it ends in. Where memory runs out some are there, and nothing else changes.
-pub(crate) fn reserve(alloc: Global, endings: &mut Endings, owner: &Name) -> Result<(), NoMemory>
-    requires kept { IsKept endings.old.entries }
-    requires lower { lower owner.now ≡ owner.now }
+pub(crate) fn reserve(alloc: Global, endings: &mut Endings, above: &[u8]) -> Result<(), NoMemory>
+    requires { IsLowLeft above.now }
     ensures kept { Reserves endings.old.entries endings.new.entries }
-    ensures room { OnOk result (HasRoomFor owner.now (room_of endings.new.entries)) }
+    ensures room { OnOk result ((names : List Labels) → Agrees names endings.old.entries → HasRoomFrom above.now (room_of endings.new.entries)) }
 {
-    let mut rest = owner.octets();
+    let mut rest = above;
     'ends: while !rest.is_empty() {
         if reserve_at(alloc, endings, rest)? {
             return Ok(());
@@ -29,33 +26,37 @@ pub(crate) fn reserve(alloc: Global, endings: &mut Endings, owner: &Name) -> Res
     Ok(())
 }
 
-/// Counts an owner at each name that it ends in.
-pub(crate) fn raise(endings: &mut Endings, owner: &Name)
-    requires room { HasRoomFor owner.now (room_of endings.old.entries) }
-    requires few { (os : List ℕ) → counted_at os endings.old.entries < 2 ^ 63 }
-    ensures counts { (os : List ℕ) → counted_at os endings.new.entries ≡ times os (ends_of owner.now) + counted_at os endings.old.entries }
-    ensures owners { owners_of endings.new.entries ≡ owners_of endings.old.entries }
+/// A name is counted once more at what it is, and so on until a name was in use already.
+pub(crate) fn raise(endings: &mut Endings, above: &[u8])
+    requires left { IsLeft above.now }
+    requires room { HasRoomFrom above.now (room_of endings.old.entries) }
+    requires few { length endings.old.entries < 2 ^ 63 }
+    ensures counts { (names : List Labels) → length names ≤ 2 ^ 63 → Lacks above.now names endings.old.entries → Agrees names endings.new.entries }
     ensures room { room_of endings.new.entries ≡ room_of endings.old.entries }
 {
-    let mut rest = owner.octets();
+    let mut rest = above;
     'ends: while !rest.is_empty() {
-        raise_at(endings, rest);
+        if raise_at(endings, rest) {
+            return;
+        }
         let length = rest[0] as usize;
         (_, rest) = rest.split_at(length + 1);
     }
 }
 
-/// Counts an owner no longer, at each name that it ends in, and says at how many of them none is counted any more.
-pub(crate) fn lower(endings: &mut Endings, owner: &Name) -> usize
-    requires { AllByRecursion (λ end. 1 ≤ counted_at (octets end) endings.old.entries) (ends_of owner.now) }
-    ensures counts { (os : List ℕ) → times os (ends_of owner.now) + counted_at os endings.new.entries ≡ counted_at os endings.old.entries }
-    ensures owners { owners_of endings.new.entries ≡ owners_of endings.old.entries }
+/// A name is counted once less at what it is, and so on until a name is in use still. Says how many come out of use.
+pub(crate) fn lower(endings: &mut Endings, above: &[u8]) -> usize
+    requires { IsLeft above.now }
+    ensures counts { (names : List Labels) → Exceeds above.now names endings.old.entries → Agrees names endings.new.entries }
     ensures room { room_of endings.new.entries ≡ room_of endings.old.entries }
 {
     let mut unused: usize = 0;
-    let mut rest = owner.octets();
+    let mut rest = above;
     'ends: while !rest.is_empty() {
-        unused = unused.saturating_add(lower_at(endings, rest) as usize);
+        if lower_at(endings, rest) {
+            return unused;
+        }
+        unused = unused.saturating_add(1);
         let length = rest[0] as usize;
         (_, rest) = rest.split_at(length + 1);
     }

@@ -26,3 +26,5 @@ pub mod TouchedSteps
 pub mod Judging
 pub mod Plans
 pub mod SideBySide
+pub mod TwoParts
+pub mod NamePlans

@@ -1,7 +1,7 @@
 -- When the serial rises.
 use Rattle.std.proofs.Common.{◌≡◌, Bool, true, false, cond, not, ◌||◌, map, fold, sym, ap, ◌∙◌, refl}
 use Rattle.std.specs.List.{list_all}
-use Rattle.dnsname.specs.Names.{Labels, same_name}
+use Rattle.dnsname.specs.Names.{Labels}
 use Rattle.rrset.specs.RecordSet.{RecordSet, put_rr, without, at_name, is_of_rrset, same_rows, shows_its_key, union}
 use Rattle.zoneupdate.specs.Zones.{set_at}
 use Rattle.zoneupdate.specs.Checking.{is_of_kind}

@@ -24,7 +24,7 @@ use Rattle.zoneupdate.proofs.RecordSets.{IsSet, all-put, set-in_order, lower_own
 use Rattle.zoneupdate.proofs.KeptZone.{zone_parts, zone-after}
 use Rattle.zoneupdate.proofs.NewZone.{kept-led}
 
-all-union : (f : Key × Shown → Bool) (first second : RecordSet) → list_all f first ≡ true → list_all f second ≡ true → list_all f (union first second) ≡ true
+pub all-union : (f : Key × Shown → Bool) (first second : RecordSet) → list_all f first ≡ true → list_all f second ≡ true → list_all f (union first second) ≡ true
 all-union f first [] h g = h
 all-union f first (e ∷ es) h g = all-union f (put e.0 e.1 first) es (all-put f e.0 e.1 first h (and-left (f e) (list_all f es) g)) (and-right (f e) (list_all f es) g)
 

@@ -1,7 +1,7 @@
 -- Rdata is as long as its fields; so another serial leaves its length.
 --     length-read      rdata that is read is as long as what is read
 --     length-with_serial      SOA rdata with another serial is as long
-use Rattle.std.proofs.Common.{◌≡◌, ℕ, ◌+◌, ◌<◌, ◌≤◌, Bool, true, false, cond, eqb, ltb, List, [], ◌∷◌, ◌++◌, length, drop, Result, Ok, Err, refl, sym, ap, subst, ◌∙◌, arith}
+use Rattle.std.proofs.Common.{◌≡◌, ℕ, suc, ◌+◌, ◌%◌, ◌^◌, ◌<◌, ◌≤◌, Bool, true, false, cond, eqb, ltb, List, [], ◌∷◌, ◌++◌, length, drop, Option, Some, None, Result, Ok, Err, refl, sym, ap, subst, ◌∙◌, arith}
 use Rattle.std.specs.Prelude.{slice_range, flat_map}
 use Rattle.std.specs.Int.{w32, to_be_bytes}
 use Rattle.std.specs.List.{AllByRecursion}
@@ -12,12 +12,13 @@ use Rattle.dnsname.specs.Names.{octets}
 use Rattle.dnsname.specs.Reading.{Read, plain_name_at}
 use Rattle.dnsname.specs.Spelling.{SpellsPlainNameAt}
 use Rattle.dnsname.proofs.Standing.{StandsAt-length}
-use Rattle.dnsname.proofs.FoundNames.{below_at, plain_name_at-found}
+use Rattle.dnsname.proofs.FoundNames.{AreOctetsBelow, below_at, plain_name_at-found}
 use Rattle.rrset.specs.Kinds.{soa_kind}
 use Rattle.rrset.specs.Rdata.{Part, some_octets, one_name, strings, Field, raw, named, are_strings, with_field, fields_from, field_octets, rdata_fields}
 use Rattle.rrset.proofs.ReadBack.{fields_done, not_done, same_done, named_then, name_first}
 use Rattle.dnswire.proofs.WrittenUpdates.{field-done}
-use Rattle.zoneupdate.specs.Zones.{with_serial, fields_with}
+use Rattle.zoneupdate.specs.Zones.{serial_of, with_serial, fields_with}
+use Rattle.zoneupdate.specs.Changing.{risen_rdata}
 use Rattle.zoneupdate.proofs.SoaRdata.{soa_found, with_serial-put, serial_put}
 
 -- ---- fields
@@ -90,3 +91,15 @@ length-with_serial serial rdata below = ap length (with_serial-put serial rdata)
           length-append (to_be_bytes w32 serial) (drop 4 soa.numbers),
           length-drop 4 soa.numbers,
         )
+
+all_below : (xs : List ℕ) → AreOctetsBelow xs → AllByRecursion (λ o. o < 256) xs
+all_below [] below = tt
+all_below (x ∷ xs) below = (below 0 (omega arith), all_below xs (λ i h. below (suc i) (omega arith)))
+
+-- the next serial leaves the length
+pub length-risen : (rdata : List ℕ) → AreOctetsBelow rdata → length (risen_rdata rdata) ≡ length rdata
+length-risen rdata below = by (serial_of rdata)
+  where
+    by : (o : Option ℕ) → length {A = ℕ} (elim o [ None ↦ rdata | Some serial ↦ with_serial ((serial + 1) % 2 ^ 32) rdata ]) ≡ length rdata
+    by None = refl
+    by (Some serial) = length-with_serial ((serial + 1) % 2 ^ 32) rdata (all_below rdata below)

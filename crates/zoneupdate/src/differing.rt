@@ -128,6 +128,23 @@ fn append_at<'a>(
     }
 }
 
+/// Appends the keys of either list that are shown otherwise, in key order, with both values.
+pub(crate) fn append_differences(
+    changed: &mut Vec<Changed>,
+    old: &[(Key, Shown)],
+    new: Vec<(Key, Shown)>,
+) -> Result<(), NoMemory>
+    ensures { OnOk result (changed.new.items ≡ changed.old.items ++ differences old.now new.items) }
+{
+    let mut rest = old;
+    'rows: for row in new {
+        let from = append_gone(changed, rest, &row.0)?;
+        let behind = append_at(changed, from, row)?;
+        rest = behind;
+    }
+    append_all_gone(changed, rest)
+}
+
 /// The keys of either list that are shown otherwise, in key order, with both values.
 pub(crate) fn differences(
     alloc: Global,
@@ -137,12 +154,6 @@ pub(crate) fn differences(
     ensures { IfOk result (λ changed. changed.items ≡ differences old.now new.items) }
 {
     let mut changed = Vec::new(alloc);
-    let mut rest = old;
-    'rows: for row in new {
-        let from = append_gone(&mut changed, rest, &row.0)?;
-        let behind = append_at(&mut changed, from, row)?;
-        rest = behind;
-    }
-    append_all_gone(&mut changed, rest)?;
+    append_differences(&mut changed, old, new)?;
     Ok(changed)
 }

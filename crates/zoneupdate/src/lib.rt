@@ -13,6 +13,7 @@ mod prescan;
 mod refusing;
 mod serial;
 mod sets;
+mod single;
 mod update_check;
 mod zone;
 

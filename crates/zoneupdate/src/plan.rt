@@ -1,11 +1,11 @@
 //! What an update is planned to change.
 
-ghost use Rattle.std.specs.Prelude.{◌≡◌};
+ghost use Rattle.std.specs.Prelude.{◌≡◌, []};
 ghost use Rattle.zoneupdate.specs.declared.plan.ZoneFault.TheVariants as faults;
 
 use dnsname::Name;
 use rrset::Changed;
-use std::alloc::AllocError;
+use std::alloc::{AllocError, Global};
 use std::marker::Model;
 use thiserror::Error;
 
@@ -49,6 +49,15 @@ impl Model for ZonePlan {
 }
 
 impl ZonePlan {
+    /// The plan that changes nothing.
+    pub(crate) fn of_nothing(alloc: Global) -> Self
+        ensures { result ≡ [] }
+    {
+        ZonePlan {
+            changed: Vec::new(alloc),
+        }
+    }
+
     /// The keys, in key order.
     pub fn as_slice(&self) -> &[Changed]
         ensures { result.now ≡ self.now }

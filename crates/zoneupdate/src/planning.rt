@@ -57,7 +57,7 @@ pub(crate) fn touched(
 }
 
 /// Whether a zone has few enough records where a part of it has gone from `before` to `after` records.
-fn are_few(rows: usize, before: usize, after: usize) -> bool
+pub(crate) fn are_few(rows: usize, before: usize, after: usize) -> bool
     requires few { rows ≤ max_zone_records }
     requires part { before ≤ rows }
     ensures { (all : ℕ) → all + before ≡ rows + after → result ≡ nat_le all max_zone_records }
@@ -83,6 +83,13 @@ fn size_of(entries: &[(Key, Shown)]) -> u64
         size = size.saturating_add(size_of_shown(&entry.1));
     }
     size
+}
+
+/// Whether all records of a table together have as few octets as those of a name may have.
+pub(crate) fn is_light(work: &Table) -> bool
+    ensures { result ≡ nat_le (size_of work.now.rows) max_octets_at_name }
+{
+    size_of(work.entries()) <= MAX_OCTETS_AT_NAME
 }
 
 /// Whether the records of a name have few enough octets.

@@ -75,7 +75,7 @@ fn with_serial(alloc: Global, serial: u32, rdata: &[u8], place: usize) -> Result
         &serial.to_be_bytes(),
         &rdata[place + 4..],
     )?;
-    Ok(Octets::from_vec(octets))
+    Octets::shared(octets)
 }
 
 /// The octets of three parts, one behind the other.
@@ -149,6 +149,20 @@ fn risen_entry(alloc: Global, entry: &(Key, Shown)) -> Result<(Key, Shown), NoMe
         rdata: shown_rdata,
     };
     Ok((risen_key, risen_shown))
+}
+
+/// SOAs, each with the serial that follows its own.
+pub(crate) fn risen_entries(
+    alloc: Global,
+    soas: &[(Key, Shown)],
+) -> Result<Vec<(Key, Shown)>, NoMemory>
+    ensures { IfOk result (λ risen. risen.items ≡ map risen_entry soas.now) }
+{
+    let mut risen = Vec::new(alloc);
+    'soas: for soa in soas {
+        risen.push(risen_entry(alloc, soa)?)?;
+    }
+    Ok(risen)
 }
 
 /// The SOAs of a name among some records, each with the serial that follows its own.

@@ -3,6 +3,7 @@
 ghost use Rattle.std.specs.Prelude.{◌≡◌, List, true, map, fold, IfOk, IsTrue};
 ghost use Rattle.dnsname.specs.Names.{Labels};
 ghost use Rattle.rrset.specs.RecordSet.{is_record_set};
+ghost use Rattle.zoneupdate.specs.Zones.{is_zone};
 ghost use Rattle.zoneupdate.specs.Checking.{Plans};
 ghost use Rattle.zoneupdate.specs.Updates.{changed_by, refused_first, with_risen_serial, is_within_limits, with_counted_ttl};
 ghost use Rattle.zoneupdate.specs.KeptZones.{IsUnder};
@@ -15,6 +16,7 @@ use crate::planning::{is_within, touched};
 use crate::prerequisites::prerequisites_refusal;
 use crate::prescan::changes_refusal;
 use crate::serial::raise_serial;
+use crate::single::{planned_at, single_name};
 use dnsname::Name;
 use dnswire::Update;
 use nametable::NameTable;
@@ -61,8 +63,8 @@ fn changed_part(
     Ok(work)
 }
 
-/// The keys that changes show otherwise, or nothing where the zone would pass its limits.
-pub(crate) fn planned(
+/// The keys that changes of any names show otherwise, or nothing where the zone would pass its limits.
+fn planned_part(
     alloc: Global,
     rows: &NameTable,
     apex: &Name,
@@ -79,4 +81,21 @@ pub(crate) fn planned(
     }
     let changed = differences(alloc, before.entries(), work.into_entries())?;
     Ok(Some(ZonePlan { changed }))
+}
+
+/// The keys that changes show otherwise, or nothing where the zone would pass its limits.
+pub(crate) fn planned(
+    alloc: Global,
+    rows: &NameTable,
+    apex: &Name,
+    changes: &Rrs,
+) -> Result<Option<ZonePlan>, NoMemory>
+    requires zone { IsTrue (is_zone (record { apex = apex.now; writable = true; rows = rows.now.rows })) }
+    requires limits { IsTrue (is_within_limits rows.now.rows) }
+    ensures { IfOk result (λ plan. Plans (record { apex = apex.now; writable = true; rows = rows.now.rows }) (map with_counted_ttl changes.now) plan) }
+{
+    match single_name(apex, changes) {
+        Some(name) => planned_at(alloc, rows, apex, name, changes),
+        None => planned_part(alloc, rows, apex, changes),
+    }
 }

@@ -20,18 +20,17 @@ use Rattle.replay.specs.declared.exchanging.Turn.TheVariants.{More, Last}
 use Rattle.replay.specs.Askings.{calls_asks}
 use Rattle.replay.specs.LineCalls.{emit_calls}
 use Rattle.replay.specs.KeptAskings.{StandsFor}
-use Rattle.replay.specs.KeptWorlds.{TellsEnds}
-use Rattle.replay.specs.KeptExchanges.{written, turn_of, has_worked, Remembers, IsGiven, Gives, IsEmitted, Allows, Emits}
+use Rattle.replay.specs.KeptExchanges.{written, turn_of, has_worked, Remembers, IsGiven, Gives, IsEmitted, Allows, Emits, TellsNoted}
 use Rattle.replay.proofs.turns.Turns.{emitted-turn, turn}
 use Rattle.replay.proofs.exchanges.Walks.{gives-counted, gives-whole, written-given}
 
 -- What calls of give made so far leads to the whole; so many octets are left of those that are allowed, or fewer as no vector has as many.
-pub record IsTurning (most limit : ℕ) (whole : Emitted) (asked : Askings) (number turns left : ℕ) (before : List ℕ) (kept : AskingHub) (octets : List ℕ) (told : List (ℕ × ℕ)) (reacted : Bool) : Type 0 where
+pub record IsTurning (most limit : ℕ) (whole : Emitted) (asked : Askings) (number turns left : ℕ) (before : List ℕ) (kept : AskingHub) (octets : List ℕ) (told : Option (List (ℕ × ℕ))) (reacted : Bool) : Type 0 where
   pub so_far : Emitted
   pub budget : ℕ
   pub stands : StandsFor kept so_far.hub
   pub written : octets ≡ before ++ so_far.octets
-  pub ends : TellsEnds told so_far.filled
+  pub ends : TellsNoted told so_far.filled
   pub reacts : reacted ≡ so_far.reacted
   pub unended : so_far.over ≡ None
   pub counted : left + length so_far.octets ≡ most
@@ -39,11 +38,11 @@ pub record IsTurning (most limit : ℕ) (whole : Emitted) (asked : Askings) (num
   pub same : whole ≡ emitted turns number budget so_far
   pub asks : calls_asks (emit_calls turns number budget so_far.hub) so_far.hub kept.askings ≡ asked
 
-unfoldable pub Turning : ℕ → AskingHub → ℕ → ℕ → ℕ → List ℕ → List (ℕ × ℕ) → AskingHub → List ℕ → List (ℕ × ℕ) → Bool → Type 0
-Turning most start number turns left before told_before kept octets told reacted = (limit : ℕ) (hub : Hub) (plain : List (ℕ × ℕ)) → Allows most limit → StandsFor start hub → TellsEnds told_before plain
+unfoldable pub Turning : ℕ → AskingHub → ℕ → ℕ → ℕ → List ℕ → Option (List (ℕ × ℕ)) → AskingHub → List ℕ → Option (List (ℕ × ℕ)) → Bool → Type 0
+Turning most start number turns left before told_before kept octets told reacted = (limit : ℕ) (hub : Hub) (plain : List (ℕ × ℕ)) → Allows most limit → StandsFor start hub → TellsNoted told_before plain
     → IsTurning most limit (emitted enough number limit (nothing_emitted hub plain)) (calls_asks (emit_calls enough number limit hub) hub start.askings) number turns left before kept octets told reacted
 
-begins : (most : ℕ) (start : AskingHub) (number : ℕ) (before : List ℕ) (told : List (ℕ × ℕ)) → Turning most start number enough most before told start before told false
+begins : (most : ℕ) (start : AskingHub) (number : ℕ) (before : List ℕ) (told : Option (List (ℕ × ℕ))) → Turning most start number enough most before told start before told false
 unfolding Turning
 begins most start number before told limit hub plain allows stands ends = record {
   so_far = nothing_emitted hub plain;
@@ -71,7 +70,7 @@ or_false : (b : Bool) → (b || false) ≡ b
 or_false true = refl
 or_false false = refl
 
-module _ (law : GivesStand) (most limit : ℕ) (allows : Allows most limit) (whole : Emitted) (asked : Askings) (number turns left : ℕ) (before : List ℕ) (kept : AskingHub) (octets : List ℕ) (told : List (ℕ × ℕ)) (reacted : Bool)
+module _ (law : GivesStand) (most limit : ℕ) (allows : Allows most limit) (whole : Emitted) (asked : Askings) (number turns left : ℕ) (before : List ℕ) (kept : AskingHub) (octets : List ℕ) (told : Option (List (ℕ × ℕ))) (reacted : Bool)
     (t : IsTurning most limit whole asked number (suc turns) left before kept octets told reacted) (short : length octets < 2 ^ 63) where
   size : length octets ≡ length before + length t.so_far.octets
   size = ap length t.written ∙ length-append before t.so_far.octets
@@ -105,12 +104,12 @@ module _ (law : GivesStand) (most limit : ℕ) (allows : Allows most limit) (who
         end_told = sym t.unended ∙ sym (ap (λ x. x.over) is);
         reacts = t.reacts ∙ sym (ap (λ x. x.reacted) is);
         written = t.written ∙ sym (ap (λ x. before ++ x.octets) is);
-        ends = subst (λ (x : Emitted). TellsEnds told x.filled) (sym is) t.ends;
+        ends = subst (λ (x : Emitted). TellsNoted told x.filled) (sym is) t.ends;
         stands = subst (λ (x : Emitted). StandsFor kept x.hub) (sym is) t.stands;
         asks = sym (ap (λ (b : ℕ). calls_asks (emit_calls (suc turns) number b t.so_far.hub) t.so_far.hub kept.askings) (none_left e)) ∙ t.asks;
       }
 
-  module _ (size_of_buffer : ℕ) (roomy : frame_octets ≤ size_of_buffer) (some : left ≡ 0 → ⊥) (later : AskingHub) (now : List ℕ) (told_later : List (ℕ × ℕ)) (given : Given)
+  module _ (size_of_buffer : ℕ) (roomy : frame_octets ≤ size_of_buffer) (some : left ≡ 0 → ⊥) (later : AskingHub) (now : List ℕ) (told_later : Option (List (ℕ × ℕ))) (given : Given)
       (made : (hub : Hub) → StandsFor kept hub → IsGiven (give hub number (room_in left size_of_buffer)) (asking_after plain_questions (gives number (room_in left size_of_buffer)) hub kept.askings) number octets told later now told_later given) where
     some_budget : (t.budget == 0) ≡ false
     some_budget = ne_eqb t.budget 0 (λ e. by e left_or_many)
@@ -155,7 +154,7 @@ module _ (law : GivesStand) (most limit : ℕ) (allows : Allows most limit) (who
     now_is : now ≡ before ++ then.octets
     now_is = done.written ∙ ap (λ o. o ++ g.octets) t.written ∙ append_assoc before t.so_far.octets g.octets
 
-    ends_then : TellsEnds told_later then.filled
+    ends_then : TellsNoted told_later then.filled
     ends_then = done.ends t.so_far.filled t.ends
 
     turned : whole ≡ turn (λ n. emitted turns number (t.budget - n) then) (emitted turns number t.budget (record then { reacted = true })) then g.given
@@ -255,7 +254,7 @@ module _ (law : GivesStand) (most limit : ℕ) (allows : Allows most limit) (who
       end_told = end ∙ sym (ap (λ (y : Emitted). y.over) is);
       reacts = or_false reacted ∙ t.reacts ∙ sym reacts ∙ sym (ap (λ (y : Emitted). y.reacted) is);
       written = now_is ∙ ap (λ (o : List ℕ). before ++ o) (sym octets) ∙ sym (ap (λ (y : Emitted). before ++ y.octets) is);
-      ends = subst (TellsEnds told_later) (sym filled ∙ sym (ap (λ (y : Emitted). y.filled) is)) ends_then;
+      ends = subst (TellsNoted told_later) (sym filled ∙ sym (ap (λ (y : Emitted). y.filled) is)) ends_then;
       stands = subst (StandsFor later) (sym hub ∙ sym (ap (λ (y : Emitted). y.hub) is)) done.stands;
       asks = done.asks ∙ asks;
     }
@@ -271,20 +270,20 @@ module _ (law : GivesStand) (most limit : ℕ) (allows : Allows most limit) (who
     last over is = subst (λ (w : Given). IsEmitted whole asked before later now told_later (record { reacted = reacted || has_worked w; over = over })) (sym done.answers) (is_over over g.given refl (ap turn_of (sym done.answers) ∙ is))
 
 -- all turns are made
-pub used_up : (most limit : ℕ) (whole : Emitted) (asked : Askings) (number left : ℕ) (before : List ℕ) (kept : AskingHub) (octets : List ℕ) (told : List (ℕ × ℕ)) (reacted : Bool) → IsTurning most limit whole asked number 0 left before kept octets told reacted
+pub used_up : (most limit : ℕ) (whole : Emitted) (asked : Askings) (number left : ℕ) (before : List ℕ) (kept : AskingHub) (octets : List ℕ) (told : Option (List (ℕ × ℕ))) (reacted : Bool) → IsTurning most limit whole asked number 0 left before kept octets told reacted
     → IsEmitted whole asked before kept octets told (record { reacted = reacted; over = None })
 used_up most limit whole asked number left before kept octets told reacted t = record {
   end_told = sym t.unended ∙ sym (ap (λ x. x.over) t.same);
   reacts = t.reacts ∙ sym (ap (λ x. x.reacted) t.same);
   written = t.written ∙ sym (ap (λ x. before ++ x.octets) t.same);
-  ends = subst (λ (x : Emitted). TellsEnds told x.filled) (sym t.same) t.ends;
+  ends = subst (λ (x : Emitted). TellsNoted told x.filled) (sym t.same) t.ends;
   stands = subst (λ (x : Emitted). StandsFor kept x.hub) (sym t.same) t.stands;
   asks = t.asks;
 }
 
 -- ---- the same of all hubs that are stood for
 
-pub gives-once : (kept later : AskingHub) (number : ℕ) (before octets buffer after : List ℕ) (told told_later : List (ℕ × ℕ)) (given : Given)
+pub gives-once : (kept later : AskingHub) (number : ℕ) (before octets buffer after : List ℕ) (told told_later : Option (List (ℕ × ℕ))) (given : Given)
     → ((hub : Hub) → StandsFor kept hub → (given ≡ (give hub number (length buffer)).given)
     × (after ≡ (give hub number (length buffer)).octets ++ drop (length (give hub number (length buffer)).octets) buffer) × StandsFor later (give hub number (length buffer)).hub)
     → ((hub : Hub) → StandsFor kept hub → later.askings ≡ asking_after plain_questions (gives number (length buffer)) hub kept.askings)
@@ -301,30 +300,30 @@ gives-once kept later number before octets buffer after told told_later given ma
       asks = asks hub stands;
     }
 
-pub turning-begins : (most : ℕ) (start : AskingHub) (number : ℕ) (before : List ℕ) (told : List (ℕ × ℕ)) → Turning most start number enough most before told start before told false
+pub turning-begins : (most : ℕ) (start : AskingHub) (number : ℕ) (before : List ℕ) (told : Option (List (ℕ × ℕ))) → Turning most start number enough most before told start before told false
 turning-begins = begins
 
-pub emits-used_up_budget : GivesStand → (most : ℕ) (start kept : AskingHub) (number turns left : ℕ) (before octets : List ℕ) (told_before told : List (ℕ × ℕ)) (reacted : Bool)
+pub emits-used_up_budget : GivesStand → (most : ℕ) (start kept : AskingHub) (number turns left : ℕ) (before octets : List ℕ) (told_before told : Option (List (ℕ × ℕ))) (reacted : Bool)
     → Turning most start number (suc turns) left before told_before kept octets told reacted → length octets < 2 ^ 63 → left ≡ 0 → Emits most start number before told_before kept octets told (record { reacted = reacted; over = None })
 unfolding Turning Emits
 emits-used_up_budget law most start kept number turns left before octets told_before told reacted t short none limit hub plain allows stands ends =
     used_up_budget law most limit allows (emitted enough number limit (nothing_emitted hub plain)) (calls_asks (emit_calls enough number limit hub) hub start.askings) number turns left before kept octets told reacted (t limit hub plain allows stands ends) short none
 
-pub emits-last : GivesStand → (most : ℕ) (start kept later : AskingHub) (number turns left : ℕ) (before octets now : List ℕ) (told_before told told_later : List (ℕ × ℕ)) (reacted : Bool) (size : ℕ) (given : Given) (over : Option EndReason)
+pub emits-last : GivesStand → (most : ℕ) (start kept later : AskingHub) (number turns left : ℕ) (before octets now : List ℕ) (told_before told told_later : Option (List (ℕ × ℕ))) (reacted : Bool) (size : ℕ) (given : Given) (over : Option EndReason)
     → Turning most start number (suc turns) left before told_before kept octets told reacted → length octets < 2 ^ 63 → frame_octets ≤ size → (left ≡ 0 → ⊥) → Gives (room_in left size) kept number octets told later now told_later given → turn_of given ≡ Last over
     → Emits most start number before told_before later now told_later (record { reacted = reacted || has_worked given; over = over })
 unfolding Turning Gives Emits
 emits-last law most start kept later number turns left before octets now told_before told told_later reacted size given over t short wide some made is limit hub plain allows stands ends =
     last law most limit allows (emitted enough number limit (nothing_emitted hub plain)) (calls_asks (emit_calls enough number limit hub) hub start.askings) number turns left before kept octets told reacted (t limit hub plain allows stands ends) short size wide some later now told_later given made over is
 
-pub turning-more : GivesStand → (most : ℕ) (start kept later : AskingHub) (number turns left : ℕ) (before octets now : List ℕ) (told_before told told_later : List (ℕ × ℕ)) (reacted : Bool) (size : ℕ) (given : Given)
+pub turning-more : GivesStand → (most : ℕ) (start kept later : AskingHub) (number turns left : ℕ) (before octets now : List ℕ) (told_before told told_later : Option (List (ℕ × ℕ))) (reacted : Bool) (size : ℕ) (given : Given)
     → Turning most start number (suc turns) left before told_before kept octets told reacted → length octets < 2 ^ 63 → frame_octets ≤ size → (left ≡ 0 → ⊥) → Gives (room_in left size) kept number octets told later now told_later given
     → octets_of given ≤ room_in left size → turn_of given ≡ More → Turning most start number turns (left - octets_of given) before told_before later now told_later (reacted || has_worked given)
 unfolding Turning Gives
 turning-more law most start kept later number turns left before octets now told_before told told_later reacted size given t short wide some made bound is limit hub plain allows stands ends =
     more law most limit allows (emitted enough number limit (nothing_emitted hub plain)) (calls_asks (emit_calls enough number limit hub) hub start.askings) number turns left before kept octets told reacted (t limit hub plain allows stands ends) short size wide some later now told_later given made bound is
 
-pub emits-used_up : (most : ℕ) (start kept : AskingHub) (number left turns : ℕ) (before octets : List ℕ) (told_before told : List (ℕ × ℕ)) (reacted : Bool) → turns ≡ 0 → Turning most start number turns left before told_before kept octets told reacted
+pub emits-used_up : (most : ℕ) (start kept : AskingHub) (number left turns : ℕ) (before octets : List ℕ) (told_before told : Option (List (ℕ × ℕ))) (reacted : Bool) → turns ≡ 0 → Turning most start number turns left before told_before kept octets told reacted
     → Emits most start number before told_before kept octets told (record { reacted = reacted; over = None })
 unfolding Turning Emits
 emits-used_up most start kept number left turns before octets told_before told reacted none t limit hub plain allows stands ends =

@@ -156,10 +156,10 @@ ends-of : (o : Option Session) → all_filled_of o ≡ filled_kept (subscribed_i
 ends-of None = refl
 ends-of (Some session) = refl
 
-remembers-so : (hub : Hub) (number : ℕ) (told before later : Ends) → told ≡ all_filled_in hub number → ((id : ℕ) → told_end later id ≡ told_end (told ++ before) id) → Remembers hub number before later
+remembers-so : (hub : Hub) (number : ℕ) (told before later : Ends) → told ≡ all_filled_in hub number → ((id : ℕ) → told_end later id ≡ told_end (told ++ before) id) → Remembers hub number (Some before) (Some later)
 remembers-so hub number told before later told_is is = λ plain ends id.
     is id ∙ ap (λ (l : Ends). told_end (l ++ before) id) (told_is ∙ ends-of (session_of hub number)) ∙ kept-told (subscriptions_in hub number) before plain id (ends id)
 
-pub remembers-then : {E : Type 0} (hub : Hub) (number : ℕ) (told before later : Ends) (r : Result (Unit {0}) E) → told ≡ all_filled_in hub number → OnOk r ((id : ℕ) → told_end later id ≡ told_end (told ++ before) id) → OnOk r (Remembers hub number before later)
+pub remembers-then : {E : Type 0} (hub : Hub) (number : ℕ) (told before later : Ends) (r : Result (Unit {0}) E) → told ≡ all_filled_in hub number → OnOk r ((id : ℕ) → told_end later id ≡ told_end (told ++ before) id) → OnOk r (Remembers hub number (Some before) (Some later))
 remembers-then hub number told before later (Ok u) told_is is = remembers-so hub number told before later told_is is
 remembers-then hub number told before later (Err e) told_is is = tt

@@ -9,7 +9,6 @@ use Rattle.pushserver.specs.Calls.{HubCall, after_calls}
 use Rattle.hubasking.specs.AskingHubs.{AskingHub}
 use Rattle.hubasking.specs.LinkAskings.{Askings}
 use Rattle.replay.specs.PassedOctets.{Emitted, Exchanged, emitted, exchanged, nothing_emitted, enough}
-use Rattle.inflight.specs.Ends.{told_end}
 use Rattle.replay.specs.declared.exchanging.Emission.{Emission}
 use Rattle.replay.specs.Askings.{calls_asks}
 use Rattle.replay.specs.LineCalls.{emit_calls, fed_calls, exchange_calls}
@@ -36,16 +35,16 @@ rounds-begin start number sent hub stands = record { hub = hub; stands = stands;
 abbrev pub Takes : AskingHub → ℕ → List ℕ → ℕ → AskingHub → Type 0
 Takes kept number piece count later = (hub : Hub) → StandsFor kept hub → (count ≡ taken_by hub number piece) × StandsFor later (take_octets hub number piece) × (later.askings ≡ kept.askings)
 
-module _ (whole : Exchanged) (asked : Askings) (number left count : ℕ) (rest : List ℕ) (kept between later : AskingHub) (answer now : List ℕ) (told : List (ℕ × ℕ)) (emission : Emission)
-    (r : IsRound whole asked number (suc left) kept rest answer) (takes : Takes kept number rest count between) (made : (hub : Hub) → StandsFor between hub → IsEmitted (emitted enough number enough (nothing_emitted hub [])) (calls_asks (emit_calls enough number enough hub) hub between.askings) answer later now told emission) where
+module _ (whole : Exchanged) (asked : Askings) (number left count : ℕ) (rest : List ℕ) (kept between later : AskingHub) (answer now : List ℕ) (emission : Emission)
+    (r : IsRound whole asked number (suc left) kept rest answer) (takes : Takes kept number rest count between) (made : (hub : Hub) → StandsFor between hub → IsEmitted (emitted enough number enough (nothing_emitted hub [])) (calls_asks (emit_calls enough number enough hub) hub between.askings) answer later now None emission) where
   abbrev taken : (count ≡ taken_by r.hub number rest) × StandsFor between (take_octets r.hub number rest) × (between.askings ≡ kept.askings)
   taken = takes r.hub r.stands
 
   abbrev fed : ℕ → Emitted
   fed k = emitted enough number enough (nothing_emitted (take_octets r.hub number (take k rest)) [])
 
-  given : IsEmitted (fed count) (calls_asks (emit_calls enough number enough (take_octets r.hub number (take count rest))) (take_octets r.hub number (take count rest)) between.askings) answer later now told emission
-  given = subst (λ (h : Hub). IsEmitted (emitted enough number enough (nothing_emitted h [])) (calls_asks (emit_calls enough number enough h) h between.askings) answer later now told emission)
+  given : IsEmitted (fed count) (calls_asks (emit_calls enough number enough (take_octets r.hub number (take count rest))) (take_octets r.hub number (take count rest)) between.askings) answer later now None emission
+  given = subst (λ (h : Hub). IsEmitted (emitted enough number enough (nothing_emitted h [])) (calls_asks (emit_calls enough number enough h) h between.askings) answer later now None emission)
       (sym (take-front kept.hub r.hub number rest r.stands) ∙ ap (λ k. take_octets r.hub number (take k rest)) (sym taken.0))
       (made (take_octets r.hub number rest) taken.1)
 
@@ -131,25 +130,25 @@ rounds-used_up whole asked number kept rest answer r = record {
 -- ---- the same of all hubs that are stood for
 
 -- a peer is told nothing of first answers, and octets come without a bound
-emits-all : (between later : AskingHub) (number : ℕ) (answer now : List ℕ) (nothing told : List (ℕ × ℕ)) (emission : Emission) → nothing ≡ [] → Emits 18446744073709551615 between number answer nothing later now told emission
-    → (hub : Hub) → StandsFor between hub → IsEmitted (emitted enough number enough (nothing_emitted hub [])) (calls_asks (emit_calls enough number enough hub) hub between.askings) answer later now told emission
+emits-all : (between later : AskingHub) (number : ℕ) (answer now : List ℕ) (emission : Emission) → Emits 18446744073709551615 between number answer None later now None emission
+    → (hub : Hub) → StandsFor between hub → IsEmitted (emitted enough number enough (nothing_emitted hub [])) (calls_asks (emit_calls enough number enough hub) hub between.askings) answer later now None emission
 unfolding Emits
-emits-all between later number answer now nothing told emission none made hub stands =
-    made enough hub [] (omega arith, inr refl) stands (λ id. ap (λ (l : List (ℕ × ℕ)). told_end l id) none)
+emits-all between later number answer now emission made hub stands =
+    made enough hub [] (omega arith, inr refl) stands tt
 
-pub exchanges-last : (start kept between later : AskingHub) (number left count : ℕ) (sent rest answer now : List ℕ) (nothing told : List (ℕ × ℕ)) (emission : Emission)
-    → Rounds start number sent (suc left) kept rest answer → Takes kept number rest count between → nothing ≡ [] → Emits 18446744073709551615 between number answer nothing later now told emission
+pub exchanges-last : (start kept between later : AskingHub) (number left count : ℕ) (sent rest answer now : List ℕ) (emission : Emission)
+    → Rounds start number sent (suc left) kept rest answer → Takes kept number rest count between → Emits 18446744073709551615 between number answer None later now None emission
     → (count == 0 || nat_le (length rest) count) ≡ true → Exchanges start number sent later now emission.over
 unfolding Rounds Exchanges
-exchanges-last start kept between later number left count sent rest answer now nothing told emission r takes none made is hub stands =
-    round-last (exchanged enough number sent hub []) (calls_asks (exchange_calls enough number sent hub) hub start.askings) number left count rest kept between later answer now told emission (r hub stands) takes (emits-all between later number answer now nothing told emission none made) is
+exchanges-last start kept between later number left count sent rest answer now emission r takes made is hub stands =
+    round-last (exchanged enough number sent hub []) (calls_asks (exchange_calls enough number sent hub) hub start.askings) number left count rest kept between later answer now emission (r hub stands) takes (emits-all between later number answer now emission made) is
 
-pub rounds-more : (start kept between later : AskingHub) (number left count : ℕ) (sent rest answer now : List ℕ) (nothing told : List (ℕ × ℕ)) (emission : Emission)
-    → Rounds start number sent (suc left) kept rest answer → Takes kept number rest count between → nothing ≡ [] → Emits 18446744073709551615 between number answer nothing later now told emission
+pub rounds-more : (start kept between later : AskingHub) (number left count : ℕ) (sent rest answer now : List ℕ) (emission : Emission)
+    → Rounds start number sent (suc left) kept rest answer → Takes kept number rest count between → Emits 18446744073709551615 between number answer None later now None emission
     → (count == 0 || nat_le (length rest) count) ≡ false → Rounds start number sent left later (drop count rest) now
 unfolding Rounds
-rounds-more start kept between later number left count sent rest answer now nothing told emission r takes none made is hub stands =
-    round-more (exchanged enough number sent hub []) (calls_asks (exchange_calls enough number sent hub) hub start.askings) number left count rest kept between later answer now told emission (r hub stands) takes (emits-all between later number answer now nothing told emission none made) is
+rounds-more start kept between later number left count sent rest answer now emission r takes made is hub stands =
+    round-more (exchanged enough number sent hub []) (calls_asks (exchange_calls enough number sent hub) hub start.askings) number left count rest kept between later answer now emission (r hub stands) takes (emits-all between later number answer now emission made) is
 
 pub exchanges-used_up : (start kept : AskingHub) (number left : ℕ) (sent rest answer : List ℕ) → left ≡ 0 → Rounds start number sent left kept rest answer → Exchanges start number sent kept answer None
 unfolding Rounds Exchanges

@@ -140,7 +140,7 @@ up-passes n hub later number k count slice wire slice_is takes wire_is = (
 size_behind : (before octets given : List ℕ) → octets ≡ before ++ given → length octets - length before ≡ length given
 size_behind before octets given e = (let size : length octets ≡ length before + length given = ap length e ∙ length-append before given in omega (arith, size))
 
-pub emit-passes : (n : ℕ) (hub later : AskingHub) (number : ℕ) (k : KeptSeat) (count : ℕ) (wire : List ℕ) (told : List (ℕ × ℕ)) (emission : Emission) → Emits (room_on n k.down_wire) hub number k.down_wire k.filled later wire told emission
+pub emit-passes : (n : ℕ) (hub later : AskingHub) (number : ℕ) (k : KeptSeat) (count : ℕ) (wire : List ℕ) (told : List (ℕ × ℕ)) (emission : Emission) → Emits (room_on n k.down_wire) hub number k.down_wire (Some k.filled) later wire (Some told) emission
     → count ≡ length wire - length k.down_wire
     → Passes (emit number n) (out_calls number n) hub k count (emission.reacted || nat_lt 0 count) emission.over later (record k { down_wire = wire; filled = told })
 unfolding Passes Emits
@@ -148,8 +148,8 @@ emit-passes n hub later number k count wire told emission made count_is = (
   refl,
   λ world seat stands s.
       let whole = emitted enough number (room_on n seat.down_wire) (nothing_emitted world.hub seat.filled) in
-      let e : IsEmitted whole (calls_asks (out_calls number n world seat) world.hub hub.askings) k.down_wire later wire told emission =
-      subst (λ (b : ℕ). IsEmitted (emitted enough number b (nothing_emitted world.hub seat.filled)) (calls_asks (emit_calls enough number b world.hub) world.hub hub.askings) k.down_wire later wire told emission) (ap (room_on n) s.down_wire)
+      let e : IsEmitted whole (calls_asks (out_calls number n world seat) world.hub hub.askings) k.down_wire later wire (Some told) emission =
+      subst (λ (b : ℕ). IsEmitted (emitted enough number b (nothing_emitted world.hub seat.filled)) (calls_asks (emit_calls enough number b world.hub) world.hub hub.askings) k.down_wire later wire (Some told) emission) (ap (room_on n) s.down_wire)
       (made (room_on n k.down_wire) world.hub seat.filled (least (room_on n k.down_wire), inl refl) stands s.filled) in
       let moved : count ≡ length whole.octets = count_is ∙ size_behind k.down_wire wire whole.octets e.written in
       record {

@@ -25,6 +25,6 @@ pub returns : goal.returns
 returns c =
     let suffix = spells_view _ _ c.requires.suffix refl in
     let ends = seeks_end _ _ _ _ suffix c.labels.invariant (omega arith) in
-    let test = c.eq_ignore_ascii_case.ensures.test in
-    let is : Decides c.eq_ignore_ascii_case.result (EndsIn (labels_of c.args.name.now) (labels_of c.args.suffix.now)) = (λ t. ends.0 (test.0 t), λ e. test.1 (ends.1 e)) in
+    let test = c.same_but_for_case.ensures in
+    let is : Decides c.same_but_for_case.result (EndsIn (labels_of c.args.name.now) (labels_of c.args.suffix.now)) = (λ t. ends.0 (test.0 t), λ e. test.1 (ends.1 e)) in
     same_from_decides _ (ends_in (labels_of c.args.name.now) (labels_of c.args.suffix.now)) is (ends_in-Decides (labels_of c.args.name.now) (labels_of c.args.suffix.now))

@@ -7,7 +7,7 @@ use Rattle.dnswire.proofs.section.read_records.Goals as goal
 
 pub returns-in_err-rr : goal.returns-in_err-rr
 returns-in_err-rr c =
-    let p = err_from_is_err_and c.from_residual.result c.from_residual.ensures.1 in
+    let p = err_from_is_err_and c.from_residual-in_err-rr.result c.from_residual-in_err-rr.ensures.1 in
     rw (p.1, p.2) (section_stop (record_at (shape_test c.args.shaped)) c.args.message.now c.args.count c.records._done _ _ _ _ (omega arith) c.in_err-rr.ensures c.records.invariant)
 
 pub records-preserved : goal.records-preserved

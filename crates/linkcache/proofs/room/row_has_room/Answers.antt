@@ -7,10 +7,10 @@ use Rattle.linkcache.proofs.room.row_has_room.Goals as goal
 pub returns-then-fits : goal.returns-then-fits
 returns-then-fits c =
     room_sure (nat_lt (length (laid c.args.over.now.rows c.args.rows.now.rows) + 0) max_rows) c.in_ok-most.most _ c.in_ok-added.added _
-    (sym c.in_ok-has_few.ensures ∙ c.if-not-branch.false) c.in_ok-most.ensures c.in_ok-added.ensures (sym c.fits.ensures ∙ c.if-fits.true)
+    (sym c.has_few.ensures ∙ c.if-not-has_few.false) c.in_ok-most.ensures c.in_ok-added.ensures (sym c.fits.ensures ∙ c.if-fits.true)
 
 pub returns : goal.returns
 returns c =
     c.fits-2.ensures
     ∙ room_is (nat_lt (length (laid c.args.over.now.rows c.args.rows.now.rows) + 0) max_rows) c.in_ok-taken.taken _ c.in_ok-added.added _
-    (sym c.in_ok-has_few.ensures ∙ c.if-not-branch.false) c.in_ok-taken.ensures c.in_ok-added.ensures
+    (sym c.has_few.ensures ∙ c.if-not-has_few.false) c.in_ok-taken.ensures c.in_ok-added.ensures

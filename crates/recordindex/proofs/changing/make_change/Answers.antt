@@ -2,26 +2,18 @@ use Rattle.std.proofs.Common.{List, [], subst}
 use Rattle.rrset.specs.declared.record.Key.{Key}
 use Rattle.nametable.specs.Nodes.{HasRoomFor, keys_put}
 use Rattle.nametable.proofs.KeyRoom.{keys_put-some, keys_put-none, room-first, room-left, room-more}
-use Rattle.recordindex.proofs.OwnerChanges.{owners-put}
 use Rattle.recordindex.proofs.changing.make_change.Goals as goal
 
-pub put_in_room-requires-clause-room : goal.put_in_room-requires-clause-room
-put_in_room-requires-clause-room g c =
+pub put_key-requires-clause-room : goal.put_key-requires-clause-room
+put_key-requires-clause-room g c =
     room-first c.args.change.key [] c.args.index.now.nodes (subst (λ (ks : List Key). HasRoomFor ks c.args.index.now.nodes) (keys_put-some c.args.change [] c.in-Some.shown c.in-Some.is) c.requires.room)
 
 pub returns-in-Some-clause-left : goal.returns-in-Some-clause-left
 returns-in-Some-clause-left g c = λ others room.
-    room-left c.args.change.key (keys_put others) c.args.index.now.nodes c.put_in_room.new.index.nodes
-    (subst (λ (ks : List Key). HasRoomFor ks c.args.index.now.nodes) (keys_put-some c.args.change others c.in-Some.shown c.in-Some.is) room) c.put_in_room.ensures.here c.put_in_room.ensures.others
-
-pub returns-in-Some-clause-owners : goal.returns-in-Some-clause-owners
-returns-in-Some-clause-owners g c =
-    owners-put c.count_put.new.suffixes.owners c.args.change.key c.in-Some.shown c.args.index.now.rows c.put_in_room.new.index.rows (c.count_put.ensures.owners c.args.index.now.rows c.settle_other-last.ensures.owners) c.put_in_room.ensures.rows
+    room-left c.args.change.key (keys_put others) c.args.index.now.nodes c.put_key.new.index.nodes
+    (subst (λ (ks : List Key). HasRoomFor ks c.args.index.now.nodes) (keys_put-some c.args.change others c.in-Some.shown c.in-Some.is) room) c.put_key.ensures.here c.put_key.ensures.others
 
 pub returns-clause-left : goal.returns-clause-left
 returns-clause-left g c = λ others room.
     room-more (keys_put others) c.args.index.now.nodes c.take_out.new.index.nodes c.take_out.ensures.room
     (subst (λ (ks : List Key). HasRoomFor ks c.args.index.now.nodes) (keys_put-none c.args.change others c.in-None.is) room)
-
-pub returns-clause-owners : goal.returns-clause-owners
-returns-clause-owners g c = c.take_out.ensures.owners c.settle_other-last.new.suffixes.owners c.settle_other-last.ensures.owners

@@ -1,8 +1,10 @@
-use Rattle.std.proofs.Common.{◌≡◌, ◌<◌, ℕ, nat_lt, true, List, None, refl, sym, ap, subst, ◌∙◌}
+use Rattle.std.proofs.Common.{◌≡◌, ℕ, true, List, None, refl, sym, ap, subst, ◌∙◌}
 use Rattle.std.specs.Prelude.{is_some}
 use Rattle.suffixes.specs.Endings.{IsLowerName, Reserves, ending_at, is_among, room_of}
 use Rattle.suffixes.proofs.Changes.{among-some}
-use Rattle.suffixes.proofs.Keeping.{inserted, place-inserted, reserves-same}
+use Rattle.suffixes.proofs.Keeping.{inserted, place-inserted}
+use Rattle.suffixes.proofs.Walks.{reserves-same}
+use Rattle.suffixes.proofs.Using.{used-found, used-none}
 use Rattle.suffixes.proofs.ending.reserve_at.Goals as goal
 
 pub returns-in-Some-clause-kept : goal.returns-in-Some-clause-kept
@@ -10,6 +12,9 @@ returns-in-Some-clause-kept c = reserves-same c.args.endings.now.entries
 
 pub returns-in-Some-clause-room : goal.returns-in-Some-clause-room
 returns-in-Some-clause-room c = among-some c.args.name.now c.args.endings.now.entries ∙ ap is_some (sym c.in-Some.ensures.value)
+
+pub returns-in-Some-clause-counted : goal.returns-in-Some-clause-counted
+returns-in-Some-clause-counted c = used-found c.args.name.now c.args.endings.now.entries c.in-Some.count.now c.in-Some.ensures.value
 
 pub returns-in_err-octets-clause-kept : goal.returns-in_err-octets-clause-kept
 returns-in_err-octets-clause-kept c = reserves-same c.args.endings.now.entries
@@ -23,7 +28,7 @@ returns-clause-kept c =
     let none : ending_at c.in_ok-octets.octets.items c.args.endings.now.entries ≡ None =
     ap (λ (os : List ℕ). ending_at os c.args.endings.now.entries) spelled ∙ sym c.in-None.ensures.value in
     subst (Reserves c.args.endings.now.entries) (sym c.in_ok-insert.ensures.entries)
-    (inserted c.in_ok-octets.octets _ refl refl c.args.endings.now.entries none (subst IsLowerName (sym spelled) c.requires))
+    (inserted c.in_ok-octets.octets 0 refl refl c.args.endings.now.entries none (subst IsLowerName (sym spelled) c.requires))
 
 pub returns-clause-room : goal.returns-clause-room
 returns-clause-room c =
@@ -31,4 +36,7 @@ returns-clause-room c =
     let none : ending_at c.in_ok-octets.octets.items c.args.endings.now.entries ≡ None =
     ap (λ (os : List ℕ). ending_at os c.args.endings.now.entries) spelled ∙ sym c.in-None.ensures.value in
     subst (λ (os : List ℕ). is_among os (room_of c.insert.new.self.entries) ≡ true) spelled
-    (subst (λ kept. is_among c.in_ok-octets.octets.items (room_of kept) ≡ true) (sym c.in_ok-insert.ensures.entries) (place-inserted c.in_ok-octets.octets _ c.args.endings.now.entries none))
+    (subst (λ kept. is_among c.in_ok-octets.octets.items (room_of kept) ≡ true) (sym c.in_ok-insert.ensures.entries) (place-inserted c.in_ok-octets.octets 0 c.args.endings.now.entries none))
+
+pub returns-clause-counted : goal.returns-clause-counted
+returns-clause-counted c = used-none c.args.name.now c.args.endings.now.entries c.in-None.ensures.value

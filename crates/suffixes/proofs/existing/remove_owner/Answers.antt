@@ -1,41 +1,16 @@
-use Rattle.std.proofs.Common.{◌≡◌, ℕ, true, false, List, sym, subst, ap, ◌∙◌, arith}
-use Rattle.dnsname.specs.Names.{octets}
-use Rattle.suffixes.specs.Endings.{IsKept, changed_at, flag_at, marked, owners_of, room_of}
-use Rattle.suffixes.proofs.Changes.{room-changed}
-use Rattle.suffixes.proofs.Keeping.{counted-ends, removes-kept, removes-none}
-use Rattle.suffixes.proofs.Marks.{filter-marked}
+use Rattle.std.proofs.Common.{◌+◌, ◌≤◌, ℕ, List, length, get_or, sym, subst, ap, ◌∙◌}
+use Rattle.suffixes.specs.Endings.{Exceeds, IsLeft, above_of, names_above}
+use Rattle.suffixes.proofs.Keeping.{exceeds-above}
+use Rattle.suffixes.proofs.Using.{left-above-name, within-name}
 use Rattle.suffixes.proofs.existing.remove_owner.Goals as goal
 
+pub above-requires : goal.above-requires
+above-requires c = subst (λ (o : List ℕ). get_or o 0 0 + 1 ≤ length o) (sym c.octets.ensures.octets) (within-name c.args.owner.now)
+
 pub lower-requires : goal.lower-requires
-lower-requires c =
-    let was = c.args.endings.now.entries in
-    let told : c.mark.result ≡ true = grind arith in
-    let flag : flag_at (octets c.args.owner.now) was ≡ true = ap (λ (os : List ℕ). flag_at os was) (sym c.octets.ensures.octets) ∙ sym c.mark.ensures.was ∙ told in
-    let mid-is = c.mark.ensures.entries ∙ ap (λ (os : List ℕ). changed_at os (marked false) was) c.octets.ensures.octets in
-    counted-ends c.args.owner.now was c.mark.new.endings.entries c.octets.ensures.name c.requires.kept flag mid-is
+lower-requires c = subst IsLeft (sym (c.above.ensures ∙ ap above_of c.octets.ensures.octets)) (left-above-name c.args.owner.now)
 
-pub returns-then-not-mark : goal.returns-then-not-mark
-returns-then-not-mark c =
-    let was = c.args.endings.now.entries in
-    let told : c.mark.result ≡ false = grind arith in
-    let flag : flag_at (octets c.args.owner.now) was ≡ false = ap (λ (os : List ℕ). flag_at os was) (sym c.octets.ensures.octets) ∙ sym c.mark.ensures.was ∙ told in
-    let now-is = c.mark.ensures.entries ∙ ap (λ (os : List ℕ). changed_at os (marked false) was) c.octets.ensures.octets in
-    record {
-      kept = subst IsKept (sym (removes-none c.args.owner.now was c.mark.new.endings.entries c.requires.kept flag now-is)) c.requires.kept;
-      owners = ap owners_of now-is ∙ filter-marked c.args.owner.now was c.octets.ensures.name c.requires.lower c.requires.kept.names c.len.ensures.ordered;
-      room = ap room_of now-is ∙ room-changed (octets c.args.owner.now) (marked false) was;
-    }
-
-pub returns : goal.returns
-returns c =
-    let was = c.args.endings.now.entries in
-    let told : c.mark.result ≡ true = grind arith in
-    let flag : flag_at (octets c.args.owner.now) was ≡ true = ap (λ (os : List ℕ). flag_at os was) (sym c.octets.ensures.octets) ∙ sym c.mark.ensures.was ∙ told in
-    let mid-is = c.mark.ensures.entries ∙ ap (λ (os : List ℕ). changed_at os (marked false) was) c.octets.ensures.octets in
-    record {
-      kept =
-          removes-kept c.args.owner.now was c.mark.new.endings.entries c.lower.new.endings.entries c.octets.ensures.name c.requires.kept flag mid-is
-          c.lower.ensures.counts c.lower.ensures.owners c.lower.ensures.room;
-      owners = c.lower.ensures.owners ∙ ap owners_of mid-is ∙ filter-marked c.args.owner.now was c.octets.ensures.name c.requires.lower c.requires.kept.names c.len.ensures.ordered;
-      room = c.lower.ensures.room ∙ ap room_of mid-is ∙ room-changed (octets c.args.owner.now) (marked false) was;
-    }
+pub returns-clause-counts : goal.returns-clause-counts
+returns-clause-counts c = λ owners agrees.
+    c.lower.ensures.counts (names_above owners)
+    (subst (λ (o : List ℕ). Exceeds o (names_above owners) c.args.endings.now.entries) (sym (c.above.ensures ∙ ap above_of c.octets.ensures.octets)) (exceeds-above c.args.owner.now owners c.args.endings.now.entries agrees))

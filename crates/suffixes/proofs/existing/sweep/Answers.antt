@@ -1,8 +1,8 @@
-use Rattle.suffixes.proofs.Sweeping.{owners-swept, swept-kept}
+use Rattle.suffixes.proofs.Sweeping.{swept-agrees, swept-low}
 use Rattle.suffixes.proofs.existing.sweep.Goals as goal
 
-pub returns-clause-kept : goal.returns-clause-kept
-returns-clause-kept c = swept-kept c.args.endings.now.entries c.drop_unused.new.endings.entries c.requires c.len.ensures.ordered c.drop_unused.ensures
+pub returns-clause-low : goal.returns-clause-low
+returns-clause-low c = swept-low c.args.endings.now.entries c.drop_unused.new.endings.entries c.requires c.drop_unused.ensures
 
-pub returns-clause-owners : goal.returns-clause-owners
-returns-clause-owners c = owners-swept c.args.endings.now.entries c.drop_unused.new.endings.entries c.requires c.len.ensures.ordered c.drop_unused.ensures
+pub returns-clause-counts : goal.returns-clause-counts
+returns-clause-counts c = λ names agrees. swept-agrees names c.args.endings.now.entries c.drop_unused.new.endings.entries c.len.ensures.ordered c.drop_unused.ensures agrees

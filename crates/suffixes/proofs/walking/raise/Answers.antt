@@ -1,28 +1,40 @@
-use Rattle.std.proofs.Common.{◌≡◌, ◌<◌, length, sym, subst, arith}
-use Rattle.suffixes.specs.Endings.{Kept}
-use Rattle.suffixes.proofs.Walks.{Raised, raised-end, raised-first, raised-fits, raised-more}
+use Rattle.std.proofs.Common.{◌≡◌, ◌<◌, length, refl, sym, ◌∙◌, arith}
+use Rattle.suffixes.proofs.Using.{raising-end, raising-more, raising-stop, left-within}
 use Rattle.suffixes.proofs.walking.raise.Goals as goal
 
 pub ends-init : goal.ends-init
-ends-init c = subst (Raised c.args.endings.now.entries c.args.endings.now.entries c.args.owner.now) (sym c.octets-rest.ensures.octets) (raised-first c.args.endings.now.entries c.args.owner.now c.requires.room)
-
-pub raise_at-requires : goal.raise_at-requires
-raise_at-requires c =
-    let some : 0 < length c.ends.rest.now = grind arith in
-    raised-fits c.args.endings.now.entries c.ends.endings.entries c.args.owner.now c.ends.rest.now c.requires.few c.ends.invariant (omega arith)
+ends-init c = record {
+  left = c.requires.left;
+  has = c.requires.room;
+  few = c.requires.few;
+  counts = λ names few lacks. lacks;
+  room = refl;
+}
 
 pub split_at-requires : goal.split_at-requires
 split_at-requires c =
     let some : 0 < length c.ends.rest.now = grind arith in
-    (raised-more c.args.endings.now.entries c.ends.endings.entries c.args.owner.now c.ends.rest.now c.ends.invariant (omega arith)).1
+    left-within c.ends.rest.now c.ends.invariant.left (omega arith)
 
 pub ends-preserved : goal.ends-preserved
 ends-preserved c =
     let some : 0 < length c.ends.rest.now = grind arith in
-    let more = (raised-more c.args.endings.now.entries c.ends.endings.entries c.args.owner.now c.ends.rest.now c.ends.invariant (omega arith)).0 in
-    subst (λ (kept : Kept). Raised c.args.endings.now.entries kept c.args.owner.now c.split_at.result.1.now) (sym c.raise_at.ensures) (rw c.split_at.ensures.back more)
+    rw c.split_at.ensures.back (raising-more c.args.above.now c.args.endings.now.entries c.ends.endings.entries c.raise_at.new.endings.entries c.ends.rest.now c.ends.invariant (omega arith)
+    (sym (c.raise_at.ensures.was) ∙ c.if-raise_at.false) c.raise_at.ensures.entries c.raise_at.ensures.room)
+
+pub returns-then-raise_at-clause-counts : goal.returns-then-raise_at-clause-counts
+returns-then-raise_at-clause-counts c =
+    let some : 0 < length c.ends.rest.now = grind arith in
+    raising-stop c.args.above.now c.args.endings.now.entries c.ends.endings.entries c.raise_at.new.endings.entries c.ends.rest.now c.ends.invariant (omega arith)
+    (sym (c.raise_at.ensures.was) ∙ c.if-raise_at.true) c.raise_at.ensures.entries
+
+pub returns-then-raise_at-clause-room : goal.returns-then-raise_at-clause-room
+returns-then-raise_at-clause-room c = c.raise_at.ensures.room ∙ c.ends.invariant.room
 
 pub returns-clause-counts : goal.returns-clause-counts
 returns-clause-counts c =
     let none : length c.ends.rest.now ≡ 0 = grind arith in
-    raised-end c.args.endings.now.entries c.ends.endings.entries c.args.owner.now c.ends.rest.now c.ends.invariant none
+    raising-end c.args.above.now c.args.endings.now.entries c.ends.endings.entries c.ends.rest.now c.ends.invariant none
+
+pub returns-clause-room : goal.returns-clause-room
+returns-clause-room c = c.ends.invariant.room

@@ -22,7 +22,7 @@ returns-in_err-index c =
 
 pub returns : goal.returns
 returns c =
-    let takes = taken_out c.args.question.now c.self.inside.entries.items c.in_ok-index.index c.index.result.now c.self.invariant
+    let takes = taken_out c.args.question.now c.self.inside.entries.items c.in_ok-index.index c.index.result.now c.self.invariant.0
     (there c.args.question.now c.self.inside.entries.items c.deref.result.now c.in_ok-index.index c.deref.ensures.value c.in_ok-index.ensures) in
     ap (set_of c.args.question.now) (sym c.self.view_is)
     ∙ held_found c.args.question.now c.self.inside.entries.items

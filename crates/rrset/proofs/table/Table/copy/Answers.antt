@@ -7,7 +7,7 @@ use Rattle.rrset.proofs.Rows.{AreRows}
 use Rattle.rrset.proofs.table.Table.copy.Goals as goal
 
 pub entries-init : goal.entries-init
-entries-init g c = c.new-entries.ensures.items
+entries-init g c = c.in_ok-entries.ensures.items
 
 pub entries-preserved : goal.entries-preserved
 entries-preserved g c =
