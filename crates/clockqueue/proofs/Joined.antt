@@ -8,9 +8,9 @@ use Rattle.clockqueue.specs.Tiers.{joined, size_at}
 module _ {X : Type 0} where
   -- the blocks before this one are full
   abbrev pub FullBefore : ℕ → List (List X) → Type 0
-  FullBefore p bs = (k : ℕ) → k < p → size_at bs k ≡ 2048
+  FullBefore p bs = (k : ℕ) → k < p → size_at bs k ≡ 1024
 
-  pub joined-get : (bs : List (List X)) (p j n : ℕ) (d : X) → FullBefore p bs → n ≡ 2048 * p + j → j < size_at bs p → get_or (joined bs) n d ≡ get_or (get_or bs p []) j d
+  pub joined-get : (bs : List (List X)) (p j n : ℕ) (d : X) → FullBefore p bs → n ≡ 1024 * p + j → j < size_at bs p → get_or (joined bs) n d ≡ get_or (get_or bs p []) j d
   joined-get [] p j n d full is within = absurd (none p within)
     where
       none : (p : ℕ) → j < length (get_or {A = List X} [] p []) → ⊥
@@ -20,30 +20,30 @@ module _ {X : Type 0} where
       let same : n ≡ j = omega (arith, is) in
       ap (λ k. get_or (b ++ joined bs) k d) same ∙ get_or_append_left b (joined bs) d j within
   joined-get (b ∷ bs) (suc p) j n d full is within =
-      let first : length b ≡ 2048 = full zero (omega arith) in
-      let rest : n ≡ length b + (n - 2048) = omega (arith, is, first) in
-      ap (λ k. get_or (b ++ joined bs) k d) rest ∙ get_or-append-add b (joined bs) (n - 2048) d
-      ∙ joined-get bs p j (n - 2048) d (λ k less. full (suc k) (omega (arith, less))) (omega (arith, is)) within
+      let first : length b ≡ 1024 = full zero (omega arith) in
+      let rest : n ≡ length b + (n - 1024) = omega (arith, is, first) in
+      ap (λ k. get_or (b ++ joined bs) k d) rest ∙ get_or-append-add b (joined bs) (n - 1024) d
+      ∙ joined-get bs p j (n - 1024) d (λ k less. full (suc k) (omega (arith, less))) (omega (arith, is)) within
 
-  pub joined-remove : (bs : List (List X)) (p j n : ℕ) → FullBefore p bs → n ≡ 2048 * p + j → p < length bs → j < size_at bs p → joined (set bs p (remove (get_or bs p []) j)) ≡ remove (joined bs) n
+  pub joined-remove : (bs : List (List X)) (p j n : ℕ) → FullBefore p bs → n ≡ 1024 * p + j → p < length bs → j < size_at bs p → joined (set bs p (remove (get_or bs p []) j)) ≡ remove (joined bs) n
   joined-remove [] p j n full is there within = absurd (omega (arith, there))
   joined-remove (b ∷ bs) zero j n full is there within =
       let same : n ≡ j = omega (arith, is) in
       sym (ap (λ k. remove (b ++ joined bs) k) same ∙ remove-append_left b (joined bs) j within)
   joined-remove (b ∷ bs) (suc p) j n full is there within =
-      let first : length b ≡ 2048 = full zero (omega arith) in
-      ap (λ (l : List X). b ++ l) (joined-remove bs p j (n - 2048) (λ k less. full (suc k) (omega (arith, less))) (omega (arith, is)) (omega (arith, there)) within)
-      ∙ sym (remove-append_right b (joined bs) 2048 n first (omega (arith, is)))
+      let first : length b ≡ 1024 = full zero (omega arith) in
+      ap (λ (l : List X). b ++ l) (joined-remove bs p j (n - 1024) (λ k less. full (suc k) (omega (arith, less))) (omega (arith, is)) (omega (arith, there)) within)
+      ∙ sym (remove-append_right b (joined bs) 1024 n first (omega (arith, is)))
 
-  pub joined-insert : (bs : List (List X)) (p j n : ℕ) (x : X) → FullBefore p bs → n ≡ 2048 * p + j → p < length bs → j ≤ size_at bs p → joined (set bs p (insert (get_or bs p []) j x)) ≡ insert (joined bs) n x
+  pub joined-insert : (bs : List (List X)) (p j n : ℕ) (x : X) → FullBefore p bs → n ≡ 1024 * p + j → p < length bs → j ≤ size_at bs p → joined (set bs p (insert (get_or bs p []) j x)) ≡ insert (joined bs) n x
   joined-insert [] p j n x full is there within = absurd (omega (arith, there))
   joined-insert (b ∷ bs) zero j n x full is there within =
       let same : n ≡ j = omega (arith, is) in
       sym (ap (λ k. insert (b ++ joined bs) k x) same ∙ insert-append_left b (joined bs) j x within)
   joined-insert (b ∷ bs) (suc p) j n x full is there within =
-      let first : length b ≡ 2048 = full zero (omega arith) in
-      ap (λ (l : List X). b ++ l) (joined-insert bs p j (n - 2048) x (λ k less. full (suc k) (omega (arith, less))) (omega (arith, is)) (omega (arith, there)) within)
-      ∙ sym (insert-append_right b (joined bs) 2048 n x first (omega (arith, is)))
+      let first : length b ≡ 1024 = full zero (omega arith) in
+      ap (λ (l : List X). b ++ l) (joined-insert bs p j (n - 1024) x (λ k less. full (suc k) (omega (arith, less))) (omega (arith, is)) (omega (arith, there)) within)
+      ∙ sym (insert-append_right b (joined bs) 1024 n x first (omega (arith, is)))
 
   -- the first of a block has become the last of the one before it
   pub joined-pull : (bs : List (List X)) (h : ℕ) (x : X) (rest : List X) → suc h < length bs → get_or bs (suc h) [] ≡ x ∷ rest → joined (set (set bs (suc h) rest) h (get_or bs h [] ++ x ∷ [])) ≡ joined bs

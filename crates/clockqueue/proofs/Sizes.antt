@@ -18,7 +18,7 @@ apart P h here others k = by (eqb k h) refl
         differ : k ≡ h → ⊥
         differ same = let yes : eqb k h ≡ true = eq-eqb k h same in absurd cc
 
-number-is : (number : ℕ) → number ≡ 2048 * (number / 2048) + number % 2048
+number-is : (number : ℕ) → number ≡ 1024 * (number / 1024) + number % 1024
 number-is number = omega arith
 
 module _ {X : Type 0} where
@@ -26,23 +26,23 @@ module _ {X : Type 0} where
   pub tier-length : (bs : List (List X)) (n : ℕ) → IsTier n bs → length (joined bs) ≡ n
   tier-length [] n is = let low = is.within in omega (arith, low)
   tier-length (b ∷ bs) n is =
-      let first : length b ≡ min 2048 (n - 2048 * 0) = is.sizes zero in
+      let first : length b ≡ min 1024 (n - 1024 * 0) = is.sizes zero in
       let within = is.within in
-      let rest : length (joined bs) ≡ n - 2048 = tier-length bs (n - 2048) (record { within = omega (arith, within); sizes = λ k. is.sizes (suc k) ∙ omega arith }) in
+      let rest : length (joined bs) ≡ n - 1024 = tier-length bs (n - 1024) (record { within = omega (arith, within); sizes = λ k. is.sizes (suc k) ∙ omega arith }) in
       length-append b (joined bs) ∙ omega (arith, first, rest)
 
   -- ---- a number and its block
 
-  pub tier-full : (bs : List (List X)) (n number : ℕ) → IsTier n bs → number < n → FullBefore (number / 2048) bs
+  pub tier-full : (bs : List (List X)) (n number : ℕ) → IsTier n bs → number < n → FullBefore (number / 1024) bs
   tier-full bs n number is below k less = is.sizes k ∙ omega (arith, below, less)
 
-  pub tier-here : (bs : List (List X)) (n number : ℕ) → IsTier n bs → number < n → number % 2048 < size_at bs (number / 2048)
-  tier-here bs n number is below = let size = is.sizes (number / 2048) in omega (arith, below, size)
+  pub tier-here : (bs : List (List X)) (n number : ℕ) → IsTier n bs → number < n → number % 1024 < size_at bs (number / 1024)
+  tier-here bs n number is below = let size = is.sizes (number / 1024) in omega (arith, below, size)
 
-  pub hole-full : (bs : List (List X)) (n number : ℕ) → HasHole n (number / 2048) bs → number < n → FullBefore (number / 2048) bs
+  pub hole-full : (bs : List (List X)) (n number : ℕ) → HasHole n (number / 1024) bs → number < n → FullBefore (number / 1024) bs
   hole-full bs n number is below k less = is.others k (λ same. omega (arith, same, less)) ∙ omega (arith, below, less)
 
-  pub hole-here : (bs : List (List X)) (n number : ℕ) → HasHole n (number / 2048) bs → number < n → number % 2048 ≤ size_at bs (number / 2048)
+  pub hole-here : (bs : List (List X)) (n number : ℕ) → HasHole n (number / 1024) bs → number < n → number % 1024 ≤ size_at bs (number / 1024)
   hole-here bs n number is below = let size = is.here in omega (arith, below, size)
 
   -- ---- one block changes
@@ -77,7 +77,7 @@ module _ {X : Type 0} where
   }
 
   -- a hole in the last block is none with one entry less
-  pub hole-last : (bs : List (List X)) (n last : ℕ) → HasHole n last bs → last ≡ (n - 1) / 2048 → IsTier (n - 1) bs
+  pub hole-last : (bs : List (List X)) (n last : ℕ) → HasHole n last bs → last ≡ (n - 1) / 1024 → IsTier (n - 1) bs
   hole-last bs n last is at =
       let size = is.here in
       record {
@@ -89,7 +89,7 @@ module _ {X : Type 0} where
       shorter k differ = omega (arith, at, differ)
 
   -- where one entry more is to be, the last block lacks one
-  pub last-hole : (bs : List (List X)) (n last : ℕ) → IsTier (n - 1) bs → 0 < n → n ≤ 2048 * length bs → last ≡ (n - 1) / 2048 → HasHole n last bs
+  pub last-hole : (bs : List (List X)) (n last : ℕ) → IsTier (n - 1) bs → 0 < n → n ≤ 1024 * length bs → last ≡ (n - 1) / 1024 → HasHole n last bs
   last-hole bs n last is some within at =
       let size = is.sizes last in
       record {
@@ -154,29 +154,29 @@ module _ {X : Type 0} where
 
   -- ---- one entry of the whole
 
-  block-there : (bs : List (List X)) (n number : ℕ) → n ≤ 2048 * length bs → number < n → number / 2048 < length bs
+  block-there : (bs : List (List X)) (n number : ℕ) → n ≤ 1024 * length bs → number < n → number / 1024 < length bs
   block-there bs n number within below = omega (arith, within, below)
 
-  pub read-at : (bs : List (List X)) (n number : ℕ) (b : List X) (x : X) → IsTier n bs → number < n → b ≡ get_or bs (number / 2048) b → x ≡ get_or b (number % 2048) x → x ≡ get_or (joined bs) number x
+  pub read-at : (bs : List (List X)) (n number : ℕ) (b : List X) (x : X) → IsTier n bs → number < n → b ≡ get_or bs (number / 1024) b → x ≡ get_or b (number % 1024) x → x ≡ get_or (joined bs) number x
   read-at bs n number b x is below b-is x-is =
       let there = block-there bs n number is.within below in
-      let here : b ≡ get_or bs (number / 2048) [] = b-is ∙ get_or_default bs (number / 2048) b [] there in
-      x-is ∙ ap (λ (l : List X). get_or l (number % 2048) x) here ∙ sym (joined-get bs (number / 2048) (number % 2048) number x (tier-full bs n number is below) (number-is number) (tier-here bs n number is below))
+      let here : b ≡ get_or bs (number / 1024) [] = b-is ∙ get_or_default bs (number / 1024) b [] there in
+      x-is ∙ ap (λ (l : List X). get_or l (number % 1024) x) here ∙ sym (joined-get bs (number / 1024) (number % 1024) number x (tier-full bs n number is below) (number-is number) (tier-here bs n number is below))
 
-  pub taken-from : (bs : List (List X)) (n number : ℕ) (later d : List X) → IsTier n bs → number < n → later ≡ remove (get_or bs (number / 2048) d) (number % 2048) → joined (set bs (number / 2048) later) ≡ remove (joined bs) number
+  pub taken-from : (bs : List (List X)) (n number : ℕ) (later d : List X) → IsTier n bs → number < n → later ≡ remove (get_or bs (number / 1024) d) (number % 1024) → joined (set bs (number / 1024) later) ≡ remove (joined bs) number
   taken-from bs n number later d is below later-is =
-      let p = number / 2048 in
+      let p = number / 1024 in
       let there = block-there bs n number is.within below in
-      let now : later ≡ remove (get_or bs p []) (number % 2048) = later-is ∙ ap (λ (l : List X). remove l (number % 2048)) (get_or_default bs p d [] there) in
-      ap (λ (l : List X). joined (set bs p l)) now ∙ joined-remove bs p (number % 2048) number (tier-full bs n number is below) (number-is number) there (tier-here bs n number is below)
+      let now : later ≡ remove (get_or bs p []) (number % 1024) = later-is ∙ ap (λ (l : List X). remove l (number % 1024)) (get_or_default bs p d [] there) in
+      ap (λ (l : List X). joined (set bs p l)) now ∙ joined-remove bs p (number % 1024) number (tier-full bs n number is below) (number-is number) there (tier-here bs n number is below)
 
-  pub put-into : (bs : List (List X)) (n number : ℕ) (x : X) (later d : List X) → HasHole n (number / 2048) bs → number < n → later ≡ insert (get_or bs (number / 2048) d) (number % 2048) x → joined (set bs (number / 2048) later) ≡ insert (joined bs) number x
+  pub put-into : (bs : List (List X)) (n number : ℕ) (x : X) (later d : List X) → HasHole n (number / 1024) bs → number < n → later ≡ insert (get_or bs (number / 1024) d) (number % 1024) x → joined (set bs (number / 1024) later) ≡ insert (joined bs) number x
   put-into bs n number x later d is below later-is =
-      let p = number / 2048 in
+      let p = number / 1024 in
       let there = block-there bs n number is.within below in
-      let now : later ≡ insert (get_or bs p []) (number % 2048) x = later-is ∙ ap (λ (l : List X). insert l (number % 2048) x) (get_or_default bs p d [] there) in
-      ap (λ (l : List X). joined (set bs p l)) now ∙ joined-insert bs p (number % 2048) number x (hole-full bs n number is below) (number-is number) there (hole-here bs n number is below)
+      let now : later ≡ insert (get_or bs p []) (number % 1024) x = later-is ∙ ap (λ (l : List X). insert l (number % 1024) x) (get_or_default bs p d [] there) in
+      ap (λ (l : List X). joined (set bs p l)) now ∙ joined-insert bs p (number % 1024) number x (hole-full bs n number is below) (number-is number) there (hole-here bs n number is below)
 
-  pub joined-taken : (bs : List (List X)) (n number : ℕ) (d : List X) (x : X) → IsTier n bs → number < n → x ≡ get_or (get_or bs (number / 2048) d) (number % 2048) x → x ≡ get_or (joined bs) number x
+  pub joined-taken : (bs : List (List X)) (n number : ℕ) (d : List X) (x : X) → IsTier n bs → number < n → x ≡ get_or (get_or bs (number / 1024) d) (number % 1024) x → x ≡ get_or (joined bs) number x
   joined-taken bs n number d x is below x-is =
-      read-at bs n number (get_or bs (number / 2048) d) x is below (get_or_default bs (number / 2048) d (get_or bs (number / 2048) d) (block-there bs n number is.within below)) x-is
+      read-at bs n number (get_or bs (number / 1024) d) x is below (get_or_default bs (number / 1024) d (get_or bs (number / 1024) d) (block-there bs n number is.within below)) x-is

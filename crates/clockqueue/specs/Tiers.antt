@@ -1,4 +1,4 @@
--- Tiers: a list in blocks of 2048 places, all full up to where the list ends, and empty behind it.
+-- Tiers: a list in blocks of 1024 places, all full up to where the list ends, and empty behind it.
 --     joined      what the blocks hold, one behind the other
 --     size_at bs k      how many entries the block with the number k holds; none where there is no such block
 --     filled n k      how many of n entries the block with the number k has
@@ -14,7 +14,7 @@ pub record TierState (X : Type 0) : Type 0 where
   pub spare : ℕ
 
 abbrev pub filled : ℕ → ℕ → ℕ
-filled n k = min 2048 (n - 2048 * k)
+filled n k = min 1024 (n - 1024 * k)
 
 module _ {X : Type 0} where
   abbrev pub joined : List (List X) → List X
@@ -24,11 +24,11 @@ module _ {X : Type 0} where
   size_at bs k = length (get_or bs k [])
 
   pub record IsTier (n : ℕ) (bs : List (List X)) : Type 0 where
-    pub within : n ≤ 2048 * length bs
+    pub within : n ≤ 1024 * length bs
     pub sizes : (k : ℕ) → size_at bs k ≡ filled n k
 
   pub record HasHole (n hole : ℕ) (bs : List (List X)) : Type 0 where
-    pub within : n ≤ 2048 * length bs
+    pub within : n ≤ 1024 * length bs
     pub here : size_at bs hole + 1 ≡ filled n hole
     pub others : (k : ℕ) → k ≢ hole → size_at bs k ≡ filled n k
 

@@ -10,8 +10,8 @@ use std::collections::VecDeque;
 use std::marker::Model;
 
 /// How many places a block has. With more, a part of a block takes longer to move; with fewer, more blocks give an
-/// entry on. Of some 16,000 entries both take as long about here.
-pub(crate) const PLACES: usize = 2048;
+/// entry on.
+pub(crate) const PLACES: usize = 1024;
 
 /// Takes out the entry at an index.
 pub(crate) fn remove_at<T: Drop>(entries: &mut VecDeque<T>, index: usize) -> T
@@ -55,7 +55,7 @@ impl<T> Model for Block<T> {
 
     ghost view = { λ b. b.entries.items };
 
-    ghost invariant = { λ b. (length b.entries.items ≤ 2048) × (2048 ≤ deque_capacity b.entries) };
+    ghost invariant = { λ b. (length b.entries.items ≤ 1024) × (1024 ≤ deque_capacity b.entries) };
 }
 
 impl<T: Drop> Block<T> {
@@ -86,7 +86,7 @@ impl<T: Drop> Block<T> {
     /// Puts an entry at a place.
     pub(crate) fn insert(&mut self, place: usize, entry: T)
         requires within { place ≤ length self.old }
-        requires room { length self.old < 2048 }
+        requires room { length self.old < 1024 }
         ensures { self.new ≡ insert self.old place entry }
     {
         put_at(&mut self.entries, place, entry);
@@ -125,7 +125,7 @@ impl<T: Drop> Block<T> {
 
     /// Puts an entry before all others.
     pub(crate) fn put_first(&mut self, entry: T)
-        requires { length self.old < 2048 }
+        requires { length self.old < 1024 }
         ensures { self.new ≡ entry ∷ self.old }
     {
         match self.entries.push_front(entry) {
@@ -136,7 +136,7 @@ impl<T: Drop> Block<T> {
 
     /// Puts an entry behind all others.
     pub(crate) fn put_last(&mut self, entry: T)
-        requires { length self.old < 2048 }
+        requires { length self.old < 1024 }
         ensures { self.new ≡ self.old ++ entry ∷ [] }
     {
         match self.entries.push_back(entry) {

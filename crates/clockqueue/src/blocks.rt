@@ -26,7 +26,7 @@ impl<T> Model for Blocks<T> {
 
     ghost Value = { TierState T };
 
-    ghost view = { λ t. record { items = joined t.blocks.items; spare = 2048 * length t.blocks.items - t.len } };
+    ghost view = { λ t. record { items = joined t.blocks.items; spare = 1024 * length t.blocks.items - t.len } };
 
     ghost invariant = { λ t. IsTier t.len t.blocks.items × (length t.blocks.items ≤ 2 ^ 48) };
 }
@@ -34,7 +34,7 @@ impl<T> Model for Blocks<T> {
 /// The first entry of the block behind this one becomes its last.
 fn pull<T: Drop>(blocks: &mut [Block<T>], hole: usize)
     requires within { hole + 1 < length blocks.old }
-    requires room { size_at blocks.old hole < 2048 }
+    requires room { size_at blocks.old hole < 1024 }
     requires some { 0 < size_at blocks.old (hole + 1) }
     ensures { MovesOne (hole + 1) hole blocks.old blocks.new }
 {
@@ -47,7 +47,7 @@ fn pull<T: Drop>(blocks: &mut [Block<T>], hole: usize)
 fn push<T: Drop>(blocks: &mut [Block<T>], full: usize)
     requires within { full + 1 < length blocks.old }
     requires some { 0 < size_at blocks.old full }
-    requires room { size_at blocks.old (full + 1) < 2048 }
+    requires room { size_at blocks.old (full + 1) < 1024 }
     ensures { MovesOne full (full + 1) blocks.old blocks.new }
 {
     let next = full + 1;
@@ -71,8 +71,8 @@ fn pull_all<T: Drop>(blocks: &mut [Block<T>], hole: usize, len: usize)
 /// Makes a hole in a block, where there are to be `len` entries.
 fn push_all<T: Drop>(blocks: &mut [Block<T>], hole: usize, len: usize)
     requires tier { IsTier (len - 1) blocks.old }
-    requires within { len ≤ 2048 * length blocks.old }
-    requires below { 2048 * hole < len }
+    requires within { len ≤ 1024 * length blocks.old }
+    requires below { 1024 * hole < len }
     ensures items { joined blocks.new ≡ joined blocks.old }
     ensures hole { HasHole len hole blocks.new }
     ensures count { length blocks.new ≡ length blocks.old }
@@ -90,7 +90,7 @@ fn take_from<T: Drop>(blocks: &mut [Block<T>], number: usize, len: usize) -> T
     requires within { number < len }
     ensures value { result ≡ slice_index_or (joined blocks.old) number result }
     ensures items { joined blocks.new ≡ remove (joined blocks.old) number }
-    ensures hole { HasHole len (number / 2048) blocks.new }
+    ensures hole { HasHole len (number / 1024) blocks.new }
     ensures count { length blocks.new ≡ length blocks.old }
 {
     let place = number / PLACES;
@@ -99,7 +99,7 @@ fn take_from<T: Drop>(blocks: &mut [Block<T>], number: usize, len: usize) -> T
 
 /// Puts an entry into a block that lacks one.
 fn put_into<T: Drop>(blocks: &mut [Block<T>], number: usize, len: usize, entry: T)
-    requires hole { HasHole len (number / 2048) blocks.old }
+    requires hole { HasHole len (number / 1024) blocks.old }
     requires within { number < len }
     ensures items { joined blocks.new ≡ insert (joined blocks.old) number entry }
     ensures tier { IsTier len blocks.new }
@@ -112,7 +112,7 @@ fn put_into<T: Drop>(blocks: &mut [Block<T>], number: usize, len: usize, entry: 
 /// Puts an entry before that with a number, where there are to be `len`.
 fn insert_into<T: Drop>(blocks: &mut [Block<T>], number: usize, len: usize, entry: T)
     requires tier { IsTier (len - 1) blocks.old }
-    requires room { len ≤ 2048 * length blocks.old }
+    requires room { len ≤ 1024 * length blocks.old }
     requires within { number < len }
     ensures items { joined blocks.new ≡ insert (joined blocks.old) number entry }
     ensures tier { IsTier len blocks.new }

@@ -15,8 +15,8 @@ use std::marker::Model;
 /// has room for a number of further keys.
 ///
 /// It is kept as a list in blocks, in the order in which the keys fall due. `add` and `take_at`, which know the moment,
-/// look at the last and the first, and then find its place by halving; `set` and `drop_key` look at each key. Where a deadline comes or goes, a part of its block
-/// moves, and one deadline of each block behind it.
+/// look at the last and the first, and then find its place by halving; `set` and `drop_key` look at each key. Where a
+/// deadline comes or goes, a part of its block moves, and one deadline of each block behind it.
 #[derive(Debug, Drop)]
 pub struct Deadlines<K: Ord> {
     entries: Tier<(u64, K)>,

@@ -1,14 +1,12 @@
 -- How many rows there are with others laid over them, and how many octets of an owner.
-use Rattle.std.proofs.Common.{◌≡◌, ℕ, suc, ◌+◌, ◌<◌, ◌≤◌, Bool, true, false, cond, not, T, [], ◌∷◌, ◌++◌, drop, get_or, length, min, nat_lt, Option, Some, None, is_some, refl, sym, ap, ◌∙◌, arith}
+use Rattle.std.proofs.Common.{◌≡◌, ℕ, suc, ◌+◌, ◌<◌, Bool, true, false, cond, not, T, [], ◌∷◌, ◌++◌, drop, get_or, length, min, Option, Some, None, is_some, refl, sym, ap, ◌∙◌, arith}
 use Rattle.std.specs.Prelude.{sum_by}
-use Rattle.std.proofs.lemmas.Bool.Decides.{nat_tests}
 use Rattle.std.specs.Option.{MatchOption}
 use Rattle.std.proofs.lemmas.List.{append_assoc, drop_more}
 use Rattle.std.specs.Ordering.{is_eq, is_lt}
 use Rattle.std.specs.FinMap.Entries.{below_all, by_order}
 use Rattle.std.specs.declared.cmp.Ordering.{Ordering}
 use Rattle.std.specs.declared.cmp.Ordering.TheVariants.{Less, Equal, Greater}
-use Rattle.std.proofs.lemmas.Bool.{leb-true, le-leb}
 use Rattle.dnsname.specs.Names.{Labels, same_name}
 use Rattle.rrset.specs.declared.record.Key.{Key}
 use Rattle.rrset.specs.Records.{key_cmp, same_key}
@@ -18,12 +16,12 @@ use Rattle.rrset.proofs.Places.{and_left, and_right}
 use Rattle.linkmap.proofs.OneSize.{size_as_one}
 use Rattle.linkcache.specs.declared.row.HeardRow.{HeardRow}
 use Rattle.linkcache.specs.declared.rules.LinkRules.{LinkRules}
-use Rattle.linkcache.specs.Rows.{LinkRows, rr_of_row, max_rows, size_under}
+use Rattle.linkcache.specs.Rows.{LinkRows, rr_of_row, size_under}
 use Rattle.linkcache.specs.Parts.{laid}
 use Rattle.linkcache.specs.Sound.{AreLinkRows}
 use Rattle.linkcache.proofs.KeyedParts.{Rising}
 use Rattle.linkcache.proofs.LaidRows.{either, row_at-laid, rising-laid}
-use Rattle.linkcache.proofs.OwnerSizes.{row_size, size_if, size-cons, replaces, behind_none, found-key}
+use Rattle.linkcache.proofs.OwnerSizes.{row_size, size_if, size-cons, replaces, found-key}
 
 -- a key before others is none of them
 pub below-none : (x : Key) (es : LinkRows) → T (below_all key_cmp x es) → row_at x es ≡ None
@@ -39,7 +37,7 @@ below-none x (e ∷ es) below = ap (λ b. cond b (Some e.1) (row_at x es)) (same
         by Greater h = refl
 
 -- a row put where its key has none
-adds : (rules : LinkRules) (owner : Labels) (k : Key) (v : HeardRow) (rows : LinkRows) → row_at k rows ≡ None → size_under rules owner (put_row k v rows) ≡ size_under rules owner rows + size_if rules owner (k, v)
+pub adds : (rules : LinkRules) (owner : Labels) (k : Key) (v : HeardRow) (rows : LinkRows) → row_at k rows ≡ None → size_under rules owner (put_row k v rows) ≡ size_under rules owner rows + size_if rules owner (k, v)
 adds rules owner k v [] absent = let first = size-cons rules owner (k, v) [] in omega (arith, first)
 adds rules owner k v (e ∷ es) absent = by (key_cmp k e.0) absent (λ none. adds rules owner k v es none)
   where
@@ -87,18 +85,7 @@ some-at now key rows (Some a) h e = ap (λ (o : Option HeardRow). is_some o) h
 here : (e : Key × HeardRow) (es rows : LinkRows) → Rising (e ∷ es) → row_at e.0 (laid es rows) ≡ row_at e.0 rows
 here e es rows g = row_at-laid e.0 es rows ∙ ap (λ (o : Option HeardRow). either o (row_at e.0 rows)) (below-none e.0 es (and_left _ _ g))
 
--- a row in place of another with its key
-length-found : (k : Key) (v old : HeardRow) (rows : LinkRows) → Rising rows → row_at k rows ≡ Some old → length (put_row k v rows) ≡ length rows
-length-found k v old [] h found = absurd cc
-length-found k v old (e ∷ es) h found = by (key_cmp k e.0) refl found (λ there. length-found k v old es (and_right _ _ h) there)
-  where
-    by : (o : Ordering) → key_cmp k e.0 ≡ o → cond (is_eq o) (Some e.1) (row_at k es) ≡ Some old → (row_at k es ≡ Some old → length (put_row k v es) ≡ length es)
-        → length (by_order o ((k, v) ∷ e ∷ es) ((e.0, v) ∷ es) (e ∷ put_row k v es)) ≡ length (e ∷ es)
-    by Less is at rest = let none : None ≡ Some old = sym (behind_none k e.0 es is (and_left _ _ h)) ∙ at in absurd cc
-    by Equal is at rest = refl
-    by Greater is at rest = ap (λ n. suc n) (rest at)
-
-length-absent : (k : Key) (v : HeardRow) (rows : LinkRows) → row_at k rows ≡ None → length (put_row k v rows) ≡ suc (length rows)
+pub length-absent : (k : Key) (v : HeardRow) (rows : LinkRows) → row_at k rows ≡ None → length (put_row k v rows) ≡ suc (length rows)
 length-absent k v [] absent = refl
 length-absent k v (e ∷ es) absent = by (key_cmp k e.0) absent (λ none. length-absent k v es none)
   where
@@ -107,24 +94,6 @@ length-absent k v (e ∷ es) absent = by (key_cmp k e.0) absent (λ none. length
     by Less none rest = refl
     by Equal none rest = absurd cc
     by Greater none rest = ap (λ n. suc n) (rest none)
-
-module _ (rows : LinkRows) (h : Rising rows) where
-  pub laid-count : (over : LinkRows) → Rising over → length (laid over rows) ≡ length rows + length (new_in rows over)
-  laid-count [] g = omega arith
-  laid-count (e ∷ es) g = by (row_at e.0 rows) refl (laid-count es (and_right _ _ g))
-    where
-      rest : LinkRows
-      rest = new_in rows es
-
-      by : (o : Option HeardRow) → row_at e.0 rows ≡ o → length (laid es rows) ≡ length rows + length rest → length (laid (e ∷ es) rows) ≡ length rows + length (new_in rows (e ∷ es))
-      by None is behind =
-          let one : length (laid (e ∷ es) rows) ≡ suc (length (laid es rows)) = length-absent e.0 e.1 (laid es rows) (here e es rows g ∙ is) in
-          let new : length (new_in rows (e ∷ es)) ≡ suc (length rest) = ap (λ (o : Option HeardRow). length (cond (not (is_some o)) (e ∷ rest) rest)) is in
-          omega (arith, one, new, behind)
-      by (Some old) is behind =
-          let one : length (laid (e ∷ es) rows) ≡ length (laid es rows) = length-found e.0 e.1 old (laid es rows) (rising-laid es rows h) (here e es rows g ∙ is) in
-          let new : length (new_in rows (e ∷ es)) ≡ length rest = ap (λ (o : Option HeardRow). length (cond (not (is_some o)) (e ∷ rest) rest)) is in
-          omega (arith, one, new, behind)
 
 module _ (rules : LinkRules) (owner : Labels) (rows : LinkRows) (h : Rising rows) (sound : AreLinkRows rules rows) where
   pub laid-size : (over : LinkRows) → Rising over → AreLinkRows rules over → size_under rules owner (laid over rows) ≡ size_under rules owner rows + size_under rules owner (new_in rows over)
@@ -148,29 +117,6 @@ module _ (rules : LinkRules) (owner : Labels) (rows : LinkRows) (h : Rising rows
           let one : size_under rules owner (laid (e ∷ es) rows) ≡ size_under rules owner (laid es rows) = (replaces rules owner e.0 e.1 old (laid es rows) (rising-laid es rows h) (here e es rows g ∙ is) (as_one old is)).size in
           let new : size_under rules owner (new_in rows (e ∷ es)) ≡ size_under rules owner rest = ap (λ (o : Option HeardRow). size_under rules owner (cond (not (is_some o)) (e ∷ rest) rest)) is in
           omega (arith, one, new, behind)
-
--- ---- tests in numbers
-
-length-new : (rows over : LinkRows) → length (new_in rows over) ≤ length over
-length-new rows [] = omega arith
-length-new rows (e ∷ es) = by (not (is_some (row_at e.0 rows))) (length-new rows es)
-  where
-    by : (b : Bool) → length (new_in rows es) ≤ length es → length (cond b (e ∷ new_in rows es) (new_in rows es)) ≤ length (e ∷ es)
-    by true rest = omega arith
-    by false rest = omega arith
-
--- few enough even if all rows laid over others are new
-pub few-all : (rows over : LinkRows) (n m : ℕ) → length (laid over rows) ≡ length rows + length (new_in rows over) → n ≡ length rows → m ≡ length over → nat_lt (n + m) max_rows ≡ true → true ≡ nat_lt (length (laid over rows) + 0) max_rows
-few-all rows over n m count n-is m-is few =
-    let fewer = length-new rows over in
-    let less : suc (n + m) ≤ max_rows = leb-true _ _ few in
-    sym (le-leb (suc (length (laid over rows) + 0)) max_rows (omega arith))
-
-pub few-new : (rows over : LinkRows) (n m : ℕ) → length (laid over rows) ≡ length rows + length (new_in rows over) → n ≡ length rows → m ≡ length (new_in rows over) → nat_lt (n + m) max_rows ≡ nat_lt (length (laid over rows) + 0) max_rows
-few-new rows over n m count n-is m-is = let same : n + m ≡ length (laid over rows) + 0 = omega arith in ap (λ k. nat_lt k max_rows) same
-
-pub few-full : (rows over : LinkRows) (n : ℕ) → length (laid over rows) ≡ length rows + length (new_in rows over) → n ≡ length rows → max_rows ≤ n → false ≡ nat_lt (length (laid over rows) + 0) max_rows
-few-full rows over n count n-is full = let most : max_rows ≤ length (laid over rows) + 0 = omega arith in grind (arith, nat_tests)
 
 -- parts by two tests are one in either order
 only-turn : (p q : Key → Bool) (rows : LinkRows) → only_rows p (only_rows q rows) ≡ only_rows q (only_rows p rows)

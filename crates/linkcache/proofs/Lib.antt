@@ -22,6 +22,7 @@ pub mod GoneRows
 pub mod RowCopies
 pub mod LaidRows
 pub mod LaidSizes
+pub mod KeptSizes
 pub mod FlushedOver
-pub mod MostSizes
+pub mod FlushedSets
 pub mod FirstKeys

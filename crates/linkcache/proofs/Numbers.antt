@@ -2,7 +2,6 @@
 use Rattle.std.proofs.Common.{◌≡◌, ℕ, suc, ◌+◌, ◌≤◌, Bool, true, ◌&&◌, List, drop, length, min, nat_lt, nat_le, sym, ap, ◌∙◌, arith}
 use Rattle.std.specs.Prelude.{sum_by}
 use Rattle.std.proofs.lemmas.List.{at_drop_all}
-use Rattle.std.proofs.lemmas.Bool.{leb-true, le-leb}
 use Rattle.std.proofs.lemmas.Bool.Decides.{leb_tells}
 use Rattle.push_base.specs.Limits.{max_octets_at_name}
 use Rattle.rrset.specs.Tables.{counted}
@@ -25,9 +24,3 @@ room_is few size total added octets is-few size-is added-is = sums ∙ ap (λ b.
   where
     sums : nat_le (size + added) max_octets_at_name ≡ nat_le (total + octets) max_octets_at_name
     sums = grind (arith, size-is, added-is, leb_tells (size + added) 60000, leb_tells (total + octets) 60000)
-
-pub room_sure : (few : Bool) (most total added octets : ℕ) → few ≡ true → counted total ≤ most → added ≡ octets → nat_le (most + added) max_octets_at_name ≡ true → true ≡ (few && nat_le (total + octets) max_octets_at_name)
-room_sure few most total added octets is-few most-is added-is fits =
-    let low : most + added ≤ max_octets_at_name = leb-true (most + added) max_octets_at_name fits in
-    let all : total + octets ≤ max_octets_at_name = omega (arith, low, most-is, added-is) in
-    sym (le-leb (total + octets) max_octets_at_name all) ∙ ap (λ b. b && nat_le (total + octets) max_octets_at_name) (sym is-few)

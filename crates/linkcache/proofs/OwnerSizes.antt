@@ -51,7 +51,7 @@ size-cons rules owner e es = by (same_name owner e.0.owner)
     by false = omega arith
 
 -- names that are one have one size
-size-alike : (rules : LinkRules) (a b : Labels) (rows : LinkRows) → lower a ≡ lower b → size_under rules a rows ≡ size_under rules b rows
+pub size-alike : (rules : LinkRules) (a b : Labels) (rows : LinkRows) → lower a ≡ lower b → size_under rules a rows ≡ size_under rules b rows
 size-alike rules a b rows e = ap (λ low. sum_by (row_size rules) (filter (λ (row : Key × HeardRow). bytes_eq (octets low) (octets (lower row.0.owner))) rows)) e
 
 -- ---- changes of the ends alone
@@ -59,7 +59,7 @@ size-alike rules a b rows e = ap (λ low. sum_by (row_size rules) (filter (λ (r
 abbrev ending : (Key × HeardRow → Bool) → ℕ → Key × HeardRow → Key × HeardRow
 ending test moment row = cond (test row) (ending_by moment row) row
 
-size-ending : (rules : LinkRules) (owner : Labels) (test : Key × HeardRow → Bool) (moment : ℕ) (rows : LinkRows) → size_under rules owner (map (λ row. cond (test row) (ending_by moment row) row) rows) ≡ size_under rules owner rows
+pub size-ending : (rules : LinkRules) (owner : Labels) (test : Key × HeardRow → Bool) (moment : ℕ) (rows : LinkRows) → size_under rules owner (map (λ row. cond (test row) (ending_by moment row) row) rows) ≡ size_under rules owner rows
 size-ending rules owner test moment [] = refl
 size-ending rules owner test moment (e ∷ es) =
     size-cons rules owner (ending test moment e) (map (ending test moment) es)
@@ -181,11 +181,11 @@ found-key rules k old (e ∷ es) sound found = by (same_key k e.0) refl found (f
     by false is at rest = rest at
 
 -- a row that is there
-record FoundRow (k : Key) (rows : LinkRows) : Type 0 where
-  old : HeardRow
-  is : row_at k rows ≡ Some old
+pub record FoundRow (k : Key) (rows : LinkRows) : Type 0 where
+  pub old : HeardRow
+  pub is : row_at k rows ≡ Some old
 
-found-row : (k : Key) (rows : LinkRows) → has_key k rows ≡ true → FoundRow k rows
+pub found-row : (k : Key) (rows : LinkRows) → has_key k rows ≡ true → FoundRow k rows
 found-row k rows there = by (row_at k rows) refl (has-found k rows ∙ there)
   where
     by : (o : Option HeardRow) → row_at k rows ≡ o → is_some o ≡ true → FoundRow k rows

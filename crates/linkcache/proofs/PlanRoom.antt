@@ -2,14 +2,13 @@
 use Rattle.std.proofs.Common.{◌≡◌, ◌≤◌, Bool, true, false, cond, not, List, [], ◌∷◌, ◌++◌, Option, Some, None, is_some, Result, Ok, Err, map, refl, sym, ap, subst, ◌∙◌, arith}
 use Rattle.std.specs.Result.{IfOk}
 use Rattle.std.specs.Cmp.{eq_by_cmp_equiv}
-use Rattle.std.specs.Ordering.{is_eq}
 use Rattle.std.specs.List.{AllByRecursion, filter}
 use Rattle.rrset.specs.declared.record.Key.{Key}
 use Rattle.rrset.specs.Records.{same_key}
 use Rattle.rrset.specs.KeyedRows.{only_rows, row_at}
 use Rattle.rrset.proofs.KeyOrder.{key_cmp_total}
-use Rattle.nametable.specs.Nodes.{Nodes, HasRoomFor, count_at, keys_of, name_cmp, room_at}
-use Rattle.nametable.proofs.KeyRoom.{count_at-cons}
+use Rattle.nametable.specs.Nodes.{Nodes, HasRoomFor, keys_of}
+use Rattle.nametable.proofs.KeyRoom.{room-one}
 use Rattle.linkcache.specs.declared.plan.RowChange.{RowChange}
 use Rattle.linkcache.specs.declared.row.HeardRow.{HeardRow}
 use Rattle.linkcache.specs.Rows.{LinkRows}
@@ -31,16 +30,13 @@ keys_put-none c cs is = ap (λ (o : Option HeardRow). map (λ (d : RowChange). d
 
 -- room for some changes is room for the first of them
 pub room-front : (c : RowChange) (cs : List RowChange) (ns : Nodes HeardRow) → HasRoomFor (keys_put (c ∷ cs)) ns → HasRoomFor (keys_put (c ∷ [])) ns
-room-front c cs ns room name = by c.after refl
+room-front c cs ns room = by c.after refl
   where
-    by : (o : Option HeardRow) → c.after ≡ o → count_at name (keys_put (c ∷ [])) ≤ room_at ns name
-    by None is = let alone : count_at name (keys_put (c ∷ [])) ≡ 0 = ap (count_at name) (keys_put-none c [] is) in omega (arith, alone)
+    by : (o : Option HeardRow) → c.after ≡ o → HasRoomFor (keys_put (c ∷ [])) ns
+    by None is = subst (λ (ks : List Key). HasRoomFor ks ns) (sym (keys_put-none c [] is)) (λ name. omega arith)
     by (Some row) is =
-        let b = is_eq (name_cmp name c.key.owner) in
-        let alone = ap (count_at name) (keys_put-some c [] row is) ∙ count_at-cons name c.key [] b refl in
-        let among = ap (count_at name) (keys_put-some c cs row is) ∙ count_at-cons name c.key (keys_put cs) b refl in
-        let all = room name in
-        omega (arith, alone, among, all)
+        subst (λ (ks : List Key). HasRoomFor ks ns) (sym (keys_put-some c [] row is))
+        (room-one c.key (keys_put cs) ns (subst (λ (ks : List Key). HasRoomFor ks ns) (keys_put-some c cs row is) room))
 
 -- ---- the keys that the changes from one part to another put
 

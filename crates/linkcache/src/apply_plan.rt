@@ -2,10 +2,8 @@
 
 ghost use Rattle.std.specs.Prelude.{◌≡◌, ◌≤◌, ◌+◌, ◌∷◌, [], List, false, None, IsTrue, length, map, option_map};
 ghost use Rattle.std.specs.List.{AllByRecursion};
-ghost use Rattle.std.specs.Ordering.{is_eq};
 ghost use Rattle.clockqueue.specs.Deadlines.{moment_of, without};
-ghost use Rattle.dnsname.specs.Names.{Labels};
-ghost use Rattle.nametable.specs.Nodes.{HasRoomFor, name_cmp, room_at};
+ghost use Rattle.nametable.specs.Nodes.{HasRoomFor};
 ghost use Rattle.rrset.specs.KeyedRows.{put_row, row_at};
 ghost use Rattle.rrset.specs.Records.{key_cmp};
 ghost use Rattle.rrset.specs.Tables.{HasLowerOwner};
@@ -25,10 +23,9 @@ use rrset::Key;
 /// Puts a row at a key, where there is room for it.
 fn put_in_room(rows: &mut NameTable<HeardRow>, key: Key, row: HeardRow)
     requires lower { HasLowerOwner key }
-    requires room { 1 ≤ room_at rows.old.nodes key.owner }
+    requires room { HasRoomFor (key ∷ []) rows.old.nodes }
     ensures rows { rows.new.rows ≡ put_row key row rows.old.rows }
-    ensures here { room_at rows.old.nodes key.owner ≤ room_at rows.new.nodes key.owner + 1 }
-    ensures others { (name : Labels) → is_eq (name_cmp name key.owner) ≡ false → room_at rows.old.nodes name ≤ room_at rows.new.nodes name }
+    ensures left { (others : List Key) → HasRoomFor (key ∷ others) rows.old.nodes → HasRoomFor others rows.new.nodes }
 {
     match rows.put(key, row) {
         Ok(_) => {}
@@ -109,8 +106,8 @@ fn same_end(before: Option<u64>, after: Option<u64>) -> bool
     }
 }
 
-/// Changes the moment of a key as a change of its row has it, where there is room for it. Nothing is moved where the row
-/// keeps its end.
+/// Changes the moment of a key as a change of its row has it, where there is room for it. Nothing is moved where the
+/// row keeps its end.
 fn change_end(
     ends: &mut Deadlines<EndKey>,
     rows: &NameTable<HeardRow>,

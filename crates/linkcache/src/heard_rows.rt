@@ -1,24 +1,27 @@
 //! What a hearing makes of rows (RFC 6762, 10 to 10.2).
 
-ghost use Rattle.std.specs.Prelude.{◌≡◌, ◌≤◌, ◌<◌, ◌+◌, ◌^◌, ◌&&◌, ◌==◌, true, not, cond, length, filter, fold, nat_lt, IfOk, OnOk, IsTrue};
+ghost use Rattle.std.specs.Prelude.{◌≡◌, ◌≤◌, ◌<◌, ◌+◌, ◌^◌, ◌&&◌, ◌==◌, [], true, not, cond, length, filter, fold, nat_lt, is_some, IfOk, OnOk, IsTrue};
 ghost use Rattle.std.specs.List.{list_any};
 ghost use Rattle.push_base.specs.Cases.{is_empty};
 ghost use Rattle.push_base.specs.Limits.{max_moment};
-ghost use Rattle.rrset.specs.KeyedRows.{is_rising};
+ghost use Rattle.rrset.specs.KeyedRows.{is_rising, row_at};
 ghost use Rattle.rrset.specs.RecordSet.{is_of_rrset};
 ghost use Rattle.rrset.specs.Tables.{HasLowerOwner, HaveLowerOwners};
 ghost use Rattle.reversemap.specs.BothKinds.{is_used};
+ghost use Rattle.linkcache.specs.Flushed.{AreFlushed, set_key};
 ghost use Rattle.linkcache.specs.Parts.{laid, with_flushed};
 ghost use Rattle.linkcache.specs.Rows.{second, ending_by, flushed_by, has_key, heard, heard_at, is_of_set, put_heard, ttl_of, usable_of};
 ghost use Rattle.linkcache.specs.Sound.{AreLinkRows};
+ghost use Rattle.linkcache.specs.Taking.{IsTaken};
 ghost use Rattle.linkcache.specs.declared.row.HeardRow.{HeardRow};
 
 use crate::kinds::usable;
 use crate::laying::{end_row, is_over, put_over};
-use crate::room::may_stand;
+use crate::room::{Taken, may_stand, taken_by};
 use crate::row::{HeardRow, SECOND, ended_by};
 use crate::rules::LinkRules;
 use nametable::NameTable;
+use push_base::Octets;
 use rrset::{Copied, HeardRr, Key, NoMemory, Rr, Table, counted_ttl};
 use std::alloc::Global;
 
@@ -49,21 +52,25 @@ fn put_heard(
     rows: &NameTable<HeardRow>,
     now: u64,
     over: &mut Table<HeardRow>,
+    taken: &mut Taken,
     heard: &HeardRr,
 ) -> Result<(), NoMemory>
     requires moment { now ≤ max_moment }
-    requires count { length rows.now.rows < 2 ^ 64 }
     requires order { IsTrue (is_rising rows.now.rows) }
     requires rows { AreLinkRows rules.now rows.now.rows }
     requires later { AreLinkRows rules.now (laid over.old.rows rows.now.rows) }
     requires usable { is_used rules.now.domain rules.now.reverses heard.now.rr ≡ true }
-    ensures { OnOk result (laid over.new.rows rows.now.rows ≡ put_heard rules.now now 0 (laid over.old.rows rows.now.rows) heard.now) }
+    requires taken { IsTaken rules.now (laid over.old.rows rows.now.rows) taken.old.rows taken.old.sizes.rows }
+    ensures rows { OnOk result (laid over.new.rows rows.now.rows ≡ put_heard rules.now now 0 (laid over.old.rows rows.now.rows) heard.now) }
+    ensures taken { OnOk result (IsTaken rules.now (laid over.new.rows rows.now.rows) taken.new.rows taken.new.sizes.rows) }
 {
     let key = heard.rr.key()?;
     if is_goodbye(heard) {
-        return end_row(rows, over, &key, now + SECOND);
+        end_row(rows, over, &key, now + SECOND)?;
+        return Ok(());
     }
-    if !may_stand(alloc, rules, rows, over, &key, &heard.rr)? {
+    let may = may_stand(alloc, rules, rows, over, taken, &key, heard)?;
+    if !may {
         return Ok(());
     }
     put_over(over, key, heard_at(now, heard)?)?;
@@ -83,12 +90,13 @@ fn put_usable(
     requires count { length rows.now.rows < 2 ^ 64 }
     requires order { IsTrue (is_rising rows.now.rows) }
     requires rows { AreLinkRows rules.now rows.now.rows }
-    requires later { AreLinkRows rules.now (laid over.old.rows rows.now.rows) }
+    requires none { over.old.rows ≡ [] }
     ensures { OnOk result (laid over.new.rows rows.now.rows ≡ fold (put_heard rules.now now 0) (laid over.old.rows rows.now.rows) (usable_of rules.now hearing.now)) }
 {
+    let mut taken = taken_by(alloc, rows);
     'hearing: for heard in hearing {
         if usable(rules, &heard.rr) {
-            put_heard(alloc, rules, rows, now, over, heard)?;
+            put_heard(alloc, rules, rows, now, over, &mut taken, heard)?;
         }
     }
     Ok(())
@@ -256,6 +264,53 @@ fn is_flushing(rules: &LinkRules, heard: &HeardRr) -> bool
     heard.flush && usable(rules, &heard.rr)
 }
 
+/// The key of a record's RRset, which has no rdata.
+fn set_key(alloc: Global, rr: &Rr) -> Result<Key, NoMemory>
+    ensures { IfOk result (λ key. key ≡ set_key rr.now) }
+{
+    Ok(Key {
+        owner: rr.owner.lower()?,
+        class: rr.class,
+        kind: rr.kind,
+        rdata: Octets::new(alloc),
+    })
+}
+
+/// Whether an RRset is among some.
+fn is_among(sets: &Table<()>, set: &Key) -> bool
+    ensures { result ≡ is_some (row_at set.now sets.now.rows) }
+{
+    match sets.get(set) {
+        Some(_) => true,
+        None => false,
+    }
+}
+
+/// Rows over those of a link, as the cache-flush bit of a record leaves both. Once its RRset was flushed nothing changes,
+/// so the rows of a set are looked at once, however many records of it are heard.
+fn flush_once(
+    alloc: Global,
+    rows: &NameTable<HeardRow>,
+    now: u64,
+    over: Table<HeardRow>,
+    sets: &mut Table<()>,
+    heard: &HeardRr,
+) -> Result<Table<HeardRow>, NoMemory>
+    requires moment { now ≤ max_moment }
+    requires order { IsTrue (is_rising rows.now.rows) }
+    requires lower { HaveLowerOwners rows.now.rows }
+    requires sets { AreFlushed now sets.old.rows (laid over.rows rows.now.rows) }
+    ensures rows { IfOk result (λ later. laid later.rows rows.now.rows ≡ flushed_by now (laid over.rows rows.now.rows) heard.now) }
+    ensures sets { IfOk result (λ later. AreFlushed now sets.new.rows (laid later.rows rows.now.rows)) }
+{
+    let set = set_key(alloc, &heard.rr)?;
+    if is_among(sets, &set) {
+        return Ok(over);
+    }
+    sets.put(set, ())?;
+    flush(alloc, rows, now, over, heard)
+}
+
 /// The second pass of a hearing: the cache-flush bit of each usable record.
 fn flush_all(
     alloc: Global,
@@ -270,9 +325,10 @@ fn flush_all(
     requires lower { HaveLowerOwners rows.now.rows }
     ensures { IfOk result (λ later. laid later.rows rows.now.rows ≡ fold (flushed_by now) (laid over.rows rows.now.rows) (filter (λ h. h.flush) (usable_of rules.now hearing.now))) }
 {
+    let mut sets = Table::new(alloc);
     'hearing: for heard in hearing {
         if is_flushing(rules, heard) {
-            over = flush(alloc, rows, now, over, heard)?;
+            over = flush_once(alloc, rows, now, over, &mut sets, heard)?;
         }
     }
     Ok(over)

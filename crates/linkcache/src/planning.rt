@@ -48,9 +48,9 @@ fn plan_over(
     plan_between(alloc, rules, usable, &before, over)
 }
 
-/// The plan of a hearing, with room for the rows that it puts. It looks at the records heard and the rows of their owners,
-/// and plans none but those that are heard or flushed.
-pub(crate) fn heard_plan(
+/// The plan of a hearing, with room for the rows that it puts. It looks at the records heard and the rows of their
+/// owners, and plans none but those that are heard or flushed.
+fn plan_of_hearing(
     alloc: Global,
     rules: &LinkRules,
     rows: &mut NameTable<HeardRow>,
@@ -69,6 +69,35 @@ pub(crate) fn heard_plan(
     }
     let over = heard(alloc, rules, rows, now, hearing)?;
     plan_over(alloc, rules, true, rows, &over)
+}
+
+/// Looks for the owners of records, so that what follows finds them sooner.
+fn look_for_all(rows: &mut NameTable<HeardRow>, hearing: &[HeardRr])
+    ensures { rows.new ≡ rows.old }
+{
+    'hearing: for heard in hearing {
+        rows.look_for(&heard.rr.owner);
+    }
+}
+
+/// The plan of a hearing, with room for the rows that it puts. The owners of the records are looked for once before:
+/// each block remembers the last, as most hearings are of one owner.
+pub(crate) fn heard_plan(
+    alloc: Global,
+    rules: &LinkRules,
+    rows: &mut NameTable<HeardRow>,
+    now: u64,
+    hearing: &[HeardRr],
+) -> Result<HearPlan, NoMemory>
+    requires moment { now ≤ max_moment }
+    requires link { IsLink (record { rules = rules.now; rows = rows.old.rows }) }
+    ensures plan { IfOk result (IsHeardPlan rules.now rows.old.rows now hearing.now) }
+    ensures rows { rows.new.rows ≡ rows.old.rows }
+    ensures room { IfOk result (λ plan. HasRoomFor (keys_put plan.rows) rows.new.nodes) }
+    ensures kept { (name : Labels) → room_at rows.old.nodes name ≤ room_at rows.new.nodes name }
+{
+    look_for_all(rows, hearing);
+    plan_of_hearing(alloc, rules, rows, now, hearing)
 }
 
 /// Whether the least moment has come.

@@ -1,26 +1,27 @@
 //! Room for rows of a link: how many there may be, and how many octets of an owner.
 
-ghost use Rattle.std.specs.Prelude.{◌≡◌, ◌≤◌, ◌<◌, ◌+◌, ◌^◌, ◌||◌, ◌==◌, true, not, length, sum_by, nat_le, nat_lt, is_some, IfOk, IsTrue};
+ghost use Rattle.std.specs.Prelude.{◌≡◌, ◌<◌, ◌+◌, ◌^◌, ◌||◌, true, false, length, sum_by, nat_le, IfOk, IfSome, IsTrue};
 ghost use Rattle.push_base.specs.Limits.{max_octets_at_name};
-ghost use Rattle.rrset.specs.KeyedRows.{is_rising, only_rows, row_at};
-ghost use Rattle.rrset.specs.Kinds.{a_kind, aaaa_kind};
-ghost use Rattle.rrset.specs.Records.{rr_size};
+ghost use Rattle.rrset.specs.KeyedRows.{is_rising, row_at};
+ghost use Rattle.rrset.specs.Records.{key_of, rr_size};
 ghost use Rattle.rrset.specs.Tables.{counted};
 ghost use Rattle.linkmap.specs.Translation.{local, renamed_rr};
 ghost use Rattle.reversemap.specs.BothKinds.{is_used};
 ghost use Rattle.linkcache.specs.Parts.{laid};
-ghost use Rattle.linkcache.specs.Rows.{max_rows, has_key, row_has_room, rr_of_row, size_under};
+ghost use Rattle.linkcache.specs.Rows.{has_key, row_has_room, rr_of_row, size_under};
 ghost use Rattle.linkcache.specs.Sound.{AreLinkRows, IsLinkRow};
+ghost use Rattle.linkcache.specs.Taking.{IsTaken, IsTakenBy, owner_key};
+ghost use Rattle.linkcache.specs.declared.rules.LinkRules.{LinkRules};
 
 use crate::kinds::translated_size;
 use crate::laying::{has, new_rows};
-use crate::row::{HeardRow, MAX_ROWS, octets_of, record_of};
+use crate::row::{HeardRow, MAX_ROWS, record_of};
 use crate::rules::LinkRules;
 use dnsname::Name;
 use nametable::NameTable;
+use push_base::Octets;
 use push_base::limits::MAX_OCTETS_AT_NAME;
-use rrset::kinds::{A, AAAA};
-use rrset::{Key, NoMemory, Rr, Table};
+use rrset::{HeardRr, Key, NoMemory, Table};
 use std::alloc::Global;
 
 /// The octets of a row's record under the domain.
@@ -44,47 +45,6 @@ fn size_under(alloc: Global, rules: &LinkRules, rows: &[(Key, HeardRow)]) -> Res
     Ok(size)
 }
 
-/// Whether a link has few enough rows for one more, some here and the others elsewhere.
-fn are_few(rows: usize, others: usize) -> bool
-    ensures { result ≡ nat_lt (rows + others) max_rows }
-{
-    rows < MAX_ROWS && others < MAX_ROWS - rows
-}
-
-/// Whether a link doesn't have the key of a row.
-fn is_new(rows: &NameTable<HeardRow>, entry: &(Key, HeardRow)) -> bool
-    ensures { result ≡ not (is_some (row_at entry.now.0 rows.now.rows)) }
-{
-    match rows.get(&entry.0) {
-        Some(_) => false,
-        None => true,
-    }
-}
-
-/// How many of some rows have keys that a link doesn't have.
-fn count_new(rows: &NameTable<HeardRow>, entries: &[(Key, HeardRow)]) -> usize
-    ensures { result ≡ length (only_rows (λ key. not (is_some (row_at key rows.now.rows))) entries.now) }
-{
-    entries.iter().filter(|entry| is_new(rows, entry)).count()
-}
-
-/// Whether a link has few enough rows for one more, with those over it. Where it is full they aren't looked at.
-fn has_few(rows: &NameTable<HeardRow>, over: &Table<HeardRow>) -> bool
-    requires count { length rows.now.rows < 2 ^ 64 }
-    requires order { IsTrue (is_rising rows.now.rows) }
-    ensures { result ≡ nat_lt (length (laid over.now.rows rows.now.rows) + 0) max_rows }
-{
-    let there = rows.len();
-    let entries = over.entries();
-    if are_few(there, entries.len()) {
-        return true;
-    }
-    if there >= MAX_ROWS {
-        return false;
-    }
-    are_few(there, count_new(rows, entries))
-}
-
 /// The octets of an owner's records under the domain, of a link's and of those over them.
 fn size_at(
     alloc: Global,
@@ -105,63 +65,6 @@ fn size_at(
     Ok(there.saturating_add(added))
 }
 
-/// Whether rdata of a kind is an address, in which no name stands.
-fn is_address(kind: u16) -> bool
-    ensures { result ≡ (kind == a_kind || kind == aaaa_kind) }
-{
-    kind == A || kind == AAAA
-}
-
-/// The most octets that the record of an address may have under the domain, by which its owner grows at most.
-fn most_of_address(rules: &LinkRules, key: &Key, row: &HeardRow) -> u64
-    requires { (key.now.kind == a_kind || key.now.kind == aaaa_kind) ≡ true }
-    ensures { counted (rr_size (renamed_rr local rules.now.domain (rr_of_row (key.now, row.now)))) ≤ result }
-{
-    octets_of(&row.shown).saturating_add(rules.domain.octets().len() as u64)
-}
-
-/// The most octets that a row's record may have under the domain. Of an address no name is made.
-fn most_of_row(alloc: Global, rules: &LinkRules, key: &Key, row: &HeardRow) -> Result<u64, NoMemory>
-    requires { IsLinkRow rules.now (key.now, row.now) }
-    ensures { IfOk result (λ size. counted (rr_size (renamed_rr local rules.now.domain (rr_of_row (key.now, row.now)))) ≤ size) }
-{
-    if is_address(key.kind) {
-        return Ok(most_of_address(rules, key, row));
-    }
-    size_of_row(alloc, rules, key, row)
-}
-
-/// The most octets that some rows' records may have under the domain.
-fn most_under(alloc: Global, rules: &LinkRules, rows: &[(Key, HeardRow)]) -> Result<u64, NoMemory>
-    requires { AreLinkRows rules.now rows.now }
-    ensures { IfOk result (λ size. counted (sum_by (λ row. rr_size (renamed_rr local rules.now.domain (rr_of_row row))) rows.now) ≤ size) }
-{
-    let mut size: u64 = 0;
-    'rows: for (key, row) in rows {
-        size = size.saturating_add(most_of_row(alloc, rules, key, row)?);
-    }
-    Ok(size)
-}
-
-/// The most octets that an owner's records may have under the domain, a link's and those over them.
-fn most_at(
-    alloc: Global,
-    rules: &LinkRules,
-    rows: &NameTable<HeardRow>,
-    over: &Table<HeardRow>,
-    owner: &Name,
-) -> Result<u64, NoMemory>
-    requires order { IsTrue (is_rising rows.now.rows) }
-    requires rows { AreLinkRows rules.now rows.now.rows }
-    requires later { AreLinkRows rules.now (laid over.now.rows rows.now.rows) }
-    ensures { IfOk result (λ size. counted (size_under rules.now owner.now (laid over.now.rows rows.now.rows)) ≤ size) }
-{
-    let _ = over.entries();
-    let there = most_under(alloc, rules, rows.at(owner))?;
-    let added = most_under(alloc, rules, over.at(owner))?;
-    Ok(there.saturating_add(added))
-}
-
 /// Whether an owner may have so many octets, and so many more.
 fn fits(taken: u64, added: u64) -> bool
     ensures { result ≡ nat_le (taken + added) max_octets_at_name }
@@ -169,52 +72,123 @@ fn fits(taken: u64, added: u64) -> bool
     taken.saturating_add(added) <= MAX_OCTETS_AT_NAME
 }
 
-/// Whether a record has room beside the rows of a link and those over them.
-fn row_has_room(
+/// The key under which the octets of an owner are kept.
+fn owner_key(alloc: Global, owner: &Name) -> Result<Key, NoMemory>
+    ensures { IfOk result (λ key. key ≡ owner_key owner.now) }
+{
+    Ok(Key {
+        owner: owner.lower()?,
+        class: 0,
+        kind: 0,
+        rdata: Octets::new(alloc),
+    })
+}
+
+/// What a link's rows and those over them take: how many they are, and how many octets the owners have that were asked
+/// for.
+#[derive(Debug, Drop)]
+pub(crate) struct Taken {
+    pub(crate) rows: usize,
+    pub(crate) sizes: Table<u64>,
+}
+
+/// What a link's rows take, with none over them.
+pub(crate) fn taken_by(alloc: Global, rows: &NameTable<HeardRow>) -> Taken
+    requires { length rows.now.rows < 2 ^ 64 }
+    ensures { (rules : LinkRules) → IsTaken rules rows.now.rows result.rows result.sizes.rows }
+{
+    Taken {
+        rows: rows.len(),
+        sizes: Table::new(alloc),
+    }
+}
+
+/// The octets of an owner's records under the domain, of a link's and of those over them. They are counted where they
+/// aren't kept.
+fn size_of_owner(
     alloc: Global,
     rules: &LinkRules,
     rows: &NameTable<HeardRow>,
     over: &Table<HeardRow>,
-    rr: &Rr,
-) -> Result<bool, NoMemory>
-    requires count { length rows.now.rows < 2 ^ 64 }
+    sizes: &Table<u64>,
+    key: &Key,
+    owner: &Name,
+) -> Result<u64, NoMemory>
     requires order { IsTrue (is_rising rows.now.rows) }
     requires rows { AreLinkRows rules.now rows.now.rows }
     requires later { AreLinkRows rules.now (laid over.now.rows rows.now.rows) }
-    requires usable { is_used rules.now.domain rules.now.reverses rr.now ≡ true }
-    ensures { IfOk result (λ room. room ≡ row_has_room rules.now 0 (laid over.now.rows rows.now.rows) rr.now) }
+    requires kept { IfSome (row_at key.now sizes.now.rows) (λ size. size ≡ counted (size_under rules.now owner.now (laid over.now.rows rows.now.rows))) }
+    ensures { IfOk result (λ size. size ≡ counted (size_under rules.now owner.now (laid over.now.rows rows.now.rows))) }
 {
-    if !has_few(rows, over) {
-        return Ok(false);
+    match sizes.get(key) {
+        Some(size) => Ok(*size),
+        None => size_at(alloc, rules, rows, over, owner),
     }
-    let added = translated_size(alloc, rules, rr)?;
-    let most = most_at(alloc, rules, rows, over, &rr.owner)?;
-    if fits(most, added) {
-        return Ok(true);
-    }
-    let taken = size_at(alloc, rules, rows, over, &rr.owner)?;
-    Ok(fits(taken, added))
 }
 
-/// Whether a record may stand: there is a row of it, or room for one.
+/// Takes room for a record that isn't there beside the rows of a link and those over them, and says whether there is. The
+/// octets of its owner are kept, so they are counted once in a hearing.
+fn take_room(
+    alloc: Global,
+    rules: &LinkRules,
+    rows: &NameTable<HeardRow>,
+    over: &Table<HeardRow>,
+    taken: &mut Taken,
+    heard: &HeardRr,
+) -> Result<bool, NoMemory>
+    requires order { IsTrue (is_rising rows.now.rows) }
+    requires rows { AreLinkRows rules.now rows.now.rows }
+    requires later { AreLinkRows rules.now (laid over.now.rows rows.now.rows) }
+    requires usable { is_used rules.now.domain rules.now.reverses heard.now.rr ≡ true }
+    requires absent { has_key (key_of heard.now.rr) (laid over.now.rows rows.now.rows) ≡ false }
+    requires taken { IsTaken rules.now (laid over.now.rows rows.now.rows) taken.old.rows taken.old.sizes.rows }
+    ensures room { IfOk result (λ room. room ≡ row_has_room rules.now 0 (laid over.now.rows rows.now.rows) heard.now.rr) }
+    ensures taken { IfOk result (λ room. IsTakenBy room rules.now (laid over.now.rows rows.now.rows) heard.now taken.new.rows taken.new.sizes.rows) }
+{
+    if taken.rows >= MAX_ROWS {
+        return Ok(false);
+    }
+    let added = translated_size(alloc, rules, &heard.rr)?;
+    let owner = owner_key(alloc, &heard.rr.owner)?;
+    let size = size_of_owner(
+        alloc,
+        rules,
+        rows,
+        over,
+        &taken.sizes,
+        &owner,
+        &heard.rr.owner,
+    )?;
+    if !fits(size, added) {
+        taken.sizes.put(owner, size)?;
+        return Ok(false);
+    }
+    taken.sizes.put(owner, size.saturating_add(added))?;
+    taken.rows += 1;
+    Ok(true)
+}
+
+/// Whether a record may stand: there is a row of it, or room for one, which is taken then.
 pub(crate) fn may_stand(
     alloc: Global,
     rules: &LinkRules,
     rows: &NameTable<HeardRow>,
     over: &Table<HeardRow>,
+    taken: &mut Taken,
     key: &Key,
-    rr: &Rr,
+    heard: &HeardRr,
 ) -> Result<bool, NoMemory>
-    requires count { length rows.now.rows < 2 ^ 64 }
     requires order { IsTrue (is_rising rows.now.rows) }
     requires rows { AreLinkRows rules.now rows.now.rows }
     requires later { AreLinkRows rules.now (laid over.now.rows rows.now.rows) }
-    requires usable { is_used rules.now.domain rules.now.reverses rr.now ≡ true }
-    ensures { IfOk result (λ may. may ≡ (has_key key.now (laid over.now.rows rows.now.rows) || row_has_room rules.now 0 (laid over.now.rows rows.now.rows) rr.now)) }
+    requires usable { is_used rules.now.domain rules.now.reverses heard.now.rr ≡ true }
+    requires key { key.now ≡ key_of heard.now.rr }
+    requires taken { IsTaken rules.now (laid over.now.rows rows.now.rows) taken.old.rows taken.old.sizes.rows }
+    ensures may { IfOk result (λ may. may ≡ (has_key key.now (laid over.now.rows rows.now.rows) || row_has_room rules.now 0 (laid over.now.rows rows.now.rows) heard.now.rr)) }
+    ensures taken { IfOk result (λ may. IsTakenBy may rules.now (laid over.now.rows rows.now.rows) heard.now taken.new.rows taken.new.sizes.rows) }
 {
     if has(rows, over, key) {
-        Ok(true)
-    } else {
-        row_has_room(alloc, rules, rows, over, rr)
+        return Ok(true);
     }
+    take_room(alloc, rules, rows, over, taken, heard)
 }

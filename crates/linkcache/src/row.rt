@@ -1,10 +1,9 @@
 //! What was heard of a record (RFC 6762, 10).
 
-ghost use Rattle.std.specs.Prelude.{◌≡◌, ◌+◌, length, min, IfOk};
-ghost use Rattle.dnsname.specs.Names.{octets};
+ghost use Rattle.std.specs.Prelude.{◌≡◌, min, IfOk};
 ghost use Rattle.linkcache.specs.Rows.{rr_of_row};
 
-use rrset::{Copied, FIXED_FIELDS, Key, NoMemory, Rr, Shown};
+use rrset::{Copied, Key, NoMemory, Rr, Shown};
 
 /// The most rows of a link (this project's own).
 pub const MAX_ROWS: usize = 16_384;
@@ -56,13 +55,4 @@ pub(crate) fn record_of(key: &Key, row: &HeardRow) -> Result<Rr, NoMemory>
         ttl: shown.ttl,
         rdata: shown.rdata,
     })
-}
-
-/// The octets of a record that is shown so, without pointers (RFC 1035, 3.2.1).
-pub(crate) fn octets_of(shown: &Shown) -> u64
-    ensures { result ≡ length (octets shown.now.owner) + 10 + length shown.now.rdata }
-{
-    let owner = shown.owner.octets().len() as u64;
-    let rdata = shown.rdata.as_slice().len() as u64;
-    owner + FIXED_FIELDS + rdata
 }

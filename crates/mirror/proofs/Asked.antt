@@ -20,7 +20,7 @@ use Rattle.dsotlv.specs.Notices.{added_by, applied, applied_all, removed_by}
 use Rattle.dsotlv.specs.declared.message.Notice.{Notice}
 use Rattle.dsotlv.specs.declared.message.Notice.TheVariants.{Add, RemoveOne, RemoveSet, RemoveClass, RemoveAll, Odd}
 use Rattle.mirror.specs.Held.{Held, AsksFor, AreAsked, applied_to, begun, ended, is_of}
-use Rattle.mirror.specs.Changes.{owner_of}
+use Rattle.mirror.specs.Changes.{asks_for, owner_of}
 
 -- ---- keys for which a question asks
 
@@ -55,11 +55,16 @@ other_owner question owner key other asked = by (same_name owner key.owner) refl
         absurd cc
     by false is = refl
 
+-- a record tells without its key whether a question asks for that
+pub by_its_key : (question : Question) (rr : Rr) → matches question (key_of rr) ≡ asks_for question rr
+by_its_key question rr =
+    ap (λ (b : Bool). b && (question.kind == rr.kind || question.kind == any_kind) && (question.class == rr.class || question.class == any_class))
+    (ap (λ (l : Labels). bytes_eq (octets (lower question.name)) (octets l)) (lower-twice rr.owner))
+
 -- a record of another owner has no such key
 pub unmatched : (question : Question) (rr : Rr) → same_name question.name rr.owner ≡ false → matches question (key_of rr) ≡ false
 unmatched question rr other =
-    ap (λ (b : Bool). b && (question.kind == rr.kind || question.kind == any_kind) && (question.class == rr.class || question.class == any_class))
-    (ap (λ (l : Labels). bytes_eq (octets (lower question.name)) (octets l)) (lower-twice rr.owner) ∙ other)
+    by_its_key question rr ∙ ap (λ (b : Bool). b && (question.kind == rr.kind || question.kind == any_kind) && (question.class == rr.class || question.class == any_class)) other
 
 -- ---- what doesn't concern a set
 

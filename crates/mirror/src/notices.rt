@@ -1,31 +1,31 @@
 //! What notices do to sets (RFC 8765, 6.3.1).
 
-ghost use Rattle.std.specs.Prelude.{◌≡◌, ◌≤◌, ◌+◌, fold, IfOk, OnOk, OnErr};
+ghost use Rattle.std.specs.Prelude.{◌≡◌, ◌≤◌, ◌+◌, IfOk, OnOk, OnErr};
+ghost use Rattle.std.specs.List.{AllByRecursion};
+ghost use Rattle.std.specs.Vec.Iter.{into_iter_items};
 ghost use Rattle.dsotlv.specs.Notices.{removed_by};
 ghost use Rattle.dsotlv.specs.declared.message.Notice.TheVariants as notices;
 ghost use Rattle.rrset.specs.Records.{shown_of};
 ghost use Rattle.rrset.specs.RecordSet.{without};
 ghost use Rattle.mirror.specs.Held.{AreAsked, applied_to, held_of};
-ghost use Rattle.mirror.specs.Changes.{change_here, change_of, changed, changes_of, is_change, is_put, owner_of, room_for, room_of, Fits};
-ghost use Rattle.std.specs.List.{AllByRecursion};
+ghost use Rattle.mirror.specs.Changes.{asks_for, change_of, changed, changes_of, has_change, is_put, owner_of, remains};
+ghost use Rattle.mirror.specs.Changes.{behind, left_of, performed, room_for, room_of, Fits};
 
 use crate::NoMemory;
 use dnsname::Name;
 use dsotlv::Notice;
 use push_base::Octets;
+use rrset::kinds::ANY;
 use rrset::record::{Key, Question, Rr, Shown};
-use rrset::{Table, matches};
+use rrset::{Table, classes};
 use std::alloc::Global;
+use std::vec::IntoIter;
 
-/// What a notice changes in a set, with all the memory that this takes.
+/// What a notice changes in a set by a key, with all the memory that this takes. No other notice takes memory.
 #[derive(Drop)]
 pub(crate) enum Change {
     Put(Key, Shown),
     Take(Key),
-    TakeSet(Name, u16, u16),
-    TakeClass(Name, u16),
-    TakeAll(Name),
-    Nothing,
 }
 
 /// What is shown of a record, as a value of its own.
@@ -39,28 +39,82 @@ fn shown_of(rr: &Rr) -> Result<Shown, NoMemory>
     })
 }
 
-/// What adding a record of the question's name changes in its set.
-fn addition(question: &Question, rr: &Rr) -> Result<Change, NoMemory>
-    ensures { IfOk result (λ change. change ≡ change_here question.now (notices.Add rr.now)) }
+/// Whether a question asks for the key of a record, told without the key.
+fn asks_for(question: &Question, rr: &Rr) -> bool
+    ensures { result ≡ asks_for question.now rr.now }
 {
-    let key = rr.key()?;
-    if !matches(question, &key) {
-        return Ok(Change::Nothing);
-    }
-    let shown = shown_of(rr)?;
-    Ok(Change::Put(key, shown))
+    question.name.same(&rr.owner)
+        && (question.kind == rr.kind || question.kind == ANY)
+        && (question.class == rr.class || question.class == classes::ANY)
 }
 
-/// What taking out a record of the question's name changes in its set, which has no key for which the question doesn't
-/// ask.
-fn removal(question: &Question, rr: &Rr) -> Result<Change, NoMemory>
-    ensures { IfOk result (λ change. change ≡ change_here question.now (notices.RemoveOne rr.now)) }
+/// What adding a record changes in the set of a question.
+fn addition(question: &Question, rr: &Rr) -> Result<Option<Change>, NoMemory>
+    ensures { IfOk result (λ change. change ≡ change_of question.now (notices.Add rr.now)) }
 {
-    let key = rr.key()?;
-    if !matches(question, &key) {
-        return Ok(Change::Nothing);
+    if !asks_for(question, rr) {
+        return Ok(None);
     }
-    Ok(Change::Take(key))
+    let key = rr.key()?;
+    let shown = shown_of(rr)?;
+    Ok(Some(Change::Put(key, shown)))
+}
+
+/// What taking out a record changes in the set of a question, which has no key for which the question doesn't ask.
+fn removal(question: &Question, rr: &Rr) -> Result<Option<Change>, NoMemory>
+    ensures { IfOk result (λ change. change ≡ change_of question.now (notices.RemoveOne rr.now)) }
+{
+    if !asks_for(question, rr) {
+        return Ok(None);
+    }
+    let key = rr.key()?;
+    Ok(Some(Change::Take(key)))
+}
+
+/// What a notice changes by a key in the set of a question: a key is one for which at most four questions ask. What
+/// else a notice takes out is found without memory.
+fn change_of(question: &Question, notice: &Notice) -> Result<Option<Change>, NoMemory>
+    ensures { IfOk result (λ change. change ≡ change_of question.now notice.now) }
+{
+    match notice {
+        Notice::Add(rr) => addition(question, rr),
+        Notice::RemoveOne(rr) => removal(question, rr),
+        Notice::RemoveSet(_, _, _)
+        | Notice::RemoveClass(_, _)
+        | Notice::RemoveAll(_)
+        | Notice::Odd(_, _) => Ok(None),
+    }
+}
+
+/// Whether a notice changes something by a key in the set of a question.
+fn has_change(question: &Question, notice: &Notice) -> bool
+    ensures { result ≡ has_change question.now notice.now }
+{
+    match notice {
+        Notice::Add(rr) | Notice::RemoveOne(rr) => asks_for(question, rr),
+        Notice::RemoveSet(_, _, _)
+        | Notice::RemoveClass(_, _)
+        | Notice::RemoveAll(_)
+        | Notice::Odd(_, _) => false,
+    }
+}
+
+/// What notices change by keys in the set of a question, in order.
+fn changes_of(
+    alloc: Global,
+    question: &Question,
+    notices: &[Notice],
+) -> Result<Vec<Change>, NoMemory>
+    ensures { IfOk result (λ changes. changes.items ≡ changes_of question.now notices.now) }
+{
+    let mut changes = Vec::new(alloc);
+    'notices: for notice in notices {
+        match change_of(question, notice)? {
+            Some(change) => changes.push(change)?,
+            None => {}
+        }
+    }
+    Ok(changes)
 }
 
 /// Takes out the records of an owner, class and kind.
@@ -100,57 +154,21 @@ fn owner_of(notice: &Notice) -> &Name
     }
 }
 
-/// What a notice whose owner is the question's name changes in its set.
-fn change_here(question: &Question, notice: &Notice) -> Result<Change, NoMemory>
-    ensures { IfOk result (λ change. change ≡ change_here question.now notice.now) }
-{
-    match notice {
-        Notice::Add(rr) => addition(question, rr),
-        Notice::RemoveOne(rr) => removal(question, rr),
-        Notice::RemoveSet(owner, class, kind) => {
-            Ok(Change::TakeSet(owner.copy()?, *class, *kind))
-        }
-        Notice::RemoveClass(owner, class) => Ok(Change::TakeClass(owner.copy()?, *class)),
-        Notice::RemoveAll(owner) => Ok(Change::TakeAll(owner.copy()?)),
-        Notice::Odd(_, _) => Ok(Change::Nothing),
-    }
-}
-
-/// What a notice changes in the set of a question. Most notices of a message are of other names than most questions:
-/// such a one takes no memory.
-fn change_of(question: &Question, notice: &Notice) -> Result<Change, NoMemory>
-    ensures { IfOk result (λ change. change ≡ change_of question.now notice.now) }
+/// Takes out what a notice removes but by a key, from the set of a question. Most notices of a message are of other
+/// names than most questions: such a one doesn't look at the set.
+fn remove(set: &mut Table, question: &Question, notice: &Notice)
+    ensures rows { set.new.rows ≡ remains question.now notice.now set.old.rows }
+    ensures room { set.old.spare ≤ set.new.spare }
 {
     if !question.name.same(owner_of(notice)) {
-        return Ok(Change::Nothing);
+        return;
     }
-    change_here(question, notice)
-}
-
-/// Whether a change changes anything.
-fn is_change(change: &Change) -> bool
-    ensures { result ≡ is_change change.now }
-{
-    !matches!(change, Change::Nothing)
-}
-
-/// What notices change in the set of a question, in order. Those that change nothing are left out, as the changes of
-/// all questions are there at once.
-fn changes_of(
-    alloc: Global,
-    question: &Question,
-    notices: &[Notice],
-) -> Result<Vec<Change>, NoMemory>
-    ensures { IfOk result (λ changes. changes.items ≡ changes_of question.now notices.now) }
-{
-    let mut changes = Vec::new(alloc);
-    'notices: for notice in notices {
-        let change = change_of(question, notice)?;
-        if is_change(&change) {
-            changes.push(change)?;
-        }
+    match notice {
+        Notice::RemoveSet(owner, class, kind) => remove_set(set, owner, *class, *kind),
+        Notice::RemoveClass(owner, class) => remove_class(set, owner, *class),
+        Notice::RemoveAll(owner) => remove_all(set, owner),
+        Notice::Add(_) | Notice::RemoveOne(_) | Notice::Odd(_, _) => {}
     }
-    Ok(changes)
 }
 
 /// Whether a change puts a key.
@@ -174,7 +192,7 @@ fn room_for(changes: &[Change]) -> usize
 }
 
 /// Makes a change, in a set that has room for it.
-fn perform(set: &mut Table, change: Change)
+fn make(set: &mut Table, change: Change)
     requires room { room_of change ≤ set.old.spare }
     requires fits { Fits change }
     ensures rows { set.new.rows ≡ changed set.old.rows change }
@@ -189,26 +207,44 @@ fn perform(set: &mut Table, change: Change)
         Change::Take(key) => {
             set.remove(&key);
         }
-        Change::TakeSet(owner, class, kind) => remove_set(set, &owner, class, kind),
-        Change::TakeClass(owner, class) => remove_class(set, &owner, class),
-        Change::TakeAll(owner) => remove_all(set, &owner),
-        Change::Nothing => {}
     }
 }
 
-/// Makes all changes, in a set that has room for them.
-fn perform_all(set: &mut Table, changes: Vec<Change>)
+/// Does what a notice says in the set of a question: by the first change that is ready where it changes something by a
+/// key. The set has room for all changes that are ready.
+fn perform(set: &mut Table, question: &Question, notice: &Notice, ready: &mut IntoIter<Change>)
+    requires room { room_for (into_iter_items ready.old) ≤ set.old.spare }
+    requires fits { AllByRecursion Fits (into_iter_items ready.old) }
+    ensures rows { set.new.rows ≡ behind question.now notice.now (into_iter_items ready.old) set.old.rows }
+    ensures left { into_iter_items ready.new ≡ left_of question.now notice.now (into_iter_items ready.old) }
+    ensures room { room_for (into_iter_items ready.new) ≤ set.new.spare }
+    ensures fits { AllByRecursion Fits (into_iter_items ready.new) }
+{
+    if !has_change(question, notice) {
+        remove(set, question, notice);
+        return;
+    }
+    match ready.next() {
+        Some(change) => make(set, change),
+        None => {}
+    }
+}
+
+/// Does what all notices say in the set of a question, which has room for the changes that are made ready.
+fn perform_all(set: &mut Table, question: &Question, notices: &[Notice], changes: Vec<Change>)
     requires room { room_for changes.items ≤ set.old.spare }
     requires fits { AllByRecursion Fits changes.items }
-    ensures { set.new.rows ≡ fold changed set.old.rows changes.items }
+    ensures { set.new.rows ≡ performed question.now notices.now changes.items set.old.rows }
 {
-    'changes: for change in changes {
-        perform(set, change);
+    let mut ready = changes.into_iter();
+    'notices: for notice in notices {
+        perform(set, question, notice, &mut ready);
     }
 }
 
 /// Does to each set what notices say, in order. All memory is taken before any set changes: for each question as much
-/// as the notices that concern it, and room for the keys that they put.
+/// as the notices that change something by a key, of which a notice is one for at most four questions, and room for the
+/// keys that they put. It calls itself once for each question, of which a session has at most `MAX_QUESTIONS`.
 pub(crate) fn apply_all(
     alloc: Global,
     entries: &mut [(Question, Table)],
@@ -224,6 +260,6 @@ pub(crate) fn apply_all(
     let changes = changes_of(alloc, &first.0, notices)?;
     first.1.reserve(room_for(&changes))?;
     apply_all(alloc, rest, notices)?;
-    perform_all(&mut first.1, changes);
+    perform_all(&mut first.1, &first.0, notices, changes);
     Ok(())
 }

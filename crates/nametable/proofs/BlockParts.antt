@@ -234,6 +234,11 @@ module _ {X : Type 0} where
       ]);
       here = let was = room_here in let now = ap spare_of (table-between key.owner before new behind less greater) in let step = takes.here in omega (arith, was, now, step);
       others = λ name unlike. room-between name before here new behind sorted_back (takes.others name unlike);
+      kept = λ there.
+          let more = takes.kept (subst (λ (o : Option X). IsTrue (is_some o)) shown there) in
+          let was = room_here in
+          let now = ap spare_of (table-between key.owner before new behind less greater) in
+          omega (arith, was, now, more);
     }
       where
         room_here : room_at (before ++ (here ++ behind)) key.owner ≡ room_at here key.owner
@@ -265,6 +270,11 @@ module _ {X : Type 0} where
           ∙ sym (without-between key_cmp key (all_rows before) (all_rows here) (all_rows behind) keys_before keys_behind)
           ∙ ap (without_rows (same_key key)) (sym (all_rows-between before here behind));
       room = λ name. room-between name before here new behind sorted_back (drops.room name);
+      freed = λ there.
+          let more = drops.freed (subst (λ (o : Option X). IsTrue (is_some o)) shown there) in
+          let was = ap spare_of (table-between key.owner before here behind less greater) in
+          let now = ap spare_of (table-between key.owner before new behind less greater) in
+          omega (arith, was, now, more);
     }
 
   pub keeps_between : (name : Labels) (before here new behind : Nodes X) → AreNodes (before ++ (here ++ behind)) → AreLess name before → AreGreater name behind → AddsNoOther name here new

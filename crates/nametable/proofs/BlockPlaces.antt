@@ -1,5 +1,5 @@
 -- Tables by name: the block of a name, and all nodes after a change of it.
-use Rattle.std.proofs.Common.{◌≡◌, ℕ, zero, suc, ◌+◌, ◌-◌, ◌%◌, ◌^◌, ◌≤◌, ◌<◌, true, false, T, [], ◌∷◌, ◌++◌, length, get_or, set, take, drop, Option, Result, Ordering, Less, Equal, Greater, refl, sym, ap, subst, ◌∙◌, arith}
+use Rattle.std.proofs.Common.{◌≡◌, ℕ, zero, suc, ◌+◌, ◌-◌, ◌%◌, ◌^◌, ◌≤◌, ◌<◌, Bool, true, false, T, [], ◌∷◌, ◌++◌, length, get_or, set, take, drop, Option, Result, Ordering, Less, Equal, Greater, refl, sym, ap, subst, ◌∙◌, arith}
 use Rattle.std.proofs.lemmas.List.{append_assoc}
 use Rattle.std.specs.Ordering.{is_lt, is_le, ordering_reverse}
 use Rattle.std.specs.List.{AllWithin, insert}
@@ -8,10 +8,11 @@ use Rattle.std.specs.FinMap.Entries.{below_all, is_sorted}
 use Rattle.dnsname.specs.Names.{Labels}
 use Rattle.rrset.specs.declared.record.Key.{Key}
 use Rattle.rrset.proofs.Places.{and_left, and_right}
-use Rattle.nametable.specs.Nodes.{Node, Nodes, name_cmp, table_at, room_at, spare_of, AreNodes, names_in}
-use Rattle.nametable.specs.Blocks.{Blocks, nodes_in, AreFilled, AreBlocks, begins_by, AreLess, AreGreater, HaveNames, IsBlockOf, AddsNoOther}
+use Rattle.rrset.specs.KeyedRows.{row_at}
+use Rattle.nametable.specs.Nodes.{Node, Nodes, all_rows, name_cmp, table_at, room_at, spare_of, AreNodes, names_in}
+use Rattle.nametable.specs.Blocks.{Blocks, nodes_in, AreFilled, AreBlocks, begins_by, AreLess, AreGreater, HaveNames, IsBehind, IsBlockOf, AddsNoOther}
 use Rattle.nametable.proofs.RisingRows.{is_T}
-use Rattle.nametable.proofs.AllRows.{name_cmp_total, same_names}
+use Rattle.nametable.proofs.AllRows.{name_cmp_total, row_at-all_rows, same_names, value_in}
 use Rattle.nametable.proofs.NodeChanges.{TakesKey, DropsKey, KeepsRows}
 use Rattle.nametable.proofs.Between.{all-append, all-back}
 use Rattle.nametable.proofs.BlockParts.{below-front, below-back, sorted-back, apart, nodes-front, nodes-back, table-between, names-between, takes_between, drops_between, keeps_between}
@@ -35,6 +36,10 @@ greater_from : (a b c : Labels) → name_cmp a c ≡ Greater → name_cmp a b �
 greater_from a b c h g =
     let turned : name_cmp c a ≡ Less = name_cmp_total.antisymm c a ∙ ap ordering_reverse h in
     name_cmp_total.antisymm b c ∙ ap ordering_reverse (name_cmp_total.trans c a b turned g)
+
+not-true : (b : Bool) → (b ≡ true → false ≡ true) → b ≡ false
+not-true false h = refl
+not-true true h = sym (h refl)
 
 module _ {X : Type 0} where
   -- ---- the block of a name
@@ -108,6 +113,21 @@ module _ {X : Type 0} where
         behind = greater-behind name bs (suc count) (is_T _ are.0.0) are.1 parted.1;
       })
 
+  -- where one block begins behind a name, all behind it do
+  behind-all : (name : Labels) (bs : Blocks X) (place : ℕ) → AreBlocks bs → IsBehind name bs (suc place) → AllWithin (λ b. begins_by name b ≡ false) bs (suc place) (length bs)
+  behind-all name bs place are behind = λ k d low high.
+      not-true (begins_by name (get_or bs k d)) (λ is. sym (behind d (omega (arith, low, high))) ∙ blocks-parted name bs are (suc place) k d low high is)
+
+  pub here-is : (name : Labels) (bs : Blocks X) (place next : ℕ) (d : Nodes X) → AreBlocks bs → place < length bs → next ≡ place + 1 → begins_by name (get_or bs place d) ≡ true
+      → IsBehind name bs next → IsBlockOf name bs place
+  here-is name bs place next d are within next-is begins behind =
+      let is : next ≡ suc place = omega (arith, next-is) in
+      record {
+        within = within;
+        before = less-before name bs place d (is_T _ are.0.0) are.1 within begins;
+        behind = greater-behind name bs (suc place) (is_T _ are.0.0) are.1 (behind-all name bs place are (subst (IsBehind name bs) is behind));
+      }
+
   -- ---- the nodes before, in and behind a block
 
   parts : (bs : Blocks X) (place : ℕ) (d : Nodes X) → place < length bs → nodes_in bs ≡ nodes_in (take place bs) ++ (get_or bs place d ++ nodes_in (drop (suc place) bs))
@@ -167,6 +187,11 @@ module _ {X : Type 0} where
     room_here new =
         ap (λ (ns : Nodes X). room_at ns name) (parts-set bs place new at.within)
         ∙ ap spare_of (table-between name (nodes_in (take place bs)) new (nodes_in (drop (suc place) bs)) at.before at.behind)
+
+  -- all rows show of a key what its block does
+  pub row_here : (key : Key) (bs : Blocks X) (place : ℕ) (d : Nodes X) → AreBlocks bs → IsBlockOf key.owner bs place → row_at key (all_rows (nodes_in bs)) ≡ row_at key (all_rows (get_or bs place d))
+  row_here key bs place d are at =
+      row_at-all_rows key (nodes_in bs) are.0 ∙ ap (value_in key) (table_here key.owner bs place d are at) ∙ sym (row_at-all_rows key (get_or bs place d) (block_are key.owner bs place d are at))
 
   pub takes_here : {E : Type 0} (key : Key) (value : X) (bs : Blocks X) (place : ℕ) (d new : Nodes X) (r : Result (Option X) E) → AreBlocks bs → IsBlockOf key.owner bs place
       → AddsNoOther key.owner (get_or bs place d) new → TakesKey key value (get_or bs place d) new r → TakesKey key value (nodes_in bs) (nodes_in (set bs place new)) r

@@ -1,11 +1,13 @@
 pub mod RisingRows
 pub mod AllRows
 pub mod NumberOrder
+pub mod Beginnings
 pub mod NameCounts
 pub mod NodePlaces
 pub mod NodeChanges
 pub mod NodeSets
 pub mod KeyRoom
+pub mod RoomLeft
 pub mod PlanRuns
 pub mod NodeUnions
 pub mod Between
@@ -14,4 +16,3 @@ pub mod BlockPlaces
 pub mod BlockSets
 pub mod Turns
 pub mod IndexRows
-pub mod Below

@@ -37,7 +37,7 @@ module _ {X : Type 0} where
       subst (λ (l : Rows X). (is_rising l ≡ true) × (lower name ≡ name) × AllByRecursion (λ e. e.0.owner ≡ name) l) (sym is) one
 
   -- all rows show of a key what its node does
-  shown_here : (key : Key) (ns : Nodes X) (index : ℕ) (g : Node X) → AreNodes ns → IsFound key.owner ns index g → row_at key (all_rows ns) ≡ row_at key g.1.rows
+  pub shown_here : (key : Key) (ns : Nodes X) (index : ℕ) (g : Node X) → AreNodes ns → IsFound key.owner ns index g → row_at key (all_rows ns) ≡ row_at key g.1.rows
   shown_here key ns index g are here = row_at-all_rows key ns are ∙ ap (value_in key) here.found
 
   rows_here : (name : Labels) (ns : Nodes X) (index : ℕ) (g : Node X) → IsFound name ns index g → g.1.rows ≡ rows_in (table_at name ns)
@@ -53,15 +53,16 @@ module _ {X : Type 0} where
     pub succeeds : (1 ≤ room_at ns key.owner) ⊎ IsTrue (is_some (row_at key (all_rows ns))) → IsOk r
     pub here : room_at ns key.owner ≤ room_at new key.owner + 1
     pub others : (name : Labels) → is_eq (name_cmp name key.owner) ≡ false → room_at ns name ≤ room_at new name
+    pub kept : IsTrue (is_some (row_at key (all_rows ns))) → room_at ns key.owner ≤ room_at new key.owner
 
   module _ (key : Key) (value : X) (ns : Nodes X) (index : ℕ) (g n : Node X) (are : AreNodes ns) (here : IsFound key.owner ns index g) (same : n.0 ≡ g.0) where
     is : set ns index n ≡ put_entry name_cmp key.owner n.1 ns
     is = put_is key.owner ns index g n here same
 
     takes_key_put : {E : Type 0} (r : Result (Option X) E) → OnOk r (n.1.rows ≡ put_row key value g.1.rows) → OnErr r (n.1.rows ≡ g.1.rows) → IfOk r (λ before. before ≡ row_at key g.1.rows)
-        → ((1 ≤ g.1.spare) ⊎ IsTrue (is_some (row_at key g.1.rows)) → IsOk r) → g.1.spare ≤ n.1.spare + 1
+        → ((1 ≤ g.1.spare) ⊎ IsTrue (is_some (row_at key g.1.rows)) → IsOk r) → g.1.spare ≤ n.1.spare + 1 → (IsTrue (is_some (row_at key g.1.rows)) → g.1.spare ≤ n.1.spare)
         → TakesKey key value ns (put_entry name_cmp key.owner n.1 ns) r
-    takes_key_put {E} r rows none before succeeds room = record {
+    takes_key_put {E} r rows none before succeeds room kept = record {
       are = nodes-put key.owner n.1 ns are (one r rows none);
       value_before = told r before;
       rows = after r rows;
@@ -72,6 +73,11 @@ module _ {X : Type 0} where
       ]);
       here = let was = ap spare_of here.found in let now = room-here key.owner n.1 ns in omega (arith, was, now, room);
       others = λ name unlike. let now = room-other key.owner name n.1 ns unlike in omega (arith, now);
+      kept = λ there.
+          let more = kept (subst (λ (o : Option X). IsTrue (is_some o)) (shown_here key ns index g are here) there) in
+          let was = ap spare_of here.found in
+          let now = room-here key.owner n.1 ns in
+          omega (arith, was, now, more);
     }
       where
         one : (r : Result (Option X) E) → OnOk r (n.1.rows ≡ put_row key value g.1.rows) → OnErr r (n.1.rows ≡ g.1.rows) → IsNode (key.owner, n.1)
@@ -91,9 +97,9 @@ module _ {X : Type 0} where
         unchanged (Err e) none = all_rows-same_rows key.owner n.1 ns are (node-same key.owner g.1 n.1 here.node none) (none ∙ rows_here key.owner ns index g here)
 
     pub takes_key : {E : Type 0} (r : Result (Option X) E) → OnOk r (n.1.rows ≡ put_row key value g.1.rows) → OnErr r (n.1.rows ≡ g.1.rows) → IfOk r (λ before. before ≡ row_at key g.1.rows)
-        → ((1 ≤ g.1.spare) ⊎ IsTrue (is_some (row_at key g.1.rows)) → IsOk r) → g.1.spare ≤ n.1.spare + 1
+        → ((1 ≤ g.1.spare) ⊎ IsTrue (is_some (row_at key g.1.rows)) → IsOk r) → g.1.spare ≤ n.1.spare + 1 → (IsTrue (is_some (row_at key g.1.rows)) → g.1.spare ≤ n.1.spare)
         → TakesKey key value ns (set ns index n) r
-    takes_key r rows none before succeeds room = subst (λ (l : Nodes X). TakesKey key value ns l r) (sym is) (takes_key_put r rows none before succeeds room)
+    takes_key r rows none before succeeds room kept = subst (λ (l : Nodes X). TakesKey key value ns l r) (sym is) (takes_key_put r rows none before succeeds room kept)
 
   -- ---- a key taken out
 
@@ -102,16 +108,23 @@ module _ {X : Type 0} where
     pub value_before : result ≡ row_at key (all_rows ns)
     pub rows : all_rows new ≡ without_rows (same_key key) (all_rows ns)
     pub room : (name : Labels) → room_at ns name ≤ room_at new name
+    pub freed : IsTrue (is_some (row_at key (all_rows ns))) → room_at ns key.owner + 1 ≤ room_at new key.owner
 
   pub drops_key : (key : Key) (ns : Nodes X) (index : ℕ) (g n : Node X) (result : Option X) → AreNodes ns → IsFound key.owner ns index g → n.0 ≡ g.0
-      → result ≡ row_at key g.1.rows → n.1.rows ≡ without_rows (same_key key) g.1.rows → g.1.spare ≤ n.1.spare → DropsKey key ns (set ns index n) result
-  drops_key key ns index g n result are here same before rows room =
+      → result ≡ row_at key g.1.rows → n.1.rows ≡ without_rows (same_key key) g.1.rows → g.1.spare ≤ n.1.spare → (IsTrue (is_some (row_at key g.1.rows)) → g.1.spare + 1 ≤ n.1.spare)
+      → DropsKey key ns (set ns index n) result
+  drops_key key ns index g n result are here same before rows room freed =
       let one = node-without key g.1 n.1 here.node rows in
       subst (λ (l : Nodes X). DropsKey key ns l result) (sym (put_is key.owner ns index g n here same)) (record {
         are = nodes-put key.owner n.1 ns are one;
         value_before = before ∙ sym (shown_here key ns index g are here);
         rows = all_rows-without_key key n.1 ns are one (rows ∙ ap (without_rows (same_key key)) (rows_here key.owner ns index g here));
         room = room-kept key.owner n.1 ns (let was = ap spare_of here.found in omega (arith, was, room));
+        freed = λ there.
+            let more = freed (subst (λ (o : Option X). IsTrue (is_some o)) (shown_here key ns index g are here) there) in
+            let was = ap spare_of here.found in
+            let now = room-here key.owner n.1 ns in
+            omega (arith, was, now, more);
       })
 
   -- ---- room made in a node

@@ -2,13 +2,16 @@
 --     Blocks, nodes_in      several blocks; all their nodes
 --     AreBlocks      what such blocks are: none is empty
 --     begins_by name block      its first name is at most the name
+--     BeginsAt number block      the number is that of its first name's first octets, or 0 where it has no name
+--     IsBehind name blocks place      there is no block at the place, or it begins behind the name
 --     IsBlockOf name blocks place      the name is in the block at the place, if anywhere, and may be put there
 --     AddsNoOther name nodes new      no other name is new, and where there were nodes, there are some
-use Rattle.std.specs.Prelude.{◌≡◌, ℕ, suc, ◌<◌, Bool, true, List, [], ◌∷◌, ◌++◌, length, take, drop}
+use Rattle.std.specs.Prelude.{◌≡◌, ℕ, suc, ◌<◌, Bool, true, false, List, [], ◌∷◌, ◌++◌, length, get_or, take, drop}
 use Rattle.std.specs.List.{AllByRecursion}
 use Rattle.std.specs.Ordering.{is_le}
 use Rattle.std.specs.declared.cmp.Ordering.TheVariants.{Less, Greater}
 use Rattle.dnsname.specs.Names.{Labels}
+use Rattle.nametable.specs.FirstOctets.{HasFirst}
 use Rattle.nametable.specs.Nodes.{Nodes, AreNodes, name_cmp}
 
 abbrev pub Blocks : Type 0 → Type 0
@@ -29,11 +32,19 @@ module _ {X : Type 0} where
   begins_by name [] = true
   begins_by name (node ∷ nodes) = is_le (name_cmp node.0 name)
 
+  abbrev pub BeginsAt : ℕ → Nodes X → Type 0
+  BeginsAt number [] = number ≡ 0
+  BeginsAt number (node ∷ nodes) = HasFirst number node.0
+
   abbrev pub AreLess : Labels → Nodes X → Type 0
   AreLess name nodes = AllByRecursion (λ node. name_cmp node.0 name ≡ Less) nodes
 
   abbrev pub AreGreater : Labels → Nodes X → Type 0
   AreGreater name nodes = AllByRecursion (λ node. name_cmp node.0 name ≡ Greater) nodes
+
+  -- there is no block at the place, or it begins behind the name
+  abbrev pub IsBehind : Labels → Blocks X → ℕ → Type 0
+  IsBehind name blocks place = (d : Nodes X) → place < length blocks → begins_by name (get_or blocks place d) ≡ false
 
   pub record IsBlockOf (name : Labels) (blocks : Blocks X) (place : ℕ) : Type 0 where
     pub within : place < length blocks

@@ -6,19 +6,22 @@
 --     AreAlike, has_rows      nodes that are one but for their room; a node that isn't empty
 --     names_in      how many names have rows
 --     room_at, HasRoomFor keys nodes      the further keys of a name that take no memory; these keys take none
+--     is_one_of key keys, unless taken key keys      whether a key is among others; these with it, unless it is taken
+--     lacking has keys      those of the keys that fail a test, each once
+--     has_row nodes      whether a key has a row
 --     keys_put, HaveRisingKeys      the keys at which changes put something; the keys of changes rise strictly
 --     keys_of      the keys of rows
 --     IsNameAt, IsNameGap      where a name is, and where it would go
-use Rattle.std.specs.Prelude.{◌≡◌, ℕ, ◌≤◌, ◌<◌, Bool, List, [], ◌∷◌, ◌++◌, map, Option, Some, None, is_some, length, true, nat_lt}
-use Rattle.std.specs.List.{AllByRecursion, HoldsAt, filter}
+use Rattle.std.specs.Prelude.{◌≡◌, ℕ, ◌≤◌, ◌<◌, ◌||◌, Bool, List, [], ◌∷◌, ◌++◌, map, Option, Some, None, is_some, length, true, false, nat_lt}
+use Rattle.std.specs.List.{AllByRecursion, HoldsAt, filter, list_any}
 use Rattle.std.specs.List.Sorted.{IsPartitionPoint}
 use Rattle.std.specs.declared.cmp.Ordering.TheVariants.{Less, Equal, Greater}
 use Rattle.std.specs.Ordering.{is_eq}
 use Rattle.std.specs.FinMap.{find as map_find, is_sorted as map_is_sorted}
 use Rattle.std.specs.declared.cmp.Ordering.{Ordering}
 use Rattle.dnsname.specs.Names.{Labels, octets, lower}
-use Rattle.rrset.specs.Records.{octets_cmp}
-use Rattle.rrset.specs.KeyedRows.{Rows, is_rising}
+use Rattle.rrset.specs.Records.{octets_cmp, same_key}
+use Rattle.rrset.specs.KeyedRows.{Rows, is_rising, row_at}
 use Rattle.rrset.specs.Tables.{TableState}
 use Rattle.rrset.specs.declared.record.Key.{Key}
 use Rattle.rrset.specs.declared.record.Shown.{Shown}
@@ -43,6 +46,20 @@ pub record NodesState (X : Type 0) : Type 0 where
 -- how many of the keys are at a name
 abbrev pub count_at : Labels → List Key → ℕ
 count_at name keys = length (filter (λ key. is_eq (name_cmp name key.owner)) keys)
+
+-- a key is one of others
+abbrev pub is_one_of : Key → List Key → Bool
+is_one_of key keys = list_any (same_key key) keys
+
+-- a key before others, but where a test tells it
+abbrev pub unless : Bool → Key → List Key → List Key
+unless true key keys = keys
+unless false key keys = key ∷ keys
+
+-- those of the keys that fail a test, each once
+abbrev pub lacking : (Key → Bool) → List Key → List Key
+lacking has [] = []
+lacking has (key ∷ keys) = unless (has key || is_one_of key keys) key (lacking has keys)
 
 -- the keys at which changes put something
 abbrev pub keys_put : List Changed → List Key
@@ -98,9 +115,13 @@ module _ {X : Type 0} where
   abbrev pub room_at : Nodes X → Labels → ℕ
   room_at nodes name = spare_of (table_at name nodes)
 
-  -- there is room for all of these keys, each counted as often as it stands there
+  -- whether a key has a row
+  abbrev pub has_row : Nodes X → Key → Bool
+  has_row nodes key = is_some (row_at key (all_rows nodes))
+
+  -- there is room for all of these keys that have no row, each counted once
   abbrev pub HasRoomFor : List Key → Nodes X → Type 0
-  HasRoomFor keys nodes = (name : Labels) → count_at name keys ≤ room_at nodes name
+  HasRoomFor keys nodes = (name : Labels) → count_at name (lacking (has_row nodes) keys) ≤ room_at nodes name
 
   -- the name is that of the node with this index
   pub record IsNameAt (name : Labels) (nodes : Nodes X) (index : ℕ) : Type 0 where

@@ -2,16 +2,18 @@
 
 ghost use Rattle.std.specs.Prelude.{◌≡◌, ℕ, ◌≤◌, ◌<◌, ◌+◌, ◌%◌, ◌^◌, ◌⊎◌, ◌++◌, [], false, length, nat_lt, IfOk, IsOk, OnOk, OnErr, IsTrue, is_some};
 ghost use Rattle.std.specs.Ordering.{is_eq};
-ghost use Rattle.std.specs.List.{filter, list_any};
-ghost use Rattle.dnsname.specs.Names.{Labels, ends_in, lower};
+ghost use Rattle.std.specs.List.{filter};
+ghost use Rattle.dnsname.specs.Names.{Labels, lower};
 ghost use Rattle.rrset.specs.Records.{same_key};
 ghost use Rattle.rrset.specs.KeyedRows.{put_row, without_rows, row_at};
 ghost use Rattle.rrset.specs.Tables.{HasLowerOwner};
 ghost use Rattle.nametable.specs.FirstOctets.{HasFirst};
-ghost use Rattle.nametable.specs.Nodes.{AreAlike, AreNodes, all_rows, has_rows, name_cmp, names_in, room_at};
+ghost use Rattle.nametable.specs.Nodes.{AreAlike, AreNodes, all_rows, has_row, has_rows, name_cmp, names_in, room_at};
 ghost use Rattle.nametable.specs.Blocks.{AddsNoOther, begins_by};
 
-use crate::node::{Node, add_name, below_in, drop_empty, put_in, remove_in, reserve_in};
+use crate::node::{
+    Node, add_name, drop_empty, first_in, place_of, put_in, remove_in, reserve_in, search_lower,
+};
 use dnsname::Name;
 use rrset::{Copied, Key, NoMemory};
 use std::alloc::Global;
@@ -24,16 +26,23 @@ const MOST_NAMES: usize = 512;
 #[derive(Debug, Drop)]
 pub struct Block<V> {
     nodes: Vec<Node<V>>,
-    // The index of the name that was asked for last, where the next is looked for first. Contracts don't see it.
+    // The number of the first name's first octets, so that a search for a block looks at few names. Contracts don't see
+    // it.
+    first: u64,
+    // The index of the name that was changed, given room or looked for by `look_for` last, where the next is looked for
+    // first. Contracts don't see it.
     last: usize,
 }
 
 impl<V> Model for Block<V> {
+    ghost use Rattle.nametable.specs.Blocks.{BeginsAt};
     ghost use Rattle.nametable.specs.Nodes.{Nodes};
 
     ghost Value = { Nodes V };
 
     ghost view = { λ b. b.nodes.items };
+
+    ghost invariant = { λ b. BeginsAt b.first b.nodes.items };
 }
 
 impl<V: Drop> Block<V> {
@@ -45,16 +54,13 @@ impl<V: Drop> Block<V> {
         ensures some { IfOk result (λ block. 0 < length block) }
     {
         let mut nodes = Vec::new(alloc);
-        add_name(&mut nodes, 0, owner, 0)?;
-        Ok(Block { nodes, last: 0 })
-    }
-
-    /// Whether the owner of a row ends in a name.
-    pub(crate) fn below(&self, name: &Name) -> bool
-        requires { AreNodes self.now }
-        ensures { result ≡ list_any (λ e. ends_in e.0.owner name.now) (all_rows self.now) }
-    {
-        below_in(&self.nodes, name)
+        let mut first = 0;
+        add_name(&mut nodes, &mut first, 0, owner, 0)?;
+        Ok(Block {
+            nodes,
+            first,
+            last: 0,
+        })
     }
 
     /// The nodes, in the order of names.
@@ -64,15 +70,31 @@ impl<V: Drop> Block<V> {
         &self.nodes
     }
 
-    /// The index of the name that was asked for last.
+    /// The index of the name that was changed, given room or looked for by `look_for` last.
     pub(crate) fn last(&self) -> usize {
         self.last
+    }
+
+    /// Looks for a name in lower case, whose first octets have this number there, and remembers where it is.
+    pub(crate) fn look_for(&mut self, first: u64, name: &Name)
+        requires nodes { AreNodes self.old }
+        requires first { HasFirst first (lower name.now) }
+        ensures { self.new ≡ self.old }
+    {
+        self.last = place_of(search_lower(&self.nodes, first, name));
     }
 
     /// Whether its first name is at most one whose first octets have this number.
     pub(crate) fn begins_by(&self, first: u64, name: &Name) -> bool
         ensures { HasFirst first name.now → result ≡ begins_by name.now self.now }
     {
+        // Two tests with a branch each, as most steps of a search end at one of them.
+        if self.first < first {
+            return true;
+        }
+        if first < self.first {
+            return false;
+        }
         match self.nodes.first() {
             Some(node) => node.compare(first, name).is_le(),
             None => true,
@@ -83,6 +105,13 @@ impl<V: Drop> Block<V> {
     pub(crate) fn begins_by_lower(&self, first: u64, name: &Name) -> bool
         ensures { HasFirst first (lower name.now) → result ≡ begins_by (lower name.now) self.now }
     {
+        // Two tests with a branch each, as most steps of a search end at one of them.
+        if self.first < first {
+            return true;
+        }
+        if first < self.first {
+            return false;
+        }
         match self.nodes.first() {
             Some(node) => node.compare_with_lower(first, name).is_le(),
             None => true,
@@ -114,7 +143,13 @@ impl<V: Drop> Block<V> {
         let half = self.nodes.len() / 2;
         let nodes = self.nodes.split_off(half)?;
         self.nodes.shrink_to_fit();
-        Ok(Block { nodes, last: 0 })
+        self.first = first_in(&self.nodes);
+        let first = first_in(&nodes);
+        Ok(Block {
+            nodes,
+            first,
+            last: 0,
+        })
     }
 
     /// Gives a key this value, and counts its name where it had no rows.
@@ -135,8 +170,16 @@ impl<V: Drop> Block<V> {
         ensures succeeds { (1 ≤ room_at self.old key.owner) ⊎ IsTrue (is_some (row_at key (all_rows self.old))) → IsOk result }
         ensures here { room_at self.old key.owner ≤ room_at self.new key.owner + 1 }
         ensures others { (name : Labels) → is_eq (name_cmp name key.owner) ≡ false → room_at self.old name ≤ room_at self.new name }
+        ensures kept { IsTrue (is_some (row_at key (all_rows self.old))) → room_at self.old key.owner ≤ room_at self.new key.owner }
     {
-        put_in(&mut self.nodes, &mut self.last, key, value, names)
+        put_in(
+            &mut self.nodes,
+            &mut self.first,
+            &mut self.last,
+            key,
+            value,
+            names,
+        )
     }
 
     /// Takes a key out, and counts its name no longer where it has no rows then.
@@ -148,21 +191,22 @@ impl<V: Drop> Block<V> {
         ensures value { result ≡ row_at key.now (all_rows self.old) }
         ensures rows { all_rows self.new ≡ without_rows (same_key key.now) (all_rows self.old) }
         ensures room { (name : Labels) → room_at self.old name ≤ room_at self.new name }
+        ensures freed { IsTrue (is_some (row_at key.now (all_rows self.old))) → room_at self.old key.now.owner + 1 ≤ room_at self.new key.now.owner }
     {
         remove_in(&mut self.nodes, &mut self.last, key, names)
     }
 
-    /// Makes room for so many further keys of a name.
-    pub(crate) fn reserve(&mut self, owner: &Name, keys: usize) -> Result<(), NoMemory>
+    /// Makes room for so many further keys of a name where one of them has no row.
+    pub(crate) fn reserve(&mut self, key: &Key, keys: usize) -> Result<(), NoMemory>
         requires nodes { AreNodes self.old }
-        requires lower { lower owner.now ≡ owner.now }
+        requires lower { HasLowerOwner key.now }
         ensures nodes { AreNodes self.new }
-        ensures only { AddsNoOther owner.now self.old self.new }
+        ensures only { AddsNoOther key.now.owner self.old self.new }
         ensures rows { all_rows self.new ≡ all_rows self.old }
-        ensures room { OnOk result (keys ≤ room_at self.new owner.now) }
+        ensures room { OnOk result (has_row self.old key.now ≡ false → keys ≤ room_at self.new key.now.owner) }
         ensures kept { (name : Labels) → room_at self.old name ≤ room_at self.new name }
     {
-        reserve_in(&mut self.nodes, &mut self.last, owner, keys)
+        reserve_in(&mut self.nodes, &mut self.first, &mut self.last, key, keys)
     }
 
     /// Gives back the names without rows, and the room in them.
@@ -170,6 +214,7 @@ impl<V: Drop> Block<V> {
         ensures { self.new ≡ filter has_rows self.old }
     {
         drop_empty(&mut self.nodes);
+        self.first = first_in(&self.nodes);
     }
 }
 
@@ -192,6 +237,11 @@ impl<V: Copied + Drop> Block<V> {
         ensures { IfOk result (λ copy. AreAlike copy self.now) }
     {
         let nodes = copied_nodes(&self.nodes)?;
-        Ok(Block { nodes, last: 0 })
+        let first = first_in(&nodes);
+        Ok(Block {
+            nodes,
+            first,
+            last: 0,
+        })
     }
 }

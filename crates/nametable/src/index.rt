@@ -1,12 +1,13 @@
 //! An index: rows in tables by name, whose calls count steps.
 
-ghost use Rattle.std.specs.Prelude.{◌≡◌, ◌≤◌, ◌+◌, ◌⊎◌, [], false, length, IfOk, IsOk, OnOk, OnErr, IsTrue, is_some, Some, None, MatchOption};
+ghost use Rattle.std.specs.Prelude.{◌≡◌, ◌≤◌, ◌+◌, ◌⊎◌, ◌∷◌, [], List, false, length, IfOk, IsOk, OnOk, OnErr, IsTrue, is_some, Some, None, MatchOption};
 ghost use Rattle.std.specs.Ordering.{is_eq};
-ghost use Rattle.std.specs.List.{AllByRecursion, list_any};
-ghost use Rattle.dnsname.specs.Names.{Labels, ends_in};
+ghost use Rattle.std.specs.List.{AllByRecursion};
+ghost use Rattle.dnsname.specs.Names.{Labels};
 ghost use Rattle.rrset.specs.Records.{same_key};
 ghost use Rattle.rrset.specs.KeyedRows.{is_rising, row_at, put_row, without_rows, rows_of};
 ghost use Rattle.rrset.specs.Tables.{HasLowerOwner};
+ghost use Rattle.rrset.specs.declared.record.Key.{Key};
 ghost use Rattle.nametable.specs.Nodes.{HasRoomFor, HaveRisingKeys, keys_put, name_cmp, room_at};
 
 use crate::name_table::NameTable;
@@ -76,17 +77,8 @@ impl<V: Drop> Index<V> {
         self.table.at(name)
     }
 
-    /// Whether the owner of a row ends in a name (RFC 8020, 2).
-    pub fn below<L: Ledger>(&self, name: &Name, steps: &mut Steps<L>) -> bool
-        ensures below { result ≡ list_any (λ e. ends_in e.0.owner name.now) self.now.rows }
-        ensures steps { steps.new ≡ steps.old + 1 }
-    {
-        steps.tick();
-        self.table.below(name)
-    }
-
-    /// Makes room for the keys that changes put, in time linear in the changes but for searches. It counts a step for
-    /// each change.
+    /// Makes room, at each name where changes put a key that has no row, for all keys that they put there. It counts a
+    /// step for each change.
     pub fn reserve_for<L: Ledger>(
         &mut self,
         changed: &[Changed],
@@ -116,8 +108,10 @@ impl<V: Drop> Index<V> {
         ensures rows { OnOk result (self.new.rows ≡ put_row key value self.old.rows) }
         ensures none { OnErr result (self.new.rows ≡ self.old.rows) }
         ensures succeeds { (1 ≤ room_at self.old.nodes key.owner) ⊎ IsTrue (is_some (row_at key self.old.rows)) → IsOk result }
+        ensures in_room { HasRoomFor (key ∷ []) self.old.nodes → IsOk result }
         ensures here { room_at self.old.nodes key.owner ≤ room_at self.new.nodes key.owner + 1 }
         ensures others { (name : Labels) → is_eq (name_cmp name key.owner) ≡ false → room_at self.old.nodes name ≤ room_at self.new.nodes name }
+        ensures left { (keys : List Key) → HasRoomFor (key ∷ keys) self.old.nodes → HasRoomFor keys self.new.nodes }
         ensures steps { steps.new ≡ steps.old + 1 }
     {
         steps.tick();
@@ -129,6 +123,7 @@ impl<V: Drop> Index<V> {
         ensures value { result ≡ row_at key.now self.old.rows }
         ensures rows { self.new.rows ≡ without_rows (same_key key.now) self.old.rows }
         ensures room { (name : Labels) → room_at self.old.nodes name ≤ room_at self.new.nodes name }
+        ensures left { (keys : List Key) → HasRoomFor keys self.old.nodes → HasRoomFor keys self.new.nodes }
         ensures steps { steps.new ≡ steps.old + 1 }
     {
         steps.tick();

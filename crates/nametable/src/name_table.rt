@@ -1,18 +1,19 @@
 //! Rows in tables by name.
 
-ghost use Rattle.std.specs.Prelude.{◌≡◌, ◌≤◌, ◌<◌, ◌+◌, ◌-◌, ◌%◌, ◌^◌, ◌⊎◌, [], false, cond, length, IfOk, IsOk, OnOk, OnErr, IsTrue, is_some, Some, None, MatchOption};
+ghost use Rattle.std.specs.Prelude.{◌≡◌, ◌≤◌, ◌<◌, ◌+◌, ◌-◌, ◌%◌, ◌^◌, ◌⊎◌, ◌∷◌, [], List, false, cond, length, IfOk, IsOk, OnOk, OnErr, IsTrue, is_some, Some, None, MatchOption};
 ghost use Rattle.std.specs.Ordering.{is_eq};
-ghost use Rattle.std.specs.List.{AllByRecursion, list_any};
-ghost use Rattle.dnsname.specs.Names.{Labels, ends_in};
+ghost use Rattle.std.specs.List.{AllByRecursion};
+ghost use Rattle.dnsname.specs.Names.{Labels};
 ghost use Rattle.rrset.specs.Records.{same_key};
 ghost use Rattle.rrset.specs.KeyedRows.{row_at, put_row, without_rows, rows_of};
 ghost use Rattle.rrset.specs.Tables.{HasLowerOwner};
+ghost use Rattle.rrset.specs.declared.record.Key.{Key};
 ghost use Rattle.nametable.specs.Blocks.{nodes_in};
 ghost use Rattle.nametable.specs.Nodes.{AreNodes, HasRoomFor, HaveRisingKeys, all_rows, keys_of, keys_put, name_cmp, room_at};
 
 use crate::block::Block;
 use crate::blocks::{
-    below_in_blocks, copied_blocks, drop_empty_blocks, names_in_blocks, put_in_blocks,
+    copied_blocks, drop_empty_blocks, look_in_blocks, names_in_blocks, put_in_blocks,
     remove_in_blocks, table_for_in_blocks, table_of_in_blocks,
 };
 use crate::reserving::{reserve_all, reserve_rows};
@@ -25,8 +26,8 @@ use std::marker::Model;
 const NAMES_PER_EMPTY: usize = 8;
 
 /// Rows, each a key and its value, in tables by name: a finite map in key order, in which a change moves nothing of
-/// other names but pointers. A name that lost its rows keeps its room until `give_back` counts, which knows how many have
-/// none by a count of the names with rows.
+/// other names but pointers. A name that lost its rows keeps its room until `give_back` counts, which knows how many
+/// have none by a count of the names with rows.
 #[derive(Debug, Drop)]
 pub struct NameTable<V = Shown> {
     blocks: Vec<Block<V>>,
@@ -34,6 +35,9 @@ pub struct NameTable<V = Shown> {
     names: usize,
     // How many names may have come without rows, or lost theirs, since names were counted last. Contracts don't see it.
     uncounted: usize,
+    // The block of the name that was changed, given room or looked for by `look_for` last, where the next is looked for
+    // first. Contracts don't see it.
+    last: usize,
 }
 
 impl<V> Model for NameTable<V> {
@@ -78,6 +82,7 @@ impl<V: Drop> NameTable<V> {
             count: 0,
             names: 0,
             uncounted: 0,
+            last: 0,
         }
     }
 
@@ -85,27 +90,28 @@ impl<V: Drop> NameTable<V> {
     pub fn get(&self, key: &Key) -> Option<&V>
         ensures { MatchOption result (row_at key.now self.now.rows ≡ None) (λ value. row_at key.now self.now.rows ≡ Some value.now) }
     {
-        match table_for_in_blocks(&self.blocks, key) {
+        match table_for_in_blocks(&self.blocks, self.last, key) {
             Some(table) => table.get(key),
             None => None,
         }
+    }
+
+    /// Looks for a name, and remembers where it is, so that further calls find it sooner. Nothing that contracts see
+    /// changes.
+    pub fn look_for(&mut self, name: &Name)
+        ensures { self.new ≡ self.old }
+    {
+        look_in_blocks(&mut self.blocks, &mut self.last, name);
     }
 
     /// The rows of an owner, in key order.
     pub fn at(&self, name: &Name) -> &[(Key, V)]
         ensures { result.now ≡ rows_of name.now self.now.rows }
     {
-        match table_of_in_blocks(&self.blocks, name) {
+        match table_of_in_blocks(&self.blocks, self.last, name) {
             Some(table) => table.entries(),
             None => &[],
         }
-    }
-
-    /// Whether the owner of a row ends in a name (RFC 8020, 2). It looks at each name.
-    pub fn below(&self, name: &Name) -> bool
-        ensures { result ≡ list_any (λ e. ends_in e.0.owner name.now) self.now.rows }
-    {
-        below_in_blocks(&self.blocks, name)
     }
 
     /// How many rows there are, where they are fewer than 2^64.
@@ -128,15 +134,17 @@ impl<V: Drop> NameTable<V> {
         ensures value { result ≡ row_at key.now self.old.rows }
         ensures rows { self.new.rows ≡ without_rows (same_key key.now) self.old.rows }
         ensures room { (name : Labels) → room_at self.old.nodes name ≤ room_at self.new.nodes name }
+        ensures left { (keys : List Key) → HasRoomFor keys self.old.nodes → HasRoomFor keys self.new.nodes }
     {
         self.uncounted = self.uncounted.saturating_add(1);
-        let removed = remove_in_blocks(&mut self.blocks, key, &mut self.names);
+        let removed = remove_in_blocks(&mut self.blocks, &mut self.last, key, &mut self.names);
         let count = count_without(self.count, &removed);
         self.count = count;
         removed
     }
 
-    /// Makes room for the keys that changes put, in time linear in the changes but for searches.
+    /// Makes room, at each name where changes put a key that has no row, for all keys that they put there, which are
+    /// counted for each of them.
     pub fn reserve_for(&mut self, changed: &[Changed]) -> Result<(), NoMemory>
         requires lower { AllByRecursion (λ c. HasLowerOwner c.key) changed.now }
         requires order { HaveRisingKeys changed.now }
@@ -145,17 +153,18 @@ impl<V: Drop> NameTable<V> {
         ensures kept { (name : Labels) → room_at self.old.nodes name ≤ room_at self.new.nodes name }
     {
         self.uncounted = self.uncounted.saturating_add(changed.len());
-        reserve_all(&mut self.blocks, changed)
+        reserve_all(&mut self.blocks, &mut self.last, changed)
     }
 
-    /// Makes room for the keys of a table, in time linear in its rows but for searches.
+    /// Makes room, at each name where a key of a table has no row, for all keys of it there, in time linear in its rows
+    /// but for searches.
     pub fn reserve_for_rows(&mut self, rows: &Table<V>) -> Result<(), NoMemory>
         ensures rows { self.new.rows ≡ self.old.rows }
         ensures room { OnOk result (HasRoomFor (keys_of rows.now.rows) self.new.nodes) }
         ensures kept { (name : Labels) → room_at self.old.nodes name ≤ room_at self.new.nodes name }
     {
         self.uncounted = self.uncounted.saturating_add(rows.len());
-        reserve_rows(&mut self.blocks, rows)
+        reserve_rows(&mut self.blocks, &mut self.last, rows)
     }
 
     /// Gives a key this value, and gives back the one that it had. It takes no memory where the key is there, or there
@@ -166,18 +175,26 @@ impl<V: Drop> NameTable<V> {
         ensures rows { OnOk result (self.new.rows ≡ put_row key value self.old.rows) }
         ensures none { OnErr result (self.new.rows ≡ self.old.rows) }
         ensures succeeds { (1 ≤ room_at self.old.nodes key.owner) ⊎ IsTrue (is_some (row_at key self.old.rows)) → IsOk result }
+        ensures in_room { HasRoomFor (key ∷ []) self.old.nodes → IsOk result }
         ensures here { room_at self.old.nodes key.owner ≤ room_at self.new.nodes key.owner + 1 }
         ensures others { (name : Labels) → is_eq (name_cmp name key.owner) ≡ false → room_at self.old.nodes name ≤ room_at self.new.nodes name }
+        ensures left { (keys : List Key) → HasRoomFor (key ∷ keys) self.old.nodes → HasRoomFor keys self.new.nodes }
     {
-        let before = put_in_blocks(&mut self.blocks, key, value, &mut self.names)?;
+        let before = put_in_blocks(
+            &mut self.blocks,
+            &mut self.last,
+            key,
+            value,
+            &mut self.names,
+        )?;
         let count = count_with(self.count, &before);
         self.count = count;
         Ok(before)
     }
 
     /// Gives back the names without rows, and the room in them, where these are counted and are more than one of eight.
-    /// They are counted when more than one change for eight names with rows came since the last time. To be called where
-    /// no plan is pending, since room that was made may be lost. It takes no memory.
+    /// They are counted when more than one change for eight names with rows came since the last time. To be called
+    /// where no plan is pending, since room that was made may be lost. It takes no memory.
     pub fn give_back(&mut self)
         ensures { self.new.rows ≡ self.old.rows }
     {
@@ -188,7 +205,8 @@ impl<V: Drop> NameTable<V> {
         self.uncounted = 0;
     }
 
-    /// Counts the names, and gives back those without rows, and the room in them, where these are more than one of eight.
+    /// Counts the names, and gives back those without rows, and the room in them, where these are more than one of
+    /// eight.
     fn sweep(&mut self)
         ensures { self.new.rows ≡ self.old.rows }
     {
@@ -212,6 +230,7 @@ impl<V: Copied + Drop> NameTable<V> {
             count: self.count,
             names: self.names,
             uncounted: self.uncounted,
+            last: 0,
         })
     }
 }

@@ -1,15 +1,15 @@
 //! A name with its rows (RFC 1034, 3.1), and lists of them in the order of names.
 
-ghost use Rattle.std.specs.Prelude.{◌≡◌, ℕ, ◌≤◌, ◌+◌, ◌-◌, ◌%◌, ◌^◌, ◌⊎◌, ◌&&◌, [], false, cond, IfOk, IfErr, IsOk, OnOk, OnErr, IsTrue, is_some, Some, None, MatchOption};
+ghost use Rattle.std.specs.Prelude.{◌≡◌, ℕ, ◌≤◌, ◌<◌, ◌+◌, ◌-◌, ◌%◌, ◌^◌, ◌⊎◌, [], false, cond, IfOk, IfErr, IsOk, OnOk, OnErr, IsTrue, is_some, Some, None, MatchOption};
 ghost use Rattle.std.specs.Ordering.{is_eq};
-ghost use Rattle.std.specs.List.{filter, list_any};
-ghost use Rattle.dnsname.specs.Names.{Labels, ends_in, lower};
+ghost use Rattle.std.specs.List.{filter};
+ghost use Rattle.dnsname.specs.Names.{Labels, lower};
 ghost use Rattle.rrset.specs.Records.{same_key};
 ghost use Rattle.rrset.specs.KeyedRows.{put_row, without_rows, row_at};
 ghost use Rattle.rrset.specs.Tables.{HasLowerOwner};
-ghost use Rattle.nametable.specs.Blocks.{AddsNoOther};
+ghost use Rattle.nametable.specs.Blocks.{AddsNoOther, BeginsAt};
 ghost use Rattle.nametable.specs.FirstOctets.{HasFirst};
-ghost use Rattle.nametable.specs.Nodes.{AreNodes, IsNameAt, IsNameGap, all_rows, has_rows, name_cmp, names_in, room_at, table_at};
+ghost use Rattle.nametable.specs.Nodes.{AreNodes, IsNameAt, IsNameGap, all_rows, has_row, has_rows, name_cmp, names_in, room_at, table_at};
 
 use crate::order::{compare_names, compare_with_lower_name, first_of};
 use dnsname::Name;
@@ -25,8 +25,8 @@ struct Named<V> {
     table: Table<V>,
 }
 
-/// A name in lower case and its rows, behind one pointer, so that few octets move where a name is put between others. The
-/// number of its first octets stands beside the pointer, so that most comparisons don't follow it.
+/// A name in lower case and its rows, behind one pointer, so that few octets move where a name is put between others.
+/// The number of its first octets stands beside the pointer, so that most comparisons don't follow it.
 #[derive(Debug, Drop)]
 pub struct Node<V> {
     first: u64,
@@ -73,6 +73,13 @@ impl<V: Drop> Node<V> {
         &self.named.owner
     }
 
+    /// The number of the first octets of its name.
+    fn first(&self) -> u64
+        ensures { HasFirst result self.now.0 }
+    {
+        self.first
+    }
+
     /// The order of its name and of one whose first octets have this number.
     pub(crate) fn compare(&self, first: u64, name: &Name) -> Ordering
         ensures { HasFirst first name.now → result ≡ name_cmp self.now.0 name.now }
@@ -114,16 +121,6 @@ impl<V: Drop> Node<V> {
         self.table().len() > 0
     }
 
-    /// Whether it has rows, and its name ends in another.
-    fn is_below(&self, name: &Name) -> bool
-        ensures { result ≡ (has_rows self.now && ends_in self.now.0 name.now) }
-    {
-        if !self.has_rows() {
-            return false;
-        }
-        self.owner().ends_in(name)
-    }
-
     /// Gives a key this value.
     fn put(&mut self, key: Key, value: V) -> Result<Option<V>, NoMemory>
         requires { HasLowerOwner key }
@@ -133,6 +130,7 @@ impl<V: Drop> Node<V> {
         ensures none { OnErr result (self.new.1.rows ≡ self.old.1.rows) }
         ensures succeeds { (1 ≤ self.old.1.spare) ⊎ IsTrue (is_some (row_at key self.old.1.rows)) → IsOk result }
         ensures room { self.old.1.spare ≤ self.new.1.spare + 1 }
+        ensures kept { IsTrue (is_some (row_at key self.old.1.rows)) → self.old.1.spare ≤ self.new.1.spare }
     {
         self.named.table.put(key, value)
     }
@@ -143,8 +141,19 @@ impl<V: Drop> Node<V> {
         ensures value { result ≡ row_at key.now self.old.1.rows }
         ensures rows { self.new.1.rows ≡ without_rows (same_key key.now) self.old.1.rows }
         ensures room { self.old.1.spare ≤ self.new.1.spare }
+        ensures freed { IsTrue (is_some (row_at key.now self.old.1.rows)) → self.old.1.spare + 1 ≤ self.new.1.spare }
     {
         self.named.table.remove(key)
+    }
+
+    /// Makes room for so many further keys where one of them isn't there.
+    fn reserve_for(&mut self, key: &Key, keys: usize) -> Result<(), NoMemory>
+        ensures name { self.new.0 ≡ self.old.0 }
+        ensures rows { self.new.1.rows ≡ self.old.1.rows }
+        ensures room { OnOk result (is_some (row_at key.now self.old.1.rows) ≡ false → keys ≤ self.new.1.spare) }
+        ensures kept { self.old.1.spare ≤ self.new.1.spare }
+    {
+        self.named.table.reserve_for(key, keys)
     }
 
     /// Makes room for so many further keys.
@@ -168,6 +177,24 @@ impl<V: Copied + Drop> Node<V> {
         let table = self.table().copy()?;
         Node::with_rows(alloc, owner, table)
     }
+}
+
+/// The number of the first name's first octets, or 0 where there is no name.
+pub(crate) fn first_in<V: Drop>(nodes: &Vec<Node<V>>) -> u64
+    ensures { BeginsAt result nodes.now.items }
+{
+    match nodes.first() {
+        Some(node) => node.first(),
+        None => 0,
+    }
+}
+
+/// The number of the first name's first octets where there was this one, and a node is put at an index.
+fn first_with<V: Drop>(first: u64, index: usize, node: &Node<V>) -> u64
+    ensures here { index ≡ 0 → HasFirst result node.now.0 }
+    ensures behind { 0 < index → result ≡ first }
+{
+    if index == 0 { node.first() } else { first }
 }
 
 /// Where a name is among nodes, or where it would go.
@@ -200,8 +227,8 @@ fn is_at_lower<V: Drop>(nodes: &[Node<V>], index: usize, first: u64, name: &Name
     }
 }
 
-/// Where a name is among nodes, or where it would go. It is looked for where the last one was first, as most names are
-/// that one again.
+/// Where a name is among nodes, or where it would go. It is looked for first where the last one was, as most are that
+/// one again.
 fn search_near<V: Drop>(nodes: &[Node<V>], last: &mut usize, name: &Name) -> Result<usize, usize>
     requires { AreNodes nodes.now }
     ensures found { IfOk result (IsNameAt name.now nodes.now) }
@@ -216,7 +243,7 @@ fn search_near<V: Drop>(nodes: &[Node<V>], last: &mut usize, name: &Name) -> Res
 }
 
 /// The index at which a name is or would go.
-fn place_of(found: Result<usize, usize>) -> usize {
+pub(crate) fn place_of(found: Result<usize, usize>) -> usize {
     match found {
         Ok(index) => index,
         Err(index) => index,
@@ -224,7 +251,11 @@ fn place_of(found: Result<usize, usize>) -> usize {
 }
 
 /// Where a name in lower case is among nodes, or where it would go.
-fn search_lower<V: Drop>(nodes: &[Node<V>], first: u64, name: &Name) -> Result<usize, usize>
+pub(crate) fn search_lower<V: Drop>(
+    nodes: &[Node<V>],
+    first: u64,
+    name: &Name,
+) -> Result<usize, usize>
     requires nodes { AreNodes nodes.now }
     requires first { HasFirst first (lower name.now) }
     ensures found { IfOk result (IsNameAt (lower name.now) nodes.now) }
@@ -295,6 +326,7 @@ fn put_at<V: Drop>(
     requires place { IsNameAt key.owner nodes.old index }
     ensures nodes { AreNodes nodes.new }
     ensures only { AddsNoOther key.owner nodes.old nodes.new }
+    ensures first { (first : ℕ) → BeginsAt first nodes.old → BeginsAt first nodes.new }
     ensures names { (others : ℕ) → names.old ≡ (others + names_in nodes.old) % 2 ^ 64 → names.new ≡ (others + names_in nodes.new) % 2 ^ 64 }
     ensures value { IfOk result (λ before. before ≡ row_at key (all_rows nodes.old)) }
     ensures rows { OnOk result (all_rows nodes.new ≡ put_row key value (all_rows nodes.old)) }
@@ -302,6 +334,7 @@ fn put_at<V: Drop>(
     ensures succeeds { (1 ≤ room_at nodes.old key.owner) ⊎ IsTrue (is_some (row_at key (all_rows nodes.old))) → IsOk result }
     ensures here { room_at nodes.old key.owner ≤ room_at nodes.new key.owner + 1 }
     ensures others { (name : Labels) → is_eq (name_cmp name key.owner) ≡ false → room_at nodes.old name ≤ room_at nodes.new name }
+    ensures kept { IsTrue (is_some (row_at key (all_rows nodes.old))) → room_at nodes.old key.owner ≤ room_at nodes.new key.owner }
 {
     let had = nodes[index].has_rows();
     let before = nodes[index].put(key, value);
@@ -313,41 +346,47 @@ fn put_at<V: Drop>(
 /// Gives a name that has no node one without rows, with room for so many keys.
 pub(crate) fn add_name<V: Drop>(
     nodes: &mut Vec<Node<V>>,
+    first: &mut u64,
     index: usize,
     owner: Name,
     keys: usize,
 ) -> Result<(), NoMemory>
     requires nodes { AreNodes nodes.old.items }
     requires lower { lower owner ≡ owner }
+    requires first { BeginsAt first.old nodes.old.items }
     requires place { IsNameGap owner nodes.old.items index }
     ensures nodes { AreNodes nodes.new.items }
     ensures only { AddsNoOther owner nodes.old.items nodes.new.items }
+    ensures first { BeginsAt first.new nodes.new.items }
     ensures place { OnOk result (IsNameAt owner nodes.new.items index) }
     ensures rows { all_rows nodes.new.items ≡ all_rows nodes.old.items }
     ensures room { OnOk result (keys ≤ room_at nodes.new.items owner) }
     ensures kept { (name : Labels) → room_at nodes.old.items name ≤ room_at nodes.new.items name }
 {
     let node = Node::new(*nodes.allocator(), owner, keys)?;
+    let number = first_with(*first, index, &node);
     nodes.insert(index, node)?;
+    *first = number;
     Ok(())
 }
 
-/// Makes room for so many further keys of a name that has a node.
+/// Makes room for so many further keys of a name that has a node, where one of them has no row.
 fn reserve_at<V: Drop>(
     nodes: &mut [Node<V>],
     index: usize,
-    owner: &Name,
+    key: &Key,
     keys: usize,
 ) -> Result<(), NoMemory>
     requires nodes { AreNodes nodes.old }
-    requires place { IsNameAt owner.now nodes.old index }
+    requires place { IsNameAt key.now.owner nodes.old index }
     ensures nodes { AreNodes nodes.new }
-    ensures only { AddsNoOther owner.now nodes.old nodes.new }
+    ensures only { AddsNoOther key.now.owner nodes.old nodes.new }
+    ensures first { (first : ℕ) → BeginsAt first nodes.old → BeginsAt first nodes.new }
     ensures rows { all_rows nodes.new ≡ all_rows nodes.old }
-    ensures room { OnOk result (keys ≤ room_at nodes.new owner.now) }
+    ensures room { OnOk result (has_row nodes.old key.now ≡ false → keys ≤ room_at nodes.new key.now.owner) }
     ensures kept { (name : Labels) → room_at nodes.old name ≤ room_at nodes.new name }
 {
-    nodes[index].reserve(keys)
+    nodes[index].reserve_for(key, keys)
 }
 
 /// Takes out a key whose name has a node, and counts the name no longer where it has no rows then.
@@ -361,10 +400,12 @@ fn remove_at<V: Drop>(
     requires place { IsNameAt key.now.owner nodes.old index }
     ensures nodes { AreNodes nodes.new }
     ensures only { AddsNoOther key.now.owner nodes.old nodes.new }
+    ensures first { (first : ℕ) → BeginsAt first nodes.old → BeginsAt first nodes.new }
     ensures names { (others : ℕ) → names.old ≡ (others + names_in nodes.old) % 2 ^ 64 → names.new ≡ (others + names_in nodes.new) % 2 ^ 64 }
     ensures value { result ≡ row_at key.now (all_rows nodes.old) }
     ensures rows { all_rows nodes.new ≡ without_rows (same_key key.now) (all_rows nodes.old) }
     ensures room { (name : Labels) → room_at nodes.old name ≤ room_at nodes.new name }
+    ensures freed { IsTrue (is_some (row_at key.now (all_rows nodes.old))) → room_at nodes.old key.now.owner + 1 ≤ room_at nodes.new key.now.owner }
 {
     let had = nodes[index].has_rows();
     let removed = nodes[index].remove(key);
@@ -383,10 +424,12 @@ pub(crate) fn remove_in<V: Drop>(
     requires nodes { AreNodes nodes.old.items }
     ensures nodes { AreNodes nodes.new.items }
     ensures only { AddsNoOther key.now.owner nodes.old.items nodes.new.items }
+    ensures first { (first : ℕ) → BeginsAt first nodes.old.items → BeginsAt first nodes.new.items }
     ensures names { (others : ℕ) → names.old ≡ (others + names_in nodes.old.items) % 2 ^ 64 → names.new ≡ (others + names_in nodes.new.items) % 2 ^ 64 }
     ensures value { result ≡ row_at key.now (all_rows nodes.old.items) }
     ensures rows { all_rows nodes.new.items ≡ without_rows (same_key key.now) (all_rows nodes.old.items) }
     ensures room { (name : Labels) → room_at nodes.old.items name ≤ room_at nodes.new.items name }
+    ensures freed { IsTrue (is_some (row_at key.now (all_rows nodes.old.items))) → room_at nodes.old.items key.now.owner + 1 ≤ room_at nodes.new.items key.now.owner }
 {
     match search_near(nodes, last, &key.owner) {
         Ok(index) => remove_at(nodes, index, key, names),
@@ -394,30 +437,34 @@ pub(crate) fn remove_in<V: Drop>(
     }
 }
 
-/// Makes room for so many further keys of a name.
+/// Makes room for so many further keys of a name where one of them has no row.
 pub(crate) fn reserve_in<V: Drop>(
     nodes: &mut Vec<Node<V>>,
+    first: &mut u64,
     last: &mut usize,
-    owner: &Name,
+    key: &Key,
     keys: usize,
 ) -> Result<(), NoMemory>
     requires nodes { AreNodes nodes.old.items }
-    requires lower { lower owner.now ≡ owner.now }
+    requires lower { HasLowerOwner key.now }
+    requires first { BeginsAt first.old nodes.old.items }
     ensures nodes { AreNodes nodes.new.items }
-    ensures only { AddsNoOther owner.now nodes.old.items nodes.new.items }
+    ensures only { AddsNoOther key.now.owner nodes.old.items nodes.new.items }
+    ensures first { BeginsAt first.new nodes.new.items }
     ensures rows { all_rows nodes.new.items ≡ all_rows nodes.old.items }
-    ensures room { OnOk result (keys ≤ room_at nodes.new.items owner.now) }
+    ensures room { OnOk result (has_row nodes.old.items key.now ≡ false → keys ≤ room_at nodes.new.items key.now.owner) }
     ensures kept { (name : Labels) → room_at nodes.old.items name ≤ room_at nodes.new.items name }
 {
-    match search_near(nodes, last, owner) {
-        Ok(index) => reserve_at(nodes, index, owner, keys),
-        Err(index) => add_name(nodes, index, owner.copy()?, keys),
+    match search_near(nodes, last, &key.owner) {
+        Ok(index) => reserve_at(nodes, index, key, keys),
+        Err(index) => add_name(nodes, first, index, key.owner.copy()?, keys),
     }
 }
 
 /// Gives a key this value, and counts its name where it had no rows.
 pub(crate) fn put_in<V: Drop>(
     nodes: &mut Vec<Node<V>>,
+    first: &mut u64,
     last: &mut usize,
     key: Key,
     value: V,
@@ -425,8 +472,10 @@ pub(crate) fn put_in<V: Drop>(
 ) -> Result<Option<V>, NoMemory>
     requires nodes { AreNodes nodes.old.items }
     requires lower { HasLowerOwner key }
+    requires first { BeginsAt first.old nodes.old.items }
     ensures nodes { AreNodes nodes.new.items }
     ensures only { AddsNoOther key.owner nodes.old.items nodes.new.items }
+    ensures first { BeginsAt first.new nodes.new.items }
     ensures names { (others : ℕ) → names.old ≡ (others + names_in nodes.old.items) % 2 ^ 64 → names.new ≡ (others + names_in nodes.new.items) % 2 ^ 64 }
     ensures value { IfOk result (λ before. before ≡ row_at key (all_rows nodes.old.items)) }
     ensures rows { OnOk result (all_rows nodes.new.items ≡ put_row key value (all_rows nodes.old.items)) }
@@ -434,11 +483,12 @@ pub(crate) fn put_in<V: Drop>(
     ensures succeeds { (1 ≤ room_at nodes.old.items key.owner) ⊎ IsTrue (is_some (row_at key (all_rows nodes.old.items))) → IsOk result }
     ensures here { room_at nodes.old.items key.owner ≤ room_at nodes.new.items key.owner + 1 }
     ensures others { (name : Labels) → is_eq (name_cmp name key.owner) ≡ false → room_at nodes.old.items name ≤ room_at nodes.new.items name }
+    ensures kept { IsTrue (is_some (row_at key (all_rows nodes.old.items))) → room_at nodes.old.items key.owner ≤ room_at nodes.new.items key.owner }
 {
     match search_near(nodes, last, &key.owner) {
         Ok(index) => put_at(nodes, index, key, value, names),
         Err(index) => {
-            add_name(nodes, index, key.owner.copy()?, 1)?;
+            add_name(nodes, first, index, key.owner.copy()?, 1)?;
             put_at(nodes, index, key, value, names)
         }
     }
@@ -450,17 +500,4 @@ pub(crate) fn drop_empty<V: Drop>(nodes: &mut Vec<Node<V>>)
 {
     nodes.retain(|node| node.has_rows());
     nodes.shrink_to_fit();
-}
-
-/// Whether the owner of a row of some nodes ends in a name.
-pub(crate) fn below_in<V: Drop>(nodes: &[Node<V>], name: &Name) -> bool
-    requires { AreNodes nodes.now }
-    ensures { result ≡ list_any (λ e. ends_in e.0.owner name.now) (all_rows nodes.now) }
-{
-    'nodes: for node in nodes {
-        if node.is_below(name) {
-            return true;
-        }
-    }
-    false
 }

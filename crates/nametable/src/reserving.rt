@@ -1,18 +1,18 @@
 //! Room for the keys of a plan.
 
-ghost use Rattle.std.specs.Prelude.{◌≡◌, ◌≤◌, ◌<◌, ◌&&◌, true, IsTrue, OnOk, is_some, length};
+ghost use Rattle.std.specs.Prelude.{◌≡◌, ◌≤◌, ◌<◌, ◌&&◌, false, IsTrue, OnOk, is_some, length};
 ghost use Rattle.std.specs.List.{AllByRecursion, filter};
 ghost use Rattle.std.specs.Ordering.{is_eq};
 ghost use Rattle.dnsname.specs.Names.{Labels, lower};
 ghost use Rattle.rrset.specs.Tables.{HasLowerOwner, HaveLowerOwners};
 ghost use Rattle.nametable.specs.Blocks.{AreBlocks, nodes_in};
-ghost use Rattle.nametable.specs.Nodes.{HasRoomFor, HaveRisingKeys, all_rows, count_at, keys_of, keys_put, name_cmp, room_at};
+ghost use Rattle.nametable.specs.Nodes.{HasRoomFor, HaveRisingKeys, all_rows, count_at, has_row, keys_of, keys_put, name_cmp, room_at};
 
 use crate::block::Block;
 use crate::blocks::reserve_in_blocks;
 use crate::order::compare_names;
 use dnsname::Name;
-use rrset::{Changed, NoMemory, Table};
+use rrset::{Changed, Key, NoMemory, Table};
 
 /// So many changes are few.
 const FEW: usize = 4;
@@ -71,9 +71,11 @@ fn keys_of(changed: &[Changed], owner: &Name) -> usize
     puts_among(changes_of(changed, owner))
 }
 
-/// Makes room for the keys that changes put at the owner of one of them, where this one puts something.
+/// Makes room for the keys that changes put at the owner of one of them, where this one puts something at a key that
+/// has no row.
 fn reserve_for_one<V: Drop>(
     blocks: &mut Vec<Block<V>>,
+    last: &mut usize,
     changed: &[Changed],
     change: &Changed,
 ) -> Result<(), NoMemory>
@@ -82,20 +84,20 @@ fn reserve_for_one<V: Drop>(
     requires order { HaveRisingKeys changed.now }
     ensures blocks { AreBlocks blocks.new.items }
     ensures rows { all_rows (nodes_in blocks.new.items) ≡ all_rows (nodes_in blocks.old.items) }
-    ensures room { OnOk result (IsTrue (is_some change.now.after) → count_at change.now.key.owner (keys_put changed.now) ≤ room_at (nodes_in blocks.new.items) change.now.key.owner) }
+    ensures room { OnOk result (IsTrue (is_some change.now.after) → has_row (nodes_in blocks.old.items) change.now.key ≡ false → count_at change.now.key.owner (keys_put changed.now) ≤ room_at (nodes_in blocks.new.items) change.now.key.owner) }
     ensures kept { (name : Labels) → room_at (nodes_in blocks.old.items) name ≤ room_at (nodes_in blocks.new.items) name }
 {
     if change.after.is_none() {
         return Ok(());
     }
-    let owner = &change.key.owner;
-    let keys = keys_of(changed, owner);
-    reserve_in_blocks(blocks, owner, keys)
+    let keys = keys_of(changed, &change.key.owner);
+    reserve_in_blocks(blocks, last, &change.key, keys)
 }
 
-/// Makes room for the keys that changes put.
+/// Makes room, at each name where changes put a key that has no row, for all keys that they put there.
 pub(crate) fn reserve_all<V: Drop>(
     blocks: &mut Vec<Block<V>>,
+    last: &mut usize,
     changed: &[Changed],
 ) -> Result<(), NoMemory>
     requires blocks { AreBlocks blocks.old.items }
@@ -107,7 +109,7 @@ pub(crate) fn reserve_all<V: Drop>(
     ensures kept { (name : Labels) → room_at (nodes_in blocks.old.items) name ≤ room_at (nodes_in blocks.new.items) name }
 {
     'changes: for change in changed {
-        reserve_for_one(blocks, changed, change)?;
+        reserve_for_one(blocks, last, changed, change)?;
     }
     Ok(())
 }
@@ -121,9 +123,29 @@ fn rows_at<V: Drop>(rows: &Table<V>, owner: &Name) -> usize
     rows.at(owner).len()
 }
 
-/// Makes room for the keys of a table.
+/// Makes room for the keys of a table at the owner of one of them, where this one has no row.
+fn reserve_for_row<V: Drop>(
+    blocks: &mut Vec<Block<V>>,
+    last: &mut usize,
+    rows: &Table<V>,
+    key: &Key,
+) -> Result<(), NoMemory>
+    requires blocks { AreBlocks blocks.old.items }
+    requires rows { HaveLowerOwners rows.now.rows }
+    requires lower { HasLowerOwner key.now }
+    ensures blocks { AreBlocks blocks.new.items }
+    ensures rows { all_rows (nodes_in blocks.new.items) ≡ all_rows (nodes_in blocks.old.items) }
+    ensures room { OnOk result (has_row (nodes_in blocks.old.items) key.now ≡ false → count_at key.now.owner (keys_of rows.now.rows) ≤ room_at (nodes_in blocks.new.items) key.now.owner) }
+    ensures kept { (name : Labels) → room_at (nodes_in blocks.old.items) name ≤ room_at (nodes_in blocks.new.items) name }
+{
+    let keys = rows_at(rows, &key.owner);
+    reserve_in_blocks(blocks, last, key, keys)
+}
+
+/// Makes room, at each name where a key of a table has no row, for all keys of it there.
 pub(crate) fn reserve_rows<V: Drop>(
     blocks: &mut Vec<Block<V>>,
+    last: &mut usize,
     rows: &Table<V>,
 ) -> Result<(), NoMemory>
     requires blocks { AreBlocks blocks.old.items }
@@ -133,8 +155,7 @@ pub(crate) fn reserve_rows<V: Drop>(
     ensures kept { (name : Labels) → room_at (nodes_in blocks.old.items) name ≤ room_at (nodes_in blocks.new.items) name }
 {
     'rows: for (key, _) in rows.entries() {
-        let keys = rows_at(rows, &key.owner);
-        reserve_in_blocks(blocks, &key.owner, keys)?;
+        reserve_for_row(blocks, last, rows, key)?;
     }
     Ok(())
 }

@@ -9,7 +9,7 @@ use Rattle.dnsname.proofs.Suffixes.{EndsIn-true, true-EndsIn}
 use Rattle.rrset.specs.KeyedRows.{Rows, rows_of}
 use Rattle.rrset.specs.Tables.{HaveLowerOwners}
 use Rattle.rrset.specs.declared.record.Shown.{Shown}
-use Rattle.suffixes.specs.Endings.{AreLow, names_above}
+use Rattle.recordindex.specs.Endings.{AreLow, names_above}
 use Rattle.recordindex.specs.Owners.{owners_in}
 
 or_mixed : (x s a t : Bool) → ((x || s) || (a || t)) ≡ ((x || a) || (s || t))

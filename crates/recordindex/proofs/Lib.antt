@@ -1,2 +1,11 @@
+pub mod OctetTests
+pub mod ThreeOwners
+pub mod Changes
+pub mod Using
+pub mod Ends
+pub mod Walks
+pub mod Ended
+pub mod Keeping
+pub mod Sweeping
 pub mod OwnerChanges
 pub mod BelowNames

@@ -17,7 +17,7 @@ use Rattle.rrset.specs.declared.record.Shown.{Shown}
 use Rattle.rrset.proofs.KeyOrder.{key_cmp-IsAntisymmetric}
 use Rattle.nametable.specs.Nodes.{IsNode, Nodes, all_rows}
 use Rattle.nametable.proofs.RisingRows.{rising-put}
-use Rattle.suffixes.specs.Endings.{AreCounted, SuffixesState, above_name, names_above, times, using, HasRoomFor as HasPlacesFor}
+use Rattle.recordindex.specs.Endings.{AreCounted, SuffixesState, above_name, names_above, times, using, HasRoomFor as HasPlacesFor}
 use Rattle.recordindex.specs.Owners.{AreOwners, HasPlacesToPut, owners_in}
 
 tied : (o : Ordering) → is_eq o ≡ true → o ≡ Equal

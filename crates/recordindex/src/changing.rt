@@ -2,34 +2,33 @@
 
 ghost use Rattle.std.specs.Prelude.{◌≡◌, ◌≤◌, ◌<◌, ◌+◌, ◌^◌, ◌∷◌, [], true, false, length, List, Some, None, is_some};
 ghost use Rattle.std.specs.List.{AllByRecursion};
-ghost use Rattle.std.specs.Ordering.{is_eq};
-ghost use Rattle.dnsname.specs.Names.{Labels, lower};
+ghost use Rattle.dnsname.specs.Names.{lower};
 ghost use Rattle.rrset.specs.Records.{same_key};
 ghost use Rattle.rrset.specs.KeyedRows.{row_at};
 ghost use Rattle.rrset.specs.RecordSet.{put, with_changed, with_changes, without};
 ghost use Rattle.rrset.specs.Tables.{HasLowerOwner};
 ghost use Rattle.rrset.specs.declared.record.Changed.{Changed};
+ghost use Rattle.rrset.specs.declared.record.Key.{Key};
 ghost use Rattle.rrset.specs.declared.record.Shown.{Shown};
-ghost use Rattle.nametable.specs.Nodes.{HasRoomFor, keys_put, name_cmp, room_at};
-ghost use Rattle.suffixes.specs.Endings.{HasRoomFor as HasPlacesFor, room_of};
+ghost use Rattle.nametable.specs.Nodes.{HasRoomFor, keys_put};
+ghost use Rattle.recordindex.specs.Endings.{HasRoomFor as HasPlacesFor, room_of};
 ghost use Rattle.recordindex.specs.Owners.{AreOwners, HasPlacesToPut};
 
 use crate::counting::tell_order;
+use crate::suffixes::Suffixes;
 use dnsname::Name;
 use nametable::Index;
 use push_base::Steps;
 use rrset::{Changed, Key, Shown};
 use std::sync::ledger::Ledger;
-use suffixes::Suffixes;
 
 /// Shows this of a key, where there is room for it, and says whether something was shown of it. It counts one step.
 fn put_in_room<L: Ledger>(index: &mut Index, key: Key, shown: Shown, steps: &mut Steps<L>) -> bool
     requires lower { HasLowerOwner key }
-    requires room { 1 ≤ room_at index.old.nodes key.owner }
+    requires room { HasRoomFor (key ∷ []) index.old.nodes }
     ensures found { result ≡ is_some (row_at key index.old.rows) }
     ensures rows { index.new.rows ≡ put key shown index.old.rows }
-    ensures here { room_at index.old.nodes key.owner ≤ room_at index.new.nodes key.owner + 1 }
-    ensures others { (name : Labels) → is_eq (name_cmp name key.owner) ≡ false → room_at index.old.nodes name ≤ room_at index.new.nodes name }
+    ensures left { (others : List Key) → HasRoomFor (key ∷ others) index.old.nodes → HasRoomFor others index.new.nodes }
     ensures steps { steps.new ≡ steps.old + 1 }
 {
     match index.put(key, shown, steps) {
@@ -43,7 +42,7 @@ fn put_in_room<L: Ledger>(index: &mut Index, key: Key, shown: Shown, steps: &mut
 fn remove_key<L: Ledger>(index: &mut Index, key: &Key, steps: &mut Steps<L>) -> bool
     ensures found { result ≡ is_some (row_at key.now index.old.rows) }
     ensures rows { index.new.rows ≡ without (same_key key.now) index.old.rows }
-    ensures room { (name : Labels) → room_at index.old.nodes name ≤ room_at index.new.nodes name }
+    ensures left { (others : List Key) → HasRoomFor others index.old.nodes → HasRoomFor others index.new.nodes }
     ensures steps { steps.new ≡ steps.old + 1 }
 {
     match index.remove(key, steps) {
@@ -74,7 +73,7 @@ fn put_counted<L: Ledger>(
 )
     requires same { owner.now ≡ key.owner }
     requires lower { HasLowerOwner key }
-    requires room { 1 ≤ room_at index.old.nodes key.owner }
+    requires room { HasRoomFor (key ∷ []) index.old.nodes }
     requires places { HasPlacesFor key.owner (room_of suffixes.old.kept) }
     requires few { suffixes.old.total < 2 ^ 63 }
     requires owners { AreOwners suffixes.old index.old.rows }
@@ -82,8 +81,7 @@ fn put_counted<L: Ledger>(
     ensures total { suffixes.new.total ≤ suffixes.old.total + 1 }
     ensures places { room_of suffixes.new.kept ≡ room_of suffixes.old.kept }
     ensures rows { index.new.rows ≡ put key shown index.old.rows }
-    ensures here { room_at index.old.nodes key.owner ≤ room_at index.new.nodes key.owner + 1 }
-    ensures others { (name : Labels) → is_eq (name_cmp name key.owner) ≡ false → room_at index.old.nodes name ≤ room_at index.new.nodes name }
+    ensures left { (others : List Key) → HasRoomFor (key ∷ others) index.old.nodes → HasRoomFor others index.new.nodes }
     ensures steps { steps.new ≡ steps.old + 1 }
 {
     // Its clause says that all keys are in order.
@@ -121,7 +119,7 @@ fn put_key<L: Ledger>(
     steps: &mut Steps<L>,
 )
     requires lower { HasLowerOwner key }
-    requires room { 1 ≤ room_at index.old.nodes key.owner }
+    requires room { HasRoomFor (key ∷ []) index.old.nodes }
     requires places { HasPlacesFor key.owner (room_of suffixes.old.kept) }
     requires few { suffixes.old.total < 2 ^ 63 }
     requires owners { AreOwners suffixes.old index.old.rows }
@@ -129,8 +127,7 @@ fn put_key<L: Ledger>(
     ensures total { suffixes.new.total ≤ suffixes.old.total + 1 }
     ensures places { room_of suffixes.new.kept ≡ room_of suffixes.old.kept }
     ensures rows { index.new.rows ≡ put key shown index.old.rows }
-    ensures here { room_at index.old.nodes key.owner ≤ room_at index.new.nodes key.owner + 1 }
-    ensures others { (name : Labels) → is_eq (name_cmp name key.owner) ≡ false → room_at index.old.nodes name ≤ room_at index.new.nodes name }
+    ensures left { (others : List Key) → HasRoomFor (key ∷ others) index.old.nodes → HasRoomFor others index.new.nodes }
     ensures steps { steps.new ≡ steps.old + 1 }
 {
     match key.owner.copy() {
@@ -149,7 +146,7 @@ fn take_out<L: Ledger>(index: &mut Index, suffixes: &mut Suffixes, key: &Key, st
     ensures total { suffixes.new.total ≤ suffixes.old.total }
     ensures places { room_of suffixes.new.kept ≡ room_of suffixes.old.kept }
     ensures rows { index.new.rows ≡ without (same_key key.now) index.old.rows }
-    ensures room { (name : Labels) → room_at index.old.nodes name ≤ room_at index.new.nodes name }
+    ensures left { (others : List Key) → HasRoomFor others index.old.nodes → HasRoomFor others index.new.nodes }
     ensures steps { steps.new ≡ steps.old + 1 }
 {
     // Its clause says that all keys are in order.

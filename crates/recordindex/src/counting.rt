@@ -5,14 +5,14 @@ ghost use Rattle.std.specs.List.{AllByRecursion, list_any};
 ghost use Rattle.dnsname.specs.Names.{Labels, ends_in};
 ghost use Rattle.rrset.specs.KeyedRows.{is_rising, rows_of};
 ghost use Rattle.rrset.specs.Tables.{HasLowerOwner, HaveLowerOwners};
-ghost use Rattle.suffixes.specs.Endings.{AreCounted, HasRoomFor, room_of};
+ghost use Rattle.recordindex.specs.Endings.{AreCounted, HasRoomFor, room_of};
 ghost use Rattle.recordindex.specs.Owners.{AreOwners, HasPlacesToPut};
 
+use crate::suffixes::Suffixes;
 use dnsname::Name;
 use nametable::Index;
 use rrset::{Changed, Key, NoMemory, Shown};
 use std::alloc::Global;
-use suffixes::Suffixes;
 
 /// So many owners there may never be.
 const MAX_OWNERS: usize = 0x8000_0000_0000_0000;

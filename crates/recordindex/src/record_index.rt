@@ -10,6 +10,7 @@ ghost use Rattle.recordindex.specs.Owners.{HasRoomForChanges};
 
 use crate::changing::make_all;
 use crate::counting::{below_in, count_owners, reserve_owners};
+use crate::suffixes::Suffixes;
 use dnsname::Name;
 use nametable::{Index, by_names};
 use push_base::Steps;
@@ -17,7 +18,6 @@ use rrset::{Changed, NoMemory, Table};
 use std::alloc::Global;
 use std::marker::Model;
 use std::sync::ledger::Ledger;
-use suffixes::Suffixes;
 
 /// All records by names, and their owners. Whether one ends in a name two look-ups say at most, however many names
 /// there are.
@@ -28,12 +28,12 @@ pub struct RecordIndex {
 }
 
 impl Model for RecordIndex {
-    ghost use Rattle.suffixes.specs.Endings.{room_of};
+    ghost use Rattle.recordindex.specs.Endings.{room_of};
     ghost use Rattle.recordindex.specs.Owners.{AreOwners, RecordsState};
 
     ghost Value = { RecordsState };
 
-    ghost view = { λ r. record { rows = r.index.rows; nodes = r.index.nodes; places = room_of r.suffixes.kept; owners = r.suffixes.total } };
+    ghost view = { λ r. record { rows = r.index.rows; nodes = r.index.nodes; places = room_of r.suffixes.kept } };
 
     ghost invariant = { λ r. AreOwners r.suffixes r.index.rows };
 }
@@ -65,8 +65,8 @@ impl RecordIndex {
         below_in(&self.index, &self.suffixes, name)
     }
 
-    /// Makes room for the keys that changes put, in time linear in the changes but for searches. It counts a step for
-    /// each change.
+    /// Makes room for the keys that changes put and that have no row, and for their owners. It counts a step for each
+    /// change.
     pub fn reserve_for<L: Ledger>(
         &mut self,
         changed: &[Changed],

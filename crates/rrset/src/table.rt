@@ -1,6 +1,6 @@
 //! Finite maps from keys to values, as to what is shown of them.
 
-ghost use Rattle.std.specs.Prelude.{◌≡◌, ◌≤◌, ◌+◌, ◌⊎◌, [], Bool, length, IfOk, IfErr, IsOk, OnOk, OnErr, IsTrue, is_some, Some, None, MatchOption};
+ghost use Rattle.std.specs.Prelude.{◌≡◌, ◌≤◌, ◌+◌, ◌⊎◌, [], Bool, false, length, IfOk, IfErr, IsOk, OnOk, OnErr, IsTrue, is_some, Some, None, MatchOption};
 ghost use Rattle.std.specs.Fn.{CalledAt, ComputesKey};
 ghost use Rattle.rrset.specs.RecordSet.{size_at};
 ghost use Rattle.rrset.specs.KeyedRows.{is_rising, row_at, put_row, without_rows, only_rows, rows_of};
@@ -71,6 +71,7 @@ impl<V: Drop> Table<V> {
         ensures value { result ≡ row_at key.now self.old.rows }
         ensures rows { self.new.rows ≡ without_rows (same_key key.now) self.old.rows }
         ensures room { self.old.spare ≤ self.new.spare }
+        ensures freed { IsTrue (is_some (row_at key.now self.old.rows)) → self.old.spare + 1 ≤ self.new.spare }
     {
         match self.search(key) {
             Ok(index) => {
@@ -127,6 +128,39 @@ impl<V: Drop> Table<V> {
         ensures kept { self.old.spare ≤ self.new.spare }
     {
         self.entries.reserve_exact(keys)
+    }
+
+    /// Makes room for so many further keys where one of them isn't there.
+    pub fn reserve_for(&mut self, key: &Key, keys: usize) -> Result<(), NoMemory>
+        ensures rows { self.new.rows ≡ self.old.rows }
+        ensures room { OnOk result (is_some (row_at key.now self.old.rows) ≡ false → keys ≤ self.new.spare) }
+        ensures kept { self.old.spare ≤ self.new.spare }
+    {
+        // Where there is room, the key isn't looked for.
+        if self.has_room(keys) {
+            return Ok(());
+        }
+        if self.has_key(key) {
+            return Ok(());
+        }
+        self.reserve(keys)
+    }
+
+    /// Whether a key has a row.
+    fn has_key(&self, key: &Key) -> bool
+        ensures { result ≡ is_some (row_at key.now self.now.rows) }
+    {
+        match self.get(key) {
+            Some(_) => true,
+            None => false,
+        }
+    }
+
+    /// Whether there is room for so many further keys.
+    fn has_room(&self, keys: usize) -> bool
+        ensures { IsTrue result → keys ≤ self.now.spare }
+    {
+        keys <= self.entries.capacity().saturating_sub(self.entries.len())
     }
 
     /// Gives a key this value, and gives back the one that it had. It takes no memory where the key is there, or there

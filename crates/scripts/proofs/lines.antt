@@ -15,3 +15,4 @@ pub mod LineByLine
 pub mod SentOctets
 pub mod Octets
 pub mod OneWord
+pub mod PlacesKept

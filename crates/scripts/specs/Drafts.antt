@@ -76,7 +76,7 @@ abbrev pub nothing_taken : Taken
 nothing_taken = record { timers = None; homes = no_homes; links = []; events = []; clients = [] }
 
 abbrev pub taken_of : Draft → Taken
-taken_of draft = record { timers = draft.timers; homes = draft.homes.homes; links = draft.homes.words; events = draft.events.items; clients = known_clients draft.clients.items }
+taken_of draft = record { timers = draft.timers; homes = draft.homes.homes; links = draft.homes.words; events = draft.events.items; clients = known_clients draft.clients }
 
 -- the head that the lines so far have made
 abbrev pub head_of : Option Timers → State → List Word → Head

@@ -1,4 +1,5 @@
 pub mod Carrying
+pub mod Places
 pub mod Lines
 pub mod Scripts
 pub mod TextLines

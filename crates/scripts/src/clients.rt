@@ -2,11 +2,12 @@
 
 ghost use Rattle.std.specs.Prelude.{◌≡◌, ◌||◌, Some, false, map, option_map, position, IfOk, string_bytes};
 ghost use Rattle.std.specs.Str.{bytes_eq};
-ghost use Rattle.scripts.specs.Scripts.{is_among, is_peer, lone_in, is_client_in, is_hub_client_in, is_lone_client_in, may_happen_to, may_meet};
+ghost use Rattle.scripts.specs.Scripts.{is_among, is_peer, is_client_in, is_hub_client_in, is_lone_client_in, may_happen_to, may_meet};
 ghost use Rattle.scripts.specs.KeptLines.{words_of};
 ghost use Rattle.scripts.specs.Events.{known_clients, words_known};
 ghost use Rattle.scripts.specs.Drafts.{client_in, is_any_word, is_word};
 
+use crate::client_list::Clients;
 use crate::line::{ClientEvent, SessionEvent};
 use crate::line_words::plain_word;
 use push_base::NoMemory;
@@ -21,8 +22,8 @@ pub struct KnownClient {
     pub is_lone: bool,
 }
 
-/// The word of the client, or of the lone one, that a line names. It goes by the line's front, so that no line's octets are
-/// read here and once more with the line.
+/// The word of the client, or of the lone one, that a line names. It goes by the line's front, so that no line's octets
+/// are read here and once more with the line.
 pub(crate) fn client_in(alloc: Global, line: &[u8]) -> Result<Option<String>, NoMemory>
     ensures { IfOk result (λ found. option_map (λ w. string_bytes w) found ≡ client_in line.now) }
 {
@@ -36,7 +37,7 @@ pub(crate) fn client_in(alloc: Global, line: &[u8]) -> Result<Option<String>, No
 }
 
 /// Whether that may happen to the client of a word: octets come to lone clients alone.
-pub(crate) fn may_happen_to(clients: &[KnownClient], word: &[u8], event: &ClientEvent) -> bool
+pub(crate) fn may_happen_to(clients: &Clients, word: &[u8], event: &ClientEvent) -> bool
     ensures { result ≡ may_happen_to (known_clients clients.now) word.now event.now }
 {
     match event {
@@ -47,12 +48,7 @@ pub(crate) fn may_happen_to(clients: &[KnownClient], word: &[u8], event: &Client
 }
 
 /// Whether that may happen to the session of a word, where these are the words of all clients of the script.
-pub(crate) fn may_meet(
-    all: &[String],
-    clients: &[KnownClient],
-    word: &[u8],
-    event: &SessionEvent,
-) -> bool
+pub(crate) fn may_meet(all: &[String], clients: &Clients, word: &[u8], event: &SessionEvent) -> bool
     ensures { result ≡ may_meet (map (λ w. string_bytes w) all.now) (known_clients clients.now) word.now event.now }
 {
     match event {
@@ -63,71 +59,51 @@ pub(crate) fn may_meet(
 }
 
 // Whether a word is that of a client that there is, or of a peer.
-fn may_be_cut(all: &[String], clients: &[KnownClient], word: &[u8]) -> bool
+fn may_be_cut(all: &[String], clients: &Clients, word: &[u8]) -> bool
     ensures { result ≡ (is_client_in (known_clients clients.now) word.now || is_peer (map (λ w. string_bytes w) all.now) word.now) }
 {
     is_known(clients, word) || !is_among(all, word)
 }
 
 // Whether a word is that of a client of the hub, or of a peer.
-fn may_be_stopped(all: &[String], clients: &[KnownClient], word: &[u8]) -> bool
+fn may_be_stopped(all: &[String], clients: &Clients, word: &[u8]) -> bool
     ensures { result ≡ (is_hub_client_in (known_clients clients.now) word.now || is_peer (map (λ w. string_bytes w) all.now) word.now) }
 {
     is_hub_client(clients, word) || !is_among(all, word)
 }
 
 /// Whether a word is that of a client that there is.
-pub(crate) fn is_known(clients: &[KnownClient], word: &[u8]) -> bool
+pub(crate) fn is_known(clients: &Clients, word: &[u8]) -> bool
     ensures { result ≡ is_client_in (known_clients clients.now) word.now }
 {
-    lone_of(clients, word).is_some()
+    clients.lone(word).is_some()
 }
 
 /// Whether a word is that of a client of the hub.
-pub(crate) fn is_hub_client(clients: &[KnownClient], word: &[u8]) -> bool
+pub(crate) fn is_hub_client(clients: &Clients, word: &[u8]) -> bool
     ensures { result ≡ is_hub_client_in (known_clients clients.now) word.now }
 {
-    match lone_of(clients, word) {
+    match clients.lone(word) {
         None => false,
         Some(is_lone) => !is_lone,
     }
 }
 
 // Whether a word is that of a lone client.
-fn is_lone_client(clients: &[KnownClient], word: &[u8]) -> bool
+fn is_lone_client(clients: &Clients, word: &[u8]) -> bool
     ensures { result ≡ is_lone_client_in (known_clients clients.now) word.now }
 {
-    match lone_of(clients, word) {
+    match clients.lone(word) {
         None => false,
         Some(is_lone) => is_lone,
     }
 }
 
-// Whether the client of a word is a lone one, if there is one.
-fn lone_of(clients: &[KnownClient], word: &[u8]) -> Option<bool>
-    ensures { result ≡ lone_in (known_clients clients.now) word.now }
-{
-    'clients: for client in clients {
-        if is_word(&client.word, word) {
-            return Some(client.is_lone);
-        }
-    }
-    None
-}
-
 /// The number of the client of a word, counted from 0.
-pub(crate) fn client_of(clients: &[KnownClient], word: &[u8]) -> Option<usize>
+pub(crate) fn client_of(clients: &Clients, word: &[u8]) -> Option<usize>
     ensures { result ≡ position (bytes_eq word.now) (words_known (known_clients clients.now)) }
 {
-    first_client(clients, word)
-}
-
-fn first_client(clients: &[KnownClient], word: &[u8]) -> Option<usize>
-    ensures { result ≡ position (λ c. is_word word.now c.word) clients.now }
-{
-    clients
-        .iter()
-        .position(|client| is_word(&client.word, word))
+    clients.place(word)
 }
 
 /// Whether a word is among others.

@@ -7,7 +7,8 @@ ghost use Rattle.scripts.specs.KeptLines.{words_of};
 ghost use Rattle.scripts.specs.Events.{known_clients};
 ghost use Rattle.scripts.specs.Drafts.{IsParty, Numbered};
 
-use crate::clients::{KnownClient, client_of, may_happen_to, may_meet, place_among};
+use crate::client_list::Clients;
+use crate::clients::{client_of, may_happen_to, may_meet, place_among};
 use crate::line::{Call, ClientEvent, EventLine, HubEvent, LinkEvent, SessionEvent, Way};
 
 /// Whose session it is.
@@ -38,12 +39,12 @@ pub enum Event {
     Session { party: Party, event: SessionEvent },
 }
 
-/// The event of a line, if its word, where it has one, may stand there: a peer has a word that no client has anywhere, and
-/// a client or a link that is spoken of is one that there is.
+/// The event of a line, if its word, where it has one, may stand there: a peer has a word that no client has anywhere,
+/// and a client or a link that is spoken of is one that there is.
 pub(crate) fn event_of(
     all: &[String],
     links: &[String],
-    clients: &[KnownClient],
+    clients: &Clients,
     line: EventLine,
 ) -> Option<Event>
     ensures { Numbered (words_of all.now) (words_of links.now) (known_clients clients.now) line result }
@@ -67,7 +68,7 @@ fn on_link(links: &[String], word: String, event: LinkEvent) -> Option<Event>
 }
 
 // A call of the client of a word.
-fn call_of(clients: &[KnownClient], word: String, call: Call) -> Option<Event>
+fn call_of(clients: &Clients, word: String, call: Call) -> Option<Event>
     ensures { (all links : List Word) → Numbered all links (known_clients clients.now) (event_lines.Call word call) result }
 {
     let client = client_of(clients, word.as_bytes())?;
@@ -75,7 +76,7 @@ fn call_of(clients: &[KnownClient], word: String, call: Call) -> Option<Event>
 }
 
 // Octets of the client of a word that pass.
-fn passing_of(clients: &[KnownClient], word: String, way: Way) -> Option<Event>
+fn passing_of(clients: &Clients, word: String, way: Way) -> Option<Event>
     ensures { (all links : List Word) → Numbered all links (known_clients clients.now) (event_lines.Passing word way) result }
 {
     let client = client_of(clients, word.as_bytes())?;
@@ -83,7 +84,7 @@ fn passing_of(clients: &[KnownClient], word: String, way: Way) -> Option<Event>
 }
 
 // What happens to the client of a word, if it may.
-fn to_client(clients: &[KnownClient], word: String, event: ClientEvent) -> Option<Event>
+fn to_client(clients: &Clients, word: String, event: ClientEvent) -> Option<Event>
     ensures { (all links : List Word) → Numbered all links (known_clients clients.now) (event_lines.Client word event) result }
 {
     let client = client_of(clients, word.as_bytes())?;
@@ -94,12 +95,7 @@ fn to_client(clients: &[KnownClient], word: String, event: ClientEvent) -> Optio
 }
 
 // What happens to the session of a word, if it may.
-fn to_session(
-    all: &[String],
-    clients: &[KnownClient],
-    word: String,
-    event: SessionEvent,
-) -> Option<Event>
+fn to_session(all: &[String], clients: &Clients, word: String, event: SessionEvent) -> Option<Event>
     ensures { (links : List Word) → Numbered (words_of all.now) links (known_clients clients.now) (event_lines.Session word event) result }
 {
     if !may_meet(all, clients, word.as_bytes(), &event) {
@@ -110,7 +106,7 @@ fn to_session(
 }
 
 // The party of a word: a client, or else a peer.
-fn party_of(clients: &[KnownClient], word: String) -> Party
+fn party_of(clients: &Clients, word: String) -> Party
     ensures { IsParty (known_clients clients.now) (string_bytes word) result }
 {
     match client_of(clients, word.as_bytes()) {

@@ -1,6 +1,8 @@
-//! The grammar of scripts, and how they are read: octets of a source, lines, and the script that they make; and how a program that was given one ends.
+//! The grammar of scripts, and how they are read: octets of a source, lines, and the script that they make; and how a
+//! program that was given one ends.
 #![tactic(auto)]
 
+mod client_list;
 mod client_readers;
 mod clients;
 pub mod event;
@@ -10,6 +12,7 @@ pub mod line;
 pub mod line_words;
 mod named;
 mod outcome;
+mod places;
 mod read;
 mod script;
 mod text_lines;

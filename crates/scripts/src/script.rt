@@ -10,6 +10,7 @@ ghost use Rattle.scripts.specs.Scripts.{is_client_in, is_hub_client_in};
 ghost use Rattle.scripts.specs.KeptLines.{words_of};
 ghost use Rattle.scripts.specs.Drafts.{TakesLine, taken_of, nothing_taken};
 
+use crate::client_list::Clients;
 use crate::clients::{KnownClient, is_hub_client, is_known, place_among};
 use crate::event::{Event, event_of};
 use crate::head_homes::HeadHomes;
@@ -43,7 +44,7 @@ pub struct Draft {
     timers: Option<Timers>,
     homes: HeadHomes,
     events: Vec<Event>,
-    clients: Vec<KnownClient>,
+    clients: Clients,
 }
 
 impl Draft {
@@ -55,7 +56,7 @@ impl Draft {
             timers: None,
             homes: HeadHomes::new(alloc),
             events: Vec::new(alloc),
-            clients: Vec::new(alloc),
+            clients: Clients::new(alloc),
         }
     }
 
@@ -113,7 +114,7 @@ impl Draft {
             return Ok(false);
         }
         let client = self.clients.len();
-        self.clients.push(KnownClient { word, is_lone })?;
+        self.clients.add(KnownClient { word, is_lone })?;
         self.events.push(Event::Joining { client })?;
         Ok(true)
     }
@@ -158,7 +159,7 @@ impl Draft {
         ensures timers { result.timers ≡ unwrap_or self.timers default_timers }
         ensures homes { result.homes ≡ self.homes.homes }
         ensures links { words_of result.links.items ≡ self.homes.words }
-        ensures clients { result.clients.items ≡ self.clients.items }
+        ensures clients { result.clients.items ≡ self.clients }
         ensures events { result.events.items ≡ self.events.items }
     {
         let Draft {
@@ -173,7 +174,7 @@ impl Draft {
             timers: timers_or_default(timers),
             homes,
             links,
-            clients,
+            clients: clients.into_list(),
             events,
         }
     }

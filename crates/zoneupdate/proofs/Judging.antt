@@ -8,7 +8,6 @@ use Rattle.dnsname.specs.Names.{Labels, same_name}
 use Rattle.rrset.specs.Rcodes.{refused}
 use Rattle.rrset.specs.Records.{rr_of, rr_size}
 use Rattle.rrset.specs.RecordSet.{RecordSet, only, changes, size_at, size_of}
-use Rattle.rrset.specs.Tables.{counted}
 use Rattle.rrset.specs.declared.record.Changed.{Changed}
 use Rattle.rrset.specs.declared.record.Rr.{Rr}
 use Rattle.rrset.specs.declared.record.Key.{Key}
@@ -43,12 +42,12 @@ light-only p (e ∷ es) = by (p e.0) (size_of-only-cons p e es) (size_of-cons e 
 light-at : (name : Labels) (work : RecordSet) → size_of work ≤ max_octets_at_name → nat_le (size_at name work) max_octets_at_name ≡ true
 light-at name work light = le-leb (size_at name work) max_octets_at_name (let less = light-only (λ key. same_name name key.owner) work in omega (arith, less, light))
 
-pub light-fits : (apex : Labels) (rrs : List Rr) (work : RecordSet) (n : ℕ) → n ≡ counted (size_of work) → n ≤ max_octets_at_name
+pub light-fits : (apex : Labels) (rrs : List Rr) (work : RecordSet) → nat_le (size_of work) max_octets_at_name ≡ true
     → (nat_le (size_at apex work) max_octets_at_name && list_all (λ rr. nat_le (size_at rr.owner work) max_octets_at_name) rrs) ≡ true
-light-fits apex rrs work n is few = and-both _ _ (light-at apex work light) (all rrs)
+light-fits apex rrs work few = and-both _ _ (light-at apex work light) (all rrs)
   where
     light : size_of work ≤ max_octets_at_name
-    light = omega (arith, is, few)
+    light = leb-true (size_of work) max_octets_at_name few
 
     all : (rrs : List Rr) → list_all (λ rr. nat_le (size_at rr.owner work) max_octets_at_name) rrs ≡ true
     all [] = refl

@@ -1,6 +1,6 @@
 -- An update of one name, where that isn't the apex.
 --     is_single apex name changes      the changes are of this name alone, and it isn't the apex
---     is_before name rows      the first record's owner comes before a name
+--     is_before name rows      the first record's owner comes before a name, or there is no record
 --     changes_beside name soas before work      the keys of the name that are shown otherwise, and beside them the SOA with the next serial
 --     is_within_at all work      the limits, by the number of all records and those of the name alone
 --     RisesAlike entry      an SOA with the next serial is as long
@@ -23,7 +23,7 @@ use Rattle.zoneupdate.specs.Differing.{differences}
 abbrev pub is_single : Labels → Labels → List Rr → Bool
 is_single apex name changes = not (same_name name apex) && list_all (λ rr. same_name name rr.owner) changes
 
--- the first record's owner comes before a name
+-- the first record's owner comes before a name, or there is no record
 abbrev pub is_before : Labels → RecordSet → Bool
 is_before name [] = true
 is_before name (e ∷ es) = is_lt (octets_cmp (octets e.0.owner) (octets (lower name)))

@@ -1,13 +1,12 @@
 //! The changes of a plan, which take no memory.
 
-ghost use Rattle.std.specs.Prelude.{◌≡◌, ◌≤◌, ◌+◌, ◌∷◌, [], false, List};
+ghost use Rattle.std.specs.Prelude.{◌≡◌, ◌∷◌, [], List};
 ghost use Rattle.std.specs.List.{AllByRecursion};
-ghost use Rattle.std.specs.Ordering.{is_eq};
-ghost use Rattle.dnsname.specs.Names.{Labels};
 ghost use Rattle.rrset.specs.RecordSet.{put, with_changed, with_changes};
 ghost use Rattle.rrset.specs.Tables.{HasLowerOwner};
 ghost use Rattle.rrset.specs.declared.record.Changed.{Changed};
-ghost use Rattle.nametable.specs.Nodes.{HasRoomFor, keys_put, name_cmp, room_at};
+ghost use Rattle.rrset.specs.declared.record.Key.{Key};
+ghost use Rattle.nametable.specs.Nodes.{HasRoomFor, keys_put};
 
 use nametable::NameTable;
 use rrset::{Changed, Key, Shown};
@@ -15,10 +14,9 @@ use rrset::{Changed, Key, Shown};
 /// Shows this of a key, where there is room for it.
 fn put_in_room(rows: &mut NameTable, key: Key, shown: Shown)
     requires lower { HasLowerOwner key }
-    requires room { 1 ≤ room_at rows.old.nodes key.owner }
+    requires room { HasRoomFor (key ∷ []) rows.old.nodes }
     ensures rows { rows.new.rows ≡ put key shown rows.old.rows }
-    ensures here { room_at rows.old.nodes key.owner ≤ room_at rows.new.nodes key.owner + 1 }
-    ensures others { (name : Labels) → is_eq (name_cmp name key.owner) ≡ false → room_at rows.old.nodes name ≤ room_at rows.new.nodes name }
+    ensures left { (others : List Key) → HasRoomFor (key ∷ others) rows.old.nodes → HasRoomFor others rows.new.nodes }
 {
     match rows.put(key, shown) {
         Ok(_) => {}

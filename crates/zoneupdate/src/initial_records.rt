@@ -57,8 +57,20 @@ pub(crate) fn first_ns(alloc: Global, apex: &Name) -> Result<Rr, NoMemory>
         class: IN,
         kind: NS,
         ttl: TTL,
-        rdata: Octets::from_vec(rdata),
+        rdata: Octets::shared(rdata)?,
     })
+}
+
+/// The rdata of the SOA.
+fn soa_octets(alloc: Global, apex: &Name, serial: u32) -> Result<Vec<u8>, NoMemory>
+    ensures octets { IfOk result (λ octets. octets.items ≡ (first_soa apex.now serial).rdata) }
+    ensures size { IfOk result (λ octets. length octets.items ≤ 544) }
+{
+    let mut octets = octets_under(alloc, b"ns", apex)?;
+    let rname = octets_under(alloc, b"hostmaster", apex)?;
+    octets.extend_from_slice(&rname)?;
+    octets.extend_from_slice(&soa_numbers(alloc, serial)?)?;
+    Ok(octets)
 }
 
 /// The SOA, with its serial and this project's own times (RFC 1035, 3.3.13).
@@ -66,16 +78,13 @@ pub(crate) fn first_soa(alloc: Global, apex: &Name, serial: u32) -> Result<Rr, N
     ensures record { IfOk result (λ rr. rr ≡ first_soa apex.now serial) }
     ensures size { IfOk result (λ rr. length rr.rdata ≤ 544) }
 {
-    let mut rdata = octets_under(alloc, b"ns", apex)?;
-    let rname = octets_under(alloc, b"hostmaster", apex)?;
-    rdata.extend_from_slice(&rname)?;
-    rdata.extend_from_slice(&soa_numbers(alloc, serial)?)?;
+    let rdata = soa_octets(alloc, apex, serial)?;
     Ok(Rr {
         owner: apex.copy()?,
         class: IN,
         kind: SOA,
         ttl: TTL,
-        rdata: Octets::from_vec(rdata),
+        rdata: Octets::shared(rdata)?,
     })
 }
 

@@ -116,7 +116,7 @@ fn changes_fit(work: &Table, changes: &Rrs) -> bool
 fn all_fit(work: &Table, apex: &Name, changes: &Rrs) -> bool
     ensures { result ≡ (nat_le (size_at apex.now work.now.rows) max_octets_at_name && list_all (λ rr. nat_le (size_at rr.owner work.now.rows) max_octets_at_name) changes.now) }
 {
-    if size_of(work.entries()) <= MAX_OCTETS_AT_NAME {
+    if is_light(work) {
         return true;
     }
     fits_at(work, apex) && changes_fit(work, changes)

@@ -1,5 +1,5 @@
-//! What an update of one name is planned to change, where that isn't the apex: nothing of the apex is looked at but its
-//! SOA.
+//! What an update of one name is planned to change, where that isn't the apex: of the apex's records the SOA alone is
+//! copied.
 
 ghost use Rattle.std.specs.Prelude.{◌≡◌, ◌≤◌, ◌+◌, ◌++◌, ℕ, true, map, fold, length, IfOk, OnOk, MatchOption, IsTrue};
 ghost use Rattle.std.specs.List.{AllByRecursion, list_all};
@@ -96,7 +96,7 @@ fn soa_among<'a>(name: &Name, rows: &'a [(Key, Shown)]) -> &'a [(Key, Shown)]
     rest
 }
 
-/// Whether the first of some records comes before those of a name.
+/// Whether the first of some records comes before those of a name, or there is none.
 fn comes_before(rows: &[(Key, Shown)], name: &Name) -> bool
     ensures { result ≡ is_before name.now rows.now }
 {

@@ -1,14 +1,10 @@
-use Rattle.std.proofs.Common.{◌≡◌, ◌∙◌, filter, fold, sym, ap, subst}
+use Rattle.std.proofs.Common.{◌≡◌, ◌∙◌, filter, fold, ap}
 use Rattle.rrset.specs.Tables.{TableState}
 use Rattle.linkcache.specs.Parts.{laid}
 use Rattle.linkcache.specs.Rows.{LinkRows, flushed_by, heard, put_heard, usable_of}
-use Rattle.linkcache.specs.Sound.{AreLinkRows}
 use Rattle.linkcache.specs.declared.row.HeardRow.{HeardRow}
 use Rattle.linkcache.proofs.PlanRoom.{if_ok}
 use Rattle.linkcache.proofs.heard_rows.heard.Goals as goal
-
-pub put_usable-requires-clause-later : goal.put_usable-requires-clause-later
-put_usable-requires-clause-later c = subst (λ (l : LinkRows). AreLinkRows c.args.rules.now (laid l c.args.rows.now.rows)) (sym c.new-over.ensures) c.requires.rows
 
 pub returns : goal.returns
 returns c =

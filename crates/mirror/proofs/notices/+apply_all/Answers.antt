@@ -1,12 +1,11 @@
 use Rattle.std.proofs.Common.{◌≡◌, ◌∷◌, ◌∙◌, List, sym, ap, subst}
-use Rattle.std.specs.Prelude.{fold}
 use Rattle.rrset.specs.RecordSet.{RecordSet}
 use Rattle.rrset.specs.Tables.{TableState}
 use Rattle.rrset.specs.declared.record.Shown.{Shown}
 use Rattle.rrset.specs.declared.record.Question.{Question}
 use Rattle.dsotlv.specs.Notices.{applied_all}
 use Rattle.mirror.specs.Held.{Held, AreAsked, AsksFor, applied_to, held_of}
-use Rattle.mirror.specs.Changes.{changed}
+use Rattle.mirror.specs.Changes.{performed}
 use Rattle.mirror.proofs.Changing.{all_fit, all_done}
 use Rattle.mirror.proofs.notices.+apply_all.Goals as goal
 
@@ -23,7 +22,7 @@ returns-clause-ok t c =
     let notices = c.args.notices.now in
     let changes = c.in_ok-changes.changes.items in
     let rows : c.perform_all.new.set.rows ≡ applied_all notices question c.in-Some.first.now.1.rows =
-    c.perform_all.ensures ∙ ap (λ (s : RecordSet). fold changed s changes) c.reserve.ensures.rows ∙ all_done question notices changes c.in-Some.first.now.1.rows (asked _ _ _ c.in-Some.ensures.cases.0 c.requires) c.in_ok-changes.ensures in
+    c.perform_all.ensures ∙ ap (λ (s : RecordSet). performed question notices changes s) c.reserve.ensures.rows ∙ all_done question notices changes c.in-Some.first.now.1.rows (asked _ _ _ c.in-Some.ensures.cases.0 c.requires) c.in_ok-changes.ensures in
     let rest : held_of c.apply_all.new.entries ≡ applied_to notices (held_of c.in-Some.rest.now) = c.in_ok-apply_all.ensures.ok in
     ap (λ (s : RecordSet). (question, s) ∷ held_of c.apply_all.new.entries) rows
     ∙ ap (λ (l : Held). (question, applied_all notices question c.in-Some.first.now.1.rows) ∷ l) rest

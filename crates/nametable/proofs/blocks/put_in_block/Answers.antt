@@ -19,6 +19,7 @@ takes g c =
       succeeds = c.put.ensures.succeeds;
       here = c.put.ensures.here;
       others = c.put.ensures.others;
+      kept = c.put.ensures.kept;
     })
 
 pub returns-clause-blocks : goal.returns-clause-blocks
@@ -49,3 +50,6 @@ returns-clause-here g c = (takes g c).here
 
 pub returns-clause-others : goal.returns-clause-others
 returns-clause-others g c = (takes g c).others
+
+pub returns-clause-kept : goal.returns-clause-kept
+returns-clause-kept g c = (takes g c).kept

@@ -1,8 +1,9 @@
 use Rattle.std.proofs.Common.{◌≡◌, ◌∙◌, ◌%◌, ◌^◌, ℕ, sym, ap, subst, is_some, inl, inr, arith}
+use Rattle.std.proofs.lemmas.List.{with_items_is}
 use Rattle.std.specs.Prelude.{IsTrue}
 use Rattle.std.specs.Result.{IfOk}
 use Rattle.rrset.specs.KeyedRows.{Rows, row_at}
-use Rattle.nametable.specs.Nodes.{all_rows, names_in, room_at}
+use Rattle.nametable.specs.Nodes.{Nodes, all_rows, names_in, room_at}
 use Rattle.nametable.specs.Blocks.{Blocks, nodes_in}
 use Rattle.nametable.proofs.NameCounts.{names-same}
 use Rattle.nametable.proofs.blocks.put_in_blocks.Goals as goal
@@ -33,3 +34,13 @@ returns-clause-succeeds g c = λ either.
           )
       | inr there ↦ inr (subst (λ (l : Rows _). IsTrue (is_some (row_at c.args.key l))) (sym (same_rows g c)) there)
     ])
+
+pub returns-clause-kept : goal.returns-clause-kept
+returns-clause-kept g c = λ there.
+    let more = c.put_in_block-before.ensures.kept (subst (λ (l : Rows _). IsTrue (is_some (row_at c.args.key l))) (sym (same_rows g c)) there) in
+    let begun = c.in_ok-begin.ensures.kept c.args.key.owner in
+    let was = ap (λ (bs : Blocks _). room_at (nodes_in bs) c.args.key.owner) c.deref_mut.ensures.value in
+    let now =
+    ap (λ (ns : Nodes _). room_at ns c.args.key.owner)
+    (c.keep_small.ensures.nodes ∙ ap nodes_in (with_items_is c.begin.new.blocks c.put_in_block-before.new.blocks (c.put_in_block-before.auto.blocks ∙ c.deref_mut.ensures.len))) in
+    omega (arith, more, begun, was, now)

@@ -10,7 +10,13 @@ remove-requires g c = record { nodes = block_are c.args.key.now.owner c.args.blo
 drops : (g : _) (c : goal.After-remove g) → DropsKey c.args.key.now (nodes_in c.args.blocks.now) (nodes_in (set c.args.blocks.now c.args.place c.remove.new.self)) c.remove.result
 drops g c =
     drops_here c.args.key.now c.args.blocks.now c.args.place c.index-blocks-place.result c.remove.new.self c.remove.result c.requires.blocks c.requires.place c.remove.ensures.only
-    (record { are = c.remove.ensures.nodes; value_before = c.remove.ensures.value; rows = c.remove.ensures.rows; room = c.remove.ensures.room })
+    (record {
+      are = c.remove.ensures.nodes;
+      value_before = c.remove.ensures.value;
+      rows = c.remove.ensures.rows;
+      room = c.remove.ensures.room;
+      freed = c.remove.ensures.freed;
+    })
 
 pub returns-clause-blocks : goal.returns-clause-blocks
 returns-clause-blocks g c = (
@@ -31,3 +37,6 @@ returns-clause-rows g c = (drops g c).rows
 
 pub returns-clause-room : goal.returns-clause-room
 returns-clause-room g c = (drops g c).room
+
+pub returns-clause-freed : goal.returns-clause-freed
+returns-clause-freed g c = (drops g c).freed

@@ -2,8 +2,9 @@ use Rattle.std.proofs.Common.{◌≡◌, ◌∙◌, sym, ap, subst, arith}
 use Rattle.std.specs.List.{insert}
 use Rattle.dnsname.specs.Names.{Labels}
 use Rattle.nametable.specs.Nodes.{Nodes, IsNameAt, room_at}
-use Rattle.nametable.specs.Blocks.{AddsNoOther}
+use Rattle.nametable.specs.Blocks.{AddsNoOther, BeginsAt}
 use Rattle.nametable.proofs.NodeChanges.{KeepsRows, adds_name, room_added, stands, adds-insert}
+use Rattle.nametable.proofs.Beginnings.{begins-insert}
 use Rattle.nametable.proofs.node.add_name.Goals as goal
 
 seen : (g : _) (c : goal.In_ok-insert g) → c.insert.new.self.items ≡ insert c.args.nodes.now.items c.args.index (c.args.owner, c.in_ok-node.node.1)
@@ -34,3 +35,8 @@ returns-clause-room g c =
 
 pub returns-clause-only : goal.returns-clause-only
 returns-clause-only g c = subst (AddsNoOther c.args.owner c.args.nodes.now.items) (sym (seen g c)) (adds-insert c.args.owner c.in_ok-node.node.1 c.args.nodes.now.items c.args.index c.requires.place)
+
+pub returns-clause-first : goal.returns-clause-first
+returns-clause-first g c =
+    subst (λ (l : Nodes _). BeginsAt c.first_with-number.result l) (sym c.in_ok-insert.ensures.items)
+    (begins-insert c.args.first.now c.first_with-number.result c.args.nodes.now.items c.args.index c.in_ok-node.node c.requires.first c.requires.place.within c.first_with-number.ensures.here c.first_with-number.ensures.behind)

@@ -13,7 +13,7 @@ changes-preserved g c =
       c.in_ok-reserve_for_one.ensures.rows ∙ c.changes.invariant.1,
       λ name. let so_far = c.changes.invariant.2 name in let more = c.in_ok-reserve_for_one.ensures.kept name in omega (arith, so_far, more),
       owners-next (keys_put changed) changed c.changes.change-index c.change-item.result (nodes_in c.changes.blocks.items) (nodes_in c.reserve_for_one.new.blocks.items) c.changes-test.true c.change-item.is
-          c.in_ok-reserve_for_one.ensures.kept c.changes.invariant.3 c.in_ok-reserve_for_one.ensures.room,
+          c.in_ok-reserve_for_one.ensures.rows c.in_ok-reserve_for_one.ensures.kept c.changes.invariant.3 c.in_ok-reserve_for_one.ensures.room,
     )
 
 pub returns-clause-room : goal.returns-clause-room

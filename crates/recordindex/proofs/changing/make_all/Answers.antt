@@ -5,7 +5,7 @@ use Rattle.rrset.specs.Tables.{HasLowerOwner}
 use Rattle.rrset.specs.declared.record.Changed.{Changed}
 use Rattle.nametable.specs.Nodes.{HasRoomFor, keys_put}
 use Rattle.nametable.proofs.KeyRoom.{room-front}
-use Rattle.suffixes.specs.Endings.{room_of}
+use Rattle.recordindex.specs.Endings.{room_of}
 use Rattle.recordindex.specs.Owners.{AreOwners, owners_in}
 use Rattle.recordindex.proofs.OwnerChanges.{HavePlaces}
 use Rattle.recordindex.proofs.changing.make_all.Goals as goal

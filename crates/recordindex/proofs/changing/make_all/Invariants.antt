@@ -3,7 +3,7 @@ use Rattle.std.specs.List.{AllByRecursion}
 use Rattle.rrset.specs.RecordSet.{with_changes}
 use Rattle.rrset.specs.Tables.{HasLowerOwner}
 use Rattle.nametable.specs.Nodes.{HasRoomFor, keys_put}
-use Rattle.suffixes.specs.Endings.{room_of}
+use Rattle.recordindex.specs.Endings.{room_of}
 use Rattle.recordindex.specs.Owners.{AreOwners, HasPlacesToPut}
 use Rattle.recordindex.proofs.changing.make_all.Given as goal
 

@@ -1,6 +1,6 @@
 use Rattle.std.proofs.Common.{◌∷◌, sym, subst, ◌∙◌}
 use Rattle.dnsname.specs.Names.{Labels}
-use Rattle.suffixes.specs.Endings.{AreCounted, room_of, HasRoomFor as HasPlacesFor}
+use Rattle.recordindex.specs.Endings.{AreCounted, room_of, HasRoomFor as HasPlacesFor}
 use Rattle.recordindex.specs.Owners.{owners_in}
 use Rattle.recordindex.proofs.OwnerChanges.{owners-again, owners-new}
 use Rattle.recordindex.proofs.changing.put_counted.Goals as goal

@@ -2,7 +2,7 @@ use Rattle.std.proofs.Common.{subst, ◌∙◌}
 use Rattle.std.proofs.lemmas.List.{take_all}
 use Rattle.rrset.specs.Tables.{HasLowerOwner}
 use Rattle.rrset.specs.declared.record.Changed.{Changed}
-use Rattle.suffixes.specs.Endings.{room_of}
+use Rattle.recordindex.specs.Endings.{room_of}
 use Rattle.recordindex.proofs.OwnerChanges.{HavePlaces, all-at, places-more}
 use Rattle.recordindex.proofs.counting.reserve_owners.Goals as goal
 

@@ -1,7 +1,7 @@
 use Rattle.std.proofs.Common.{◌≡◌, List, take}
 use Rattle.std.specs.List.{AllByRecursion}
 use Rattle.dnsname.specs.Names.{Labels}
-use Rattle.suffixes.specs.Endings.{AreCounted, room_of}
+use Rattle.recordindex.specs.Endings.{AreCounted, room_of}
 use Rattle.recordindex.specs.Owners.{HasPlacesToPut}
 use Rattle.recordindex.proofs.counting.reserve_owners.Given as goal
 

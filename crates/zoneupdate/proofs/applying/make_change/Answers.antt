@@ -1,19 +1,17 @@
 use Rattle.std.proofs.Common.{List, [], subst}
 use Rattle.rrset.specs.declared.record.Key.{Key}
 use Rattle.nametable.specs.Nodes.{HasRoomFor, keys_put}
-use Rattle.nametable.proofs.KeyRoom.{keys_put-some, keys_put-none, room-first, room-left, room-more}
+use Rattle.nametable.proofs.KeyRoom.{keys_put-some, keys_put-none}
 use Rattle.zoneupdate.proofs.applying.make_change.Goals as goal
 
 pub put_in_room-requires-clause-room : goal.put_in_room-requires-clause-room
 put_in_room-requires-clause-room c =
-    room-first c.args.change.key [] c.args.rows.now.nodes (subst (λ (ks : List Key). HasRoomFor ks c.args.rows.now.nodes) (keys_put-some c.args.change [] c.in-Some.shown c.in-Some.is) c.requires.room)
+    subst (λ (ks : List Key). HasRoomFor ks c.args.rows.now.nodes) (keys_put-some c.args.change [] c.in-Some.shown c.in-Some.is) c.requires.room
 
 pub returns-in-Some-clause-left : goal.returns-in-Some-clause-left
 returns-in-Some-clause-left c = λ others room.
-    room-left c.args.change.key (keys_put others) c.args.rows.now.nodes c.put_in_room.new.rows.nodes
-    (subst (λ (ks : List Key). HasRoomFor ks c.args.rows.now.nodes) (keys_put-some c.args.change others c.in-Some.shown c.in-Some.is) room) c.put_in_room.ensures.here c.put_in_room.ensures.others
+    c.put_in_room.ensures.left (keys_put others) (subst (λ (ks : List Key). HasRoomFor ks c.args.rows.now.nodes) (keys_put-some c.args.change others c.in-Some.shown c.in-Some.is) room)
 
 pub returns-clause-left : goal.returns-clause-left
 returns-clause-left c = λ others room.
-    room-more (keys_put others) c.args.rows.now.nodes c.remove.new.self.nodes c.remove.ensures.room
-    (subst (λ (ks : List Key). HasRoomFor ks c.args.rows.now.nodes) (keys_put-none c.args.change others c.in-None.is) room)
+    c.remove.ensures.left (keys_put others) (subst (λ (ks : List Key). HasRoomFor ks c.args.rows.now.nodes) (keys_put-none c.args.change others c.in-None.is) room)

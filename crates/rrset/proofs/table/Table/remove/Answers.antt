@@ -1,4 +1,4 @@
-use Rattle.std.proofs.Common.{◌≡◌, ◌∙◌, sym, ap, subst, get_or, Some}
+use Rattle.std.proofs.Common.{◌≡◌, ◌∙◌, sym, ap, subst, get_or, Option, Some, is_some, arith}
 use Rattle.std.specs.List.{remove}
 use Rattle.rrset.specs.KeyedRows.{Rows, rows_of}
 use Rattle.rrset.specs.Tables.{TableState}
@@ -30,3 +30,13 @@ returns-in-Err-clause-value g c = sym (no_row c.args.key.now c.args.self.now.row
 
 pub returns-in-Err-clause-rows : goal.returns-in-Err-clause-rows
 returns-in-Err-clause-rows g c = sym (no_row c.args.key.now c.args.self.now.rows c.in-Err.field-0 c.in-Err.ensures.absent).left
+
+pub returns-in-Ok-clause-freed : goal.returns-in-Ok-clause-freed
+returns-in-Ok-clause-freed g c = λ there.
+    let spare = ap (λ (t : TableState _). t.spare) c.self.view_is in
+    omega (arith, spare, c.self.inside.entries.ok.1, c.remove-value.ensures.len, c.remove-value.ensures.capacity)
+
+pub returns-in-Err-clause-freed : goal.returns-in-Err-clause-freed
+returns-in-Err-clause-freed g c =
+    let none = ap (λ (o : Option _). is_some o) (no_row c.args.key.now c.args.self.now.rows c.in-Err.field-0 c.in-Err.ensures.absent).none in
+    λ there. absurd cc

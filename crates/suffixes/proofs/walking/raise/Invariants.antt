@@ -1,9 +1,0 @@
-use Rattle.std.proofs.Common.{length}
-use Rattle.suffixes.proofs.Using.{Raising}
-use Rattle.suffixes.proofs.walking.raise.Given as goal
-
-abbrev pub invariant-ends : goal.invariant-ends
-invariant-ends l = Raising l.fn.above l.fn.endings.entries l.endings.entries l.rest
-
-abbrev pub decreases-ends : goal.decreases-ends
-decreases-ends l = length l.rest
